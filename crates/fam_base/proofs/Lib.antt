@@ -1,0 +1,6 @@
+pub mod PathLemmas
+pub mod ExtentLemmas
+pub mod ImageLemmas
+pub mod EscapeLemmas
+pub mod NameLemmas
+pub mod UnitLemmas

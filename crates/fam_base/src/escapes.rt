@@ -1,0 +1,78 @@
+//! Names in print: paths and the names of files. `specs/Escapes.antt` has the printed form.
+
+ghost use Rattle.std.specs.Prelude.{◌≡◌, ◌<◌, ◌≤◌, ℕ, List, ◌++◌, OnOk, OnErr, IfOk, length, take, slice_index};
+ghost use Rattle.std.specs.List.{All};
+ghost use Rattle.fam_base.specs.Escapes.{is_plain, hex_digit, escaped_byte, escaped, AreBytes, IsVisible};
+
+use crate::line::OutOfMemory;
+use crate::path::Path;
+use std::alloc::Global;
+
+fn is_plain(byte: u8) -> bool
+    ensures { result ≡ is_plain byte }
+{
+    (0x21..=0x7e).contains(&byte) && byte != b'\\'
+}
+
+fn hex_digit(n: u8) -> u8
+    requires { n < 16 }
+    ensures { result ≡ hex_digit n }
+{
+    if n < 10 { b'0' + n } else { b'a' + (n - 10) }
+}
+
+fn escape_byte(byte: u8, into: &mut Vec<u8>) -> Result<(), OutOfMemory>
+    ensures added { OnOk result (into.new.items ≡ into.old.items ++ escaped_byte byte) }
+    ensures same { OnErr result (into.new.items ≡ into.old.items) }
+{
+    if is_plain(byte) {
+        match into.push(byte) {
+            Ok(()) => Ok(()),
+            Err(_) => Err(OutOfMemory),
+        }
+    } else {
+        let escape = [b'\\', b'x', hex_digit(byte / 16), hex_digit(byte % 16)];
+        match into.extend_from_slice(&escape) {
+            Ok(()) => Ok(()),
+            Err(_) => Err(OutOfMemory),
+        }
+    }
+}
+
+/// Adds the printed form of a name's bytes. A byte from 0x21 to 0x7e other than the backslash is itself,
+/// and any other is `\x` and two lower-case hexadecimal digits.
+///
+/// Where memory runs out, the printed form of some of the first bytes was added.
+pub fn escape(bytes: &[u8], into: &mut Vec<u8>) -> Result<(), OutOfMemory>
+    ensures added { OnOk result (into.new.items ≡ into.old.items ++ escaped bytes.now) }
+    ensures err { OnErr result
+        ((n : ℕ) × (into.new.items ≡ into.old.items ++ escaped (take n bytes.now))) }
+{
+    for byte in bytes {
+        escape_byte(*byte, into)?;
+    }
+    Ok(())
+}
+
+impl Path {
+    /// The printed form of the path, as [`escape`] has it.
+    pub fn escaped(&self, alloc: Global) -> Result<Vec<u8>, OutOfMemory>
+        ensures { IfOk result (λ text. text.items ≡ escaped self.now) }
+    {
+        let mut text = Vec::new(alloc);
+        escape(self.bytes(), &mut text)?;
+        Ok(text)
+    }
+}
+
+/// No two names have one printed form.
+pub fn names_differ_in_print()
+    ensures { (a b : List ℕ) → AreBytes a → AreBytes b
+        → escaped a ≡ escaped b → a ≡ b }
+{}
+
+/// A printed name has only visible ASCII: no space and no line feed.
+pub fn print_is_visible()
+    ensures { (bytes : List ℕ) → AreBytes bytes
+        → All IsVisible (escaped bytes) }
+{}

@@ -1,0 +1,132 @@
+//! Paths. `specs/Paths.antt` has the rule.
+//!
+//! A contract sees a `Path` as its list of bytes, which is known to be a path once `bytes` was called.
+
+ghost use Rattle.std.specs.Prelude.{◌≡◌, ◌↔◌, ℕ, ◌<◌, ◌≤◌, List, ◌∷◌, ◌++◌, true, false, Some, None, IsTrue, IsOk, IfOk, length};
+ghost use Rattle.std.specs.List.{list_all, list_any};
+ghost use Rattle.fam_base.specs.Paths.{slash, is_name, is_slash, names, has_no_nul, is_path, parent_of};
+
+use std::marker::Model;
+
+/// The most bytes of a path, `path_limit` in contracts.
+pub const PATH_LIMIT: usize = 168;
+
+/// The bytes are no path.
+#[derive(Clone, Copy, Debug, PartialEq, Eq)]
+pub struct BadPath;
+
+/// A path of 1 to 168 bytes, none of them 0, cut at slashes into names. No name is empty, `.` or `..`, so
+/// there is no slash in front or behind. `Copy`, with zeros behind. Paths are ordered by their bytes.
+#[derive(Clone, Copy)]
+pub struct Path {
+    bytes: [u8; PATH_LIMIT],
+    len: usize,
+}
+
+impl Model for Path {
+    ghost use Rattle.std.specs.Prelude.{ℕ, List, length, take};
+    ghost use Rattle.fam_base.specs.Paths.{padded, IsPathField};
+
+    ghost Value = { List ℕ };
+
+    ghost view = { λ a. take a.len a.bytes };
+
+    ghost invariant = { λ a. IsPathField a.bytes a.len };
+
+    ghost inverse = { λ xs. record { bytes = padded xs; len = length xs } };
+
+    ghost inverse_ok = { λ a h. Prim.rw (← h.zeros, h.count) };
+}
+
+fn has_name(name: &[u8]) -> bool
+    ensures { result ≡ is_name name.now }
+{
+    match name {
+        [] | [b'.'] | [b'.', b'.'] => false,
+        _ => true,
+    }
+}
+
+fn are_names(bytes: &[u8]) -> bool
+    ensures { result ≡ list_all is_name (names bytes.now) }
+{
+    bytes.split(|b| *b == b'/').all(|name| has_name(name))
+}
+
+fn lacks_nul(bytes: &[u8]) -> bool
+    ensures { result ≡ has_no_nul bytes.now }
+{
+    bytes.iter().all(|b| *b != 0)
+}
+
+#[tactic(auto, unfolding(crate::specs::Paths::is_path))]
+fn has_path(bytes: &[u8]) -> bool
+    ensures { result ≡ is_path bytes.now }
+{
+    if bytes.is_empty() {
+        return false;
+    }
+    if bytes.len() > PATH_LIMIT {
+        return false;
+    }
+    if !lacks_nul(bytes) {
+        return false;
+    }
+    are_names(bytes)
+}
+
+#[tactic(auto, unfolding(crate::specs::Paths::is_path))]
+fn stored(bytes: &[u8]) -> Path
+    requires { IsTrue (is_path bytes.now) }
+    ensures { result ≡ bytes.now }
+{
+    let len = bytes.len();
+    let mut field = [0; PATH_LIMIT];
+    field[..len].copy_from_slice(bytes);
+    Path { bytes: field, len }
+}
+
+impl Path {
+    /// The path of these bytes. `BadPath` comes exactly where they are none.
+    pub fn read(bytes: &[u8]) -> Result<Path, BadPath>
+        ensures ok { IsOk result ↔ IsTrue (is_path bytes.now) }
+        ensures same { IfOk result (λ p. p ≡ bytes.now) }
+    {
+        if has_path(bytes) {
+            Ok(stored(bytes))
+        } else {
+            Err(BadPath)
+        }
+    }
+
+    /// The bytes of the path.
+    pub fn bytes(&self) -> &[u8]
+        ensures same { result.now ≡ self.now }
+        ensures path { IsTrue (is_path self.now) }
+    {
+        &self.bytes[..self.len]
+    }
+
+    /// The path without its last name. A path of one name has none: its parent is the root, which is no
+    /// path.
+    pub fn parent(&self) -> Option<Path>
+        ensures { result ≡ parent_of self.now }
+    {
+        let bytes = self.bytes();
+        for i in (0..bytes.len()).rev() {
+            if bytes[i] == b'/' {
+                return Some(stored(&bytes[..i]));
+            }
+        }
+        None
+    }
+}
+
+/// The parent of `front/name` is `front`, a name alone has none, and a path's parent is a path.
+pub fn parent_is_the_front()
+    ensures front { (front name : List ℕ) → list_any is_slash name ≡ false
+        → parent_of (front ++ slash ∷ name) ≡ Some front }
+    ensures root { (name : List ℕ) → list_any is_slash name ≡ false → parent_of name ≡ None }
+    ensures path { (bytes parent : List ℕ) → is_path bytes ≡ true → parent_of bytes ≡ Some parent
+        → is_path parent ≡ true }
+{}
