@@ -1,0 +1,5 @@
+pub mod Steps
+pub mod TableRules
+pub mod Division
+pub mod Quotients
+pub mod WordBytes

@@ -1,0 +1,19 @@
+//! CRC-32, as zlib, PNG, Ethernet and ISO-HDLC have it: the reflected polynomial is 0xEDB88320, the register
+//! begins with all ones, and it is inverted at the end.
+//!
+//! The checksum of words goes eight bytes at a time, that of bytes one at a time, both by tables. A contract
+//! sees the bitwise definition alone, `crc32` of `specs/Crc.antt`. The laws say that it is the remainder of
+//! the message by the generator polynomial, and the only one.
+#![tactic(auto)]
+
+mod bytes;
+mod laws;
+mod tables;
+mod words;
+
+pub use crate::bytes::crc_more;
+pub use crate::laws::{is_only_remainder, is_remainder, is_remainder_of_words};
+pub use crate::words::crc_words;
+
+#[cfg(test)]
+mod tests;

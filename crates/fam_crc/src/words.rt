@@ -1,0 +1,38 @@
+//! The checksum of words, eight bytes at a time: CRC-32 sliced by eight.
+//!
+//! The register's steps are linear, so each byte of a word goes through its remaining steps by itself, by a
+//! look-up, and the eight results are added.
+
+ghost use Rattle.std.specs.Prelude.{◌≡◌, fold};
+ghost use Rattle.std.specs.Int.{to_le_bytes, w64};
+ghost use Rattle.fam_crc.specs.Crc.{after_byte, bytes_of_words, crc32};
+
+use crate::tables::{
+    after_8, after_16, after_24, after_32, after_40, after_48, after_56, after_64,
+};
+
+/// The CRC-32 of the words' bytes, each word by its eight bytes with the lowest first. That of no words is 0.
+pub fn crc_words(words: &[u64]) -> u32
+    ensures { result ≡ crc32 (bytes_of_words words.now) }
+{
+    let mut register = u32::MAX;
+    for word in words {
+        register = word_step(register, *word);
+    }
+    register ^ u32::MAX
+}
+
+/// The register after the eight bytes of a word, the lowest first.
+fn word_step(register: u32, word: u64) -> u32
+    ensures { result ≡ fold after_byte register (to_le_bytes w64 word) }
+{
+    let x = word ^ register as u64;
+    after_64((x % 256) as u8)
+        ^ after_56(((x >> 8) % 256) as u8)
+        ^ after_48(((x >> 16) % 256) as u8)
+        ^ after_40(((x >> 24) % 256) as u8)
+        ^ after_32(((x >> 32) % 256) as u8)
+        ^ after_24(((x >> 40) % 256) as u8)
+        ^ after_16(((x >> 48) % 256) as u8)
+        ^ after_8((x >> 56) as u8)
+}
