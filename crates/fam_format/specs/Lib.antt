@@ -1,0 +1,13 @@
+pub mod Layout
+pub mod Words
+pub mod Stop
+pub mod Params
+pub mod Super
+pub mod Log
+pub mod Slot
+pub mod Units
+pub mod Tree
+pub mod Reading
+pub mod EntryLaws
+pub mod SuperLaws
+pub mod ReadingLaws
