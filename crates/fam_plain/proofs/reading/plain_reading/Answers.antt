@@ -1,0 +1,16 @@
+use Rattle.std.proofs.Common.{subst, sym}
+use Rattle.std.specs.Result.{IfOk}
+use Rattle.fam_format.specs.Reading as format
+use Rattle.fam_plain.specs.Says.{Says}
+use Rattle.fam_plain.proofs.WholeImage.{behind_super, no_super}
+use Rattle.fam_plain.proofs.reading.plain_reading.Goals as goal
+
+pub returns-in-Ok : goal.returns-in-Ok
+returns-in-Ok c =
+    subst (λ (x : format.Reading). IfOk c.read_log.result (λ r. Says r x))
+    (sym (behind_super c.args.image.now c.line_of.result c.super_words.result c.line_of.ensures c.super_words.ensures c.in-Ok.params c.in-Ok.ensures.value))
+    c.read_log.ensures
+
+pub returns-in-Err : goal.returns-in-Err
+returns-in-Err c =
+    no_super c.args.image.now c.line_of.result c.super_words.result c.line_of.ensures c.super_words.ensures c.in-Err.fault c.in-Err.ensures.value

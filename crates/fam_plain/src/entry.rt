@@ -1,0 +1,177 @@
+//! What the words of a slot tell: a test for each reason, in the order of the reasons. The first that fails decides.
+
+ghost use Rattle.std.specs.Prelude.{◌≡◌, ◌<◌, ◌≤◌, ◌^◌, IfNone, MatchResult, Some, None, slice_index};
+ghost use Rattle.std.specs.Bool.{OnTrue};
+ghost use Rattle.std.specs.List.{list_any, range_with_len};
+ghost use Rattle.fam_format.specs.Layout.{first_format};
+ghost use Rattle.fam_format.specs.Params.{SoundParams};
+ghost use Rattle.fam_format.specs.Slot as slots;
+ghost use Rattle.fam_plain.specs.Tests as tests;
+
+use crate::fields::{fields_of, path_of};
+use crate::map_rule::is_map;
+use crate::places::{
+    CHUNK_WORD, COUNT_WORD, CRC_WORD, DIRECTORY_KIND, EXTENT_LIMIT, EXTENTS_WORD, FILE_KIND,
+    GID_WORD, ID_LIMIT, KIND_WORD, MAP_WORD, MODE_LIMIT, MODE_WORD, PATH_LENGTH_WORD, PATH_WORD,
+    SEQ_WORD, SLOT_WORDS, STRIPED_MAP, UID_WORD,
+};
+use crate::slot::checksum;
+use fam_base::{Entry, Params, Path};
+use fam_format::{Reason, byte_of};
+
+fn crc_fault(words: &[u64; SLOT_WORDS]) -> Option<Reason>
+    ensures { result ≡ slots.crc_fault first_format words.now }
+{
+    let found = words[CRC_WORD];
+    let wanted = checksum(words);
+    if found == wanted {
+        return None;
+    }
+    Some(Reason::Crc { found, wanted })
+}
+
+fn seq_fault(words: &[u64; SLOT_WORDS], wanted: u64) -> Option<Reason>
+    ensures { result ≡ slots.seq_fault words.now wanted }
+{
+    let found = words[SEQ_WORD];
+    if found == wanted {
+        return None;
+    }
+    Some(Reason::Seq { found, wanted })
+}
+
+fn kind_fault(words: &[u64; SLOT_WORDS]) -> Option<Reason>
+    ensures { result ≡ slots.kind_fault words.now }
+{
+    match words[KIND_WORD] {
+        FILE_KIND | DIRECTORY_KIND => None,
+        word => Some(Reason::BadKind(word)),
+    }
+}
+
+fn attribute_fault(words: &[u64; SLOT_WORDS]) -> Option<Reason>
+    ensures first { result ≡ slots.attribute_fault words.now }
+    ensures mode { IfNone result (slice_index words.now MODE_WORD < 2 ^ 32) }
+    ensures uid { IfNone result (slice_index words.now UID_WORD < 2 ^ 32) }
+    ensures gid { IfNone result (slice_index words.now GID_WORD < 2 ^ 32) }
+{
+    if words[MODE_WORD] > MODE_LIMIT {
+        return Some(Reason::Attribute(MODE_WORD as u64));
+    }
+    if words[UID_WORD] > ID_LIMIT {
+        return Some(Reason::Attribute(UID_WORD as u64));
+    }
+    if words[GID_WORD] > ID_LIMIT {
+        return Some(Reason::Attribute(GID_WORD as u64));
+    }
+    None
+}
+
+fn are_map_words(words: &[u64; SLOT_WORDS]) -> bool
+    ensures value { result ≡ slots.is_map_words words.now }
+    ensures few { OnTrue result (slice_index words.now COUNT_WORD ≤ EXTENT_LIMIT) }
+{
+    if words[MAP_WORD] > STRIPED_MAP {
+        return false;
+    }
+    if words[COUNT_WORD] > EXTENT_LIMIT {
+        return false;
+    }
+    if words[MAP_WORD] == STRIPED_MAP {
+        return true;
+    }
+    words[CHUNK_WORD] == 0
+}
+
+fn mapped(words: &[u64; SLOT_WORDS], path: Path, params: &Params) -> Result<Entry, Reason>
+    requires sound { SoundParams params.now }
+    requires path { path ≡ slots.path_of words.now }
+    requires mode { slice_index words.now MODE_WORD < 2 ^ 32 }
+    requires uid { slice_index words.now UID_WORD < 2 ^ 32 }
+    requires gid { slice_index words.now GID_WORD < 2 ^ 32 }
+    ensures { MatchResult result
+        (λ e. (slots.map_fault params.now words.now ≡ None) × (e ≡ slots.fields_of words.now))
+        (λ reason. slots.map_fault params.now words.now ≡ Some reason) }
+{
+    if !are_map_words(words) {
+        return Err(Reason::Map);
+    }
+    let entry = fields_of(words, path);
+    if is_map(params, &entry) {
+        Ok(entry)
+    } else {
+        Err(Reason::Map)
+    }
+}
+
+fn is_stray_byte(words: &[u64; SLOT_WORDS], i: usize, b: usize) -> bool
+    requires from { slots.path_word ≤ i }
+    requires below { i < CRC_WORD }
+    requires byte { b < 8 }
+    ensures { result ≡ tests.is_stray_byte words.now i b }
+{
+    let place = 8 * (i - PATH_WORD) + b;
+    words[PATH_LENGTH_WORD] <= place as u64 && byte_of(words[i], b) != 0
+}
+
+fn has_stray_byte(words: &[u64; SLOT_WORDS], i: usize) -> bool
+    requires from { slots.path_word ≤ i }
+    requires below { i < CRC_WORD }
+    ensures { result ≡ list_any (tests.is_stray_byte words.now i) (range_with_len 0 8) }
+{
+    for b in 0..8 {
+        if is_stray_byte(words, i, b) {
+            return true;
+        }
+    }
+    false
+}
+
+fn is_stray(words: &[u64; SLOT_WORDS], i: usize) -> bool
+    requires from { slots.extents_word ≤ i }
+    requires below { i < CRC_WORD }
+    ensures { result ≡ slots.is_stray words.now i }
+{
+    if i < PATH_WORD {
+        let extent = (i - EXTENTS_WORD) / 2;
+        return words[COUNT_WORD] <= extent as u64 && words[i] != 0;
+    }
+    has_stray_byte(words, i)
+}
+
+fn rest_fault(words: &[u64; SLOT_WORDS]) -> Option<Reason>
+    ensures { result ≡ slots.rest_fault first_format words.now }
+{
+    for i in EXTENTS_WORD..CRC_WORD {
+        if is_stray(words, i) {
+            return Some(Reason::Rest(i as u64));
+        }
+    }
+    None
+}
+
+/// What the words of slot `seq` tell: the entry, or the first reason against them.
+#[tactic(auto, unfolding(fam_format::specs::Slot::entry_of))]
+pub fn plain_entry(words: &[u64; SLOT_WORDS], seq: u64, params: &Params) -> Result<Entry, Reason>
+    requires { SoundParams params.now }
+    ensures { result ≡ slots.entry_of params.now words.now seq }
+{
+    if let Some(reason) = crc_fault(words) {
+        return Err(reason);
+    }
+    if let Some(reason) = seq_fault(words, seq) {
+        return Err(reason);
+    }
+    if let Some(reason) = kind_fault(words) {
+        return Err(reason);
+    }
+    if let Some(reason) = attribute_fault(words) {
+        return Err(reason);
+    }
+    let path = path_of(words)?;
+    let entry = mapped(words, path, params)?;
+    if let Some(reason) = rest_fault(words) {
+        return Err(reason);
+    }
+    Ok(entry)
+}

@@ -1,0 +1,162 @@
+//! A whole image, read slot by slot.
+
+ghost use Rattle.std.specs.Prelude.{◌≡◌, ◌+◌, ◌*◌, ◌<◌, ◌≤◌, ◌^◌, ◌++◌, [], length, IfOk};
+ghost use Rattle.fam_base.specs.Image.{line_at};
+ghost use Rattle.fam_format.specs.Layout as layout;
+ghost use Rattle.fam_format.specs.Params.{SoundParams};
+ghost use Rattle.fam_format.specs.Log.{log_fault, gate_fault};
+ghost use Rattle.fam_format.specs.Reading as format;
+ghost use Rattle.fam_base.specs.declared.entry.Params.{Params};
+ghost use Rattle.fam_plain.specs.Says.{Says};
+
+use crate::entry::plain_entry;
+use crate::join::join_fault;
+use crate::log::{plain_gate_fault, plain_log_fault};
+use crate::places::SLOT_WORDS;
+use crate::superblock::plain_super;
+use fam_base::{Entry, Line, OutOfMemory, Params};
+use fam_format::{GATE_LINE, LOG_LINE, LogFault, Reason, SuperFault};
+use std::alloc::Global;
+
+/// The lines of a slot, and of the log before its first slot.
+const SLOT_LINES: u64 = 8;
+
+/// The first fault of an image, or what it holds.
+#[derive(Drop)]
+pub enum Reading {
+    /// Lines 0, 1 and 2 are no superblock of this image.
+    NoSuperblock(SuperFault),
+    /// The log's header or its gate is wrong.
+    BadHeader(LogFault),
+    /// The first slot below the gate that doesn't read, or whose entry doesn't join the earlier ones.
+    BadSlot { seq: u64, reason: Reason },
+    /// What the superblock says, and the entries of the slots below the gate in order.
+    Sound { params: Params, entries: Vec<Entry> },
+}
+
+/// The words of a line, zeros past the image's end.
+fn line_of(image: &[Line], at: u64) -> Line
+    ensures { result ≡ line_at image.now at }
+{
+    if at < image.len() as u64 {
+        let line = &image[at as usize];
+        [
+            line[0], line[1], line[2], line[3], line[4], line[5], line[6], line[7],
+        ]
+    } else {
+        [0; 8]
+    }
+}
+
+/// The words of lines 1 and 2.
+fn super_words(image: &[Line]) -> [u64; 16]
+    ensures { result ≡ line_at image.now 1 ++ line_at image.now 2 }
+{
+    let [a, b, c, d, e, f, g, h] = line_of(image, 1);
+    let [i, j, k, l, m, n, o, p] = line_of(image, 2);
+    [a, b, c, d, e, f, g, h, i, j, k, l, m, n, o, p]
+}
+
+/// Word `k` of slot `i`.
+fn slot_word(image: &[Line], i: u64, k: u64) -> u64
+    requires slot { i < 2 ^ 32 }
+    requires word { k < SLOT_WORDS }
+    ensures { (p : Params) → result ≡ format.slot_word (line_at image.now) p i k }
+{
+    let line = line_of(image, LOG_LINE + SLOT_LINES + SLOT_LINES * i + k / 8);
+    line[(k % 8) as usize]
+}
+
+/// The words of slot `i`.
+fn slot_words(image: &[Line], i: u64) -> [u64; SLOT_WORDS]
+    requires { i < 2 ^ 32 }
+    ensures { (p : Params) → result ≡ format.slot_words (line_at image.now) p i }
+{
+    let mut words = [0; SLOT_WORDS];
+    for k in 0..SLOT_WORDS {
+        words[k] = slot_word(image, i, k as u64);
+    }
+    words
+}
+
+/// What slot `i` tells.
+fn slot_in(image: &[Line], params: &Params, i: u64) -> Result<Entry, Reason>
+    requires slot { i < 2 ^ 32 }
+    requires sound { SoundParams params.now }
+    ensures { result ≡ format.slot_in (line_at image.now) params.now i }
+{
+    plain_entry(&slot_words(image, i), i, params)
+}
+
+/// The slots below the gate, from the first on.
+fn read_slots(
+    alloc: Global,
+    image: &[Line],
+    params: &Params,
+    gate: u64,
+) -> Result<Reading, OutOfMemory>
+    requires gate { gate < 2 ^ 32 }
+    requires sound { SoundParams params.now }
+    ensures { IfOk result (λ r.
+        Says r (format.read_slots (line_at image.now) params.now 0 gate [])) }
+{
+    let mut entries = Vec::new(alloc);
+    for i in 0..gate {
+        let entry = match slot_in(image, params, i) {
+            Ok(entry) => entry,
+            Err(reason) => return Ok(Reading::BadSlot { seq: i, reason }),
+        };
+        if let Some(reason) = join_fault(alloc, params, &entries, &entry)? {
+            return Ok(Reading::BadSlot { seq: i, reason });
+        }
+        match entries.push(entry) {
+            Ok(()) => {}
+            Err(_) => return Err(OutOfMemory),
+        }
+    }
+    Ok(Reading::Sound {
+        params: *params,
+        entries,
+    })
+}
+
+/// The gate and the slots below it.
+fn read_below(alloc: Global, image: &[Line], params: &Params) -> Result<Reading, OutOfMemory>
+    requires { SoundParams params.now }
+    ensures { IfOk result (λ r. Says r (format.read_below (line_at image.now) params.now
+        (gate_fault (format.gate_in (line_at image.now)) params.now))) }
+{
+    let [gate, ..] = line_of(image, GATE_LINE);
+    if let Some(fault) = plain_gate_fault(gate, params) {
+        return Ok(Reading::BadHeader(fault));
+    }
+    read_slots(alloc, image, params, gate)
+}
+
+/// The log's header, and what is below it.
+fn read_log(alloc: Global, image: &[Line], params: &Params) -> Result<Reading, OutOfMemory>
+    requires { SoundParams params.now }
+    ensures { IfOk result (λ r. Says r (format.read_log (line_at image.now) params.now
+        (log_fault (line_at image.now layout.log_line) params.now))) }
+{
+    if let Some(fault) = plain_log_fault(&line_of(image, LOG_LINE), params) {
+        return Ok(Reading::BadHeader(fault));
+    }
+    read_below(alloc, image, params)
+}
+
+/// What an image says: the first fault of superblock, header, gate and the slots below the gate, in this order, or
+/// the parameters and entries.
+#[tactic(auto, unfolding(fam_format::specs::Reading::reading_of))]
+pub fn plain_reading(alloc: Global, image: &[Line]) -> Result<Reading, OutOfMemory>
+    requires enough { layout.least_lines ≤ length image.now }
+    requires fits { 64 * length image.now ≤ layout.device_limit }
+    ensures { IfOk result (λ r. Says r (format.reading image.now)) }
+{
+    let first = line_of(image, 0)[0];
+    let have = 64 * image.len() as u64;
+    match plain_super(first, &super_words(image), have) {
+        Ok(params) => read_log(alloc, image, &params),
+        Err(fault) => Ok(Reading::NoSuperblock(fault)),
+    }
+}
