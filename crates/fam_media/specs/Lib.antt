@@ -1,0 +1,8 @@
+pub mod Causes
+pub mod Outside
+pub mod Told
+pub mod Files
+pub mod Plans
+pub mod MemoryMedia
+pub mod MemorySink
+pub mod MemoryShelf

@@ -1,0 +1,23 @@
+-- Laws of content that is told or not.
+use Rattle.std.proofs.Common.{◌≡◌, Option, Some, None, map, length, subst, ap}
+use Rattle.std.proofs.lemmas.Option.{none-some}
+use Rattle.std.proofs.lemmas.List.{length-map}
+use Rattle.fam_base.specs.Image.{Image, eight}
+use Rattle.fam_media.specs.Outside.{IfTold}
+
+-- where nothing is told, all holds of it
+pub nothing_told : {T : Type 0} (P : T → Type 0) → IfTold None P
+nothing_told P content is = absurd (none-some content is)
+
+inside : {T : Type 0} → T → Option T → T
+inside content None = content
+inside content (Some other) = other
+
+-- what holds of the content holds of what is told
+pub told : {T : Type 0} (content : T) (P : T → Type 0) → P content → IfTold (Some content) P
+unfolding inside
+told content P holds other is = subst P (ap (inside content) is) holds
+
+-- eight words of each line are as many lines
+pub told_lines : (image : Image) → IfTold (Some (map eight image)) (λ lines. length lines ≡ length image)
+told_lines image = told (map eight image) (λ lines. length lines ≡ length image) (length-map image eight)

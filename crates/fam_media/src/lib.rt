@@ -1,0 +1,26 @@
+//! The outside, as traits: a media of lines, a sink for output and a shelf of files to read. Beside each
+//! trait stands a form in memory, of which chosen calls fail.
+//!
+//! Each has a count of faults, which never falls, and fails only where that count rises during the call. So
+//! a program that answers with a fault has had one. Content may be told or not: forms in memory tell it,
+//! files and streams don't, and a contract speaks of content only where it is told. A type that tells
+//! nothing gives the laws of `Media` by `specs/Told.antt`.
+#![tactic(auto)]
+
+mod media;
+mod memory_media;
+mod memory_shelf;
+mod memory_sink;
+mod plan;
+mod shelf;
+mod sink;
+
+pub use media::{Failed, MOST_LINES, Media};
+pub use memory_media::MemMedia;
+pub use memory_shelf::MemShelf;
+pub use memory_sink::MemSink;
+pub use shelf::Shelf;
+pub use sink::Sink;
+
+#[cfg(test)]
+mod tests;
