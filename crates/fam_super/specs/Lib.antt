@@ -1,0 +1,1 @@
+-- The definitions of the superblock stand in fam_format.
