@@ -1,0 +1,4 @@
+pub mod Filling
+pub mod ExtentsRead
+pub mod Ranges
+pub mod Found

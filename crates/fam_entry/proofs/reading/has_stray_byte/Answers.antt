@@ -1,0 +1,14 @@
+use Rattle.std.proofs.Common.{arith, below_more, sym, ◌∙◌}
+use Rattle.fam_entry.specs.Tests.{is_stray_byte}
+use Rattle.fam_entry.proofs.Ranges.{any_first, any_none}
+use Rattle.fam_entry.proofs.reading.has_stray_byte.Goals as goal
+
+pub returns-then-is_stray_byte : goal.returns-then-is_stray_byte
+returns-then-is_stray_byte c =
+    sym (any_first (is_stray_byte c.args.words.now c.args.i) 8 0 c.loop-b.b (omega arith) (omega arith) (sym c.is_stray_byte.ensures ∙ c.if-is_stray_byte.true) (λ k low below. c.loop-b.invariant k below))
+
+pub loop-b-preserved : goal.loop-b-preserved
+loop-b-preserved c = below_more _ _ c.loop-b.invariant (sym c.is_stray_byte.ensures ∙ c.if-is_stray_byte.false)
+
+pub returns : goal.returns
+returns c = sym (any_none (is_stray_byte c.args.words.now c.args.i) 8 0 (λ k low below. c.loop-b.invariant k (omega arith)))

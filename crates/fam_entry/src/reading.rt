@@ -1,0 +1,185 @@
+//! Reading of a slot: a test for each reason, in the order of the reasons. The first that fails decides.
+
+ghost use Rattle.std.specs.Prelude.{◌≡◌, ◌<◌, ◌≤◌, ◌^◌, MatchResult, IfOk, OnOk, Ok, Some, None, slice_index};
+ghost use Rattle.std.specs.Bool.{OnTrue};
+ghost use Rattle.std.specs.List.{list_any, range_with_len};
+ghost use Rattle.fam_format.specs.Layout.{first_format};
+ghost use Rattle.fam_format.specs.Params.{SoundParams};
+ghost use Rattle.fam_format.specs.Slot as slots;
+ghost use Rattle.fam_format.specs.SuperLaws.{IsWords};
+ghost use Rattle.fam_base.specs.declared.entry.Entry.{Entry};
+ghost use Rattle.fam_entry.specs.Tests.{Tells};
+ghost use Rattle.fam_entry.specs.Tests as tests;
+
+use crate::fields::{fields_of, path_of};
+use crate::map_rule::is_map;
+use crate::places::{
+    CHUNK_WORD, COUNT_WORD, CRC_WORD, DIRECTORY_KIND, EXTENT_LIMIT, EXTENTS_WORD, FILE_KIND,
+    GID_WORD, ID_LIMIT, KIND_WORD, MAP_WORD, MODE_LIMIT, MODE_WORD, PATH_LENGTH_WORD, PATH_WORD,
+    SEQ_WORD, SLOT_WORDS, STRIPED_MAP, UID_WORD,
+};
+use crate::slot::checksum;
+use fam_base::{Entry, Params, Path};
+use fam_format::{Reason, byte_of};
+
+fn check_crc(words: &[u64; SLOT_WORDS]) -> Result<(), Reason>
+    ensures { Tells result (slots.crc_fault first_format words.now) }
+{
+    let found = words[CRC_WORD];
+    let wanted = checksum(words);
+    if found == wanted {
+        return Ok(());
+    }
+    Err(Reason::Crc { found, wanted })
+}
+
+fn check_seq(words: &[u64; SLOT_WORDS], wanted: u64) -> Result<(), Reason>
+    ensures { Tells result (slots.seq_fault words.now wanted) }
+{
+    let found = words[SEQ_WORD];
+    if found == wanted {
+        return Ok(());
+    }
+    Err(Reason::Seq { found, wanted })
+}
+
+fn check_kind(words: &[u64; SLOT_WORDS]) -> Result<(), Reason>
+    ensures { Tells result (slots.kind_fault words.now) }
+{
+    match words[KIND_WORD] {
+        FILE_KIND | DIRECTORY_KIND => Ok(()),
+        word => Err(Reason::BadKind(word)),
+    }
+}
+
+fn check_attributes(words: &[u64; SLOT_WORDS]) -> Result<(), Reason>
+    ensures first { Tells result (slots.attribute_fault words.now) }
+    ensures mode { OnOk result (slice_index words.now MODE_WORD < 2 ^ 32) }
+    ensures uid { OnOk result (slice_index words.now UID_WORD < 2 ^ 32) }
+    ensures gid { OnOk result (slice_index words.now GID_WORD < 2 ^ 32) }
+{
+    if words[MODE_WORD] > MODE_LIMIT {
+        return Err(Reason::Attribute(MODE_WORD as u64));
+    }
+    if words[UID_WORD] > ID_LIMIT {
+        return Err(Reason::Attribute(UID_WORD as u64));
+    }
+    if words[GID_WORD] > ID_LIMIT {
+        return Err(Reason::Attribute(GID_WORD as u64));
+    }
+    Ok(())
+}
+
+fn are_map_words(words: &[u64; SLOT_WORDS]) -> bool
+    ensures value { result ≡ slots.is_map_words words.now }
+    ensures few { OnTrue result (slice_index words.now COUNT_WORD ≤ EXTENT_LIMIT) }
+{
+    if words[MAP_WORD] > STRIPED_MAP {
+        return false;
+    }
+    if words[COUNT_WORD] > EXTENT_LIMIT {
+        return false;
+    }
+    if words[MAP_WORD] == STRIPED_MAP {
+        return true;
+    }
+    words[CHUNK_WORD] == 0
+}
+
+fn mapped(words: &[u64; SLOT_WORDS], path: Path, params: &Params) -> Result<Entry, Reason>
+    requires sound { SoundParams params.now }
+    requires path { path ≡ slots.path_of words.now }
+    requires mode { slice_index words.now MODE_WORD < 2 ^ 32 }
+    requires uid { slice_index words.now UID_WORD < 2 ^ 32 }
+    requires gid { slice_index words.now GID_WORD < 2 ^ 32 }
+    ensures { MatchResult result
+        (λ e. (slots.map_fault params.now words.now ≡ None) × (e ≡ slots.fields_of words.now))
+        (λ reason. slots.map_fault params.now words.now ≡ Some reason) }
+{
+    if !are_map_words(words) {
+        return Err(Reason::Map);
+    }
+    let entry = fields_of(words, path);
+    if is_map(params, &entry) {
+        Ok(entry)
+    } else {
+        Err(Reason::Map)
+    }
+}
+
+fn is_stray_byte(words: &[u64; SLOT_WORDS], i: usize, b: usize) -> bool
+    requires from { slots.path_word ≤ i }
+    requires below { i < CRC_WORD }
+    requires byte { b < 8 }
+    ensures { result ≡ tests.is_stray_byte words.now i b }
+{
+    let place = 8 * (i - PATH_WORD) + b;
+    words[PATH_LENGTH_WORD] <= place as u64 && byte_of(words[i], b) != 0
+}
+
+fn has_stray_byte(words: &[u64; SLOT_WORDS], i: usize) -> bool
+    requires from { slots.path_word ≤ i }
+    requires below { i < CRC_WORD }
+    ensures { result ≡ list_any (tests.is_stray_byte words.now i) (range_with_len 0 8) }
+{
+    for b in 0..8 {
+        if is_stray_byte(words, i, b) {
+            return true;
+        }
+    }
+    false
+}
+
+fn is_stray(words: &[u64; SLOT_WORDS], i: usize) -> bool
+    requires from { slots.extents_word ≤ i }
+    requires below { i < CRC_WORD }
+    ensures { result ≡ slots.is_stray words.now i }
+{
+    if i < PATH_WORD {
+        let extent = (i - EXTENTS_WORD) / 2;
+        return words[COUNT_WORD] <= extent as u64 && words[i] != 0;
+    }
+    has_stray_byte(words, i)
+}
+
+fn check_rest(words: &[u64; SLOT_WORDS]) -> Result<(), Reason>
+    ensures { Tells result (slots.rest_fault first_format words.now) }
+{
+    for i in EXTENTS_WORD..CRC_WORD {
+        if is_stray(words, i) {
+            return Err(Reason::Rest(i as u64));
+        }
+    }
+    Ok(())
+}
+
+#[tactic(auto, unfolding(fam_format::specs::Slot::entry_of))]
+fn reading(words: &[u64; SLOT_WORDS], seq: u64, params: &Params) -> Result<Entry, Reason>
+    requires { SoundParams params.now }
+    ensures value { result ≡ slots.entry_of params.now words.now seq }
+    ensures words { IsWords SLOT_WORDS words.now }
+{
+    check_crc(words)?;
+    check_seq(words, seq)?;
+    check_kind(words)?;
+    check_attributes(words)?;
+    let path = path_of(words)?;
+    let entry = mapped(words, path, params)?;
+    check_rest(words)?;
+    Ok(entry)
+}
+
+/// The entry of which the words of slot `seq` are the spelling, where these parameters allow it; if they are no such
+/// spelling, the first reason against them. The reasons come in the order of `Reason`, from `Crc` to `Rest`.
+pub fn read_entry(words: &[u64; SLOT_WORDS], seq: u64, params: &Params) -> Result<Entry, Reason>
+    requires { SoundParams params.now }
+
+    ensures value { result ≡ slots.entry_of params.now words.now seq }
+
+    ensures found { IfOk result (λ e.
+        slots.Proper params.now e × (words.now ≡ slots.spelling first_format e seq)) }
+    ensures only { (e : Entry) → slots.Proper params.now e
+        → words.now ≡ slots.spelling first_format e seq → result ≡ Ok e }
+{
+    reading(words, seq, params)
+}

@@ -1,0 +1,110 @@
+//! Entries as the words of a slot: one function a field, and `word_of` for the table of the words.
+
+ghost use Rattle.std.specs.Prelude.{◌≡◌, ◌<◌, ◌^◌, slice_index_or};
+ghost use Rattle.fam_base.specs.ExtentLists.{no_extent};
+ghost use Rattle.fam_format.specs.Layout.{first_format};
+ghost use Rattle.fam_format.specs.Slot as slots;
+
+use crate::places::{
+    CHUNK_WORD, COUNT_WORD, CRC_WORD, DIRECTORY_KIND, EMPTY_MAP, EXTENTS_WORD, FILE_KIND, GID_WORD,
+    KIND_WORD, MAP_WORD, MODE_WORD, PATH_LENGTH_WORD, PATH_WORD, SEQ_WORD, SIMPLE_MAP, SIZE_WORD,
+    SLOT_WORDS, STRIPED_MAP, UID_WORD,
+};
+use fam_base::{Entry, Extent, Extents, Kind, MapKind};
+use fam_crc::crc_words;
+use fam_format::word_of_bytes;
+
+/// What stands in the words past the last extent.
+const NO_EXTENT: Extent = Extent {
+    offset: 0,
+    length: 0,
+};
+
+pub(crate) fn extent_or_none(extents: &Extents, i: u64) -> Extent
+    ensures { result ≡ slice_index_or extents.now i no_extent }
+{
+    match extents.at(i) {
+        Some(extent) => extent,
+        None => NO_EXTENT,
+    }
+}
+
+fn word_of_extents(extents: &Extents, j: usize) -> u64
+    ensures { result ≡ slots.extent_word extents.now j }
+{
+    let extent = extent_or_none(extents, j as u64 / 2);
+    if j % 2 == 0 {
+        extent.offset
+    } else {
+        extent.length
+    }
+}
+
+fn word_of_kind(kind: Kind) -> u64
+    ensures { result ≡ slots.kind_word kind }
+{
+    match kind {
+        Kind::File => FILE_KIND,
+        Kind::Directory => DIRECTORY_KIND,
+    }
+}
+
+fn word_of_map(map: MapKind) -> u64
+    ensures { result ≡ slots.map_word map }
+{
+    match map {
+        MapKind::Empty => EMPTY_MAP,
+        MapKind::Simple => SIMPLE_MAP,
+        MapKind::Striped { .. } => STRIPED_MAP,
+    }
+}
+
+fn word_of_chunk(map: MapKind) -> u64
+    ensures { result ≡ slots.chunk_word map }
+{
+    match map {
+        MapKind::Empty | MapKind::Simple => 0,
+        MapKind::Striped { chunk } => chunk,
+    }
+}
+
+#[tactic(auto, unfolding(fam_format::specs::Slot::word_at))]
+fn word_of(entry: &Entry, seq: u64, i: usize) -> u64
+    requires { i < CRC_WORD }
+    ensures { result ≡ slots.word_at entry.now seq i }
+{
+    match i {
+        SEQ_WORD => seq,
+        KIND_WORD => word_of_kind(entry.kind),
+        SIZE_WORD => entry.size,
+        MODE_WORD => entry.mode as u64,
+        UID_WORD => entry.uid as u64,
+        GID_WORD => entry.gid as u64,
+        PATH_LENGTH_WORD => entry.path.bytes().len() as u64,
+        MAP_WORD => word_of_map(entry.map),
+        CHUNK_WORD => word_of_chunk(entry.map),
+        COUNT_WORD => entry.extents.len(),
+        EXTENTS_WORD..PATH_WORD => word_of_extents(&entry.extents, i - EXTENTS_WORD),
+        _ => word_of_bytes(entry.path.bytes(), i - PATH_WORD),
+    }
+}
+
+/// What the checksum of these words should be.
+pub(crate) fn checksum(words: &[u64; SLOT_WORDS]) -> u64
+    ensures { result ≡ slots.slot_crc first_format words.now }
+{
+    crc_words(&words[..CRC_WORD]) as u64
+}
+
+/// The words of the slot that holds entry number `seq`: its fields, zeros in all unused parts, and the checksum.
+#[tactic(auto, unfolding(fam_format::specs::Slot::spelling))]
+pub fn spell(entry: &Entry, seq: u64) -> [u64; SLOT_WORDS]
+    ensures { result ≡ slots.spelling first_format entry.now seq }
+{
+    let mut words = [0; SLOT_WORDS];
+    for i in 0..CRC_WORD {
+        words[i] = word_of(entry, seq, i);
+    }
+    words[CRC_WORD] = checksum(&words);
+    words
+}
