@@ -1,0 +1,4 @@
+pub mod Views
+pub mod Keyed
+pub mod TakenBack
+pub mod Words

@@ -1,0 +1,80 @@
+-- Words of a line, and the lines of a tree.
+use Rattle.std.proofs.Common.{◌≡◌, Bool, false, cond, ℕ, suc, zero, ◌+◌, ◌^◌, ◌/◌, ◌%◌, ◌<◌, ◌≤◌, List, [], ◌∷◌, ◌++◌, take, refl, sym, ap, ◌∙◌, arith, append-nil, append_assoc, add-one}
+use Rattle.std.specs.Prelude.{◌==◌, Option, Some, None, slice_get}
+use Rattle.std.specs.FinMap as finmap
+use Rattle.std.proofs.lemmas.Bool.Decides.{nat_tests}
+use Rattle.fam_format.specs.Tree.{Tree}
+use Rattle.std.specs.Fmt.{decimal}
+use Rattle.std.specs.List.{flat_map, join_with_byte}
+use Rattle.std.proofs.lemmas.Fmt.{decimal_digit, decimal_step}
+use Rattle.fam_base.specs.declared.extents.Extent.{Extent}
+use Rattle.fam_base.specs.declared.entry.Entry.{Entry}
+use Rattle.fam_tree.specs.Lines.{space, comma, extent_text, extents_text, entry_words, entry_line, listing_line, listing}
+use Rattle.fam_tree.specs.NextExtent.{next_form, next_text}
+
+-- a number of one digit
+pub decimal_small : (n : ℕ) → n < 10 → decimal n ≡ (48 + n % 10) ∷ []
+decimal_small n small = let e : n ≡ n % 10 = omega arith in decimal_digit n small ∙ ap (λ (d : ℕ). (48 + d) ∷ []) e
+
+-- what is put behind something
+pub behind : (old a mid b new : List ℕ) → mid ≡ old ++ a → new ≡ mid ++ b → new ≡ old ++ (a ++ b)
+behind old a mid b new first next = next ∙ ap (λ (l : List ℕ). l ++ b) first ∙ append_assoc old a b
+
+-- the last digit behind the others
+pub decimal_more : (n : ℕ) (old mid : List ℕ) → 10 ≤ n → n < 2 ^ 64 → mid ≡ old ++ decimal (n / 10) → mid ++ (48 + n % 10) ∷ [] ≡ old ++ decimal n
+decimal_more n old mid large fits first =
+    behind old (decimal (n / 10)) mid _ _ first refl ∙ ap (λ (l : List ℕ). old ++ l) (sym (decimal_step n large fits))
+
+-- only the first extent has no comma
+no_first : (i : ℕ) → (suc i == 0) ≡ false
+no_first i = grind (arith, nat_tests)
+
+same_later : (i : ℕ) (held : Option Extent) → next_form (suc i) held ≡ next_form (suc (suc i)) held
+same_later i None = refl
+same_later i (Some x) = ap (λ (b : Bool). cond b (extent_text x) (comma ∷ extent_text x)) (no_first i ∙ sym (no_first (suc i)))
+
+-- one more extent
+extents_suc : (extents : List Extent) (i : ℕ) → extents_text (take (suc i) extents) ≡ extents_text (take i extents) ++ next_text extents i
+extents_suc [] zero = refl
+extents_suc [] (suc i) = refl
+extents_suc (x ∷ []) zero = refl
+extents_suc (x ∷ []) (suc zero) = sym (append-nil _)
+extents_suc (x ∷ []) (suc (suc i)) = sym (append-nil _)
+extents_suc (x ∷ y ∷ rest) zero = refl
+extents_suc (x ∷ y ∷ rest) (suc zero) = refl
+extents_suc (x ∷ y ∷ rest) (suc (suc i)) =
+    ap (λ (l : List ℕ). extent_text x ++ comma ∷ l)
+    (extents_suc (y ∷ rest) (suc i) ∙ ap (λ (l : List ℕ). extents_text (take (suc i) (y ∷ rest)) ++ l) (same_later i (slice_get rest i)))
+    ∙ sym (append_assoc (extent_text x) (comma ∷ extents_text (take (suc i) (y ∷ rest))) (next_text (x ∷ y ∷ rest) (suc (suc i))))
+
+pub extents_more : (extents : List Extent) (i : ℕ) → extents_text (take (i + 1) extents) ≡ extents_text (take i extents) ++ next_text extents i
+extents_more extents i = ap (λ (n : ℕ). extents_text (take n extents)) (add-one i) ∙ extents_suc extents i
+
+module _ (old k m u g s t p i1 i2 i3 i4 i5 i6 i7 i8 i9 i10 i11 i12 : List ℕ) where
+  -- seven words, put one behind another with spaces between
+  pub seven_words : i1 ≡ old ++ k → i2 ≡ i1 ++ space ∷ [] → i3 ≡ i2 ++ m → i4 ≡ i3 ++ space ∷ [] → i5 ≡ i4 ++ u → i6 ≡ i5 ++ space ∷ []
+      → i7 ≡ i6 ++ g → i8 ≡ i7 ++ space ∷ [] → i9 ≡ i8 ++ s → i10 ≡ i9 ++ space ∷ [] → i11 ≡ i10 ++ t → i12 ≡ i11 ++ space ∷ []
+      → i12 ++ p ≡ old ++ join_with_byte space (k ∷ m ∷ u ∷ g ∷ s ∷ t ∷ p ∷ [])
+  seven_words h1 h2 h3 h4 h5 h6 h7 h8 h9 h10 h11 h12 =
+      let e2 = behind old _ _ _ _ h1 h2 in
+      let e3 = behind old _ _ _ _ e2 h3 in
+      let e4 = behind old _ _ _ _ e3 h4 in
+      let e5 = behind old _ _ _ _ e4 h5 in
+      let e6 = behind old _ _ _ _ e5 h6 in
+      let e7 = behind old _ _ _ _ e6 h7 in
+      let e8 = behind old _ _ _ _ e7 h8 in
+      let e9 = behind old _ _ _ _ e8 h9 in
+      let e10 = behind old _ _ _ _ e9 h10 in
+      let e11 = behind old _ _ _ _ e10 h11 in
+      let e12 = behind old _ _ _ _ e11 h12 in
+      behind old _ i12 p _ e12 refl ∙ ap (λ (l : List ℕ). old ++ l) (simp append_assoc)
+
+-- a line is its words
+pub line_of_words : (e : Entry) → join_with_byte space (entry_words e) ≡ entry_line e
+unfolding entry_line
+line_of_words e = refl
+
+-- what is left of a listing at its front
+pub listing_whole : (tree : Tree) → [] ++ flat_map listing_line (finmap.values tree) ≡ listing tree
+unfolding listing
+listing_whole tree = refl

@@ -1,0 +1,5 @@
+pub mod Lines
+pub mod NextExtent
+pub mod Faults
+pub mod Keyed
+pub mod Iter

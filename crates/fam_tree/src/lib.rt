@@ -1,0 +1,18 @@
+//! Trees of entries: what stands at each path of a file system, and the listings that are printed of it.
+//!
+//! A contract sees a `Tree` as a finite map from path to entry, the `Tree` of fam_format's `specs/Tree.antt`.
+//! Every entry of a tree stands under its own path. An entry joins a tree where nothing stands at its path and
+//! its parent is the root or a directory of the tree. `specs/Lines.antt` says how an entry is printed.
+#![tactic(auto)]
+
+mod fault;
+mod laws;
+mod lines;
+#[cfg(test)]
+mod tests;
+mod tree;
+
+pub use fault::ApplyFault;
+pub use laws::take_back_undoes_apply;
+pub use lines::{print_entry, print_listing};
+pub use tree::{Tree, TreeIter};

@@ -1,0 +1,151 @@
+//! Entries and trees in print. `specs/Lines.antt` has the forms.
+
+ghost use Rattle.std.specs.Prelude.{◌≡◌, [], ◌∷◌, ◌++◌, OnOk, IfOk};
+ghost use Rattle.std.specs.Fmt.{decimal};
+ghost use Rattle.fam_tree.specs.Lines.{kind_text, octal_digit, mode_text, extent_text, extents_text, map_text, entry_line, listing_line, listing};
+ghost use Rattle.fam_tree.specs.NextExtent.{next_text};
+
+use crate::tree::Tree;
+use fam_base::{Entry, Extent, Extents, Kind, MapKind, OutOfMemory, escape};
+use std::alloc::Global;
+
+fn put_byte(byte: u8, into: &mut Vec<u8>) -> Result<(), OutOfMemory>
+    ensures { OnOk result (into.new.items ≡ into.old.items ++ byte ∷ []) }
+{
+    match into.push(byte) {
+        Ok(()) => Ok(()),
+        Err(_) => Err(OutOfMemory),
+    }
+}
+
+fn put_decimal(n: u64, into: &mut Vec<u8>) -> Result<(), OutOfMemory>
+    ensures { OnOk result (into.new.items ≡ into.old.items ++ decimal n) }
+{
+    let digit = b'0' + (n % 10) as u8;
+    if n < 10 {
+        return put_byte(digit, into);
+    }
+    put_decimal(n / 10, into)?;
+    put_byte(digit, into)
+}
+
+fn put_kind(kind: Kind, into: &mut Vec<u8>) -> Result<(), OutOfMemory>
+    ensures { OnOk result (into.new.items ≡ into.old.items ++ kind_text kind) }
+{
+    match kind {
+        Kind::Directory => put_byte(b'd', into),
+        Kind::File => put_byte(b'f', into),
+    }
+}
+
+fn octal_digit(n: u32) -> u8
+    ensures { result ≡ octal_digit n }
+{
+    b'0' + (n % 8) as u8
+}
+
+fn put_mode(mode: u32, into: &mut Vec<u8>) -> Result<(), OutOfMemory>
+    ensures { OnOk result (into.new.items ≡ into.old.items ++ mode_text mode) }
+{
+    let digits = [
+        octal_digit(mode / 512),
+        octal_digit(mode / 64),
+        octal_digit(mode / 8),
+        octal_digit(mode),
+    ];
+    match into.extend_from_slice(&digits) {
+        Ok(()) => Ok(()),
+        Err(_) => Err(OutOfMemory),
+    }
+}
+
+fn put_extent(extent: Extent, into: &mut Vec<u8>) -> Result<(), OutOfMemory>
+    ensures { OnOk result (into.new.items ≡ into.old.items ++ extent_text extent) }
+{
+    put_decimal(extent.offset, into)?;
+    put_byte(b'+', into)?;
+    put_decimal(extent.length, into)
+}
+
+fn put_next(extents: &Extents, i: u64, into: &mut Vec<u8>) -> Result<(), OutOfMemory>
+    ensures { OnOk result (into.new.items ≡ into.old.items ++ next_text extents.now i) }
+{
+    let Some(extent) = extents.at(i) else {
+        return Ok(());
+    };
+    if i == 0 {
+        return put_extent(extent, into);
+    }
+    put_byte(b',', into)?;
+    put_extent(extent, into)
+}
+
+fn put_extents(extents: &Extents, into: &mut Vec<u8>) -> Result<(), OutOfMemory>
+    ensures { OnOk result (into.new.items ≡ into.old.items ++ extents_text extents.now) }
+{
+    for i in 0..extents.len() {
+        put_next(extents, i, into)?;
+    }
+    Ok(())
+}
+
+fn put_map(map: MapKind, extents: &Extents, into: &mut Vec<u8>) -> Result<(), OutOfMemory>
+    ensures { OnOk result (into.new.items ≡ into.old.items ++ map_text map extents.now) }
+{
+    match map {
+        MapKind::Empty => put_byte(b'-', into),
+        MapKind::Simple => put_extents(extents, into),
+        MapKind::Striped { chunk } => {
+            put_decimal(chunk, into)?;
+            put_byte(b':', into)?;
+            put_extents(extents, into)
+        }
+    }
+}
+
+fn put_entry(entry: &Entry, into: &mut Vec<u8>) -> Result<(), OutOfMemory>
+    ensures { OnOk result (into.new.items ≡ into.old.items ++ entry_line entry.now) }
+{
+    put_kind(entry.kind, into)?;
+    put_byte(b' ', into)?;
+    put_mode(entry.mode, into)?;
+    put_byte(b' ', into)?;
+    put_decimal(entry.uid as u64, into)?;
+    put_byte(b' ', into)?;
+    put_decimal(entry.gid as u64, into)?;
+    put_byte(b' ', into)?;
+    put_decimal(entry.size, into)?;
+    put_byte(b' ', into)?;
+    put_map(entry.map, &entry.extents, into)?;
+    put_byte(b' ', into)?;
+    escape(entry.path.bytes(), into)
+}
+
+fn put_line(entry: &Entry, into: &mut Vec<u8>) -> Result<(), OutOfMemory>
+    ensures { OnOk result (into.new.items ≡ into.old.items ++ listing_line entry.now) }
+{
+    put_entry(entry, into)?;
+    put_byte(b'\n', into)
+}
+
+/// An entry as a line of a listing, without the line feed: `KIND MODE UID GID SIZE MAP PATH`, with one space
+/// between words. The mode has four octal digits, the last four of one above 4,095. The other numbers are
+/// decimal; size, offsets, lengths and chunk are bytes. The path is printed as [`escape`] has it.
+pub fn print_entry(alloc: Global, entry: &Entry) -> Result<Vec<u8>, OutOfMemory>
+    ensures { IfOk result (λ text. text.items ≡ entry_line entry.now) }
+{
+    let mut text = Vec::new(alloc);
+    put_entry(entry, &mut text)?;
+    Ok(text)
+}
+
+/// The lines of all entries of a tree, in byte order of their paths, each with a line feed behind it.
+pub fn print_listing(alloc: Global, tree: &Tree) -> Result<Vec<u8>, OutOfMemory>
+    ensures { IfOk result (λ text. text.items ≡ listing tree.now) }
+{
+    let mut text = Vec::new(alloc);
+    for entry in tree.iter() {
+        put_line(entry, &mut text)?;
+    }
+    Ok(text)
+}

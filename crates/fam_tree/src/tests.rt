@@ -1,0 +1,117 @@
+//! Rows of listings, and trees as a caller builds them.
+
+use crate::fault::ApplyFault;
+use crate::lines::{print_entry, print_listing};
+use crate::tree::Tree;
+use fam_base::{BadPath, Entry, Extent, Extents, Kind, MapKind, Path};
+use std::test::Fail;
+
+fn directory(path: &[u8]) -> Result<Entry, BadPath> {
+    Ok(Entry {
+        kind: Kind::Directory,
+        path: Path::read(path)?,
+        size: 0,
+        mode: 0o755,
+        uid: 0,
+        gid: 0,
+        map: MapKind::Empty,
+        extents: Extents::new(),
+    })
+}
+
+fn laid(ranges: &[(u64, u64)]) -> Extents {
+    let mut extents = Extents::new();
+    for (offset, length) in ranges {
+        let _ = extents.push(Extent {
+            offset: *offset,
+            length: *length,
+        });
+    }
+    extents
+}
+
+fn file(path: &[u8], size: u64, map: MapKind, ranges: &[(u64, u64)]) -> Result<Entry, BadPath> {
+    Ok(Entry {
+        kind: Kind::File,
+        path: Path::read(path)?,
+        size,
+        mode: 0o644,
+        uid: 0,
+        gid: 0,
+        map,
+        extents: laid(ranges),
+    })
+}
+
+#[test]
+fn lines_have_seven_words(rt: HostRuntime) -> Result<(), Fail> {
+    let simple = file(b"a/b", 4097, MapKind::Simple, &[(2162688, 8192)])?;
+    let spaced = file(b"a/notes 1.txt", 100, MapKind::Simple, &[(2170880, 4096)])?;
+    let striped = file(
+        b"s",
+        40000,
+        MapKind::Striped { chunk: 8192 },
+        &[(2162688, 16384), (4194304, 16384), (6291456, 16384)],
+    )?;
+    let mut owned = file(b"x\\y", 0, MapKind::Empty, &[])?;
+    owned.mode = 0o7;
+    owned.uid = 4294967295;
+    owned.gid = 10;
+    let rows = [
+        (directory(b"a")?, "d 0755 0 0 0 - a"),
+        (simple, "f 0644 0 0 4097 2162688+8192 a/b"),
+        (spaced, "f 0644 0 0 100 2170880+4096 a/notes\\x201.txt"),
+        (
+            striped,
+            "f 0644 0 0 40000 8192:2162688+16384,4194304+16384,6291456+16384 s",
+        ),
+        (owned, "f 0007 4294967295 10 0 - x\\x5cy"),
+    ];
+    for (entry, wanted) in &rows {
+        let text = print_entry(rt.alloc(), entry)?;
+        assert_eq!(rt; text.as_slice(), wanted.as_bytes(), "{wanted}");
+    }
+    Ok(())
+}
+
+#[test]
+fn a_dot_comes_before_a_slash(rt: HostRuntime) -> Result<(), Fail> {
+    let mut tree = Tree::new(rt.alloc());
+    tree.apply(&directory(b"a")?)?;
+    tree.apply(&directory(b"b")?)?;
+    tree.apply(&directory(b"a/b")?)?;
+    tree.apply(&directory(b"a.b")?)?;
+    let text = print_listing(rt.alloc(), &tree)?;
+    let wanted = "d 0755 0 0 0 - a\nd 0755 0 0 0 - a.b\nd 0755 0 0 0 - a/b\nd 0755 0 0 0 - b\n";
+    assert_eq!(rt; text.as_slice(), wanted.as_bytes());
+    Ok(())
+}
+
+#[test]
+fn an_entry_joins_below_a_directory_alone(rt: HostRuntime) -> Result<(), Fail> {
+    let mut tree = Tree::new(rt.alloc());
+    let entry = directory(b"a/b/c")?;
+    assert_eq!(rt; tree.apply(&entry), Err(ApplyFault::NoParent));
+    tree.apply(&directory(b"a")?)?;
+    tree.apply(&file(b"a/b", 0, MapKind::Empty, &[])?)?;
+    assert_eq!(rt; tree.apply(&entry), Err(ApplyFault::ParentIsFile));
+    assert_eq!(rt;
+        tree.apply(&directory(b"a/b")?),
+        Err(ApplyFault::Exists(Kind::File))
+    );
+    assert_eq!(rt; tree.len(), 2);
+    Ok(())
+}
+
+#[test]
+fn a_copy_keeps_what_is_taken_back(rt: HostRuntime) -> Result<(), Fail> {
+    let mut tree = Tree::new(rt.alloc());
+    let entry = directory(b"a")?;
+    tree.apply(&entry)?;
+    let copy = tree.copy(rt.alloc())?;
+    tree.take_back(&entry.path);
+    assert!(rt; tree.get(&entry.path).is_none());
+    assert_eq!(rt; tree.iter().count(), 0);
+    assert!(rt; copy.get(&entry.path).is_some());
+    Ok(())
+}

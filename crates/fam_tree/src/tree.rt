@@ -1,0 +1,173 @@
+//! Trees of entries. `specs/Keyed.antt` says how entries stand in a tree, and fam_format's `specs/Tree.antt`
+//! which entries join it.
+
+ghost use Rattle.std.specs.Prelude.{◌≡◌, OnOk, OnErr, IfOk, IfErr, IfSome};
+ghost use Rattle.std.specs.Iterator.{YieldsFirstRef, item_count};
+ghost use Rattle.std.specs.List.Sorted.{IsStrictlySortedBy};
+ghost use Rattle.std.specs.FinMap as map;
+ghost use Rattle.fam_base.specs.PathOrder.{path_cmp};
+ghost use Rattle.fam_format.specs.Tree.{with_entry, tree_fault};
+ghost use Rattle.fam_tree.specs.Faults.{reason_of};
+ghost use Rattle.fam_tree.specs.Iter.{tree_iter_rest};
+ghost use Rattle.fam_tree.specs.Keyed.{AreKeyed, IsKeyed, paths_of};
+
+use crate::fault::ApplyFault;
+use fam_base::{Entry, Kind, OutOfMemory, Path};
+use std::alloc::Global;
+use std::collections::BTreeMap;
+use std::collections::btree_map::Values;
+use std::marker::Model;
+
+/// The entries of a file system by their paths.
+#[derive(Drop)]
+pub struct Tree {
+    entries: BTreeMap<Path, Entry>,
+}
+
+impl Model for Tree {
+    ghost use Rattle.std.specs.FinMap as map;
+    ghost use Rattle.fam_base.specs.PathOrder.{path_cmp};
+    ghost use Rattle.fam_base.specs.declared.entry.Entry.{Entry};
+    ghost use Rattle.std.specs.Coded.{coded_list, coded_ℕ};
+    ghost use Rattle.fam_base.specs.contracts.entry.Entry as entry_type;
+    ghost use Rattle.fam_tree.specs.Keyed.{AreKeyed};
+
+    ghost Value = { map.FinMap path_cmp Entry };
+
+    ghost coded = { map.code (coded_list coded_ℕ) entry_type.the_row.coded };
+
+    ghost view = { λ t. map.from_entries t.entries.entries };
+
+    ghost invariant = { λ t. AreKeyed t.entries.entries };
+}
+
+fn put(held: &mut BTreeMap<Path, Entry>, entry: &Entry) -> Result<(), OutOfMemory>
+    ensures added { OnOk result (map.from_entries {R = path_cmp} held.new.entries
+        ≡ with_entry (map.from_entries held.old.entries) entry.now) }
+    ensures keyed { AreKeyed held.old.entries → AreKeyed held.new.entries }
+    ensures same { OnErr result (held.new.entries ≡ held.old.entries) }
+{
+    match held.insert(entry.path, *entry) {
+        Ok(_) => Ok(()),
+        Err(_) => Err(OutOfMemory),
+    }
+}
+
+fn drop_at(held: &mut BTreeMap<Path, Entry>, path: &Path)
+    ensures gone { map.from_entries {R = path_cmp} held.new.entries
+        ≡ map.remove (map.from_entries held.old.entries) path.now }
+    ensures keyed { AreKeyed held.old.entries → AreKeyed held.new.entries }
+{
+    let _ = held.remove(path);
+}
+
+impl Tree {
+    /// A tree with no entries. The root always exists, and is no entry.
+    pub fn new(alloc: Global) -> Tree
+        ensures { result ≡ map.empty }
+    {
+        Tree {
+            entries: BTreeMap::new(alloc),
+        }
+    }
+
+    /// What stands at a path.
+    pub fn get(&self, path: &Path) -> Option<Entry>
+        ensures value { result ≡ map.get self.now path.now }
+        ensures own { IfSome result (λ entry. entry.path ≡ path.now) }
+    {
+        self.entries.get(path).copied()
+    }
+
+    /// How many entries there are.
+    pub fn len(&self) -> u64
+        ensures { result ≡ map.len self.now }
+    {
+        self.entries.len() as u64
+    }
+
+    /// The entries in byte order of their paths.
+    pub fn iter(&self) -> TreeIter<'_>
+        ensures rest { tree_iter_rest result ≡ map.values self.now }
+
+        // Each stands under its own path, so the order is that of the paths of the entries.
+        ensures own { IsKeyed self.now }
+        ensures order { IsStrictlySortedBy path_cmp (paths_of self.now) }
+    {
+        TreeIter {
+            entries: self.entries.values(),
+        }
+    }
+
+    fn fault(&self, entry: &Entry) -> Option<ApplyFault>
+        ensures none { result ≡ None → tree_fault self.now entry.now ≡ None }
+        ensures fault { IfSome result (λ e. (reason_of e ≡ tree_fault self.now entry.now)) }
+    {
+        if let Some(old) = self.get(&entry.path) {
+            return Some(ApplyFault::Exists(old.kind));
+        }
+        let parent = entry.path.parent()?;
+        match self.get(&parent) {
+            None => Some(ApplyFault::NoParent),
+            Some(parent) => match parent.kind {
+                Kind::File => Some(ApplyFault::ParentIsFile),
+                Kind::Directory => None,
+            },
+        }
+    }
+
+    /// Adds an entry. It has to be new at its path, below the root or a directory of the tree.
+    pub fn apply(&mut self, entry: &Entry) -> Result<(), ApplyFault>
+        ensures joins { OnOk result (tree_fault self.old entry.now ≡ None) }
+        ensures added { OnOk result (self.new ≡ with_entry self.old entry.now) }
+
+        // Every fault but want of memory comes exactly where the entry doesn't join.
+        ensures cause { IfErr result (λ fault. reason_of fault ≡ tree_fault self.old entry.now) }
+        ensures same { OnErr result (self.new ≡ self.old) }
+    {
+        if let Some(fault) = self.fault(entry) {
+            return Err(fault);
+        }
+        match put(&mut self.entries, entry) {
+            Ok(()) => Ok(()),
+            Err(_) => Err(ApplyFault::OutOfMemory),
+        }
+    }
+
+    /// Removes the entry at a path, so that what `apply` added is taken back. Entries below it stay, so a
+    /// caller takes back no parent of others. Where nothing stands at the path, nothing changes.
+    pub fn take_back(&mut self, path: &Path)
+        ensures { self.new ≡ map.remove self.old path.now }
+    {
+        drop_at(&mut self.entries, path)
+    }
+
+    /// An equal tree.
+    pub fn copy(&self, alloc: Global) -> Result<Tree, OutOfMemory>
+        ensures { IfOk result (λ tree. tree ≡ self.now) }
+    {
+        let _ = alloc;
+        match self.entries.clone() {
+            Ok(entries) => Ok(Tree { entries }),
+            Err(_) => Err(OutOfMemory),
+        }
+    }
+}
+
+/// The entries of a tree, in byte order of their paths.
+#[derive(Drop)]
+pub struct TreeIter<'a> {
+    entries: Values<'a, Path, Entry>,
+}
+
+impl<'a> Iterator for TreeIter<'a> {
+    type Item = &'a Entry;
+
+    ghost next_gives = { YieldsFirstRef tree_iter_rest };
+
+    ghost remaining = { item_count tree_iter_rest };
+
+    fn next(&mut self) -> Option<&'a Entry> {
+        self.entries.next()
+    }
+}
