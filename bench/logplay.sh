@@ -1,0 +1,39 @@
+#!/usr/bin/env bash
+# Times `famfs logplay` on a full log of 8 MiB: 16,383 directories, read from the page cache. python3 writes the image.
+#
+# Printed on one x86-64 processor at about 2.5 GHz: 0.084 to 0.093 s while it had nothing else to do, and up to 0.17 s
+# beside other work. About half is in the system's 131,069 reads of a line each; the rest is parsing and the tree, a
+# BTreeMap. A log of half the length took 0.042 s. The wanted bound was 0.1 s.
+set -eu
+top=$(cd "$(dirname "${BASH_SOURCE[0]}")/.." && pwd)
+work=$(mktemp -d)
+trap 'rm -rf "$work"' EXIT
+python3 - "$work/img" <<'PY'
+import struct, sys, zlib
+log, unit, device = 8388608, 4096, 16777216
+fs, master = bytes.fromhex("11111111111141118111111111111111"), bytes(15) + b"\1"
+def summed(words):
+    return words + [zlib.crc32(struct.pack("<%dQ" % len(words), *words))]
+def halves(uuid):
+    return list(struct.unpack("<2Q", uuid))
+image = bytearray(device)
+def put(line, words):
+    struct.pack_into("<%dQ" % len(words), image, 64 * line, *words)
+put(0, [int.from_bytes(b"famfs-01", "little")])
+put(1, summed([1, 2097152, log, unit, device] + halves(fs) + halves(master) + [0] * 6))
+slots = log // 512 - 1
+put(32768, summed([int.from_bytes(b"famfslog", "little"), log, slots] + halves(fs) + [0, 0]))
+put(32769, [slots])
+for i in range(slots):
+    path = b"directory-%05d" % (i * 7919 % slots)
+    words = [i, 2, 0, 0o755, 0, 0, len(path), 0, 0, 0] + [0] * 32
+    words += struct.unpack("<21Q", path + bytes(168 - len(path)))
+    put(32776 + 8 * i, summed(words))
+open(sys.argv[1], "wb").write(image)
+PY
+"$top/famfs" logplay "$work/img" >"$work/out"
+head -1 "$work/out"
+for _ in 1 2 3 4 5; do
+    TIMEFORMAT="logplay: %R s"
+    time "$top/famfs" logplay "$work/img" >"$work/out"
+done

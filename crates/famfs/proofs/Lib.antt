@@ -1,0 +1,4 @@
+pub mod Endings
+pub mod Heads
+pub mod Plays
+pub mod Slots

@@ -1,0 +1,95 @@
+//! The famfs command: what it does is the top call in `top`; here the real image, shelf and output are made and
+//! handed to it.
+#![tactic(auto)]
+
+mod answer;
+mod file_media;
+mod head;
+mod load;
+mod replay;
+mod status;
+mod std_sink;
+mod texts;
+mod top;
+mod words;
+
+use fam_base::OutOfMemory;
+use fam_media::MemShelf;
+use file_media::FileMedia;
+use status::Status;
+use std::env;
+use std::fs::{File, OpenOptions};
+use std::io::ErrorKind;
+use std::process::ExitCode;
+use std_sink::StdSink;
+use top::famfs;
+use uuid::Uuid;
+use words::image_of;
+
+/// The UUID of this host where no word names another: 00000000-0000-0000-0000-000000000001.
+const SYSTEM: [u8; 16] = [0, 0, 0, 0, 0, 0, 0, 0, 0, 0, 0, 0, 0, 0, 0, 1];
+
+/// The words after the program's name, and none where one of them isn't UTF-8.
+fn given(rt: &HostRuntime) -> Result<Vec<String>, OutOfMemory> {
+    let mut words = Vec::new(rt.alloc());
+    let args = match env::args(rt) {
+        Ok(args) => args,
+        Err(error) => {
+            return match error.kind() {
+                ErrorKind::OutOfMemory => Err(OutOfMemory),
+                _ => Ok(words),
+            };
+        }
+    };
+    for word in args.skip(1) {
+        if words.push(word).is_err() {
+            return Err(OutOfMemory);
+        }
+    }
+    Ok(words)
+}
+
+/// Opens an image for reading and writing.
+fn opened(rt: &HostRuntime, name: &str) -> Option<File> {
+    OpenOptions::new()
+        .read(true)
+        .write(true)
+        .open(rt, name)
+        .ok()
+}
+
+/// Runs the command that the words name on the image that they name.
+fn run(rt: &HostRuntime, words: &Vec<String>) -> Result<Status, OutOfMemory> {
+    let file = match image_of(rt.alloc(), words)? {
+        Some(name) => opened(rt, name.text()),
+        None => None,
+    };
+    let mut media = FileMedia::new(file);
+    let mut shelf = MemShelf::new(rt.alloc());
+    let mut out = StdSink::new(rt.stdout());
+    let me = Uuid::from_bytes(SYSTEM);
+    let status = famfs(
+        rt.alloc(),
+        words,
+        me,
+        [0; 16],
+        &mut media,
+        &mut shelf,
+        &mut out,
+    );
+    Ok(status)
+}
+
+#[cfg(test)]
+mod tests;
+
+fn main(rt: HostRuntime) -> ExitCode {
+    let status = match given(&rt) {
+        Ok(words) => match run(&rt, &words) {
+            Ok(status) => status,
+            Err(OutOfMemory) => Status::OutOfMemory,
+        },
+        Err(OutOfMemory) => Status::OutOfMemory,
+    };
+    ExitCode::from(status.number())
+}

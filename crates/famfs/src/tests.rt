@@ -1,0 +1,6 @@
+//! What no clause says: outside numbers, whole texts, and real files.
+
+mod damage;
+mod images;
+mod listings;
+mod outside;
