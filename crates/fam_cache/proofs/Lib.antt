@@ -1,0 +1,6 @@
+pub mod InOrder
+pub mod HeldLemmas
+pub mod CountLemmas
+pub mod MemoryLemmas
+pub mod SpotLemmas
+pub mod StoreLemmas

@@ -1,0 +1,48 @@
+-- Spots that need room, and those that don't.
+use Rattle.std.proofs.Common.{◌≡◌, ℕ, true, false, List, Option, Result, Ok, Err, refl, sym, ap, ◌∙◌}
+use Rattle.std.specs.Prelude.{OnErr, is_err}
+use Rattle.std.proofs.lemmas.Bool.{false≢true}
+use Rattle.std.specs.Ordering.{nat_cmp}
+use Rattle.std.specs.FinMap.{is_sorted}
+use Rattle.fam_base.specs.Image.{Image}
+use Rattle.fam_machine.specs.declared.cell.Cell.{Cell}
+use Rattle.fam_machine.specs.declared.cell.Cell.TheVariants.{Absent, Clean, Dirty}
+use Rattle.fam_machine.specs.Caches.{Cache, cell_at, with_cell}
+use Rattle.fam_machine.specs.OneLine.{is_held, IsHeld, IsDirty, brought}
+use Rattle.fam_machine.proofs.CacheLemmas.{cell_at-with_cell_same}
+use Rattle.fam_cache.specs.declared.places.Spot.{Spot}
+use Rattle.fam_cache.specs.declared.places.Spot.TheVariants.{Place, Gap}
+use Rattle.fam_cache.specs.Effects.{FromMemory}
+use Rattle.fam_cache.specs.Places.{Places, cache_of, is_gap, IsSpot}
+use Rattle.fam_cache.proofs.HeldLemmas.{cell_gap}
+
+-- what holds of an error holds where there is one
+pub when_err : {T E : Type 0} (r : Result T E) (P : Type 0) → OnErr r P → is_err r ≡ true → P
+when_err (Ok x) P on is = absurd cc
+when_err (Err e) P on is = on
+
+-- a dirty line is held
+pub dirty_held : (cell : Cell) → IsDirty cell → IsHeld cell
+dirty_held Absent is = is
+dirty_held (Clean words) is = refl
+dirty_held (Dirty words) is = refl
+
+module _ (es : Places) (k : ℕ) (sorted : is_sorted nat_cmp es ≡ true) where
+  -- a line that is held has its place, and needs no room
+  pub held_placed : (spot : Spot) → IsSpot es spot k → IsHeld (cell_at (cache_of es) k) → is_gap spot ≡ false
+  held_placed (Place at) stands held = refl
+  held_placed (Gap at) gap held = absurd (false≢true (sym (ap is_held (cell_gap es k sorted at gap)) ∙ held))
+
+  -- a line in a gap isn't held
+  pub gap_unheld : (spot : Spot) → IsSpot es spot k → is_gap spot ≡ true → IsHeld (cell_at (cache_of es) k) → ⊥
+  gap_unheld spot is gap held = false≢true (sym (held_placed spot is held) ∙ gap)
+
+brought_held : (memory : List ℕ) (cell : Cell) → IsHeld (brought memory cell)
+brought_held memory Absent = refl
+brought_held memory (Clean words) = refl
+brought_held memory (Dirty words) = refl
+
+-- a line that was brought is held
+pub held_after : (told : Option Image) (line : ℕ) (old new : Cell) (before after : Cache) → FromMemory told line (λ memory. new ≡ brought memory old) → after ≡ with_cell line new before → IsHeld (cell_at after line)
+held_after told line old new before after from after_is =
+    ap is_held (ap (λ (cache : Cache). cell_at cache line) after_is ∙ cell_at-with_cell_same line new before ∙ from.is) ∙ brought_held from.memory old

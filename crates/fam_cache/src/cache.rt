@@ -1,0 +1,529 @@
+//! A host's cache, as a task and the machine use it.
+
+ghost use Rattle.std.specs.Prelude.{◌≡◌, ◌+◌, ◌-◌, ◌<◌, ◌≤◌, IsTrue, IsOk, IfOk, OnOk, OnErr, IsErrOf, slice_index, vec_len, vec_capacity};
+ghost use Rattle.std.specs.Option.{option_map};
+ghost use Rattle.std.specs.Ordering.{nat_cmp};
+ghost use Rattle.std.specs.FinMap as map;
+ghost use Rattle.std.specs.FinMap.{is_sorted};
+ghost use Rattle.fam_machine.specs.declared.cell.Cell.{Cell};
+ghost use Rattle.fam_machine.specs.Caches.{cell_at, cell_changed, dirty_count, line_changed, with_cell};
+ghost use Rattle.fam_machine.specs.OneLine.{IsDirty, IsHeld, brought, cleaned, failed_leak, failed_send, fetched, leaked, sent, stored, words_of};
+ghost use Rattle.fam_media.specs.Causes.{HasCause, Rose};
+ghost use Rattle.fam_media.specs.Outside.{IfTold};
+ghost use Rattle.fam_cache.specs.Effects.{FailsTo, FromMemory};
+ghost use Rattle.fam_cache.specs.Places.{StandsAt, cache_of};
+
+use crate::copies::{bring_copy, fetch_copy, leak_copy, send_copy};
+use crate::places::{
+    clean_copy, copy, dirty_lines_of, drop_copy, make_room, place_of, put_copy, seek, set_word,
+    word_at,
+};
+use fam_base::{LineNo, Mask, OutOfMemory};
+use fam_machine::Cell;
+use fam_media::{Failed, Media};
+use std::alloc::Global;
+use std::marker::Model;
+
+/// Why a line could not be brought.
+#[derive(Clone, Copy, Debug, PartialEq, Eq)]
+pub enum CacheFault {
+    /// The media failed.
+    Failed,
+    /// No memory is left for one more line.
+    OutOfMemory,
+}
+
+/// The place of a line, which is brought from memory where it is absent. Room is taken first.
+fn bring<M: Media>(
+    places: &mut Vec<(u64, Cell)>,
+    last: usize,
+    media: &mut M,
+    line: LineNo,
+) -> Result<usize, CacheFault>
+    requires sorted { IsTrue (is_sorted nat_cmp places.old.items) }
+    requires within { line.0 < M.size media.old }
+
+    ensures cache { OnOk result (FromMemory (M.image media.old) line.0
+        (λ memory. cache_of places.new.items ≡ cell_changed line.0 (brought memory) (cache_of places.old.items))) }
+    ensures stands { IfOk result (λ at. StandsAt places.new.items at line.0) }
+    ensures held { OnOk result (IsHeld (cell_at (cache_of places.new.items) line.0)) }
+    ensures err { OnErr result (cache_of places.new.items ≡ cache_of places.old.items) }
+
+    ensures idle { IsHeld (cell_at (cache_of places.old.items) line.0) → IsOk result }
+    ensures same { IsHeld (cell_at (cache_of places.old.items) line.0) → media.new ≡ media.old }
+    ensures failed { IsErrOf result CacheFault.Failed →
+        Rose (M.faults media.old) (M.faults media.new) }
+    ensures full { IsErrOf result CacheFault.OutOfMemory →
+        vec_capacity places.old ≤ vec_len places.old }
+    ensures undone { IsErrOf result CacheFault.OutOfMemory → media.new ≡ media.old }
+    ensures unmoved { IsErrOf result CacheFault.OutOfMemory →
+        vec_capacity places.new ≡ vec_capacity places.old }
+
+    ensures image { M.image media.new ≡ M.image media.old }
+    ensures size { M.size media.new ≡ M.size media.old }
+    ensures later { M.faults media.old ≤ M.faults media.new }
+    ensures sorted { IsTrue (is_sorted nat_cmp places.new.items) }
+    ensures capacity { vec_capacity places.old ≤ vec_capacity places.new }
+    ensures one { vec_len places.new ≤ vec_len places.old + 1 }
+    ensures none { IsHeld (cell_at (cache_of places.old.items) line.0) →
+        vec_len places.new ≡ vec_len places.old }
+    ensures kept { OnErr result (vec_len places.new ≡ vec_len places.old) }
+{
+    let spot = seek(places, last, line.0);
+    if make_room(places, spot).is_err() {
+        return Err(CacheFault::OutOfMemory);
+    }
+    let held = copy(places, spot, line.0);
+    match bring_copy(held, media, line) {
+        Ok(brought) => Ok(put_copy(places, spot, line.0, brought)),
+        Err(_) => Err(CacheFault::Failed),
+    }
+}
+
+/// The place of a line after an early fetch. Room is taken first.
+fn refresh<M: Media>(
+    places: &mut Vec<(u64, Cell)>,
+    last: usize,
+    media: &mut M,
+    line: LineNo,
+    mask: Mask,
+) -> Result<usize, CacheFault>
+    requires sorted { IsTrue (is_sorted nat_cmp places.old.items) }
+    requires within { line.0 < M.size media.old }
+
+    ensures cache { OnOk result (FromMemory (M.image media.old) line.0
+        (λ memory. cache_of places.new.items ≡ cell_changed line.0 (fetched mask.0 memory) (cache_of places.old.items))) }
+    ensures err { OnErr result (cache_of places.new.items ≡ cache_of places.old.items) }
+
+    ensures idle { IsDirty (cell_at (cache_of places.old.items) line.0) → IsOk result }
+    ensures same { IsDirty (cell_at (cache_of places.old.items) line.0) → media.new ≡ media.old }
+    ensures failed { IsErrOf result CacheFault.Failed →
+        Rose (M.faults media.old) (M.faults media.new) }
+    ensures full { IsErrOf result CacheFault.OutOfMemory →
+        vec_capacity places.old ≤ vec_len places.old }
+    ensures absent { IsErrOf result CacheFault.OutOfMemory →
+        ¬ (IsHeld (cell_at (cache_of places.old.items) line.0)) }
+    ensures undone { IsErrOf result CacheFault.OutOfMemory → media.new ≡ media.old }
+    ensures unmoved { IsErrOf result CacheFault.OutOfMemory →
+        vec_capacity places.new ≡ vec_capacity places.old }
+
+    ensures image { M.image media.new ≡ M.image media.old }
+    ensures size { M.size media.new ≡ M.size media.old }
+    ensures later { M.faults media.old ≤ M.faults media.new }
+    ensures sorted { IsTrue (is_sorted nat_cmp places.new.items) }
+    ensures capacity { vec_capacity places.old ≤ vec_capacity places.new }
+    ensures one { vec_len places.new ≤ vec_len places.old + 1 }
+    ensures none { IsHeld (cell_at (cache_of places.old.items) line.0) →
+        vec_len places.new ≡ vec_len places.old }
+    ensures kept { OnErr result (vec_len places.new ≡ vec_len places.old) }
+{
+    let spot = seek(places, last, line.0);
+    if make_room(places, spot).is_err() {
+        return Err(CacheFault::OutOfMemory);
+    }
+    let held = copy(places, spot, line.0);
+    match fetch_copy(held, media, line, mask) {
+        Ok(fetched) => Ok(put_copy(places, spot, line.0, fetched)),
+        Err(_) => Err(CacheFault::Failed),
+    }
+}
+
+/// Sends a dirty line to memory, which is clean then. Returns the place to remember.
+fn write_line<M: Media>(
+    places: &mut Vec<(u64, Cell)>,
+    last: usize,
+    media: &mut M,
+    line: LineNo,
+) -> Result<usize, Failed>
+    requires sorted { IsTrue (is_sorted nat_cmp places.old.items) }
+    requires within { line.0 < M.size media.old }
+
+    ensures cache { OnOk result
+        (cache_of places.new.items ≡ cell_changed line.0 cleaned (cache_of places.old.items)) }
+    ensures memory { OnOk result (M.image media.new ≡ option_map
+        (line_changed line.0 (λ memory. sent memory (cell_at (cache_of places.old.items) line.0)))
+        (M.image media.old)) }
+    ensures err { OnErr result (cache_of places.new.items ≡ cache_of places.old.items) }
+    ensures torn { OnErr result (IfTold (M.image media.old) (λ image. FailsTo line.0
+        (λ through memory. failed_send through memory (cell_at (cache_of places.old.items) line.0))
+        image (M.image media.new))) }
+
+    ensures idle { ¬ (IsDirty (cell_at (cache_of places.old.items) line.0)) → IsOk result }
+    ensures same { ¬ (IsDirty (cell_at (cache_of places.old.items) line.0)) → media.new ≡ media.old }
+    ensures cause { HasCause (M.faults media.old) (M.faults media.new) result }
+    ensures size { M.size media.new ≡ M.size media.old }
+    ensures sorted { IsTrue (is_sorted nat_cmp places.new.items) }
+    ensures capacity { vec_capacity places.new ≡ vec_capacity places.old }
+    ensures len { vec_len places.new ≤ vec_len places.old }
+{
+    let spot = seek(places, last, line.0);
+    let held = copy(places, spot, line.0);
+    match send_copy(held, media, line) {
+        Ok(()) => {
+            clean_copy(places, spot, line.0);
+            Ok(place_of(spot))
+        }
+        Err(fault) => Err(fault),
+    }
+}
+
+/// Sends a dirty line to memory, and makes the line absent. Returns the place to remember.
+fn drop_line<M: Media>(
+    places: &mut Vec<(u64, Cell)>,
+    last: usize,
+    media: &mut M,
+    line: LineNo,
+) -> Result<usize, Failed>
+    requires sorted { IsTrue (is_sorted nat_cmp places.old.items) }
+    requires within { line.0 < M.size media.old }
+
+    ensures cache { OnOk result
+        (cache_of places.new.items ≡ with_cell line.0 Cell.Absent (cache_of places.old.items)) }
+    ensures memory { OnOk result (M.image media.new ≡ option_map
+        (line_changed line.0 (λ memory. sent memory (cell_at (cache_of places.old.items) line.0)))
+        (M.image media.old)) }
+    ensures err { OnErr result (cache_of places.new.items ≡ cache_of places.old.items) }
+    ensures torn { OnErr result (IfTold (M.image media.old) (λ image. FailsTo line.0
+        (λ through memory. failed_send through memory (cell_at (cache_of places.old.items) line.0))
+        image (M.image media.new))) }
+
+    ensures idle { ¬ (IsDirty (cell_at (cache_of places.old.items) line.0)) → IsOk result }
+    ensures same { ¬ (IsDirty (cell_at (cache_of places.old.items) line.0)) → media.new ≡ media.old }
+    ensures cause { HasCause (M.faults media.old) (M.faults media.new) result }
+    ensures size { M.size media.new ≡ M.size media.old }
+    ensures sorted { IsTrue (is_sorted nat_cmp places.new.items) }
+    ensures capacity { vec_capacity places.new ≡ vec_capacity places.old }
+    ensures len { vec_len places.new ≤ vec_len places.old }
+{
+    let spot = seek(places, last, line.0);
+    let held = copy(places, spot, line.0);
+    match send_copy(held, media, line) {
+        Ok(()) => {
+            drop_copy(places, spot, line.0);
+            Ok(place_of(spot).min(places.len().saturating_sub(1)))
+        }
+        Err(fault) => Err(fault),
+    }
+}
+
+/// Sends masked words of a dirty line to memory. Returns the place to remember.
+fn leak_line<M: Media>(
+    places: &Vec<(u64, Cell)>,
+    last: usize,
+    media: &mut M,
+    line: LineNo,
+    mask: Mask,
+) -> Result<usize, Failed>
+    requires sorted { IsTrue (is_sorted nat_cmp places.now.items) }
+    requires within { line.0 < M.size media.old }
+
+    ensures memory { OnOk result (M.image media.new ≡ option_map
+        (line_changed line.0 (λ memory. leaked mask.0 memory (cell_at (cache_of places.now.items) line.0)))
+        (M.image media.old)) }
+    ensures torn { OnErr result (IfTold (M.image media.old) (λ image. FailsTo line.0
+        (λ through memory. failed_leak mask.0 through memory (cell_at (cache_of places.now.items) line.0))
+        image (M.image media.new))) }
+
+    ensures idle { ¬ (IsDirty (cell_at (cache_of places.now.items) line.0)) → IsOk result }
+    ensures same { ¬ (IsDirty (cell_at (cache_of places.now.items) line.0)) → media.new ≡ media.old }
+    ensures cause { HasCause (M.faults media.old) (M.faults media.new) result }
+    ensures size { M.size media.new ≡ M.size media.old }
+{
+    let spot = seek(places, last, line.0);
+    let held = copy(places, spot, line.0);
+    match leak_copy(held, media, line, mask) {
+        Ok(()) => Ok(place_of(spot)),
+        Err(fault) => Err(fault),
+    }
+}
+
+/// A host's cache: copies of lines, in places by the lines' numbers.
+#[derive(Drop)]
+pub struct HostCache {
+    places: Vec<(u64, Cell)>,
+    /// The place of the last access, or any number: the next line is looked for there first.
+    last: usize,
+}
+
+impl Model for HostCache {
+    ghost use Rattle.std.specs.Prelude.{IsTrue, ◌-◌, vec_len, vec_capacity};
+    ghost use Rattle.std.specs.Ordering.{nat_cmp};
+    ghost use Rattle.std.specs.FinMap.{is_sorted};
+    ghost use Rattle.fam_cache.specs.Places.{cache_of};
+    ghost use Rattle.fam_cache.specs.States.{CacheState, state_code};
+
+    ghost Value = { CacheState };
+
+    ghost coded = { state_code };
+
+    ghost view = { λ c. record { lines = cache_of c.places.items; spare = vec_capacity c.places - vec_len c.places } };
+
+    ghost invariant = { λ c. IsTrue (is_sorted nat_cmp c.places.items) };
+}
+
+impl HostCache {
+    /// A cache that holds no line.
+    pub fn new(alloc: Global) -> HostCache
+        ensures lines { result.lines ≡ map.empty }
+    {
+        HostCache {
+            places: Vec::new(alloc),
+            last: 0,
+        }
+    }
+
+    /// Makes room for that many lines more.
+    pub fn reserve(&mut self, lines: u64) -> Result<(), OutOfMemory>
+        ensures spare { OnOk result (lines ≤ self.new.spare) }
+        ensures err { OnErr result (self.new ≡ self.old) }
+        ensures lines { self.new.lines ≡ self.old.lines }
+        ensures kept { self.old.spare ≤ self.new.spare }
+    {
+        match self.places.reserve(lines as usize) {
+            Ok(()) => Ok(()),
+            Err(_) => Err(OutOfMemory),
+        }
+    }
+
+    /// Makes every line absent. Words that memory lacks are lost.
+    pub fn lose(&mut self)
+        ensures lines { self.new.lines ≡ map.empty }
+        ensures spare { self.old.spare ≤ self.new.spare }
+    {
+        self.places.clear();
+    }
+
+    /// Gives a word of a line. An absent line is brought from memory.
+    pub fn load<M: Media>(
+        &mut self,
+        media: &mut M,
+        line: LineNo,
+        word: u8,
+    ) -> Result<u64, CacheFault>
+        requires within { line.0 < M.size media.old }
+        requires word { word < 8 }
+
+        // The word is that of the copy that the host now has.
+        ensures value { IfOk result
+            (λ value. value ≡ slice_index (words_of (cell_at self.new.lines line.0)) word) }
+        ensures cache { OnOk result (FromMemory (M.image media.old) line.0
+            (λ memory. self.new.lines ≡ cell_changed line.0 (brought memory) self.old.lines)) }
+        ensures err { OnErr result (self.new.lines ≡ self.old.lines) }
+
+        // A line that is held asks nothing of memory.
+        ensures ok { IsHeld (cell_at self.old.lines line.0) → IsOk result }
+        ensures same { IsHeld (cell_at self.old.lines line.0) → media.new ≡ media.old }
+
+        // Room is taken first, so where it is missing nothing was done.
+        ensures failed { IsErrOf result CacheFault.Failed →
+            Rose (M.faults media.old) (M.faults media.new) }
+        ensures room { IsErrOf result CacheFault.OutOfMemory → self.old.spare ≡ 0 }
+        ensures undone { IsErrOf result CacheFault.OutOfMemory → media.new ≡ media.old }
+        ensures unchanged { IsErrOf result CacheFault.OutOfMemory → self.new ≡ self.old }
+
+        ensures image { M.image media.new ≡ M.image media.old }
+        ensures size { M.size media.new ≡ M.size media.old }
+        ensures later { M.faults media.old ≤ M.faults media.new }
+
+        // Only a line that was brought takes a place.
+        ensures spare { self.old.spare ≤ self.new.spare + 1 }
+        ensures held_spare { IsHeld (cell_at self.old.lines line.0) → self.old.spare ≤ self.new.spare }
+        ensures err_spare { OnErr result (self.old.spare ≤ self.new.spare) }
+    {
+        let at = bring(&mut self.places, self.last, media, line)?;
+        self.last = at;
+        Ok(word_at(&self.places, at, line.0, word))
+    }
+
+    /// Sets a word of a line, which is dirty then. An absent line is brought from memory first.
+    pub fn store<M: Media>(
+        &mut self,
+        media: &mut M,
+        line: LineNo,
+        word: u8,
+        value: u64,
+    ) -> Result<(), CacheFault>
+        requires within { line.0 < M.size media.old }
+        requires word { word < 8 }
+
+        ensures cache { OnOk result (FromMemory (M.image media.old) line.0
+            (λ memory. self.new.lines ≡ cell_changed line.0 (stored word value memory) self.old.lines)) }
+        ensures err { OnErr result (self.new.lines ≡ self.old.lines) }
+
+        // A line that is held asks nothing of memory.
+        ensures ok { IsHeld (cell_at self.old.lines line.0) → IsOk result }
+        ensures same { IsHeld (cell_at self.old.lines line.0) → media.new ≡ media.old }
+
+        // Room is taken first, so where it is missing nothing was done.
+        ensures failed { IsErrOf result CacheFault.Failed →
+            Rose (M.faults media.old) (M.faults media.new) }
+        ensures room { IsErrOf result CacheFault.OutOfMemory → self.old.spare ≡ 0 }
+        ensures undone { IsErrOf result CacheFault.OutOfMemory → media.new ≡ media.old }
+        ensures unchanged { IsErrOf result CacheFault.OutOfMemory → self.new ≡ self.old }
+
+        ensures image { M.image media.new ≡ M.image media.old }
+        ensures size { M.size media.new ≡ M.size media.old }
+        ensures later { M.faults media.old ≤ M.faults media.new }
+
+        // Only a line that was brought takes a place.
+        ensures spare { self.old.spare ≤ self.new.spare + 1 }
+        ensures held_spare { IsHeld (cell_at self.old.lines line.0) → self.old.spare ≤ self.new.spare }
+        ensures err_spare { OnErr result (self.old.spare ≤ self.new.spare) }
+    {
+        self.last = bring(&mut self.places, self.last, media, line)?;
+        set_word(&mut self.places, self.last, line.0, word, value);
+        Ok(())
+    }
+
+    /// Fetches a line early, as the machine may: an absent line is brought whole, and a clean one has its
+    /// masked words refreshed from memory.
+    pub fn fetch<M: Media>(
+        &mut self,
+        media: &mut M,
+        line: LineNo,
+        mask: Mask,
+    ) -> Result<(), CacheFault>
+        requires within { line.0 < M.size media.old }
+
+        ensures cache { OnOk result (FromMemory (M.image media.old) line.0
+            (λ memory. self.new.lines ≡ cell_changed line.0 (fetched mask.0 memory) self.old.lines)) }
+        ensures err { OnErr result (self.new.lines ≡ self.old.lines) }
+
+        // A dirty line stays, and asks nothing of memory.
+        ensures ok { IsDirty (cell_at self.old.lines line.0) → IsOk result }
+        ensures same { IsDirty (cell_at self.old.lines line.0) → media.new ≡ media.old }
+
+        // Room is taken first, so where it is missing nothing was done.
+        ensures failed { IsErrOf result CacheFault.Failed →
+            Rose (M.faults media.old) (M.faults media.new) }
+        ensures room { IsErrOf result CacheFault.OutOfMemory → self.old.spare ≡ 0 }
+        ensures absent { IsErrOf result CacheFault.OutOfMemory →
+            ¬ (IsHeld (cell_at self.old.lines line.0)) }
+        ensures undone { IsErrOf result CacheFault.OutOfMemory → media.new ≡ media.old }
+        ensures unchanged { IsErrOf result CacheFault.OutOfMemory → self.new ≡ self.old }
+
+        ensures image { M.image media.new ≡ M.image media.old }
+        ensures size { M.size media.new ≡ M.size media.old }
+        ensures later { M.faults media.old ≤ M.faults media.new }
+
+        // Only a line that was brought takes a place.
+        ensures spare { self.old.spare ≤ self.new.spare + 1 }
+        ensures held_spare { IsHeld (cell_at self.old.lines line.0) → self.old.spare ≤ self.new.spare }
+        ensures err_spare { OnErr result (self.old.spare ≤ self.new.spare) }
+    {
+        self.last = refresh(&mut self.places, self.last, media, line, mask)?;
+        Ok(())
+    }
+
+    /// Sends a dirty line whole to memory, and makes it clean.
+    pub fn write_back<M: Media>(&mut self, media: &mut M, line: LineNo) -> Result<(), Failed>
+        requires within { line.0 < M.size media.old }
+
+        ensures cache { OnOk result (self.new.lines ≡ cell_changed line.0 cleaned self.old.lines) }
+        ensures memory { OnOk result (M.image media.new ≡ option_map
+            (line_changed line.0 (λ memory. sent memory (cell_at self.old.lines line.0)))
+            (M.image media.old)) }
+
+        // A send that fails leaves each word of this line old or new, and the host keeps its copy.
+        ensures err { OnErr result (self.new.lines ≡ self.old.lines) }
+        ensures torn { OnErr result (IfTold (M.image media.old) (λ image. FailsTo line.0
+            (λ through memory. failed_send through memory (cell_at self.old.lines line.0))
+            image (M.image media.new))) }
+
+        // Only a dirty line is sent.
+        ensures ok { ¬ (IsDirty (cell_at self.old.lines line.0)) → IsOk result }
+        ensures same { ¬ (IsDirty (cell_at self.old.lines line.0)) → media.new ≡ media.old }
+
+        ensures cause { HasCause (M.faults media.old) (M.faults media.new) result }
+        ensures size { M.size media.new ≡ M.size media.old }
+        ensures spare { self.old.spare ≤ self.new.spare }
+    {
+        self.last = write_line(&mut self.places, self.last, media, line)?;
+        Ok(())
+    }
+
+    /// Sends a dirty line whole to memory, and makes the line absent: no copy from before is read again.
+    pub fn invalidate<M: Media>(&mut self, media: &mut M, line: LineNo) -> Result<(), Failed>
+        requires within { line.0 < M.size media.old }
+
+        ensures cache { OnOk result (self.new.lines ≡ with_cell line.0 Cell.Absent self.old.lines) }
+        ensures memory { OnOk result (M.image media.new ≡ option_map
+            (line_changed line.0 (λ memory. sent memory (cell_at self.old.lines line.0)))
+            (M.image media.old)) }
+
+        // A send that fails leaves each word of this line old or new, and the host keeps its copy.
+        ensures err { OnErr result (self.new.lines ≡ self.old.lines) }
+        ensures torn { OnErr result (IfTold (M.image media.old) (λ image. FailsTo line.0
+            (λ through memory. failed_send through memory (cell_at self.old.lines line.0))
+            image (M.image media.new))) }
+
+        // Only a dirty line is sent.
+        ensures ok { ¬ (IsDirty (cell_at self.old.lines line.0)) → IsOk result }
+        ensures same { ¬ (IsDirty (cell_at self.old.lines line.0)) → media.new ≡ media.old }
+
+        ensures cause { HasCause (M.faults media.old) (M.faults media.new) result }
+        ensures size { M.size media.new ≡ M.size media.old }
+        ensures spare { self.old.spare ≤ self.new.spare }
+    {
+        self.last = drop_line(&mut self.places, self.last, media, line)?;
+        Ok(())
+    }
+
+    /// Drops a line, as the machine may: a dirty one is sent whole to memory first.
+    pub fn evict<M: Media>(&mut self, media: &mut M, line: LineNo) -> Result<(), Failed>
+        requires within { line.0 < M.size media.old }
+
+        ensures cache { OnOk result (self.new.lines ≡ with_cell line.0 Cell.Absent self.old.lines) }
+        ensures memory { OnOk result (M.image media.new ≡ option_map
+            (line_changed line.0 (λ memory. sent memory (cell_at self.old.lines line.0)))
+            (M.image media.old)) }
+
+        // A send that fails leaves each word of this line old or new, and the host keeps its copy.
+        ensures err { OnErr result (self.new.lines ≡ self.old.lines) }
+        ensures torn { OnErr result (IfTold (M.image media.old) (λ image. FailsTo line.0
+            (λ through memory. failed_send through memory (cell_at self.old.lines line.0))
+            image (M.image media.new))) }
+
+        // Only a dirty line is sent.
+        ensures ok { ¬ (IsDirty (cell_at self.old.lines line.0)) → IsOk result }
+        ensures same { ¬ (IsDirty (cell_at self.old.lines line.0)) → media.new ≡ media.old }
+
+        ensures cause { HasCause (M.faults media.old) (M.faults media.new) result }
+        ensures size { M.size media.new ≡ M.size media.old }
+        ensures spare { self.old.spare ≤ self.new.spare }
+    {
+        self.invalidate(media, line)
+    }
+
+    /// Sends the masked words of a dirty line to memory, as the machine may. The line stays dirty.
+    pub fn leak<M: Media>(&mut self, media: &mut M, line: LineNo, mask: Mask) -> Result<(), Failed>
+        requires within { line.0 < M.size media.old }
+
+        ensures cache { self.new ≡ self.old }
+        ensures memory { OnOk result (M.image media.new ≡ option_map
+            (line_changed line.0 (λ memory. leaked mask.0 memory (cell_at self.old.lines line.0)))
+            (M.image media.old)) }
+
+        // A send that fails leaves each of the masked words old or new, and every other word as it was.
+        ensures torn { OnErr result (IfTold (M.image media.old) (λ image. FailsTo line.0
+            (λ through memory. failed_leak mask.0 through memory (cell_at self.old.lines line.0))
+            image (M.image media.new))) }
+
+        // Only a dirty line is sent.
+        ensures ok { ¬ (IsDirty (cell_at self.old.lines line.0)) → IsOk result }
+        ensures same { ¬ (IsDirty (cell_at self.old.lines line.0)) → media.new ≡ media.old }
+
+        ensures cause { HasCause (M.faults media.old) (M.faults media.new) result }
+        ensures size { M.size media.new ≡ M.size media.old }
+    {
+        self.last = leak_line(&self.places, self.last, media, line, mask)?;
+        Ok(())
+    }
+
+    /// How many lines memory lacks words of. This looks at each place, so it is no call for every step.
+    pub fn dirty_lines(&self) -> u64
+        ensures { result ≡ dirty_count self.now.lines }
+    {
+        dirty_lines_of(&self.places)
+    }
+}

@@ -1,0 +1,109 @@
+-- The machine at one line: memory's words, and one host's copy of them.
+--
+--   Load         an absent line is brought from memory, clean. The word is given                brought, current
+--   Store        an absent line is brought. The word is set. The line is dirty                    stored
+--   WriteBack    a dirty line is sent whole to memory and becomes clean. Else nothing             sent, cleaned
+--   Invalidate   a dirty line is sent whole to memory. Then the line is absent                    sent, Absent
+--   Evict        the same as Invalidate, but done by the machine                                    sent, Absent
+--   Leak         the masked words of a dirty line are sent, and it stays dirty. Else nothing      leaked
+--   Fetch        an absent line is brought whole, clean. A clean line has its masked words
+--                refreshed from memory. A dirty line stays                                          fetched
+--
+-- Bit w of a mask stands for word w. Where memory fails in an operation, the copy is as before.
+use Rattle.std.specs.Prelude.{ℕ, Bool, true, false, List, [], Option, Some, None, IsTrue, slice_set}
+use Rattle.fam_base.specs.Image.{masked}
+use Rattle.fam_machine.specs.declared.cell.Cell.{Cell}
+use Rattle.fam_machine.specs.declared.cell.Cell.TheVariants.{Absent, Clean, Dirty}
+
+-- a copy is there
+abbrev pub is_held : Cell → Bool
+is_held Absent = false
+is_held (Clean words) = true
+is_held (Dirty words) = true
+
+-- a copy is there that memory may lack
+abbrev pub is_dirty : Cell → Bool
+is_dirty Absent = false
+is_dirty (Clean words) = false
+is_dirty (Dirty words) = true
+
+-- the host has a copy
+abbrev pub IsHeld : Cell → Type 0
+IsHeld cell = IsTrue (is_held cell)
+
+-- the host has stored into its copy, and memory may lack the words
+abbrev pub IsDirty : Cell → Type 0
+IsDirty cell = IsTrue (is_dirty cell)
+
+-- the words of a copy, none of an absent line
+abbrev pub words_of : Cell → List ℕ
+words_of Absent = []
+words_of (Clean words) = words
+words_of (Dirty words) = words
+
+-- the words that the host reads there, once the line is brought
+abbrev pub current : List ℕ → Cell → List ℕ
+current memory Absent = memory
+current memory (Clean words) = words
+current memory (Dirty words) = words
+
+-- the copy after an absent line was brought
+abbrev pub brought : List ℕ → Cell → Cell
+brought memory Absent = Clean memory
+brought memory (Clean words) = Clean words
+brought memory (Dirty words) = Dirty words
+
+-- the copy after a store of this value into this word
+abbrev pub stored : ℕ → ℕ → List ℕ → Cell → Cell
+stored word value memory cell = Dirty (slice_set (current memory cell) word value)
+
+-- memory's words after a dirty line was sent whole
+abbrev pub sent : List ℕ → Cell → List ℕ
+sent memory Absent = memory
+sent memory (Clean words) = memory
+sent memory (Dirty words) = words
+
+-- the copy after a dirty line was sent whole
+abbrev pub cleaned : Cell → Cell
+cleaned Absent = Absent
+cleaned (Clean words) = Clean words
+cleaned (Dirty words) = Clean words
+
+-- memory's words after the masked words of a dirty line were sent
+abbrev pub leaked : ℕ → List ℕ → Cell → List ℕ
+leaked mask memory Absent = memory
+leaked mask memory (Clean words) = memory
+leaked mask memory (Dirty words) = masked mask words memory
+
+-- the copy after an early fetch
+abbrev pub fetched : ℕ → List ℕ → Cell → Cell
+fetched mask memory Absent = Clean memory
+fetched mask memory (Clean words) = Clean (masked mask memory words)
+fetched mask memory (Dirty words) = Dirty words
+
+-- Memory's words after memory failed, of which those that `through` masks came through to it. None: the
+-- operation asks nothing of memory, and so can't fail. The copy is as before in each.
+
+-- in a load or a store
+abbrev pub failed_bring : List ℕ → Cell → Option (List ℕ)
+failed_bring memory Absent = Some memory
+failed_bring memory (Clean words) = None
+failed_bring memory (Dirty words) = None
+
+-- in a fetch
+abbrev pub failed_fetch : List ℕ → Cell → Option (List ℕ)
+failed_fetch memory Absent = Some memory
+failed_fetch memory (Clean words) = Some memory
+failed_fetch memory (Dirty words) = None
+
+-- in a write-back, an invalidation or an eviction: each word is old or new
+abbrev pub failed_send : ℕ → List ℕ → Cell → Option (List ℕ)
+failed_send through memory Absent = None
+failed_send through memory (Clean words) = None
+failed_send through memory (Dirty words) = Some (masked through words memory)
+
+-- in a leak: of the leaked words each is old or new
+abbrev pub failed_leak : ℕ → ℕ → List ℕ → Cell → Option (List ℕ)
+failed_leak mask through memory Absent = None
+failed_leak mask through memory (Clean words) = None
+failed_leak mask through memory (Dirty words) = Some (masked through (masked mask words memory) memory)

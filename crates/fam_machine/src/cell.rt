@@ -1,0 +1,14 @@
+//! One host's copy of one line.
+
+use fam_base::Line;
+
+/// A host's copy of a line of memory.
+#[derive(Clone, Copy)]
+pub enum Cell {
+    /// The host has no copy.
+    Absent,
+    /// Words that were brought from memory or sent to it. Memory may have others by now.
+    Clean(Line),
+    /// Words that the host stored into since they were brought or sent.
+    Dirty(Line),
+}

@@ -1,0 +1,37 @@
+//! Laws of the machine at one line: each operation but a store is a drift, a list of moves that a cache may
+//! make by itself. So what every move keeps, every operation keeps.
+
+ghost use Rattle.std.specs.Prelude.{◌≡◌, ℕ, List, Some};
+ghost use Rattle.fam_machine.specs.Moves.{Drifts};
+ghost use Rattle.fam_machine.specs.OneLine.{brought, cleaned, failed_leak, failed_send, fetched, leaked, sent};
+ghost use Rattle.fam_machine.specs.declared.cell.Cell.{Cell};
+
+/// A load brings an absent line; so does a store, before it sets its word.
+pub fn bring_drifts()
+    ensures { (m : List ℕ) (c : Cell) → Drifts m c m (brought m c) }
+{}
+
+/// A write-back sends a dirty line, which becomes clean; an invalidation and an eviction make it absent.
+pub fn send_drifts()
+    ensures write_back { (m : List ℕ) (c : Cell) → Drifts m c (sent m c) (cleaned c) }
+    ensures invalidate { (m : List ℕ) (c : Cell) → Drifts m c (sent m c) Cell.Absent }
+
+    // A send that is only asked for: memory gets the words, and the copy keeps its mark.
+    ensures asked { (m : List ℕ) (c : Cell) → Drifts m c (sent m c) c }
+
+    // A send that fails: some of the words came through.
+    ensures failed { (mask : ℕ) (m words : List ℕ) (c : Cell) →
+        failed_send mask m c ≡ Some words → Drifts m c words c }
+{}
+
+/// A leak sends masked words of a dirty line, also where it fails.
+pub fn leak_drifts()
+    ensures leak { (mask : ℕ) (m : List ℕ) (c : Cell) → Drifts m c (leaked mask m c) c }
+    ensures failed { (mask through : ℕ) (m words : List ℕ) (c : Cell) →
+        failed_leak mask through m c ≡ Some words → Drifts m c words c }
+{}
+
+/// A fetch brings an absent line, and refreshes masked words of a clean one.
+pub fn fetch_drifts()
+    ensures { (mask : ℕ) (m : List ℕ) (c : Cell) → Drifts m c m (fetched mask m c) }
+{}
