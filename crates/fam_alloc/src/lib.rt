@@ -1,0 +1,18 @@
+//! Which units of a device are used, and where a new file finds room.
+//!
+//! A contract sees an `AllocMap` as a list that says of each unit whether it is used (`specs/Taken.antt`).
+//! Room and strips are defined in `fam_rules`. The bitmap behind the list is in no contract.
+#![tactic(auto)]
+
+mod alloc_map;
+mod bits;
+mod overlap;
+mod run;
+mod starts;
+
+pub use alloc_map::{AllocMap, TakeFault};
+pub use bits::MOST_UNITS;
+pub use starts::Starts;
+
+#[cfg(test)]
+mod tests;

@@ -1,0 +1,163 @@
+//! The units of extents: which of them overlap, and how they are marked.
+
+ghost use Rattle.std.specs.Prelude.{◌≡◌, ℕ, true, ◌+◌, ◌*◌, ◌/◌, ◌<◌, ◌≤◌, ◌==◌, ◌||◌, length, take, slice_index_or, vec_len, IfOk, OnOk, IfErr, OnErr};
+ghost use Rattle.std.specs.List.{list_any};
+ghost use Rattle.fam_base.specs.ExtentLists.{no_extent};
+ghost use Rattle.fam_format.specs.Units.{units_in, first_overlap};
+ghost use Rattle.fam_alloc.specs.Next.{is_used, is_within, IsNext};
+ghost use Rattle.fam_alloc.specs.Taken.{LieWithin, holds};
+
+use crate::bits::{MOST_UNITS, mark, next};
+use fam_base::{Extent, Extents};
+
+/// Units from `start` on and below `end`.
+#[derive(Clone, Copy)]
+struct Run {
+    start: u64,
+    end: u64,
+}
+
+/// The extent at a place.
+fn extent_at(extents: &Extents, i: u64) -> Extent
+    ensures { result ≡ slice_index_or extents.now i no_extent }
+{
+    match extents.at(i) {
+        Some(extent) => extent,
+        None => Extent {
+            offset: 0,
+            length: 0,
+        },
+    }
+}
+
+/// The units of the extent at a place.
+fn run_at(extents: &Extents, unit: u64, units: u64, i: u64) -> Run
+    requires unit { 0 < unit }
+    requires within { LieWithin unit units extents.now }
+    requires few { units ≤ MOST_UNITS }
+    ensures start { result.start ≡ (slice_index_or extents.now i no_extent).offset / unit }
+    ensures end { result.end ≡ result.start + (slice_index_or extents.now i no_extent).length / unit }
+    ensures within { result.end ≤ units }
+{
+    let extent = extent_at(extents, i);
+    let start = extent.offset / unit;
+    Run {
+        start,
+        end: start + extent.length / unit,
+    }
+}
+
+/// The first unit from `from` on and below `to` that stands in the run, or `to`.
+fn first_in(run: Run, from: u64, to: u64) -> u64
+    requires { from ≤ to }
+    ensures { IsNext (is_within run.start run.end) true from to result }
+{
+    let first = from.max(run.start);
+    if first < to.min(run.end) { first } else { to }
+}
+
+/// The first unit of a run that one of the first `count` extents holds, or the run's end.
+fn first_shared(extents: &Extents, unit: u64, units: u64, count: u64, run: Run) -> u64
+    requires unit { 0 < unit }
+    requires within { LieWithin unit units extents.now }
+    requires few { units ≤ MOST_UNITS }
+    requires count { count ≤ length extents.now }
+    requires order { run.start ≤ run.end }
+    ensures { IsNext (holds (units_in unit (take count extents.now))) true run.start run.end result }
+{
+    let mut first = run.end;
+    for i in 0..count {
+        first = first_in(run_at(extents, unit, units, i), run.start, first);
+    }
+    first
+}
+
+/// The first unit of a run that is used or that one of the first `count` extents holds, or the run's end.
+fn first_taken(
+    words: &Vec<u64>,
+    extents: &Extents,
+    unit: u64,
+    units: u64,
+    count: u64,
+    run: Run,
+) -> u64
+    requires unit { 0 < unit }
+    requires within { LieWithin unit units extents.now }
+    requires few { units ≤ MOST_UNITS }
+    requires covered { units ≤ 64 * vec_len words.now }
+    requires count { count ≤ length extents.now }
+    requires order { run.start ≤ run.end }
+    requires end { run.end ≤ units }
+    ensures { IsNext (λ u. is_used words.now.items u || holds (units_in unit (take count extents.now)) u)
+        true run.start run.end result }
+{
+    let end = next(words, true, run.start, run.end);
+    let before = Run {
+        start: run.start,
+        end,
+    };
+    first_shared(extents, unit, units, count, before)
+}
+
+/// The first unit of the extents, in their order and upwards in each, that is used or stands twice.
+fn first_overlap(words: &Vec<u64>, extents: &Extents, unit: u64, units: u64) -> Option<u64>
+    requires unit { 0 < unit }
+    requires within { LieWithin unit units extents.now }
+    requires few { units ≤ MOST_UNITS }
+    requires covered { units ≤ 64 * vec_len words.now }
+    ensures { result ≡ first_overlap (is_used words.now.items) (units_in unit extents.now) }
+{
+    for i in 0..extents.len() {
+        let run = run_at(extents, unit, units, i);
+        let first = first_taken(words, extents, unit, units, i, run);
+        if first < run.end {
+            return Some(first);
+        }
+    }
+    None
+}
+
+/// Marks the units of the extents as used, and gives their number.
+fn mark_all(words: &mut Vec<u64>, extents: &Extents, unit: u64, units: u64) -> u64
+    requires unit { 0 < unit }
+    requires within { LieWithin unit units extents.now }
+    requires few { units ≤ MOST_UNITS }
+    requires covered { units ≤ 64 * vec_len words.old }
+    ensures count { result ≡ length (units_in unit extents.now) }
+    ensures marked { (u : ℕ) → is_used words.new.items u
+        ≡ (is_used words.old.items u || holds (units_in unit extents.now) u) }
+    ensures len { vec_len words.new ≡ vec_len words.old }
+{
+    let mut count = 0;
+    for i in 0..extents.len() {
+        let run = run_at(extents, unit, units, i);
+        mark(words, run.start, run.end);
+        count += run.end - run.start;
+    }
+    count
+}
+
+/// Marks the units of the extents as used, and gives their number; or else the first of them that overlaps.
+pub fn mark_free(words: &mut Vec<u64>, extents: &Extents, unit: u64, units: u64) -> Result<u64, u64>
+    requires unit { 0 < unit }
+    requires within { LieWithin unit units extents.now }
+    requires few { units ≤ MOST_UNITS }
+    requires covered { units ≤ 64 * vec_len words.old }
+
+    ensures count { IfOk result (λ count. count ≡ length (units_in unit extents.now)) }
+    ensures marked { OnOk result ((u : ℕ) → is_used words.new.items u
+        ≡ (is_used words.old.items u || holds (units_in unit extents.now) u)) }
+    ensures fits { OnOk result
+        (first_overlap (is_used words.old.items) (units_in unit extents.now) ≡ None) }
+
+    ensures overlap { IfErr result (λ taken.
+        first_overlap (is_used words.old.items) (units_in unit extents.now) ≡ Some taken) }
+    ensures err { OnErr result (words.new.items ≡ words.old.items) }
+
+    ensures len { vec_len words.new ≡ vec_len words.old }
+{
+    if let Some(taken) = first_overlap(words, extents, unit, units) {
+        return Err(taken);
+    }
+    Ok(mark_all(words, extents, unit, units))
+}
