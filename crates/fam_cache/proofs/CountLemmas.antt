@@ -1,5 +1,5 @@
 -- Dirty places are as many as dirty lines.
-use Rattle.std.proofs.Common.{◌≡◌, ℕ, ◌+◌, true, cond, List, [], ◌∷◌, map, length, refl, sym, ap, ◌∙◌, arith}
+use Rattle.std.proofs.Common.{◌≡◌, ℕ, ◌+◌, true, cond, [], ◌∷◌, length, refl, sym, ap, ◌∙◌, arith}
 use Rattle.std.specs.Prelude.{count_by}
 use Rattle.std.proofs.lemmas.Bool.{and_parts}
 use Rattle.std.proofs.lemmas.List.Sums.{sum_by-cons}
@@ -13,15 +13,13 @@ use Rattle.std.specs.FinMap.Entries.{below_all, by_order}
 use Rattle.fam_machine.specs.declared.cell.Cell.{Cell}
 use Rattle.fam_machine.specs.declared.cell.Cell.TheVariants.{Absent, Clean, Dirty}
 use Rattle.fam_machine.specs.OneLine.{is_dirty}
-use Rattle.fam_machine.specs.Caches.{clean, dirty, CachedLine, with_cell, is_marked_dirty, dirty_count}
+use Rattle.fam_machine.specs.Caches.{clean, dirty, CachedLine, with_cell, dirty_count}
 use Rattle.fam_machine.proofs.CacheLemmas.{with_cell_own}
 use Rattle.fam_base.specs.Image.{eight}
 use Rattle.fam_cache.specs.Places.{Places, normal, cache_of, IsGap}
 use Rattle.fam_cache.proofs.HeldLemmas.{cell_gap}
+use Rattle.fam_machine.proofs.DirtyLemmas.{Lines, count_lines, count_first}
 use Rattle.fam_cache.proofs.InOrder.{below_at}
-
-abbrev Lines : Type 0
-Lines = List (ℕ × CachedLine)
 
 -- the lines that places hold, in order
 lines_behind : ℕ → Cell → Lines → Lines
@@ -86,19 +84,11 @@ entries_of (e ∷ es) sorted =
     let both = and_parts (below_all nat_cmp e.0 es) (is_sorted nat_cmp es) sorted in
     entries_with e.0 e.1 es both.1 both.0 (entries_of es both.1)
 
-count_lines : Lines → ℕ
-count_lines lines = count_by (λ (copy : CachedLine). is_marked_dirty copy.mark) (map (λ (e : ℕ × CachedLine). e.1) lines)
-
-count_first : (k : ℕ) (copy : CachedLine) (rest : Lines) → count_lines ((k, copy) ∷ rest) ≡ cond (is_marked_dirty copy.mark) 1 0 + count_lines rest
-unfolding count_lines
-count_first k copy rest =
-    sum_by-cons {X = CachedLine} (λ x. cond (is_marked_dirty x.mark) 1 0) copy (map (λ (e : ℕ × CachedLine). e.1) rest)
-
 count_behind : (k : ℕ) (c : Cell) (rest : Lines) → count_lines (lines_behind k c rest) ≡ cond (is_dirty c) 1 0 + count_lines rest
 unfolding lines_behind
 count_behind k Absent rest = omega arith
-count_behind k (Clean words) rest = count_first k _ rest
-count_behind k (Dirty words) rest = count_first k _ rest
+count_behind k (Clean words) rest = count_first (k, _) rest
+count_behind k (Dirty words) rest = count_first (k, _) rest
 
 count_of : (es : Places) → count_lines (lines_of es) ≡ count_by (λ (e : ℕ × Cell). is_dirty e.1) es
 unfolding lines_of count_lines

@@ -1,5 +1,5 @@
 -- Places in the order of their lines: where a line stands.
-use Rattle.std.proofs.Common.{◌≡◌, ◌≢◌, ℕ, zero, suc, ◌+◌, ◌<◌, ◌≤◌, Bool, true, false, T, inl, inr, [], ◌∷◌, length, set, refl, sym, ap, subst, ◌∙◌, arith}
+use Rattle.std.proofs.Common.{◌≡◌, ◌≢◌, ℕ, zero, suc, ◌+◌, ◌<◌, ◌≤◌, Bool, true, T, inl, inr, [], ◌∷◌, length, set, refl, sym, ap, subst, ◌∙◌, arith}
 use Rattle.std.proofs.lemmas.Bool.{false≢true, and_parts, cases_order, cases_eq}
 use Rattle.std.specs.List.{insert}
 use Rattle.std.proofs.lemmas.List.Edits.{get_or-insert_at, get_or-insert_below, length-insert}
@@ -9,14 +9,11 @@ use Rattle.std.specs.FinMap.{is_sorted, put}
 use Rattle.std.specs.FinMap.Entries.{below_all, is_sorted-put}
 use Rattle.fam_machine.specs.declared.cell.Cell.{Cell}
 use Rattle.fam_machine.proofs.CacheLemmas.{less, greater, equal}
+use Rattle.fam_machine.proofs.DirtyLemmas.{true_of}
 use Rattle.fam_cache.specs.Places.{Places, number_at, Before, StandsAt, IsGap, no_place}
 
 pub truth : (b : Bool) → b ≡ true → T b
 truth b h = subst (λ (x : Bool). T x) (sym h) tt
-
-pub true_of : (b : Bool) → T b → b ≡ true
-true_of true h = refl
-true_of false h = absurd h
 
 lt_of_less : (k x : ℕ) → is_lt (nat_cmp k x) ≡ true → k < x
 lt_of_less k x h =

@@ -133,7 +133,3 @@ unread_leak old after line mask words copy known copy_is same image is = record 
       same ∙ is
       ∙ sym (ap (λ (w : List ℕ). Some (with_line line w image)) (no_words image line _) ∙ ap (λ (i : Image). Some i) (with_line-line_at image (normal_told old image known is) line));
 }
-
--- what was taken from memory is the line of the image that is told
-pub from_told : (told : Option Image) (image : Image) (line : ℕ) (P : List ℕ → Type 0) → told ≡ Some image → FromMemory told line P → P (line_at image line)
-from_told told image line P is from = subst P (from.told_is image is) from.is

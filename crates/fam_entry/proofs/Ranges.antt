@@ -1,20 +1,9 @@
 -- Tests over a range of numbers.
-use Rattle.std.proofs.Common.{◌≡◌, ℕ, zero, suc, ◌+◌, ◌<◌, ◌≤◌, Bool, true, false, Some, None, refl, ap, arith, inl, inr}
+use Rattle.std.proofs.Common.{◌≡◌, ℕ, zero, suc, ◌+◌, ◌<◌, ◌≤◌, Bool, true, false, Some, refl, ap, arith, inl, inr}
 use Rattle.std.specs.List.{range_with_len, list_any, find}
 use Rattle.std.proofs.lemmas.Bool.{cases_eq}
 
 module _ (p : ℕ → Bool) where
-  -- no number passes
-  pub any_none : (n a : ℕ) → ((k : ℕ) → a ≤ k → k < a + n → p k ≡ false) → list_any p (range_with_len a n) ≡ false
-  any_none zero a fails = refl
-  any_none (suc n) a fails =
-      rw (fails a (omega arith) (omega arith)) (any_none n (a + 1) (λ k low high. fails k (omega arith) (omega arith)))
-
-  pub find_none : (n a : ℕ) → ((k : ℕ) → a ≤ k → k < a + n → p k ≡ false) → find p (range_with_len a n) ≡ None
-  find_none zero a fails = refl
-  find_none (suc n) a fails =
-      rw (fails a (omega arith) (omega arith)) (find_none n (a + 1) (λ k low high. fails k (omega arith) (omega arith)))
-
   -- number i is the first that passes
   pub any_first : (n a i : ℕ) → a ≤ i → i < a + n → p i ≡ true → ((k : ℕ) → a ≤ k → k < i → p k ≡ false) → list_any p (range_with_len a n) ≡ true
   any_first zero a i low high passes before = absurd (omega arith)

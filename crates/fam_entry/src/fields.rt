@@ -1,6 +1,6 @@
 //! The fields that the words of a slot tell, whatever its checksum and its unused words are.
 
-ghost use Rattle.std.specs.Prelude.{◌≡◌, ◌<◌, ◌≤◌, ◌^◌, length, take, slice_index, MatchResult, Some, None};
+ghost use Rattle.std.specs.Prelude.{◌≡◌, ◌<◌, ◌≤◌, ◌^◌, take, slice_index, MatchResult, Some, None};
 ghost use Rattle.fam_format.specs.Layout.{first_format};
 ghost use Rattle.fam_format.specs.Words.{bytes_from};
 ghost use Rattle.fam_format.specs.Slot as slots;

@@ -9,7 +9,6 @@ ghost use Rattle.fam_format.specs.Slot as slots;
 ghost use Rattle.fam_format.specs.SuperLaws.{IsWords};
 ghost use Rattle.fam_base.specs.declared.entry.Entry.{Entry};
 ghost use Rattle.fam_entry.specs.Tests.{Tells};
-ghost use Rattle.fam_entry.specs.Tests as tests;
 
 use crate::fields::{fields_of, path_of};
 use crate::map_rule::is_map;
@@ -111,7 +110,7 @@ fn is_stray_byte(words: &[u64; SLOT_WORDS], i: usize, b: usize) -> bool
     requires from { slots.path_word ≤ i }
     requires below { i < CRC_WORD }
     requires byte { b < 8 }
-    ensures { result ≡ tests.is_stray_byte words.now i b }
+    ensures { result ≡ slots.is_stray_byte words.now i b }
 {
     let place = 8 * (i - PATH_WORD) + b;
     words[PATH_LENGTH_WORD] <= place as u64 && byte_of(words[i], b) != 0
@@ -120,7 +119,7 @@ fn is_stray_byte(words: &[u64; SLOT_WORDS], i: usize, b: usize) -> bool
 fn has_stray_byte(words: &[u64; SLOT_WORDS], i: usize) -> bool
     requires from { slots.path_word ≤ i }
     requires below { i < CRC_WORD }
-    ensures { result ≡ list_any (tests.is_stray_byte words.now i) (range_with_len 0 8) }
+    ensures { result ≡ list_any (slots.is_stray_byte words.now i) (range_with_len 0 8) }
 {
     for b in 0..8 {
         if is_stray_byte(words, i, b) {

@@ -1,6 +1,6 @@
 //! Entries as the words of a slot: one function a field, and `word_of` for the table of the words.
 
-ghost use Rattle.std.specs.Prelude.{◌≡◌, ◌<◌, ◌^◌, slice_index_or};
+ghost use Rattle.std.specs.Prelude.{◌≡◌, ◌<◌, slice_index_or};
 ghost use Rattle.fam_base.specs.ExtentLists.{no_extent};
 ghost use Rattle.fam_format.specs.Layout.{first_format};
 ghost use Rattle.fam_format.specs.Slot as slots;

@@ -12,13 +12,16 @@ use Rattle.fam_machine.specs.Caches.{Mark, clean, dirty, CachedLine, Cache, cell
 use Rattle.fam_machine.specs.OneLine.{is_dirty, IsDirty}
 use Rattle.fam_machine.proofs.CacheLemmas.{same_key, other_key}
 
-abbrev Lines : Type 0
+-- the lines of a cache in order
+abbrev pub Lines : Type 0
 Lines = List (ℕ × CachedLine)
 
-count_lines : Lines → ℕ
+-- how many of them are dirty
+unfoldable pub count_lines : Lines → ℕ
 count_lines lines = count_by (λ (copy : CachedLine). is_marked_dirty copy.mark) (map (λ (e : ℕ × CachedLine). e.1) lines)
 
-count_first : (e : ℕ × CachedLine) (rest : Lines) → count_lines (e ∷ rest) ≡ cond (is_marked_dirty e.1.mark) 1 0 + count_lines rest
+-- the first one counts, and then the others
+pub count_first : (e : ℕ × CachedLine) (rest : Lines) → count_lines (e ∷ rest) ≡ cond (is_marked_dirty e.1.mark) 1 0 + count_lines rest
 unfolding count_lines
 count_first e rest = sum_by-cons {X = CachedLine} (λ x. cond (is_marked_dirty x.mark) 1 0) e.1 (map (λ (e : ℕ × CachedLine). e.1) rest)
 
@@ -75,7 +78,8 @@ none_counted (e ∷ lines) sorted none =
       | inr other ↦ none q (ap (λ (b : Bool). is_dirty (cell_of (cond b (Some e.1) (find nat_cmp q lines)))) (other_key q e.0 other) ∙ found)
     ]))
 
-true_of : (b : Bool) → T b → b ≡ true
+-- what is true as a fact is true as a value
+pub true_of : (b : Bool) → T b → b ≡ true
 true_of true h = refl
 true_of false h = absurd h
 

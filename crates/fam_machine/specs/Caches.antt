@@ -59,7 +59,7 @@ is_marked_dirty dirty = true
 abbrev pub dirty_count : Cache → ℕ
 dirty_count cache = count_by (λ copy. is_marked_dirty copy.mark) (map.values cache)
 
--- a cache is a value that a contract can show
+-- the mark that is dirty where the test holds
 abbrev pub mark_of : Bool → Mark
 mark_of false = clean
 mark_of true = dirty
@@ -69,7 +69,9 @@ abbrev pub mark_back : (mark : Mark) → mark_of (is_marked_dirty mark) ≡ mark
 mark_back clean = refl
 mark_back dirty = refl
 
--- codes of marks, lines and caches, so that contracts can see them
+-- Codes show marks, lines and caches to contracts.
+
+-- the code of a mark
 abbrev pub mark_code : Coded Mark
 mark_code = code_by Bool coded_bool is_marked_dirty mark_of mark_back
 

@@ -81,20 +81,8 @@ fetched mask memory Absent = Clean memory
 fetched mask memory (Clean words) = Clean (masked mask memory words)
 fetched mask memory (Dirty words) = Dirty words
 
--- Memory's words after memory failed, of which those that `through` masks came through to it. None: the
--- operation asks nothing of memory, and so can't fail. The copy is as before in each.
-
--- in a load or a store
-abbrev pub failed_bring : List ℕ → Cell → Option (List ℕ)
-failed_bring memory Absent = Some memory
-failed_bring memory (Clean words) = None
-failed_bring memory (Dirty words) = None
-
--- in a fetch
-abbrev pub failed_fetch : List ℕ → Cell → Option (List ℕ)
-failed_fetch memory Absent = Some memory
-failed_fetch memory (Clean words) = Some memory
-failed_fetch memory (Dirty words) = None
+-- Memory's words after a send failed, of which those that `through` masks came through to it. None: nothing
+-- is sent, and so nothing fails. The copy is as before. A read that fails changes neither.
 
 -- in a write-back, an invalidation or an eviction: each word is old or new
 abbrev pub failed_send : ℕ → List ℕ → Cell → Option (List ℕ)

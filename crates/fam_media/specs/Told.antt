@@ -1,13 +1,8 @@
--- Laws of content that is told or not.
+-- Laws of content that is told.
 use Rattle.std.proofs.Common.{◌≡◌, Option, Some, None, map, length, subst, ap}
-use Rattle.std.proofs.lemmas.Option.{none-some}
 use Rattle.std.proofs.lemmas.List.{length-map}
 use Rattle.fam_base.specs.Image.{Image, eight}
 use Rattle.fam_media.specs.Outside.{IfTold}
-
--- where nothing is told, all holds of it
-pub nothing_told : {T : Type 0} (P : T → Type 0) → IfTold None P
-nothing_told P content is = absurd (none-some content is)
 
 inside : {T : Type 0} → T → Option T → T
 inside content None = content

@@ -3,8 +3,8 @@
 //!
 //! Each has a count of faults, which never falls, and fails only where that count rises during the call. So
 //! a program that answers with a fault has had one. Content may be told or not: forms in memory tell it,
-//! files and streams don't, and a contract speaks of content only where it is told. A type that tells
-//! nothing gives the laws of `Media` by `specs/Told.antt`.
+//! files and streams don't, and a contract speaks of content only where it is told. A form in memory gives
+//! the laws of `Media` by `specs/Told.antt`.
 #![tactic(auto)]
 
 mod media;

@@ -1,9 +1,9 @@
 -- One slot more of a reading.
-use Rattle.std.proofs.Common.{ℕ, zero, suc, ◌≡◌, ◌<◌, ◌+◌, ◌-◌, List, [], ◌∷◌, ◌++◌, Option, Some, None, Result, Ok, Err, sym, ◌∙◌, ap, arith}
+use Rattle.std.proofs.Common.{ℕ, suc, ◌≡◌, ◌<◌, ◌+◌, ◌-◌, List, [], ◌∷◌, ◌++◌, Option, Some, None, Result, Ok, Err, sym, ◌∙◌, ap, arith}
 use Rattle.fam_base.specs.declared.entry.Params.{Params}
 use Rattle.fam_base.specs.declared.entry.Entry.{Entry}
 use Rattle.fam_format.specs.declared.faults.Reason.{Reason}
-use Rattle.fam_format.specs.Reading.{Reading, BadSlot, Sound, Lines, slot_in, slot_or, joined_or, read_slots}
+use Rattle.fam_format.specs.Reading.{Reading, BadSlot, Lines, slot_in, slot_or, joined_or, read_slots}
 use Rattle.fam_format.specs.Tree.{join_fault}
 
 module _ (line : Lines) (p : Params) (i gate : ℕ) (list : List Entry) (all : Reading) (below : i < gate) (says : read_slots line p i (gate - i) list ≡ all) where
@@ -28,8 +28,3 @@ module _ (line : Lines) (p : Params) (i gate : ℕ) (list : List Entry) (all : R
         ap (λ (l : List Entry). read_slots line p (i + 1) (gate - (i + 1)) l) joins
         ∙ ap (λ (o : Option Reason). joined_or i o (read_slots line p (i + 1) (gate - (i + 1)) (list ++ entry ∷ []))) e
         ∙ joining
-
--- none is left
-pub all_read : (line : Lines) (p : Params) (i gate : ℕ) (list : List Entry) (all : Reading) → i ≡ gate → read_slots line p i (gate - i) list ≡ all → all ≡ Sound p list
-all_read line p i gate list all end says =
-    let none : zero ≡ gate - i = omega arith in sym says ∙ sym (ap (λ (k : ℕ). read_slots line p i k list) none)

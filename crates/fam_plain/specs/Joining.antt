@@ -1,4 +1,4 @@
--- The parts of the test whether an entry joins a list.
+-- A unit among those that were seen so far.
 use Rattle.std.specs.Prelude.{ℕ, ◌==◌, ◌||◌, nat_lt, Bool, List}
 use Rattle.std.specs.List.{list_any}
 

@@ -1,7 +1,7 @@
 //! Trees of entries. `specs/Keyed.antt` says how entries stand in a tree, and fam_format's `specs/Tree.antt`
 //! which entries join it.
 
-ghost use Rattle.std.specs.Prelude.{◌≡◌, OnOk, OnErr, IfOk, IfErr, IfSome};
+ghost use Rattle.std.specs.Prelude.{◌≡◌, OnOk, OnErr, IfOk, IfErr, IfSome, option_map};
 ghost use Rattle.std.specs.Iterator.{YieldsFirstRef, item_count};
 ghost use Rattle.std.specs.List.Sorted.{IsStrictlySortedBy};
 ghost use Rattle.std.specs.FinMap as map;
@@ -99,15 +99,22 @@ impl Tree {
         }
     }
 
+    /// The entry at a path, which isn't copied.
+    fn entry_at(&self, path: &Path) -> Option<&Entry>
+        ensures { option_map (λ entry. entry.now) result ≡ map.get self.now path.now }
+    {
+        self.entries.get(path)
+    }
+
     fn fault(&self, entry: &Entry) -> Option<ApplyFault>
         ensures none { result ≡ None → tree_fault self.now entry.now ≡ None }
         ensures fault { IfSome result (λ e. (reason_of e ≡ tree_fault self.now entry.now)) }
     {
-        if let Some(old) = self.get(&entry.path) {
+        if let Some(old) = self.entry_at(&entry.path) {
             return Some(ApplyFault::Exists(old.kind));
         }
         let parent = entry.path.parent()?;
-        match self.get(&parent) {
+        match self.entry_at(&parent) {
             None => Some(ApplyFault::NoParent),
             Some(parent) => match parent.kind {
                 Kind::File => Some(ApplyFault::ParentIsFile),

@@ -4,7 +4,6 @@ use Rattle.std.specs.List.{list_any, range_with_len}
 use Rattle.fam_base.specs.declared.entry.Params.{Params}
 use Rattle.fam_base.specs.declared.entry.Entry.{Entry}
 use Rattle.fam_base.specs.Image.{Image}
-use Rattle.fam_format.specs.Layout.{first_format, log_line}
 use Rattle.fam_format.specs.Params.{SoundParams}
 use Rattle.fam_format.specs.declared.faults.Reason.{Reason}
 use Rattle.fam_format.specs.Tree.{Tree, with_entry, replay, tree_fault}
@@ -30,10 +29,6 @@ pub record OnlyReads {T : Type 0} (told now_told : Option Image) (size now_size 
   pub sized : now_size ≡ size
   pub later : before ≤ now
   pub cause : IfErr result (StopCause size before now)
-
--- line j of slot i, in lines from the front of the image
-abbrev pub slot_line : ℕ → ℕ → ℕ
-slot_line i j = log_line + first_format.lines + first_format.lines * i + j
 
 -- what superblock, header and gate say of lines: the answer that is due, or that the slots below the gate decide
 abbrev pub HeadSays : Lines → ℕ → Head → Type 0

@@ -5,7 +5,7 @@ ghost use Rattle.fam_base.specs.Image.{Image, eight, line_at};
 ghost use Rattle.fam_format.specs.Reading.{super_in, slot_words};
 ghost use Rattle.fam_base.specs.declared.entry.Params.{Params};
 ghost use Rattle.fam_media.specs.Outside.{IfTold};
-ghost use Rattle.famfs.specs.Play.{OnlyReads, slot_line};
+ghost use Rattle.famfs.specs.Play.{OnlyReads};
 
 use fam_base::{Line, LineNo};
 use fam_entry::SLOT_WORDS;
@@ -81,7 +81,7 @@ fn put_line(words: &mut [u64; SLOT_WORDS], j: usize, line: &Line)
 /// The words of slot `i`.
 pub(crate) fn load_slot<M: Media>(media: &mut M, i: u64) -> Result<[u64; SLOT_WORDS], Stop>
     requires few { i < 2 ^ 32 }
-    requires within { slot_line i 8 ≤ M.size media.old }
+    requires within { LOG_LINE + SLOT_LINES * (i + 2) ≤ M.size media.old }
 
     ensures words { IfOk result (λ words. IfTold (M.image media.old)
         (λ image. (p : Params) → words ≡ slot_words (line_at image) p i)) }

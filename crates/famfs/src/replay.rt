@@ -3,11 +3,12 @@
 ghost use Rattle.std.specs.Prelude.{◌≡◌, ◌+◌, ◌*◌, ◌-◌, ◌^◌, ◌<◌, ◌≤◌, [], Ok, Some, None, IfOk, IfErr, ℕ, length};
 ghost use Rattle.fam_base.specs.Image.{Image, line_at};
 ghost use Rattle.fam_base.specs.declared.entry.Kind.TheVariants.{Directory};
+ghost use Rattle.fam_format.specs.Layout.{slot_line};
 ghost use Rattle.fam_format.specs.Params.{SoundParams};
 ghost use Rattle.fam_format.specs.Reading.{gate_in, read_slots};
 ghost use Rattle.fam_media.specs.Outside.{IfTold};
 ghost use Rattle.famfs.specs.Answers.{answer_of, answer_by};
-ghost use Rattle.famfs.specs.Play.{OnlyReads, JoinPlays, SlotPlays, slot_line};
+ghost use Rattle.famfs.specs.Play.{OnlyReads, JoinPlays, SlotPlays};
 
 use crate::answer::Answer;
 use crate::head::{Head, read_head};
@@ -51,7 +52,7 @@ fn play_slot<M: Media>(
     tree: &mut Tree,
 ) -> Result<Slot, Stop>
     requires few { i < 2 ^ 32 }
-    requires within { slot_line i 8 ≤ M.size media.old }
+    requires within { slot_line params.now i 8 ≤ M.size media.old }
     requires sound { SoundParams params.now }
 
     ensures plays { IfOk result (λ slot. IfTold (M.image media.old) (λ image. (gate : ℕ) → i < gate →

@@ -1,8 +1,9 @@
-use Rattle.std.proofs.Common.{arith, ap, ◌∙◌, set}
+use Rattle.std.proofs.Common.{arith, ap, lit<, ◌∙◌, set}
 use Rattle.std.proofs.lemmas.List.{length-set}
 use Rattle.std.proofs.lemmas.List.Edits.{fill_by_more}
+use Rattle.fam_format.specs.Layout.{first_format}
 use Rattle.fam_format.specs.Slot.{word_at}
-use Rattle.fam_entry.proofs.Filling.{spelled}
+use Rattle.fam_format.proofs.Filling.{spelled}
 use Rattle.fam_entry.proofs.slot.spell.Goals as goal
 
 pub loop-i-preserved : goal.loop-i-preserved
@@ -12,4 +13,6 @@ loop-i-preserved c = (
 )
 
 pub returns : goal.returns
-returns c = ap (set c.loop-i.words 63) c.checksum.ensures ∙ spelled c.args.entry.now c.args.seq c.loop-i.words c.loop-i.invariant.0 (λ k below. c.loop-i.invariant.1 k (omega arith))
+returns c =
+    ap (set c.loop-i.words 63) c.checksum.ensures
+    ∙ spelled first_format c.args.entry.now c.args.seq c.loop-i.words (lit< tt) c.loop-i.invariant.0 (λ k below. c.loop-i.invariant.1 k (omega arith))

@@ -1,6 +1,7 @@
 use Rattle.std.proofs.Common.{arith, below_more, sym, ◌∙◌}
-use Rattle.fam_plain.specs.Tests.{is_stray_byte}
-use Rattle.fam_plain.proofs.Ranges.{any_first, any_none}
+use Rattle.fam_format.specs.Slot.{is_stray_byte}
+use Rattle.fam_format.proofs.Stops.{any_false}
+use Rattle.fam_plain.proofs.Ranges.{any_first}
 use Rattle.fam_plain.proofs.entry.has_stray_byte.Goals as goal
 
 pub returns-then-is_stray_byte : goal.returns-then-is_stray_byte
@@ -11,4 +12,4 @@ pub loop-b-preserved : goal.loop-b-preserved
 loop-b-preserved c = below_more _ _ c.loop-b.invariant (sym c.is_stray_byte.ensures ∙ c.if-is_stray_byte.false)
 
 pub returns : goal.returns
-returns c = sym (any_none (is_stray_byte c.args.words.now c.args.i) 8 0 (λ k low below. c.loop-b.invariant k (omega arith)))
+returns c = sym (any_false (is_stray_byte c.args.words.now c.args.i) 0 8 (λ k low below. c.loop-b.invariant k (omega arith)))

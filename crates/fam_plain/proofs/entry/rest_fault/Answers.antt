@@ -3,7 +3,8 @@ use Rattle.std.specs.Option.{option_map}
 use Rattle.std.proofs.lemmas.Bool.{cases_eq}
 use Rattle.fam_format.specs.declared.faults.Reason.TheVariants.{Rest}
 use Rattle.fam_format.specs.Slot.{is_stray, extents_word}
-use Rattle.fam_plain.proofs.Ranges.{find_first, find_none}
+use Rattle.fam_format.proofs.Stops.{find_none}
+use Rattle.fam_plain.proofs.Ranges.{find_first}
 use Rattle.fam_plain.proofs.entry.rest_fault.Goals as goal
 
 pub returns-then-is_stray : goal.returns-then-is_stray
@@ -18,4 +19,4 @@ loop-i-preserved c = λ k low below.
     ]
 
 pub returns : goal.returns
-returns c = sym (ap (option_map Rest) (find_none (is_stray c.args.words.now) 53 extents_word (λ k low below. c.loop-i.invariant k low (omega arith))))
+returns c = sym (ap (option_map Rest) (find_none (is_stray c.args.words.now) extents_word 53 (λ k low below. c.loop-i.invariant k low (omega arith))))
