@@ -10,12 +10,15 @@ use Rattle.fam_machine.specs.declared.cell.Cell.{Cell}
 use Rattle.fam_machine.specs.declared.cell.Cell.TheVariants.{Absent, Clean, Dirty}
 use Rattle.fam_machine.specs.Caches.{Mark, clean, dirty, CachedLine, Cache, cell_marked, cell_of, cell_at, with_cell}
 
+-- the order of numbers, case by case
 pub less : (k x : ℕ) → k < x → nat_cmp k x ≡ Less
 less k x h = rw (lt-ltb k x h) refl
 
+-- the greater one
 pub greater : (k x : ℕ) → x < k → nat_cmp k x ≡ Greater
 greater k x h = rw (le-ltb k x (omega arith), ne_eqb k x (omega arith)) refl
 
+-- the same one
 pub equal : (k x : ℕ) → k ≡ x → nat_cmp k x ≡ Equal
 equal k x h = rw (le-ltb k x (omega arith), eq-eqb k x h) refl
 
@@ -31,6 +34,7 @@ other_key k x other =
       | inr d ↦ elim d [ inl up ↦ ap is_eq (less k x up) | inr down ↦ ap is_eq (greater k x down) ]
     ]
 
+-- a copy as a map has it
 pub copy_of : Cell → Option CachedLine
 copy_of Absent = None
 copy_of (Clean words) = Some (record { words = words; mark = clean })

@@ -1,3 +1,10 @@
 pub mod OneLine
 pub mod Moves
 pub mod Caches
+pub mod Task
+pub mod Turns
+pub mod Table
+pub mod Stands
+pub mod Operations
+pub mod Counts
+pub mod Solo

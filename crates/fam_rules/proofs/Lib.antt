@@ -5,3 +5,19 @@ pub mod UnitPlaces
 pub mod StripPlaces
 pub mod FilePlaces
 pub mod ListPlaces
+pub mod ContentLines
+pub mod Streams
+pub mod Spans
+pub mod RoomMaps
+pub mod RefusalTests
+pub mod DecideProofs
+mod Vectors
+pub mod Puts
+pub mod FormattedProofs
+pub mod LinesApart
+pub mod AppendedProofs
+pub mod AppendedReads
+pub mod RefusalProofs
+pub mod NoOverlap
+pub mod ReportProofs
+pub mod AskProofs

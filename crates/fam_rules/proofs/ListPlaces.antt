@@ -81,7 +81,7 @@ module _ (us vs : List ℕ) (left : IsOnce us) (right : IsOnce vs) (apart : (k :
   across i k i_below k_below same = apart k k_below (subst (Contains us) same (Contains-get_or us i 0 i_below))
 
   -- so no unit stands twice in both
-  once_append : IsOnce (us ++ vs)
+  pub once_append : IsOnce (us ++ vs)
   once_append i j less below same =
       let total = length-append us vs in
       elim (cases_lt j (length us)) [

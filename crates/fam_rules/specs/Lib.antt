@@ -1,2 +1,13 @@
 pub mod Room
 pub mod Place
+pub mod Content
+pub mod Decide
+pub mod DecideLaws
+pub mod Checks
+pub mod Reply
+pub mod Asks
+pub mod Reports
+pub mod ReportLaws
+pub mod Written
+pub mod WrittenLaws
+pub mod Alone

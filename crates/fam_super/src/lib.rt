@@ -13,7 +13,7 @@ mod words;
 pub use fam_format::{SuperFault, SuperField};
 pub use hosts::Role;
 pub use master::role;
-pub use read::read_super;
+pub use read::{is_unit, read_super};
 pub use spell::Super;
 
 #[cfg(test)]

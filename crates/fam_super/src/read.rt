@@ -81,7 +81,8 @@ fn offset_fault(words: &SuperWords) -> Option<SuperFault>
     })
 }
 
-fn is_unit(unit: u64) -> bool
+/// Whether so many bytes can be a unit: a power of two from 4 KiB to 2 MiB.
+pub fn is_unit(unit: u64) -> bool
     ensures { result ≡ params.is_unit unit }
 {
     (LEAST_UNIT..=MOST_UNIT).contains(&unit) && unit.is_power_of_two()

@@ -1,24 +1,23 @@
 -- How a call ends: what may be shown, and what was put.
-use Rattle.std.proofs.Common.{◌≡◌, ℕ, true, false, List, Option, Some, None, option_map, inl, inr, sym, ap, subst}
-use Rattle.std.specs.Prelude.{is_some}
-use Rattle.fam_base.specs.Image.{Image}
+use Rattle.std.proofs.Common.{◌≡◌, ℕ, List, Option, Some, None, option_map, inl, inr, sym, subst}
 use Rattle.fam_media.specs.Outside.{with_piece}
+use Rattle.famfs.specs.declared.command.Command.{Command}
 use Rattle.famfs.specs.declared.status.Status.{Status}
-use Rattle.famfs.specs.declared.status.Status.TheVariants.{Done, Usage, MediaFault, SinkFault, OutOfMemory, Damaged, NotYet}
-use Rattle.famfs.specs.Due.{CommandShows, UsageShows, Shows}
-use Rattle.famfs.specs.Ends.{Meeting, MayShow, Ends, PutAs}
+use Rattle.famfs.specs.declared.status.Status.TheVariants.{Done, Refused, Usage, MediaFault, SinkFault, OutOfMemory, Damaged, NotYet}
+use Rattle.famfs.specs.Ends.{Ends, Meeting, MayShow, MayShowBy, PutAs}
 
 -- no text is shown with the status of a sink that failed
-no_sink_fault : (name : Option (List ℕ)) (told : Option Image) (size before now : ℕ) (text : List ℕ) → Shows name told size before now SinkFault text → ⊥
-no_sink_fault None told size before now text shows = shows
-no_sink_fault (Some name) told size before now text shows = shows
+no_sink_fault : (m : Meeting) (command : Option Command) (text : List ℕ) → MayShowBy command m SinkFault text → ⊥
+no_sink_fault m None text shows = shows
+no_sink_fault m (Some command) text shows = shows
 
 -- a text that may be shown was put whole
 whole : (m : Meeting) (status : Status) (text : List ℕ) → MayShow m status text → m.put_now ≡ option_map (with_piece text) m.put_before → Ends m status
 whole m Done text shows put = record { text = text; shows = shows; put = put }
+whole m Refused text shows put = record { text = text; shows = shows; put = put }
 whole m Usage text shows put = record { text = text; shows = shows; put = put }
 whole m MediaFault text shows put = record { text = text; shows = shows; put = put }
-whole m SinkFault text shows put = absurd (no_sink_fault m.name m.image m.size m.media_before m.media_now text shows)
+whole m SinkFault text shows put = absurd (no_sink_fault m m.command text shows)
 whole m OutOfMemory text shows put = record { text = text; shows = shows; put = put }
 whole m Damaged text shows put = record { text = text; shows = shows; put = put }
 whole m NotYet text shows put = record { text = text; shows = shows; put = put }
@@ -38,17 +37,6 @@ put_ends m status result text shows put =
           }
     ]
 
--- the words are no command
-pub shows_usage : (name : Option (List ℕ)) (told : Option Image) (size before now : ℕ) (status : Status) (text : List ℕ) → is_some name ≡ false → UsageShows status text → Shows name told size before now status text
-shows_usage None told size before now status text is shows = shows
-shows_usage (Some name) told size before now status text is shows = absurd (cc)
-
--- the words are a command
-pub shows_command : (name : Option (List ℕ)) (told : Option Image) (size before now : ℕ) (status : Status) (text : List ℕ) → is_some name ≡ true → CommandShows told size before now status text → Shows name told size before now status text
-shows_command None told size before now status text is shows = absurd (cc)
-shows_command (Some name) told size before now status text is shows = shows
-
--- an optional value is there where its image is
-pub none_of_map : {X Y : Type 0} (f : X → Y) (found : Option X) (name : Option Y) → option_map f found ≡ name → is_some name ≡ is_some found
-none_of_map f None name is = ap is_some (sym is)
-none_of_map f (Some x) name is = ap is_some (sym is)
+-- what the words name decides what may be shown
+pub shows_by : (m : Meeting) (named : Option Command) (status : Status) (text whole : List ℕ) → m.command ≡ named → whole ≡ text → MayShowBy named m status text → MayShow m status whole
+shows_by m named status text whole same put shows = subst (λ (o : Option Command). MayShowBy o m status whole) (sym same) (subst (λ (t : List ℕ). MayShowBy named m status t) (sym put) shows)

@@ -1,4 +1,5 @@
+pub mod Digits
+pub mod Shows
 pub mod Endings
-pub mod Heads
-pub mod Plays
-pub mod Slots
+pub mod Answered
+pub mod Making

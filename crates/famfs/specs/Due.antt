@@ -1,54 +1,129 @@
--- What a call of the program shows, and when: the text and status that are due, and the faults that may come in
--- their place. docs/MANUAL.md, "Statuses".
-use Rattle.std.specs.Prelude.{ℕ, ◌≡◌, ◌<◌, List, Option, Some, None}
-use Rattle.fam_base.specs.Image.{Image}
-use Rattle.fam_media.specs.Causes.{Rose}
-use Rattle.fam_media.specs.Outside.{IfTold}
-use Rattle.famfs.specs.declared.answer.Answer.{Answer}
-use Rattle.famfs.specs.declared.answer.Answer.TheVariants.{ImageSmall, BadSuper, BadLog, BadEntry, NotYet as NotYetAnswer, Played}
-use Rattle.famfs.specs.declared.status.Status.{Status}
-use Rattle.famfs.specs.declared.status.Status.TheVariants.{Done, Usage, MediaFault, SinkFault, OutOfMemory, Damaged, NotYet}
-use Rattle.famfs.specs.Answers.{answer_of}
-use Rattle.famfs.specs.Texts.{answer_text, usage_text, media_fault_text, memory_text}
+-- What a command shows on an image and what it leaves of it; and what faults and want of memory leave in its place.
+-- docs/MANUAL.md, "Statuses".
+use Rattle.std.specs.Prelude.{ℕ, ◌≡◌, ◌⊎◌, ◌*◌, ◌<◌, ◌≤◌, Bool, true, false, nat_lt, List, ◌∷◌, ◌++◌, length, Option, Some, None, Result, Ok, Err}
+use Rattle.fam_base.specs.declared.cmd.Cmd.{Cmd}
+use Rattle.fam_base.specs.declared.cmd.Cmd.TheVariants as cmd
+use Rattle.fam_base.specs.declared.line.LineNo.{LineNo}
+use Rattle.fam_base.specs.declared.entry.Params.{Params}
+use Rattle.fam_base.specs.Image.{Image, line_at}
+use Rattle.fam_format.specs.declared.faults.SuperFault.{SuperFault}
+use Rattle.fam_format.specs.Layout.{least_lines}
+use Rattle.fam_format.specs.Reading.{super_in}
+use Rattle.fam_machine.specs.declared.op.Op.{Op}
+use Rattle.fam_machine.specs.Operations.{failed, operated_all}
+use Rattle.fam_machine.specs.Solo.{fresh}
+use Rattle.fam_media.specs.Outside.{masks}
+use Rattle.fam_mkfs.specs.declared.make.MkfsEnd.{MkfsEnd}
+use Rattle.fam_mkfs.specs.declared.make.MkfsEnd.TheVariants as end
+use Rattle.fam_mkfs.specs.Mkfs.{asked, due_ops, refusal}
+use Rattle.fam_mkfs.specs.Runs.{line_of}
+use Rattle.fam_rules.specs.Place.{line_bytes}
+use Rattle.fam_rules.specs.Written.{formatted}
+use Rattle.fam_run.specs.Files as files
+use Rattle.fam_run.specs.Files.{meets_a_file}
+use Rattle.fam_run.specs.Run.{HasBroken, HasEnded, HasStopped}
+use Rattle.fam_tasks.specs.declared.answer.Answer.{Answer}
+use Rattle.fam_tasks.specs.declared.answer.Answer.TheVariants as answer
+use Rattle.famfs.specs.declared.command.Command.{Command}
+use Rattle.famfs.specs.declared.command.Command.TheVariants.{Logplay, Mkfs, Mkdir}
+use Rattle.famfs.specs.declared.said.Said.{Said}
+use Rattle.famfs.specs.declared.said.Said.TheVariants as said
+use Rattle.famfs.specs.Commands.{mkdir_cmd}
+use Rattle.famfs.specs.Fresh.{version4_of}
 
--- the status of an answer
-abbrev pub status_of : Answer → Status
-status_of (ImageSmall lines) = Damaged
-status_of (BadSuper fault) = Damaged
-status_of (BadLog fault) = Damaged
-status_of (BadEntry seq reason) = Damaged
-status_of NotYetAnswer = NotYet
-status_of (Played m tree) = Done
+-- a command, the UUID of its host, and sixteen random bytes
+pub record Call : Type 0 where
+  pub command : Command
+  pub me : List ℕ
+  pub random : List ℕ
 
--- the status and the text that are due on an image
-pub record IsDue (image : Image) (status : Status) (text : List ℕ) : Type 0 where
-  pub status_is : status ≡ status_of (answer_of image)
-  pub text_is : text ≡ answer_text (answer_of image)
+-- Commands on the log.
 
--- the media failed: its count rose from `before` to `now`, and the text names a line of the media
-pub record IsMediaFault (size before now : ℕ) (text : List ℕ) : Type 0 where
-  pub rose : Rose before now
-  pub line : ℕ
-  pub within : line < size
-  pub text_is : text ≡ media_fault_text line
+-- the answer that the image gives, and the image that the command leaves. A file keeps it from an answer
+pub record IsAnswered (image : Image) (me : List ℕ) (c : Cmd) (shown : Said) (left : Image) : Type 0 where
+  pub answer : Answer
+  pub shown_is : shown ≡ said.Answered answer
+  pub due : files.IsDue (meets_a_file image me c) image me c answer (Some left)
 
--- what a command may show, by its status
-abbrev pub CommandShows : Option Image → ℕ → ℕ → ℕ → Status → List ℕ → Type 0
-CommandShows told size before now Usage text = ⊥
-CommandShows told size before now SinkFault text = ⊥
-CommandShows told size before now MediaFault text = IsMediaFault size before now text
-CommandShows told size before now OutOfMemory text = text ≡ memory_text
-CommandShows told size before now Done text = IfTold told (λ image. IsDue image Done text)
-CommandShows told size before now Damaged text = IfTold told (λ image. IsDue image Damaged text)
-CommandShows told size before now NotYet text = IfTold told (λ image. IsDue image NotYet text)
+-- an image of too few lines is refused
+abbrev pub TaskDue : Bool → Image → List ℕ → Cmd → Said → Image → Type 0
+TaskDue true image me c shown left = (shown ≡ said.Small (length image)) × (left ≡ image)
+TaskDue false image me c shown left = IsAnswered image me c shown left
 
--- what words that are no command may show
-abbrev pub UsageShows : Status → List ℕ → Type 0
-UsageShows Usage text = text ≡ usage_text
-UsageShows OutOfMemory text = text ≡ memory_text
-UsageShows status text = ⊥
+abbrev pub IsTaskDue : Image → List ℕ → Cmd → Said → Image → Type 0
+IsTaskDue image me c shown left = TaskDue (nat_lt (length image) least_lines) image me c shown left
 
--- what may be shown, by the image that the words name
-abbrev pub Shows : Option (List ℕ) → Option Image → ℕ → ℕ → ℕ → Status → List ℕ → Type 0
-Shows None told size before now status text = UsageShows status text
-Shows (Some name) told size before now status text = CommandShows told size before now status text
+-- the command's first operations were done, before it met a file, and in the next one, at this line, memory failed
+pub record IsTaskBroken (image : Image) (me : List ℕ) (c : Cmd) (line : LineNo) (left : Image) : Type 0 where
+  pub enough : least_lines ≤ length image
+  pub broken : HasBroken c me image line (Some left)
+
+-- the command's first operations were done, before it met a file, and no other; or all of them
+abbrev pub IsTaskStopped : Image → List ℕ → Cmd → Image → Type 0
+IsTaskStopped image me c left = HasStopped c me image (Some left) ⊎ ((answer : Answer) × HasEnded c me image answer (Some left))
+
+-- Making a file system.
+
+-- the UUID that is asked for, or a random one
+abbrev pub fs_or : List ℕ → Option (List ℕ) → List ℕ
+fs_or random None = version4_of random
+fs_or random (Some fs) = fs
+
+-- what an early end shows
+abbrev pub said_of_end : MkfsEnd → Said
+said_of_end (end.Made p) = said.Made p
+said_of_end (end.BadGeometry unit log) = said.BadGeometry unit log
+said_of_end (end.TooSmall need have) = said.TooSmall need have
+said_of_end (end.HasSuper fs) = said.HasSuper fs
+said_of_end (end.Failed line) = said.Refused line
+
+-- a superblock stands in the way; or the file system is made
+abbrev pub MadeDue : Result Params SuperFault → Params → Image → Said → Image → Type 0
+MadeDue (Ok other) p image shown left = (shown ≡ said.HasSuper other.fs) × (left ≡ image)
+MadeDue (Err fault) p image shown left = (shown ≡ said.Made p) × (left ≡ formatted image p)
+
+-- what is refused at once; or what line 0, 1 and 2 say decides
+abbrev pub MkfsDue : Option MkfsEnd → Params → Image → Said → Image → Type 0
+MkfsDue (Some refused) p image shown left = (shown ≡ said_of_end refused) × (left ≡ image)
+MkfsDue None p image shown left = MadeDue (super_in (line_at image) (line_bytes * length image)) p image shown left
+
+abbrev pub IsMkfsDue : Image → List ℕ → ℕ → ℕ → List ℕ → Said → Image → Type 0
+IsMkfsDue image me unit log fs shown left = MkfsDue (refusal unit log (line_bytes * length image)) (asked unit log fs me (length image)) image shown left
+
+-- of the operations that are due the first ones were done, and in the next one, at this line, memory failed
+pub record IsMkfsBroken (image : Image) (me : List ℕ) (unit log : ℕ) (fs : List ℕ) (line : LineNo) (left : Image) : Type 0 where
+  pub allowed : refusal unit log (line_bytes * length image) ≡ None
+  pub done : List Op
+  pub op : Op
+  pub rest : List Op
+  pub split : due_ops false (asked unit log fs me (length image)) (fresh image) ≡ done ++ op ∷ rest
+  pub at : line_of op ≡ Some line.0
+  pub through : ℕ
+  pub fits : through < masks
+  pub fails : failed through op (operated_all done (fresh image)) ≡ Some left
+
+-- By the command.
+
+-- what is due: it is shown, and left
+abbrev pub IsDue : Call → Command → Image → Said → Image → Type 0
+IsDue call Logplay image shown left = IsTaskDue image call.me cmd.Logplay shown left
+IsDue call (Mkdir path) image shown left = IsTaskDue image call.me (mkdir_cmd path) shown left
+IsDue call (Mkfs unit log fs) image shown left = IsMkfsDue image call.me unit log (fs_or call.random fs) shown left
+
+-- what memory's failure at a line leaves
+abbrev pub IsBroken : Call → Command → Image → LineNo → Image → Type 0
+IsBroken call Logplay image line left = IsTaskBroken image call.me cmd.Logplay line left
+IsBroken call (Mkdir path) image line left = IsTaskBroken image call.me (mkdir_cmd path) line left
+IsBroken call (Mkfs unit log fs) image line left = IsMkfsBroken image call.me unit log (fs_or call.random fs) line left
+
+-- what want of memory leaves: of a command on the log what its operations left; of mkfs the image as it was
+abbrev pub IsStopped : Call → Command → Image → Image → Type 0
+IsStopped call Logplay image left = IsTaskStopped image call.me cmd.Logplay left
+IsStopped call (Mkdir path) image left = IsTaskStopped image call.me (mkdir_cmd path) left
+IsStopped call (Mkfs unit log fs) image left = left ≡ image
+
+-- the line that says where memory failed: mkfs is refused so, other commands answer so
+abbrev pub fault_said : Command → LineNo → Said
+fault_said Logplay line = said.Answered (answer.MediaFault line)
+fault_said (Mkdir path) line = said.Answered (answer.MediaFault line)
+fault_said (Mkfs unit log fs) line = said.Refused line

@@ -1,27 +1,88 @@
 -- How a call of the program ends: the one clause of the top call, by its status.
-use Rattle.std.specs.Prelude.{ℕ, ◌≡◌, ◌≤◌, ◌⊎◌, List, Option, option_map}
+use Rattle.std.specs.Prelude.{ℕ, ◌≡◌, ◌≤◌, ◌<◌, ◌⊎◌, List, Option, Some, None, option_map}
+use Rattle.fam_base.specs.declared.line.LineNo.{LineNo}
 use Rattle.fam_base.specs.Image.{Image}
 use Rattle.fam_media.specs.Causes.{Rose}
-use Rattle.fam_media.specs.Outside.{IsPartlyPut, with_piece}
+use Rattle.fam_media.specs.Outside.{IfTold, IsPartlyPut, with_piece}
+use Rattle.famfs.specs.declared.command.Command.{Command}
+use Rattle.famfs.specs.declared.said.Said.{Said}
 use Rattle.famfs.specs.declared.status.Status.{Status}
-use Rattle.famfs.specs.declared.status.Status.TheVariants.{Done, Usage, MediaFault, SinkFault, OutOfMemory, Damaged, NotYet}
-use Rattle.famfs.specs.Due.{Shows}
+use Rattle.famfs.specs.declared.status.Status.TheVariants.{Done, Refused, Usage, MediaFault, SinkFault, OutOfMemory, Damaged, NotYet}
+use Rattle.famfs.specs.Due.{Call, IsBroken, IsDue, IsStopped, fault_said}
+use Rattle.famfs.specs.Said.{said_status, said_text}
+use Rattle.famfs.specs.Texts.{memory_text, usage_text}
 
--- what the call meets: the image that the words name, the media before and after it, and the sink before and after it
-pub record Meeting : Type 0 where
-  pub name : Option (List ℕ)
+-- the media before and after a call: the image where it is told, its lines and the counts of faults
+pub record Passage : Type 0 where
   pub image : Option Image
+  pub image_now : Option Image
   pub size : ℕ
-  pub media_before : ℕ
-  pub media_now : ℕ
+  pub faults : ℕ
+  pub faults_now : ℕ
+
+-- what the call meets: the command that the words name, its host and random bytes, the media, and the sink before and
+-- after it
+pub record Meeting : Type 0 where
+  pub command : Option Command
+  pub me : List ℕ
+  pub random : List ℕ
+  pub media : Passage
   pub sink_before : ℕ
   pub sink_now : ℕ
   pub put_before : Option (List ℕ)
   pub put_now : Option (List ℕ)
 
--- a text may be shown with this status
+-- where an image is told, the call leaves one that meets P beside it
+abbrev pub Leaves : Passage → (Image → Image → Type 0) → Type 0
+Leaves media P = IfTold media.image (λ image. (left : Image) × (media.image_now ≡ Some left) × P image left)
+
+-- what is due is shown, and left. Where no image is told, the status is still that of what is shown
+pub record IsShown (media : Passage) (call : Call) (status : Status) (text : List ℕ) : Type 0 where
+  pub shown : Said
+  pub status_is : status ≡ said_status shown
+  pub text_is : text ≡ said_text shown
+  pub leaves : Leaves media (λ image left. IsDue call call.command image shown left)
+
+-- the media failed: its count rose, and the text names the line
+pub record ShowsFault (media : Passage) (call : Call) (text : List ℕ) : Type 0 where
+  pub rose : Rose media.faults media.faults_now
+  pub line : LineNo
+  pub within : line.0 < media.size
+  pub text_is : text ≡ said_text (fault_said call.command line)
+  pub leaves : Leaves media (λ image left. IsBroken call call.command image line left)
+
+-- what memory's failure at some line leaves
+abbrev pub IsBrokenSomewhere : Call → Image → Image → Type 0
+IsBrokenSomewhere call image left = (line : LineNo) × IsBroken call call.command image line left
+
+-- no memory was left. Where the media failed as well, memory is left as it then may be
+pub record ShowsWant (media : Passage) (call : Call) (text : List ℕ) : Type 0 where
+  pub text_is : text ≡ memory_text
+  pub leaves : Leaves media (IsStopped call call.command) ⊎ (Rose media.faults media.faults_now × Leaves media (IsBrokenSomewhere call))
+
+-- what a command may show, by its status
+abbrev pub CommandShows : Passage → Call → Status → List ℕ → Type 0
+CommandShows media call Usage text = ⊥
+CommandShows media call SinkFault text = ⊥
+CommandShows media call MediaFault text = ShowsFault media call text
+CommandShows media call OutOfMemory text = ShowsWant media call text
+CommandShows media call Done text = IsShown media call Done text
+CommandShows media call Refused text = IsShown media call Refused text
+CommandShows media call Damaged text = IsShown media call Damaged text
+CommandShows media call NotYet text = IsShown media call NotYet text
+
+-- what words that are no command show, which leave the image
+abbrev pub UsageShows : Passage → Status → List ℕ → Type 0
+UsageShows media Usage text = (text ≡ usage_text) × (media.image_now ≡ media.image)
+UsageShows media status text = ⊥
+
+-- what may be shown with a status
+abbrev pub MayShowBy : Option Command → Meeting → Status → List ℕ → Type 0
+MayShowBy None m status text = UsageShows m.media status text
+MayShowBy (Some command) m status text = CommandShows m.media (record { command = command; me = m.me; random = m.random }) status text
+
 abbrev pub MayShow : Meeting → Status → List ℕ → Type 0
-MayShow m status text = Shows m.name m.image m.size m.media_before m.media_now status text
+MayShow m status text = MayShowBy m.command m status text
 
 -- the whole text was put behind what stood there
 pub record PutsWhole (m : Meeting) (status : Status) : Type 0 where
@@ -41,6 +102,7 @@ pub record PutsFront (m : Meeting) : Type 0 where
 abbrev pub Ends : Meeting → Status → Type 0
 Ends m SinkFault = PutsFront m
 Ends m Done = PutsWhole m Done
+Ends m Refused = PutsWhole m Refused
 Ends m Usage = PutsWhole m Usage
 Ends m MediaFault = PutsWhole m MediaFault
 Ends m OutOfMemory = PutsWhole m OutOfMemory

@@ -1,7 +1,10 @@
-pub mod Words
 pub mod Numbers
-pub mod Answers
+pub mod Sizes
+pub mod Fresh
+pub mod Words
 pub mod Texts
+pub mod Said
+pub mod Commands
 pub mod Due
 pub mod Ends
-pub mod Play
+pub mod Says

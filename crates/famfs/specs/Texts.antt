@@ -15,9 +15,6 @@ use Rattle.fam_format.specs.declared.faults.Reason.{Reason}
 use Rattle.fam_format.specs.declared.faults.Reason.TheVariants as reason
 use Rattle.fam_format.specs.Tree.{Tree}
 use Rattle.fam_tree.specs.Lines.{listing}
-use Rattle.famfs.specs.declared.answer.Answer.{Answer}
-use Rattle.famfs.specs.declared.answer.Answer.TheVariants.{ImageSmall, BadEntry, NotYet, Played}
-use Rattle.famfs.specs.declared.answer.Answer.TheVariants as answer
 
 -- a text as a line
 abbrev pub line : List ℕ → List ℕ
@@ -83,15 +80,6 @@ seq_text seq = codes "bad entry" ++ number seq ++ codes " "
 -- how many entries were played, and their tree
 abbrev pub played_text : ℕ → Tree → List ℕ
 played_text m tree = line (codes "played" ++ number m) ++ listing tree
-
--- the text of an answer
-abbrev pub answer_text : Answer → List ℕ
-answer_text (ImageSmall lines) = line (codes "refused image too small" ++ number lines)
-answer_text (answer.BadSuper fault) = line (super_text fault)
-answer_text (answer.BadLog fault) = line (log_text fault)
-answer_text (BadEntry seq reason) = line (seq_text seq ++ reason_text reason)
-answer_text NotYet = line (codes "not yet")
-answer_text (Played m tree) = played_text m tree
 
 -- what the program prints where the words are no command
 abbrev pub usage_text : List ℕ

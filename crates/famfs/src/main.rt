@@ -2,11 +2,11 @@
 //! handed to it.
 #![tactic(auto)]
 
-mod answer;
+mod command;
 mod file_media;
-mod head;
-mod load;
-mod replay;
+mod fresh;
+mod said;
+mod sizes;
 mod status;
 mod std_sink;
 mod texts;
@@ -20,6 +20,7 @@ use status::Status;
 use std::env;
 use std::fs::{File, OpenOptions};
 use std::io::ErrorKind;
+use std::os::unix::fs::FileExt;
 use std::process::ExitCode;
 use std_sink::StdSink;
 use top::famfs;
@@ -49,13 +50,24 @@ fn given(rt: &HostRuntime) -> Result<Vec<String>, OutOfMemory> {
     Ok(words)
 }
 
-/// Opens an image for reading and writing.
+/// Opens an image for reading and writing. One that may not be written counts as none.
 fn opened(rt: &HostRuntime, name: &str) -> Option<File> {
     OpenOptions::new()
         .read(true)
         .write(true)
         .open(rt, name)
         .ok()
+}
+
+/// Sixteen random bytes, or zeros where the system gives none.
+fn random(rt: &HostRuntime) -> [u8; 16] {
+    let mut bytes = [0; 16];
+    if let Ok(file) = File::open(rt, "/dev/urandom") {
+        if file.read_exact_at(&mut bytes, 0).is_err() {
+            return [0; 16];
+        }
+    }
+    bytes
 }
 
 /// Runs the command that the words name on the image that they name.
@@ -72,7 +84,7 @@ fn run(rt: &HostRuntime, words: &Vec<String>) -> Result<Status, OutOfMemory> {
         rt.alloc(),
         words,
         me,
-        [0; 16],
+        random(rt),
         &mut media,
         &mut shelf,
         &mut out,

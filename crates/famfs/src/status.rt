@@ -8,9 +8,11 @@ ghost use Rattle.famfs.specs.Numbers.{number_of};
 pub enum Status {
     /// The command did what it was asked for.
     Done,
+    /// The command was refused, and changed nothing.
+    Refused,
     /// The words are no command.
     Usage,
-    /// The image could not be read.
+    /// The image could not be read or written.
     MediaFault,
     /// The output could not be written.
     SinkFault,
@@ -29,6 +31,7 @@ impl Status {
     {
         match self {
             Status::Done => 0,
+            Status::Refused => 1,
             Status::Usage => 2,
             Status::MediaFault => 4,
             Status::SinkFault => 6,

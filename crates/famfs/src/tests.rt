@@ -1,6 +1,11 @@
 //! What no clause says: outside numbers, whole texts, and real files.
 
+mod commands;
 mod damage;
+mod faults;
+mod files;
 mod images;
 mod listings;
+mod making;
 mod outside;
+mod texts;

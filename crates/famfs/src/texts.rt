@@ -3,7 +3,6 @@
 ghost use Rattle.std.specs.Prelude.{◌≡◌, ◌++◌, [], ◌∷◌, IfOk, string_bytes, codes, List, ℕ};
 ghost use Rattle.famfs.specs.Texts as text;
 
-use crate::answer::Answer;
 use fam_base::{Kind, LineNo, OutOfMemory};
 use fam_format::{LogFault, LogField, Reason, SuperFault, SuperField};
 use fam_tree::{Tree, print_listing};
@@ -45,7 +44,7 @@ fn log_field(field: LogField) -> &'static str
     }
 }
 
-fn kind(kind: Kind) -> &'static str
+pub(crate) fn kind(kind: Kind) -> &'static str
     ensures { result.now ≡ text.kind_text kind }
 {
     match kind {
@@ -106,6 +105,20 @@ fn reason_text(alloc: Global, reason: Reason) -> Result<String, AllocError>
     }
 }
 
+/// The line that says what is wrong with the superblock.
+pub(crate) fn super_line(alloc: Global, fault: SuperFault) -> Result<Vec<u8>, OutOfMemory>
+    ensures { IfOk result (λ bytes. bytes.items ≡ text.line (text.super_text fault)) }
+{
+    line_of(alloc, super_text(alloc, fault))
+}
+
+/// The line that says what is wrong with the log's header or with the gate.
+pub(crate) fn log_line(alloc: Global, fault: LogFault) -> Result<Vec<u8>, OutOfMemory>
+    ensures { IfOk result (λ bytes. bytes.items ≡ text.line (text.log_text fault)) }
+{
+    line_of(alloc, log_text(alloc, fault))
+}
+
 fn seq_text(alloc: Global, seq: u64) -> Result<String, AllocError>
     ensures { IfOk result (λ s. string_bytes s ≡ text.seq_text seq) }
 {
@@ -113,7 +126,7 @@ fn seq_text(alloc: Global, seq: u64) -> Result<String, AllocError>
 }
 
 /// A text as a line.
-fn line(alloc: Global, words: &str) -> Result<Vec<u8>, OutOfMemory>
+pub(crate) fn line(alloc: Global, words: &str) -> Result<Vec<u8>, OutOfMemory>
     ensures { IfOk result (λ bytes. bytes.items ≡ text.line words.now) }
 {
     let mut bytes = Vec::new(alloc);
@@ -127,7 +140,10 @@ fn line(alloc: Global, words: &str) -> Result<Vec<u8>, OutOfMemory>
 }
 
 /// The line of a text that may have found no memory.
-fn line_of(alloc: Global, made: Result<String, AllocError>) -> Result<Vec<u8>, OutOfMemory>
+pub(crate) fn line_of(
+    alloc: Global,
+    made: Result<String, AllocError>,
+) -> Result<Vec<u8>, OutOfMemory>
     ensures { (want : List ℕ) → IfOk made (λ s. string_bytes s ≡ want) →
         IfOk result (λ bytes. bytes.items ≡ text.line want) }
 {
@@ -137,7 +153,7 @@ fn line_of(alloc: Global, made: Result<String, AllocError>) -> Result<Vec<u8>, O
     }
 }
 
-fn entry_line(alloc: Global, seq: u64, reason: Reason) -> Result<Vec<u8>, OutOfMemory>
+pub(crate) fn entry_line(alloc: Global, seq: u64, reason: Reason) -> Result<Vec<u8>, OutOfMemory>
     ensures { IfOk result (λ bytes. bytes.items ≡ text.line (text.seq_text seq ++ text.reason_text reason)) }
 {
     match seq_text(alloc, seq) {
@@ -152,7 +168,7 @@ fn entry_line(alloc: Global, seq: u64, reason: Reason) -> Result<Vec<u8>, OutOfM
     }
 }
 
-fn played_lines(alloc: Global, m: u64, tree: &Tree) -> Result<Vec<u8>, OutOfMemory>
+pub(crate) fn played_lines(alloc: Global, m: u64, tree: &Tree) -> Result<Vec<u8>, OutOfMemory>
     ensures { IfOk result (λ bytes. bytes.items ≡ text.played_text m tree.now) }
 {
     let Ok(head) = format!(in alloc; "played {m}") else {
@@ -163,22 +179,6 @@ fn played_lines(alloc: Global, m: u64, tree: &Tree) -> Result<Vec<u8>, OutOfMemo
     match bytes.extend_from_slice(listing.as_slice()) {
         Ok(()) => Ok(bytes),
         Err(_) => Err(OutOfMemory),
-    }
-}
-
-/// The text of an answer.
-pub(crate) fn answer_lines(alloc: Global, answer: &Answer) -> Result<Vec<u8>, OutOfMemory>
-    ensures { IfOk result (λ bytes. bytes.items ≡ text.answer_text answer.now) }
-{
-    match answer {
-        Answer::ImageSmall(lines) => {
-            line_of(alloc, format!(in alloc; "refused image too small {lines}"))
-        }
-        Answer::BadSuper(fault) => line_of(alloc, super_text(alloc, *fault)),
-        Answer::BadLog(fault) => line_of(alloc, log_text(alloc, *fault)),
-        Answer::BadEntry { seq, reason } => entry_line(alloc, *seq, *reason),
-        Answer::NotYet => line(alloc, "not yet"),
-        Answer::Played { m, tree } => played_lines(alloc, *m, tree),
     }
 }
 

@@ -1,23 +1,44 @@
 //! The top call: it does all that the program does, over any media, shelf and sink.
 
-ghost use Rattle.std.specs.Prelude.{◌≡◌, ◌≤◌, IfOk, ℕ, map, string_bytes, option_map};
-ghost use Rattle.fam_base.specs.Image.{Image};
-ghost use Rattle.fam_media.specs.Causes.{Rose};
-ghost use Rattle.famfs.specs.Words.{image_word};
+ghost use Rattle.std.specs.Prelude.{◌≡◌, ◌≢◌, ◌≤◌, IfOk, OnErr, ℕ, map, string_bytes};
+ghost use Rattle.fam_mkfs.specs.Mkfs.{asked};
+ghost use Rattle.fam_tasks.specs.Sound.{IsServed};
+ghost use Rattle.famfs.specs.Commands.{mkdir_cmd};
 ghost use Rattle.famfs.specs.Due as due;
-ghost use Rattle.famfs.specs.Due.{CommandShows};
-ghost use Rattle.famfs.specs.Ends.{Ends, Meeting, PutAs};
+ghost use Rattle.famfs.specs.Due.{IsTaskStopped};
+ghost use Rattle.famfs.specs.Ends.{CommandShows, Ends, Leaves, PutAs, ShowsWant};
+ghost use Rattle.famfs.specs.Said as texts;
+ghost use Rattle.famfs.specs.Says.{IsMadeOf, MkfsSays, MkfsWants, ShowsSaid, TaskSays, TaskWants};
+ghost use Rattle.famfs.specs.Texts.{memory_text};
+ghost use Rattle.famfs.specs.Words.{command_of};
 
-use crate::answer::Answer;
-use crate::load::Stop;
-use crate::replay::replay;
+use crate::command::Command;
+use crate::fresh::version4;
+use crate::said::{Said, said_lines, said_status};
 use crate::status::Status;
-use crate::texts::{MEMORY, USAGE, answer_lines, media_fault_line};
-use crate::words::named;
-use fam_base::OutOfMemory;
+use crate::texts::{MEMORY, USAGE};
+use crate::words::command;
+use fam_base::{Attr, Cmd, OutOfMemory, Params, Path};
+use fam_cache::HostCache;
+use fam_format::LEAST_LINES;
 use fam_media::{Media, Shelf, Sink};
+use fam_mkfs::{MkfsEnd, mkfs};
+use fam_run::run;
 use std::alloc::Global;
 use uuid::Uuid;
+
+/// Bytes of a line.
+const LINE_BYTES: u64 = 64;
+
+/// Bytes of a slot of the log.
+const SLOT_BYTES: u64 = 512;
+
+/// Mode 0755, and the first user and group.
+const DIRECTORY: Attr = Attr {
+    mode: 0o755,
+    uid: 0,
+    gid: 0,
+};
 
 /// A text to be shown, and the status with which the call ends then.
 #[derive(Drop)]
@@ -26,37 +47,211 @@ struct Shown {
     text: Vec<u8>,
 }
 
-fn status_of(answer: &Answer) -> Status
-    ensures { result ≡ due.status_of answer.now }
+/// What is said, with its text.
+fn show(alloc: Global, said: &Said) -> Result<Shown, OutOfMemory>
+    ensures status { IfOk result (λ shown. shown.status ≡ texts.said_status said.now) }
+    ensures text { IfOk result (λ shown. shown.text.items ≡ texts.said_text said.now) }
 {
-    match answer {
-        Answer::ImageSmall(_) => Status::Damaged,
-        Answer::BadSuper(_) => Status::Damaged,
-        Answer::BadLog(_) => Status::Damaged,
-        Answer::BadEntry { .. } => Status::Damaged,
-        Answer::NotYet => Status::NotYet,
-        Answer::Played { .. } => Status::Done,
-    }
+    Ok(Shown {
+        status: said_status(said),
+        text: said_lines(alloc, said)?,
+    })
 }
 
-/// What `logplay` shows on this media.
-fn logplay<M: Media>(alloc: Global, media: &mut M) -> Result<Shown, OutOfMemory>
-    ensures shows { IfOk result (λ shown. CommandShows (M.image media.old) (M.size media.old)
-        (M.faults media.old) (M.faults media.new) shown.status shown.text.items) }
-    ensures same { M.image media.new ≡ M.image media.old }
+/// What a command on the log says of this media.
+fn answered<M: Media>(alloc: Global, cmd: Cmd, me: Uuid, media: &mut M) -> Result<Said, OutOfMemory>
+    requires served { IsServed cmd }
+
+    ensures says { IfOk result (TaskSays (record {
+      image = M.image media.old;
+      image_now = M.image media.new;
+      size = M.size media.old;
+      faults = M.faults media.old;
+      faults_now = M.faults media.new;
+    }) me cmd) }
+    ensures want { OnErr result (Leaves (record {
+      image = M.image media.old;
+      image_now = M.image media.new;
+      size = M.size media.old;
+      faults = M.faults media.old;
+      faults_now = M.faults media.new;
+    }) (λ image left. IsTaskStopped image me cmd left)) }
     ensures size { M.size media.new ≡ M.size media.old }
     ensures later { M.faults media.old ≤ M.faults media.new }
 {
-    match replay(alloc, media) {
-        Ok(answer) => Ok(Shown {
-            status: status_of(&answer),
-            text: answer_lines(alloc, &answer)?,
-        }),
-        Err(Stop::Media(line)) => Ok(Shown {
-            status: Status::MediaFault,
-            text: media_fault_line(alloc, line)?,
-        }),
-        Err(Stop::Memory) => Err(OutOfMemory),
+    let lines = media.lines();
+    if lines < LEAST_LINES {
+        return Ok(Said::Small(lines));
+    }
+    Ok(Said::Answered(run(alloc, cmd, me, media)?))
+}
+
+/// What an end of `mkfs` says.
+fn end_said(end: MkfsEnd) -> Said
+    ensures { result ≡ due.said_of_end end }
+{
+    match end {
+        MkfsEnd::Made(params) => Said::Made(params),
+        MkfsEnd::BadGeometry { unit, log } => Said::BadGeometry { unit, log },
+        MkfsEnd::TooSmall { need, have } => Said::TooSmall { need, have },
+        MkfsEnd::HasSuper(fs) => Said::HasSuper(fs),
+        MkfsEnd::Failed(line) => Said::Refused(line),
+    }
+}
+
+/// Runs a command on the log, and shows what it says.
+fn task_shown<M: Media>(
+    alloc: Global,
+    cmd: Cmd,
+    me: Uuid,
+    media: &mut M,
+) -> Result<Shown, OutOfMemory>
+    requires served { IsServed cmd }
+
+    ensures shows { IfOk result (λ shown. ShowsSaid (TaskSays (record {
+      image = M.image media.old;
+      image_now = M.image media.new;
+      size = M.size media.old;
+      faults = M.faults media.old;
+      faults_now = M.faults media.new;
+    }) me cmd)
+        shown.status shown.text.items) }
+    ensures want { OnErr result (TaskWants (record {
+      image = M.image media.old;
+      image_now = M.image media.new;
+      size = M.size media.old;
+      faults = M.faults media.old;
+      faults_now = M.faults media.new;
+    }) me cmd) }
+    ensures size { M.size media.new ≡ M.size media.old }
+    ensures later { M.faults media.old ≤ M.faults media.new }
+{
+    let said = answered(alloc, cmd, me, media)?;
+    show(alloc, &said)
+}
+
+/// Makes a file system through an empty cache, and says how that ended.
+fn make<M: Media>(
+    alloc: Global,
+    unit: u64,
+    log: u64,
+    fs: Uuid,
+    me: Uuid,
+    media: &mut M,
+) -> Result<Said, OutOfMemory>
+    ensures says { IfOk result (MkfsSays (record {
+      image = M.image media.old;
+      image_now = M.image media.new;
+      size = M.size media.old;
+      faults = M.faults media.old;
+      faults_now = M.faults media.new;
+    }) me unit log fs) }
+    ensures params { IfOk result (IsMadeOf (asked unit log fs me (M.size media.old))) }
+    ensures want { OnErr result (M.image media.new ≡ M.image media.old) }
+    ensures size { M.size media.new ≡ M.size media.old }
+    ensures later { M.faults media.old ≤ M.faults media.new }
+{
+    let mut cache = HostCache::new(alloc);
+    let end = mkfs(&mut cache, media, unit, log, fs, me, false)?;
+    Ok(end_said(end))
+}
+
+/// Makes a file system, and shows how that ended. The text of one that is made finds its memory before anything is
+/// written.
+fn make_shown<M: Media>(
+    alloc: Global,
+    unit: u64,
+    log: u64,
+    fs: Uuid,
+    me: Uuid,
+    media: &mut M,
+) -> Result<Shown, OutOfMemory>
+    ensures shows { IfOk result (λ shown. ShowsSaid (MkfsSays (record {
+      image = M.image media.old;
+      image_now = M.image media.new;
+      size = M.size media.old;
+      faults = M.faults media.old;
+      faults_now = M.faults media.new;
+    }) me unit log fs)
+        shown.status shown.text.items) }
+    ensures want { OnErr result (MkfsWants (record {
+      image = M.image media.old;
+      image_now = M.image media.new;
+      size = M.size media.old;
+      faults = M.faults media.old;
+      faults_now = M.faults media.new;
+    }) me unit log fs) }
+    ensures size { M.size media.new ≡ M.size media.old }
+    ensures later { M.faults media.old ≤ M.faults media.new }
+{
+    let made = Said::Made(Params {
+        log_length: log,
+        slots: (log / SLOT_BYTES).saturating_sub(1),
+        unit,
+        device: LINE_BYTES * media.lines(),
+        fs,
+        master: me,
+    });
+    let done = show(alloc, &made)?;
+    match make(alloc, unit, log, fs, me, media)? {
+        Said::Made(_) => Ok(done),
+        said => show(alloc, &said),
+    }
+}
+
+/// The task of `mkdir`.
+fn mkdir(path: Path) -> Cmd
+    ensures { result ≡ mkdir_cmd path }
+{
+    Cmd::Mkdir {
+        path,
+        attr: DIRECTORY,
+    }
+}
+
+/// The UUID that is asked for, or one of the random bytes.
+fn fs_or(random: [u8; 16], fs: Option<Uuid>) -> Uuid
+    ensures { result ≡ due.fs_or random fs }
+{
+    match fs {
+        Some(fs) => fs,
+        None => version4(random),
+    }
+}
+
+/// Does a command, and shows what it says.
+fn command_shown<M: Media>(
+    alloc: Global,
+    command: Command,
+    me: Uuid,
+    random: [u8; 16],
+    media: &mut M,
+) -> Result<Shown, OutOfMemory>
+    ensures shows { IfOk result (λ shown. CommandShows (record {
+      image = M.image media.old;
+      image_now = M.image media.new;
+      size = M.size media.old;
+      faults = M.faults media.old;
+      faults_now = M.faults media.new;
+    })
+        (record { command = command; me = me; random = random }) shown.status shown.text.items) }
+    ensures want { OnErr result (ShowsWant (record {
+      image = M.image media.old;
+      image_now = M.image media.new;
+      size = M.size media.old;
+      faults = M.faults media.old;
+      faults_now = M.faults media.new;
+    })
+        (record { command = command; me = me; random = random }) memory_text) }
+    ensures size { M.size media.new ≡ M.size media.old }
+    ensures later { M.faults media.old ≤ M.faults media.new }
+{
+    match command {
+        Command::Logplay => task_shown(alloc, Cmd::Logplay, me, media),
+        Command::Mkdir { path } => task_shown(alloc, mkdir(path), me, media),
+        Command::Mkfs { unit, log, fs } => {
+            make_shown(alloc, unit, log, fs_or(random, fs), me, media)
+        }
     }
 }
 
@@ -72,40 +267,43 @@ fn put<K: Sink>(out: &mut K, status: Status, text: &[u8]) -> Status
 
 /// Runs the command that `words` name on the image that `media` holds, and puts its text to `out`.
 ///
-/// `words` are the words after the program's name. `me` is the UUID of this host and `fresh` are 16 random
-/// bytes: no command needs them yet, nor the `shelf`, whose files stand outside the image.
+/// `words` are the words after the program's name. `me` is the UUID of this host and `random` are 16 random bytes,
+/// from which `mkfs` makes a UUID where the words give none. No command needs the `shelf` yet, whose files stand
+/// outside the image.
 pub fn famfs<M: Media, S: Shelf, K: Sink>(
     alloc: Global,
     words: &Vec<String>,
     me: Uuid,
-    fresh: [u8; 16],
+    random: [u8; 16],
     media: &mut M,
     shelf: &mut S,
     out: &mut K,
 ) -> Status
     ensures ends { Ends (record {
-      name = image_word (map string_bytes words.now.items);
-      image = M.image media.old;
-      size = M.size media.old;
-      media_before = M.faults media.old;
-      media_now = M.faults media.new;
+      command = command_of (map string_bytes words.now.items);
+      me = me;
+      random = random;
+      media = (record {
+        image = M.image media.old;
+        image_now = M.image media.new;
+        size = M.size media.old;
+        faults = M.faults media.old;
+        faults_now = M.faults media.new;
+      });
       sink_before = K.faults out.old;
       sink_now = K.faults out.new;
       put_before = K.bytes out.old;
       put_now = K.bytes out.new;
     }) result }
-    ensures same { M.image media.new ≡ M.image media.old }
     ensures size { M.size media.new ≡ M.size media.old }
     ensures later { M.faults media.old ≤ M.faults media.new }
     ensures shelf { shelf.new ≡ shelf.old }
 {
-    let _ = (me, fresh);
-    if named(words).is_some() {
-        match logplay(alloc, media) {
+    match command(words) {
+        Some(command) => match command_shown(alloc, command, me, random, media) {
             Ok(shown) => put(out, shown.status, shown.text.as_slice()),
             Err(OutOfMemory) => put(out, Status::OutOfMemory, MEMORY.as_bytes()),
-        }
-    } else {
-        put(out, Status::Usage, USAGE.as_bytes())
+        },
+        None => put(out, Status::Usage, USAGE.as_bytes()),
     }
 }

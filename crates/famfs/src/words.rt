@@ -1,44 +1,47 @@
 //! The words of a call.
 
 ghost use Rattle.std.specs.Prelude.{◌≡◌, map, string_bytes, IfOk, IfSome, MatchOption, Some, None, option_map};
-ghost use Rattle.famfs.specs.Words.{is_option, image_word};
+ghost use Rattle.famfs.specs.Words.{command_of, image_word};
 
+use crate::command::{Command, has_dash, named_command};
 use fam_base::{NameText, OutOfMemory};
 use std::alloc::Global;
 
-fn has_dash(word: &str) -> bool
-    ensures { result ≡ is_option word.now }
+#[tactic(auto, unfolding(crate::specs::Words::command_of))]
+/// The command that words name, and `None` exactly where they are none. The second word is its image.
+pub(crate) fn command(words: &Vec<String>) -> Option<Command>
+    ensures { result ≡ command_of (map string_bytes words.now.items) }
 {
-    match word.as_bytes() {
-        [] => false,
-        [first, ..] => *first == b'-',
+    match words.as_slice() {
+        [name, image, rest @ ..] => {
+            if has_dash(image.as_str()) {
+                return None;
+            }
+            named_command(name.as_str(), rest)
+        }
+        _ => None,
     }
 }
 
 #[tactic(auto, unfolding(crate::specs::Words::image_word))]
-/// The image that the words name, and `None` exactly where they are no command.
-pub(crate) fn named<'a>(words: &'a Vec<String>) -> Option<&'a str>
+/// The image that a command names, and `None` exactly where the words are no command.
+fn image<'a>(words: &'a Vec<String>) -> Option<&'a str>
     ensures { option_map (λ s. s.now) result ≡ image_word (map string_bytes words.now.items) }
 {
-    if words.len() != 2 {
+    if words.len() < 2 {
         return None;
     }
-    let name = words[0].as_str();
-    let image = words[1].as_str();
-    if name != "logplay" {
-        return None;
+    match command(words) {
+        Some(_) => Some(words[1].as_str()),
+        None => None,
     }
-    if has_dash(image) {
-        return None;
-    }
-    Some(image)
 }
 
 /// The image that a command names, and `None` exactly where the words are no command.
 pub fn image_of(alloc: Global, words: &Vec<String>) -> Result<Option<NameText>, OutOfMemory>
     ensures { IfOk result (λ name. name ≡ image_word (map string_bytes words.now.items)) }
 {
-    match named(words) {
+    match image(words) {
         None => Ok(None),
         Some(name) => match NameText::new(alloc, name) {
             Ok(text) => Ok(Some(text)),

@@ -12,12 +12,15 @@ use std::test::Fail;
 use uuid::Uuid;
 
 /// 11111111-1111-4111-8111-111111111111.
-const FS: [u8; 16] = [
+pub const FS: [u8; 16] = [
     0x11, 0x11, 0x11, 0x11, 0x11, 0x11, 0x41, 0x11, 0x81, 0x11, 0x11, 0x11, 0x11, 0x11, 0x11, 0x11,
 ];
 
 /// 00000000-0000-0000-0000-000000000001.
-const MASTER: [u8; 16] = [0, 0, 0, 0, 0, 0, 0, 0, 0, 0, 0, 0, 0, 0, 0, 1];
+pub const MASTER: [u8; 16] = [0, 0, 0, 0, 0, 0, 0, 0, 0, 0, 0, 0, 0, 0, 0, 1];
+
+/// 00000000-0000-0000-0000-000000000002.
+pub const OTHER: [u8; 16] = [0, 0, 0, 0, 0, 0, 0, 0, 0, 0, 0, 0, 0, 0, 0, 2];
 
 /// A device of 4 MiB with units of 4 KiB and a log of 64 KiB.
 pub fn params() -> Params {
@@ -126,20 +129,59 @@ pub fn words(alloc: Global, text: &str) -> Result<Vec<String>, Fail> {
     Ok(words)
 }
 
+/// Who calls the program: the UUID of a host, and 16 random bytes.
+#[derive(Clone, Copy)]
+pub struct Caller {
+    pub me: [u8; 16],
+    pub random: [u8; 16],
+}
+
+/// The host that the images' superblocks name.
+pub const THE_MASTER: Caller = Caller {
+    me: MASTER,
+    random: [0; 16],
+};
+
 /// Calls the program on a media, and gives the status and what was put to the sink.
-pub fn call<M: Media>(
+pub fn call_by<M: Media>(
     alloc: Global,
+    caller: Caller,
     media: &mut M,
     text: &str,
     out: &mut MemSink,
 ) -> Result<Status, Fail> {
     let words = words(alloc, text)?;
     let mut shelf = MemShelf::new(alloc);
-    let me = Uuid::from_bytes(MASTER);
-    Ok(famfs(alloc, &words, me, [0; 16], media, &mut shelf, out))
+    let me = Uuid::from_bytes(caller.me);
+    let random = caller.random;
+    Ok(famfs(alloc, &words, me, random, media, &mut shelf, out))
+}
+
+/// The same by the master.
+pub fn call<M: Media>(
+    alloc: Global,
+    media: &mut M,
+    text: &str,
+    out: &mut MemSink,
+) -> Result<Status, Fail> {
+    call_by(alloc, THE_MASTER, media, text, out)
 }
 
 /// Whether a call ends with this status and text.
+pub fn shows_to<M: Media>(
+    alloc: Global,
+    caller: Caller,
+    media: &mut M,
+    text: &str,
+    status: Status,
+    want: &str,
+) -> Result<bool, Fail> {
+    let mut out = MemSink::new(alloc, 65_536)?;
+    let got = call_by(alloc, caller, media, text, &mut out)?;
+    Ok(got == status && out.bytes() == want.as_bytes())
+}
+
+/// The same by the master.
 pub fn shows<M: Media>(
     alloc: Global,
     media: &mut M,
@@ -147,7 +189,5 @@ pub fn shows<M: Media>(
     status: Status,
     want: &str,
 ) -> Result<bool, Fail> {
-    let mut out = MemSink::new(alloc, 65_536)?;
-    let got = call(alloc, media, text, &mut out)?;
-    Ok(got == status && out.bytes() == want.as_bytes())
+    shows_to(alloc, THE_MASTER, media, text, status, want)
 }

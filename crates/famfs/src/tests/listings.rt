@@ -67,7 +67,12 @@ fn words_that_are_no_command_give_the_usage_line(rt: HostRuntime) -> Result<(), 
         "logplay -x",
         "logplay a b",
         "Logplay a",
-        "mkfs a",
+        "mkfs a b",
+        "mkfs -u",
+        "mkfs a -u 4T",
+        "mkdir a",
+        "mkdir a /b",
+        "mkdir a b c",
     ] {
         let mut media = MemMedia::new(alloc, 0)?;
         assert!(rt;

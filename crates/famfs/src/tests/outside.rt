@@ -4,7 +4,7 @@ use super::images::shows;
 use crate::file_media::FileMedia;
 use crate::opened;
 use crate::status::Status;
-use std::fs::{File, create_dir};
+use std::fs::{File, create_dir, remove_dir, remove_file};
 use std::io::Write;
 use std::test::Fail;
 
@@ -18,6 +18,7 @@ fn a_real_file_of_zeros_has_no_superblock(rt: HostRuntime) -> Result<(), Fail> {
     let mut media = FileMedia::new(opened(&rt, "zeros"));
     let want = "no superblock 0\n";
     assert!(rt; shows(alloc, &mut media, "logplay zeros", Status::Damaged, want)?);
+    remove_file(&rt, "zeros")?;
     Ok(())
 }
 
@@ -38,9 +39,11 @@ fn a_missing_image_and_a_folder_have_no_lines(rt: HostRuntime) -> Result<(), Fai
     create_dir(&rt, "folder")?;
     let mut folder = FileMedia::new(opened(&rt, "folder"));
     assert!(rt; shows(alloc, &mut folder, "logplay folder", Status::Damaged, want)?);
+    remove_dir(&rt, "folder")?;
     let mut short = File::create(&rt, "short")?;
     short.write_all(&[0; 63])?;
     let mut short = FileMedia::new(opened(&rt, "short"));
     assert!(rt; shows(alloc, &mut short, "logplay short", Status::Damaged, want)?);
+    remove_file(&rt, "short")?;
     Ok(())
 }

@@ -1,27 +1,52 @@
-use Rattle.std.proofs.Common.{map, string_bytes, sym, ◌∙◌}
-use Rattle.famfs.specs.Words.{image_word}
-use Rattle.famfs.specs.declared.status.Status.TheVariants.{Usage, OutOfMemory}
-use Rattle.famfs.proofs.Endings.{put_ends, shows_usage, shows_command, none_of_map}
+use Rattle.std.proofs.Common.{◌∙◌, refl, sym, map, string_bytes, Some, None}
+use Rattle.famfs.proofs.Endings.{put_ends, shows_by}
 use Rattle.famfs.proofs.top.famfs.Goals as goal
+use Rattle.famfs.specs.declared.status.Status.TheVariants.{OutOfMemory, Usage}
+use Rattle.famfs.specs.Ends.{Meeting}
+use Rattle.famfs.specs.Texts.{memory_text, usage_text}
+use Rattle.famfs.specs.Words.{command_of}
 
-pub returns-else-is_some-clause-ends : goal.returns-else-is_some-clause-ends
-returns-else-is_some-clause-ends g c =
-    let name = image_word (map string_bytes c.args.words.now.items) in
-    put_ends _ Usage c.put-else-is_some.result c.as_bytes-else-is_some.result.now
-    (shows_usage name _ _ _ _ Usage c.as_bytes-else-is_some.result.now (none_of_map _ c.named.result name c.named.ensures ∙ sym c.is_some.ensures ∙ c.if-is_some.false) c.as_bytes-else-is_some.ensures.value)
-    c.put-else-is_some.ensures
-
+-- src/top.rt:300:1
 pub returns-in-Ok-clause-ends : goal.returns-in-Ok-clause-ends
 returns-in-Ok-clause-ends g c =
-    let name = image_word (map string_bytes c.args.words.now.items) in
-    put_ends _ c.in-Ok.shown.status c.put.result c.as_slice.result.now
-    (shows_command name _ _ _ _ c.in-Ok.shown.status c.as_slice.result.now (none_of_map _ c.named.result name c.named.ensures ∙ sym c.is_some.ensures ∙ c.if-is_some.true)
-    (rw c.as_slice.ensures.value c.in-Ok.ensures.shows))
-    c.put.ensures
+    let m : Meeting = record {
+      command = command_of (map string_bytes c.args.words.now.items);
+      me = c.args.me;
+      random = c.args.random;
+      media = record { image = g.M.Media.image c.args.media.now; image_now = g.M.Media.image c.command_shown.new.media; size = g.M.Media.size c.args.media.now; faults = g.M.Media.faults c.args.media.now; faults_now = g.M.Media.faults c.command_shown.new.media };
+      sink_before = g.K.Sink.faults c.args.out.now;
+      sink_now = g.K.Sink.faults c.put.new.out;
+      put_before = g.K.Sink.bytes c.args.out.now;
+      put_now = g.K.Sink.bytes c.put.new.out;
+    } in
+    put_ends m c.in-Ok.shown.status c.put.result c.as_slice.result.now (shows_by m (Some c.in-Some.command) c.in-Ok.shown.status c.in-Ok.shown.text.items c.as_slice.result.now (sym c.command.ensures ∙ c.in-Some.is) c.as_slice.ensures.value c.in-Ok.ensures.shows) c.put.ensures
 
+-- src/top.rt:300:1
 pub returns-in-Err-clause-ends : goal.returns-in-Err-clause-ends
 returns-in-Err-clause-ends g c =
-    let name = image_word (map string_bytes c.args.words.now.items) in
-    put_ends _ OutOfMemory c.put-in-Err.result c.as_bytes.result.now
-    (shows_command name _ _ _ _ OutOfMemory c.as_bytes.result.now (none_of_map _ c.named.result name c.named.ensures ∙ sym c.is_some.ensures ∙ c.if-is_some.true) c.as_bytes.ensures.value)
-    c.put-in-Err.ensures
+    let m : Meeting = record {
+      command = command_of (map string_bytes c.args.words.now.items);
+      me = c.args.me;
+      random = c.args.random;
+      media = record { image = g.M.Media.image c.args.media.now; image_now = g.M.Media.image c.command_shown.new.media; size = g.M.Media.size c.args.media.now; faults = g.M.Media.faults c.args.media.now; faults_now = g.M.Media.faults c.command_shown.new.media };
+      sink_before = g.K.Sink.faults c.args.out.now;
+      sink_now = g.K.Sink.faults c.put-in-Err.new.out;
+      put_before = g.K.Sink.bytes c.args.out.now;
+      put_now = g.K.Sink.bytes c.put-in-Err.new.out;
+    } in
+    put_ends m OutOfMemory c.put-in-Err.result c.as_bytes.result.now (shows_by m (Some c.in-Some.command) OutOfMemory memory_text c.as_bytes.result.now (sym c.command.ensures ∙ c.in-Some.is) c.as_bytes.ensures.value c.in-Err.ensures.want) c.put-in-Err.ensures
+
+-- src/top.rt:300:1
+pub returns-in-None-clause-ends : goal.returns-in-None-clause-ends
+returns-in-None-clause-ends g c =
+    let m : Meeting = record {
+      command = command_of (map string_bytes c.args.words.now.items);
+      me = c.args.me;
+      random = c.args.random;
+      media = record { image = g.M.Media.image c.args.media.now; image_now = g.M.Media.image c.args.media.now; size = g.M.Media.size c.args.media.now; faults = g.M.Media.faults c.args.media.now; faults_now = g.M.Media.faults c.args.media.now };
+      sink_before = g.K.Sink.faults c.args.out.now;
+      sink_now = g.K.Sink.faults c.put-in-None.new.out;
+      put_before = g.K.Sink.bytes c.args.out.now;
+      put_now = g.K.Sink.bytes c.put-in-None.new.out;
+    } in
+    put_ends m Usage c.put-in-None.result c.as_bytes-in-None.result.now (shows_by m None Usage usage_text c.as_bytes-in-None.result.now (sym c.command.ensures ∙ c.in-None.is) c.as_bytes-in-None.ensures.value (refl, refl)) c.put-in-None.ensures

@@ -1,0 +1,42 @@
+-- Lines of contents, from their bytes.
+use Rattle.std.proofs.Common.{◌≡◌, ℕ, ◌+◌, ◌-◌, ◌*◌, ◌/◌, ◌%◌, ◌^◌, ◌<◌, ◌≤◌, nat_lt, if◌then◌else◌, List, length, get_or, inl, inr, sym, ap, ◌∙◌, arith}
+use Rattle.std.proofs.lemmas.Bool.{cases_lt}
+use Rattle.std.proofs.lemmas.Bool.Decides.{nat_tests}
+use Rattle.fam_base.specs.declared.cmd.Content.{Content}
+use Rattle.fam_base.specs.declared.cmd.Content.TheVariants.{Seed}
+use Rattle.fam_base.specs.Image.{byte_of}
+use Rattle.fam_rules.specs.Content.{stream_word, content_byte, fill, content_line, byte_in}
+use Rattle.fam_rules.proofs.ContentLines.{line_by_bytes, byte_of_fill, no_byte_of_fill, byte_of_stream}
+
+-- eight words of a stream have the bytes of the seeded content
+pub seeded_byte : (seed start : ℕ) (words : List ℕ) → start % 64 ≡ 0 → ((w : ℕ) → w < 8 → get_or words w 0 ≡ stream_word seed (start / 8 + w))
+    → (b : ℕ) → b < 64 → byte_in words b ≡ content_byte (Seed seed) (start + b)
+seeded_byte seed start words aligned each b below =
+    let at : 8 * (start / 8 + b / 8) + b % 8 ≡ start + b = omega arith in
+    ap (λ (word : ℕ). byte_of word (b % 8)) (each (b / 8) (omega arith))
+    ∙ byte_of_stream seed (start / 8 + b / 8) (b % 8) (omega arith)
+    ∙ ap (content_byte (Seed seed)) at
+
+chosen : (b n v : ℕ) → b < n → (if nat_lt b n then v else 0) ≡ v
+chosen b n v below = grind (arith, nat_tests)
+
+not_chosen : (b n v : ℕ) → n ≤ b → (if nat_lt b n then v else 0) ≡ 0
+not_chosen b n v past = grind (arith, nat_tests)
+
+-- eight words with the bytes of a content below the size, and zeros behind, are the file's line
+pub line_of_content : (content : Content) (size given : ℕ) (endless words : List ℕ) → length words ≡ 8 → ((w : ℕ) → get_or words w 0 < 2 ^ 64) → 64 * given < size
+    → ((b : ℕ) → b < 64 → byte_in endless b ≡ content_byte content (64 * given + b))
+    → ((b : ℕ) → b < 64 → byte_in words b ≡ if nat_lt b (size - 64 * given) then byte_in endless b else 0) → words ≡ content_line content size given
+line_of_content content size given endless words count fits left bytes front =
+    line_by_bytes words (fill content size) given count fits (λ b small.
+    elim (cases_lt b (size - 64 * given)) [
+      | inl below ↦
+          front b small
+          ∙ chosen b (size - 64 * given) (byte_in endless b) below
+          ∙ bytes b small
+          ∙ sym (byte_of_fill content size (64 * given + b) (omega arith))
+      | inr past ↦
+          front b small
+          ∙ not_chosen b (size - 64 * given) (byte_in endless b) past
+          ∙ sym (no_byte_of_fill content size (64 * given + b) (omega arith))
+    ])

@@ -1,0 +1,23 @@
+-- What a stream of lines stands for.
+use Rattle.std.specs.Prelude.{ℕ, ◌≡◌, ◌*◌, ◌<◌, Option, Some, None, List}
+use Rattle.fam_base.specs.declared.cmd.Content.{Content}
+use Rattle.fam_base.specs.declared.cmd.Content.TheVariants.{Zero, Seed, Bytes}
+use Rattle.fam_rules.specs.Content.{stream_state}
+use Rattle.fam_content.specs.declared.stream.ContentStream.{ContentStream}
+
+-- the generator that a content needs, after so many words of its stream
+abbrev pub generator_of : Content → ℕ → Option (List ℕ)
+generator_of Zero words = None
+generator_of (Seed seed) words = Some (stream_state seed words)
+generator_of (Bytes bytes) words = None
+
+-- the stream has given so many lines of this content, from the front: eight words of a seed's stream each
+pub record StandsFor (stream : ContentStream) (content : Content) (given : ℕ) : Type 0 where
+  pub generator : stream.generator ≡ generator_of content (8 * given)
+  pub count : stream.given ≡ given
+
+-- the stream was made from this content, and a file of this size has a line that it has not given
+pub record HasLineLeft (stream : ContentStream) (content : Content) (size : ℕ) : Type 0 where
+  pub given : ℕ
+  pub stands : StandsFor stream content given
+  pub left : 64 * given < size

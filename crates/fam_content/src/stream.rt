@@ -1,0 +1,84 @@
+//! The lines of a content, one after the other.
+
+ghost use Rattle.std.specs.Prelude.{◌≡◌, ◌+◌, ◌*◌, ◌/◌, ◌%◌, ◌<◌, ℕ, slice_index};
+ghost use Rattle.fam_rules.specs.Content.{stream_state, stream_word, content_byte, content_line, byte_in};
+ghost use Rattle.fam_content.specs.Stream.{generator_of, StandsFor, HasLineLeft};
+
+use crate::front::first_bytes;
+use crate::given::given_line;
+use fam_base::{Content, Line};
+use rand_core::SeedableRng;
+use rand_core::utils::NextWord;
+use rand_xoshiro::Xoshiro256PlusPlus;
+
+/// Gives the lines of a file's content from the front. It keeps neither the content nor a list: each call is handed
+/// the content again.
+#[derive(Drop)]
+pub struct ContentStream {
+    /// Behind the words that were given, where the content is that of a seed.
+    generator: Option<Xoshiro256PlusPlus>,
+    /// How many lines were given.
+    given: u64,
+}
+
+/// The next eight words of a generator.
+fn next_line(generator: &mut Xoshiro256PlusPlus) -> Line
+    ensures words { (seed given w : ℕ) → generator.old ≡ stream_state seed given → w < 8
+        → slice_index result w ≡ stream_word seed (given + w) }
+    ensures stands { (seed given : ℕ) → generator.old ≡ stream_state seed given
+        → generator.new ≡ stream_state seed (given + 8) }
+{
+    let mut words = [0; 8];
+    'words: for w in 0..8 {
+        words[w] = generator.next_word();
+    }
+    words
+}
+
+/// The 64 bytes of a content from byte `start` on, as if the file had no end.
+fn endless_line(generator: &mut Option<Xoshiro256PlusPlus>, content: &Content, start: u64) -> Line
+    requires aligned { start % 64 ≡ 0 }
+    requires stands { generator.old ≡ generator_of content.now (start / 8) }
+    ensures bytes { (b : ℕ) → b < 64 → byte_in result b ≡ content_byte content.now (start + b) }
+    ensures stands { generator.new ≡ generator_of content.now (start / 8 + 8) }
+{
+    match content {
+        Content::Zero => [0; 8],
+        Content::Bytes(bytes) => given_line(bytes.as_slice(), start),
+        Content::Seed(_) => match generator {
+            Some(generator) => next_line(generator),
+            None => [0; 8],
+        },
+    }
+}
+
+impl ContentStream {
+    /// A stream before the first line of a content.
+    pub fn new(content: &Content) -> ContentStream
+        ensures { StandsFor result content.now 0 }
+    {
+        let generator = match content {
+            Content::Seed(seed) => Some(Xoshiro256PlusPlus::seed_from_u64(*seed)),
+            Content::Zero | Content::Bytes(_) => None,
+        };
+        ContentStream {
+            generator,
+            given: 0,
+        }
+    }
+
+    /// The next line of a file of `size` bytes. Its bytes at or past the size are zero. The stream must have been
+    /// made from this content, and a line must be left.
+    pub fn line(&mut self, content: &Content, size: u64) -> Line
+        requires { HasLineLeft self.old content.now size }
+        ensures line { (given : ℕ) → StandsFor self.old content.now given
+            → result ≡ content_line content.now size given }
+        ensures stands { (given : ℕ) → StandsFor self.old content.now given
+            → StandsFor self.new content.now (given + 1) }
+    {
+        let start = 64 * self.given;
+        let line = endless_line(&mut self.generator, content, start);
+        self.given += 1;
+        first_bytes(&line, size - start)
+    }
+}

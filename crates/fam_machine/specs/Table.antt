@@ -1,0 +1,292 @@
+-- The table of operations: what a command does, operation by operation, and what is noted or answered with each.
+-- It is made from the words that the command's loads gave, as far as these tell it, and from nothing else.
+-- docs/MODEL.md, "The table of operations".
+use Rattle.std.specs.Prelude.{ℕ, ◌+◌, ◌-◌, ◌*◌, ◌==◌, ◌&&◌, nat_lt, Bool, true, false, if◌then◌else◌, List, [], ◌∷◌, ◌++◌, length, map, drop, slice_index, slice_range, Option, Some, None, Result, Ok, Err}
+use Rattle.std.specs.List.{flat_map, range_with_len}
+use Rattle.fam_base.specs.declared.cmd.Cmd.{Cmd}
+use Rattle.fam_base.specs.declared.cmd.Cmd.TheVariants.{Mkdir, Creat, Cp, Verify, Read, Fsck}
+use Rattle.fam_base.specs.declared.cmd.Content.{Content}
+use Rattle.fam_base.specs.declared.cmd.Content.TheVariants as content
+use Rattle.fam_base.specs.declared.entry.Params.{Params}
+use Rattle.fam_base.specs.declared.entry.Entry.{Entry}
+use Rattle.fam_base.specs.declared.entry.Kind.{Kind}
+use Rattle.fam_base.specs.declared.entry.Kind.TheVariants as kind
+use Rattle.fam_format.specs.declared.faults.SuperFault.{SuperFault}
+use Rattle.fam_format.specs.declared.faults.LogFault.{LogFault}
+use Rattle.fam_format.specs.Layout.{geometry, log_line, gate_line, slot_line}
+use Rattle.fam_format.specs.Super.{magic_fault}
+use Rattle.fam_format.specs.Log.{log_fault, gate_fault}
+use Rattle.fam_format.specs.Slot.{spelling}
+use Rattle.fam_format.specs.Reading.{Reading, NoSuperblock, BadHeader, BadSlot, Sound, Lines, super_in, gate_in, read_slots}
+use Rattle.fam_rules.specs.declared.answers.Refused.{Refused}
+use Rattle.fam_rules.specs.Asks.{File, file_at, ask}
+use Rattle.fam_rules.specs.Content.{byte_in, content_line}
+use Rattle.fam_rules.specs.Decide.{Wish, wish_of, master_refusal, decide}
+use Rattle.fam_rules.specs.Place.{line_bytes}
+use Rattle.fam_rules.specs.Reply as reply
+use Rattle.fam_rules.specs.Reply.{Reply}
+use Rattle.fam_rules.specs.Reports.{report_of}
+use Rattle.fam_rules.specs.Written.{lines_of, file_line, slot_part}
+use Rattle.fam_machine.specs.declared.op.Op.{Op}
+use Rattle.fam_machine.specs.declared.op.Op.TheVariants.{Load, Store, WriteBack, Invalidate, Digest}
+use Rattle.fam_machine.specs.Task.{line_no, no_params, first_line, wanted_lines, content_of}
+
+-- what comes with an operation
+pub data Note : Type 0 where
+  Quiet : Note
+  Mark : Note
+  Found : (n : ℕ) → Note
+  Writing : (seq : ℕ) (e : Entry) → Note
+  Answer : (reply : Reply) → Note
+
+-- a row of the table
+pub record Row : Type 0 where
+  pub op : Op
+  pub note : Note
+
+-- operations of which the last has a note
+abbrev pub rows : List Op → Note → List Row
+rows [] note = []
+rows (op ∷ []) note = record { op = op; note = note } ∷ []
+rows (op ∷ next ∷ more) note = record { op = op; note = Quiet } ∷ rows (next ∷ more) note
+
+-- The operations.
+
+-- a line is invalidated, and its first so many words are loaded
+abbrev pub load_ops : ℕ → ℕ → List Op
+load_ops line count = Invalidate (line_no line) ∷ map (λ k. Load (line_no line) k) (range_with_len 0 count)
+
+-- the eight words of a line are stored
+abbrev pub store_ops : ℕ → List ℕ → List Op
+store_ops line words = map (λ k. Store (line_no line) k (slice_index words k)) (range_with_len 0 8)
+
+-- the lines of a slot, and then the Digest
+abbrev pub slot_ops : Params → ℕ → List Op
+slot_ops p i = flat_map (λ j. load_ops (slot_line p i j) 8) (range_with_len 0 (geometry p).lines) ++ Digest ∷ []
+
+-- lines of a file, from line `first` on
+abbrev pub file_ops : Entry → ℕ → ℕ → List Op
+file_ops e first count = flat_map (λ j. load_ops (file_line e (first + j)) 8) (range_with_len 0 count)
+
+-- the lines of a new file: each is stored and sent
+abbrev pub data_ops : Entry → Content → List Op
+data_ops e fill = flat_map (λ j. store_ops (file_line e j) (content_line fill e.size j) ++ Invalidate (line_no (file_line e j)) ∷ []) (range_with_len 0 (lines_of e.size))
+
+-- the lines of a new slot: each is stored and written back
+abbrev pub new_slot_ops : Params → ℕ → Entry → List Op
+new_slot_ops p seq e =
+    flat_map (λ j. store_ops (slot_line p seq j) (slot_part (spelling (geometry p) e seq) j) ++ WriteBack (line_no (slot_line p seq j)) ∷ []) (range_with_len 0 (geometry p).lines)
+
+-- an entry is appended: its file, its slot, and the gate
+abbrev pub append_ops : Params → ℕ → Entry → Content → List Op
+append_ops p seq e fill =
+    data_ops e fill ++ new_slot_ops p seq e ++ Store (line_no gate_line) 0 (seq + 1) ∷ WriteBack (line_no gate_line) ∷ []
+
+-- The words.
+
+-- how many words are loaded before the first slot: the magic, lines 1 and 2, the header and the gate
+abbrev pub head_words : ℕ
+head_words = 26
+
+-- the words of one slot
+abbrev pub slot_words : ℕ
+slot_words = 64
+
+-- the loaded words as lines of memory: what a reading may look at
+abbrev pub fed : List ℕ → Lines
+fed words line =
+    if line == 0 then slice_range words 0 1
+    else if line == 1 then slice_range words 1 9
+    else if line == 2 then slice_range words 9 17
+    else if line == log_line then slice_range words 17 25
+    else if line == gate_line then slice_range words 25 26
+    else slice_range words (head_words + 8 * (line - (gate_line + 7))) (head_words + 8 * (line - (gate_line + 7)) + 8)
+
+-- what they say of superblock, gate and the first so many slots
+abbrev pub fed_super : List ℕ → ℕ → Result Params SuperFault
+fed_super words lines = super_in (fed words) (line_bytes * lines)
+
+abbrev pub fed_gate : List ℕ → ℕ
+fed_gate words = gate_in (fed words)
+
+abbrev pub fed_slots : List ℕ → Params → ℕ → Reading
+fed_slots words p n = read_slots (fed words) p 0 n []
+
+-- the entries of a sound reading
+abbrev pub entries_in : Reading → List Entry
+entries_in (NoSuperblock fault) = []
+entries_in (BadHeader fault) = []
+entries_in (BadSlot i reason) = []
+entries_in (Sound p entries) = entries
+
+-- an entry, and the bytes of its file as the words behind the slots give them, of which the first is byte `start`
+abbrev pub fed_file : List ℕ → ℕ → Entry → File
+fed_file words start e = record { entry = e; bytes = map (λ o. byte_in words (o - start)) (range_with_len 0 e.size) }
+
+-- the entries with these bytes
+abbrev pub fed_files : List ℕ → Cmd → List Entry → List File
+fed_files words cmd entries = map (fed_file (drop (head_words + slot_words * length entries) words) (line_bytes * first_line cmd)) entries
+
+-- What is noted.
+
+-- a reply on a damaged image: a check of the whole file system reports
+abbrev pub fault_reply : Cmd → List ℕ → ℕ → Reply → Reply
+fault_reply Fsck words lines other = reply.Reports (report_of (fed words) (line_bytes * lines))
+fault_reply cmd words lines other = other
+
+-- with the load of the magic
+abbrev pub magic_note : Cmd → List ℕ → ℕ → Option SuperFault → Note
+magic_note cmd words lines (Some fault) = Answer (fault_reply cmd words lines (reply.NoSuperblock fault))
+magic_note cmd words lines None = Quiet
+
+-- a command that appends, of another host than the master
+abbrev pub master_note : Option Wish → Params → List ℕ → Note
+master_note None p me = Quiet
+master_note (Some w) p me = refusal_note (master_refusal p me)
+  where
+    refusal_note : Option Refused → Note
+    refusal_note None = Quiet
+    refusal_note (Some refused) = Answer (reply.NotAppended refused)
+
+-- with the last load of the superblock
+abbrev pub super_note : Cmd → List ℕ → List ℕ → ℕ → Result Params SuperFault → Note
+super_note cmd me words lines (Err fault) = Answer (fault_reply cmd words lines (reply.NoSuperblock fault))
+super_note cmd me words lines (Ok p) = master_note (wish_of cmd) p me
+
+-- with the last load of the header
+abbrev pub header_note : Cmd → List ℕ → ℕ → Option LogFault → Note
+header_note cmd words lines (Some fault) = Answer (fault_reply cmd words lines (reply.BadHeader fault))
+header_note cmd words lines None = Quiet
+
+-- a command that appends says what it found
+abbrev pub found_note : Option Wish → ℕ → Note
+found_note None n = Quiet
+found_note (Some w) n = Found n
+
+-- with the load of the gate
+abbrev pub gate_note : Cmd → List ℕ → ℕ → Option LogFault → Note
+gate_note cmd words lines (Some fault) = Answer (fault_reply cmd words lines (reply.BadHeader fault))
+gate_note cmd words lines None = found_note (wish_of cmd) (fed_gate words)
+
+-- by the reading of the slots up to this one
+abbrev pub reading_note : Reading → Note
+reading_note (NoSuperblock fault) = Quiet
+reading_note (BadHeader fault) = Quiet
+reading_note (BadSlot i reason) = Answer (reply.BadSlot i reason)
+reading_note (Sound p entries) = Quiet
+
+-- with the Digest of slot i: a check of the whole file system goes on
+abbrev pub slot_note : Cmd → List ℕ → Params → ℕ → Note
+slot_note Fsck words p i = Quiet
+slot_note cmd words p i = reading_note (fed_slots words p (i + 1))
+
+-- an answer, where there is one
+abbrev pub answer_or : Option Reply → Note
+answer_or None = Quiet
+answer_or (Some given) = Answer given
+
+-- the entry that a command appends, or why none
+abbrev pub append_note : ℕ → Option (Result Entry Refused) → Note
+append_note seq None = Quiet
+append_note seq (Some (Err refused)) = Answer (reply.NotAppended refused)
+append_note seq (Some (Ok e)) = Writing seq e
+
+-- given bytes are as many as the file's
+abbrev pub fits_content : Cmd → ℕ → Bool
+fits_content (Verify path (content.Bytes given)) size = length given == size
+fits_content cmd size = true
+
+-- lines of the file are to be read
+abbrev pub reads_kind : Kind → Cmd → ℕ → Bool
+reads_kind kind.Directory cmd size = false
+reads_kind kind.File cmd size = fits_content cmd size && nat_lt 0 (wanted_lines cmd size)
+
+abbrev pub reads_file : Cmd → Option File → Bool
+reads_file cmd None = false
+reads_file cmd (Some f) = reads_kind f.entry.kind cmd f.entry.size
+
+-- which file a command reads
+abbrev pub wanted_file : Cmd → List File → Option File
+wanted_file (Verify path against) files = file_at files path
+wanted_file (Read path offset count) files = file_at files path
+wanted_file cmd files = None
+
+-- with the Digest behind the slots
+abbrev pub decision_note : Cmd → List ℕ → List ℕ → ℕ → Params → List Entry → Note
+decision_note Fsck me words lines p entries = Answer (reply.Reports (report_of (fed words) (line_bytes * lines)))
+decision_note (Mkdir path attr) me words lines p entries = append_note (length entries) (decide p me entries (Mkdir path attr))
+decision_note (Creat path size attr stripe fill) me words lines p entries =
+    append_note (length entries) (decide p me entries (Creat path size attr stripe fill))
+decision_note (Cp path attr stripe bytes) me words lines p entries = append_note (length entries) (decide p me entries (Cp path attr stripe bytes))
+decision_note cmd me words lines p entries =
+    if reads_file cmd (wanted_file cmd (fed_files words cmd entries)) then Quiet else answer_or (ask (fed_files words cmd entries) cmd)
+
+-- a difference in the first so many bytes
+abbrev pub early_note : ℕ → Option Reply → Note
+early_note end (Some (reply.Differs m offset found wanted)) = if nat_lt offset end then Answer (reply.Differs m offset found wanted) else Quiet
+early_note end given = Quiet
+
+-- with the last load of line j of the file
+abbrev pub line_note : Cmd → List ℕ → List Entry → ℕ → ℕ → Note
+line_note cmd words entries count j =
+    if nat_lt (j + 1) count then early_note (line_bytes * (j + 1)) (ask (fed_files words cmd entries) cmd)
+    else answer_or (ask (fed_files words cmd entries) cmd)
+
+-- The table.
+
+-- superblock, header and gate
+abbrev pub head_rows : Cmd → List ℕ → ℕ → List ℕ → Params → List Row
+head_rows cmd me lines words p =
+    rows (load_ops 0 1) (magic_note cmd words lines (magic_fault (slice_index words 0))) ++ rows (load_ops 1 8 ++ load_ops 2 8) (super_note cmd me words lines (fed_super words lines)) ++ rows (load_ops log_line 8) (header_note cmd words lines (log_fault (fed words log_line) p)) ++ rows (Invalidate (line_no gate_line) ∷ []) Mark ++ rows (Load (line_no gate_line) 0 ∷ []) (gate_note cmd words lines (gate_fault (fed_gate words) p))
+
+-- the slots
+abbrev pub slots_rows : Cmd → List ℕ → Params → ℕ → List Row
+slots_rows cmd words p n = flat_map (λ i. rows (slot_ops p i) (slot_note cmd words p i)) (range_with_len 0 n)
+
+-- the lines of a file that hold wanted bytes
+abbrev pub file_rows : Cmd → List ℕ → List Entry → Entry → List Row
+file_rows cmd words entries e =
+    flat_map (λ j. rows (load_ops (file_line e (first_line cmd + j)) 8) (line_note cmd words entries (wanted_lines cmd e.size) j)) (range_with_len 0 (wanted_lines cmd e.size))
+
+-- an append
+abbrev pub append_rows : Cmd → Params → ℕ → Option (Result Entry Refused) → List Row
+append_rows cmd p seq None = []
+append_rows cmd p seq (Some (Err refused)) = []
+append_rows cmd p seq (Some (Ok e)) = rows (append_ops p seq e (content_of cmd)) (Answer (reply.Appended seq))
+
+-- the file that is read
+abbrev pub wanted_rows : Cmd → List ℕ → List Entry → Option File → List Row
+wanted_rows cmd words entries None = []
+wanted_rows cmd words entries (Some f) = file_rows cmd words entries f.entry
+
+-- what comes behind the decision
+abbrev pub last_rows : Cmd → List ℕ → List ℕ → Params → List Entry → List Row
+last_rows (Mkdir path attr) me words p entries = append_rows (Mkdir path attr) p (length entries) (decide p me entries (Mkdir path attr))
+last_rows (Creat path size attr stripe fill) me words p entries =
+    append_rows (Creat path size attr stripe fill) p (length entries) (decide p me entries (Creat path size attr stripe fill))
+last_rows (Cp path attr stripe bytes) me words p entries =
+    append_rows (Cp path attr stripe bytes) p (length entries) (decide p me entries (Cp path attr stripe bytes))
+last_rows cmd me words p entries =
+    if reads_file cmd (wanted_file cmd (fed_files words cmd entries)) then wanted_rows cmd words entries (wanted_file cmd (fed_files words cmd entries)) else []
+
+-- how many slots a command reads
+abbrev pub slots_of_cmd : Cmd → Params → ℕ → ℕ
+slots_of_cmd Fsck p gate = p.slots
+slots_of_cmd cmd p gate = gate
+
+-- the rows behind the gate, by the parameters
+abbrev pub body_rows : Cmd → List ℕ → ℕ → List ℕ → Params → List Row
+body_rows cmd me lines words p =
+    let entries = entries_in (fed_slots words p (fed_gate words)) in
+    slots_rows cmd words p (slots_of_cmd cmd p (fed_gate words)) ++ record { op = Digest; note = decision_note cmd me words lines p entries } ∷ last_rows cmd me words p entries
+
+-- the parameters that the words tell, or none
+abbrev pub params_or : Params → Result Params SuperFault → Params
+params_or default (Ok p) = p
+params_or default (Err fault) = default
+
+-- the whole table of a command, after these words
+abbrev pub table : Cmd → List ℕ → ℕ → List ℕ → List Row
+table cmd me lines words =
+    let p = params_or no_params (fed_super words lines) in
+    head_rows cmd me lines words p ++ body_rows cmd me lines words p

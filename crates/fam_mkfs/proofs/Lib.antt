@@ -1,0 +1,7 @@
+pub mod Rows
+pub mod Steps
+pub mod WholeLines
+pub mod SuperLines
+pub mod SuperPuts
+pub mod Ending
+pub mod Formats

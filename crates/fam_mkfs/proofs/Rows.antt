@@ -1,0 +1,73 @@
+-- Rows of operations, joined.
+use Rattle.std.proofs.Common.{ℕ, ◌≡◌, List, [], ◌∷◌, ◌++◌, Option, Some, refl, sym, ap, subst, ◌∙◌, append_assoc}
+use Rattle.fam_base.specs.Image.{Image}
+use Rattle.fam_machine.specs.declared.op.Op.{Op}
+use Rattle.fam_machine.specs.Caches.{Cache}
+use Rattle.fam_machine.specs.Operations.{Machine, failed, operated_all}
+use Rattle.fam_machine.proofs.LinePuts.{operated_all-append}
+use Rattle.fam_mkfs.specs.Runs.{Seen, Passes, Breaks, machine}
+
+-- what a row leaves, as a machine
+left_by : (ops : List Op) (before now : Seen) (image : Image) → Passes ops before now → before.told ≡ Some image → machine (operated_all ops (machine image before.lines)).image now.lines ≡ operated_all ops (machine image before.lines)
+left_by ops before now image p is = ap (machine (operated_all ops (machine image before.lines)).image) (p.lines image is)
+
+-- nothing was done
+pub passes_none : (told : Option Image) (lines : Cache) → Passes [] (record { told = told; lines = lines }) (record { told = told; lines = lines })
+passes_none told lines = record { image = λ image is. is; lines = λ image is. refl }
+
+-- one row, and then another
+pub passes_both : (a b : List Op) (s t u : Seen) → Passes a s t → Passes b t u → Passes (a ++ b) s u
+passes_both a b s t u p q =
+    let joined = λ (image : Image) (is : s.told ≡ Some image). ap (operated_all b) (left_by a s t image p is) ∙ sym (operated_all-append a b (machine image s.lines)) in
+    record {
+      image = λ image is. q.image _ (p.image image is) ∙ ap (λ (m : Machine). Some m.image) (joined image is);
+      lines = λ image is. q.lines _ (p.image image is) ∙ ap (λ (m : Machine). m.cache) (joined image is);
+    }
+
+-- the first of two rows breaks
+pub breaks_first : (a b : List Op) (line : ℕ) (s t : Seen) → Breaks a line s t → Breaks (a ++ b) line s t
+breaks_first a b line s t broken = record {
+  fails = λ image is.
+      let f = broken.fails image is in
+      record {
+        done = f.done;
+        op = f.op;
+        rest = f.rest ++ b;
+        split = ap (λ (ops : List Op). ops ++ b) f.split ∙ append_assoc f.done (f.op ∷ f.rest) b;
+        at = f.at;
+        through = f.through;
+        fits = f.fits;
+        image = f.image;
+        left = f.left;
+        told = f.told;
+        lines = f.lines;
+      };
+}
+
+-- the second one breaks
+pub breaks_second : (a b : List Op) (line : ℕ) (s t u : Seen) → Passes a s t → Breaks b line t u → Breaks (a ++ b) line s u
+breaks_second a b line s t u p broken = record {
+  fails = λ image is.
+      let f = broken.fails _ (p.image image is) in
+      let joined = ap (operated_all f.done) (left_by a s t image p is) ∙ sym (operated_all-append a f.done (machine image s.lines)) in
+      record {
+        done = a ++ f.done;
+        op = f.op;
+        rest = f.rest;
+        split = ap (λ (ops : List Op). a ++ ops) f.split ∙ sym (append_assoc a f.done (f.op ∷ f.rest));
+        at = f.at;
+        through = f.through;
+        fits = f.fits;
+        image = f.image;
+        left = ap (failed f.through f.op) (sym joined) ∙ f.left;
+        told = f.told;
+        lines = f.lines ∙ ap (λ (m : Machine). m.cache) joined;
+      };
+}
+
+-- the same operations
+pub passes_as : (a b : List Op) (s t : Seen) → a ≡ b → Passes a s t → Passes b s t
+passes_as a b s t is p = subst (λ (ops : List Op). Passes ops s t) is p
+
+pub breaks_as : (a b : List Op) (line : ℕ) (s t : Seen) → a ≡ b → Breaks a line s t → Breaks b line s t
+breaks_as a b line s t is broken = subst (λ (ops : List Op). Breaks ops line s t) is broken

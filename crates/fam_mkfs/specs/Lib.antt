@@ -1,0 +1,5 @@
+pub mod Mkfs
+pub mod Runs
+pub mod Ends
+pub mod Parts
+pub mod Whole

@@ -1,0 +1,28 @@
+-- What the parts of making a file system promise.
+use Rattle.std.specs.Prelude.{ℕ, ◌≡◌, ◌≢◌, Bool, false, List, Result, Ok}
+use Rattle.fam_base.specs.declared.entry.Params.{Params}
+use Rattle.fam_format.specs.declared.faults.SuperFault.{SuperFault}
+use Rattle.fam_format.specs.Layout.{gate_line, log_line}
+use Rattle.fam_machine.specs.Caches.{Cache, cell_at}
+use Rattle.fam_machine.specs.OneLine.{IsHeld}
+
+-- lines 0, 1 and 2 are held
+pub record HeldLines (cache : Cache) : Type 0 where
+  pub magic : IsHeld (cell_at cache 0)
+  pub front : IsHeld (cell_at cache 1)
+  pub rest : IsHeld (cell_at cache 2)
+
+-- a superblock with this UUID was found, and it isn't to be written over
+pub record Stands (force : Bool) (found : Result Params SuperFault) (id : List ℕ) : Type 0 where
+  pub unforced : force ≡ false
+  pub other : Params
+  pub reads : found ≡ Ok other
+  pub named : id ≡ other.fs
+
+-- a line that making a file system has nothing to do with
+pub record IsElsewhere (line : ℕ) : Type 0 where
+  pub magic : line ≢ 0
+  pub front : line ≢ 1
+  pub rest : line ≢ 2
+  pub log : line ≢ log_line
+  pub gate : line ≢ gate_line

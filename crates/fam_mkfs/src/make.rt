@@ -1,0 +1,220 @@
+//! Making a file system: what is refused, what is read, and what is written.
+
+ghost use Rattle.std.specs.Prelude.{◌≡◌, ◌*◌, ◌+◌, ◌≤◌, ◌<◌, IfOk, IfErr, IfSome, OnOk, OnErr, Some, None, Ok, true, ℕ};
+ghost use Rattle.fam_base.specs.Image.{Image, line_at};
+ghost use Rattle.fam_format.specs.Layout.{least_lines};
+ghost use Rattle.fam_format.specs.Reading.{super_in};
+ghost use Rattle.fam_machine.specs.Caches.{cell_at};
+ghost use Rattle.fam_machine.specs.Operations.{operated_all};
+ghost use Rattle.fam_rules.specs.Place.{line_bytes};
+ghost use Rattle.fam_mkfs.specs.Mkfs as spec;
+ghost use Rattle.fam_mkfs.specs.Ends.{Ends};
+ghost use Rattle.fam_mkfs.specs.Parts.{HeldLines, IsElsewhere, Stands};
+ghost use Rattle.fam_mkfs.specs.Runs.{Breaks, Leaves, Passes, machine, seen};
+
+use crate::lines::{FailedAt, read_line, write_line};
+use fam_base::{Line, LineNo, OutOfMemory, Params};
+use fam_cache::HostCache;
+use fam_entry::spell_log;
+use fam_format::{GATE_LINE, LOG_LINE, LOG_OFFSET};
+use fam_media::Media;
+use fam_super::{Super, is_unit, read_super};
+use uuid::Uuid;
+
+/// Bytes of a line.
+const LINE_BYTES: u64 = 64;
+
+/// The most bytes of a log.
+const LOG_LIMIT: u64 = 67_108_864;
+
+/// Bytes of a slot of the log.
+const SLOT_BYTES: u64 = 512;
+
+/// How many lines are brought: 0, 1 and 2, the gate's, the log's first one, and 0 again.
+const ROOM: u64 = 6;
+
+/// How making a file system ended.
+#[derive(Clone, Copy, Debug, PartialEq, Eq)]
+pub enum MkfsEnd {
+    /// A file system with these parameters stands on the media.
+    Made(Params),
+    /// No unit, or no length of a log with this unit. Nothing was done.
+    BadGeometry { unit: u64, log: u64 },
+    /// The device has fewer bytes than are needed. Nothing was done.
+    TooSmall { need: u64, have: u64 },
+    /// A file system with this UUID stands there already. Lines 0, 1 and 2 were read, and nothing else was done.
+    HasSuper(Uuid),
+    /// The media failed at this line. The operations before were done.
+    Failed(LineNo),
+}
+
+/// Whether a file system can have this unit and a log of so many bytes.
+fn is_geometry(unit: u64, log: u64) -> bool
+    ensures { result ≡ spec.is_geometry unit log }
+{
+    is_unit(unit) && log > 0 && log % unit == 0 && log <= LOG_LIMIT
+}
+
+/// What is refused before anything is done, on a device of so many bytes.
+fn refusal(unit: u64, log: u64, have: u64) -> Option<MkfsEnd>
+    ensures { result ≡ spec.refusal unit log have }
+{
+    if !is_geometry(unit, log) {
+        return Some(MkfsEnd::BadGeometry { unit, log });
+    }
+    let need = LOG_OFFSET + log + unit;
+    if have < need {
+        return Some(MkfsEnd::TooSmall { need, have });
+    }
+    None
+}
+
+/// Lines 0, 1 and 2.
+fn read_super_lines<M: Media>(cache: &mut HostCache, media: &mut M) -> Result<[Line; 3], FailedAt>
+    requires within { 2 < M.size media.old }
+    requires room { 3 ≤ cache.old.spare }
+
+    ensures passes { OnOk result (Passes spec.read_ops
+        (seen (M.image media.old) cache.old.lines) (seen (M.image media.new) cache.new.lines)) }
+    ensures breaks { IfErr result (λ at. Breaks spec.read_ops at.0.0
+        (seen (M.image media.old) cache.old.lines) (seen (M.image media.new) cache.new.lines)) }
+    ensures found { IfOk result (λ lines. (image : Image) → M.image media.old ≡ Some image
+        → (have : ℕ) → super_in (line_at lines) have
+        ≡ super_in (line_at (operated_all spec.read_ops (machine image cache.old.lines)).image) have) }
+    ensures held { OnOk result (HeldLines cache.new.lines) }
+    ensures others { (line : ℕ) → IsElsewhere line
+        → cell_at cache.new.lines line ≡ cell_at cache.old.lines line }
+    ensures spare { OnOk result (cache.old.spare ≤ cache.new.spare + 3) }
+    ensures leaves { Leaves (M.size media.old) (M.size media.new)
+        (M.faults media.old) (M.faults media.new) result }
+{
+    let magic = read_line(cache, media, LineNo(0))?;
+    let first = read_line(cache, media, LineNo(1))?;
+    let second = read_line(cache, media, LineNo(2))?;
+    Ok([magic, first, second])
+}
+
+/// The UUID of a file system that stands there and isn't to be written over.
+fn standing(lines: &[Line; 3], have: u64, force: bool) -> Option<Uuid>
+    ensures none { result ≡ None → spec.goes_on force (super_in (line_at lines.now) have) ≡ true }
+    ensures some { IfSome result (λ id. Stands force (super_in (line_at lines.now) have) id) }
+{
+    if force {
+        return None;
+    }
+    match read_super(lines, have) {
+        Ok(found) => Some(found.fs),
+        Err(_) => None,
+    }
+}
+
+/// Writes superblock, header and gate. Line 0 is cleared first, and has the magic last.
+fn write_super<M: Media>(
+    cache: &mut HostCache,
+    media: &mut M,
+    params: &Params,
+) -> Result<(), FailedAt>
+    requires within { least_lines ≤ M.size media.old }
+    requires held { HeldLines cache.old.lines }
+    requires room { 3 ≤ cache.old.spare }
+
+    ensures passes { OnOk result (Passes (spec.write_ops params.now)
+        (seen (M.image media.old) cache.old.lines) (seen (M.image media.new) cache.new.lines)) }
+    ensures breaks { IfErr result (λ at. Breaks (spec.write_ops params.now) at.0.0
+        (seen (M.image media.old) cache.old.lines) (seen (M.image media.new) cache.new.lines)) }
+    ensures others { (line : ℕ) → IsElsewhere line
+        → cell_at cache.new.lines line ≡ cell_at cache.old.lines line }
+    ensures leaves { Leaves (M.size media.old) (M.size media.new)
+        (M.faults media.old) (M.faults media.new) result }
+{
+    let [magic, first, second] = Super::spell(params);
+    let header = spell_log(params);
+    write_line(cache, media, LineNo(0), &[0; 8])?;
+    write_line(cache, media, LineNo(GATE_LINE), &[0; 8])?;
+    write_line(cache, media, LineNo(LOG_LINE), &header)?;
+    write_line(cache, media, LineNo(1), &first)?;
+    write_line(cache, media, LineNo(2), &second)?;
+    write_line(cache, media, LineNo(0), &magic)?;
+    Ok(())
+}
+
+/// Reads lines 0, 1 and 2, and makes a file system where none stands in the way.
+fn make<M: Media>(cache: &mut HostCache, media: &mut M, params: &Params, force: bool) -> MkfsEnd
+    requires within { least_lines ≤ M.size media.old }
+    requires room { 6 ≤ cache.old.spare }
+
+    ensures ends { Ends params.now force (M.size media.old)
+        (seen (M.image media.old) cache.old.lines) (seen (M.image media.new) cache.new.lines)
+        (M.faults media.old) (M.faults media.new) result }
+    ensures others { (line : ℕ) → IsElsewhere line
+        → cell_at cache.new.lines line ≡ cell_at cache.old.lines line }
+    ensures size { M.size media.new ≡ M.size media.old }
+    ensures later { M.faults media.old ≤ M.faults media.new }
+{
+    let lines = match read_super_lines(cache, media) {
+        Ok(lines) => lines,
+        Err(FailedAt(line)) => return MkfsEnd::Failed(line),
+    };
+    if let Some(id) = standing(&lines, params.device, force) {
+        return MkfsEnd::HasSuper(id);
+    }
+    match write_super(cache, media, params) {
+        Ok(()) => MkfsEnd::Made(*params),
+        Err(FailedAt(line)) => MkfsEnd::Failed(line),
+    }
+}
+
+/// Makes a file system of this unit and log, with the UUIDs `fs` and of its maker `me`, through the maker's cache.
+/// The device is the whole media. What stands there is written over where `force` says so.
+///
+/// `BadGeometry` and `TooSmall` come before anything else. Room for six lines is taken then, so want of memory
+/// changes no line. The clauses hold for any cache; where it holds no line, `a_file_system_is_made` says what the
+/// operations leave in memory.
+pub fn mkfs<M: Media>(
+    cache: &mut HostCache,
+    media: &mut M,
+    unit: u64,
+    log: u64,
+    fs: Uuid,
+    me: Uuid,
+    force: bool,
+) -> Result<MkfsEnd, OutOfMemory>
+    // What is refused at once comes whatever the media and the memory do, and nothing is done.
+    ensures refused { (end : MkfsEnd) → spec.refusal unit log (line_bytes * M.size media.old) ≡ Some end
+        → result ≡ Ok end }
+    ensures untouched { (end : MkfsEnd) → spec.refusal unit log (line_bytes * M.size media.old) ≡ Some end
+        → media.new ≡ media.old }
+    ensures unchanged { (end : MkfsEnd) → spec.refusal unit log (line_bytes * M.size media.old) ≡ Some end
+        → cache.new ≡ cache.old }
+
+    ensures ends { spec.refusal unit log (line_bytes * M.size media.old) ≡ None → IfOk result
+        (Ends (spec.asked unit log fs me (M.size media.old)) force (M.size media.old)
+        (seen (M.image media.old) cache.old.lines) (seen (M.image media.new) cache.new.lines)
+        (M.faults media.old) (M.faults media.new)) }
+
+    // The cache has of every other line what it had, also where nothing is told.
+    ensures others { (line : ℕ) → IsElsewhere line
+        → cell_at cache.new.lines line ≡ cell_at cache.old.lines line }
+
+    // Want of memory: nothing was done.
+    ensures undone { OnErr result (media.new ≡ media.old) }
+    ensures kept { OnErr result (cache.new ≡ cache.old) }
+
+    ensures size { M.size media.new ≡ M.size media.old }
+    ensures later { M.faults media.old ≤ M.faults media.new }
+{
+    let have = LINE_BYTES * media.lines();
+    if let Some(end) = refusal(unit, log, have) {
+        return Ok(end);
+    }
+    cache.reserve(ROOM)?;
+    let params = Params {
+        log_length: log,
+        slots: log / SLOT_BYTES - 1,
+        unit,
+        device: have,
+        fs,
+        master: me,
+    };
+    Ok(make(cache, media, &params, force))
+}

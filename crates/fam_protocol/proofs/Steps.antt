@@ -1,0 +1,202 @@
+-- Every step of a run keeps what holds, and says what it may.
+use Rattle.std.proofs.Common.{ℕ, ◌*◌, ◌≡◌, ◌≢◌, inl, inr, List, refl, sym, ◌∙◌, ap, subst}
+use Rattle.std.proofs.Math.Path.{fun_ext}
+use Rattle.std.specs.Prelude.{Option, Some, None, unwrap_or}
+use Rattle.fam_base.specs.declared.entry.Params.{Params}
+use Rattle.fam_format.specs.Reading.{Lines}
+use Rattle.fam_machine.specs.declared.cell.Cell.TheVariants.{Absent}
+use Rattle.fam_machine.specs.declared.op.Op.{Op}
+use Rattle.fam_machine.specs.declared.op.Op.TheVariants.{Load, Store, WriteBack, Invalidate, Digest}
+use Rattle.fam_machine.specs.declared.op.Place.{Place}
+use Rattle.fam_machine.specs.declared.op.Place.TheVariants as at
+use Rattle.fam_machine.specs.Stands.{given_by, turn_given}
+use Rattle.fam_machine.specs.Task.{Task, op_at, op_of}
+use Rattle.fam_machine.specs.Turns.{Turn, Goes, Marks, Finds, Writes, Ends, turn_at}
+use Rattle.fam_rules.specs.Asks.{File}
+use Rattle.fam_rules.specs.Place.{line_bytes}
+use Rattle.fam_protocol.specs.Seen.{Seen, DriftsAt, Operates}
+use Rattle.fam_protocol.specs.Core.{System, IsWide}
+use Rattle.fam_protocol.specs.Tasks.{TaskHolds}
+use Rattle.fam_protocol.specs.After.{After, GoesOn, MaySay, floor_after, list_after, settled_after}
+use Rattle.fam_protocol.specs.Bad.{BadTaskHolds, GoesOnBad, MaySayBad}
+use Rattle.fam_protocol.specs.Way.{AreHosts, Hosts, IsDamaged, IsKnown, Run, Settled, Small, Damaged, Known, Stage, Way}
+use Rattle.fam_protocol.specs.Steps.{StepHolds, Steps, run_after}
+use Rattle.fam_protocol.proofs.BadMoves.{still_kept, bad_task_kept}
+use Rattle.fam_protocol.proofs.BadSteps.{bad_others, bad_turn}
+use Rattle.fam_protocol.proofs.Drifting.{drift_task}
+use Rattle.fam_protocol.proofs.Free.{Same, core_kept, dirty_was, memory_still, same, wide_now}
+use Rattle.fam_protocol.proofs.Gives.{gives}
+use Rattle.fam_protocol.proofs.Keeping.{task_kept}
+use Rattle.fam_protocol.proofs.Resettle.{task_resettled}
+use Rattle.fam_protocol.proofs.Turned.{turned}
+
+-- the turn doesn't ask for a word where the operation gave none
+pub given_turn : (p : Place) (t : Task) (word : ℕ) → t.place ≡ p → turn_given t word ≡ turn_at t.place t word
+given_turn p t word is =
+    ap (λ (q : Place). turn_at t.place t (unwrap_or (given_by (op_at t q) word) 0)) is ∙ ap (λ (q : Place). turn_at q t (unwrap_or (given_by (op_at t p) word) 0)) is ∙ by_place p ∙ sym (ap (λ (q : Place). turn_at q t word) is)
+  where
+    by_place : (p : Place) → turn_at p t (unwrap_or (given_by (op_at t p) word) 0) ≡ turn_at p t word
+    by_place at.DropMagic = refl
+    by_place at.Magic = refl
+    by_place (at.Drop part j) = refl
+    by_place (at.Word part j k) = refl
+    by_place at.DropGate = refl
+    by_place at.Gate = refl
+    by_place (at.Check i) = refl
+    by_place at.Decide = refl
+    by_place (at.StoreData j k) = refl
+    by_place (at.SendData j) = refl
+    by_place (at.StoreSlot j k) = refl
+    by_place (at.SendSlot j) = refl
+    by_place at.StoreGate = refl
+    by_place at.SendGate = refl
+
+-- an operation leaves other hosts' caches
+pub other_caches : (op : Op) (host : ℕ) (s s' : Seen) (word h l : ℕ) → h ≢ host → Operates op host s s' word → s'.copy h l ≡ s.copy h l
+other_caches (Load line k) host s s' word h l ne left = left.0.only.hosts h l ne
+other_caches (Store line k value) host s s' word h l ne left = left.only.hosts h l ne
+other_caches (WriteBack line) host s s' word h l ne left = left.only.hosts h l ne
+other_caches (Invalidate line) host s s' word h l ne left = left.only.hosts h l ne
+other_caches Digest host s s' word h l ne same = ap (λ (x : Seen). x.copy h l) same
+
+-- the same hosts, by their UUIDs
+hosts_are : (settled : Settled) (lines : ℕ) (old new : Hosts) (s : Seen) → ((h : ℕ) → new.uuid h ≡ old.uuid h) → Way settled lines (record { uuid = old.uuid; run = new.run }) s → Way settled lines new s
+hosts_are settled lines old new s uuids way = subst (λ (u : ℕ → Option (List ℕ)). Way settled lines (record { uuid = u; run = new.run }) s) (sym (fun_ext uuids)) way
+
+some_run : {a b : Run} → Some a ≡ Some b → a ≡ b
+some_run e = cc
+
+no_run : {a : Run} → None ≡ Some a → ⊥
+no_run e = absurd cc
+
+-- A cache's own move.
+module _ (lines : ℕ) (hosts : Hosts) (host line : ℕ) (s s' : Seen) (drift : DriftsAt host line s s') (declared : hosts.uuid host ≢ None) where
+  drift_hosts : AreHosts hosts s → AreHosts hosts s'
+  drift_hosts are = record { apart = are.apart; absent = λ h l none. absent h l none (same h host); idle = are.idle }
+    where
+      absent : (h l : ℕ) → hosts.uuid h ≡ None → Same h host → s'.copy h l ≡ Absent
+      absent h l none (inl e) = absurd (declared (ap hosts.uuid (sym e) ∙ none))
+      absent h l none (inr ne) = drift.only.hosts h l ne ∙ are.absent h l none
+
+  drift_stage : (settled : Settled) → IsWide s → Stage settled lines hosts s → Stage settled lines hosts s'
+  drift_stage (Small image) wide is = record { memory = λ l. memory_still host line s s' drift wide l (is.clean host l) ∙ is.memory l; few = is.few; idle = is.idle; clean = λ h l d. is.clean h l (dirty_was host line s s' drift wide h l d) }
+  drift_stage (Damaged image) wide is = record {
+    enough = is.enough;
+    still = still_kept image (line_bytes * lines) host line s s' drift is.still;
+    tasks = λ h r run. bad_task_kept image (line_bytes * lines) host line s s' drift is.still hosts.uuid h r.task (is.tasks h r run);
+  }
+  drift_stage (Known p all settled) wide is =
+      let sys : System = record { params = p; have = line_bytes * lines; uuid = hosts.uuid; master = is.master } in
+      record {
+        enough = is.enough;
+        master = is.master;
+        core = core_kept host line s s' drift is.core.wide sys all settled is.core;
+        tasks = λ h r run. drift_task sys s s' all settled is.core host line drift h r.floor r.task (is.tasks h r run);
+      }
+
+  -- a cache's own move keeps everything
+  pub way_drifted : (settled : Settled) → Way settled lines hosts s → Way settled lines hosts s'
+  way_drifted settled way = record { declared = drift_hosts way.declared; wide = wide_now host line s s' drift way.wide; stage = drift_stage settled way.wide way.stage }
+
+-- A task's own step.
+module _ (lines host word : ℕ) (r : Run) (old new : Hosts) (s s' : Seen) where
+  turn : Turn
+  turn = turn_at r.task.place r.task word
+
+  -- on a damaged image
+  module _ (image : Lines) (is : IsDamaged image lines old s) (steps : Steps host word (Damaged image) r old new s s') where
+    bad_mine : (t : Turn) (settled : ℕ) (q : Run) → run_after t settled r.floor ≡ Some q → GoesOnBad t image (line_bytes * lines) old.uuid host s' → BadTaskHolds image (line_bytes * lines) old.uuid host q.task s'
+    bad_mine (Goes t) settled q e on = subst (λ (x : Run). BadTaskHolds image (line_bytes * lines) old.uuid host x.task s') (some_run e) on
+    bad_mine (Marks t) settled q e on = subst (λ (x : Run). BadTaskHolds image (line_bytes * lines) old.uuid host x.task s') (some_run e) on
+    bad_mine (Finds n t) settled q e on = subst (λ (x : Run). BadTaskHolds image (line_bytes * lines) old.uuid host x.task s') (some_run e) on
+    bad_mine (Writes seq e' t) settled q e on = absurd on
+    bad_mine (Ends reply) settled q e on = absurd (no_run e)
+
+    bad_step : (MaySayBad turn image (line_bytes * lines) r.task) × IsDamaged image lines (record { uuid = old.uuid; run = new.run }) s'
+    unfolding turn
+    bad_step =
+        let holds = is.tasks host r steps.is in
+        let b = bad_turn image (line_bytes * lines) old.uuid host s s' word r.task is.still holds steps.operates in
+        (b.0, record { enough = is.enough; still = b.1; tasks = λ h q run. task h q run (same h host) })
+      where
+        task : (h : ℕ) (q : Run) → new.run h ≡ Some q → Same h host → BadTaskHolds image (line_bytes * lines) old.uuid h q.task s'
+        task h q run (inl e) =
+            let b = bad_turn image (line_bytes * lines) old.uuid host s s' word r.task is.still (is.tasks host r steps.is) steps.operates in
+            subst (λ x. BadTaskHolds image (line_bytes * lines) old.uuid x q.task s') (sym e)
+            (bad_mine (turn_at r.task.place r.task word) 0 q
+            (ap (λ (t : Turn). run_after t 0 r.floor) (sym (given_turn r.task.place r.task word refl)) ∙ sym steps.mine ∙ subst (λ x. new.run x ≡ Some q) e run) b.2)
+        task h q run (inr ne) = bad_others image (line_bytes * lines) old.uuid host s s' word r.task is.still (is.tasks host r steps.is) steps.operates h q.task (is.tasks h q (sym (steps.runs h ne) ∙ run))
+
+  -- on a sound file system
+  module _ (p : Params) (all : List File) (settled : ℕ) (is : IsKnown p all settled lines old s) (steps : Steps host word (Known p all settled) r old new s s') where
+    sys : System
+    sys = record { params = p; have = line_bytes * lines; uuid = old.uuid; master = is.master }
+
+    known_mine : (t : Turn) (q : Run) (all' : List File) (settled' : ℕ) → run_after t settled r.floor ≡ Some q → GoesOn t sys host (floor_after t settled r.floor) s' all' settled' → TaskHolds sys host q.floor q.task s' all' settled'
+    known_mine (Goes t) q all' settled' e on = subst (λ (x : Run). TaskHolds sys host x.floor x.task s' all' settled') (some_run e) on
+    known_mine (Marks t) q all' settled' e on = subst (λ (x : Run). TaskHolds sys host x.floor x.task s' all' settled') (some_run e) on
+    known_mine (Finds n t) q all' settled' e on = subst (λ (x : Run). TaskHolds sys host x.floor x.task s' all' settled') (some_run e) on
+    known_mine (Writes seq e' t) q all' settled' e on = subst (λ (x : Run). TaskHolds sys host x.floor x.task s' all' settled') (some_run e) on
+    known_mine (Ends reply) q all' settled' e on = absurd (no_run e)
+
+    after : After turn sys host r.floor r.task s' all settled
+    unfolding turn sys
+    after =
+        let holds = is.tasks host r steps.is in
+        let g = gives sys s s' all settled is.core host r.floor word r.task r.task.place holds.place steps.operates in
+        turned sys host r.floor s' all settled g.core r.task.place r.task word holds.command holds.me holds.lines g.given
+
+    known_step : IsKnown p (list_after turn all) (settled_after turn settled) lines (record { uuid = old.uuid; run = new.run }) s'
+    unfolding turn sys
+    known_step = record { enough = is.enough; master = is.master; core = after.core; tasks = λ h q run. task h q run (same h host) }
+      where
+        task : (h : ℕ) (q : Run) → new.run h ≡ Some q → Same h host
+            → TaskHolds (record { params = p; have = line_bytes * lines; uuid = old.uuid; master = is.master }) h q.floor q.task s' (list_after (turn_at r.task.place r.task word) all) (settled_after (turn_at r.task.place r.task word) settled)
+        task h q run (inl e) =
+            subst (λ x. TaskHolds sys x q.floor q.task s' (list_after turn all) (settled_after turn settled)) (sym e)
+            (known_mine turn q (list_after turn all) (settled_after turn settled)
+            (ap (λ (t : Turn). run_after t settled r.floor) (sym (given_turn r.task.place r.task word refl)) ∙ sym steps.mine ∙ subst (λ x. new.run x ≡ Some q) e run) after.task)
+        task h q run (inr ne) =
+            let holds = is.tasks host r steps.is in
+            let g = gives sys s s' all settled is.core host r.floor word r.task r.task.place holds.place steps.operates in
+            task_resettled sys s' all settled g.core host h q.floor q.task (list_after turn all) (settled_after turn settled) ne after.change
+            (task_kept sys s s' all settled is.core h q.floor (g.others h ne) q.task (is.tasks h q (sym (steps.runs h ne) ∙ run)))
+
+step_hosts : (host word : ℕ) (settled : Settled) (r : Run) (old new : Hosts) (s s' : Seen) → Steps host word settled r old new s s' → AreHosts old s → AreHosts (record { uuid = old.uuid; run = new.run }) s'
+step_hosts host word settled r old new s s' steps are = record { apart = are.apart; absent = λ h l none. absent h l none (same h host); idle = λ h none. idle h none (same h host) }
+  where
+    running : old.uuid host ≡ None → ⊥
+    running none = no_run (sym (are.idle host none) ∙ steps.is)
+
+    absent : (h l : ℕ) → old.uuid h ≡ None → Same h host → s'.copy h l ≡ Absent
+    absent h l none (inl e) = absurd (running (ap old.uuid (sym e) ∙ none))
+    absent h l none (inr ne) = other_caches (op_of r.task) host s s' word h l ne steps.operates ∙ are.absent h l none
+
+    idle : (h : ℕ) → old.uuid h ≡ None → Same h host → new.run h ≡ None
+    idle h none (inl e) = absurd (running (ap old.uuid (sym e) ∙ none))
+    idle h none (inr ne) = steps.runs h ne ∙ are.idle h none
+
+-- a task's step says what it may, and keeps everything
+pub way_stepped : (lines host word : ℕ) (settled : Settled) (r : Run) (old new : Hosts) (s s' : Seen) → Way settled lines old s → Steps host word settled r old new s s' → StepHolds settled lines word r old new s'
+unfolding turn sys
+way_stepped lines host word settled r old new s s' way steps = go settled way.stage steps
+  where
+    turn_is : turn_given r.task word ≡ turn_at r.task.place r.task word
+    turn_is = given_turn r.task.place r.task word refl
+
+    go : (x : Settled) → Stage x lines old s → Steps host word x r old new s s' → StepHolds x lines word r old new s'
+    go (Small image) is steps = absurd (no_run (sym (is.idle host) ∙ steps.is))
+    go (Damaged image) is steps =
+        let b = bad_step lines host word r old new s s' image is steps in
+        record {
+          says = subst (λ (x : Turn). MaySayBad x image (line_bytes * lines) r.task) (sym turn_is) b.0;
+          way = hosts_are (Damaged image) lines old new s' steps.uuids (record { declared = step_hosts host word (Damaged image) r old new s s' steps way.declared; wide = b.1.still.wide; stage = b.1 });
+        }
+    go (Known p all n) is steps =
+        let a = after lines host word r old new s s' p all n is steps in
+        let k = known_step lines host word r old new s s' p all n is steps in
+        record {
+          says = record { master = is.master; may = subst (λ (x : Turn). MaySay x (record { params = p; have = line_bytes * lines; uuid = old.uuid; master = is.master }) r.task r.floor all n) (sym turn_is) a.may };
+          way = subst (λ (x : Turn). Way (Known p (list_after x all) (settled_after x n)) lines new s') (sym turn_is)
+              (hosts_are _ lines old new s' steps.uuids (record { declared = step_hosts host word (Known p all n) r old new s s' steps way.declared; wide = a.core.wide; stage = k }));
+        }

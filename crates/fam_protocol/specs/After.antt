@@ -1,0 +1,183 @@
+-- What a turn of a task says about the history, what it may say, and what holds after it. docs/MODEL.md, "The protocol".
+use Rattle.std.specs.Prelude.{ℕ, ⊤, ◌≡◌, ◌≢◌, ◌⊎◌, ◌+◌, ◌-◌, ◌≤◌, max, List, [], ◌∷◌, ◌++◌, length, take, count_by, slice_get, Some, None, Ok, Err}
+use Rattle.fam_base.specs.declared.entry.Params.{Params}
+use Rattle.fam_base.specs.declared.entry.Entry.{Entry}
+use Rattle.fam_format.specs.Layout.{device_units, gate_line}
+use Rattle.fam_machine.specs.Task.{Task, content_of}
+use Rattle.fam_machine.specs.Turns.{Turn, Goes, Marks, Finds, Writes, Ends}
+use Rattle.fam_rules.specs.declared.answers.Refused.{Refused}
+use Rattle.fam_rules.specs.declared.answers.Refused.TheVariants as refused
+use Rattle.fam_rules.specs.declared.answers.Report.{Report}
+use Rattle.fam_rules.specs.declared.answers.SuperState.TheVariants as superblock
+use Rattle.fam_rules.specs.declared.answers.LogState.{LogState}
+use Rattle.fam_rules.specs.declared.answers.LogState.TheVariants as log
+use Rattle.fam_rules.specs.Asks.{File, entries_of, ask}
+use Rattle.fam_rules.specs.Content.{fill}
+use Rattle.fam_rules.specs.Decide.{decide}
+use Rattle.fam_rules.specs.Reply.{Reply, Appended, NotAppended, Played, Same, Differs, Length, Bytes, NotFound, IsDirectory, Checks, Reports, NoSuperblock, BadHeader, BadSlot}
+use Rattle.fam_rules.specs.Reports.{is_file, is_directory, used_count}
+use Rattle.fam_protocol.specs.Seen.{Seen}
+use Rattle.fam_protocol.specs.Lines.{gate_of}
+use Rattle.fam_protocol.specs.Core.{System, Core, top_of}
+use Rattle.fam_protocol.specs.Tasks.{TaskHolds}
+
+-- What a turn changes.
+
+-- the entry that a task names, with the bytes of its command
+abbrev pub new_file : Task → Entry → File
+new_file t e = record { entry = e; bytes = fill (content_of t.cmd) e.size }
+
+-- the history with the pending entry
+abbrev pub list_after : Turn → List File → List File
+list_after (Finds n t) all = take n all
+list_after (Writes seq e t) all = all ++ new_file t e ∷ []
+list_after (Goes t) all = all
+list_after (Marks t) all = all
+list_after (Ends reply) all = all
+
+-- how many entries the log of a report holds
+abbrev pub read_by_log : LogState → ℕ
+read_by_log (log.Sound entries slots) = entries
+read_by_log (log.BadLog field found wanted) = 0
+read_by_log log.Unread = 0
+
+-- how many entries a reply shows to be in the history
+abbrev pub shown_by : Reply → ℕ
+shown_by (Appended seq) = seq + 1
+shown_by (NotAppended refused) = 0
+shown_by (Played m tree) = m
+shown_by (Same m) = m
+shown_by (Differs m offset found wanted) = m
+shown_by (Length m size wanted) = m
+shown_by (Bytes m bytes) = m
+shown_by (NotFound m) = m
+shown_by (IsDirectory m) = m
+shown_by (Checks m checked) = m
+shown_by (Reports report) = read_by_log report.log
+shown_by (NoSuperblock fault) = 0
+shown_by (BadHeader fault) = 0
+shown_by (BadSlot seq reason) = 0
+
+-- the history's length
+abbrev pub settled_after : Turn → ℕ → ℕ
+settled_after (Finds n t) settled = n
+settled_after (Ends reply) settled = max settled (shown_by reply)
+settled_after (Goes t) settled = settled
+settled_after (Marks t) settled = settled
+settled_after (Writes seq e t) settled = settled
+
+-- what was settled at the task's mark
+abbrev pub floor_after : Turn → ℕ → ℕ → ℕ
+floor_after (Marks t) settled floor = settled
+floor_after turn settled floor = floor
+
+-- What a turn may say.
+
+-- an answer on the first m entries: no fewer than were settled at the mark, and no more than there are
+pub record IsAsked (t : Task) (floor : ℕ) (all : List File) (reply : Reply) : Type 0 where
+  pub low : floor ≤ shown_by reply
+  pub high : shown_by reply ≤ length all
+  pub is : ask (take (shown_by reply) all) t.cmd ≡ Some reply
+
+-- a report on the first m entries, in the same bounds
+pub record IsReported (p : Params) (floor : ℕ) (all : List File) (report : Report) : Type 0 where
+  pub m : ℕ
+  pub low : floor ≤ m
+  pub high : m ≤ length all
+  pub superblock : report.superblock ≡ superblock.Sound
+  pub log : report.log ≡ log.Sound m p.slots
+  pub files : report.files ≡ count_by (λ e. is_file e.kind) (entries_of (take m all))
+  pub directories : report.directories ≡ count_by (λ e. is_directory e.kind) (entries_of (take m all))
+  pub used : report.used ≡ used_count p (entries_of (take m all))
+  pub free : report.free ≡ device_units p - used_count p (entries_of (take m all))
+  pub overlap : report.overlap ≡ None
+  pub bad : report.bad ≡ None
+  pub past : report.past ≤ p.slots - m
+
+-- a refusal on the whole history, with nothing pending
+pub record IsRefused (p : Params) (t : Task) (all : List File) (settled : ℕ) (r : Refused) : Type 0 where
+  pub settled_is : settled ≡ length all
+  pub is : decide p t.me (entries_of all) t.cmd ≡ Some (Err r)
+
+-- the host isn't the master
+pub record IsStranger (p : Params) (t : Task) (me master : List ℕ) : Type 0 where
+  pub me_is : me ≡ t.me
+  pub master_is : master ≡ p.master
+  pub other : me ≢ master
+
+abbrev pub MayRefuse : Refused → System → Task → List File → ℕ → Type 0
+MayRefuse (refused.NotMaster me master) sys t all settled = IsStranger sys.params t me master
+MayRefuse refused.BadStripe sys t all settled = IsRefused sys.params t all settled refused.BadStripe
+MayRefuse (refused.Exists kind) sys t all settled = IsRefused sys.params t all settled (refused.Exists kind)
+MayRefuse refused.NoParent sys t all settled = IsRefused sys.params t all settled refused.NoParent
+MayRefuse refused.ParentIsFile sys t all settled = IsRefused sys.params t all settled refused.ParentIsFile
+MayRefuse (refused.LogFull slots) sys t all settled = IsRefused sys.params t all settled (refused.LogFull slots)
+MayRefuse (refused.NoSpace units) sys t all settled = IsRefused sys.params t all settled (refused.NoSpace units)
+
+-- the entry that the task named is the last of all
+pub record IsAppended (t : Task) (all : List File) (seq : ℕ) : Type 0 where
+  pub count : length all ≡ seq + 1
+  pub file : File
+  pub last : slice_get all seq ≡ Some file
+  pub entry : t.entry ≡ Some file.entry
+
+abbrev pub MayReply : Reply → System → Task → ℕ → List File → ℕ → Type 0
+MayReply (Appended seq) sys t floor all settled = IsAppended t all seq
+MayReply (NotAppended r) sys t floor all settled = MayRefuse r sys t all settled
+MayReply (Reports report) sys t floor all settled = IsReported sys.params floor all report
+MayReply (NoSuperblock fault) sys t floor all settled = ⊥
+MayReply (BadHeader fault) sys t floor all settled = ⊥
+MayReply (BadSlot seq reason) sys t floor all settled = ⊥
+MayReply (Played m tree) sys t floor all settled = IsAsked t floor all (Played m tree)
+MayReply (Same m) sys t floor all settled = IsAsked t floor all (Same m)
+MayReply (Differs m offset found wanted) sys t floor all settled = IsAsked t floor all (Differs m offset found wanted)
+MayReply (Length m size wanted) sys t floor all settled = IsAsked t floor all (Length m size wanted)
+MayReply (Bytes m bytes) sys t floor all settled = IsAsked t floor all (Bytes m bytes)
+MayReply (NotFound m) sys t floor all settled = IsAsked t floor all (NotFound m)
+MayReply (IsDirectory m) sys t floor all settled = IsAsked t floor all (IsDirectory m)
+MayReply (Checks m checked) sys t floor all settled = IsAsked t floor all (Checks m checked)
+
+-- a note or an answer that the history before it allows
+abbrev pub MaySay : Turn → System → Task → ℕ → List File → ℕ → Type 0
+MaySay (Goes next) sys t floor all settled = ⊤
+MaySay (Marks next) sys t floor all settled = ⊤
+MaySay (Finds n next) sys t floor all settled = (n ≡ settled) ⊎ ((n ≡ settled + 1) × (n ≡ length all))
+MaySay (Writes seq e next) sys t floor all settled =
+    (seq ≡ settled) × (seq ≡ length all) × (decide sys.params t.me (entries_of all) t.cmd ≡ Some (Ok e))
+MaySay (Ends reply) sys t floor all settled = MayReply reply sys t floor all settled
+
+-- What holds after it.
+
+-- of the task itself, where it goes on
+abbrev pub GoesOn : Turn → System → ℕ → ℕ → Seen → List File → ℕ → Type 0
+GoesOn (Goes t) sys host floor s all settled = TaskHolds sys host floor t s all settled
+GoesOn (Marks t) sys host floor s all settled = TaskHolds sys host floor t s all settled
+GoesOn (Finds n t) sys host floor s all settled = TaskHolds sys host floor t s all settled
+GoesOn (Writes seq e t) sys host floor s all settled = TaskHolds sys host floor t s all settled
+GoesOn (Ends reply) sys host floor s all settled = ⊤
+
+-- the master drops the pending entry, takes it into the history or names a new one: nothing below the gate changes
+pub record Relists (sys : System) (s : Seen) (all : List File) (settled : ℕ) (all' : List File) (settled' : ℕ) : Type 0 where
+  pub up : settled ≤ settled'
+  pub low : settled' ≤ gate_of (s.memory gate_line)
+  pub high : top_of sys s ≤ length all'
+  pub near : length all' ≤ settled' + 1
+  pub alike : (i : ℕ) → i ≤ top_of sys s → take i all' ≡ take i all
+
+-- an answer shows entries, all of them published
+pub record Raises (s : Seen) (all : List File) (settled : ℕ) (all' : List File) (settled' : ℕ) : Type 0 where
+  pub same : all' ≡ all
+  pub m : ℕ
+  pub seen : m ≤ gate_of (s.memory gate_line)
+  pub is : settled' ≡ max settled m
+
+-- how the history changes: by the master, or by an answer
+abbrev pub Changes : System → ℕ → Seen → List File → ℕ → List File → ℕ → Type 0
+Changes sys host s all settled all' settled' =
+    ((sys.master ≡ Some host) × Relists sys s all settled all' settled') ⊎ Raises s all settled all' settled'
+
+pub record After (turn : Turn) (sys : System) (host floor : ℕ) (t : Task) (s : Seen) (all : List File) (settled : ℕ) : Type 0 where
+  pub may : MaySay turn sys t floor all settled
+  pub core : Core sys s (list_after turn all) (settled_after turn settled)
+  pub task : GoesOn turn sys host (floor_after turn settled floor) s (list_after turn all) (settled_after turn settled)
+  pub change : Changes sys host s all settled (list_after turn all) (settled_after turn settled)

@@ -1,0 +1,12 @@
+pub mod Seen
+pub mod Lines
+pub mod Core
+pub mod Tasks
+pub mod After
+pub mod Bad
+pub mod Way
+pub mod Events
+pub mod Steps
+pub mod Findings
+pub mod Refused
+pub mod Alone

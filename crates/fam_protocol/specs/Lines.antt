@@ -1,0 +1,39 @@
+-- What one host's copy of a line may be beside memory's words m. Every move of a cache keeps each of these.
+-- docs/MODEL.md, "The protocol".
+use Rattle.std.specs.Prelude.{ℕ, zero, suc, ⊤, ◌≡◌, ◌≤◌, List, take, slice_index}
+use Rattle.fam_machine.specs.declared.cell.Cell.{Cell}
+use Rattle.fam_machine.specs.declared.cell.Cell.TheVariants.{Absent, Clean, Dirty}
+
+-- it can't be stale: what the host reads there is memory's
+abbrev pub Fresh : List ℕ → Cell → Type 0
+Fresh m Absent = ⊤
+Fresh m (Clean words) = words ≡ m
+Fresh m (Dirty words) = ⊥
+
+-- the count of published entries, of the gate's line
+abbrev pub gate_of : List ℕ → ℕ
+gate_of words = slice_index words 0
+
+-- a copy of the gate's line that a reader may load: no older than its mark, and no newer than memory
+abbrev pub FreshGate : ℕ → List ℕ → Cell → Type 0
+FreshGate floor m Absent = ⊤
+FreshGate floor m (Clean words) = (floor ≤ gate_of words) × (gate_of words ≤ gate_of m)
+FreshGate floor m (Dirty words) = ⊥
+
+-- the larger of memory's gate and a dirty one
+abbrev pub top : List ℕ → Cell → ℕ
+top m Absent = gate_of m
+top m (Clean words) = gate_of m
+top m (Dirty words) = gate_of words
+
+-- a line that a writer is at: the first k words that it stored stand in its copy, or in memory where it has no
+-- other copy. Before its first store nothing is said: an old copy may be stale
+abbrev pub Holding : ℕ → List ℕ → List ℕ → Cell → Type 0
+Holding zero wanted m c = ⊤
+Holding (suc k) wanted m Absent = take (suc k) m ≡ take (suc k) wanted
+Holding (suc k) wanted m (Clean words) = (words ≡ m) × (take (suc k) m ≡ take (suc k) wanted)
+Holding (suc k) wanted m (Dirty words) = take (suc k) words ≡ take (suc k) wanted
+
+-- a line that a writer has finished: its words stand in memory, and the writer's copy is no other
+abbrev pub Finished : List ℕ → List ℕ → Cell → Type 0
+Finished wanted m c = (m ≡ wanted) × Fresh m c

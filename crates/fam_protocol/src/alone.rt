@@ -1,0 +1,63 @@
+//! A command that runs alone: one host with an empty cache, on an image that nobody else touches. Laws with empty
+//! bodies.
+
+ghost use Rattle.std.specs.Prelude.{◌≡◌, ◌≤◌, ◌+◌, ◌*◌, ℕ, List, length, map, Some, None};
+ghost use Rattle.fam_base.specs.declared.cmd.Cmd.{Cmd};
+ghost use Rattle.fam_base.specs.Image.{Image, eight};
+ghost use Rattle.fam_format.specs.Layout.{device_limit, least_lines};
+ghost use Rattle.fam_machine.specs.Counts.{steps_of};
+ghost use Rattle.fam_machine.specs.Operations.{Machine, failed, given, operated};
+ghost use Rattle.fam_machine.specs.Solo.{Came, IsInside, turn_on};
+ghost use Rattle.fam_machine.specs.Stands.{StandsFor, with_given};
+ghost use Rattle.fam_machine.specs.Task.{Task, op_of};
+ghost use Rattle.fam_machine.specs.Turns.{Ends};
+ghost use Rattle.fam_rules.specs.Alone.{alone_image, alone_reply};
+ghost use Rattle.fam_rules.specs.Decide.{wish_of};
+ghost use Rattle.fam_rules.specs.Place.{line_bytes};
+ghost use Rattle.fam_rules.specs.Reply.{Reply};
+ghost use Rattle.fam_protocol.specs.Alone.{IsBeforeWrites};
+ghost use Rattle.fam_protocol.specs.Tasks.{IsCommand};
+
+/// What a command answers is what the rules say of the image that it began with (`reply`), and memory is then what
+/// they say that it leaves: one entry more where it appended one, and else the image as it was (`left`). Both hold
+/// of each command, on each image that has a gate and at most 1 TiB, sound or damaged.
+pub fn a_command_alone_answers_by_the_image()
+    ensures reply { (image : Image) (me : List ℕ) (cmd : Cmd) (t : Task) (words : List ℕ) (made : ℕ) (m : Machine)
+        (reply : Reply) → least_lines ≤ length image → line_bytes * length image ≤ device_limit
+        → map eight image ≡ image → IsCommand cmd → Came cmd me image t words made m → IsInside (op_of t) m.image
+        → turn_on t m ≡ Ends reply → reply ≡ alone_reply image me cmd }
+    ensures left { (image : Image) (me : List ℕ) (cmd : Cmd) (t : Task) (words : List ℕ) (made : ℕ) (m : Machine)
+        (reply : Reply) → least_lines ≤ length image → line_bytes * length image ≤ device_limit
+        → map eight image ≡ image → IsCommand cmd → Came cmd me image t words made m → IsInside (op_of t) m.image
+        → turn_on t m ≡ Ends reply → (operated (op_of t) m).image ≡ alone_image image me cmd }
+{}
+
+/// A command that appends nothing never changes memory: after any number of its operations the image is what it was
+/// (`image`), and so it is where memory fails in the next one (`failure`).
+pub fn a_reader_leaves_the_image()
+    ensures image { (image : Image) (me : List ℕ) (cmd : Cmd) (t : Task) (words : List ℕ) (made : ℕ) (m : Machine) →
+        map eight image ≡ image → wish_of cmd ≡ None → Came cmd me image t words made m → m.image ≡ image }
+    ensures failure { (image : Image) (me : List ℕ) (cmd : Cmd) (t : Task) (words : List ℕ) (made : ℕ) (m : Machine)
+        (through : ℕ) (left : Image) → map eight image ≡ image → wish_of cmd ≡ None
+        → Came cmd me image t words made m → failed through (op_of t) m ≡ Some left → left ≡ image }
+{}
+
+/// A command that appends doesn't change memory either while it reads and decides: up to the first store of its
+/// entry the image is what it was (`image`), also where memory fails (`failure`).
+pub fn an_append_leaves_the_image_up_to_its_first_store()
+    ensures image { (image : Image) (me : List ℕ) (cmd : Cmd) (t : Task) (words : List ℕ) (made : ℕ) (m : Machine) →
+        map eight image ≡ image → Came cmd me image t words made m → IsBeforeWrites t.place → m.image ≡ image }
+    ensures failure { (image : Image) (me : List ℕ) (cmd : Cmd) (t : Task) (words : List ℕ) (made : ℕ) (m : Machine)
+        (through : ℕ) (left : Image) → map eight image ≡ image → Came cmd me image t words made m
+        → IsBeforeWrites t.place → failed through (op_of t) m ≡ Some left → left ≡ image }
+{}
+
+/// A task that came so far alone stands for its command, by the words that its loads gave (`stands`). Where it ends,
+/// the operations that it made, with the last one, are as many as its answer says (`count`).
+pub fn the_operations_of_a_command_alone_are_counted()
+    ensures stands { (image : Image) (me : List ℕ) (cmd : Cmd) (t : Task) (words : List ℕ) (made : ℕ) (m : Machine) →
+        Came cmd me image t words made m → StandsFor cmd me (length image) t words made }
+    ensures count { (image : Image) (me : List ℕ) (cmd : Cmd) (t : Task) (words : List ℕ) (made : ℕ) (m : Machine)
+        (reply : Reply) → Came cmd me image t words made m → turn_on t m ≡ Ends reply
+        → made + 1 ≡ steps_of cmd (length image) (with_given words (given (op_of t) m)) reply }
+{}

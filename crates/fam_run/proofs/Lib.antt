@@ -1,0 +1,4 @@
+pub mod Operations
+pub mod Left
+pub mod Running
+pub mod Files

@@ -1,0 +1,164 @@
+-- A command that runs alone, by one operation.
+use Rattle.std.proofs.Common.{ℕ, ◌≡◌, ◌+◌, Bool, true, false, List, [], length, Option, Some, None, refl, sym, ap, subst, ◌∙◌, arith}
+use Rattle.std.specs.Prelude.{unwrap_or}
+use Rattle.std.specs.FinMap as map
+use Rattle.std.proofs.lemmas.List.Elements.{All-nil}
+use Rattle.std.proofs.lemmas.Option.{same_Some}
+use Rattle.fam_base.specs.Image.{Image}
+use Rattle.fam_base.specs.declared.line.LineNo.{LineNo}
+use Rattle.fam_base.specs.declared.cmd.Cmd.{Cmd}
+use Rattle.fam_base.specs.declared.entry.Entry.{Entry}
+use Rattle.fam_base.specs.declared.entry.Kind.TheVariants.{Directory}
+use Rattle.fam_rules.specs.Reply.{Reply}
+use Rattle.fam_machine.specs.declared.op.Op.{Op}
+use Rattle.fam_machine.specs.declared.op.Op.TheVariants.{Load, Store, WriteBack, Invalidate, Digest}
+use Rattle.fam_machine.specs.Caches.{Cache}
+use Rattle.fam_machine.specs.Operations.{Machine, given, operated}
+use Rattle.fam_machine.specs.Solo.{Came, starts, goes, IsInside, turn_on}
+use Rattle.fam_machine.specs.Stands.{given_by, task_after, with_given}
+use Rattle.fam_machine.specs.Task.{Task, op_of, starting}
+use Rattle.fam_machine.specs.Turns as turns
+use Rattle.fam_machine.specs.Turns.{Goes, Marks, Finds, Writes, Ends, turn_of}
+use Rattle.fam_media.specs.Outside.{IfTold}
+use Rattle.fam_tasks.specs.declared.answer.Answer.{Answer}
+use Rattle.fam_tasks.specs.declared.answer.Answer.TheVariants as answer
+use Rattle.fam_tasks.specs.declared.answer.Turn.{Turn}
+use Rattle.fam_tasks.specs.declared.answer.Turn.TheVariants.{Go, Note, Done}
+use Rattle.fam_tasks.specs.Sound.{IsSound, IsWithin}
+use Rattle.fam_tasks.specs.Tells.{Replies, TellsUnless, meets_file}
+use Rattle.fam_run.specs.declared.operation.Outcome.{Outcome}
+use Rattle.fam_run.specs.declared.operation.Outcome.TheVariants.{Turned, Failed}
+use Rattle.fam_run.specs.Operation.{Did, HasTurned, HasFailed, IsNoFault, KeepsLines, OnTurn, ended}
+use Rattle.fam_run.specs.Run.{HasEnded, HasStopped, IsPlain, Ran, Reached, Running, fault_of}
+use Rattle.fam_run.proofs.Left.{Kept, kept, left}
+
+-- The task goes on.
+
+-- the definition's turn goes on as the call's does
+record GoesOn (file : Bool) (wanted : turns.Turn) (new : Task) : Type 0 where
+  no_file : file ≡ false
+  next : task_after wanted ≡ Some new
+
+no_reply : (turn : Turn) (reply : Reply) → ended (Turned turn) ≡ None → Replies turn reply → ⊥
+no_reply Go reply on replies = replies
+no_reply (Note note) reply on replies = replies
+no_reply (Done given) reply on replies = absurd cc
+
+goes_on : (file : Bool) (wanted : turns.Turn) (turn : Turn) (new : Task) → ended (Turned turn) ≡ None → TellsUnless file wanted turn new → GoesOn file wanted new
+goes_on true wanted turn new on tells =
+    let ends : ended (Turned turn) ≡ Some answer.NotYet = ap (λ (t : Turn). ended (Turned t)) tells in
+    absurd (cc (on, ends))
+goes_on false (Goes t) turn new on tells = record { no_file = refl; next = ap Some (sym tells.1) }
+goes_on false (Marks t) turn new on tells = record { no_file = refl; next = ap Some (sym tells.1) }
+goes_on false (Finds n t) turn new on tells = record { no_file = refl; next = ap Some (sym tells.1) }
+goes_on false (Writes seq e t) turn new on tells = record { no_file = refl; next = ap Some (sym tells.1) }
+goes_on false (Ends reply) turn new on tells = absurd (no_reply turn reply on tells)
+
+-- a task that goes on comes nearer to its end
+pub kept_on : (task new : Task) (outcome : Outcome) → ended outcome ≡ None → IsSound task → OnTurn task outcome new → Kept (left task) task new
+kept_on task new (Failed line) on sound went = absurd cc
+kept_on task new (Turned turn) on sound went =
+    let so : GoesOn (meets_file task) (turn_of task (given_by (op_of task) went.word)) new =
+    goes_on (meets_file task) (turn_of task (given_by (op_of task) went.word)) turn new on went.tells in
+    kept task new (unwrap_or (given_by (op_of task) went.word) 0) sound.served sound.stands so.no_file so.next
+
+pub lines_kept : (task new : Task) (outcome : Outcome) → IsSound task → OnTurn task outcome new → KeepsLines outcome task new
+lines_kept task new outcome sound went on = (kept_on task new outcome on sound went).lines
+
+-- the line of the operation, in an image of as many lines
+inside_by : (op : Op) (lines : ℕ) (image : Image) → length image ≡ lines → IsWithin lines op → IsInside op image
+inside_by (Load line k) lines image count within = omega (arith, within.0)
+inside_by (Store line k value) lines image count within = omega (arith, within.0)
+inside_by (WriteBack line) lines image count within = omega (arith, within)
+inside_by (Invalidate line) lines image count within = omega (arith, within)
+inside_by Digest lines image count within = tt
+
+-- The machine that the command stands on.
+
+machine_of : Image → Cache → Machine
+machine_of image cache = record { image = image; cache = cache }
+
+pub running_on : (cmd : Cmd) (me : List ℕ) (image : Image) (task new : Task) (held after : Cache) (told now : Option Image) (outcome : Outcome) → ended outcome ≡ None → IsSound task → OnTurn task outcome new → IsWithin task.lines (op_of task) → IfTold told (λ (i : Image). length i ≡ task.lines) → IfTold told (λ (i : Image). Did task (record { image = i; cache = held }) outcome new now after) → Running cmd me image task held told → Running cmd me image new after now
+running_on cmd me image task new held after told now (Failed line) on sound went within count did run = absurd cc
+running_on cmd me image task new held after told now (Turned turn) on sound went within count did run =
+    let m : Machine = record { image = run.now; cache = held } in
+    let done : HasTurned task m turn new now after = did run.now run.told_is in
+    let so : GoesOn (meets_file task) (turn_on task m) new = goes_on (meets_file task) (turn_on task m) turn new on done.tells in
+    let inside : IsInside (op_of task) run.now = inside_by (op_of task) task.lines run.now (count run.now run.told_is) within in
+    record {
+      words = with_given run.words (given (op_of task) m);
+      made = run.made + 1;
+      now = (operated (op_of task) m).image;
+      came = subst (λ (c : Cache). Came cmd me image new (with_given run.words (given (op_of task) m)) (run.made + 1) (record { image = (operated (op_of task) m).image; cache = c })) (sym done.cache)
+          (goes run.came inside so.next);
+      plain = (kept_on task new (Turned turn) on sound went).plain run.plain;
+      told_is = done.image;
+    }
+
+abbrev reached : (cmd : Cmd) (me : List ℕ) (image : Image) (task : Task) (held : Cache) (told : Option Image) → Running cmd me image task held told → Reached cmd me image
+reached cmd me image task held told run = record { task = task; words = run.words; made = run.made; machine = record { image = run.now; cache = held }; came = run.came; plain = run.plain }
+
+-- The command ends.
+
+no_fault : (given : Answer) → IsNoFault (Turned (Done given)) → fault_of given ≡ None
+no_fault (answer.Ok seq) own = refl
+no_fault (answer.Played m tree) own = refl
+no_fault (answer.NoSuper word) own = refl
+no_fault (answer.BadSuper field found wanted) own = refl
+no_fault (answer.BadLog field found wanted) own = refl
+no_fault (answer.BadEntry seq reason) own = refl
+no_fault (answer.NotMaster me master) own = refl
+no_fault (answer.Exists kind) own = refl
+no_fault answer.NoParent own = refl
+no_fault answer.ParentIsFile own = refl
+no_fault (answer.LogFull slots) own = refl
+no_fault (answer.MediaFault line) own = absurd (own line refl)
+no_fault answer.NotYet own = refl
+
+done_ran : (cmd : Cmd) (me : List ℕ) (image : Image) (task new : Task) (held after : Cache) (told now : Option Image) (given : Answer) → IsNoFault (Turned (Done given)) → IsWithin task.lines (op_of task) → IfTold told (λ (i : Image). length i ≡ task.lines) → IfTold told (λ (i : Image). HasTurned task (record { image = i; cache = held }) (Done given) new now after) → Running cmd me image task held told → Ran cmd me image given now
+done_ran cmd me image task new held after told now given own within count did run =
+    let done : HasTurned task (record { image = run.now; cache = held }) (Done given) new now after = did run.now run.told_is in
+    let ends : HasEnded cmd me image given now = record {
+      reached = reached cmd me image task held told run;
+      inside = inside_by (op_of task) task.lines run.now (count run.now run.told_is) within;
+      left = done.image;
+      after = new;
+      reply = done.tells;
+    } in
+    rw (no_fault given own) ends
+
+failed_ran : (cmd : Cmd) (me : List ℕ) (image : Image) (task new : Task) (held after : Cache) (told now : Option Image) (line : LineNo) → IfTold told (λ (i : Image). HasFailed task (record { image = i; cache = held }) line new now after) → Running cmd me image task held told → Ran cmd me image (answer.MediaFault line) now
+failed_ran cmd me image task new held after told now line did run =
+    let broke : HasFailed task (record { image = run.now; cache = held }) line new now after = did run.now run.told_is in
+    record {
+      reached = reached cmd me image task held told run;
+      line = broke.line;
+      through = broke.through;
+      fits = broke.fits;
+      broken = broke.left;
+      fails = broke.fails;
+      left = broke.image;
+    }
+
+pub answered : (cmd : Cmd) (me : List ℕ) (image : Image) (task new : Task) (held after : Cache) (told now : Option Image) (outcome : Outcome) (given : Answer) → ended outcome ≡ Some given → IsNoFault outcome → IsWithin task.lines (op_of task) → IfTold told (λ (i : Image). length i ≡ task.lines) → IfTold told (λ (i : Image). Did task (record { image = i; cache = held }) outcome new now after) → Running cmd me image task held told → Ran cmd me image given now
+answered cmd me image task new held after told now (Turned Go) given ends own within count did run = absurd cc
+answered cmd me image task new held after told now (Turned (Note note)) given ends own within count did run = absurd cc
+answered cmd me image task new held after told now (Turned (Done a)) given ends own within count did run =
+    subst (λ (x : Answer). Ran cmd me image x now) (same_Some a given ends) (done_ran cmd me image task new held after told now a own within count did run)
+answered cmd me image task new held after told now (Failed line) given ends own within count did run =
+    subst (λ (x : Answer). Ran cmd me image x now) (same_Some (answer.MediaFault line) given ends) (failed_ran cmd me image task new held after told now line did run)
+
+pub stopped : (cmd : Cmd) (me : List ℕ) (image : Image) (task : Task) (held : Cache) (told now : Option Image) → now ≡ told → Running cmd me image task held told → HasStopped cmd me image now
+stopped cmd me image task held told now same run = record { reached = reached cmd me image task held told run; left = same ∙ run.told_is }
+
+-- the command has not begun
+pub not_begun : (cmd : Cmd) (me : List ℕ) (image : Image) (task : Task) (lines : ℕ) (held : Cache) (told : Option Image) → task ≡ starting cmd me lines → length image ≡ lines → held ≡ map.empty → told ≡ Some image → Running cmd me image task held told
+not_begun cmd me image task lines held told start count empty is = record {
+  words = [];
+  made = 0;
+  now = image;
+  came = subst (λ (t : Task). Came cmd me image t [] 0 (record { image = image; cache = held })) (ap (starting cmd me) count ∙ sym start)
+      (subst (λ (c : Cache). Came cmd me image (starting cmd me (length image)) [] 0 (record { image = image; cache = c })) (sym empty) starts);
+  plain = subst IsPlain (sym start) (All-nil (λ (e : Entry). e.kind ≡ Directory));
+  told_is = is;
+}

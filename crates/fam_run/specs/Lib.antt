@@ -1,0 +1,3 @@
+pub mod Operation
+pub mod Run
+pub mod Files

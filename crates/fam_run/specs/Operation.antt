@@ -1,0 +1,86 @@
+-- What one operation of a task does to its task, to its host's cache and to memory.
+use Rattle.std.specs.Prelude.{ℕ, ◌≡◌, ◌≢◌, ◌<◌, ⊤, Option, Some, None}
+use Rattle.fam_base.specs.Image.{Image}
+use Rattle.fam_base.specs.declared.line.LineNo.{LineNo}
+use Rattle.fam_machine.specs.declared.op.Op.{Op}
+use Rattle.fam_machine.specs.declared.op.Op.TheVariants.{Load, Store, WriteBack, Invalidate, Digest}
+use Rattle.fam_machine.specs.Caches.{Cache}
+use Rattle.fam_machine.specs.Operations.{Machine, operated, given, failed}
+use Rattle.fam_machine.specs.Stands.{given_by}
+use Rattle.fam_machine.specs.Task.{Task, op_of}
+use Rattle.fam_machine.specs.Turns.{turn_of}
+use Rattle.fam_media.specs.Causes.{Rose}
+use Rattle.fam_media.specs.Outside.{masks}
+use Rattle.fam_tasks.specs.declared.answer.Answer.{Answer}
+use Rattle.fam_tasks.specs.declared.answer.Answer.TheVariants.{MediaFault}
+use Rattle.fam_tasks.specs.declared.answer.Turn.{Turn}
+use Rattle.fam_tasks.specs.declared.answer.Turn.TheVariants.{Go, Note, Done}
+use Rattle.fam_tasks.specs.Tells.{TellsUnless, meets_file}
+use Rattle.fam_run.specs.declared.operation.Outcome.{Outcome}
+use Rattle.fam_run.specs.declared.operation.Outcome.TheVariants.{Turned, Failed}
+
+-- the line that an operation asks for
+abbrev pub line_of : Op → Option LineNo
+line_of (Load line word) = Some line
+line_of (Store line word value) = Some line
+line_of (WriteBack line) = Some line
+line_of (Invalidate line) = Some line
+line_of Digest = None
+
+-- the operation was done on this machine: memory and cache are what it leaves, and the task went on to `new`, saying `turn`
+pub record HasTurned (task : Task) (m : Machine) (turn : Turn) (new : Task) (told : Option Image) (held : Cache) : Type 0 where
+  pub image : told ≡ Some (operated (op_of task) m).image
+  pub cache : held ≡ (operated (op_of task) m).cache
+  pub tells : TellsUnless (meets_file task) (turn_of task (given (op_of task) m)) turn new
+
+-- memory failed in the operation, at its line, and some words of a send came through. Task and cache are as before
+pub record HasFailed (task : Task) (m : Machine) (at : LineNo) (new : Task) (told : Option Image) (held : Cache) : Type 0 where
+  pub line : line_of (op_of task) ≡ Some at
+  pub through : ℕ
+  pub fits : through < masks
+  pub left : Image
+  pub fails : failed through (op_of task) m ≡ Some left
+  pub image : told ≡ Some left
+  pub cache : held ≡ m.cache
+  pub stays : new ≡ task
+
+-- the operation, done or failed
+abbrev pub Did : Task → Machine → Outcome → Task → Option Image → Cache → Type 0
+Did task m (Turned turn) new told held = HasTurned task m turn new told held
+Did task m (Failed line) new told held = HasFailed task m line new told held
+
+-- the task goes on by some word, as after a load that gave it
+pub record HasGone (task : Task) (turn : Turn) (new : Task) : Type 0 where
+  pub word : ℕ
+  pub tells : TellsUnless (meets_file task) (turn_of task (given_by (op_of task) word)) turn new
+
+-- a task goes on, and after a failure it stays
+abbrev pub OnTurn : Task → Outcome → Task → Type 0
+OnTurn task (Turned turn) new = HasGone task turn new
+OnTurn task (Failed line) new = new ≡ task
+
+-- no task answers that memory failed
+abbrev pub IsNoFault : Outcome → Type 0
+IsNoFault (Turned turn) = (line : LineNo) → turn ≢ Done (MediaFault line)
+IsNoFault (Failed line) = ⊤
+
+-- an operation fails at a line of memory alone
+abbrev pub IsOfMemory : ℕ → Outcome → Type 0
+IsOfMemory size (Turned turn) = ⊤
+IsOfMemory size (Failed line) = line.0 < size
+
+-- an operation fails only where the count of faults rose
+abbrev pub OnFault : Outcome → ℕ → ℕ → Type 0
+OnFault (Turned turn) before now = ⊤
+OnFault (Failed line) before now = Rose before now
+
+-- the answer with which a command ends, where it ends with this outcome
+abbrev pub ended : Outcome → Option Answer
+ended (Turned Go) = None
+ended (Turned (Note note)) = None
+ended (Turned (Done given)) = Some given
+ended (Failed line) = Some (MediaFault line)
+
+-- a task that goes on is on an image of as many lines
+abbrev pub KeepsLines : Outcome → Task → Task → Type 0
+KeepsLines outcome task new = ended outcome ≡ None → new.lines ≡ task.lines

@@ -1,0 +1,88 @@
+-- What a command that runs alone, on an empty cache, has done when it ends.
+use Rattle.std.specs.Prelude.{ℕ, ◌≡◌, ◌<◌, List, All, Option, Some, None}
+use Rattle.fam_base.specs.Image.{Image}
+use Rattle.fam_base.specs.declared.line.LineNo.{LineNo}
+use Rattle.fam_base.specs.declared.cmd.Cmd.{Cmd}
+use Rattle.fam_base.specs.declared.entry.Entry.{Entry}
+use Rattle.fam_base.specs.declared.entry.Kind.TheVariants.{Directory}
+use Rattle.fam_machine.specs.Caches.{Cache}
+use Rattle.fam_machine.specs.Operations.{Machine, operated, failed}
+use Rattle.fam_machine.specs.Solo.{Came, IsInside, turn_on}
+use Rattle.fam_machine.specs.Task.{Task, op_of}
+use Rattle.fam_media.specs.Outside.{masks}
+use Rattle.fam_tasks.specs.declared.answer.Answer.{Answer}
+use Rattle.fam_tasks.specs.declared.answer.Answer.TheVariants as answer
+use Rattle.fam_tasks.specs.declared.answer.Turn.TheVariants.{Done}
+use Rattle.fam_tasks.specs.Tells.{TellsUnless, meets_file}
+use Rattle.fam_run.specs.Operation.{line_of}
+
+-- a task has read no file: each slot that it took is a directory's
+abbrev pub IsPlain : Task → Type 0
+IsPlain task = All (λ (e : Entry). e.kind ≡ Directory) task.entries
+
+-- the line at which memory failed, of an answer that says so
+abbrev pub fault_of : Answer → Option LineNo
+fault_of (answer.Ok seq) = None
+fault_of (answer.Played m tree) = None
+fault_of (answer.NoSuper word) = None
+fault_of (answer.BadSuper field found wanted) = None
+fault_of (answer.BadLog field found wanted) = None
+fault_of (answer.BadEntry seq reason) = None
+fault_of (answer.NotMaster me master) = None
+fault_of (answer.Exists kind) = None
+fault_of answer.NoParent = None
+fault_of answer.ParentIsFile = None
+fault_of (answer.LogFull slots) = None
+fault_of (answer.MediaFault line) = Some line
+fault_of answer.NotYet = None
+
+-- how far the command came from this image: its task stands before an operation, on this machine
+pub record Reached (cmd : Cmd) (me : List ℕ) (image : Image) : Type 0 where
+  pub task : Task
+  pub words : List ℕ
+  pub made : ℕ
+  pub machine : Machine
+  pub came : Came cmd me image task words made machine
+  pub plain : IsPlain task
+
+-- the command stands there still, with this task, this cache and this memory
+pub record Running (cmd : Cmd) (me : List ℕ) (image : Image) (task : Task) (held : Cache) (told : Option Image) : Type 0 where
+  pub words : List ℕ
+  pub made : ℕ
+  pub now : Image
+  pub came : Came cmd me image task words made (record { image = now; cache = held })
+  pub plain : IsPlain task
+  pub told_is : told ≡ Some now
+
+-- one more operation was done, and with it the task answers: as the definition's turn, or where the slot that it
+-- looks at is a file's, that it can't read it yet
+pub record HasEnded (cmd : Cmd) (me : List ℕ) (image : Image) (given : Answer) (told : Option Image) : Type 0 where
+  pub reached : Reached cmd me image
+  pub inside : IsInside (op_of reached.task) reached.machine.image
+  pub left : told ≡ Some (operated (op_of reached.task) reached.machine).image
+  pub after : Task
+  pub reply : TellsUnless (meets_file reached.task) (turn_on reached.task reached.machine) (Done given) after
+
+-- memory failed in the operation that came next, at its line, and some words of a send came through
+pub record HasBroken (cmd : Cmd) (me : List ℕ) (image : Image) (at : LineNo) (told : Option Image) : Type 0 where
+  pub reached : Reached cmd me image
+  pub line : line_of (op_of reached.task) ≡ Some at
+  pub through : ℕ
+  pub fits : through < masks
+  pub broken : Image
+  pub fails : failed through (op_of reached.task) reached.machine ≡ Some broken
+  pub left : told ≡ Some broken
+
+-- no memory was left for the operation that came next
+pub record HasStopped (cmd : Cmd) (me : List ℕ) (image : Image) (told : Option Image) : Type 0 where
+  pub reached : Reached cmd me image
+  pub left : told ≡ Some reached.machine.image
+
+-- by whether the answer is that memory failed
+abbrev pub EndsBy : Option LineNo → Cmd → List ℕ → Image → Answer → Option Image → Type 0
+EndsBy None cmd me image given told = HasEnded cmd me image given told
+EndsBy (Some line) cmd me image given told = HasBroken cmd me image line told
+
+-- the command's run, from an image to what is left of it
+abbrev pub Ran : Cmd → List ℕ → Image → Answer → Option Image → Type 0
+Ran cmd me image given told = EndsBy (fault_of given) cmd me image given told

@@ -1,0 +1,14 @@
+//! Running tasks over a host's cache and the one memory: one operation at a time, or a command alone to its answer.
+//!
+//! `specs/Operation.antt` says what one operation does, by the machine of `fam_machine/specs/Operations.antt`, and
+//! `specs/Run.antt` what a command that runs alone has done when it ends.
+#![tactic(auto)]
+
+mod operation;
+mod solo;
+
+pub use operation::{Outcome, operate};
+pub use solo::run;
+
+#[cfg(test)]
+mod tests;

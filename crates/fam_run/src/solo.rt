@@ -1,0 +1,122 @@
+//! A command that runs alone: one host, whose cache is empty at first.
+
+ghost use Rattle.std.specs.Prelude.{◌≡◌, ◌<◌, ◌≤◌, ℕ, List, None, IfOk, IfSome, OnErr, OnSome};
+ghost use Rattle.fam_base.specs.Image.{Image};
+ghost use Rattle.fam_base.specs.declared.cmd.Cmd.{Cmd};
+ghost use Rattle.fam_format.specs.Layout.{least_lines};
+ghost use Rattle.fam_media.specs.Causes.{Rose};
+ghost use Rattle.fam_media.specs.Outside.{IfTold};
+ghost use Rattle.fam_base.specs.Commands.{mode_limit};
+ghost use Rattle.fam_rules.specs.DecideLaws.{IsAttr};
+ghost use Rattle.fam_protocol.specs.Tasks.{IsCommand};
+ghost use Rattle.fam_tasks.specs.Sound.{IsServed};
+ghost use Rattle.fam_run.specs.Files.{IsDue, meets_a_file};
+ghost use Rattle.fam_run.specs.Operation.{ended};
+ghost use Rattle.fam_run.specs.Run.{HasStopped, Ran, Running, fault_of};
+
+use crate::operation::{Outcome, operate};
+use fam_base::{Attr, Cmd, OutOfMemory};
+use fam_cache::HostCache;
+use fam_media::Media;
+use fam_tasks::{Answer, Task, Turn};
+use std::alloc::Global;
+use uuid::Uuid;
+
+/// The answer, where the command ends with this outcome.
+fn answer_of(outcome: Outcome) -> Option<Answer>
+    ensures { result ≡ ended outcome }
+{
+    match outcome {
+        Outcome::Turned(Turn::Go) => None,
+        Outcome::Turned(Turn::Note(_)) => None,
+        Outcome::Turned(Turn::Done(answer)) => Some(answer),
+        Outcome::Failed(line) => Some(Answer::MediaFault(line)),
+    }
+}
+
+/// Does the operations of a command that has not answered, up to its answer.
+fn finish<M: Media>(
+    cache: &mut HostCache,
+    task: &mut Task,
+    media: &mut M,
+) -> Result<Answer, OutOfMemory>
+    requires lines { task.old.lines ≡ M.size media.old }
+
+    // From wherever the command has come to on an image.
+    ensures ran { IfOk result (λ answer. (cmd : Cmd) (me : List ℕ) (image : Image) →
+        Running cmd me image task.old cache.old.lines (M.image media.old) →
+        Ran cmd me image answer (M.image media.new)) }
+    ensures stopped { OnErr result ((cmd : Cmd) (me : List ℕ) (image : Image) →
+        Running cmd me image task.old cache.old.lines (M.image media.old) →
+        HasStopped cmd me image (M.image media.new)) }
+    ensures failed { IfOk result (λ answer.
+        OnSome (fault_of answer) (Rose (M.faults media.old) (M.faults media.new))) }
+    ensures line { IfOk result (λ answer. IfSome (fault_of answer) (λ line. line.0 < M.size media.old)) }
+
+    ensures size { M.size media.new ≡ M.size media.old }
+    ensures later { M.faults media.old ≤ M.faults media.new }
+{
+    'operations: loop {
+        task.is_sound();
+        if let Some(answer) = answer_of(operate(cache, task, media)?) {
+            return Ok(answer);
+        }
+        task.is_sound();
+    }
+}
+
+/// A user and a group fit their words, where the mode is within its limit.
+fn is_attr(attr: Attr)
+    requires mode { attr.mode ≤ mode_limit }
+    ensures { IsAttr attr }
+{
+    let _ = attr;
+}
+
+/// A command that a task can run is within its limits: its path is one, and its numbers fit their words.
+fn is_command(cmd: &Cmd)
+    requires served { IsServed cmd.now }
+    ensures { IsCommand cmd.now }
+{
+    if let Cmd::Mkdir { path, attr } = cmd {
+        path.bytes();
+        is_attr(*attr);
+    }
+}
+
+/// Runs a command to its answer, on the host `me` and an empty cache. Where memory fails the answer is `MediaFault`
+/// with the line.
+///
+/// `OutOfMemory` comes where the cache has no room for one more line, or where a Digest finds no memory. What the
+/// command sent to the media by then stands there.
+pub fn run<M: Media>(
+    alloc: Global,
+    cmd: Cmd,
+    me: Uuid,
+    media: &mut M,
+) -> Result<Answer, OutOfMemory>
+    requires served { IsServed cmd }
+    requires least { least_lines ≤ M.size media.old }
+
+    // Where an image is told, the command's operations were done on it, one after another, up to the answer or the
+    // fault.
+    ensures ran { IfOk result (λ answer. IfTold (M.image media.old)
+        (λ image. Ran cmd me image answer (M.image media.new))) }
+    ensures stopped { OnErr result (IfTold (M.image media.old)
+        (λ image. HasStopped cmd me image (M.image media.new))) }
+    // Without a fault the answer, and what is left, are those of the rules, or NotYet where the command meets a file.
+    ensures due { IfOk result (λ answer. fault_of answer ≡ None → IfTold (M.image media.old)
+        (λ image. IsDue (meets_a_file image me cmd) image me cmd answer (M.image media.new))) }
+    // A fault is answered only where there was one.
+    ensures failed { IfOk result (λ answer.
+        OnSome (fault_of answer) (Rose (M.faults media.old) (M.faults media.new))) }
+    ensures line { IfOk result (λ answer. IfSome (fault_of answer) (λ line. line.0 < M.size media.old)) }
+
+    ensures size { M.size media.new ≡ M.size media.old }
+    ensures later { M.faults media.old ≤ M.faults media.new }
+{
+    is_command(&cmd);
+    let mut cache = HostCache::new(alloc);
+    let mut task = Task::new(alloc, cmd, me, media.lines());
+    finish(&mut cache, &mut task, media)
+}

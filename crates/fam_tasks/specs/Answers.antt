@@ -1,0 +1,35 @@
+-- An answer is a reply, whoever runs the command.
+use Rattle.std.specs.Prelude.{⊤, Option, Some, None}
+use Rattle.fam_format.specs.declared.faults.SuperFault.TheVariants as super_fault
+use Rattle.fam_format.specs.declared.faults.LogFault.TheVariants as log_fault
+use Rattle.fam_rules.specs.declared.answers.Refused.{Refused}
+use Rattle.fam_rules.specs.declared.answers.Refused.TheVariants as refused
+use Rattle.fam_rules.specs.Reply.{Reply, Appended, NotAppended, Played, NoSuperblock, BadHeader, BadSlot}
+use Rattle.fam_tasks.specs.declared.answer.Answer.{Answer}
+use Rattle.fam_tasks.specs.declared.answer.Answer.TheVariants as answer
+
+-- the reply that an answer stands for. That memory failed, or that a file can't be read yet, is none
+abbrev pub reply_of : Answer → Option Reply
+reply_of (answer.Ok seq) = Some (Appended seq)
+reply_of (answer.Played m tree) = Some (Played m tree)
+reply_of (answer.NoSuper word) = Some (NoSuperblock (super_fault.NoSuper word))
+reply_of (answer.BadSuper field found wanted) = Some (NoSuperblock (super_fault.BadSuper field found wanted))
+reply_of (answer.BadLog field found wanted) = Some (BadHeader (log_fault.BadLog field found wanted))
+reply_of (answer.BadEntry seq reason) = Some (BadSlot seq reason)
+reply_of (answer.NotMaster me master) = Some (NotAppended (refused.NotMaster me master))
+reply_of (answer.Exists kind) = Some (NotAppended (refused.Exists kind))
+reply_of answer.NoParent = Some (NotAppended refused.NoParent)
+reply_of answer.ParentIsFile = Some (NotAppended refused.ParentIsFile)
+reply_of (answer.LogFull slots) = Some (NotAppended (refused.LogFull slots))
+reply_of (answer.MediaFault line) = None
+reply_of answer.NotYet = None
+
+-- why a directory may not be appended: it has neither strips nor bytes
+abbrev pub IsOfDirectory : Refused → Type 0
+IsOfDirectory (refused.NotMaster me master) = ⊤
+IsOfDirectory refused.BadStripe = ⊥
+IsOfDirectory (refused.Exists kind) = ⊤
+IsOfDirectory refused.NoParent = ⊤
+IsOfDirectory refused.ParentIsFile = ⊤
+IsOfDirectory (refused.LogFull slots) = ⊤
+IsOfDirectory (refused.NoSpace units) = ⊥

@@ -1,0 +1,19 @@
+-- What a contract sees of a task.
+use Rattle.fam_rules.specs.Reports.{no_survey}
+use Rattle.fam_machine.specs.Task.{Task}
+use Rattle.fam_tasks.specs.declared.task.Task.TheInside.{Inside}
+
+-- its command, host, place and what it read. It surveys nothing
+abbrev pub task_of : Inside → Task
+task_of t = record {
+  cmd = t.cmd;
+  me = t.me;
+  lines = t.lines;
+  place = t.place;
+  params = t.params;
+  gate = t.gate;
+  entries = t.history;
+  words = t.buffer;
+  entry = t.entry;
+  survey = no_survey;
+}

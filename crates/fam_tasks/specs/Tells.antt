@@ -1,0 +1,66 @@
+-- How a turn that a call gives tells the one of the definition.
+use Rattle.std.specs.Prelude.{◌≡◌, Bool, true, false, Some, Result, Ok, Err}
+use Rattle.fam_base.specs.declared.entry.Entry.{Entry}
+use Rattle.fam_base.specs.declared.entry.Kind.{Kind}
+use Rattle.fam_base.specs.declared.entry.Kind.TheVariants.{File, Directory}
+use Rattle.fam_format.specs.declared.faults.Reason.{Reason}
+use Rattle.fam_format.specs.Slot.{entry_of}
+use Rattle.fam_rules.specs.Reply.{Reply}
+use Rattle.fam_machine.specs.declared.op.Op.{Op}
+use Rattle.fam_machine.specs.declared.op.Op.TheVariants.{Load, Store, WriteBack, Invalidate, Digest}
+use Rattle.fam_machine.specs.declared.op.Place.{Place}
+use Rattle.fam_machine.specs.declared.op.Place.TheVariants as at
+use Rattle.fam_machine.specs.Task.{Task}
+use Rattle.fam_machine.specs.Turns as turns
+use Rattle.fam_tasks.specs.declared.answer.Turn.{Turn}
+use Rattle.fam_tasks.specs.declared.answer.Turn.TheVariants.{Go, Note, Done}
+use Rattle.fam_tasks.specs.declared.answer.TaskNote.TheVariants.{Mark, Found, Writes}
+use Rattle.fam_tasks.specs.declared.answer.Answer.TheVariants.{NotYet}
+use Rattle.fam_tasks.specs.Answers.{reply_of}
+
+-- the task is done, with this reply
+abbrev pub Replies : Turn → Reply → Type 0
+Replies Go reply = ⊥
+Replies (Note note) reply = ⊥
+Replies (Done answer) reply = reply_of answer ≡ Some reply
+
+-- the turn of the definition, and what the call gave and left. The entry that is written is the task's own. Of a task
+-- that is done nothing is said
+abbrev pub Tells : turns.Turn → Turn → Task → Type 0
+Tells (turns.Goes t) turn new = (turn ≡ Go) × (new ≡ t)
+Tells (turns.Marks t) turn new = (turn ≡ Note Mark) × (new ≡ t)
+Tells (turns.Finds n t) turn new = (turn ≡ Note (Found n)) × (new ≡ t)
+Tells (turns.Writes seq e t) turn new = (turn ≡ Note (Writes seq)) × (new ≡ t)
+Tells (turns.Ends reply) turn new = Replies turn reply
+
+-- the operation that thinks
+abbrev pub is_digest : Op → Bool
+is_digest (Load line word) = false
+is_digest (Store line word value) = false
+is_digest (WriteBack line) = false
+is_digest (Invalidate line) = false
+is_digest Digest = true
+
+-- no directory
+abbrev pub is_file : Kind → Bool
+is_file File = true
+is_file Directory = false
+
+-- a slot reads as a file
+abbrev pub tells_file : Result Entry Reason → Bool
+tells_file (Ok e) = is_file e.kind
+tells_file (Err reason) = false
+
+-- at a place: the words of the slot that is looked at read as a file
+abbrev pub file_at : Place → Task → Bool
+file_at (at.Check i) t = tells_file (entry_of t.params t.words i)
+file_at place t = false
+
+-- a task meets a file, which it can't read yet
+abbrev pub meets_file : Task → Bool
+meets_file t = file_at t.place t
+
+-- a Digest ends at a file, and otherwise tells the turn of the definition
+abbrev pub TellsUnless : Bool → turns.Turn → Turn → Task → Type 0
+TellsUnless true wanted turn new = turn ≡ Done NotYet
+TellsUnless false wanted turn new = Tells wanted turn new

@@ -1,0 +1,132 @@
+//! What a task says: notes on its way, and its answer.
+
+ghost use Rattle.std.specs.Prelude.{◌≡◌, Some};
+ghost use Rattle.fam_rules.specs.Reply.{BadHeader, NoSuperblock, NotAppended};
+ghost use Rattle.fam_tasks.specs.Answers.{reply_of, IsOfDirectory};
+
+use fam_base::{Kind, LineNo};
+use fam_format::{LogFault, LogField, Reason, SuperFault, SuperField};
+use fam_rules::Refused;
+use fam_tree::Tree;
+use uuid::Uuid;
+
+/// What a task notes on its way.
+#[derive(Clone, Copy, PartialEq, Eq)]
+pub enum TaskNote {
+    /// The gate's line was dropped: every entry that was answered by now will be read.
+    Mark,
+    /// A command that appends has found so many entries.
+    Found(u64),
+    /// It goes on to append an entry, which `Task::entry` gives, under this number.
+    Writes(u64),
+}
+
+/// What came of an operation.
+#[derive(Drop)]
+pub enum Turn {
+    /// The task goes on.
+    Go,
+    /// The task goes on, and this is to be noted.
+    Note(TaskNote),
+    /// The task is done. Nothing is said of it from here on.
+    Done(Answer),
+}
+
+/// What a command answers. `m` is how many of the log's first entries were read.
+#[derive(Drop)]
+pub enum Answer {
+    /// The entry of this number is appended.
+    Ok(u64),
+    /// The tree of the log's entries.
+    Played {
+        m: u64,
+        tree: Tree,
+    },
+    /// Word 0 of line 0 is this one, and no superblock's.
+    NoSuper(u64),
+    /// The first field of the superblock that fails its test.
+    BadSuper {
+        field: SuperField,
+        found: u64,
+        wanted: u64,
+    },
+    /// The first field of the log's header that fails its test, or the gate.
+    BadLog {
+        field: LogField,
+        found: u64,
+        wanted: u64,
+    },
+    /// The first slot below the gate that is no entry of its number, or whose entry doesn't join those before it.
+    BadEntry {
+        seq: u64,
+        reason: Reason,
+    },
+    /// Another host appends to the log.
+    NotMaster {
+        me: Uuid,
+        master: Uuid,
+    },
+    /// Something stands at the path: a file or a directory.
+    Exists(Kind),
+    /// The path's parent is neither the root nor in the tree.
+    NoParent,
+    /// The path's parent is a file.
+    ParentIsFile,
+    /// The log has room for so many entries, and holds them.
+    LogFull(u64),
+    /// Memory failed at this line. A task doesn't know of it, and never answers so itself.
+    MediaFault(LineNo),
+    /// The log holds a file, which a task can't read yet.
+    NotYet,
+}
+
+/// The answer on a damaged superblock.
+pub(crate) fn super_answer(fault: SuperFault) -> Answer
+    ensures { reply_of result ≡ Some (NoSuperblock fault) }
+{
+    match fault {
+        SuperFault::NoSuper(word) => Answer::NoSuper(word),
+        SuperFault::BadSuper {
+            field,
+            found,
+            wanted,
+        } => Answer::BadSuper {
+            field,
+            found,
+            wanted,
+        },
+    }
+}
+
+/// The answer on a damaged header.
+pub(crate) fn log_answer(fault: LogFault) -> Answer
+    ensures { reply_of result ≡ Some (BadHeader fault) }
+{
+    match fault {
+        LogFault::BadLog {
+            field,
+            found,
+            wanted,
+        } => Answer::BadLog {
+            field,
+            found,
+            wanted,
+        },
+    }
+}
+
+/// The answer where a directory is not appended.
+pub(crate) fn refusal_answer(refused: Refused) -> Answer
+    requires { IsOfDirectory refused }
+    ensures { reply_of result ≡ Some (NotAppended refused) }
+{
+    match refused {
+        Refused::NotMaster { me, master } => Answer::NotMaster { me, master },
+        Refused::Exists(kind) => Answer::Exists(kind),
+        Refused::NoParent => Answer::NoParent,
+        Refused::ParentIsFile => Answer::ParentIsFile,
+        Refused::LogFull(slots) => Answer::LogFull(slots),
+        Refused::BadStripe => unreachable!(),
+        Refused::NoSpace(_) => unreachable!(),
+    }
+}

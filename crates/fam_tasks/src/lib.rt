@@ -1,0 +1,19 @@
+//! Tasks: commands on their way over the cache of a host. A task says which operation it does next, takes the word
+//! that a load gave, and knows nothing else of memory.
+//!
+//! A contract sees a `Task` as the record of `fam_machine/specs/Task.antt`. What comes next is `op_of` of it, and
+//! what comes of that is `turn_of` in `fam_machine/specs/Turns.antt`. `specs/` says how a `Turn` and an `Answer`
+//! tell these, and which tasks there are.
+#![tactic(auto)]
+
+mod answer;
+mod buffer;
+mod history;
+mod parts;
+mod task;
+#[cfg(test)]
+mod tests;
+
+pub use answer::{Answer, TaskNote, Turn};
+pub use fam_machine::Op;
+pub use task::Task;

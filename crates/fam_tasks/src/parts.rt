@@ -1,0 +1,80 @@
+//! What the words of a part tell, once they were loaded.
+
+ghost use Rattle.std.specs.Prelude.{◌≡◌, ◌+◌, ◌^◌, ◌≤◌, ◌<◌, IfOk, Some, None, length};
+ghost use Rattle.std.specs.Bool.{OnTrue, OnFalse};
+ghost use Rattle.fam_format.specs.Layout.{device_limit, slot_line};
+ghost use Rattle.fam_format.specs.Log.{log_fault};
+ghost use Rattle.fam_format.specs.Params.{SoundParams};
+ghost use Rattle.fam_format.specs.Slot.{entry_of};
+ghost use Rattle.fam_format.specs.Super.{super_body_of};
+ghost use Rattle.fam_rules.specs.Decide.{wish_of};
+ghost use Rattle.fam_rules.specs.declared.answers.Refused.TheVariants.{NotMaster};
+ghost use Rattle.fam_machine.specs.Turns.{host_refusal};
+ghost use Rattle.fam_entry.specs.Tests.{Tells};
+ghost use Rattle.fam_tasks.specs.Reading.{IsBareDirectory};
+ghost use Rattle.fam_tasks.specs.Sound.{IsServed};
+
+use crate::buffer::Buffer;
+use fam_base::{Cmd, Entry, LineNo, Params};
+use fam_entry::{LogFault, Reason, read_entry, read_log};
+use fam_format::{LOG_LINE, SuperFault};
+use fam_super::read_super;
+use uuid::Uuid;
+
+/// Word 0 of line 0: the bytes `famfs-01`.
+pub(crate) const MAGIC: u64 = 0x3130_2d73_666d_6166;
+
+/// Lines of a slot, and of header and gate with the room behind them.
+pub(crate) const SLOT_LINES: u64 = 8;
+
+/// Line `j` of slot `i`.
+pub(crate) fn line_of_slot(params: &Params, i: u64, j: u64) -> LineNo
+    requires { i + j < 2 ^ 32 }
+    ensures { result.0 ≡ slot_line params.now i j }
+{
+    let _ = params;
+    LineNo(LOG_LINE + SLOT_LINES + SLOT_LINES * i + j)
+}
+
+/// The parameters that lines 1 and 2 tell, or the first fault. `have` is the image's bytes.
+pub(crate) fn read_body(words: &Buffer, have: u64) -> Result<Params, SuperFault>
+    requires count { length words.now ≡ 16 }
+    requires have { have ≤ device_limit }
+    ensures value { result ≡ super_body_of words.now have }
+    ensures sound { IfOk result (λ p. SoundParams p) }
+    ensures device { IfOk result (λ p. p.device ≤ have) }
+{
+    let lines = [[MAGIC, 0, 0, 0, 0, 0, 0, 0], words.line(0), words.line(8)];
+    read_super(&lines, have)
+}
+
+/// Whether the words of log line 0 are the header for these parameters.
+pub(crate) fn read_header(words: &Buffer, params: &Params) -> Result<(), LogFault>
+    requires { length words.now ≡ 8 }
+    ensures { Tells result (log_fault words.now params.now) }
+{
+    read_log(&words.line(0), params)
+}
+
+/// The entry of slot `i`, or the first reason against its words.
+pub(crate) fn read_slot(words: &Buffer, i: u64, params: &Params) -> Result<Entry, Reason>
+    requires sound { SoundParams params.now }
+    requires count { length words.now ≡ 64 }
+    ensures value { result ≡ entry_of params.now words.now i }
+    ensures bare { IfOk result (λ e. IsBareDirectory e) }
+{
+    read_entry(words.whole(), i, params)
+}
+
+/// Whether this host may not go on, since the command appends and another host is the master.
+pub(crate) fn is_refused(cmd: &Cmd, params: &Params, me: &Uuid) -> bool
+    requires { IsServed cmd.now }
+    ensures other { OnTrue result (host_refusal (wish_of cmd.now) params.now me.now
+        ≡ Some (NotMaster me.now params.now.master)) }
+    ensures master { OnFalse result (host_refusal (wish_of cmd.now) params.now me.now ≡ None) }
+{
+    match cmd {
+        Cmd::Mkdir { .. } => *me != params.master,
+        _ => false,
+    }
+}

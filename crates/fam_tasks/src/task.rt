@@ -1,0 +1,238 @@
+//! A task: a command, the place where it stands, and what it has read. Its turns stand in the files of `task/`.
+
+ghost use Rattle.std.specs.Prelude.{◌≡◌, ◌≢◌, ◌≤◌, ◌<◌, nat_lt, if◌then◌else◌, true, false, None, IfOk, OnErr};
+ghost use Rattle.fam_base.specs.declared.line.LineNo.{LineNo};
+ghost use Rattle.fam_format.specs.Layout.{least_lines};
+ghost use Rattle.fam_machine.specs.declared.op.Part.TheVariants as part;
+ghost use Rattle.fam_machine.specs.declared.op.Place.TheVariants as at;
+ghost use Rattle.fam_machine.specs.Task as spec;
+ghost use Rattle.fam_machine.specs.Task.{op_of, starting};
+ghost use Rattle.fam_machine.specs.Turns.{turn_of};
+ghost use Rattle.fam_tasks.specs.declared.answer.Answer.TheVariants.{MediaFault};
+ghost use Rattle.fam_tasks.specs.declared.answer.Turn.TheVariants.{Done, Go};
+ghost use Rattle.fam_tasks.specs.Sound.{most_lines, IsLine, IsServed, IsSound, IsSoundAt, IsWithin};
+ghost use Rattle.fam_tasks.specs.Tells.{Tells, TellsUnless, is_digest, meets_file};
+
+mod digests;
+mod loads;
+mod stores;
+
+use crate::answer::{Answer, Turn};
+use crate::buffer::Buffer;
+use crate::history::History;
+use crate::parts::line_of_slot;
+use fam_base::{Cmd, Entry, LineNo, OutOfMemory, Params};
+use fam_format::{GATE_LINE, LOG_LINE};
+use fam_machine::{Op, Part, Place};
+use std::alloc::Global;
+use std::marker::Model;
+use uuid::Uuid;
+
+/// The last word of a line.
+const LAST_WORD: u8 = 7;
+
+/// The last line of a slot.
+const LAST_LINE: u64 = 7;
+
+/// A command on its way over the cache of a host.
+#[derive(Drop)]
+pub struct Task {
+    alloc: Global,
+    cmd: Cmd,
+    me: Uuid,
+    lines: u64,
+    place: Place,
+    params: Params,
+    gate: u64,
+    history: History,
+    buffer: Buffer,
+    entry: Option<Entry>,
+}
+
+impl Model for Task {
+    ghost use Rattle.fam_machine.specs.Task as spec;
+
+    ghost Value = { spec.Task };
+
+    ghost use Rattle.fam_tasks.specs.Model.{task_of};
+    ghost use Rattle.fam_tasks.specs.Sound.{IsSound};
+
+    ghost view = { task_of };
+
+    ghost invariant = { λ t. IsSound (task_of t) };
+}
+
+/// The task is done: it stands at the last place from here on.
+fn done(place: &mut Place, answer: Answer) -> Turn
+    ensures turn { result ≡ Done answer }
+    ensures last { place.new ≡ at.SendGate }
+{
+    *place = Place::SendGate;
+    Turn::Done(answer)
+}
+
+/// The place behind slot `i - 1`: the next slot below the gate, or the decision.
+fn slot_or_decide(i: u64, gate: u64) -> Place
+    ensures { result ≡ (if nat_lt i gate then at.Drop (part.Slot i) 0 else at.Decide) }
+{
+    if i < gate {
+        Place::Drop {
+            part: Part::Slot(i),
+            line: 0,
+        }
+    } else {
+        Place::Decide
+    }
+}
+
+impl Task {
+    /// A command before its first operation, on the host `me` and an image of so many lines.
+    pub fn new(alloc: Global, cmd: Cmd, me: Uuid, lines: u64) -> Task
+        requires served { IsServed cmd }
+        requires least { least_lines ≤ lines }
+        requires most { lines ≤ most_lines }
+
+        ensures { result ≡ starting cmd me lines }
+    {
+        let none = Uuid::from_bytes([0; 16]);
+        Task {
+            alloc,
+            cmd,
+            me,
+            lines,
+            place: Place::DropMagic,
+            params: Params {
+                log_length: 0,
+                slots: 0,
+                unit: 0,
+                device: 0,
+                fs: none,
+                master: none,
+            },
+            gate: 0,
+            history: History::new(alloc),
+            buffer: Buffer::new(),
+            entry: None,
+        }
+    }
+
+    /// What is known of every task: its numbers fit its place. A call does nothing.
+    pub fn is_sound(&self)
+        ensures { IsSound self.now }
+    {
+        let _ = &self.place;
+    }
+
+    /// The operation that comes next, of a task that has not answered.
+    pub fn next(&self) -> Op
+        ensures op { result ≡ op_of self.now }
+        ensures within { IsWithin self.now.lines result }
+    {
+        match self.place {
+            Place::DropMagic => Op::Invalidate(LineNo(0)),
+            Place::Magic => Op::Load(LineNo(0), 0),
+            Place::Drop { part, line } => Op::Invalidate(self.part_line(part, line)),
+            Place::Word { part, line, word } => Op::Load(self.part_line(part, line), word),
+            Place::DropGate => Op::Invalidate(LineNo(GATE_LINE)),
+            Place::Gate => Op::Load(LineNo(GATE_LINE), 0),
+            Place::Check { .. } | Place::Decide => Op::Digest,
+            Place::StoreData { .. } | Place::SendData { .. } => unreachable!(),
+            Place::StoreSlot { line, word } => self.slot_store(line, word),
+            Place::SendSlot { line } => Op::WriteBack(line_of_slot(&self.params, self.gate, line)),
+            Place::StoreGate => Op::Store(LineNo(GATE_LINE), 0, self.gate + 1),
+            Place::SendGate => Op::WriteBack(LineNo(GATE_LINE)),
+        }
+    }
+
+    /// The entry that the task goes on to append, once it has noted so.
+    pub fn entry(&self) -> Option<Entry>
+        ensures { result ≡ self.now.entry }
+    {
+        self.entry
+    }
+
+    /// Tells that the operation was done, with the word of a load and None otherwise. The operation isn't Digest.
+    pub fn feed(&mut self, word: Option<u64>) -> Turn
+        requires { is_digest (op_of self.old) ≡ false }
+
+        ensures turn { Tells (turn_of self.old word) result self.new }
+        ensures own { (line : LineNo) → result ≢ Done (MediaFault line) }
+    {
+        let word = word.unwrap_or(0);
+        match self.place {
+            Place::DropMagic => self.go(Place::Magic),
+            Place::Magic => self.load_magic(word),
+            Place::Drop { part, line } => self.go(Place::Word {
+                part,
+                line,
+                word: 0,
+            }),
+            Place::Word {
+                part,
+                line,
+                word: k,
+            } => self.load_word(part, line, k, word),
+            Place::DropGate => self.mark(),
+            Place::Gate => self.load_gate(word),
+            Place::Check { .. } | Place::Decide => unreachable!(),
+            Place::StoreData { .. } | Place::SendData { .. } => unreachable!(),
+            Place::StoreSlot { line, word: k } => self.store_slot(line, k),
+            Place::SendSlot { line } => self.send_slot(line),
+            Place::StoreGate => self.go(Place::SendGate),
+            Place::SendGate => Turn::Done(Answer::Ok(self.gate)),
+        }
+    }
+
+    /// Does the Digest, which is the next operation. A task that has no memory for it answers so, and is
+    /// unchanged.
+    pub fn digest(&mut self) -> Result<Turn, OutOfMemory>
+        requires { is_digest (op_of self.old) ≡ true }
+
+        ensures turn { IfOk result (λ turn.
+            TellsUnless (meets_file self.old) (turn_of self.old None) turn self.new) }
+        ensures own { (line : LineNo) → IfOk result (λ turn. turn ≢ Done (MediaFault line)) }
+        ensures err { OnErr result (self.new ≡ self.old) }
+    {
+        match self.place {
+            Place::Check { slot } => self.check_slot(slot),
+            Place::Decide => Ok(self.decide()),
+            Place::DropMagic
+            | Place::Magic
+            | Place::Drop { .. }
+            | Place::Word { .. }
+            | Place::DropGate
+            | Place::Gate
+            | Place::StoreData { .. }
+            | Place::SendData { .. }
+            | Place::StoreSlot { .. }
+            | Place::SendSlot { .. }
+            | Place::StoreGate
+            | Place::SendGate => unreachable!(),
+        }
+    }
+
+    /// Line `line` of a part.
+    fn part_line(&self, part: Part, line: u64) -> LineNo
+        requires least { least_lines ≤ self.now.lines }
+        requires line { IsLine part line self.now }
+        ensures line { result.0 ≡ spec.part_line self.now part line }
+        ensures within { result.0 < self.now.lines }
+    {
+        match part {
+            Part::Superblock => LineNo(1 + line),
+            Part::Header => LineNo(LOG_LINE),
+            Part::Slot(i) => line_of_slot(&self.params, i, line),
+            Part::File => unreachable!(),
+        }
+    }
+
+    /// Goes on at another place.
+    fn go(&mut self, place: Place) -> Turn
+        requires { IsSoundAt place (record self.old { place = place }) }
+        ensures turn { result ≡ Go }
+        ensures new { self.new ≡ record self.old { place = place } }
+    {
+        self.place = place;
+        Turn::Go
+    }
+}

@@ -1,0 +1,54 @@
+//! Turns of a task that appends: the new slot's words are stored, and its lines are sent.
+
+ghost use Rattle.std.specs.Prelude.{◌≡◌, None};
+ghost use Rattle.fam_machine.specs.declared.op.Place.TheVariants as at;
+ghost use Rattle.fam_machine.specs.Task.{op_of};
+ghost use Rattle.fam_machine.specs.Turns.{turn_of};
+ghost use Rattle.fam_tasks.specs.Sound.{IsWithin};
+ghost use Rattle.fam_tasks.specs.Tells.{Tells};
+
+use super::{LAST_LINE, LAST_WORD, Task};
+use crate::answer::Turn;
+use crate::parts::{SLOT_LINES, line_of_slot};
+use fam_machine::{Op, Place};
+
+impl Task {
+    /// The store of a word of the new slot.
+    pub(super) fn slot_store(&self, line: u64, word: u8) -> Op
+        requires { self.now.place ≡ at.StoreSlot line word }
+        ensures op { result ≡ op_of self.now }
+        ensures within { IsWithin self.now.lines result }
+    {
+        let value = self.buffer.at((SLOT_LINES * line) as usize + word as usize);
+        Op::Store(line_of_slot(&self.params, self.gate, line), word, value)
+    }
+
+    /// A word of the new slot was stored.
+    pub(super) fn store_slot(&mut self, line: u64, k: u8) -> Turn
+        requires { self.old.place ≡ at.StoreSlot line k }
+        ensures { Tells (turn_of self.old None) result self.new }
+    {
+        self.place = if k < LAST_WORD {
+            Place::StoreSlot { line, word: k + 1 }
+        } else {
+            Place::SendSlot { line }
+        };
+        Turn::Go
+    }
+
+    /// A line of the new slot was sent.
+    pub(super) fn send_slot(&mut self, line: u64) -> Turn
+        requires { self.old.place ≡ at.SendSlot line }
+        ensures { Tells (turn_of self.old None) result self.new }
+    {
+        self.place = if line < LAST_LINE {
+            Place::StoreSlot {
+                line: line + 1,
+                word: 0,
+            }
+        } else {
+            Place::StoreGate
+        };
+        Turn::Go
+    }
+}

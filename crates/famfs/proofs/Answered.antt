@@ -1,0 +1,98 @@
+-- What a command on the log says, by its run.
+use Rattle.std.proofs.Common.{◌≡◌, ℕ, ◌<◌, ◌≤◌, Bool, true, false, List, [], length, Option, Some, None, inl, inr, refl, sym, ap, subst, ◌∙◌, arith}
+use Rattle.std.specs.Prelude.{nat_lt, IfSome, OnSome}
+use Rattle.std.proofs.lemmas.Bool.Decides.{nat_tests}
+use Rattle.std.proofs.lemmas.List.Elements.{All-nil}
+use Rattle.fam_base.specs.declared.cmd.Cmd.{Cmd}
+use Rattle.fam_base.specs.declared.entry.Entry.{Entry}
+use Rattle.fam_base.specs.declared.entry.Kind.TheVariants.{Directory}
+use Rattle.fam_base.specs.Image.{Image}
+use Rattle.fam_format.specs.Layout.{least_lines}
+use Rattle.fam_machine.specs.Operations.{operated}
+use Rattle.fam_machine.specs.Solo.{fresh, starts}
+use Rattle.fam_machine.specs.Task.{op_of, starting}
+use Rattle.fam_media.specs.Causes.{Rose}
+use Rattle.fam_media.specs.Outside.{IfTold}
+use Rattle.fam_run.specs.Files.{IsDue, meets_a_file}
+use Rattle.fam_run.specs.Run.{HasBroken, HasEnded, HasStopped, Ran, fault_of}
+use Rattle.fam_tasks.specs.declared.answer.Answer.{Answer}
+use Rattle.fam_tasks.specs.declared.answer.Answer.TheVariants as answer
+use Rattle.famfs.specs.declared.said.Said.TheVariants as said
+use Rattle.famfs.specs.Due.{IsTaskStopped, TaskDue}
+use Rattle.famfs.specs.Ends.{Leaves, Passage}
+use Rattle.famfs.specs.Says.{AnswerSays, IsDone, TaskSays}
+
+module _ (media : Passage) (me : List ℕ) (c : Cmd) (count : IfTold media.image (λ image. length image ≡ media.size)) where
+  -- the image is large enough
+  enough_due : (image left : Image) (a : Answer) → least_lines ≤ length image → IsDue (meets_a_file image me c) image me c a (Some left) → TaskDue (nat_lt (length image) least_lines) image me c (said.Answered a) left
+  enough_due image left a enough due = go (nat_lt (length image) least_lines) refl
+    where
+      go : (b : Bool) → nat_lt (length image) least_lines ≡ b → TaskDue b image me c (said.Answered a) left
+      go true is = absurd (grind (arith, nat_tests))
+      go false is = record { answer = a; shown_is = refl; due = due }
+
+  -- an answer without a fault
+  ended : (a : Answer) → least_lines ≤ media.size → IfTold media.image (λ image. HasEnded c me image a media.image_now) → IfTold media.image (λ image. IsDue (meets_a_file image me c) image me c a media.image_now) → Leaves media (IsDone me c (said.Answered a))
+  ended a enough ran due image is =
+      let e = ran image is in
+      let left : Image = (operated (op_of e.reached.task) e.reached.machine).image in
+      let at : length image ≡ media.size = count image is in (
+        left,
+        e.left,
+        record {
+          due = enough_due image left a (omega (arith, at, enough)) (subst (λ (o : Option Image). IsDue (meets_a_file image me c) image me c a o) e.left (due image is));
+          stopped = inr (a, record { reached = e.reached; inside = e.inside; left = refl; after = e.after; reply = e.reply });
+        },
+      )
+
+  pub says_answer : (a : Answer) → least_lines ≤ media.size → IfTold media.image (λ image. Ran c me image a media.image_now)
+      → (fault_of a ≡ None → IfTold media.image (λ image. IsDue (meets_a_file image me c) image me c a media.image_now))
+      → OnSome (fault_of a) (Rose media.faults media.faults_now) → IfSome (fault_of a) (λ line. line.0 < media.size) → AnswerSays media me c a
+  says_answer (answer.Ok seq) enough ran due rose line = ended _ enough ran (due refl)
+  says_answer (answer.Played m tree) enough ran due rose line = ended _ enough ran (due refl)
+  says_answer (answer.NoSuper word) enough ran due rose line = ended _ enough ran (due refl)
+  says_answer (answer.BadSuper field found wanted) enough ran due rose line = ended _ enough ran (due refl)
+  says_answer (answer.BadLog field found wanted) enough ran due rose line = ended _ enough ran (due refl)
+  says_answer (answer.BadEntry seq reason) enough ran due rose line = ended _ enough ran (due refl)
+  says_answer (answer.NotMaster host master) enough ran due rose line = ended _ enough ran (due refl)
+  says_answer (answer.Exists kind) enough ran due rose line = ended _ enough ran (due refl)
+  says_answer answer.NoParent enough ran due rose line = ended _ enough ran (due refl)
+  says_answer answer.ParentIsFile enough ran due rose line = ended _ enough ran (due refl)
+  says_answer (answer.LogFull slots) enough ran due rose line = ended _ enough ran (due refl)
+  says_answer answer.NotYet enough ran due rose line = ended _ enough ran (due refl)
+  says_answer (answer.MediaFault at) enough ran due rose line = record {
+    rose = rose;
+    within = line;
+    leaves = λ image is.
+        let b : HasBroken c me image at media.image_now = ran image is in
+        let lines : length image ≡ media.size = count image is in (
+          b.broken,
+          b.left,
+          record {
+            enough = omega (arith, lines, enough);
+            broken = record { reached = b.reached; line = b.line; through = b.through; fits = b.fits; broken = b.broken; fails = b.fails; left = refl };
+          },
+        );
+  }
+
+  -- an image of too few lines is not looked at
+  pub says_small : media.size < least_lines → media.image_now ≡ media.image → TaskSays media me c (said.Small media.size)
+  says_small few same image is =
+      let lines : length image ≡ media.size = count image is in (
+        image,
+        same ∙ is,
+        record {
+          due = small image lines (nat_lt (length image) least_lines) refl;
+          stopped = inl (record { reached = record { task = starting c me (length image); words = []; made = 0; machine = fresh image; came = starts; plain = All-nil (λ (e : Entry). e.kind ≡ Directory) }; left = refl });
+        },
+      )
+    where
+      small : (image : Image) → length image ≡ media.size → (b : Bool) → nat_lt (length image) least_lines ≡ b → TaskDue b image me c (said.Small media.size) image
+      small image lines true is = (ap said.Small (sym lines), refl)
+      small image lines false is = absurd (grind (arith, nat_tests))
+
+-- no memory was left for an operation
+pub says_stopped : (media : Passage) (me : List ℕ) (c : Cmd) → IfTold media.image (λ image. HasStopped c me image media.image_now) → Leaves media (λ image left. IsTaskStopped image me c left)
+says_stopped media me c stopped image is =
+    let h = stopped image is in
+    (h.reached.machine.image, h.left, inl (record { reached = h.reached; left = refl }))

@@ -1,0 +1,198 @@
+-- What making a file system says, by its end.
+use Rattle.std.proofs.Common.{◌≡◌, ℕ, ◌*◌, Bool, true, false, List, length, map, Option, Some, None, Result, Ok, Err, inl, inr, refl, sym, ap, subst, ◌∙◌}
+use Rattle.std.specs.Prelude.{⊤, nat_lt, if◌then◌else◌}
+use Rattle.std.specs.FinMap as finmap
+use Rattle.fam_base.specs.declared.entry.Params.{Params}
+use Rattle.fam_base.specs.declared.line.LineNo.{LineNo}
+use Rattle.fam_base.specs.Image.{Image, eight, line_at}
+use Rattle.fam_format.specs.declared.faults.SuperFault.{SuperFault}
+use Rattle.fam_format.specs.Params.{need}
+use Rattle.fam_format.specs.Reading.{super_in}
+use Rattle.fam_machine.specs.Caches.{Cache}
+use Rattle.fam_machine.specs.Solo.{fresh}
+use Rattle.fam_media.specs.Outside.{IfTold}
+use Rattle.fam_mkfs.proofs.Formats.{empty_formats, read_empty}
+use Rattle.fam_mkfs.specs.declared.make.MkfsEnd.{MkfsEnd}
+use Rattle.fam_mkfs.specs.declared.make.MkfsEnd.TheVariants as end
+use Rattle.fam_mkfs.specs.Ends.{Ends, IsCut, IsFound, IsMade}
+use Rattle.fam_mkfs.specs.Mkfs.{asked, due_ops, found, goes_on, is_geometry, refusal}
+use Rattle.fam_mkfs.specs.Runs.{Seen, seen}
+use Rattle.fam_rules.specs.Place.{line_bytes}
+use Rattle.fam_rules.specs.Written.{formatted}
+use Rattle.famfs.specs.declared.said.Said.{Said}
+use Rattle.famfs.specs.declared.said.Said.TheVariants as said
+use Rattle.famfs.specs.Due.{IsMkfsBroken, IsMkfsDue, MadeDue, MkfsDue, said_of_end}
+use Rattle.famfs.specs.Ends.{Leaves, Passage}
+use Rattle.famfs.specs.Says.{IsCutShort, IsMadeOf, MkfsSays, MkfsWants}
+
+-- nothing stands in the way where no superblock reads
+free_due : (r : Result Params SuperFault) (p : Params) (image left : Image) (shown : Said) → goes_on false r ≡ true → shown ≡ said.Made p → left ≡ formatted image p → MadeDue r p image shown left
+free_due (Ok other) p image left shown goes is same = absurd (let never : false ≡ true = goes in cc)
+free_due (Err fault) p image left shown goes is same = (is, same)
+
+-- a superblock reads
+held_due : (r : Result Params SuperFault) (other p : Params) (image left : Image) (shown : Said) → r ≡ Ok other → shown ≡ said.HasSuper other.fs → left ≡ image → MadeDue r p image shown left
+held_due r other p image left shown reads is same = subst (λ (r : Result Params SuperFault). MadeDue r p image shown left) (sym reads) (is, same)
+
+-- nothing is refused at once
+allowed_due : (o : Option MkfsEnd) (p : Params) (image left : Image) (shown : Said) → o ≡ None → MadeDue (super_in (line_at image) (line_bytes * length image)) p image shown left → MkfsDue o p image shown left
+allowed_due o p image left shown none due = subst (λ (o : Option MkfsEnd). MkfsDue o p image shown left) (sym none) due
+
+-- what is refused at once
+refused_due : (o : Option MkfsEnd) (refused : MkfsEnd) (p : Params) (image left : Image) → o ≡ Some refused → left ≡ image → MkfsDue o p image (said_of_end refused) left
+refused_due o refused p image left some same = subst (λ (o : Option MkfsEnd). MkfsDue o p image (said_of_end refused) left) (sym some) (refl, same)
+
+-- only two ends are refusals
+abbrev IsRefusal : MkfsEnd → Type 0
+IsRefusal (end.Made p) = ⊥
+IsRefusal (end.HasSuper fs) = ⊥
+IsRefusal (end.Failed line) = ⊥
+IsRefusal (end.BadGeometry unit log) = ⊤
+IsRefusal (end.TooSmall wanted have) = ⊤
+
+is_refusal : (unit log have : ℕ) (e : MkfsEnd) → refusal unit log have ≡ Some e → IsRefusal e
+is_refusal unit log have e some = go (is_geometry unit log) (nat_lt have (need log unit)) some
+  where
+    go : (b few : Bool) → (if b then (if few then Some (end.TooSmall (need log unit) have) else None) else Some (end.BadGeometry unit log)) ≡ Some e → IsRefusal e
+    go true true some = subst IsRefusal (let same : end.TooSmall (need log unit) have ≡ e = cc in same) tt
+    go true false some = absurd cc
+    go false few some = subst IsRefusal (let same : end.BadGeometry unit log ≡ e = cc in same) tt
+
+module _ (media : Passage) (me : List ℕ) (unit log : ℕ) (fs : List ℕ) (count : IfTold media.image (λ image. length image ≡ media.size)) (normal : IfTold media.image (λ image. map eight image ≡ image)) where
+  -- the numbers are taken
+  module _ (now : Cache) (none : refusal unit log (line_bytes * media.size) ≡ None) where
+    none_at : (image : Image) → media.image ≡ Some image → refusal unit log (line_bytes * length image) ≡ None
+    none_at image is = ap (λ (n : ℕ). refusal unit log (line_bytes * n)) (count image is) ∙ none
+
+    -- what was found by the reading is what the image says
+    reads_image : (image : Image) → media.image ≡ Some image → found (asked unit log fs me (length image)) (fresh image) ≡ super_in (line_at image) (line_bytes * length image)
+    reads_image image is = ap (λ (i : Image). super_in (line_at i) (line_bytes * length image)) (read_empty image (normal image is))
+
+    made : IsMade (asked unit log fs me media.size) false (seen media.image finmap.empty) (seen media.image_now now) → Leaves media (λ image left. IsMkfsDue image me unit log fs (said.Made (asked unit log fs me media.size)) left)
+    made h image is =
+        let p = asked unit log fs me (length image) in
+        let same : asked unit log fs me media.size ≡ p = ap (asked unit log fs me) (sym (count image is)) in
+        let free : goes_on false (found p (fresh image)) ≡ true = subst (λ (q : Params). goes_on false (found q (fresh image)) ≡ true) same (h.free image is) in (
+          formatted image p,
+          h.passes.image image is ∙ ap Some (empty_formats (asked unit log fs me media.size) image (normal image is) ∙ ap (formatted image) same),
+          allowed_due _ p image _ _ (none_at image is) (free_due _ p image _ _ (ap (goes_on false) (sym (reads_image image is)) ∙ free) (ap said.Made same) refl),
+        )
+
+    held : (id : List ℕ) → IsFound (asked unit log fs me media.size) false id (seen media.image finmap.empty) (seen media.image_now now) → Leaves media (λ image left. IsMkfsDue image me unit log fs (said.HasSuper id) left)
+    held id h image is =
+        let p = asked unit log fs me (length image) in
+        let same : asked unit log fs me media.size ≡ p = ap (asked unit log fs me) (sym (count image is)) in
+        let n = h.names image is in
+        let reads : super_in (line_at image) (line_bytes * length image) ≡ Ok n.other = sym (reads_image image is) ∙ ap (λ (q : Params). found q (fresh image)) (sym same) ∙ n.reads in (
+          image,
+          h.passes.image image is ∙ ap Some (read_empty image (normal image is)),
+          allowed_due _ p image image _ (none_at image is) (held_due _ n.other p image image _ reads (ap said.HasSuper n.named) refl),
+        )
+
+    cut : (line : LineNo) → IsCut (asked unit log fs me media.size) false media.size line.0 (seen media.image finmap.empty) (seen media.image_now now) media.faults media.faults_now → IsCutShort media line (λ image left. IsMkfsBroken image me unit log fs line left)
+    cut line h = record {
+      rose = h.rose;
+      within = h.within;
+      leaves = λ image is.
+          let f = h.fails image is in (
+            f.image,
+            f.told,
+            record {
+              allowed = none_at image is;
+              done = f.done;
+              op = f.op;
+              rest = f.rest;
+              split = ap (λ (n : ℕ). due_ops false (asked unit log fs me n) (fresh image)) (count image is) ∙ f.split;
+              at = f.at;
+              through = f.through;
+              fits = f.fits;
+              fails = f.left;
+            },
+          );
+    }
+
+    taken : (e : MkfsEnd) → Ends (asked unit log fs me media.size) false media.size (seen media.image finmap.empty) (seen media.image_now now) media.faults media.faults_now e → MkfsSays media me unit log fs (said_of_end e)
+    taken (end.Made p) (same, h) = subst (λ (p : Params). Leaves media (λ image left. IsMkfsDue image me unit log fs (said.Made p) left)) (sym same) (made h)
+    taken (end.HasSuper id) h = held id h
+    taken (end.Failed line) h = cut line h
+    taken (end.BadGeometry u l) h = absurd h
+    taken (end.TooSmall wanted have) h = absurd h
+
+  -- they are refused
+  refused : (e : MkfsEnd) → refusal unit log (line_bytes * media.size) ≡ Some e → media.image_now ≡ media.image → Leaves media (λ image left. IsMkfsDue image me unit log fs (said_of_end e) left)
+  refused e some same image is = (image, same ∙ is, refused_due _ e _ image image (ap (λ (n : ℕ). refusal unit log (line_bytes * n)) (count image is) ∙ some) refl)
+
+  refused_says : (e : MkfsEnd) → IsRefusal e → Leaves media (λ image left. IsMkfsDue image me unit log fs (said_of_end e) left) → MkfsSays media me unit log fs (said_of_end e)
+  refused_says (end.Made p) allowed leaves = absurd allowed
+  refused_says (end.HasSuper id) allowed leaves = absurd allowed
+  refused_says (end.Failed line) allowed leaves = absurd allowed
+  refused_says (end.BadGeometry u l) allowed leaves = leaves
+  refused_says (end.TooSmall wanted have) allowed leaves = leaves
+
+  -- by what is refused
+  pub made_says : (e : MkfsEnd) (lines now : Cache) → lines ≡ finmap.empty
+      → ((r : MkfsEnd) → refusal unit log (line_bytes * media.size) ≡ Some r → e ≡ r)
+      → ((r : MkfsEnd) → refusal unit log (line_bytes * media.size) ≡ Some r → media.image_now ≡ media.image)
+      → (refusal unit log (line_bytes * media.size) ≡ None → Ends (asked unit log fs me media.size) false media.size (seen media.image lines) (seen media.image_now now) media.faults media.faults_now e)
+      → MkfsSays media me unit log fs (said_of_end e)
+  made_says e lines now empty refuses untouched ends = go (refusal unit log (line_bytes * media.size)) refl
+    where
+      go : (o : Option MkfsEnd) → refusal unit log (line_bytes * media.size) ≡ o → MkfsSays media me unit log fs (said_of_end e)
+      go None is = taken now is e (subst (λ (c : Cache). Ends (asked unit log fs me media.size) false media.size (seen media.image c) (seen media.image_now now) media.faults media.faults_now e) empty (ends is))
+      go (Some r) is = subst (λ (e : MkfsEnd). MkfsSays media me unit log fs (said_of_end e)) (sym (refuses r is)) (refused_says r (is_refusal unit log _ r is) (refused r is (untouched r is)))
+
+-- the parameters of one that is made
+pub made_of : (p : Params) (unit log have : ℕ) (e : MkfsEnd) → ((r : MkfsEnd) → refusal unit log have ≡ Some r → e ≡ r)
+    → (size faults faults_now : ℕ) (s t : Seen) → (refusal unit log have ≡ None → Ends p false size s t faults faults_now e) → IsMadeOf p (said_of_end e)
+made_of p unit log have e refuses size faults faults_now s t ends = go e (refusal unit log have) refl refuses ends
+  where
+    of_refusal : (e : MkfsEnd) → IsRefusal e → IsMadeOf p (said_of_end e)
+    of_refusal (end.Made p) allowed = absurd allowed
+    of_refusal (end.HasSuper id) allowed = absurd allowed
+    of_refusal (end.Failed line) allowed = absurd allowed
+    of_refusal (end.BadGeometry u l) allowed = tt
+    of_refusal (end.TooSmall wanted have) allowed = tt
+
+    of_end : (e : MkfsEnd) → Ends p false size s t faults faults_now e → IsMadeOf p (said_of_end e)
+    of_end (end.Made other) (same, h) = same
+    of_end (end.HasSuper id) h = tt
+    of_end (end.Failed line) h = tt
+    of_end (end.BadGeometry u l) h = tt
+    of_end (end.TooSmall wanted have) h = tt
+
+    go : (e : MkfsEnd) (o : Option MkfsEnd) → refusal unit log have ≡ o → ((r : MkfsEnd) → refusal unit log have ≡ Some r → e ≡ r) → (refusal unit log have ≡ None → Ends p false size s t faults faults_now e) → IsMadeOf p (said_of_end e)
+    go e None is refuses ends = of_end e (ends is)
+    go e (Some r) is refuses ends = subst (λ (e : MkfsEnd). IsMadeOf p (said_of_end e)) (sym (refuses r is)) (of_refusal r (is_refusal unit log have r is))
+
+-- no memory was left for the text of what is not made
+abbrev IsNotMade : Said → Type 0
+IsNotMade (said.Made p) = ⊥
+IsNotMade (said.Small lines) = ⊤
+IsNotMade (said.Answered a) = ⊤
+IsNotMade (said.HasSuper fs) = ⊤
+IsNotMade (said.BadGeometry unit log) = ⊤
+IsNotMade (said.TooSmall wanted have) = ⊤
+IsNotMade (said.Refused line) = ⊤
+
+unmade : (o : Option MkfsEnd) (r : Result Params SuperFault) (p : Params) (image left : Image) (shown : Said) → IsNotMade shown → MadeDue r p image shown left → left ≡ image
+unmade o (Ok other) p image left shown not (is, same) = same
+unmade o (Err fault) p image left shown not (is, same) = absurd (subst IsNotMade is not)
+
+not_due : (o : Option MkfsEnd) (p : Params) (image left : Image) (shown : Said) → IsNotMade shown → MkfsDue o p image shown left → left ≡ image
+not_due None p image left shown not due = unmade None (super_in (line_at image) (line_bytes * length image)) p image left shown not due
+not_due (Some refused) p image left shown not (is, same) = same
+
+module _ (media : Passage) (me : List ℕ) (unit log : ℕ) (fs : List ℕ) where
+  not_stopped : (shown : Said) → IsNotMade shown → Leaves media (λ image left. IsMkfsDue image me unit log fs shown left) → MkfsWants media me unit log fs
+  not_stopped shown not leaves = inl (λ image is.
+      let d = leaves image is in
+      (d.0, d.1, not_due _ _ image d.0 shown not d.2))
+
+  pub mkfs_wants : (shown : Said) → ((p : Params) → shown ≡ said.Made p → ⊥) → MkfsSays media me unit log fs shown → MkfsWants media me unit log fs
+  mkfs_wants (said.Made p) other l = absurd (other p refl)
+  mkfs_wants (said.HasSuper id) other l = not_stopped _ tt l
+  mkfs_wants (said.BadGeometry u g) other l = not_stopped _ tt l
+  mkfs_wants (said.TooSmall wanted have) other l = not_stopped _ tt l
+  mkfs_wants (said.Refused line) other broken = inr (line, broken)
+  mkfs_wants (said.Small lines) other l = absurd l
+  mkfs_wants (said.Answered a) other l = absurd l

@@ -1,0 +1,16 @@
+//! A UUID from random bytes. `specs/Fresh.antt` has its form.
+
+ghost use Rattle.std.specs.Prelude.{◌≡◌};
+ghost use Rattle.famfs.specs.Fresh.{version4_of};
+
+use uuid::Uuid;
+
+/// The version 4 UUID of RFC 9562 that has these random bytes.
+pub(crate) fn version4(fresh: [u8; 16]) -> Uuid
+    ensures { result ≡ version4_of fresh }
+{
+    let mut bytes = fresh;
+    bytes[6] = 0x40 + bytes[6] % 16;
+    bytes[8] = 0x80 + bytes[8] % 64;
+    Uuid::from_bytes(bytes)
+}

@@ -1,0 +1,169 @@
+//! What a command on its own shows: its last note, or why it ended early. `specs/Said.antt` has the texts and the
+//! statuses.
+
+ghost use Rattle.std.specs.Prelude.{◌≡◌, IfOk, string_bytes};
+ghost use Rattle.famfs.specs.Said as spec;
+
+use crate::status::Status;
+use crate::texts::{
+    entry_line, kind, line, line_of, log_line, media_fault_line, played_lines, super_line,
+};
+use fam_base::{Kind, LineNo, OutOfMemory, Params};
+use fam_format::{LogFault, SuperFault};
+use fam_tasks::Answer;
+use std::alloc::{AllocError, Global};
+use uuid::Uuid;
+
+/// What a command on its own shows.
+#[derive(Drop)]
+pub(crate) enum Said {
+    /// So many lines are too few for an image.
+    Small(u64),
+    /// A task has answered.
+    Answered(Answer),
+    /// A file system is made.
+    Made(Params),
+    /// No file system is made: the image has a superblock, of the file system of this UUID.
+    HasSuper(Uuid),
+    /// No file system is made: there is none with units of `unit` bytes and a log of `log` bytes.
+    BadGeometry { unit: u64, log: u64 },
+    /// No file system is made: it would need `need` bytes, and the image has `have`.
+    TooSmall { need: u64, have: u64 },
+    /// No file system is made: memory failed at this line.
+    Refused(LineNo),
+}
+
+/// The status of an answer.
+fn answer_status(answer: &Answer) -> Status
+    ensures { result ≡ spec.answer_status answer.now }
+{
+    match answer {
+        Answer::Ok(_) => Status::Done,
+        Answer::Played { .. } => Status::Done,
+        Answer::NoSuper(_) => Status::Damaged,
+        Answer::BadSuper { .. } => Status::Damaged,
+        Answer::BadLog { .. } => Status::Damaged,
+        Answer::BadEntry { .. } => Status::Damaged,
+        Answer::NotMaster { .. } => Status::Refused,
+        Answer::Exists(_) => Status::Refused,
+        Answer::NoParent => Status::Refused,
+        Answer::ParentIsFile => Status::Refused,
+        Answer::LogFull(_) => Status::Refused,
+        Answer::MediaFault(_) => Status::MediaFault,
+        Answer::NotYet => Status::NotYet,
+    }
+}
+
+/// The status with which the command ends.
+pub(crate) fn said_status(said: &Said) -> Status
+    ensures { result ≡ spec.said_status said.now }
+{
+    match said {
+        Said::Small(_) => Status::Damaged,
+        Said::Answered(answer) => answer_status(answer),
+        Said::Made(_) => Status::Done,
+        Said::HasSuper(_) => Status::Refused,
+        Said::BadGeometry { .. } => Status::Refused,
+        Said::TooSmall { .. } => Status::Refused,
+        Said::Refused(_) => Status::MediaFault,
+    }
+}
+
+/// The sizes of a file system.
+fn sizes_words(alloc: Global, unit: u64, log: u64, device: u64) -> Result<String, AllocError>
+    ensures { IfOk result (λ s. string_bytes s ≡ spec.sizes_words unit log device) }
+{
+    format!(in alloc; " unit {unit} log {log} device {device}")
+}
+
+/// A file system that was made: its UUID, and its sizes.
+fn made_words(alloc: Global, params: &Params) -> Result<String, AllocError>
+    ensures { IfOk result (λ s. string_bytes s ≡ spec.made_words params.now) }
+{
+    let sizes = sizes_words(alloc, params.unit, params.log_length, params.device)?;
+    let fs = params.fs;
+    format!(in alloc; "made {fs}{sizes}")
+}
+
+/// The line that names this host and the one that appends to the log.
+fn not_master_line(alloc: Global, me: Uuid, master: Uuid) -> Result<Vec<u8>, OutOfMemory>
+    ensures { IfOk result (λ bytes. bytes.items ≡ spec.not_master_text me master) }
+{
+    line_of(alloc, format!(in alloc; "not master {me} {master}"))
+}
+
+/// The line that names what stands at the path.
+fn exists_line(alloc: Global, there: Kind) -> Result<Vec<u8>, OutOfMemory>
+    ensures { IfOk result (λ bytes. bytes.items ≡ spec.exists_text there) }
+{
+    let name = kind(there);
+    line_of(alloc, format!(in alloc; "exists {name}"))
+}
+
+/// The text of an answer: its line, and the listing behind it.
+fn answered_lines(alloc: Global, answer: &Answer) -> Result<Vec<u8>, OutOfMemory>
+    ensures { IfOk result (λ bytes. bytes.items ≡ spec.answered_text answer.now) }
+{
+    match answer {
+        Answer::Ok(seq) => line_of(alloc, format!(in alloc; "ok {seq}")),
+        Answer::Played { m, tree } => played_lines(alloc, *m, tree),
+        Answer::NoSuper(word) => super_line(alloc, SuperFault::NoSuper(*word)),
+        Answer::BadSuper {
+            field,
+            found,
+            wanted,
+        } => super_line(
+            alloc,
+            SuperFault::BadSuper {
+                field: *field,
+                found: *found,
+                wanted: *wanted,
+            },
+        ),
+        Answer::BadLog {
+            field,
+            found,
+            wanted,
+        } => log_line(
+            alloc,
+            LogFault::BadLog {
+                field: *field,
+                found: *found,
+                wanted: *wanted,
+            },
+        ),
+        Answer::BadEntry { seq, reason } => entry_line(alloc, *seq, *reason),
+        Answer::NotMaster { me, master } => not_master_line(alloc, *me, *master),
+        Answer::Exists(there) => exists_line(alloc, *there),
+        Answer::NoParent => line(alloc, "no parent"),
+        Answer::ParentIsFile => line(alloc, "parent is a file"),
+        Answer::LogFull(slots) => line_of(alloc, format!(in alloc; "log full {slots}")),
+        Answer::MediaFault(at) => media_fault_line(alloc, *at),
+        Answer::NotYet => line(alloc, "not yet"),
+    }
+}
+
+/// The text with its line feeds.
+pub(crate) fn said_lines(alloc: Global, said: &Said) -> Result<Vec<u8>, OutOfMemory>
+    ensures { IfOk result (λ bytes. bytes.items ≡ spec.said_text said.now) }
+{
+    match said {
+        Said::Small(lines) => line_of(alloc, format!(in alloc; "refused image too small {lines}")),
+        Said::Answered(answer) => answered_lines(alloc, answer),
+        Said::Made(params) => line_of(alloc, made_words(alloc, params)),
+        Said::HasSuper(fs) => line_of(alloc, format!(in alloc; "refused has superblock {fs}")),
+        Said::BadGeometry { unit, log } => {
+            line_of(
+                alloc,
+                format!(in alloc; "refused bad geometry {unit} {log}"),
+            )
+        }
+        Said::TooSmall { need, have } => {
+            line_of(alloc, format!(in alloc; "refused too small {need} {have}"))
+        }
+        Said::Refused(at) => {
+            let number = at.0;
+            line_of(alloc, format!(in alloc; "refused media fault {number}"))
+        }
+    }
+}
