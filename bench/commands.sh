@@ -1,9 +1,12 @@
 #!/usr/bin/env bash
-# Times `famfs logplay` on a full log of 8 MiB: 16,383 directories, read from the page cache. python3 writes the image.
+# Times mkfs, mkdir and logplay on a log of 8 MiB: 16,382 directories, read from the page cache. python3 writes the
+# image.
 #
-# Printed on one x86-64 processor at about 2.5 GHz: 0.084 to 0.093 s while it had nothing else to do, and up to 0.17 s
-# beside other work. About half is in the system's 131,069 reads of a line each; the rest is parsing and the tree, a
-# BTreeMap. A log of half the length took 0.042 s. The wanted bound was 0.1 s.
+# Printed on one x86-64 processor at about 2.5 GHz, a shared one: mkfs 0.004 to 0.013 s; mkdir, which reads 16,382 slots
+# and fills the last one, 0.145 to 0.18 s while the machine was quiet, and up to 0.32 s beside other work; logplay of the
+# full log the same. The shell that starts each takes about 0.005 s of that. Nearly half is in the system's 131,069 reads
+# of a line each; the rest is more than a million steps on the cache, parsing, and the tree, a BTreeMap. The wanted bound
+# was 0.15 s for mkdir.
 set -eu
 top=$(cd "$(dirname "${BASH_SOURCE[0]}")/.." && pwd)
 work=$(mktemp -d)
@@ -23,17 +26,23 @@ put(0, [int.from_bytes(b"famfs-01", "little")])
 put(1, summed([1, 2097152, log, unit, device] + halves(fs) + halves(master) + [0] * 6))
 slots = log // 512 - 1
 put(32768, summed([int.from_bytes(b"famfslog", "little"), log, slots] + halves(fs) + [0, 0]))
-put(32769, [slots])
-for i in range(slots):
+put(32769, [slots - 1])
+for i in range(slots - 1):
     path = b"directory-%05d" % (i * 7919 % slots)
     words = [i, 2, 0, 0o755, 0, 0, len(path), 0, 0, 0] + [0] * 32
     words += struct.unpack("<21Q", path + bytes(168 - len(path)))
     put(32776 + 8 * i, summed(words))
 open(sys.argv[1], "wb").write(image)
 PY
-"$top/famfs" logplay "$work/img" >"$work/out"
-head -1 "$work/out"
 for _ in 1 2 3 4 5; do
+    rm -f "$work/new"
+    truncate -s 16777216 "$work/new"
+    TIMEFORMAT="mkfs: %R s"
+    time "$top/famfs" mkfs "$work/new" -u 4K >"$work/out"
+    cp "$work/img" "$work/full"
+    TIMEFORMAT="mkdir: %R s"
+    time "$top/famfs" mkdir "$work/full" last >"$work/out"
     TIMEFORMAT="logplay: %R s"
-    time "$top/famfs" logplay "$work/img" >"$work/out"
+    time "$top/famfs" logplay "$work/full" >"$work/out"
 done
+head -1 "$work/out"
