@@ -3,10 +3,10 @@
 # image.
 #
 # Printed on one x86-64 processor at about 2.5 GHz, a shared one: mkfs 0.004 to 0.013 s; mkdir, which reads 16,382 slots
-# and fills the last one, 0.145 to 0.18 s while the machine was quiet, and up to 0.32 s beside other work; logplay of the
-# full log the same. The shell that starts each takes about 0.005 s of that. Nearly half is in the system's 131,069 reads
-# of a line each; the rest is more than a million steps on the cache, parsing, and the tree, a BTreeMap. The wanted bound
-# was 0.15 s for mkdir.
+# and fills the last one, 0.145 to 0.155 s at its quietest and up to 0.32 s at other times; logplay of the full log the
+# same. The shell that starts each takes about 0.005 s of that. Nearly half is in the system's 131,069 reads of a line
+# each; the rest is more than a million steps on the cache, parsing, and the tree, a BTreeMap. The wanted bound was 0.15 s
+# for mkdir: it isn't met reliably.
 set -eu
 top=$(cd "$(dirname "${BASH_SOURCE[0]}")/.." && pwd)
 work=$(mktemp -d)
