@@ -5,7 +5,8 @@ use Rattle.fam_base.specs.Image.{Image, eight, line_at, with_line, masked, with_
 use Rattle.fam_base.proofs.ImageLemmas.{with_line-line_at}
 use Rattle.fam_machine.specs.declared.cell.Cell.{Cell}
 use Rattle.fam_machine.specs.declared.cell.Cell.TheVariants.{Absent, Clean, Dirty}
-use Rattle.fam_machine.specs.Caches.{line_changed}
+use Rattle.fam_machine.specs.Caches.{Cache, cell_at, cell_changed, line_changed, with_cell}
+use Rattle.fam_machine.proofs.CacheLemmas.{with_cell_own}
 use Rattle.fam_machine.specs.OneLine.{IsHeld, IsDirty, brought, fetched, leaked, failed_send, failed_leak}
 use Rattle.fam_media.specs.Outside.{IfTold, IsTorn}
 use Rattle.fam_cache.specs.Effects.{FromMemory, FailsTo}
@@ -43,6 +44,17 @@ dirty_stays (Dirty words) mask is memory = refl
 -- a held line is not brought
 pub held_kept : (told : Option Image) (line : ℕ) (copy : Cell) → IsHeld (normal copy) → FromMemory told line (λ memory. normal copy ≡ brought memory (normal copy))
 held_kept told line copy is = from_any told line (λ memory. normal copy ≡ brought memory (normal copy)) (held_stays copy is)
+
+held_still : (cell : Cell) → IsHeld cell → (memory : List ℕ) → brought memory cell ≡ cell
+held_still Absent is memory = absurd cc
+held_still (Clean words) is memory = refl
+held_still (Dirty words) is memory = refl
+
+-- to bring a held line changes nothing
+pub held_same : (told : Option Image) (line : ℕ) (cache : Cache) → IsHeld (cell_at cache line) → FromMemory told line (λ memory. cache ≡ cell_changed line (brought memory) cache)
+held_same told line cache is =
+    from_any told line (λ memory. cache ≡ cell_changed line (brought memory) cache)
+    (λ memory. sym (ap (λ (cell : Cell). with_cell line cell cache) (held_still (cell_at cache line) is memory) ∙ with_cell_own line cache))
 
 -- a dirty line is not refreshed
 pub dirty_kept : (told : Option Image) (line mask : ℕ) (copy : Cell) → IsDirty (normal copy) → FromMemory told line (λ memory. normal copy ≡ fetched mask memory (normal copy))

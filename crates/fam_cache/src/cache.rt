@@ -15,8 +15,8 @@ ghost use Rattle.fam_cache.specs.Places.{StandsAt, cache_of};
 
 use crate::copies::{bring_copy, fetch_copy, leak_copy, send_copy};
 use crate::places::{
-    clean_copy, copy, dirty_lines_of, drop_copy, make_room, place_of, put_copy, seek, set_word,
-    word_at,
+    clean_copy, copy, dirty_lines_of, drop_copy, held_word, make_room, place_of, put_copy, seek,
+    set_word, word_at,
 };
 use fam_base::{LineNo, Mask, OutOfMemory};
 use fam_machine::Cell;
@@ -294,6 +294,7 @@ impl HostCache {
     }
 
     /// Gives a word of a line. An absent line is brought from memory.
+    #[inline]
     pub fn load<M: Media>(
         &mut self,
         media: &mut M,
@@ -330,6 +331,9 @@ impl HostCache {
         ensures held_spare { IsHeld (cell_at self.old.lines line.0) → self.old.spare ≤ self.new.spare }
         ensures err_spare { OnErr result (self.old.spare ≤ self.new.spare) }
     {
+        if let Some(value) = held_word(&self.places, self.last, line.0, word) {
+            return Ok(value);
+        }
         let at = bring(&mut self.places, self.last, media, line)?;
         self.last = at;
         Ok(word_at(&self.places, at, line.0, word))

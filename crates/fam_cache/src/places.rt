@@ -275,6 +275,35 @@ fn words_in(copy: Cell) -> Line
     }
 }
 
+/// A word of a copy that is there.
+fn word_in(copy: &Cell, word: u8) -> Option<u64>
+    requires { word < 8 }
+    ensures held { IfSome result (λ value. IsHeld (normal copy.now)) }
+    ensures value { IfSome result (λ value. value ≡ slice_index (words_of (normal copy.now)) word) }
+{
+    match copy {
+        Cell::Absent => None,
+        Cell::Clean(words) => Some(words[word as usize]),
+        Cell::Dirty(words) => Some(words[word as usize]),
+    }
+}
+
+/// A word of the line's copy, where the line is held and its place is that of the last access.
+#[inline]
+pub(crate) fn held_word(places: &Vec<(u64, Cell)>, last: usize, line: u64, word: u8) -> Option<u64>
+    requires sorted { IsTrue (is_sorted nat_cmp places.now.items) }
+    requires word { word < 8 }
+    ensures held { IfSome result (λ value. IsHeld (cell_at (cache_of places.now.items) line)) }
+    ensures value { IfSome result
+        (λ value. value ≡ slice_index (words_of (cell_at (cache_of places.now.items) line)) word) }
+{
+    if stands(places, last, line) {
+        word_in(&places[last].1, word)
+    } else {
+        None
+    }
+}
+
 /// A word of the copy in a place.
 pub(crate) fn word_at(places: &Vec<(u64, Cell)>, at: usize, line: u64, word: u8) -> u64
     requires sorted { IsTrue (is_sorted nat_cmp places.now.items) }

@@ -121,6 +121,9 @@ fn has_stray_byte(words: &[u64; SLOT_WORDS], i: usize) -> bool
     requires below { i < CRC_WORD }
     ensures { result ≡ list_any (slots.is_stray_byte words.now i) (range_with_len 0 8) }
 {
+    if words[i] == 0 {
+        return false;
+    }
     for b in 0..8 {
         if is_stray_byte(words, i, b) {
             return true;

@@ -8,7 +8,7 @@ mod bytes;
 mod lines;
 
 pub use bytes::place;
-pub use lines::{LINE_BYTES, file_line, lines_of};
+pub use lines::{file_line, lines_of};
 
 #[cfg(test)]
 mod tests;

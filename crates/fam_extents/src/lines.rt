@@ -6,9 +6,7 @@ ghost use Rattle.fam_rules.specs.Place as places;
 
 use crate::bytes::place;
 use fam_base::{Entry, LineNo};
-
-/// The bytes of a line, `line_bytes` in contracts.
-pub const LINE_BYTES: u64 = 64;
+use fam_format::LINE_BYTES;
 
 /// The device's line that holds line `j` of the file, all of its 64 bytes in their order.
 pub fn file_line(entry: &Entry, j: u64) -> LineNo

@@ -1,4 +1,13 @@
-//! Where superblock, log and slots stand on the media.
+//! Where superblock, log and slots stand on the media, and how large their parts are.
+
+/// The bytes of a line.
+pub const LINE_BYTES: u64 = 64;
+
+/// The bytes of a slot, and of the log before its first slot.
+pub const SLOT_BYTES: u64 = 512;
+
+/// The lines of a slot, and of the log before its first slot.
+pub const SLOT_LINES: u64 = 8;
 
 /// Where the log begins, in bytes from the front of the image.
 pub const LOG_OFFSET: u64 = 2_097_152;

@@ -15,7 +15,9 @@ pub use entry_laws::{
     extents_lie_inside, one_spelling_each, what_is_read_is_spelled,
 };
 pub use faults::{LogFault, LogField, Reason, SuperFault, SuperField};
-pub use layout::{GATE_LINE, LEAST_LINES, LOG_LINE, LOG_OFFSET};
+pub use layout::{
+    GATE_LINE, LEAST_LINES, LINE_BYTES, LOG_LINE, LOG_OFFSET, SLOT_BYTES, SLOT_LINES,
+};
 pub use reading_laws::{
     a_sound_image_holds_its_entries, an_entry_joins, one_entry_more, the_first_bad_slot_is_named,
     the_first_overlap_is_named, used_units_are_tested,

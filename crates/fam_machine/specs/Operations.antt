@@ -1,5 +1,6 @@
 -- One operation on a whole cache and the one memory. docs/MODEL.md, "The machine".
 use Rattle.std.specs.Prelude.{ℕ, List, [], ◌∷◌, slice_index, Option, Some, None, option_map}
+use Rattle.fam_base.specs.declared.line.LineNo.{LineNo}
 use Rattle.fam_base.specs.Image.{Image, line_at, with_line}
 use Rattle.fam_machine.specs.declared.cell.Cell.{Cell}
 use Rattle.fam_machine.specs.declared.cell.Cell.TheVariants.{Absent, Clean, Dirty}
@@ -7,6 +8,14 @@ use Rattle.fam_machine.specs.declared.op.Op.{Op}
 use Rattle.fam_machine.specs.declared.op.Op.TheVariants.{Load, Store, WriteBack, Invalidate, Digest}
 use Rattle.fam_machine.specs.OneLine.{brought, cleaned, current, failed_send, sent, stored}
 use Rattle.fam_machine.specs.Caches.{Cache, cell_at, cell_changed, line_changed, with_cell}
+
+-- the line that an operation asks for; a Digest asks for none
+abbrev pub op_line : Op → Option LineNo
+op_line (Load l k) = Some l
+op_line (Store l k value) = Some l
+op_line (WriteBack l) = Some l
+op_line (Invalidate l) = Some l
+op_line Digest = None
 
 -- memory, and the cache of the host that operates on it
 pub record Machine : Type 0 where

@@ -64,10 +64,6 @@ store_ops line words = map (λ k. Store (line_no line) k (slice_index words k)) 
 abbrev pub slot_ops : Params → ℕ → List Op
 slot_ops p i = flat_map (λ j. load_ops (slot_line p i j) 8) (range_with_len 0 (geometry p).lines) ++ Digest ∷ []
 
--- lines of a file, from line `first` on
-abbrev pub file_ops : Entry → ℕ → ℕ → List Op
-file_ops e first count = flat_map (λ j. load_ops (file_line e (first + j)) 8) (range_with_len 0 count)
-
 -- the lines of a new file: each is stored and sent
 abbrev pub data_ops : Entry → Content → List Op
 data_ops e fill = flat_map (λ j. store_ops (file_line e j) (content_line fill e.size j) ++ Invalidate (line_no (file_line e j)) ∷ []) (range_with_len 0 (lines_of e.size))

@@ -1,8 +1,7 @@
 -- Rows of operations, joined.
-use Rattle.std.proofs.Common.{ℕ, ◌≡◌, List, [], ◌∷◌, ◌++◌, Option, Some, refl, sym, ap, subst, ◌∙◌, append_assoc}
+use Rattle.std.proofs.Common.{ℕ, ◌≡◌, List, ◌∷◌, ◌++◌, Some, sym, ap, subst, ◌∙◌, append_assoc}
 use Rattle.fam_base.specs.Image.{Image}
 use Rattle.fam_machine.specs.declared.op.Op.{Op}
-use Rattle.fam_machine.specs.Caches.{Cache}
 use Rattle.fam_machine.specs.Operations.{Machine, failed, operated_all}
 use Rattle.fam_machine.proofs.LinePuts.{operated_all-append}
 use Rattle.fam_mkfs.specs.Runs.{Seen, Passes, Breaks, machine}
@@ -10,10 +9,6 @@ use Rattle.fam_mkfs.specs.Runs.{Seen, Passes, Breaks, machine}
 -- what a row leaves, as a machine
 left_by : (ops : List Op) (before now : Seen) (image : Image) → Passes ops before now → before.told ≡ Some image → machine (operated_all ops (machine image before.lines)).image now.lines ≡ operated_all ops (machine image before.lines)
 left_by ops before now image p is = ap (machine (operated_all ops (machine image before.lines)).image) (p.lines image is)
-
--- nothing was done
-pub passes_none : (told : Option Image) (lines : Cache) → Passes [] (record { told = told; lines = lines }) (record { told = told; lines = lines })
-passes_none told lines = record { image = λ image is. is; lines = λ image is. refl }
 
 -- one row, and then another
 pub passes_both : (a b : List Op) (s t u : Seen) → Passes a s t → Passes b t u → Passes (a ++ b) s u

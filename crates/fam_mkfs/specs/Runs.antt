@@ -1,10 +1,10 @@
 -- Rows of operations on one cache and the one memory, as the outside shows them: memory may be told or not.
-use Rattle.std.specs.Prelude.{ℕ, ◌≡◌, ◌<◌, ◌≤◌, List, ◌∷◌, ◌++◌, Option, Some, None, Result, IfErr}
+use Rattle.std.specs.Prelude.{ℕ, ◌≡◌, ◌<◌, ◌≤◌, List, ◌∷◌, ◌++◌, Option, Some, Result, IfErr}
 use Rattle.fam_base.specs.Image.{Image}
 use Rattle.fam_machine.specs.declared.op.Op.{Op}
-use Rattle.fam_machine.specs.declared.op.Op.TheVariants.{Load, Store, WriteBack, Invalidate, Digest}
 use Rattle.fam_machine.specs.Caches.{Cache}
-use Rattle.fam_machine.specs.Operations.{Machine, failed, operated_all}
+use Rattle.fam_machine.specs.Operations.{Machine, failed, op_line, operated_all}
+use Rattle.fam_machine.specs.Task.{line_no}
 use Rattle.fam_media.specs.Causes.{Rose}
 use Rattle.fam_media.specs.Outside.{masks}
 use Rattle.fam_mkfs.specs.declared.lines.FailedAt.{FailedAt}
@@ -21,14 +21,6 @@ seen told lines = record { told = told; lines = lines }
 abbrev pub machine : Image → Cache → Machine
 machine image cache = record { image = image; cache = cache }
 
--- the line at which an operation is done
-abbrev pub line_of : Op → Option ℕ
-line_of (Load line word) = Some line.0
-line_of (Store line word value) = Some line.0
-line_of (WriteBack line) = Some line.0
-line_of (Invalidate line) = Some line.0
-line_of Digest = None
-
 -- the operations were done, one after another: where memory is told, it and the cache are what they leave
 pub record Passes (ops : List Op) (before now : Seen) : Type 0 where
   pub image : (image : Image) → before.told ≡ Some image → now.told ≡ Some (operated_all ops (machine image before.lines)).image
@@ -41,7 +33,7 @@ pub record Fails (ops : List Op) (m : Machine) (line : ℕ) (now : Seen) : Type 
   pub op : Op
   pub rest : List Op
   pub split : ops ≡ done ++ op ∷ rest
-  pub at : line_of op ≡ Some line
+  pub at : op_line op ≡ Some (line_no line)
   pub through : ℕ
   pub fits : through < masks
   pub image : Image

@@ -9,7 +9,7 @@ mod lines;
 mod make;
 
 pub use laws::a_file_system_is_made;
-pub use make::{MkfsEnd, mkfs};
+pub use make::{MkfsEnd, asked, mkfs};
 
 #[cfg(test)]
 mod tests;

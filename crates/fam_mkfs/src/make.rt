@@ -16,19 +16,10 @@ use crate::lines::{FailedAt, read_line, write_line};
 use fam_base::{Line, LineNo, OutOfMemory, Params};
 use fam_cache::HostCache;
 use fam_entry::spell_log;
-use fam_format::{GATE_LINE, LOG_LINE, LOG_OFFSET};
-use fam_media::Media;
-use fam_super::{Super, is_unit, read_super};
+use fam_format::{GATE_LINE, LINE_BYTES, LOG_LINE, LOG_OFFSET, SLOT_BYTES};
+use fam_media::{MOST_LINES, Media};
+use fam_super::{LOG_LIMIT, Super, is_unit, read_super};
 use uuid::Uuid;
-
-/// Bytes of a line.
-const LINE_BYTES: u64 = 64;
-
-/// The most bytes of a log.
-const LOG_LIMIT: u64 = 67_108_864;
-
-/// Bytes of a slot of the log.
-const SLOT_BYTES: u64 = 512;
 
 /// How many lines are brought: 0, 1 and 2, the gate's, the log's first one, and 0 again.
 const ROOM: u64 = 6;
@@ -53,6 +44,21 @@ fn is_geometry(unit: u64, log: u64) -> bool
     ensures { result ≡ spec.is_geometry unit log }
 {
     is_unit(unit) && log > 0 && log % unit == 0 && log <= LOG_LIMIT
+}
+
+/// The parameters that are asked for by this unit and log, on a device of so many lines.
+pub fn asked(unit: u64, log: u64, fs: Uuid, me: Uuid, lines: u64) -> Params
+    requires within { lines ≤ MOST_LINES }
+    ensures { result ≡ spec.asked unit log fs me lines }
+{
+    Params {
+        log_length: log,
+        slots: (log / SLOT_BYTES).saturating_sub(1),
+        unit,
+        device: LINE_BYTES * lines,
+        fs,
+        master: me,
+    }
 }
 
 /// What is refused before anything is done, on a device of so many bytes.
@@ -203,18 +209,10 @@ pub fn mkfs<M: Media>(
     ensures size { M.size media.new ≡ M.size media.old }
     ensures later { M.faults media.old ≤ M.faults media.new }
 {
-    let have = LINE_BYTES * media.lines();
-    if let Some(end) = refusal(unit, log, have) {
+    let params = asked(unit, log, fs, me, media.lines());
+    if let Some(end) = refusal(unit, log, params.device) {
         return Ok(end);
     }
     cache.reserve(ROOM)?;
-    let params = Params {
-        log_length: log,
-        slots: log / SLOT_BYTES - 1,
-        unit,
-        device: have,
-        fs,
-        master: me,
-    };
     Ok(make(cache, media, &params, force))
 }

@@ -15,11 +15,8 @@ use crate::log::{plain_gate_fault, plain_log_fault};
 use crate::places::SLOT_WORDS;
 use crate::superblock::plain_super;
 use fam_base::{Entry, Line, OutOfMemory, Params};
-use fam_format::{GATE_LINE, LOG_LINE, LogFault, Reason, SuperFault};
+use fam_format::{GATE_LINE, LOG_LINE, LogFault, Reason, SLOT_LINES, SuperFault};
 use std::alloc::Global;
-
-/// The lines of a slot, and of the log before its first slot.
-const SLOT_LINES: u64 = 8;
 
 /// The first fault of an image, or what it holds.
 #[derive(Drop)]

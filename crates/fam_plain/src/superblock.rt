@@ -11,7 +11,7 @@ ghost use Rattle.fam_format.specs.SuperLaws.{IsWords};
 
 use crate::crc::plain_crc_words;
 use fam_base::Params;
-use fam_format::{LOG_OFFSET, SuperFault, SuperField, byte_of, word_of_bytes};
+use fam_format::{LOG_OFFSET, SLOT_BYTES, SuperFault, SuperField, byte_of, word_of_bytes};
 use uuid::Uuid;
 
 /// Word 0 of line 0: the bytes `famfs-01`.
@@ -25,9 +25,6 @@ const LEAST_UNIT: u64 = 4_096;
 
 /// The most bytes of a log.
 const LOG_LIMIT: u64 = 67_108_864;
-
-/// The bytes of a slot, and of the log before its first slot.
-const SLOT_BYTES: u64 = 512;
 
 /// The version, the first of the words of lines 1 and 2.
 const VERSION_WORD: usize = 0;

@@ -64,13 +64,13 @@ module _ (cmd : Cmd) (me : List ℕ) (image : Image) (enough : least_lines ≤ l
     (bad : (p : Params) (entries : List Entry) → reading_of (line_at image) (line_bytes * length image) ≢ Sound p entries) where
   -- the image is damaged throughout
   pub record OnBad (t : Task) (m : Machine) : Type 0 where
-    pub way : Way (Damaged (line_at image)) (length image) (hosts_of me (run_of t 0)) (seen m)
+    pub way : Way (Damaged (line_at image)) (length image) (hosts_of me (Some (run_of t 0 None))) (seen m)
     pub before : IsBeforeWrites t.place
 
   moved : {t next : Task} {m : Machine} → Some t ≡ Some next → OnBad t m → OnBad next m
   moved {t} {next} {m} is on = subst (λ (x : Task). OnBad x m) (same_Some t next is) on
 
-  by_turn : (turn : Turn) (t next : Task) (m : Machine) → Stepped (Damaged (line_at image)) (length image) me t 0 turn m → SaysAt t.place t.cmd turn → task_after turn ≡ Some next → OnBad next m
+  by_turn : (turn : Turn) (t next : Task) (m : Machine) → Stepped (Damaged (line_at image)) (length image) me (run_of t 0 None) turn m → SaysAt t.place t.cmd turn → task_after turn ≡ Some next → OnBad next m
   by_turn (Goes x) t next m step says is = moved is record { way = step.way; before = says }
   by_turn (Marks x) t next m step says is = moved is record { way = step.way; before = says }
   by_turn (Finds n x) t next m step says is = moved is record { way = step.way; before = says }
@@ -79,12 +79,12 @@ module _ (cmd : Cmd) (me : List ℕ) (image : Image) (enough : least_lines ≤ l
 
   pub on_bad : (t : Task) (words : List ℕ) (made : ℕ) (m : Machine) → Came cmd me image t words made m → OnBad t m
   on_bad t words made m starts = record {
-    way = subst (λ (x : Settled). Way x (length image) (hosts_of me (run_of t 0)) (seen m)) (damaged_by (line_at image) (reading_of (line_at image) (line_bytes * length image)) bad) (way_first cmd me image 0 enough limit command);
+    way = subst (λ (x : Settled). Way x (length image) (hosts_of me (Some (run_of t 0 None))) (seen m)) (damaged_by (line_at image) (reading_of (line_at image) (line_bytes * length image)) bad) (way_first cmd me image 0 enough limit command);
     before = tt;
   }
   on_bad next _ _ _ (goes {t = t} {words = words} {made = made} {m = m} before inside is) =
       let on : OnBad t m = on_bad t words made m before in
-      by_turn (turn_on t m) t next (operated (op_of t) m) (stepped (Damaged (line_at image)) (length image) me t 0 m on.way inside) (turn_says t.place t (word_of t m) on.before refl) is
+      by_turn (turn_on t m) t next (operated (op_of t) m) (stepped (Damaged (line_at image)) (length image) me (run_of t 0 None) m on.way inside) (turn_says t.place t (word_of t m) on.before refl) is
 
   -- what it answers
   module _ (t : Task) (cmd_is : t.cmd ≡ cmd) (me_is : t.me ≡ me) (p : Place) (s : Seen) (place : AtBadPlace p (line_at image) (line_bytes * length image) 0 t s) where
@@ -118,9 +118,9 @@ module _ (cmd : Cmd) (me : List ℕ) (image : Image) (enough : least_lines ≤ l
       let cmd_is : t.cmd ≡ cmd = came_cmd cmd me image t words made m came in
       let me_is : t.me ≡ me = came_me cmd me image t words made m came in
       let looks : Looks image m = came_looks cmd me image normal t words made m came on.before in
-      let step = stepped (Damaged (line_at image)) (length image) me t 0 m on.way inside in
+      let step = stepped (Damaged (line_at image)) (length image) me (run_of t 0 None) m on.way inside in
       let left : (operated (op_of t) m).image ≡ image = quiet_image m (came_normal cmd me image normal t words made m came) looks.fresh (op_of t) (quiet_before t t.place on.before) ∙ looks.image_is in
       subst (λ (x : Image). Answers image me cmd given x) (sym left)
-      (answers t cmd_is me_is t.place (seen m) (on.way.stage.tasks 0 (record { task = t; floor = 0 }) refl).place given
+      (answers t cmd_is me_is t.place (seen m) (on.way.stage.tasks 0 (run_of t 0 None) refl).place given
       (subst (λ (x : Turn). MaySayBad x (line_at image) (line_bytes * length image) t) is step.says)
       (subst (λ (c : Cmd). EndsAt t.place c given) cmd_is (subst (SaysAt t.place t.cmd) is (turn_says t.place t (word_of t m) on.before refl))))

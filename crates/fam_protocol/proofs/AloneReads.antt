@@ -175,7 +175,7 @@ module _ (cmd : Cmd) (me : List ℕ) (image : Image) (enough : least_lines ≤ l
     checked_bad : (t : Task) (words : List ℕ) (made : ℕ) (m : Machine) → Came cmd me image t words made m → CheckedAt t.place t
     checked_bad t words made m came =
         let on : OnBad cmd me image enough limit normal command bad t m = on_bad cmd me image enough limit normal command bad t words made m came in
-        bad_checked t.place t (seen m) (came_cmd cmd me image t words made m came) (came_me cmd me image t words made m came) (on.way.stage.tasks 0 (record { task = t; floor = 0 }) refl).place
+        bad_checked t.place t (seen m) (came_cmd cmd me image t words made m came) (came_me cmd me image t words made m came) (on.way.stage.tasks 0 (run_of t 0 None) refl).place
 
   -- Sound images.
 
@@ -194,7 +194,7 @@ module _ (cmd : Cmd) (me : List ℕ) (image : Image) (enough : least_lines ≤ l
     module _ (t : Task) (m : Machine) (cmd_is : t.cmd ≡ cmd) (me_is : t.me ≡ me) (image_is : m.image ≡ image) (master : Option ℕ)
         (named : master ≡ Some 0 → me ≡ p.master) where
       abbrev sys : System
-      sys = record { params = p; have = line_bytes * length image; uuid = (hosts_of me (run_of t (length entries))).uuid; master = master }
+      sys = record { params = p; have = line_bytes * length image; uuid = (hosts_of me (Some (run_of t (length entries) None))).uuid; master = master }
 
       sound_checked : (place : Place) → AtPlace place sys 0 (length entries) t (seen m) all_files (length entries) → CheckedAt place t
       sound_checked (at.Check i) a =
@@ -242,7 +242,7 @@ module _ (cmd : Cmd) (me : List ℕ) (image : Image) (enough : least_lines ≤ l
     checked_sound : (t : Task) (words : List ℕ) (made : ℕ) (m : Machine) → Came cmd me image t words made m → CheckedAt t.place t
     checked_sound t words made m came = elim (on_way cmd me image enough limit normal command p entries sound t words made m came) [
       | inl on ↦ sound_checked t m (came_cmd cmd me image t words made m came) (came_me cmd me image t words made m came) (came_looks cmd me image normal t words made m came on.before).image_is on.way.stage.master (masters t m on)
-          t.place (on.way.stage.tasks 0 (record { task = t; floor = length entries }) refl).place
+          t.place (on.way.stage.tasks 0 (run_of t (length entries) None) refl).place
       | inr on ↦ no_check t.place t on.e m on.writing.gate
     ]
 
@@ -305,7 +305,7 @@ module _ (cmd : Cmd) (me : List ℕ) (image : Image) (enough : least_lines ≤ l
       all_told gate told = all_read p entries sound (subst (λ (n : ℕ). HasTold (line_at image) (line_bytes * length image) n t.entries) gate told)
 
       sound_finished : (uuid : ℕ → Option (List ℕ)) (master : Option ℕ) (place : Place) (given : Reply) → (IsAllRead place → t.gate ≡ gate_in (line_at image))
-          → MayReply given (record { params = p; have = line_bytes * length image; uuid = uuid; master = master }) t (length entries) (all_files p entries sound) (length entries)
+          → MayReply given (record { params = p; have = line_bytes * length image; uuid = uuid; master = master }) (run_of t (length entries) None) (all_files p entries sound) (length entries)
           → EndsRead (line_at image) (line_bytes * length image) place t.gate t.entries given → EndsAt place cmd given → Finished cmd me image t
       sound_finished uuid master place (Appended seq) gate may read ends = absurd ends
       sound_finished uuid master place (NotAppended (refused.NotMaster host owner)) gate may read ends =
@@ -363,22 +363,22 @@ module _ (cmd : Cmd) (me : List ℕ) (image : Image) (enough : least_lines ≤ l
     on_damaged : ((p : Params) (entries : List Entry) → reading_of (line_at image) (line_bytes * length image) ≢ Sound p entries) → Finished cmd me image t
     on_damaged bad =
         let on : OnBad cmd me image enough limit normal command bad t m = on_bad cmd me image enough limit normal command bad t words made m came in
-        let step = stepped (Damaged (line_at image)) (length image) me t 0 m on.way inside in
+        let step = stepped (Damaged (line_at image)) (length image) me (run_of t 0 None) m on.way inside in
         bad_finished t cmd_of me_of t.place given refl (subst (λ (x : Turn). MaySayBad x (line_at image) (line_bytes * length image) t) ends step.says) ends_read (ends_at on.before)
 
     module _ (p : Params) (entries : List Entry) (sound : reading_of (line_at image) (line_bytes * length image) ≡ Sound p entries) where
       on_sound : OnSound cmd me image enough limit normal command p entries sound t m → Finished cmd me image t
       on_sound on =
-          let step = stepped (Known p (all_files p entries sound) (length entries)) (length image) me t (length entries) m on.way inside in
-          let says = subst (λ (x : Turn). TurnSays x t (length entries) (Known p (all_files p entries sound) (length entries)) (length image) (hosts_of me (run_of t (length entries)))) ends step.says in
+          let step = stepped (Known p (all_files p entries sound) (length entries)) (length image) me (run_of t (length entries) None) m on.way inside in
+          let says = subst (λ (x : Turn). TurnSays x (run_of t (length entries) None) (Known p (all_files p entries sound) (length entries)) (length image) (hosts_of me (Some (run_of t (length entries) None)))) ends step.says in
           let image_is : m.image ≡ image = (came_looks cmd me image normal t words made m came on.before).image_is in
-          sound_finished t cmd_of me_of p entries sound (hosts_of me (run_of t (length entries))).uuid says.master t.place given
-          (λ all. gate_at p entries sound t m cmd_of me_of image_is on.way.stage.master (masters p entries sound t m on) t.place all on.before (on.way.stage.tasks 0 (record { task = t; floor = length entries }) refl).place)
+          sound_finished t cmd_of me_of p entries sound (hosts_of me (Some (run_of t (length entries) None))).uuid says.master t.place given
+          (λ all. gate_at p entries sound t m cmd_of me_of image_is on.way.stage.master (masters p entries sound t m on) t.place all on.before (on.way.stage.tasks 0 (run_of t (length entries) None) refl).place)
           says.may ends_read (ends_at on.before)
 
       on_writes : OnWrites cmd me image enough limit normal command p entries sound t m → Finished cmd me image t
       on_writes on =
-          written_finished t cmd_of me_of p entries sound on.e m (hosts_of me (run_of t (length entries))).uuid on.way.stage.master on.all on.count t.place on.writing.gate (on.way.stage.tasks 0 (record { task = t; floor = length entries }) refl).place read
+          written_finished t cmd_of me_of p entries sound on.e m (hosts_of me (Some (run_of t (length entries) on.named))).uuid on.way.stage.master on.all on.count t.place on.writing.gate (on.way.stage.tasks 0 (run_of t (length entries) on.named) refl).place read
 
       on_known : Finished cmd me image t
       on_known = elim (on_way cmd me image enough limit normal command p entries sound t words made m came) [ inl on ↦ on_sound on | inr on ↦ on_writes on ]

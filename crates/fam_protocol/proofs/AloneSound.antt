@@ -1,5 +1,5 @@
 -- A command that runs alone on a sound image.
-use Rattle.std.proofs.Common.{ℕ, ◌≡◌, ◌⊎◌, ◌+◌, ◌*◌, ◌<◌, ◌≤◌, Bool, true, false, List, length, map, take, Option, Some, Ok, Err, inl, inr, refl, sym, ◌∙◌, ap, subst, arith}
+use Rattle.std.proofs.Common.{ℕ, ◌≡◌, ◌⊎◌, ◌+◌, ◌*◌, ◌<◌, ◌≤◌, Bool, true, false, List, length, map, take, Option, Some, None, Ok, Err, inl, inr, refl, sym, ◌∙◌, ap, subst, arith}
 use Rattle.std.specs.Prelude.{⊤, ◌==◌, if◌then◌else◌, Result, option_map}
 use Rattle.std.proofs.lemmas.List.{length-map, length_push, take_all}
 use Rattle.std.proofs.lemmas.Option.{same_Some}
@@ -34,7 +34,7 @@ use Rattle.fam_rules.specs.WrittenLaws.{HasPlace}
 use Rattle.fam_rules.proofs.AppendedProofs.{lines_appended}
 use Rattle.fam_rules.proofs.AppendedReads.{place_of}
 use Rattle.fam_rules.proofs.DecideProofs.{may_append}
-use Rattle.fam_protocol.specs.After.{IsAsked, MayReply, new_file, shown_by}
+use Rattle.fam_protocol.specs.After.{IsAsked, MayReply, Named, new_file, shown_by}
 use Rattle.fam_protocol.specs.Alone.{HasWish, IsBeforeWrites}
 use Rattle.fam_protocol.specs.Steps.{TurnSays}
 use Rattle.fam_protocol.specs.Tasks.{AtPlace, IsCommand}
@@ -98,7 +98,7 @@ module _ (cmd : Cmd) (me : List ℕ) (image : Image) (enough : least_lines ≤ l
 
   -- nothing is written
   pub record OnSound (t : Task) (m : Machine) : Type 0 where
-    pub way : Way (Known p (map (held_file (line_at image)) entries) (length entries)) (length image) (hosts_of me (run_of t (length entries))) (seen m)
+    pub way : Way (Known p (map (held_file (line_at image)) entries) (length entries)) (length image) (hosts_of me (Some (run_of t (length entries) None))) (seen m)
     pub before : IsBeforeWrites t.place
 
   -- an entry is appended
@@ -109,7 +109,8 @@ module _ (cmd : Cmd) (me : List ℕ) (image : Image) (enough : least_lines ≤ l
     pub decides : decide_wish p me entries w ≡ Ok e
     pub all : List File
     pub count : length all ≡ length entries + 1
-    pub way : Way (Known p all (length entries)) (length image) (hosts_of me (run_of t (length entries))) (seen m)
+    pub named : Option Named
+    pub way : Way (Known p all (length entries)) (length image) (hosts_of me (Some (run_of t (length entries) named))) (seen m)
     pub writing : Writing cmd image p (length entries) e t m
 
   -- what the history says of a decision
@@ -130,7 +131,7 @@ module _ (cmd : Cmd) (me : List ℕ) (image : Image) (enough : least_lines ≤ l
     found_all k (inl is) = is
     found_all k (inr is) = omega (arith, is.0, is.1, held)
 
-    by_turn : (turn : Turn) (next : Task) (m : Machine) → Stepped (Known p (map (held_file (line_at image)) entries) (length entries)) (length image) me t (length entries) turn m → SaysAt t.place t.cmd turn → task_after turn ≡ Some next
+    by_turn : (turn : Turn) (next : Task) (m : Machine) → Stepped (Known p (map (held_file (line_at image)) entries) (length entries)) (length image) me (run_of t (length entries) None) turn m → SaysAt t.place t.cmd turn → task_after turn ≡ Some next
         → Looks image m → OnSound next m ⊎ OnWrites next m
     by_turn (Goes x) next m step says is looks = inl (subst (λ (y : Task). OnSound y m) (same_Some x next is) record { way = step.way; before = says })
     by_turn (Marks x) next m step says is looks = inl (subst (λ (y : Task). OnSound y m) (same_Some x next is) record { way = step.way; before = says })
@@ -138,8 +139,8 @@ module _ (cmd : Cmd) (me : List ℕ) (image : Image) (enough : least_lines ≤ l
         let found : k ≡ length entries = found_all k step.says.may in
         inl (subst (λ (y : Task). OnSound y m) (same_Some x next is)
         record {
-          way = subst (λ (files : List File). Way (Known p files (length entries)) (length image) (hosts_of me (run_of x (length entries))) (seen m)) (all_held (length entries) (omega arith))
-              (subst (λ (i : ℕ). Way (Known p (take i (map (held_file (line_at image)) entries)) i) (length image) (hosts_of me (run_of x (length entries))) (seen m)) found step.way);
+          way = subst (λ (files : List File). Way (Known p files (length entries)) (length image) (hosts_of me (Some (run_of x (length entries) None))) (seen m)) (all_held (length entries) (omega arith))
+              (subst (λ (i : ℕ). Way (Known p (take i (map (held_file (line_at image)) entries)) i) (length image) (hosts_of me (Some (run_of x (length entries) None))) (seen m)) found step.way);
           before = says;
         })
     by_turn (Writes seq e x) next m step says is looks =
@@ -152,6 +153,7 @@ module _ (cmd : Cmd) (me : List ℕ) (image : Image) (enough : least_lines ≤ l
           decides = by_wish has.0 has.1 (Ok e) step.says.may.2;
           all = _;
           count = length_push (map (held_file (line_at image)) entries) (new_file x e) ∙ ap (λ (i : ℕ). i + 1) held;
+          named = _;
           way = step.way;
           writing = record {
             entry = says.entry;
@@ -161,21 +163,21 @@ module _ (cmd : Cmd) (me : List ℕ) (image : Image) (enough : least_lines ≤ l
         })
     by_turn (Ends given) next m step says is looks = absurd (cc)
 
-    goes_way : (all : List File) (turn : Turn) (next : Task) (m : Machine) → IsPlain turn → Stepped (Known p all (length entries)) (length image) me t (length entries) turn m → task_after turn ≡ Some next
-        → Way (Known p all (length entries)) (length image) (hosts_of me (run_of next (length entries))) (seen m)
+    goes_way : (all : List File) (named : Option Named) (turn : Turn) (next : Task) (m : Machine) → IsPlain turn → Stepped (Known p all (length entries)) (length image) me (run_of t (length entries) named) turn m → task_after turn ≡ Some next
+        → Way (Known p all (length entries)) (length image) (hosts_of me (Some (run_of next (length entries) named))) (seen m)
     unfolding IsPlain
-    goes_way all (Goes x) next m is_plain step is = subst (λ (y : Task). Way (Known p all (length entries)) (length image) (hosts_of me (run_of y (length entries))) (seen m)) (same_Some x next is) step.way
-    goes_way all (Marks x) next m is_plain step is = absurd is_plain
-    goes_way all (Finds k x) next m is_plain step is = absurd is_plain
-    goes_way all (Writes seq e x) next m is_plain step is = absurd is_plain
-    goes_way all (Ends given) next m is_plain step is = absurd (cc)
+    goes_way all named (Goes x) next m is_plain step is = subst (λ (y : Task). Way (Known p all (length entries)) (length image) (hosts_of me (Some (run_of y (length entries) named))) (seen m)) (same_Some x next is) step.way
+    goes_way all named (Marks x) next m is_plain step is = absurd is_plain
+    goes_way all named (Finds k x) next m is_plain step is = absurd is_plain
+    goes_way all named (Writes seq e x) next m is_plain step is = absurd is_plain
+    goes_way all named (Ends given) next m is_plain step is = absurd (cc)
 
     pub may : (w : Wish) (e : Entry) → wish_of cmd ≡ Some w → decide_wish p me entries w ≡ Ok e → MayAppend p me entries e
     may w e wish decides = may_append p me entries w e params.sound (command.wish w wish) decides
 
     writes_step : (m : Machine) (next : Task) → OnWrites t m → IsInside (op_of t) m.image → task_after (turn_on t m) ≡ Some next → OnWrites next (operated (op_of t) m)
     writes_step m next on inside is =
-        let step = stepped (Known p on.all (length entries)) (length image) me t (length entries) m on.way inside in
+        let step = stepped (Known p on.all (length entries)) (length image) me (run_of t (length entries) on.named) m on.way inside in
         let right : MayAppend p me entries on.e = may on.w on.e on.wish on.decides in
         record {
           e = on.e;
@@ -184,14 +186,15 @@ module _ (cmd : Cmd) (me : List ℕ) (image : Image) (enough : least_lines ≤ l
           decides = on.decides;
           all = on.all;
           count = on.count;
-          way = goes_way on.all (turn_on t m) next (operated (op_of t) m) (plain t.place t (word_of t m) cmd image p (length entries) on.e m on.writing.gate) step is;
-          writing = writes_on cmd image p (length entries) on.e params.sound right.left right.proper (line_bytes * length image) (hosts_of me (run_of t (length entries))).uuid on.way.stage.master on.all t next m (word_of t m) cmd_is on.writing.entry on.writing.others
-              t.place (on.way.stage.tasks 0 (record { task = t; floor = length entries }) refl).place on.writing.gate is;
+          named = on.named;
+          way = goes_way on.all on.named (turn_on t m) next (operated (op_of t) m) (plain t.place t (word_of t m) cmd image p (length entries) on.e m on.writing.gate) step is;
+          writing = writes_on cmd image p (length entries) on.e params.sound right.left right.proper (line_bytes * length image) (hosts_of me (Some (run_of t (length entries) on.named))).uuid on.way.stage.master on.all t next m (word_of t m) cmd_is on.writing.entry on.writing.others
+              t.place (on.way.stage.tasks 0 (run_of t (length entries) on.named) refl).place on.writing.gate is;
         }
 
   first : OnSound (starting cmd me (length image)) (fresh image)
   first = record {
-    way = subst (λ (r : Reading). Way (settled_by (line_at image) r) (length image) (hosts_of me (run_of (starting cmd me (length image)) (length entries))) (seen (fresh image))) sound (way_first cmd me image (length entries) enough limit command);
+    way = subst (λ (r : Reading). Way (settled_by (line_at image) r) (length image) (hosts_of me (Some (run_of (starting cmd me (length image)) (length entries) None))) (seen (fresh image))) sound (way_first cmd me image (length entries) enough limit command);
     before = tt;
   }
 
@@ -218,7 +221,7 @@ module _ (cmd : Cmd) (me : List ℕ) (image : Image) (enough : least_lines ≤ l
 
       by_stage : OnSound t m ⊎ OnWrites t m → OnSound next (operated (op_of t) m) ⊎ OnWrites next (operated (op_of t) m)
       by_stage (inl on) =
-          by_turn t cmd_is me_is (turn_on t m) next (operated (op_of t) m) (stepped (Known p (map (held_file (line_at image)) entries) (length entries)) (length image) me t (length entries) m on.way inside)
+          by_turn t cmd_is me_is (turn_on t m) next (operated (op_of t) m) (stepped (Known p (map (held_file (line_at image)) entries) (length entries)) (length image) me (run_of t (length entries) None) m on.way inside)
           (turn_says t.place t (word_of t m) on.before refl) is (looks_after t words made m came on.before)
       by_stage (inr on) = inr (writes_step t cmd_is me_is m next on inside is)
 
@@ -233,7 +236,7 @@ module _ (cmd : Cmd) (me : List ℕ) (image : Image) (enough : least_lines ≤ l
         asked image me cmd p entries sound given
         (ap (ask (map (held_file (line_at image)) entries)) (sym cmd_is) ∙ ap (λ (files : List File). ask files t.cmd) (sym (all_held (shown_by given) may.low)) ∙ may.is)
 
-    answers : (given : Reply) (pl : Place) → (cmd ≡ Fsck → given ≡ Reports (report_of (line_at image) (line_bytes * length image))) → MayReply given (record { params = p; have = line_bytes * length image; uuid = uuid; master = master }) t (length entries) (map (held_file (line_at image)) entries) (length entries) → EndsAt pl cmd given
+    answers : (given : Reply) (pl : Place) → (cmd ≡ Fsck → given ≡ Reports (report_of (line_at image) (line_bytes * length image))) → MayReply given (record { params = p; have = line_bytes * length image; uuid = uuid; master = master }) (run_of t (length entries) None) (map (held_file (line_at image)) entries) (length entries) → EndsAt pl cmd given
         → Answers image me cmd given image
     answers (Appended seq) pl reports may ends = absurd ends
     answers (NotAppended (refused.NotMaster host owner)) pl reports may ends =
@@ -264,23 +267,23 @@ module _ (cmd : Cmd) (me : List ℕ) (image : Image) (enough : least_lines ≤ l
 
     ends_sound : OnSound t m → Answers image me cmd given (operated (op_of t) m).image
     ends_sound on =
-        let step = stepped (Known p (map (held_file (line_at image)) entries) (length entries)) (length image) me t (length entries) m on.way inside in
-        let says = subst (λ (x : Turn). TurnSays x t (length entries) (Known p (map (held_file (line_at image)) entries) (length entries)) (length image) (hosts_of me (run_of t (length entries)))) is step.says in
+        let step = stepped (Known p (map (held_file (line_at image)) entries) (length entries)) (length image) me (run_of t (length entries) None) m on.way inside in
+        let says = subst (λ (x : Turn). TurnSays x (run_of t (length entries) None) (Known p (map (held_file (line_at image)) entries) (length entries)) (length image) (hosts_of me (Some (run_of t (length entries) None)))) is step.says in
         subst (λ (x : Image). Answers image me cmd given x) (sym (looks_after t words made m came on.before).image_is)
-        (answers t cmd_is me_is (hosts_of me (run_of t (length entries))).uuid says.master given t.place reports says.may
+        (answers t cmd_is me_is (hosts_of me (Some (run_of t (length entries) None))).uuid says.master given t.place reports says.may
         (subst (λ (c : Cmd). EndsAt t.place c given) cmd_is (subst (SaysAt t.place t.cmd) is (turn_says t.place t (word_of t m) on.before refl))))
 
     ends_writes : OnWrites t m → Answers image me cmd given (operated (op_of t) m).image
     ends_writes on =
         let n : ℕ = length entries in
         let right : MayAppend p me entries on.e = may t cmd_is me_is on.w on.e on.wish on.decides in
-        let there = ends_there cmd image p n on.e params.sound right.left right.proper (line_bytes * length image) (hosts_of me (run_of t n)).uuid on.way.stage.master on.all t t m (word_of t m) cmd_is on.writing.entry on.writing.others t.place given on.writing.gate is in
-        let published = subst (λ (pl : Place). AtPlace pl (record { params = p; have = line_bytes * length image; uuid = (hosts_of me (run_of t n)).uuid; master = on.way.stage.master }) 0 n t (seen m) on.all n) there.0 (on.way.stage.tasks 0 (record { task = t; floor = n }) refl).place in
+        let there = ends_there cmd image p n on.e params.sound right.left right.proper (line_bytes * length image) (hosts_of me (Some (run_of t n on.named))).uuid on.way.stage.master on.all t t m (word_of t m) cmd_is on.writing.entry on.writing.others t.place given on.writing.gate is in
+        let published = subst (λ (pl : Place). AtPlace pl (record { params = p; have = line_bytes * length image; uuid = (hosts_of me (Some (run_of t n on.named))).uuid; master = on.way.stage.master }) 0 n t (seen m) on.all n) there.0 (on.way.stage.tasks 0 (run_of t n on.named) refl).place in
         let gate_is : t.gate ≡ n = omega (arith, published.pending, on.count) in
         let op_is : op_of t ≡ WriteBack (line_no gate_line) = ap (op_at t) there.0 in
         let gate = subst (λ (pl : Place). GateAt pl cmd image p n on.e m) there.0 on.writing.gate in
         let within : gate_line < length m.image = subst (λ (op : Op). IsInside op m.image) op_is inside in
-        let lines = all_written cmd image p n on.e params.sound right.left right.proper (line_bytes * length image) (hosts_of me (run_of t n)).uuid on.way.stage.master on.all t t m (word_of t m) cmd_is on.writing.entry on.writing.others (came_length cmd me image t words made m came) within gate in
+        let lines = all_written cmd image p n on.e params.sound right.left right.proper (line_bytes * length image) (hosts_of me (Some (run_of t n on.named))).uuid on.way.stage.master on.all t t m (word_of t m) cmd_is on.writing.entry on.writing.others (came_length cmd me image t words made m came) within gate in
         let place : HasPlace p n on.e (length image) = place_of p entries on.e (length image) params.sound params.device right.left right.proper right.joins in
         let left = appended_alike p n on.e (fill (content_of cmd) on.e.size) image (operated (WriteBack (line_no gate_line)) m).image (written image p n on.e (fill (content_of cmd) on.e.size)) lines
         (lines_appended p n on.e (fill (content_of cmd) on.e.size) image place) (operated_normal (WriteBack (line_no gate_line)) m (came_normal cmd me image normal t words made m came)) (written_normal image p n on.e (fill (content_of cmd) on.e.size) normal) in

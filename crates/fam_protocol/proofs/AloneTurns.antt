@@ -38,8 +38,9 @@ IsBehindSuper (at.Word Superblock j k) = ⊥
 IsBehindSuper other = ⊤
 
 -- the append begins, with the first line of the file or of the slot
-pub record Begins (cmd : Cmd) (e : Entry) (next : Task) : Type 0 where
+pub record Begins (cmd : Cmd) (seq : ℕ) (e : Entry) (next : Task) : Type 0 where
   pub wish : HasWish cmd
+  pub gate : next.gate ≡ seq
   pub entry : next.entry ≡ Some e
   pub place : next.place ≡ first_store e.size
 
@@ -57,7 +58,7 @@ abbrev pub SaysAt : Place → Cmd → Turn → Type 0
 SaysAt p cmd (Goes next) = IsBeforeWrites next.place
 SaysAt p cmd (Marks next) = IsBeforeWrites next.place
 SaysAt p cmd (Finds n next) = IsBeforeWrites next.place
-SaysAt p cmd (Writes seq e next) = Begins cmd e next
+SaysAt p cmd (Writes seq e next) = Begins cmd seq e next
 SaysAt p cmd (Ends reply) = EndsAt p cmd reply
 
 -- A test either way, and answers on a damaged image.
@@ -138,7 +139,7 @@ module _ (p : Place) (behind : IsBehindSuper p) (t : Task) where
 module _ (p : Place) (t : Task) where
   append_says : HasWish t.cmd → (r : Result Entry Refused) → SaysAt p t.cmd (append_turn t r)
   append_says has (Err refused) = has
-  append_says has (Ok e) = record { wish = has; entry = refl; place = refl }
+  append_says has (Ok e) = record { wish = has; gate = refl; entry = refl; place = refl }
 
   lines_say : (e : Entry) → SaysAt p t.cmd (verify_lines t e)
   lines_say e = either p t.cmd (e.size == 0) _ _ tt tt

@@ -24,7 +24,8 @@ use Rattle.fam_machine.proofs.CacheLemmas.{cell_at-empty, cell_at-with_cell_same
 use Rattle.fam_rules.specs.Place.{line_bytes}
 use Rattle.fam_protocol.specs.Seen.{Seen, ChangesOnly, Operates}
 use Rattle.fam_protocol.specs.Tasks.{IsCommand}
-use Rattle.fam_protocol.specs.Way.{Hosts, Run, Settled, Small, Way, alone, no_hosts, settled_at_first, settled_by}
+use Rattle.fam_protocol.specs.After.{Named, Run}
+use Rattle.fam_protocol.specs.Way.{Hosts, Settled, Small, Way, alone, no_hosts, settled_at_first, settled_by}
 use Rattle.fam_protocol.specs.Events.{Declares, Starts}
 use Rattle.fam_protocol.specs.Steps.{TurnSays, Steps, run_after, settled_count, turn_settles}
 use Rattle.fam_protocol.proofs.AloneMachine.{IsAt, cache_away, memory_away, same_turn, word_of}
@@ -48,8 +49,8 @@ abbrev pub hosts_of : List ℕ → Option Run → Hosts
 hosts_of me run = record { uuid = only (Some me) None; run = only run None }
 
 -- a task of host 0
-abbrev pub run_of : Task → ℕ → Option Run
-run_of t floor = Some (record { task = t; floor = floor })
+abbrev pub run_of : Task → ℕ → Option Named → Run
+run_of t floor named = record { task = t; floor = floor; named = named }
 
 -- An operation.
 
@@ -84,35 +85,35 @@ module _ (m : Machine) (wide : (l : ℕ) → length (current (line_at m.image l)
   operates Digest inside = refl
 
 -- what comes of it
-pub record Stepped (settled : Settled) (lines : ℕ) (me : List ℕ) (t : Task) (floor : ℕ) (turn : Turn) (m : Machine) : Type 0 where
-  pub says : TurnSays turn t floor settled lines (hosts_of me (run_of t floor))
-  pub way : Way (turn_settles turn settled) lines (hosts_of me (run_after turn (settled_count settled) floor)) (seen m)
+pub record Stepped (settled : Settled) (lines : ℕ) (me : List ℕ) (r : Run) (turn : Turn) (m : Machine) : Type 0 where
+  pub says : TurnSays turn r settled lines (hosts_of me (Some r))
+  pub way : Way (turn_settles turn settled) lines (hosts_of me (run_after turn (settled_count settled) r)) (seen m)
 
-module _ (settled : Settled) (lines : ℕ) (me : List ℕ) (t : Task) (floor : ℕ) (m : Machine) (way : Way settled lines (hosts_of me (run_of t floor)) (seen m)) (inside : IsInside (op_of t) m.image) where
+module _ (settled : Settled) (lines : ℕ) (me : List ℕ) (r : Run) (m : Machine) (way : Way settled lines (hosts_of me (Some r)) (seen m)) (inside : IsInside (op_of r.task) m.image) where
   others_idle : (x y : Option Run) (h : ℕ) → h ≢ 0 → only x None h ≡ only y None h
   others_idle x y zero other = absurd (other refl)
   others_idle x y (suc h) other = refl
 
-  step : (turn : Turn) → turn_given t (word_of t m) ≡ turn
-      → Steps 0 (word_of t m) settled (record { task = t; floor = floor }) (hosts_of me (run_of t floor)) (hosts_of me (run_after turn (settled_count settled) floor)) (seen m) (seen (operated (op_of t) m))
+  step : (turn : Turn) → turn_given r.task (word_of r.task m) ≡ turn
+      → Steps 0 (word_of r.task m) settled r (hosts_of me (Some r)) (hosts_of me (run_after turn (settled_count settled) r)) (seen m) (seen (operated (op_of r.task) m))
   step turn is = record {
     is = refl;
-    operates = operates m (λ l. way.wide.copies 0 l) (op_of t) inside;
+    operates = operates m (λ l. way.wide.copies 0 l) (op_of r.task) inside;
     uuids = λ h. refl;
-    mine = ap (λ (x : Turn). run_after x (settled_count settled) floor) (sym is);
-    runs = λ h other. others_idle (run_after turn (settled_count settled) floor) (run_of t floor) h other;
+    mine = ap (λ (x : Turn). run_after x (settled_count settled) r) (sym is);
+    runs = λ h other. others_idle (run_after turn (settled_count settled) r) (Some r) h other;
   }
 
-  by_turn : (turn : Turn) → turn_given t (word_of t m) ≡ turn → Stepped settled lines me t floor turn (operated (op_of t) m)
+  by_turn : (turn : Turn) → turn_given r.task (word_of r.task m) ≡ turn → Stepped settled lines me r turn (operated (op_of r.task) m)
   by_turn turn is =
-      let held = way_stepped lines 0 (word_of t m) settled (record { task = t; floor = floor }) (hosts_of me (run_of t floor)) (hosts_of me (run_after turn (settled_count settled) floor)) (seen m) (seen (operated (op_of t) m)) way (step turn is) in
+      let held = way_stepped lines 0 (word_of r.task m) settled r (hosts_of me (Some r)) (hosts_of me (run_after turn (settled_count settled) r)) (seen m) (seen (operated (op_of r.task) m)) way (step turn is) in
       record {
-        says = subst (λ (x : Turn). TurnSays x t floor settled lines (hosts_of me (run_of t floor))) is held.says;
-        way = subst (λ (x : Turn). Way (turn_settles x settled) lines (hosts_of me (run_after turn (settled_count settled) floor)) (seen (operated (op_of t) m))) is held.way;
+        says = subst (λ (x : Turn). TurnSays x r settled lines (hosts_of me (Some r))) is held.says;
+        way = subst (λ (x : Turn). Way (turn_settles x settled) lines (hosts_of me (run_after turn (settled_count settled) r)) (seen (operated (op_of r.task) m))) is held.way;
       }
 
-  pub stepped : Stepped settled lines me t floor (turn_on t m) (operated (op_of t) m)
-  stepped = by_turn (turn_on t m) (same_turn t m)
+  pub stepped : Stepped settled lines me r (turn_on r.task m) (operated (op_of r.task) m)
+  stepped = by_turn (turn_on r.task m) (same_turn r.task m)
 
 -- The beginning.
 
@@ -128,7 +129,7 @@ module _ (cmd : Cmd) (me : List ℕ) (image : Image) (floor : ℕ) (enough : lea
       run zero = refl
       run (suc h) = refl
 
-  starts : Starts 0 cmd (length image) (hosts_of me None) (hosts_of me (run_of (starting cmd me (length image)) floor))
+  starts : Starts 0 cmd (length image) (hosts_of me None) (hosts_of me (Some (run_of (starting cmd me (length image)) floor None)))
   starts = record {
     me = me;
     floor = floor;
@@ -139,7 +140,7 @@ module _ (cmd : Cmd) (me : List ℕ) (image : Image) (floor : ℕ) (enough : lea
     runs = λ h other. runs h other;
   }
     where
-      runs : (h : ℕ) → h ≢ 0 → only (run_of (starting cmd me (length image)) floor) None h ≡ only {X = Option Run} None None h
+      runs : (h : ℕ) → h ≢ 0 → only (Some (run_of (starting cmd me (length image)) floor None)) None h ≡ only {X = Option Run} None None h
       runs zero other = absurd (other refl)
       runs (suc h) other = refl
 
@@ -158,9 +159,9 @@ module _ (cmd : Cmd) (me : List ℕ) (image : Image) (floor : ℕ) (enough : lea
       by_test true is = absurd (grind (arith, nat_tests))
       by_test false is = refl
 
-  pub way_first : Way (settled_by (line_at image) (reading_of (line_at image) (line_bytes * length image))) (length image) (hosts_of me (run_of (starting cmd me (length image)) floor)) (seen (fresh image))
+  pub way_first : Way (settled_by (line_at image) (reading_of (line_at image) (line_bytes * length image))) (length image) (hosts_of me (Some (run_of (starting cmd me (length image)) floor None))) (seen (fresh image))
   way_first =
-      subst (λ (s : Seen). Way (settled_by (line_at image) (reading_of (line_at image) (line_bytes * length image))) (length image) (hosts_of me (run_of (starting cmd me (length image)) floor)) s) seen_first
-      (subst (λ (x : Settled). Way x (length image) (hosts_of me (run_of (starting cmd me (length image)) floor)) (alone image)) first_settled
-      (way_begun (settled_at_first image) (length image) 0 (hosts_of me None) (hosts_of me (run_of (starting cmd me (length image)) floor)) (alone image) cmd enough
+      subst (λ (s : Seen). Way (settled_by (line_at image) (reading_of (line_at image) (line_bytes * length image))) (length image) (hosts_of me (Some (run_of (starting cmd me (length image)) floor None))) s) seen_first
+      (subst (λ (x : Settled). Way x (length image) (hosts_of me (Some (run_of (starting cmd me (length image)) floor None))) (alone image)) first_settled
+      (way_begun (settled_at_first image) (length image) 0 (hosts_of me None) (hosts_of me (Some (run_of (starting cmd me (length image)) floor None))) (alone image) cmd enough
       (way_declared (settled_at_first image) (length image) 0 me no_hosts (hosts_of me None) (alone image) (begins image limit) declares) starts))

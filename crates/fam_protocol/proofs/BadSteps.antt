@@ -1,46 +1,34 @@
 -- A task's own operation on a damaged image: what its turn says, and what holds of it and of every other task behind it.
-use Rattle.std.proofs.Common.{ℕ, ◌≡◌, ◌⊎◌, inl, inr, ◌*◌, List, length, Option, Some, refl, sym, ◌∙◌, ap, subst}
+use Rattle.std.proofs.Common.{ℕ, ◌≡◌, ◌⊎◌, inl, inr, ◌*◌, List, length, Option, Some, sym, ◌∙◌, ap, subst}
 use Rattle.std.specs.Prelude.{slice_index}
 use Rattle.fam_format.specs.Layout.{gate_line}
 use Rattle.fam_format.specs.Reading.{Lines}
 use Rattle.fam_machine.specs.declared.cell.Cell.{Cell}
-use Rattle.fam_machine.specs.declared.cell.Cell.TheVariants.{Absent, Clean, Dirty}
+use Rattle.fam_machine.specs.declared.cell.Cell.TheVariants.{Absent}
 use Rattle.fam_machine.specs.declared.op.Op.TheVariants.{Load, Invalidate}
 use Rattle.fam_machine.specs.declared.op.Place.{Place}
 use Rattle.fam_machine.specs.declared.op.Place.TheVariants as at
-use Rattle.fam_machine.specs.Moves.{Drifts}
-use Rattle.fam_machine.specs.OneLine.{brought, current, sent}
+use Rattle.fam_machine.specs.OneLine.{brought, sent}
 use Rattle.fam_machine.specs.Task.{Task, line_no, op_at, op_of, part_line}
 use Rattle.fam_machine.specs.Turns.{turn_at}
 use Rattle.fam_machine.proofs.Drifting.{brought_drifts, absent_drifts}
 use Rattle.fam_rules.specs.Place.{line_bytes}
-use Rattle.fam_protocol.specs.Seen.{Seen, DriftsAt, LeavesAt, Operates}
+use Rattle.fam_protocol.specs.Seen.{Seen, DriftsAt, Operates}
 use Rattle.fam_protocol.specs.Lines.{Fresh}
 use Rattle.fam_protocol.specs.Bad.{Still, BadTaskHolds, AtBadPlace, MaySayBad, GoesOnBad}
-use Rattle.fam_protocol.proofs.BadMoves.{still_kept, fresh_kept, bad_task_kept}
+use Rattle.fam_protocol.proofs.Free.{drifts_at}
+use Rattle.fam_protocol.proofs.LineMoves.{fresh_current}
+use Rattle.fam_protocol.proofs.BadMoves.{still_kept, fresh_stays, bad_task_kept}
 use Rattle.fam_protocol.proofs.BadWords.{slot_words_are}
 use Rattle.fam_protocol.proofs.BadTurns.{Bare, BadTurn, magic_says, drop_says, gate_says, slot_says, decide_says, word_says, none_moved, header_moved}
 
--- an operation that moves the host's copy of a line as its cache may by itself
-pub leaves_drift : (host line : ℕ) (s s' : Seen) (m : List ℕ) (c : Cell) → LeavesAt host line s s' m c → Drifts (s.memory line) (s.copy host line) m c → DriftsAt host line s s'
-leaves_drift host line s s' m c done d = record {
-  only = done.only;
-  here = subst (λ (x : List ℕ). Drifts (s.memory line) (s.copy host line) x (s'.copy host line)) (sym done.memory_is) (subst (λ (x : Cell). Drifts (s.memory line) (s.copy host line) m x) (sym done.copy_is) d);
-}
-
 -- a load
 load_drift : (host l k : ℕ) (s s' : Seen) (word : ℕ) → Operates (Load (line_no l) k) host s s' word → DriftsAt host l s s'
-load_drift host l k s s' word done = leaves_drift host l s s' (s.memory l) (brought (s.memory l) (s.copy host l)) done.0 (brought_drifts (s.memory l) (s.copy host l))
+load_drift host l k s s' word done = drifts_at host l s s' (s.memory l) (brought (s.memory l) (s.copy host l)) done.0 (brought_drifts (s.memory l) (s.copy host l))
 
 -- an invalidation
 drop_drift : (host l : ℕ) (s s' : Seen) (word : ℕ) → Operates (Invalidate (line_no l)) host s s' word → DriftsAt host l s s'
-drop_drift host l s s' word done = leaves_drift host l s s' (sent (s.memory l) (s.copy host l)) Absent done (absent_drifts (s.memory l) (s.copy host l))
-
--- what a fresh copy gives
-fresh_gives : (m : List ℕ) (c : Cell) → Fresh m c → current m c ≡ m
-fresh_gives m Absent f = refl
-fresh_gives m (Clean words) f = f
-fresh_gives m (Dirty words) f = absurd f
+drop_drift host l s s' word done = drifts_at host l s s' (sent (s.memory l) (s.copy host l)) Absent done (absent_drifts (s.memory l) (s.copy host l))
 
 -- a line moved, or nothing
 abbrev pub Moved : ℕ → Seen → Seen → Type 0
@@ -82,7 +70,7 @@ module _ (image : Lines) (have : ℕ) (uuid : ℕ → Option (List ℕ)) (host :
     (t : Task) (me : uuid host ≡ Some t.me) (lines : line_bytes * t.lines ≡ have) where
   -- a load of a fresh line gives a word of the image
   loads : (l k : ℕ) → Fresh (s.memory l) (s.copy host l) → Operates (Load (line_no l) k) host s s' word → word ≡ slice_index (image l) k
-  loads l k fresh done = done.1 ∙ ap (λ w. slice_index w k) (fresh_gives (s.memory l) (s.copy host l) fresh ∙ still.memory l)
+  loads l k fresh done = done.1 ∙ ap (λ w. slice_index w k) (fresh_current (s.memory l) (s.copy host l) fresh ∙ still.memory l)
 
   -- a line that was dropped is fresh
   dropped : (l : ℕ) → Operates (Invalidate (line_no l)) host s s' word → Fresh (s'.memory l) (s'.copy host l)
@@ -97,7 +85,7 @@ module _ (image : Lines) (have : ℕ) (uuid : ℕ → Option (List ℕ)) (host :
   says at.Magic a done = magic_says image have uuid host s' t bare me lines word a.0 (loads 0 0 a.1 done)
   says (at.Drop part j) a done = drop_says image have uuid host s' t bare me lines part j a.0 a.1 a.2 (dropped (part_line t part j) done)
   says (at.Word part j k) a done =
-      word_says image have uuid host s' t bare me lines part j k word a.0 a.1 a.2 (fresh_kept image have host (part_line t part j) s s' (load_drift host (part_line t part j) k s s' word done) still host (part_line t part j) a.3) a.4 (loads (part_line t part j) k a.3 done)
+      word_says image have uuid host s' t bare me lines part j k word a.0 a.1 a.2 (fresh_stays image have host (part_line t part j) s s' (load_drift host (part_line t part j) k s s' word done) still host (part_line t part j) a.3) a.4 (loads (part_line t part j) k a.3 done)
   says at.DropGate a done = record {
     may = tt;
     task = record { me = me; lines = lines; place = (none_moved image have t at.Gate t.words a.0, a.1, header_moved image have t at.Gate t.words a.2, dropped gate_line done) };

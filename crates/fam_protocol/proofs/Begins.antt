@@ -126,6 +126,7 @@ module _ (image : Image) (limit : line_bytes * length image ≤ device_limit) wh
   pub begins : Way (settled_at_first image) (length image) no_hosts (alone image)
   begins = record {
     declared = record { apart = λ h k id none. absurd (cc); absent = λ h l none. refl; idle = λ h none. refl };
+    named = λ h r none. absurd (cc);
     wide = record { memory = λ l. refl; copies = λ h l. refl };
     stage = by_size (nat_lt (length image) least_lines) refl;
   }

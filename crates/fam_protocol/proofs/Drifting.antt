@@ -1,6 +1,7 @@
 -- A cache's own move at a line keeps all tasks' facts, those of its own host among them.
 use Rattle.std.proofs.Common.{ℕ, ◌≤◌, ◌≡◌, ◌≢◌, inl, inr, List, length, sym, ◌∙◌, subst, arith}
 use Rattle.std.specs.Prelude.{Some}
+use Rattle.std.proofs.lemmas.Option.{same_Some}
 use Rattle.fam_format.specs.Layout.{gate_line}
 use Rattle.fam_machine.specs.declared.cell.Cell.{Cell}
 use Rattle.fam_machine.specs.declared.cell.Cell.TheVariants.{Absent, Clean, Dirty}
@@ -13,7 +14,7 @@ use Rattle.fam_protocol.specs.Lines.{Fresh, FreshGate, Holding, Finished, gate_o
 use Rattle.fam_protocol.specs.Core.{System, Core, top_of}
 use Rattle.fam_protocol.specs.Tasks.{TaskHolds}
 use Rattle.fam_protocol.proofs.LineMoves.{gate_grows, fresh_kept, fresh_gate_kept, holding_kept, finished_kept}
-use Rattle.fam_protocol.proofs.Free.{Same, same, some_same, cell_kept, own, gate_cell, quiet_same}
+use Rattle.fam_protocol.proofs.Free.{Same, same, cell_kept, own, gate_cell, quiet_same}
 use Rattle.fam_protocol.proofs.Keeping.{Keeps, task_kept}
 
 -- a copy that a reader may load is no newer than memory
@@ -54,7 +55,7 @@ module _ (sys : System) (s s' : Seen) (all : List File) (settled : ℕ) (core : 
 
   -- a line that only the master may have dirty, seen by the master
   not_other : (h : ℕ) → sys.master ≡ Some h → (l : ℕ) → h ≢ host → IsDirty (s.copy host l) → ⊥
-  not_other h is l ne d = ne (some_same (sym is ∙ core.only_master host l d))
+  not_other h is l ne d = ne (same_Some _ _ (sym is ∙ core.only_master host l d))
 
   -- what a task rests on stays when any cache moves by itself
   pub drift_keeps : (h : ℕ) → Keeps sys h settled s s'

@@ -18,8 +18,9 @@ use Rattle.fam_protocol.specs.Seen.{Seen, Loses}
 use Rattle.fam_protocol.specs.Lines.{gate_of, top}
 use Rattle.fam_protocol.specs.Core.{System, Core, IsMaster, IsWide, masters_copy, top_of}
 use Rattle.fam_protocol.specs.Tasks.{TaskHolds, IsCommand}
+use Rattle.fam_protocol.specs.After.{Run, HasNamed, HoldsNamed}
 use Rattle.fam_protocol.specs.Bad.{BadTaskHolds}
-use Rattle.fam_protocol.specs.Way.{Run, Hosts, Settled, Small, Damaged, Known, AreHosts, IsSmall, IsDamaged, IsKnown, Stage, Way}
+use Rattle.fam_protocol.specs.Way.{Hosts, Settled, Small, Damaged, Known, AreHosts, IsSmall, IsDamaged, IsKnown, Stage, Way}
 use Rattle.fam_protocol.specs.Events.{Declares, Starts, Stops}
 use Rattle.fam_protocol.proofs.Bystanders.{with_copies, place_kept, bad_place_kept}
 
@@ -65,7 +66,7 @@ record Begun (old : Hosts) (lines host : ℕ) (r : Run) : Type 0 where
   enough : least_lines ≤ lines
   declared : old.uuid host ≡ Some me
   command : IsCommand cmd
-  is : r ≡ record { task = starting cmd me lines; floor = floor }
+  is : r ≡ record { task = starting cmd me lines; floor = floor; named = None }
 
 -- what may become of copies: a copy that isn't as before is gone
 record Loosens (s : Seen) (copy : ℕ → ℕ → Cell) : Type 0 where
@@ -85,6 +86,11 @@ module _ (old new : Hosts) (lines : ℕ) (s : Seen) (copy : ℕ → ℕ → Cell
     absent = λ h l none. loosens.absent h l (are.absent h l (sym (uuids h) ∙ none));
     idle = λ h none. let was : old.uuid h ≡ None = sym (uuids h) ∙ none in idle h (are.idle h was) was;
   }
+
+  -- a task that begins writes nothing yet
+  named_same : ((h : ℕ) (r : Run) → old.run h ≡ Some r → HasNamed r.task.place → HoldsNamed r.task r.named) → (h : ℕ) (r : Run) → Carried old s copy h r ⊎ Begun old lines h r → HasNamed r.task.place → HoldsNamed r.task r.named
+  named_same named h r (inl carried) has = named h r carried.run has
+  named_same named h r (inr begun) has = absurd (subst (λ (q : Run). HasNamed q.task.place) begun.is has)
 
   -- a small image
   small_by : ((h : ℕ) → old.run h ≡ None) → lines < least_lines → (h : ℕ) (r : Option Run) → new.run h ≡ r → r ≡ None
@@ -145,7 +151,7 @@ module _ (old new : Hosts) (lines : ℕ) (s : Seen) (copy : ℕ → ℕ → Cell
   stage_same (Known p all settled) is = known_same p all settled is
 
   way_same : (settled : Settled) → Way settled lines old s → Way settled lines new (with_copies s copy)
-  way_same settled way = record { declared = hosts_same way.declared; wide = loosens.wide way.wide; stage = stage_same settled way.stage }
+  way_same settled way = record { declared = hosts_same way.declared; named = λ h r run. named_same way.named h r (runs h r run); wide = loosens.wide way.wide; stage = stage_same settled way.stage }
 
 -- nothing becomes of copies
 nothing_lost : (s : Seen) → Loosens s s.copy
@@ -249,7 +255,7 @@ module _ (settled : Settled) (lines host : ℕ) (old new : Hosts) where
           enough = enough;
           declared = ap old.uuid is ∙ starts.declared;
           command = starts.command;
-          is = let here : new.run h ≡ Some (record { task = starting cmd starts.me lines; floor = starts.floor }) = ap new.run is ∙ starts.is in cc;
+          is = let here : new.run h ≡ Some (record { task = starting cmd starts.me lines; floor = starts.floor; named = None }) = ap new.run is ∙ starts.is in cc;
         }
         | inr other ↦ inl record { run = sym (starts.runs h other) ∙ run; same = λ l. refl }
       ]
@@ -393,4 +399,4 @@ module _ (lines host : ℕ) (id : List ℕ) (old new : Hosts) (s : Seen) (declar
 -- a host is declared
 pub way_declared : (settled : Settled) (lines host : ℕ) (id : List ℕ) (old new : Hosts) (s : Seen) → Way settled lines old s → Declares host id old new → Way settled lines new s
 way_declared settled lines host id old new s way declares =
-    record { declared = hosts_declared lines host id old new s declares way.declared; wide = way.wide; stage = stage_declared lines host id old new s declares way.declared settled way.stage }
+    record { declared = hosts_declared lines host id old new s declares way.declared; named = λ h r run. way.named h r (sym (declares.runs h) ∙ run); wide = way.wide; stage = stage_declared lines host id old new s declares way.declared settled way.stage }

@@ -28,10 +28,10 @@ use Rattle.fam_rules.specs.Place.{line_bytes}
 use Rattle.fam_rules.specs.Reply.{Reply, Appended, NotAppended, Played, Same, Differs, Length, Bytes, NotFound, IsDirectory, Checks, Reports, NoSuperblock, BadHeader, BadSlot}
 use Rattle.fam_rules.specs.Reports.{report_of}
 use Rattle.fam_rules.specs.Written.{file_line}
-use Rattle.fam_protocol.specs.After.{IsAppended, IsAsked, IsRefused, IsReported, IsStranger, MayRefuse, MayReply}
+use Rattle.fam_protocol.specs.After.{Run, Named, HasNamed, HoldsNamed, IsAppended, IsAsked, IsRefused, IsReported, IsStranger, MayRefuse, MayReply}
 use Rattle.fam_protocol.specs.Bad.{IsBadStranger, MayReplyBad, MaySayBad, Still, fault_of}
 use Rattle.fam_protocol.specs.Core.{Core, System}
-use Rattle.fam_protocol.specs.Findings.{DamagedStep, HasGate, HasNamed, IsCurrent, IsFoundCount, IsLoadedSlot, IsLoadedWord, IsOfCommand, IsOfEntries, IsOfFault, SoundStep, SoundTask}
+use Rattle.fam_protocol.specs.Findings.{DamagedStep, HasGate, IsCurrent, IsFoundCount, IsLoadedSlot, IsLoadedWord, IsOfCommand, IsOfEntries, IsOfFault, SoundStep, SoundTask}
 use Rattle.fam_protocol.specs.Lines.{gate_of}
 use Rattle.fam_protocol.specs.Seen.{Seen}
 use Rattle.fam_protocol.specs.Steps.{StepHolds, TurnSays}
@@ -42,6 +42,7 @@ use Rattle.fam_protocol.proofs.Given.{Given}
 use Rattle.fam_protocol.proofs.History.{some_at}
 use Rattle.fam_protocol.proofs.PartWords.{slot_words_are}
 use Rattle.fam_protocol.proofs.Steps.{way_stepped}
+use Rattle.fam_protocol.proofs.Tell.{holds_last}
 use Rattle.fam_protocol.proofs.TurnSlots.{slot_reads}
 
 -- What was loaded.
@@ -80,18 +81,18 @@ module _ (sys : System) (host floor : ℕ) (t : Task) (s : Seen) (all : List Fil
   current_at at.Decide has g = gate_current g.1.gate
   current_at other has g = absurd has
 
-  writing_last : IsWriting sys host t s all settled → IsAppended t all t.gate
-  writing_last w = record { count = w.pending; file = w.file; last = w.last; entry = w.entry }
+  writing_last : (named : Option Named) → HoldsNamed t named → IsWriting sys host t s all settled → IsAppended (record { task = t; floor = floor; named = named }) all t.gate
+  writing_last named holds w = holds_last floor named t all holds w.pending w.file w.last w.entry
 
   -- the entry that is being appended, by the place
-  named_at : (q : Place) → HasNamed q → AtPlace q sys host floor t s all settled → IsAppended t all t.gate
-  named_at (at.StoreData j k) has g = writing_last g.1.writing
-  named_at (at.SendData j) has g = writing_last g.writing
-  named_at (at.StoreSlot j k) has g = writing_last g.1.writing
-  named_at (at.SendSlot j) has g = writing_last g.writing
-  named_at at.StoreGate has g = writing_last g.writing
-  named_at at.SendGate has g = record { count = g.pending; file = g.file; last = g.last; entry = g.entry }
-  named_at other has g = absurd has
+  named_at : (q : Place) → HasNamed q → (named : Option Named) → HoldsNamed t named → AtPlace q sys host floor t s all settled → IsAppended (record { task = t; floor = floor; named = named }) all t.gate
+  named_at (at.StoreData j k) has named holds g = writing_last named holds g.1.writing
+  named_at (at.SendData j) has named holds g = writing_last named holds g.writing
+  named_at (at.StoreSlot j k) has named holds g = writing_last named holds g.1.writing
+  named_at (at.SendSlot j) has named holds g = writing_last named holds g.writing
+  named_at at.StoreGate has named holds g = writing_last named holds g.writing
+  named_at at.SendGate has named holds g = holds_last floor named t all holds g.pending g.file g.last g.entry
+  named_at other has named holds g = absurd has
 
   -- the words of a slot below the gate
   slot_loaded : (i : ℕ) → i < t.gate → AtPlace (at.Check i) sys host floor t s all settled → IsLoadedSlot sys.params i t all s.memory
@@ -132,8 +133,8 @@ module _ (sys : System) (host floor : ℕ) (t : Task) (s : Seen) (all : List Fil
 
 -- What is said.
 
-module _ (sys : System) (t : Task) (floor : ℕ) (all : List File) (settled : ℕ) where
-  asked_by : (reply : Reply) → IsOfEntries reply → MayReply reply sys t floor all settled → IsAsked t floor all reply
+module _ (sys : System) (r : Run) (all : List File) (settled : ℕ) where
+  asked_by : (reply : Reply) → IsOfEntries reply → MayReply reply sys r all settled → IsAsked r.task r.floor all reply
   asked_by (Played m tree) has may = may
   asked_by (Same m) has may = may
   asked_by (Differs m offset found wanted) has may = may
@@ -144,7 +145,7 @@ module _ (sys : System) (t : Task) (floor : ℕ) (all : List File) (settled : �
   asked_by (Checks m checked) has may = may
   asked_by other has may = absurd has
 
-  refused_by : (r : Refused) → IsOfCommand r → MayRefuse r sys t all settled → IsRefused sys.params t all settled r
+  refused_by : (why : Refused) → IsOfCommand why → MayRefuse why sys r.task all settled → IsRefused sys.params r.task all settled why
   refused_by (refused.NotMaster me master) has may = absurd has
   refused_by refused.BadStripe has may = may
   refused_by (refused.Exists kind) has may = may
@@ -153,7 +154,7 @@ module _ (sys : System) (t : Task) (floor : ℕ) (all : List File) (settled : �
   refused_by (refused.LogFull slots) has may = may
   refused_by (refused.NoSpace units) has may = may
 
-  no_fault_by : (reply : Reply) → MayReply reply sys t floor all settled → IsOfFault reply → ⊥
+  no_fault_by : (reply : Reply) → MayReply reply sys r all settled → IsOfFault reply → ⊥
   no_fault_by (NoSuperblock fault) may has = may
   no_fault_by (BadHeader fault) may has = may
   no_fault_by (BadSlot seq reason) may has = may
@@ -197,8 +198,10 @@ module _ (p : Params) (all : List File) (settled : ℕ) (at : SoundTask p all se
   loaded_gate has = current_at _ at.host at.run.floor at.run.task at.seen all settled stage.core at.run.task.place has (stage.tasks at.host at.run at.runs).place
 
   -- what it knows of the entry that it writes
-  pub named_entry : HasNamed at.run.task.place → IsAppended at.run.task all at.run.task.gate
-  named_entry has = named_at _ at.host at.run.floor at.run.task at.seen all settled stage.core at.run.task.place has (stage.tasks at.host at.run at.runs).place
+  pub named_entry : HasNamed at.run.task.place → IsAppended at.run all at.run.task.gate
+  named_entry has =
+      named_at _ at.host at.run.floor at.run.task at.seen all settled stage.core at.run.task.place has at.run.named (at.way.named at.host at.run at.runs has)
+      (stage.tasks at.host at.run at.runs).place
 
 -- what it knows of a slot that it loaded
 pub loaded_slot : (p : Params) (all : List File) (settled i : ℕ) (at : SoundTask p all settled) → at.run.task.place ≡ Place.Check i → i < at.run.task.gate → IsLoadedSlot p i at.run.task all at.seen.memory
@@ -221,9 +224,9 @@ loaded_word p all settled j k step is =
 
 module _ (p : Params) (all : List File) (settled : ℕ) (step : SoundStep p all settled) where
   -- what a step may say, by its turn
-  says : (turn : Turn) → turn_given step.run.task step.word ≡ turn → TurnSays turn step.run.task step.run.floor (Known p all settled) step.lines step.old
+  says : (turn : Turn) → turn_given step.run.task step.word ≡ turn → TurnSays turn step.run (Known p all settled) step.lines step.old
   says turn is =
-      subst (λ (x : Turn). TurnSays x step.run.task step.run.floor (Known p all settled) step.lines step.old) is
+      subst (λ (x : Turn). TurnSays x step.run (Known p all settled) step.lines step.old) is
       (way_stepped step.lines step.host step.word (Known p all settled) step.run step.old step.new step.before step.after step.way step.steps).says
 
   -- what the master finds
@@ -236,19 +239,19 @@ module _ (p : Params) (all : List File) (settled : ℕ) (step : SoundStep p all 
 
   -- the answer to a question
   pub asked : (reply : Reply) → turn_given step.run.task step.word ≡ Ends reply → IsOfEntries reply → IsAsked step.run.task step.run.floor all reply
-  asked reply is has = asked_by _ step.run.task step.run.floor all settled reply has (says (Ends reply) is).may
+  asked reply is has = asked_by _ step.run all settled reply has (says (Ends reply) is).may
 
   -- the report of a check of the whole file system
   pub reported : (report : Report) → turn_given step.run.task step.word ≡ Ends (Reports report) → IsReported p step.run.floor all report
   reported report is = (says (Ends (Reports report)) is).may
 
   -- an entry is appended
-  pub appended : (seq : ℕ) → turn_given step.run.task step.word ≡ Ends (Appended seq) → IsAppended step.run.task all seq
+  pub appended : (seq : ℕ) → turn_given step.run.task step.word ≡ Ends (Appended seq) → IsAppended step.run all seq
   appended seq is = (says (Ends (Appended seq)) is).may
 
   -- a refusal for the command's sake
   pub refused_for : (r : Refused) → turn_given step.run.task step.word ≡ Ends (NotAppended r) → IsOfCommand r → IsRefused p step.run.task all settled r
-  refused_for r is has = refused_by _ step.run.task step.run.floor all settled r has (says (Ends (NotAppended r)) is).may
+  refused_for r is has = refused_by _ step.run all settled r has (says (Ends (NotAppended r)) is).may
 
   -- a refusal of another host than the master
   pub stranger : (me master : List ℕ) → turn_given step.run.task step.word ≡ Ends (NotAppended (refused.NotMaster me master)) → IsStranger p step.run.task me master
@@ -256,7 +259,7 @@ module _ (p : Params) (all : List File) (settled : ℕ) (step : SoundStep p all 
 
   -- a sound file system shows no fault
   pub no_fault : (reply : Reply) → turn_given step.run.task step.word ≡ Ends reply → IsOfFault reply → ⊥
-  no_fault reply is has = no_fault_by _ step.run.task step.run.floor all settled reply (says (Ends reply) is).may has
+  no_fault reply is has = no_fault_by _ step.run all settled reply (says (Ends reply) is).may has
 
 module _ (image : Lines) (lines : ℕ) (step : DamagedStep image lines) where
   holds : StepHolds (Damaged image) lines step.word step.run step.old step.new step.after

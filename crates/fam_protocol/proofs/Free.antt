@@ -3,6 +3,7 @@ use Rattle.std.proofs.Common.{ℕ, ◌/◌, ◌%◌, ◌≤◌, ◌<◌, ◌≡�
 use Rattle.std.specs.Prelude.{slice_index, Option, Some, None}
 use Rattle.std.proofs.lemmas.Bool.Decides.{eqb_tells}
 use Rattle.std.specs.Prelude.{◌==◌}
+use Rattle.std.proofs.lemmas.Option.{same_Some}
 use Rattle.fam_base.specs.declared.entry.Params.{Params}
 use Rattle.fam_format.specs.Slot.{entry_of}
 use Rattle.fam_format.specs.Layout.{gate_line, log_line, slot_line}
@@ -10,12 +11,12 @@ use Rattle.fam_format.specs.Reading.{slot_words}
 use Rattle.fam_machine.specs.declared.cell.Cell.{Cell}
 use Rattle.fam_machine.specs.declared.cell.Cell.TheVariants.{Absent, Clean, Dirty}
 use Rattle.fam_machine.specs.OneLine.{IsDirty, current}
-use Rattle.fam_machine.specs.Moves.{Moves}
+use Rattle.fam_machine.specs.Moves.{Moves, Drifts}
 use Rattle.fam_rules.specs.Asks.{File}
 use Rattle.fam_rules.specs.Content.{byte_in}
 use Rattle.fam_rules.specs.Place.{line_bytes}
 use Rattle.fam_rules.proofs.RoomSame.{map_range_same}
-use Rattle.fam_protocol.specs.Seen.{Seen, DriftsAt}
+use Rattle.fam_protocol.specs.Seen.{Seen, DriftsAt, LeavesAt}
 use Rattle.fam_protocol.specs.Lines.{gate_of, top}
 use Rattle.fam_protocol.specs.Core.{System, Core, HasHead, IsWide, IsLineOf, Stands, masters_copy, top_of}
 use Rattle.fam_protocol.proofs.LineMoves.{Wide, along, wide_kept, dirty_drift, still_drift, same_top, gate_grows}
@@ -32,10 +33,6 @@ told a b (inr h) = inr h.1
 -- nothing is not something
 pub none_some : {h : ℕ} → None ≡ Some h → ⊥
 none_some e = absurd cc
-
--- the same thing twice
-pub some_same : {h k : ℕ} → Some h ≡ Some k → h ≡ k
-some_same e = cc
 
 -- two numbers are one or not
 pub same : (a b : ℕ) → Same a b
@@ -63,6 +60,13 @@ head_same sys s s' lines header dirty head = record {
   super = rw (lines 0 (omega arith), lines 1 (omega arith), lines 2 (omega arith)) head.super;
   header = rw header head.header;
   clean = λ h l is d. head.clean h l is (dirty h l d);
+}
+
+-- an operation that moves a cell as a cache may by itself
+pub drifts_at : (host line : ℕ) (s s' : Seen) (m : List ℕ) (c : Cell) → LeavesAt host line s s' m c → Drifts (s.memory line) (s.copy host line) m c → DriftsAt host line s s'
+drifts_at host line s s' m c left d = record {
+  only = left.only;
+  here = subst (λ (x : List ℕ). Drifts (s.memory line) (s.copy host line) x (s'.copy host line)) (sym left.memory_is) (subst (λ (x : Cell). Drifts (s.memory line) (s.copy host line) m x) (sym left.copy_is) d);
 }
 
 module _ (host line : ℕ) (s s' : Seen) (drifts : DriftsAt host line s s') (wide : IsWide s) where
@@ -150,7 +154,7 @@ module _ (host line : ℕ) (s s' : Seen) (drifts : DriftsAt host line s s') (wid
             let t : gate_of (s.memory gate_line) ≡ top_of sys s = ap (λ (o : Option ℕ). top (s.memory gate_line) (masters_copy o s gate_line)) (sym is) in
             (omega (arith, ap gate_of m), omega arith, ap gate_of m ∙ t)
         go (Some h) is =
-            cell_kept Gate gate_step h gate_line (λ ne d. ne (some_same (sym is ∙ core.only_master host gate_line d)))
+            cell_kept Gate gate_step h gate_line (λ ne d. ne (same_Some _ _ (sym is ∙ core.only_master host gate_line d)))
             (omega arith, subst (λ (o : Option ℕ). gate_of (s.memory gate_line) ≤ top (s.memory gate_line) (masters_copy o s gate_line)) is core.order, ap (λ (o : Option ℕ). top (s.memory gate_line) (masters_copy o s gate_line)) (sym is))
 
     pub core_kept : Core sys s' all settled

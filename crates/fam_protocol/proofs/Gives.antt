@@ -23,19 +23,12 @@ use Rattle.fam_protocol.specs.Core.{System, Core, IsLineOf, masters_copy}
 use Rattle.fam_protocol.specs.Tasks.{AtPlace, HasPublished, IsAtGate, IsWriting, StoresData, StoresSlot}
 use Rattle.fam_protocol.proofs.Apart.{files_apart, slots_apart, slot_no_file}
 use Rattle.fam_protocol.proofs.Drifting.{drift_keeps}
-use Rattle.fam_protocol.proofs.Free.{core_kept, same}
+use Rattle.fam_protocol.proofs.Free.{core_kept, drifts_at, same}
 use Rattle.fam_protocol.proofs.Given.{Given, GivesGate}
 use Rattle.fam_protocol.proofs.Keeping.{Keeps, place_kept}
 use Rattle.fam_protocol.proofs.LineMoves.{fresh_current}
 use Rattle.fam_protocol.proofs.Publish.{core_published, has_published, publish_keeps}
 use Rattle.fam_protocol.proofs.Stores.{cleaned_fresh, core_stored, finished_other, holding_here, part_length, part_word, sent_whole, store_keeps, writing_stored}
-
--- an operation that moves a cell as a cache may by itself
-pub drifts_at : (host line : ℕ) (s s' : Seen) (m : List ℕ) (c : Cell) → LeavesAt host line s s' m c → Drifts (s.memory line) (s.copy host line) m c → DriftsAt host line s s'
-drifts_at host line s s' m c left d = record {
-  only = left.only;
-  here = subst (λ (x : List ℕ). Drifts (s.memory line) (s.copy host line) x (s'.copy host line)) (sym left.memory_is) (subst (λ (x : Cell). Drifts (s.memory line) (s.copy host line) m x) (sym left.copy_is) d);
-}
 
 -- what is known after an operation
 pub record Leaves (p : Place) (sys : System) (host floor word : ℕ) (t : Task) (s s' : Seen) (all : List File) (settled : ℕ) : Type 0 where

@@ -34,10 +34,14 @@ pub mod TurnLines
 pub mod TurnSurvey
 pub mod Turned
 pub mod RefusedRuns
+pub mod RefusedPhases
+pub mod RefusedScenes
+pub mod RefusedWays
 pub mod RefusedLaws
 pub mod Resettle
-pub mod Steps
 pub mod AloneTurns
+pub mod Naming
+pub mod Steps
 pub mod AloneMachine
 pub mod AloneWay
 pub mod AloneReply

@@ -1,6 +1,6 @@
 -- What stays known of a task that comes to another place, with other words.
 use Rattle.std.proofs.Common.{ℕ, refl, ◌*◌, ◌≡◌, ◌<◌, List, subst, sym}
-use Rattle.std.specs.Prelude.{Some}
+use Rattle.std.specs.Prelude.{Option, Some}
 use Rattle.fam_base.specs.declared.cmd.Cmd.{Cmd}
 use Rattle.fam_base.specs.declared.cmd.Cmd.TheVariants.{Fsck}
 use Rattle.fam_machine.specs.declared.op.Part.{Part}
@@ -17,7 +17,7 @@ use Rattle.fam_protocol.specs.Seen.{Seen}
 use Rattle.fam_protocol.specs.Lines.{Fresh}
 use Rattle.fam_protocol.specs.Core.{System}
 use Rattle.fam_protocol.specs.Tasks.{IsCommand, IsSure, HasLoaded, IsReading, NoSlot, KnowsHead, KnowsGate, HasRead, HasReadAll, IsAtSlot, IsAtFile, ReadsFile, OnPart}
-use Rattle.fam_protocol.specs.After.{After, IsAsked, IsRefused, MayRefuse, MayReply, MaySay}
+use Rattle.fam_protocol.specs.After.{After, IsAsked, IsRefused, MayRefuse, MayReply, MaySay, Named}
 use Rattle.fam_protocol.proofs.PartWords.{loaded}
 
 -- a task is its host's, of an image of this size
@@ -106,7 +106,7 @@ module _ (t : Task) (p : Place) (w : List ℕ) where
     on_moved FileLines j sys h = (head_moved sys host h.0, file_moved j h.1)
 
   -- what a turn may say, where it is the moved task's
-  module _ (sys : System) (floor : ℕ) (all : List File) (settled : ℕ) where
+  module _ (sys : System) (floor : ℕ) (named : Option Named) (all : List File) (settled : ℕ) where
     asked_moved : (reply : Reply) → IsAsked (moved t p w) floor all reply → IsAsked t floor all reply
     asked_moved reply h = record { low = h.low; high = h.high; is = h.is }
 
@@ -122,8 +122,8 @@ module _ (t : Task) (p : Place) (w : List ℕ) where
     may_refuse_moved (refused.LogFull slots) h = refused_moved (refused.LogFull slots) h
     may_refuse_moved (refused.NoSpace units) h = refused_moved (refused.NoSpace units) h
 
-    may_reply_moved : (reply : Reply) → MayReply reply sys (moved t p w) floor all settled → MayReply reply sys t floor all settled
-    may_reply_moved (Appended seq) h = record { count = h.count; file = h.file; last = h.last; entry = h.entry }
+    may_reply_moved : (reply : Reply) → MayReply reply sys (record { task = moved t p w; floor = floor; named = named }) all settled → MayReply reply sys (record { task = t; floor = floor; named = named }) all settled
+    may_reply_moved (Appended seq) h = record { count = h.count; file = h.file; last = h.last; named = h.named; entry = h.entry }
     may_reply_moved (NotAppended r) h = may_refuse_moved r h
     may_reply_moved (Reports report) h = h
     may_reply_moved (NoSuperblock fault) h = h
@@ -138,12 +138,12 @@ module _ (t : Task) (p : Place) (w : List ℕ) where
     may_reply_moved (IsDirectory m) h = asked_moved (IsDirectory m) h
     may_reply_moved (Checks m checked) h = asked_moved (Checks m checked) h
 
-    may_say_moved : (turn : Turn) → MaySay turn sys (moved t p w) floor all settled → MaySay turn sys t floor all settled
+    may_say_moved : (turn : Turn) → MaySay turn sys (record { task = moved t p w; floor = floor; named = named }) all settled → MaySay turn sys (record { task = t; floor = floor; named = named }) all settled
     may_say_moved (Goes next) h = tt
     may_say_moved (Marks next) h = tt
     may_say_moved (Finds n next) h = h
     may_say_moved (Writes seq e next) h = h
     may_say_moved (Ends reply) h = may_reply_moved reply h
 
-    pub after_moved : (turn : Turn) (host : ℕ) (s : Seen) → After turn sys host floor (moved t p w) s all settled → After turn sys host floor t s all settled
+    pub after_moved : (turn : Turn) (host : ℕ) (s : Seen) → After turn sys host floor named (moved t p w) s all settled → After turn sys host floor named t s all settled
     after_moved turn host s h = record { may = may_say_moved turn h.may; core = h.core; task = h.task; change = h.change }

@@ -2,9 +2,10 @@
 use Rattle.std.proofs.Common.{ℕ, ◌+◌, ◌*◌, ◌/◌, ◌%◌, ◌<◌, ◌≡◌, ◌≢◌, ◌⊎◌, inl, inr, List, length, map, sym, ◌∙◌, ap, subst, arith}
 use Rattle.std.specs.Prelude.{slice_get, slice_index, Option, Some, Ok}
 use Rattle.std.specs.List.{range_with_len}
-use Rattle.std.proofs.lemmas.List.{get_or-set_same, length-set}
+use Rattle.std.proofs.lemmas.List.{get_or-set_same}
 use Rattle.std.proofs.lemmas.Grind.{same_number_lists}
 use Rattle.std.proofs.lemmas.List.FromFn.{get_or-map-range_with_len, length-map-range_with_len}
+use Rattle.std.proofs.lemmas.Option.{same_Some}
 use Rattle.fam_base.specs.declared.entry.Params.{Params}
 use Rattle.fam_base.specs.declared.entry.Entry.{Entry}
 use Rattle.fam_format.specs.Layout.{geometry, gate_line, log_line, slot_line}
@@ -22,13 +23,13 @@ use Rattle.fam_rules.proofs.ContentLines.{byte_of_line, fill_fits}
 use Rattle.fam_rules.proofs.RoomSame.{map_range_same}
 use Rattle.fam_protocol.specs.Seen.{Seen, LeavesAt}
 use Rattle.fam_protocol.specs.Lines.{Finished, gate_of, top}
-use Rattle.fam_protocol.specs.Core.{System, Core, IsWide, IsHeadLine, IsLineOf, Stands, masters_copy, top_of}
+use Rattle.fam_protocol.specs.Core.{System, Core, IsHeadLine, IsLineOf, Stands, masters_copy, top_of}
 use Rattle.fam_protocol.specs.Tasks.{HasPublished, IsWriting, MayPublish}
 use Rattle.fam_protocol.proofs.Apart.{no_gate}
-use Rattle.fam_protocol.proofs.Free.{Same, same, some_same, stands_same}
+use Rattle.fam_protocol.proofs.Free.{Same, same, stands_same}
 use Rattle.fam_protocol.proofs.Keeping.{Keeps}
 use Rattle.fam_protocol.proofs.LineMoves.{fresh_clean}
-use Rattle.fam_protocol.proofs.Stores.{part_word}
+use Rattle.fam_protocol.proofs.Stores.{part_word, store_dirties, store_memory, store_wide, stored_keeps}
 
 -- a list is what stands at its places
 pub list_by_index : (ws : List ℕ) (n : ℕ) → length ws ≡ n → map (λ k. slice_index ws k) (range_with_len 0 n) ≡ ws
@@ -49,24 +50,9 @@ module _ (sys : System) (s s' : Seen) (all : List File) (settled : ℕ) (core : 
   w : IsWriting sys host t s all settled
   w = may.writing
 
+  -- memory stays
   memory_same : (l : ℕ) → s'.memory l ≡ s.memory l
-  memory_same l = go (same l gate_line)
-    where
-      go : Same l gate_line → s'.memory l ≡ s.memory l
-      go (inl e) = rw e done.memory_is
-      go (inr ne) = done.only.memory l ne
-
-  copy_same : (h l : ℕ) → (h ≢ host) ⊎ (l ≢ gate_line) → s'.copy h l ≡ s.copy h l
-  copy_same h l (inl ne) = done.only.hosts h l ne
-  copy_same h l (inr ne) = done.only.lines h l ne
-
-  dirty_or : (h l : ℕ) → IsDirty (s'.copy h l) → IsDirty (s.copy h l) ⊎ ((h ≡ host) × (l ≡ gate_line))
-  dirty_or h l d = go (same h host) (same l gate_line)
-    where
-      go : Same h host → Same l gate_line → IsDirty (s.copy h l) ⊎ ((h ≡ host) × (l ≡ gate_line))
-      go (inr ne) which = inl (subst IsDirty (done.only.hosts h l ne) d)
-      go (inl e) (inr ne) = inl (subst IsDirty (done.only.lines h l ne) d)
-      go (inl e) (inl f) = inr (e, f)
+  memory_same = store_memory host gate_line 0 (t.gate + 1) s s' core.wide done
 
   -- the master's gate is one higher
   pub top_now : top_of sys s' ≡ t.gate + 1
@@ -74,17 +60,6 @@ module _ (sys : System) (s s' : Seen) (all : List File) (settled : ℕ) (core : 
       ap (λ (o : Option ℕ). top (s'.memory gate_line) (masters_copy o s' gate_line)) w.master
       ∙ ap (λ (c : Cell). top (s'.memory gate_line) c) done.copy_is
       ∙ get_or-set_same (current (s.memory gate_line) (s.copy host gate_line)) 0 (t.gate + 1) 0 (omega (arith, core.wide.copies host gate_line))
-
-  wide_now : IsWide s'
-  wide_now = record { memory = λ l. ap length (memory_same l) ∙ core.wide.memory l; copies = λ h l. go h l (same h host) (same l gate_line) }
-    where
-      held : (h l : ℕ) → s'.copy h l ≡ s.copy h l → length (current (s'.memory l) (s'.copy h l)) ≡ 8
-      held h l e = rw (e, memory_same l) (core.wide.copies h l)
-
-      go : (h l : ℕ) → Same h host → Same l gate_line → length (current (s'.memory l) (s'.copy h l)) ≡ 8
-      go h l (inr ne) which = held h l (copy_same h l (inl ne))
-      go h l (inl e) (inr ne) = held h l (copy_same h l (inr ne))
-      go h l (inl e) (inl f) = rw (e, f, done.copy_is) (length-set (current (s.memory gate_line) (s.copy host gate_line)) 0 (t.gate + 1) ∙ core.wide.copies host gate_line)
 
   -- the new entry's lines are finished
   line_finished : (l : ℕ) → IsLineOf sys.params t.gate w.file.entry l → (wanted : List ℕ) × Finished wanted (s.memory l) (s.copy host l)
@@ -125,16 +100,16 @@ module _ (sys : System) (s s' : Seen) (all : List File) (settled : ℕ) (core : 
   core_published =
       let m0 = ap gate_of (memory_same gate_line) in
       record {
-        wide = wide_now;
+        wide = store_wide host gate_line 0 (t.gate + 1) s s' core.wide done;
         head = record {
           sound = core.head.sound;
           device = core.head.device;
           super = rw (memory_same 0, memory_same 1, memory_same 2) core.head.super;
           header = rw (memory_same log_line) core.head.header;
-          clean = λ h l is d. head_clean h l is (dirty_or h l d);
+          clean = λ h l is d. head_clean h l is (store_dirties host gate_line 0 (t.gate + 1) s s' core.wide done h l d);
         };
         named = core.named;
-        only_master = λ h l d. masters h l (dirty_or h l d);
+        only_master = λ h l d. masters h l (store_dirties host gate_line 0 (t.gate + 1) s s' core.wide done h l d);
         low = omega (arith, core.low, m0);
         order = omega (arith, core.order, w.unpublished, top_now, m0);
         high = omega (arith, top_now, w.pending);
@@ -142,7 +117,7 @@ module _ (sys : System) (s s' : Seen) (all : List File) (settled : ℕ) (core : 
         room = core.room;
         history = core.history;
         stands = λ i f is lt. stands_same s.memory s'.memory sys.params i f (λ l _. memory_same l) (stand i f is (omega (arith, lt, top_now)) (same i t.gate));
-        clean = λ i f h l is lt of_i d. clean_at i f h l is (omega (arith, lt, top_now)) of_i (dirty_or h l d) (same i t.gate);
+        clean = λ i f h l is lt of_i d. clean_at i f h l is (omega (arith, lt, top_now)) of_i (store_dirties host gate_line 0 (t.gate + 1) s s' core.wide done h l d) (same i t.gate);
       }
     where
       head_clean : (h l : ℕ) → IsHeadLine l → IsDirty (s.copy h l) ⊎ ((h ≡ host) × (l ≡ gate_line)) → ⊥
@@ -155,10 +130,7 @@ module _ (sys : System) (s s' : Seen) (all : List File) (settled : ℕ) (core : 
       masters h l (inr e) = w.master ∙ ap (λ (x : ℕ). Some x) (sym e.0)
 
       same_file : (i : ℕ) (f : File) → slice_get all i ≡ Some f → i ≡ t.gate → w.file ≡ f
-      same_file i f is e = some_file (sym w.last ∙ ap (λ (x : ℕ). slice_get all x) (sym e) ∙ is)
-        where
-          some_file : {a b : File} → Some a ≡ Some b → a ≡ b
-          some_file e = cc
+      same_file i f is e = same_Some w.file f (sym w.last ∙ ap (λ (x : ℕ). slice_get all x) (sym e) ∙ is)
 
       stand : (i : ℕ) (f : File) → slice_get all i ≡ Some f → i < t.gate + 1 → Same i t.gate → Stands sys.params s.memory i f
       stand i f is lt (inl e) = subst (λ (x : ℕ). Stands sys.params s.memory x f) (sym e) (subst (Stands sys.params s.memory t.gate) (same_file i f is e) new_stands)
@@ -170,7 +142,7 @@ module _ (sys : System) (s s' : Seen) (all : List File) (settled : ℕ) (core : 
       clean_at i f h l is lt of_i (inl d) (inl e) =
           let of_n : IsLineOf sys.params t.gate w.file.entry l = subst (λ (x : ℕ). IsLineOf sys.params x w.file.entry l) e (subst (λ (x : File). IsLineOf sys.params i x.entry l) (sym (same_file i f is e)) of_i) in
           let f' = line_finished l of_n in
-          fresh_clean _ _ f'.1.1 (subst (λ (x : ℕ). IsDirty (s.copy x l)) (some_same (sym (core.only_master h l d) ∙ w.master)) d)
+          fresh_clean _ _ f'.1.1 (subst (λ (x : ℕ). IsDirty (s.copy x l)) (same_Some _ _ (sym (core.only_master h l d) ∙ w.master)) d)
 
   -- and the task has published its entry
   pub has_published : HasPublished sys host t s' all
@@ -178,14 +150,4 @@ module _ (sys : System) (s s' : Seen) (all : List File) (settled : ℕ) (core : 
 
   -- another host's task rests on nothing that it changes
   pub publish_keeps : (h : ℕ) → h ≢ host → Keeps sys h settled s s'
-  publish_keeps h ne = record {
-    quiet = λ l q. memory_same l;
-    fresh = λ l q f. rw (memory_same l, copy_same h l (inl ne)) f;
-    gate = omega (arith, ap gate_of (memory_same gate_line));
-    at_gate = λ floor g. record {
-      low = g.low;
-      copy = rw (memory_same gate_line, copy_same h gate_line (inl ne)) g.copy;
-      masters = λ is. absurd (ne (some_same (sym is ∙ w.master)));
-    };
-    writing = λ is. absurd (ne (some_same (sym is ∙ w.master)));
-  }
+  publish_keeps = stored_keeps host gate_line 0 (t.gate + 1) s s' core.wide done sys settled w.master

@@ -1,20 +1,35 @@
--- Runs of two hosts at two lines, computed on what memory and the caches show there.
-use Rattle.std.proofs.Common.{ℕ, ◌≡◌, ◌≢◌, ◌==◌, if◌then◌else◌, Bool, true, false, List, [], ◌∷◌, refl, sym, ◌∙◌}
-use Rattle.std.specs.Prelude.{⊤, map, slice_index}
+-- Runs, computed at the lines that they touch.
+use Rattle.std.proofs.Common.{ℕ, ◌≡◌, ◌==◌, if◌then◌else◌, Bool, true, false, List, [], ◌∷◌, ◌++◌, map, Option, Some, None, refl, sym, subst, ◌∙◌}
+use Rattle.std.specs.Prelude.{slice_index}
 use Rattle.std.proofs.lemmas.Bool.{eq-eqb, ne_eqb}
 use Rattle.fam_machine.specs.declared.cell.Cell.{Cell}
 use Rattle.fam_machine.specs.declared.cell.Cell.TheVariants.{Absent}
-use Rattle.fam_machine.specs.declared.op.Op.TheVariants.{Load, Store, WriteBack, Invalidate}
-use Rattle.fam_machine.specs.OneLine.{brought, cleaned, current, fetched, sent, stored}
+use Rattle.fam_machine.specs.declared.op.Op.{Op}
+use Rattle.fam_machine.specs.declared.op.Op.TheVariants.{Load, Store, WriteBack, Invalidate, Digest}
+use Rattle.fam_machine.specs.OneLine.{brought, cleaned, current, sent, stored}
+use Rattle.fam_machine.specs.Stands.{given_by}
 use Rattle.fam_machine.specs.Task.{line_no}
-use Rattle.fam_machine.proofs.Drifting.{fetched_drifts}
-use Rattle.fam_protocol.specs.Seen.{Seen, LeavesAt}
-use Rattle.fam_protocol.proofs.BadSteps.{leaves_drift}
-use Rattle.fam_protocol.specs.Refused.{Step, Does, Drifts, Takes, Ran, ends, goes}
+use Rattle.fam_machine.proofs.Drifting.{brought_drifts}
+use Rattle.fam_protocol.specs.Seen.{Seen, ChangesOnly, LeavesAt, Operates}
+use Rattle.fam_protocol.proofs.Free.{drifts_at}
+use Rattle.fam_protocol.specs.Refused.{Step, Does, Drifts, Ran, ends, goes, moves, with_first}
+
+-- Runs one behind the other.
+
+first_before : (o : Option ℕ) (us vs : List ℕ) → with_first o us ++ vs ≡ with_first o (us ++ vs)
+first_before None us vs = refl
+first_before (Some word) us vs = refl
+
+-- a run goes on with another one
+pub ran_on : {xs ys : List Step} {us vs : List ℕ} {s s' s'' : Seen} → Ran xs us s s' → Ran ys vs s' s'' → Ran (xs ++ ys) (us ++ vs) s s''
+ran_on ends more = more
+ran_on {ys = ys} {vs = vs} {s = s} {s'' = s''} (goes {host = host} {op = op} {more = next} {words = words} word first rest) more =
+    subst (λ (ws : List ℕ). Ran (Does host op ∷ next ++ ys) ws s s'') (sym (first_before (given_by op word) words vs)) (goes word first (ran_on rest more))
+ran_on (moves first rest) more = moves first (ran_on rest more)
 
 -- One line of memory and one copy of it are replaced.
 
-abbrev pub with_line : Seen → ℕ → ℕ → List ℕ → Cell → Seen
+abbrev with_line : Seen → ℕ → ℕ → List ℕ → Cell → Seen
 with_line s host line words cell = record {
   memory = λ l. if l == line then words else s.memory l;
   copy = λ h l. if h == host then (if l == line then cell else s.copy h l) else s.copy h l;
@@ -35,175 +50,139 @@ leaves s host line words cell = record {
     both true x = refl
     both false x = refl
 
--- Two hosts and two lines.
+unchanged : (host line : ℕ) (s : Seen) → ChangesOnly host line s s
+unchanged host line s = record { memory = λ l ne. refl; lines = λ h l ne. refl; hosts = λ h l ne. refl }
 
-pub data Who : Type 0 where
-  Master : Who
-  Reader : Who
-
-pub data Which : Type 0 where
-  Slot : Which
-  Gate : Which
-
--- what memory and the caches show of them
-pub record View : Type 0 where
-  pub words : Which → List ℕ
-  pub cell : Who → Which → Cell
-
--- one of two values, by whether two lines are one
-abbrev at_line : {A : Type 0} → Which → Which → A → A → A
-at_line Slot Slot new old = new
-at_line Slot Gate new old = old
-at_line Gate Slot new old = old
-at_line Gate Gate new old = new
-
--- one of two values, by whether two hosts are one
-abbrev at_host : {A : Type 0} → Who → Who → A → A → A
-at_host Master Master new old = new
-at_host Master Reader new old = old
-at_host Reader Master new old = old
-at_host Reader Reader new old = new
-
--- one line and one copy of it replaced
-abbrev put : View → Who → Which → List ℕ → Cell → View
-put v h l words cell = record {
-  words = λ l'. at_line l l' words (v.words l');
-  cell = λ h' l'. at_host h h' (at_line l l' cell (v.cell h' l')) (v.cell h' l');
+changes_on : (host line : ℕ) (s s' s'' : Seen) → ChangesOnly host line s s' → ChangesOnly host line s' s'' → ChangesOnly host line s s''
+changes_on host line s s' s'' a b = record {
+  memory = λ l ne. b.memory l ne ∙ a.memory l ne;
+  lines = λ h l ne. b.lines h l ne ∙ a.lines h l ne;
+  hosts = λ h l ne. b.hosts h l ne ∙ a.hosts h l ne;
 }
 
--- what one of them does
-pub data Act : Type 0 where
-  Stores : (h : Who) (l : Which) (k value : ℕ) → Act
-  Sends : (h : Who) (l : Which) → Act
-  Drops : (h : Who) (l : Which) → Act
-  Loads : (h : Who) (l : Which) (k word : ℕ) → Act
-  Fetches : (h : Who) (l : Which) → Act
+-- What steps of one host make of one line of memory and its copy.
 
--- what is shown then
-abbrev after : Act → View → View
-after (Stores h l k value) v = put v h l (v.words l) (stored k value (v.words l) (v.cell h l))
-after (Sends h l) v = put v h l (sent (v.words l) (v.cell h l)) (cleaned (v.cell h l))
-after (Drops h l) v = put v h l (sent (v.words l) (v.cell h l)) Absent
-after (Loads h l k word) v = put v h l (v.words l) (brought (v.words l) (v.cell h l))
-after (Fetches h l) v = put v h l (v.words l) (fetched 255 (v.words l) (v.cell h l))
+pub record Here : Type 0 where
+  pub words : List ℕ
+  pub cell : Cell
 
--- after a list of acts
-abbrev pub after_all : List Act → View → View
-after_all [] v = v
-after_all (act ∷ more) v = after_all more (after act v)
+abbrev pub here : List ℕ → Cell → Here
+here words cell = record { words = words; cell = cell }
 
--- a load gives what is shown
-abbrev Gives : Act → View → Type 0
-Gives (Stores h l k value) v = ⊤
-Gives (Sends h l) v = ⊤
-Gives (Drops h l) v = ⊤
-Gives (Loads h l k word) v = word ≡ slice_index (current (v.words l) (v.cell h l)) k
-Gives (Fetches h l) v = ⊤
+-- an operation at another line
+abbrev pub at_line : ℕ → Op → Op
+at_line l (Load line k) = Load (line_no l) k
+at_line l (Store line k value) = Store (line_no l) k value
+at_line l (WriteBack line) = WriteBack (line_no l)
+at_line l (Invalidate line) = Invalidate (line_no l)
+at_line l Digest = Digest
 
--- that alone is asked of a list
-abbrev Asks : Act → View → Type 0 → Type 0
-Asks (Stores h l k value) v more = more
-Asks (Sends h l) v more = more
-Asks (Drops h l) v more = more
-Asks (Loads h l k word) v more = Gives (Loads h l k word) v × more
-Asks (Fetches h l) v more = more
+-- a step of another host, at another line
+abbrev pub placed : ℕ → ℕ → Step → Step
+placed h l (Does host op) = Does h (at_line l op)
+placed h l (Drifts host line) = Drifts h l
 
--- each load of a list gives what is shown
-abbrev pub GiveAll : List Act → View → Type 0
-GiveAll [] v = ⊤
-GiveAll (act ∷ more) v = Asks act v (GiveAll more (after act v))
+-- what an operation leaves
+abbrev pub made_by : Op → Here → Here
+made_by (Load line k) x = here x.words (brought x.words x.cell)
+made_by (Store line k value) x = here x.words (stored k value x.words x.cell)
+made_by (WriteBack line) x = here (sent x.words x.cell) (cleaned x.cell)
+made_by (Invalidate line) x = here (sent x.words x.cell) Absent
+made_by Digest x = x
 
-first_given : (act : Act) (v : View) (more : Type 0) → Asks act v more → Gives act v × more
-first_given (Stores h l k value) v more given = (tt, given)
-first_given (Sends h l) v more given = (tt, given)
-first_given (Drops h l) v more given = (tt, given)
-first_given (Loads h l k word) v more given = given
-first_given (Fetches h l) v more given = (tt, given)
+abbrev pub word_by : Op → Here → ℕ
+word_by (Load line k) x = slice_index (current x.words x.cell) k
+word_by other x = 0
 
-module _ (host : Who → ℕ) (line : Which → ℕ) (two : host Master ≢ host Reader) (apart : line Slot ≢ line Gate) where
-  pub record Shows (s : Seen) (v : View) : Type 0 where
-    pub words : (l : Which) → s.memory (line l) ≡ v.words l
-    pub cell : (h : Who) (l : Which) → s.copy (host h) (line l) ≡ v.cell h l
+-- what a step leaves: a line that moves by itself is fetched, where it is absent
+abbrev pub left : Step → Here → Here
+left (Does host op) x = made_by op x
+left (Drifts host line) x = here x.words (brought x.words x.cell)
 
-  module _ (s s' : Seen) (v : View) (words : List ℕ) (cell : Cell) (shows : Shows s v) where
-    words_left : (h : Who) (l l' : Which) → LeavesAt (host h) (line l) s s' words cell → s'.memory (line l') ≡ at_line l l' words (v.words l')
-    words_left h Slot Slot done = done.memory_is
-    words_left h Slot Gate done = done.only.memory (line Gate) (λ e. apart (sym e)) ∙ shows.words Gate
-    words_left h Gate Slot done = done.only.memory (line Slot) apart ∙ shows.words Slot
-    words_left h Gate Gate done = done.memory_is
+-- the word that it gives
+abbrev pub gives : Step → Here → Option ℕ
+gives (Does host op) x = given_by op (word_by op x)
+gives (Drifts host line) x = None
 
-    cell_left : (h h' : Who) (l l' : Which) → LeavesAt (host h) (line l) s s' words cell → s'.copy (host h') (line l') ≡ at_host h h' (at_line l l' cell (v.cell h' l')) (v.cell h' l')
-    cell_left Master Reader l l' done = done.only.hosts (host Reader) (line l') (λ e. two (sym e)) ∙ shows.cell Reader l'
-    cell_left Reader Master l l' done = done.only.hosts (host Master) (line l') two ∙ shows.cell Master l'
-    cell_left Master Master Slot Slot done = done.copy_is
-    cell_left Master Master Slot Gate done = done.only.lines (host Master) (line Gate) (λ e. apart (sym e)) ∙ shows.cell Master Gate
-    cell_left Master Master Gate Slot done = done.only.lines (host Master) (line Slot) apart ∙ shows.cell Master Slot
-    cell_left Master Master Gate Gate done = done.copy_is
-    cell_left Reader Reader Slot Slot done = done.copy_is
-    cell_left Reader Reader Slot Gate done = done.only.lines (host Reader) (line Gate) (λ e. apart (sym e)) ∙ shows.cell Reader Gate
-    cell_left Reader Reader Gate Slot done = done.only.lines (host Reader) (line Slot) apart ∙ shows.cell Reader Slot
-    cell_left Reader Reader Gate Gate done = done.copy_is
+abbrev pub left_all : List Step → Here → Here
+left_all [] x = x
+left_all (step ∷ more) x = left_all more (left step x)
 
-    shows_left : (h : Who) (l : Which) → LeavesAt (host h) (line l) s s' words cell → Shows s' (put v h l words cell)
-    shows_left h l done = record { words = λ l'. words_left h l l' done; cell = λ h' l'. cell_left h h' l l' done }
+abbrev pub give_all : List Step → Here → List ℕ
+give_all [] x = []
+give_all (step ∷ more) x = with_first (gives step x) (give_all more (left step x))
 
-  -- an act as a step
-  abbrev pub step : Act → Step
-  step (Stores h l k value) = Does (host h) (Store (line_no (line l)) k value) 0
-  step (Sends h l) = Does (host h) (WriteBack (line_no (line l))) 0
-  step (Drops h l) = Does (host h) (Invalidate (line_no (line l))) 0
-  step (Loads h l k word) = Does (host h) (Load (line_no (line l)) k) word
-  step (Fetches h l) = Drifts (host h) (line l)
+-- memory and a host's copy of this line are such
+pub record Shows (s : Seen) (h l : ℕ) (x : Here) : Type 0 where
+  pub words : s.memory l ≡ x.words
+  pub cell : s.copy h l ≡ x.cell
 
-  -- it may be taken, and shows what it computes
-  record Taken (act : Act) (s : Seen) (v : View) : Type 0 where
-    next : Seen
-    takes : Takes (step act) s next
-    shows : Shows next (after act v)
+-- an operation may be done
+pub record Done (h l : ℕ) (op : Op) (x : Here) (s : Seen) : Type 0 where
+  pub next : Seen
+  pub operates : Operates (at_line l op) h s next (word_by op x)
+  pub only : ChangesOnly h l s next
+  pub shows : Shows next h l (made_by op x)
 
-  take : (act : Act) (s : Seen) (v : View) → Shows s v → Gives act v → Taken act s v
-  take (Stores h l k value) s v shows gives =
-      let cell = stored k value (v.words l) (v.cell h l) in
-      let next = with_line s (host h) (line l) (v.words l) cell in
-      let done = leaves s (host h) (line l) (v.words l) cell in
-      record { next = next; takes = rw (shows.words l, shows.cell h l) done; shows = shows_left s next v (v.words l) cell shows h l done }
-  take (Sends h l) s v shows gives =
-      let words = sent (v.words l) (v.cell h l) in
-      let cell = cleaned (v.cell h l) in
-      let next = with_line s (host h) (line l) words cell in
-      let done = leaves s (host h) (line l) words cell in
-      record { next = next; takes = rw (shows.words l, shows.cell h l) done; shows = shows_left s next v words cell shows h l done }
-  take (Drops h l) s v shows gives =
-      let words = sent (v.words l) (v.cell h l) in
-      let next = with_line s (host h) (line l) words Absent in
-      let done = leaves s (host h) (line l) words Absent in
-      record { next = next; takes = rw (shows.words l, shows.cell h l) done; shows = shows_left s next v words Absent shows h l done }
-  take (Loads h l k word) s v shows gives =
-      let cell = brought (v.words l) (v.cell h l) in
-      let next = with_line s (host h) (line l) (v.words l) cell in
-      let done = leaves s (host h) (line l) (v.words l) cell in
-      record { next = next; takes = rw (shows.words l, shows.cell h l) (done, gives); shows = shows_left s next v (v.words l) cell shows h l done }
-  take (Fetches h l) s v shows gives =
-      let cell = fetched 255 (v.words l) (v.cell h l) in
-      let next = with_line s (host h) (line l) (v.words l) cell in
-      let done = leaves s (host h) (line l) (v.words l) cell in
-      record {
-        next = next;
-        takes = leaves_drift (host h) (line l) s next (v.words l) cell done (rw (shows.words l, shows.cell h l) (fetched_drifts 255 (v.words l) (v.cell h l)));
-        shows = shows_left s next v (v.words l) cell shows h l done;
-      }
+module _ (h l : ℕ) (x : Here) (s : Seen) (shows : Shows s h l x) where
+  left_at : (op : Op) (y : Here) → Shows (with_line s h l y.words y.cell) h l y
+  left_at op y = record { words = (leaves s h l y.words y.cell).memory_is; cell = (leaves s h l y.words y.cell).copy_is }
 
-  -- a list of acts is a run
-  pub record Runs (acts : List Act) (s : Seen) (v : View) : Type 0 where
-    pub after : Seen
-    pub ran : Ran (map step acts) s after
-    pub shows : Shows after (after_all acts v)
+  pub does_op : (op : Op) → Done h l op x s
+  does_op (Load line k) =
+      let y = made_by (Load line k) x in
+      let done = leaves s h l y.words y.cell in
+      record { next = with_line s h l y.words y.cell; operates = rw (shows.words, shows.cell) (done, refl); only = done.only; shows = left_at (Load line k) y }
+  does_op (Store line k value) =
+      let y = made_by (Store line k value) x in
+      let done = leaves s h l y.words y.cell in
+      record { next = with_line s h l y.words y.cell; operates = rw (shows.words, shows.cell) done; only = done.only; shows = left_at (Store line k value) y }
+  does_op (WriteBack line) =
+      let y = made_by (WriteBack line) x in
+      let done = leaves s h l y.words y.cell in
+      record { next = with_line s h l y.words y.cell; operates = rw (shows.words, shows.cell) done; only = done.only; shows = left_at (WriteBack line) y }
+  does_op (Invalidate line) =
+      let y = made_by (Invalidate line) x in
+      let done = leaves s h l y.words y.cell in
+      record { next = with_line s h l y.words y.cell; operates = rw (shows.words, shows.cell) done; only = done.only; shows = left_at (Invalidate line) y }
+  does_op Digest = record { next = s; operates = refl; only = unchanged h l s; shows = shows }
 
-  -- a list of acts is a run, and shows what it should
-  pub run : (acts : List Act) (s : Seen) (v : View) → Shows s v → GiveAll acts v → Runs acts s v
-  run [] s v shows give = record { after = s; ran = ends; shows = shows }
-  run (act ∷ more) s v shows give =
-      let given : Gives act v × GiveAll more (after act v) = first_given act v (GiveAll more (after act v)) give in
-      let first = take act s v shows given.0 in
-      let rest = run more first.next (after act v) first.shows given.1 in
-      record { after = rest.after; ran = goes first.takes rest.ran; shows = rest.shows }
+-- an operation at another line gives a word where it does
+given_there : (l : ℕ) (op : Op) (word : ℕ) → given_by (at_line l op) word ≡ given_by op word
+given_there l (Load line k) word = refl
+given_there l (Store line k value) word = refl
+given_there l (WriteBack line) word = refl
+given_there l (Invalidate line) word = refl
+given_there l Digest word = refl
+
+-- Steps at one line.
+
+-- these steps may be taken, and leave what is computed
+pub record Did (h l : ℕ) (steps : List Step) (x : Here) (s : Seen) : Type 0 where
+  pub after : Seen
+  pub ran : Ran (map (placed h l) steps) (give_all steps x) s after
+  pub only : ChangesOnly h l s after
+  pub shows : Shows after h l (left_all steps x)
+
+pub at_one : (h l : ℕ) (steps : List Step) (x : Here) (s : Seen) → Shows s h l x → Did h l steps x s
+at_one h l [] x s shows = record { after = s; ran = ends; only = unchanged h l s; shows = shows }
+at_one h l (Does host op ∷ more) x s shows =
+    let first = does_op h l x s shows op in
+    let rest = at_one h l more (made_by op x) first.next first.shows in
+    record {
+      after = rest.after;
+      ran = subst (λ (o : Option ℕ). Ran (Does h (at_line l op) ∷ map (placed h l) more) (with_first o (give_all more (made_by op x))) s rest.after) (given_there l op (word_by op x)) (goes (word_by op x) first.operates rest.ran);
+      only = changes_on h l s first.next rest.after first.only rest.only;
+      shows = rest.shows;
+    }
+at_one h l (Drifts host line ∷ more) x s shows =
+    let y = left (Drifts host line) x in
+    let done = leaves s h l y.words y.cell in
+    let next = with_line s h l y.words y.cell in
+    let rest = at_one h l more y next (record { words = done.memory_is; cell = done.copy_is }) in
+    record {
+      after = rest.after;
+      ran = moves (drifts_at h l s next y.words y.cell done (rw (shows.words, shows.cell) (brought_drifts x.words x.cell))) rest.ran;
+      only = changes_on h l s next rest.after done.only rest.only;
+      shows = rest.shows;
+    }

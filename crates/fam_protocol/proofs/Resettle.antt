@@ -1,6 +1,7 @@
 -- What a note or an answer of one host changes of the history, and what another host's task knows of it.
 use Rattle.std.proofs.Common.{ℕ, ◌≤◌, ◌≡◌, ◌≢◌, inl, inr, List, take, max, min, refl, sym, ◌∙◌, ap, arith}
 use Rattle.std.specs.Prelude.{Some}
+use Rattle.std.proofs.lemmas.Option.{same_Some}
 use Rattle.fam_base.specs.declared.cmd.Cmd.{Cmd}
 use Rattle.fam_base.specs.declared.cmd.Cmd.TheVariants.{Logplay, Mkdir, Creat, Cp, Verify, Read, Check, Fsck}
 use Rattle.fam_format.specs.Layout.{gate_line}
@@ -16,7 +17,6 @@ use Rattle.fam_protocol.specs.Lines.{gate_of}
 use Rattle.fam_protocol.specs.Core.{System, Core, top_of}
 use Rattle.fam_protocol.specs.Tasks.{AtPlace, HasRead, HasReadAll, HasSurveyed, IsAtSlot, IsWriting, KnowsGate, KnowsHead, OnPart, ReadsFile, TaskHolds}
 use Rattle.fam_protocol.specs.After.{Changes, Relists}
-use Rattle.fam_protocol.proofs.Free.{some_same}
 use Rattle.fam_protocol.proofs.Settle.{get_alike}
 
 module _ (sys : System) (s : Seen) (all : List File) (settled : ℕ) (core : Core sys s all settled) where
@@ -79,7 +79,7 @@ module _ (sys : System) (s : Seen) (all : List File) (settled : ℕ) (core : Cor
   -- the master changes the list past the top, and host h isn't the master
   module _ (all' : List File) (settled' : ℕ) (r : Relists sys s all settled all' settled') (master : ℕ) (is : sys.master ≡ Some master) (h floor : ℕ) (ne : h ≢ master) (t : Task) where
     other : sys.master ≡ Some h → ⊥
-    other e = ne (some_same (sym e ∙ is))
+    other e = ne (same_Some _ _ (sym e ∙ is))
 
     gate_relisted : KnowsHead sys h t → KnowsGate h floor t s all settled → KnowsGate h floor t s all' settled'
     gate_relisted head g = record { low = g.low; high = g.high; writer = λ w e. absurd (other (head.master w e)) }

@@ -1,6 +1,7 @@
 -- Every step of a run keeps what holds, and says what it may.
 use Rattle.std.proofs.Common.{ℕ, ◌*◌, ◌≡◌, ◌≢◌, inl, inr, List, refl, sym, ◌∙◌, ap, subst}
 use Rattle.std.proofs.Math.Path.{fun_ext}
+use Rattle.std.proofs.lemmas.Option.{same_Some}
 use Rattle.std.specs.Prelude.{Option, Some, None, unwrap_or}
 use Rattle.fam_base.specs.declared.entry.Params.{Params}
 use Rattle.fam_format.specs.Reading.{Lines}
@@ -17,16 +18,17 @@ use Rattle.fam_rules.specs.Place.{line_bytes}
 use Rattle.fam_protocol.specs.Seen.{Seen, DriftsAt, Operates}
 use Rattle.fam_protocol.specs.Core.{System, IsWide}
 use Rattle.fam_protocol.specs.Tasks.{TaskHolds}
-use Rattle.fam_protocol.specs.After.{After, GoesOn, MaySay, floor_after, list_after, settled_after}
+use Rattle.fam_protocol.specs.After.{Run, After, GoesOn, MaySay, floor_after, list_after, settled_after}
 use Rattle.fam_protocol.specs.Bad.{BadTaskHolds, GoesOnBad, MaySayBad}
-use Rattle.fam_protocol.specs.Way.{AreHosts, Hosts, IsDamaged, IsKnown, Run, Settled, Small, Damaged, Known, Stage, Way}
-use Rattle.fam_protocol.specs.Steps.{StepHolds, Steps, run_after}
+use Rattle.fam_protocol.specs.Way.{AreHosts, Hosts, IsDamaged, IsKnown, Settled, Small, Damaged, Known, Stage, Way}
+use Rattle.fam_protocol.specs.Steps.{StepHolds, Steps, run_after, settled_count}
 use Rattle.fam_protocol.proofs.BadMoves.{still_kept, bad_task_kept}
 use Rattle.fam_protocol.proofs.BadSteps.{bad_others, bad_turn}
 use Rattle.fam_protocol.proofs.Drifting.{drift_task}
 use Rattle.fam_protocol.proofs.Free.{Same, core_kept, dirty_was, memory_still, same, wide_now}
 use Rattle.fam_protocol.proofs.Gives.{gives}
 use Rattle.fam_protocol.proofs.Keeping.{task_kept}
+use Rattle.fam_protocol.proofs.Naming.{KeepsNamed, named_kept}
 use Rattle.fam_protocol.proofs.Resettle.{task_resettled}
 use Rattle.fam_protocol.proofs.Turned.{turned}
 
@@ -63,9 +65,6 @@ other_caches Digest host s s' word h l ne same = ap (λ (x : Seen). x.copy h l) 
 hosts_are : (settled : Settled) (lines : ℕ) (old new : Hosts) (s : Seen) → ((h : ℕ) → new.uuid h ≡ old.uuid h) → Way settled lines (record { uuid = old.uuid; run = new.run }) s → Way settled lines new s
 hosts_are settled lines old new s uuids way = subst (λ (u : ℕ → Option (List ℕ)). Way settled lines (record { uuid = u; run = new.run }) s) (sym (fun_ext uuids)) way
 
-some_run : {a b : Run} → Some a ≡ Some b → a ≡ b
-some_run e = cc
-
 no_run : {a : Run} → None ≡ Some a → ⊥
 no_run e = absurd cc
 
@@ -96,7 +95,7 @@ module _ (lines : ℕ) (hosts : Hosts) (host line : ℕ) (s s' : Seen) (drift : 
 
   -- a cache's own move keeps everything
   pub way_drifted : (settled : Settled) → Way settled lines hosts s → Way settled lines hosts s'
-  way_drifted settled way = record { declared = drift_hosts way.declared; wide = wide_now host line s s' drift way.wide; stage = drift_stage settled way.wide way.stage }
+  way_drifted settled way = record { declared = drift_hosts way.declared; named = way.named; wide = wide_now host line s s' drift way.wide; stage = drift_stage settled way.wide way.stage }
 
 -- A task's own step.
 module _ (lines host word : ℕ) (r : Run) (old new : Hosts) (s s' : Seen) where
@@ -105,10 +104,10 @@ module _ (lines host word : ℕ) (r : Run) (old new : Hosts) (s s' : Seen) where
 
   -- on a damaged image
   module _ (image : Lines) (is : IsDamaged image lines old s) (steps : Steps host word (Damaged image) r old new s s') where
-    bad_mine : (t : Turn) (settled : ℕ) (q : Run) → run_after t settled r.floor ≡ Some q → GoesOnBad t image (line_bytes * lines) old.uuid host s' → BadTaskHolds image (line_bytes * lines) old.uuid host q.task s'
-    bad_mine (Goes t) settled q e on = subst (λ (x : Run). BadTaskHolds image (line_bytes * lines) old.uuid host x.task s') (some_run e) on
-    bad_mine (Marks t) settled q e on = subst (λ (x : Run). BadTaskHolds image (line_bytes * lines) old.uuid host x.task s') (some_run e) on
-    bad_mine (Finds n t) settled q e on = subst (λ (x : Run). BadTaskHolds image (line_bytes * lines) old.uuid host x.task s') (some_run e) on
+    bad_mine : (t : Turn) (settled : ℕ) (q : Run) → run_after t settled r ≡ Some q → GoesOnBad t image (line_bytes * lines) old.uuid host s' → BadTaskHolds image (line_bytes * lines) old.uuid host q.task s'
+    bad_mine (Goes t) settled q e on = subst (λ (x : Run). BadTaskHolds image (line_bytes * lines) old.uuid host x.task s') (same_Some _ q e) on
+    bad_mine (Marks t) settled q e on = subst (λ (x : Run). BadTaskHolds image (line_bytes * lines) old.uuid host x.task s') (same_Some _ q e) on
+    bad_mine (Finds n t) settled q e on = subst (λ (x : Run). BadTaskHolds image (line_bytes * lines) old.uuid host x.task s') (same_Some _ q e) on
     bad_mine (Writes seq e' t) settled q e on = absurd on
     bad_mine (Ends reply) settled q e on = absurd (no_run e)
 
@@ -124,27 +123,27 @@ module _ (lines host word : ℕ) (r : Run) (old new : Hosts) (s s' : Seen) where
             let b = bad_turn image (line_bytes * lines) old.uuid host s s' word r.task is.still (is.tasks host r steps.is) steps.operates in
             subst (λ x. BadTaskHolds image (line_bytes * lines) old.uuid x q.task s') (sym e)
             (bad_mine (turn_at r.task.place r.task word) 0 q
-            (ap (λ (t : Turn). run_after t 0 r.floor) (sym (given_turn r.task.place r.task word refl)) ∙ sym steps.mine ∙ subst (λ x. new.run x ≡ Some q) e run) b.2)
+            (ap (λ (t : Turn). run_after t 0 r) (sym (given_turn r.task.place r.task word refl)) ∙ sym steps.mine ∙ subst (λ x. new.run x ≡ Some q) e run) b.2)
         task h q run (inr ne) = bad_others image (line_bytes * lines) old.uuid host s s' word r.task is.still (is.tasks host r steps.is) steps.operates h q.task (is.tasks h q (sym (steps.runs h ne) ∙ run))
 
   -- on a sound file system
-  module _ (p : Params) (all : List File) (settled : ℕ) (is : IsKnown p all settled lines old s) (steps : Steps host word (Known p all settled) r old new s s') where
+  module _ (p : Params) (all : List File) (settled : ℕ) (is : IsKnown p all settled lines old s) (steps : Steps host word (Known p all settled) r old new s s') (named : KeepsNamed r) where
     sys : System
     sys = record { params = p; have = line_bytes * lines; uuid = old.uuid; master = is.master }
 
-    known_mine : (t : Turn) (q : Run) (all' : List File) (settled' : ℕ) → run_after t settled r.floor ≡ Some q → GoesOn t sys host (floor_after t settled r.floor) s' all' settled' → TaskHolds sys host q.floor q.task s' all' settled'
-    known_mine (Goes t) q all' settled' e on = subst (λ (x : Run). TaskHolds sys host x.floor x.task s' all' settled') (some_run e) on
-    known_mine (Marks t) q all' settled' e on = subst (λ (x : Run). TaskHolds sys host x.floor x.task s' all' settled') (some_run e) on
-    known_mine (Finds n t) q all' settled' e on = subst (λ (x : Run). TaskHolds sys host x.floor x.task s' all' settled') (some_run e) on
-    known_mine (Writes seq e' t) q all' settled' e on = subst (λ (x : Run). TaskHolds sys host x.floor x.task s' all' settled') (some_run e) on
+    known_mine : (t : Turn) (q : Run) (all' : List File) (settled' : ℕ) → run_after t settled r ≡ Some q → GoesOn t sys host (floor_after t settled r.floor) s' all' settled' → TaskHolds sys host q.floor q.task s' all' settled'
+    known_mine (Goes t) q all' settled' e on = subst (λ (x : Run). TaskHolds sys host x.floor x.task s' all' settled') (same_Some _ q e) on
+    known_mine (Marks t) q all' settled' e on = subst (λ (x : Run). TaskHolds sys host x.floor x.task s' all' settled') (same_Some _ q e) on
+    known_mine (Finds n t) q all' settled' e on = subst (λ (x : Run). TaskHolds sys host x.floor x.task s' all' settled') (same_Some _ q e) on
+    known_mine (Writes seq e' t) q all' settled' e on = subst (λ (x : Run). TaskHolds sys host x.floor x.task s' all' settled') (same_Some _ q e) on
     known_mine (Ends reply) q all' settled' e on = absurd (no_run e)
 
-    after : After turn sys host r.floor r.task s' all settled
+    after : After turn sys host r.floor r.named r.task s' all settled
     unfolding turn sys
     after =
         let holds = is.tasks host r steps.is in
         let g = gives sys s s' all settled is.core host r.floor word r.task r.task.place holds.place steps.operates in
-        turned sys host r.floor s' all settled g.core r.task.place r.task word holds.command holds.me holds.lines g.given
+        turned sys host r.floor r.named s' all settled g.core r.task.place r.task word holds.command holds.me holds.lines named g.given
 
     known_step : IsKnown p (list_after turn all) (settled_after turn settled) lines (record { uuid = old.uuid; run = new.run }) s'
     unfolding turn sys
@@ -155,7 +154,7 @@ module _ (lines host word : ℕ) (r : Run) (old new : Hosts) (s s' : Seen) where
         task h q run (inl e) =
             subst (λ x. TaskHolds sys x q.floor q.task s' (list_after turn all) (settled_after turn settled)) (sym e)
             (known_mine turn q (list_after turn all) (settled_after turn settled)
-            (ap (λ (t : Turn). run_after t settled r.floor) (sym (given_turn r.task.place r.task word refl)) ∙ sym steps.mine ∙ subst (λ x. new.run x ≡ Some q) e run) after.task)
+            (ap (λ (t : Turn). run_after t settled r) (sym (given_turn r.task.place r.task word refl)) ∙ sym steps.mine ∙ subst (λ x. new.run x ≡ Some q) e run) after.task)
         task h q run (inr ne) =
             let holds = is.tasks host r steps.is in
             let g = gives sys s s' all settled is.core host r.floor word r.task r.task.place holds.place steps.operates in
@@ -176,6 +175,16 @@ step_hosts host word settled r old new s s' steps are = record { apart = are.apa
     idle h none (inl e) = absurd (running (ap old.uuid (sym e) ∙ none))
     idle h none (inr ne) = steps.runs h ne ∙ are.idle h none
 
+-- every task holds what it named
+step_named : (host word : ℕ) (settled : Settled) (r : Run) (old new : Hosts) (s s' : Seen) → Steps host word settled r old new s s' → ((h : ℕ) (q : Run) → old.run h ≡ Some q → KeepsNamed q) → (h : ℕ) (q : Run) → new.run h ≡ Some q → KeepsNamed q
+step_named host word settled r old new s s' steps named h q run = by_host (same h host)
+  where
+    by_host : Same h host → KeepsNamed q
+    by_host (inl e) =
+        named_kept r q (settled_count settled) r.task.place word refl (named host r steps.is)
+        (ap (λ (t : Turn). run_after t (settled_count settled) r) (sym (given_turn r.task.place r.task word refl)) ∙ sym steps.mine ∙ subst (λ x. new.run x ≡ Some q) e run)
+    by_host (inr ne) = named h q (sym (steps.runs h ne) ∙ run)
+
 -- a task's step says what it may, and keeps everything
 pub way_stepped : (lines host word : ℕ) (settled : Settled) (r : Run) (old new : Hosts) (s s' : Seen) → Way settled lines old s → Steps host word settled r old new s s' → StepHolds settled lines word r old new s'
 unfolding turn sys
@@ -190,13 +199,13 @@ way_stepped lines host word settled r old new s s' way steps = go settled way.st
         let b = bad_step lines host word r old new s s' image is steps in
         record {
           says = subst (λ (x : Turn). MaySayBad x image (line_bytes * lines) r.task) (sym turn_is) b.0;
-          way = hosts_are (Damaged image) lines old new s' steps.uuids (record { declared = step_hosts host word (Damaged image) r old new s s' steps way.declared; wide = b.1.still.wide; stage = b.1 });
+          way = hosts_are (Damaged image) lines old new s' steps.uuids (record { declared = step_hosts host word (Damaged image) r old new s s' steps way.declared; named = step_named host word (Damaged image) r old new s s' steps way.named; wide = b.1.still.wide; stage = b.1 });
         }
     go (Known p all n) is steps =
-        let a = after lines host word r old new s s' p all n is steps in
-        let k = known_step lines host word r old new s s' p all n is steps in
+        let a = after lines host word r old new s s' p all n is steps (way.named host r steps.is) in
+        let k = known_step lines host word r old new s s' p all n is steps (way.named host r steps.is) in
         record {
-          says = record { master = is.master; may = subst (λ (x : Turn). MaySay x (record { params = p; have = line_bytes * lines; uuid = old.uuid; master = is.master }) r.task r.floor all n) (sym turn_is) a.may };
+          says = record { master = is.master; may = subst (λ (x : Turn). MaySay x (record { params = p; have = line_bytes * lines; uuid = old.uuid; master = is.master }) r all n) (sym turn_is) a.may };
           way = subst (λ (x : Turn). Way (Known p (list_after x all) (settled_after x n)) lines new s') (sym turn_is)
-              (hosts_are _ lines old new s' steps.uuids (record { declared = step_hosts host word (Known p all n) r old new s s' steps way.declared; wide = a.core.wide; stage = k }));
+              (hosts_are _ lines old new s' steps.uuids (record { declared = step_hosts host word (Known p all n) r old new s s' steps way.declared; named = step_named host word (Known p all n) r old new s s' steps way.named; wide = a.core.wide; stage = k }));
         }

@@ -3,6 +3,7 @@ use Rattle.std.proofs.Common.{ℕ, zero, suc, ◌+◌, ◌-◌, ◌*◌, ◌≤�
 use Rattle.std.specs.Prelude.{slice_get, slice_index, Option, Some, None}
 use Rattle.std.proofs.Math.Seq.{take-suc, take-suc-set}
 use Rattle.std.proofs.lemmas.List.{get_or-drop, get_or-take, take_all, length-set, length-drop, length-take-le}
+use Rattle.std.proofs.lemmas.Option.{same_Some}
 use Rattle.fam_format.specs.Layout.{gate_line, log_line}
 use Rattle.fam_machine.specs.declared.cell.Cell.{Cell}
 use Rattle.fam_machine.specs.declared.cell.Cell.TheVariants.{Absent, Clean, Dirty}
@@ -15,7 +16,7 @@ use Rattle.fam_protocol.specs.Lines.{Fresh, Holding, Finished, gate_of, top}
 use Rattle.fam_protocol.specs.Core.{System, Core, IsWide, IsHeadLine, IsLineOf, masters_copy, top_of}
 use Rattle.fam_protocol.specs.Tasks.{IsWriting}
 use Rattle.fam_protocol.proofs.Apart.{lines_apart, no_gate, no_head}
-use Rattle.fam_protocol.proofs.Free.{Same, same, some_same, stands_same}
+use Rattle.fam_protocol.proofs.Free.{Same, same, stands_same}
 use Rattle.fam_protocol.proofs.Keeping.{Keeps}
 
 -- At one line.
@@ -55,31 +56,68 @@ pub part_length : (words : List ℕ) (j : ℕ) → 8 * j + 8 ≤ length words �
 part_length words j le =
     length-take-le (8 * j + 8 - 8 * j) (drop (8 * j) words) (omega (arith, length-drop (8 * j) words, le)) ∙ omega arith
 
-module _ (sys : System) (s s' : Seen) (all : List File) (settled : ℕ) (core : Core sys s all settled) (host : ℕ) (t : Task) (w : IsWriting sys host t s all settled)
-    (line word value : ℕ) (of : IsLineOf sys.params t.gate w.file.entry line) (done : LeavesAt host line s s' (s.memory line) (stored word value (s.memory line) (s.copy host line))) where
-  not_gate : gate_line ≢ line
-  not_gate e = no_gate sys.params all core.head.sound core.history core.room t.gate line w.file w.last of (sym e)
+-- A host's store into a line.
 
+module _ (host line word value : ℕ) (s s' : Seen) (wide : IsWide s) (done : LeavesAt host line s s' (s.memory line) (stored word value (s.memory line) (s.copy host line))) where
   -- memory stays
-  pub memory_same : (l : ℕ) → s'.memory l ≡ s.memory l
-  memory_same l = go (same l line)
+  pub store_memory : (l : ℕ) → s'.memory l ≡ s.memory l
+  store_memory l = go (same l line)
     where
       go : Same l line → s'.memory l ≡ s.memory l
       go (inl e) = rw e done.memory_is
       go (inr ne) = done.only.memory l ne
 
-  copy_same : (h l : ℕ) → (h ≢ host) ⊎ (l ≢ line) → s'.copy h l ≡ s.copy h l
-  copy_same h l (inl ne) = done.only.hosts h l ne
-  copy_same h l (inr ne) = done.only.lines h l ne
+  -- so do all other copies
+  pub store_copies : (h l : ℕ) → (h ≢ host) ⊎ (l ≢ line) → s'.copy h l ≡ s.copy h l
+  store_copies h l (inl ne) = done.only.hosts h l ne
+  store_copies h l (inr ne) = done.only.lines h l ne
 
   -- what is dirty was dirty before, or is the line of this store
-  dirty_or : (h l : ℕ) → IsDirty (s'.copy h l) → IsDirty (s.copy h l) ⊎ ((h ≡ host) × (l ≡ line))
-  dirty_or h l d = go (same h host) (same l line)
+  pub store_dirties : (h l : ℕ) → IsDirty (s'.copy h l) → IsDirty (s.copy h l) ⊎ ((h ≡ host) × (l ≡ line))
+  store_dirties h l d = go (same h host) (same l line)
     where
       go : Same h host → Same l line → IsDirty (s.copy h l) ⊎ ((h ≡ host) × (l ≡ line))
       go (inr ne) which = inl (subst IsDirty (done.only.hosts h l ne) d)
       go (inl e) (inr ne) = inl (subst IsDirty (done.only.lines h l ne) d)
       go (inl e) (inl f) = inr (e, f)
+
+  -- lines stay wide
+  pub store_wide : IsWide s'
+  store_wide = record { memory = λ l. ap length (store_memory l) ∙ wide.memory l; copies = λ h l. go h l (same h host) (same l line) }
+    where
+      held : (h l : ℕ) → s'.copy h l ≡ s.copy h l → length (current (s'.memory l) (s'.copy h l)) ≡ 8
+      held h l e = rw (e, store_memory l) (wide.copies h l)
+
+      go : (h l : ℕ) → Same h host → Same l line → length (current (s'.memory l) (s'.copy h l)) ≡ 8
+      go h l (inr ne) which = held h l (store_copies h l (inl ne))
+      go h l (inl e) (inr ne) = held h l (store_copies h l (inr ne))
+      go h l (inl e) (inl f) = rw (e, f, done.copy_is) (length-set (current (s.memory line) (s.copy host line)) word value ∙ wide.copies host line)
+
+  -- another host's task rests on nothing that the master's store changes
+  pub stored_keeps : (sys : System) (settled : ℕ) → sys.master ≡ Some host → (h : ℕ) → h ≢ host → Keeps sys h settled s s'
+  stored_keeps sys settled master h ne = record {
+    quiet = λ l q. store_memory l;
+    fresh = λ l q f. rw (store_memory l, store_copies h l (inl ne)) f;
+    gate = omega (arith, ap gate_of (store_memory gate_line));
+    at_gate = λ floor g. record {
+      low = g.low;
+      copy = rw (store_memory gate_line, store_copies h gate_line (inl ne)) g.copy;
+      masters = λ is. absurd (ne (same_Some _ _ (sym is ∙ master)));
+    };
+    writing = λ is. absurd (ne (same_Some _ _ (sym is ∙ master)));
+  }
+
+module _ (sys : System) (s s' : Seen) (all : List File) (settled : ℕ) (core : Core sys s all settled) (host : ℕ) (t : Task) (w : IsWriting sys host t s all settled)
+    (line word value : ℕ) (of : IsLineOf sys.params t.gate w.file.entry line) (done : LeavesAt host line s s' (s.memory line) (stored word value (s.memory line) (s.copy host line))) where
+  not_gate : gate_line ≢ line
+  not_gate e = no_gate sys.params all core.head.sound core.history core.room t.gate line w.file w.last of (sym e)
+
+  -- memory and all other copies stay
+  memory_same : (l : ℕ) → s'.memory l ≡ s.memory l
+  memory_same = store_memory host line word value s s' core.wide done
+
+  copy_same : (h l : ℕ) → (h ≢ host) ⊎ (l ≢ line) → s'.copy h l ≡ s.copy h l
+  copy_same = store_copies host line word value s s' core.wide done
 
   -- so does the larger of the two gates
   pub top_same : top_of sys s' ≡ top_of sys s
@@ -89,32 +127,21 @@ module _ (sys : System) (s s' : Seen) (all : List File) (settled : ℕ) (core : 
       go None = ap gate_of (memory_same gate_line)
       go (Some h) = rw (memory_same gate_line, copy_same h gate_line (inr not_gate)) refl
 
-  wide_stored : IsWide s'
-  wide_stored = record { memory = λ l. ap length (memory_same l) ∙ core.wide.memory l; copies = λ h l. go h l (same h host) (same l line) }
-    where
-      held : (h l : ℕ) → s'.copy h l ≡ s.copy h l → length (current (s'.memory l) (s'.copy h l)) ≡ 8
-      held h l e = rw (e, memory_same l) (core.wide.copies h l)
-
-      go : (h l : ℕ) → Same h host → Same l line → length (current (s'.memory l) (s'.copy h l)) ≡ 8
-      go h l (inr ne) which = held h l (copy_same h l (inl ne))
-      go h l (inl e) (inr ne) = held h l (copy_same h l (inr ne))
-      go h l (inl e) (inl f) = rw (e, f, done.copy_is) (length-set (current (s.memory line) (s.copy host line)) word value ∙ core.wide.copies host line)
-
   -- a store into a line that nobody reads keeps memory and caches as they may be
   pub core_stored : Core sys s' all settled
   core_stored =
       let m0 = ap gate_of (memory_same gate_line) in
       record {
-        wide = wide_stored;
+        wide = store_wide host line word value s s' core.wide done;
         head = record {
           sound = core.head.sound;
           device = core.head.device;
           super = rw (memory_same 0, memory_same 1, memory_same 2) core.head.super;
           header = rw (memory_same log_line) core.head.header;
-          clean = λ h l is d. head_clean h l is (dirty_or h l d);
+          clean = λ h l is d. head_clean h l is (store_dirties host line word value s s' core.wide done h l d);
         };
         named = core.named;
-        only_master = λ h l d. masters h l (dirty_or h l d);
+        only_master = λ h l d. masters h l (store_dirties host line word value s s' core.wide done h l d);
         low = omega (arith, core.low, m0);
         order = omega (arith, core.order, top_same, m0);
         high = omega (arith, core.high, top_same);
@@ -122,7 +149,7 @@ module _ (sys : System) (s s' : Seen) (all : List File) (settled : ℕ) (core : 
         room = core.room;
         history = core.history;
         stands = λ i f is lt. stands_same s.memory s'.memory sys.params i f (λ l _. memory_same l) (core.stands i f is (omega (arith, lt, top_same)));
-        clean = λ i f h l is lt of_i d. below i f h l is (omega (arith, lt, top_same)) of_i (dirty_or h l d);
+        clean = λ i f h l is lt of_i d. below i f h l is (omega (arith, lt, top_same)) of_i (store_dirties host line word value s s' core.wide done h l d);
       }
     where
       head_clean : (h l : ℕ) → IsHeadLine l → IsDirty (s.copy h l) ⊎ ((h ≡ host) × (l ≡ line)) → ⊥
@@ -141,17 +168,7 @@ module _ (sys : System) (s s' : Seen) (all : List File) (settled : ℕ) (core : 
 
   -- another host's task rests on nothing that it changes
   pub store_keeps : (h : ℕ) → h ≢ host → Keeps sys h settled s s'
-  store_keeps h ne = record {
-    quiet = λ l q. memory_same l;
-    fresh = λ l q f. rw (memory_same l, copy_same h l (inl ne)) f;
-    gate = omega (arith, ap gate_of (memory_same gate_line));
-    at_gate = λ floor g. record {
-      low = g.low;
-      copy = rw (memory_same gate_line, copy_same h gate_line (inl ne)) g.copy;
-      masters = λ is. absurd (ne (some_same (sym is ∙ w.master)));
-    };
-    writing = λ is. absurd (ne (some_same (sym is ∙ w.master)));
-  }
+  store_keeps = stored_keeps host line word value s s' core.wide done sys settled w.master
 
   -- the writer's other lines stay
   pub finished_other : (wanted : List ℕ) (l : ℕ) → l ≢ line → Finished wanted (s.memory l) (s.copy host l) → Finished wanted (s'.memory l) (s'.copy host l)

@@ -1,6 +1,6 @@
 -- The decision of a command that lists the tree, checks it or appends an entry.
 use Rattle.std.proofs.Common.{ℕ, refl, [], ◌∷◌, ◌++◌, ◌+◌, ◌≤◌, ◌<◌, ◌≡◌, List, length, take, Bool, true, false, cond, sym, ◌∙◌, ap, arith, inl, ◌==◌, length-append}
-use Rattle.std.specs.Prelude.{Some, Result, Ok, Err, slice_get}
+use Rattle.std.specs.Prelude.{Option, Some, Result, Ok, Err, slice_get}
 use Rattle.std.specs.Option.{option_map}
 use Rattle.std.proofs.lemmas.Bool.Decides.{nat_tests}
 use Rattle.std.proofs.lemmas.List.{length-map, length-take-le, take_all, take-append-le}
@@ -27,7 +27,7 @@ use Rattle.fam_protocol.specs.Seen.{Seen}
 use Rattle.fam_protocol.specs.Lines.{gate_of}
 use Rattle.fam_protocol.specs.Core.{System, Core, Belongs, top_of}
 use Rattle.fam_protocol.specs.Tasks.{HasReadAll, IsWriting, AtPlace}
-use Rattle.fam_protocol.specs.After.{After, Relists, MayRefuse, new_file}
+use Rattle.fam_protocol.specs.After.{After, Relists, MayRefuse, new_file, Named}
 use Rattle.fam_protocol.proofs.Moved.{IsTask}
 use Rattle.fam_protocol.proofs.Tell.{ends, holds}
 use Rattle.fam_protocol.proofs.Settle.{core_relisted}
@@ -61,12 +61,13 @@ module _ (sys : System) (host floor : ℕ) (s : Seen) (all : List File) (settled
         seen = omega (arith, h.gate.high);
       }
 
+module _ (sys : System) (host floor : ℕ) (named : Option Named) (s : Seen) (all : List File) (settled : ℕ) (core : Core sys s all settled) where
   -- the tree is listed
-  pub decide_logplay : (log : ReadsLog Logplay) (t : Task) → AtPlace at.Decide sys host floor (commanded t Logplay) s all settled → After (decide_turn Logplay (commanded t Logplay)) sys host floor (commanded t Logplay) s all settled
+  pub decide_logplay : (log : ReadsLog Logplay) (t : Task) → AtPlace at.Decide sys host floor (commanded t Logplay) s all settled → After (decide_turn Logplay (commanded t Logplay)) sys host floor named (commanded t Logplay) s all settled
   decide_logplay log t g =
-      let h = has_first Logplay log t g.1 in
+      let h = has_first sys host floor s all settled core Logplay log t g.1 in
       let m : ℕ = length t.entries in
-      ends sys host floor s all settled core (commanded t Logplay) (Played m (replay t.entries))
+      ends sys host floor named s all settled core (commanded t Logplay) (Played m (replay t.entries))
       (record {
         low = h.low;
         high = h.high;
@@ -74,11 +75,11 @@ module _ (sys : System) (host floor : ℕ) (s : Seen) (all : List File) (settled
       }) h.seen
 
   -- the tree is checked beside a listing
-  pub decide_check : (listing : List Entry) (log : ReadsLog (Check listing)) (t : Task) → AtPlace at.Decide sys host floor (commanded t (Check listing)) s all settled → After (decide_turn (Check listing) (commanded t (Check listing))) sys host floor (commanded t (Check listing)) s all settled
+  pub decide_check : (listing : List Entry) (log : ReadsLog (Check listing)) (t : Task) → AtPlace at.Decide sys host floor (commanded t (Check listing)) s all settled → After (decide_turn (Check listing) (commanded t (Check listing))) sys host floor named (commanded t (Check listing)) s all settled
   decide_check listing log t g =
-      let h = has_first (Check listing) log t g.1 in
+      let h = has_first sys host floor s all settled core (Check listing) log t g.1 in
       let m : ℕ = length t.entries in
-      ends sys host floor s all settled core (commanded t (Check listing)) (Checks m (checked (replay t.entries) listing))
+      ends sys host floor named s all settled core (commanded t (Check listing)) (Checks m (checked (replay t.entries) listing))
       (record {
         low = h.low;
         high = h.high;
@@ -149,7 +150,7 @@ module _ (sys : System) (host floor : ℕ) (s : Seen) (all : List File) (settled
         let bytes : 0 < e.size = grind (arith, nat_tests) in
         (omega arith, record { writing = writes e; line = omega arith; before = λ b lt. absurd (omega arith); here = tt })
 
-    appends : (e : Entry) → decide_wish t.params t.me t.entries w ≡ Ok e → After (append_turn (commanded t cmd) (Ok e)) sys host floor (commanded t cmd) s all settled
+    appends : (e : Entry) → decide_wish t.params t.me t.entries w ≡ Ok e → After (append_turn (commanded t cmd) (Ok e)) sys host floor named (commanded t cmd) s all settled
     unfolding writer
     appends e ok =
         let f : File = new_file (writer e) e in
@@ -171,9 +172,9 @@ module _ (sys : System) (host floor : ℕ) (s : Seen) (all : List File) (settled
           change = inl (master, r);
         }
 
-    turned : (r : Result Entry Refused) → decide_wish t.params t.me t.entries w ≡ r → After (append_turn (commanded t cmd) r) sys host floor (commanded t cmd) s all settled
-    turned (Err r) e = ends sys host floor s all settled core (commanded t cmd) (NotAppended r) (may_refuse r e) (omega arith)
+    turned : (r : Result Entry Refused) → decide_wish t.params t.me t.entries w ≡ r → After (append_turn (commanded t cmd) r) sys host floor named (commanded t cmd) s all settled
+    turned (Err r) e = ends sys host floor named s all settled core (commanded t cmd) (NotAppended r) (may_refuse r e) (omega arith)
     turned (Ok e) is = appends e is
 
-    pub decide_append : After (append_turn (commanded t cmd) (decide_wish t.params t.me t.entries w)) sys host floor (commanded t cmd) s all settled
+    pub decide_append : After (append_turn (commanded t cmd) (decide_wish t.params t.me t.entries w)) sys host floor named (commanded t cmd) s all settled
     decide_append = turned (decide_wish t.params t.me t.entries w) refl

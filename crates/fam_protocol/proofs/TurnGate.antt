@@ -10,8 +10,6 @@ use Rattle.fam_base.specs.declared.entry.Params.{Params}
 use Rattle.fam_format.specs.declared.faults.LogFault.{LogFault}
 use Rattle.fam_format.specs.Layout.{gate_line}
 use Rattle.fam_format.specs.Log.{gate_fault}
-use Rattle.fam_machine.specs.declared.cell.Cell.{Cell}
-use Rattle.fam_machine.specs.declared.cell.Cell.TheVariants.{Absent, Clean, Dirty}
 use Rattle.fam_machine.specs.declared.op.Part.TheVariants.{Slot}
 use Rattle.fam_machine.specs.declared.op.Place.TheVariants as at
 use Rattle.fam_machine.specs.Task.{Task}
@@ -20,12 +18,13 @@ use Rattle.fam_rules.specs.Asks.{File}
 use Rattle.fam_rules.specs.Decide.{Wish, wish_of}
 use Rattle.fam_rules.specs.Reports.{Survey, no_survey}
 use Rattle.fam_protocol.specs.Seen.{Seen}
-use Rattle.fam_protocol.specs.Lines.{Fresh, gate_of, top}
+use Rattle.fam_protocol.specs.Lines.{gate_of, top}
 use Rattle.fam_protocol.specs.Core.{System, Core, masters_copy, top_of}
 use Rattle.fam_protocol.specs.Tasks.{NoSlot, KnowsHead, KnowsGate, HasRead, HasSurveyed, AtPlace}
-use Rattle.fam_protocol.specs.After.{After, Relists}
+use Rattle.fam_protocol.specs.After.{After, Relists, Named}
 use Rattle.fam_protocol.proofs.Given.{Given}
 use Rattle.fam_protocol.proofs.PartWords.{loaded_none}
+use Rattle.fam_protocol.proofs.LineMoves.{fresh_top}
 use Rattle.fam_protocol.proofs.Moved.{IsTask, slots_moved}
 use Rattle.fam_protocol.proofs.Tell.{goes, holds}
 use Rattle.fam_protocol.proofs.Settle.{core_relisted}
@@ -34,12 +33,6 @@ use Rattle.fam_protocol.proofs.History.{history_front}
 -- the gate is within the slots
 gate_fits : (p : Params) (gate : ℕ) → gate ≤ p.slots → gate_fault gate p ≡ None
 gate_fits p gate le = rw (le-ltb p.slots gate le) refl
-
--- a host's fresh copy of the gate is no larger one
-fresh_top : (m : List ℕ) (c : Cell) → Fresh m c → top m c ≡ gate_of m
-fresh_top m Absent f = refl
-fresh_top m (Clean w) f = refl
-fresh_top m (Dirty w) f = absurd f
 
 -- no slot is read
 survey_none : (gate : ℕ) (survey : Survey) (all : List File) → survey ≡ no_survey → HasSurveyed 0 gate survey all
@@ -71,7 +64,7 @@ at_next sys host floor s all settled t i n count head gate le read words = go (n
         let last : i ≡ n = grind (arith, nat_tests) in
         (head, record { gate = gate; read = subst (λ (k : ℕ). HasRead t.cmd k t all) (last ∙ count) read })
 
-module _ (sys : System) (host floor : ℕ) (s : Seen) (all : List File) (settled : ℕ) (core : Core sys s all settled) where
+module _ (sys : System) (host floor : ℕ) (named : Option Named) (s : Seen) (all : List File) (settled : ℕ) (core : Core sys s all settled) where
   -- the gate is loaded: all is set for the first slot
   at_first : (word : ℕ) (t : Task) (all' : List File) (settled' : ℕ) → NoSlot t → t.words ≡ [] → KnowsHead sys host t → KnowsGate host floor (with_gate t word) s all' settled' → AtPlace (with_gate t word).place sys host floor (with_gate t word) s all' settled'
   at_first word t all' settled' none words head gate =
@@ -80,12 +73,12 @@ module _ (sys : System) (host floor : ℕ) (s : Seen) (all : List File) (settled
       at_next sys host floor s all' settled' t' 0 (slots_read u) (sym (slots_moved u t'.place t'.words)) (record { params = head.params; master = head.master }) gate (omega arith)
       (read_none t'.cmd t' all' none.entries none.survey) words
 
-  gate_goes : (t : Task) (word : ℕ) → IsTask sys host t → wish_of t.cmd ≡ None → Given at.Gate sys host floor word t s all settled → After (Goes (with_gate t word)) sys host floor t s all settled
+  gate_goes : (t : Task) (word : ℕ) → IsTask sys host t → wish_of t.cmd ≡ None → Given at.Gate sys host floor word t s all settled → After (Goes (with_gate t word)) sys host floor named t s all settled
   gate_goes t word is asks g =
-      goes sys host floor s all settled core t (with_gate t word) (record { command = is.command; me = is.me; lines = is.lines })
+      goes sys host floor named s all settled core t (with_gate t word) (record { command = is.command; me = is.me; lines = is.lines })
       (at_first word t all settled g.0.0 g.0.1 g.0.2 (record { low = g.1.low; high = g.1.high; writer = λ w e. absurd (let o : wish_of t.cmd ≡ Some w = e in cc) }))
 
-  gate_finds : (t : Task) (word : ℕ) (w : Wish) → IsTask sys host t → wish_of t.cmd ≡ Some w → Given at.Gate sys host floor word t s all settled → After (Finds word (with_gate t word)) sys host floor t s all settled
+  gate_finds : (t : Task) (word : ℕ) (w : Wish) → IsTask sys host t → wish_of t.cmd ≡ Some w → Given at.Gate sys host floor word t s all settled → After (Finds word (with_gate t word)) sys host floor named t s all settled
   gate_finds t word w is asks g =
       let master : sys.master ≡ Some host = g.0.2.master w asks in
       let word_is : word ≡ gate_of (s.memory gate_line) = g.1.masters master in
@@ -108,12 +101,12 @@ module _ (sys : System) (host floor : ℕ) (s : Seen) (all : List File) (settled
         change = inl (master, r);
       }
 
-  gate_told : (t : Task) (word : ℕ) (wish : Option Wish) → IsTask sys host t → wish_of t.cmd ≡ wish → Given at.Gate sys host floor word t s all settled → After (finds_or_goes wish word (with_gate t word)) sys host floor t s all settled
+  gate_told : (t : Task) (word : ℕ) (wish : Option Wish) → IsTask sys host t → wish_of t.cmd ≡ wish → Given at.Gate sys host floor word t s all settled → After (finds_or_goes wish word (with_gate t word)) sys host floor named t s all settled
   gate_told t word None is asks g = gate_goes t word is asks g
   gate_told t word (Some w) is asks g = gate_finds t word w is asks g
 
   -- the turn behind the gate's load
-  pub gate : (t : Task) (word : ℕ) → IsTask sys host t → Given at.Gate sys host floor word t s all settled → After (turn_at at.Gate t word) sys host floor t s all settled
+  pub gate : (t : Task) (word : ℕ) → IsTask sys host t → Given at.Gate sys host floor word t s all settled → After (turn_at at.Gate t word) sys host floor named t s all settled
   gate t word is g =
       let none : gate_fault word t.params ≡ None = ap (λ (p : Params). gate_fault word p) g.0.2.params ∙ gate_fits sys.params word (omega (arith, g.1.high, core.order, core.high, core.room)) in
-      subst (λ (o : Option LogFault). After (gate_turn t word o) sys host floor t s all settled) (sym none) (gate_told t word (wish_of t.cmd) is refl g)
+      subst (λ (o : Option LogFault). After (gate_turn t word o) sys host floor named t s all settled) (sym none) (gate_told t word (wish_of t.cmd) is refl g)

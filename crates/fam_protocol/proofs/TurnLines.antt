@@ -23,7 +23,7 @@ use Rattle.fam_rules.specs.Written.{file_line, lines_of}
 use Rattle.fam_protocol.specs.Seen.{Seen}
 use Rattle.fam_protocol.specs.Core.{System, Core}
 use Rattle.fam_protocol.specs.Tasks.{HasLoaded, KnowsHead, IsAtFile, IsOfSize, IsSameBelow, ReadsFile, kept_from, part_words}
-use Rattle.fam_protocol.specs.After.{After}
+use Rattle.fam_protocol.specs.After.{After, Named}
 use Rattle.fam_protocol.proofs.PartWords.{loaded, loaded_is, loaded_next, part_word}
 use Rattle.fam_protocol.proofs.Moved.{IsTask, moved, task_moved, head_moved, read_all_moved, after_moved}
 use Rattle.fam_protocol.proofs.Tell.{ends}
@@ -50,7 +50,7 @@ differ_false a b h = eqb-true a b (not-false (a == b) h)
 false_differ : (a b : ℕ) → a ≡ b → not (a == b) ≡ false
 false_differ a b h = ap not (eq-eqb a b h)
 
-module _ (sys : System) (host floor : ℕ) (s : Seen) (all : List File) (settled : ℕ) (core : Core sys s all settled) (t : Task) where
+module _ (sys : System) (host floor : ℕ) (named : Option Named) (s : Seen) (all : List File) (settled : ℕ) (core : Core sys s all settled) (t : Task) where
   -- byte o of the file that is read, as memory has it
   file_byte : (u : Task) (j o : ℕ) → KnowsHead sys host u → IsAtFile j host floor u s all settled → (f : ReadsFile u all j) → o < f.file.entry.size → byte_in (s.memory (file_line f.file.entry (o / line_bytes))) (o % line_bytes) ≡ slice_index f.file.bytes o
   file_byte u j o head at f below = (core.stands f.i f.file f.is (omega (arith, f.below, at.all_read.gate.high, core.order))).bytes o below
@@ -95,7 +95,7 @@ module _ (sys : System) (host floor : ℕ) (s : Seen) (all : List File) (settled
     -- what is answered of the whole file
     told : ask (take (length t.entries) all) (Verify path against) ≡ Some (verified (length t.entries) at.file.file.bytes against)
     told =
-        asked_file sys host floor s all settled core (Verify path against) log path (λ m bytes. verified m bytes against) (asks_verify path against) t at.file.file
+        asked_file sys host floor named s all settled core (Verify path against) log path (λ m bytes. verified m bytes against) (asks_verify path against) t at.file.file
         (has_first sys host floor s all settled core (Verify path against) log t at.all_read) found at.file.kind
 
     even_by : (c : Content) (m : ℕ) → IsOfSize (Verify path c) at.file.file.entry.size → verified m at.file.file.bytes c ≡ compared m at.file.file.bytes c
@@ -121,7 +121,7 @@ module _ (sys : System) (host floor : ℕ) (s : Seen) (all : List File) (settled
             subst (λ (o : ℕ). slice_index at.file.file.bytes o ≡ content_byte against o) is (agree k (o - 64 * j) none (omega arith) (omega arith) (omega arith))
 
     -- a byte that differs
-    differs : (b : ℕ) → IsFirst (λ b. not (byte_in t.words b == content_byte against (64 * j + b))) 0 (min 64 (size_of t.entry - 64 * j)) b → After (Ends (Differs (length t.entries) (64 * j + b) (byte_in t.words b) (content_byte against (64 * j + b)))) sys host floor (commanded t (Verify path against)) s all settled
+    differs : (b : ℕ) → IsFirst (λ b. not (byte_in t.words b == content_byte against (64 * j + b))) 0 (min 64 (size_of t.entry - 64 * j)) b → After (Ends (Differs (length t.entries) (64 * j + b) (byte_in t.words b) (content_byte against (64 * j + b)))) sys host floor named (commanded t (Verify path against)) s all settled
     differs b first =
         let inside : 64 * j + b < at.file.file.entry.size = omega (arith, first.below, size_is) in
         let lt : b < 64 = omega (arith, first.below) in
@@ -133,7 +133,7 @@ module _ (sys : System) (host floor : ℕ) (s : Seen) (all : List File) (settled
           before = λ i from below. false_differ (slice_index at.file.file.bytes i) (content_byte against i) (same_to b (omega arith) first.before i below (omega arith));
         } in
         let h = has_first sys host floor s all settled core (Verify path against) log t at.all_read in
-        ends sys host floor s all settled core (commanded t (Verify path against)) (Differs (length t.entries) (64 * j + b) (byte_in t.words b) (content_byte against (64 * j + b)))
+        ends sys host floor named s all settled core (commanded t (Verify path against)) (Differs (length t.entries) (64 * j + b) (byte_in t.words b) (content_byte against (64 * j + b)))
         (record {
           low = h.low;
           high = h.high;
@@ -154,15 +154,15 @@ module _ (sys : System) (host floor : ℕ) (s : Seen) (all : List File) (settled
         omega (arith, long, size_is)
 
     -- all lines have the content's bytes
-    ends_same : IsSameBelow (Verify path against) at.file.file (line_bytes * (j + 1)) → part_count (commanded t (Verify path against)) FileLines ≤ j + 1 → After (Ends (Same (length t.entries))) sys host floor (commanded t (Verify path against)) s all settled
+    ends_same : IsSameBelow (Verify path against) at.file.file (line_bytes * (j + 1)) → part_count (commanded t (Verify path against)) FileLines ≤ j + 1 → After (Ends (Same (length t.entries))) sys host floor named (commanded t (Verify path against)) s all settled
     ends_same same last =
         let h = has_first sys host floor s all settled core (Verify path against) log t at.all_read in
         let none : first_difference at.file.file.bytes against ≡ None =
         find_none (λ o. not (slice_index at.file.file.bytes o == content_byte against o)) 0 (length at.file.file.bytes)
         (λ o from below. false_differ (slice_index at.file.file.bytes o) (content_byte against o) (same o (covers o (omega arith) last) (omega (arith, long)))) in
-        ends sys host floor s all settled core (commanded t (Verify path against)) (Same (length t.entries)) (record { low = h.low; high = h.high; is = told_by None none }) h.seen
+        ends sys host floor named s all settled core (commanded t (Verify path against)) (Same (length t.entries)) (record { low = h.low; high = h.high; is = told_by None none }) h.seen
 
-    compares : (o : Option ℕ) → line_difference (commanded t (Verify path against)) against j ≡ o → After (compare_turn (commanded t (Verify path against)) against j o) sys host floor (commanded t (Verify path against)) s all settled
+    compares : (o : Option ℕ) → line_difference (commanded t (Verify path against)) against j ≡ o → After (compare_turn (commanded t (Verify path against)) against j o) sys host floor named (commanded t (Verify path against)) s all settled
     compares (Some b) e = differs b (first_found _ 0 (min 64 (size_of t.entry - 64 * j)) b e)
     compares None e =
         let u : Task = commanded t (Verify path against) in
@@ -173,13 +173,13 @@ module _ (sys : System) (host floor : ℕ) (s : Seen) (all : List File) (settled
           file = record { file = at.file.file; i = at.file.i; is = at.file.is; below = at.file.below; entry = at.file.entry; path = at.file.path; wanted = at.file.wanted; found = at.file.found; kind = at.file.kind; sized = at.file.sized; same = same };
         } in
         let kept : 0 ≡ 8 * (j + 1) + 0 - 8 * (j + 1) = omega arith in
-        after_moved u u.place [] sys floor all settled (compare_turn u against j None) host s
-        (next_line sys host floor s all settled core FileLines j v (Ends (Same (length t.entries))) (task_moved u u.place [] sys host is)
+        after_moved u u.place [] sys floor named all settled (compare_turn u against j None) host s
+        (next_line sys host floor named s all settled core FileLines j v (Ends (Same (length t.entries))) (task_moved u u.place [] sys host is)
         (head_moved u u.place [] sys host head, next)
         (λ sure. ap (λ (n : ℕ). take n (drop (8 * (j + 1)) (part_words s.memory v FileLines))) kept)
-        (λ last. after_moved v u.place u.words sys floor all settled (Ends (Same (length t.entries))) host s (ends_same same last)))
+        (λ last. after_moved v u.place u.words sys floor named all settled (Ends (Same (length t.entries))) host s (ends_same same last)))
 
-    pub verify_line : After (file_turn (Verify path against) (commanded t (Verify path against)) j) sys host floor (commanded t (Verify path against)) s all settled
+    pub verify_line : After (file_turn (Verify path against) (commanded t (Verify path against)) j) sys host floor named (commanded t (Verify path against)) s all settled
     verify_line = compares (line_difference (commanded t (Verify path against)) against j) refl
 
   -- a line of a file whose bytes are read
@@ -216,19 +216,19 @@ module _ (sys : System) (host floor : ℕ) (s : Seen) (all : List File) (settled
         sym (fill_by_all (λ i. byte_in t.words (offset % 64 + i)) (take count (drop offset at.file.file.bytes)) (min (size_of t.entry) (offset + count) - offset) 0 counted
         (λ i below. get_or-take count (drop offset at.file.file.bytes) i 0 (omega arith) ∙ get_or-drop offset at.file.file.bytes i 0 ∙ sym (wanted_byte i (offset + i) refl (omega arith) last)))
 
-    pub read_line : After (file_turn (Read path offset count) (commanded t (Read path offset count)) j) sys host floor (commanded t (Read path offset count)) s all settled
+    pub read_line : After (file_turn (Read path offset count) (commanded t (Read path offset count)) j) sys host floor named (commanded t (Read path offset count)) s all settled
     read_line =
         let u : Task = commanded t (Read path offset count) in
         let h = has_first sys host floor s all settled core (Read path offset count) log t at.all_read in
         let path_is : at.file.path ≡ path = (let e : Some path ≡ Some at.file.path = at.file.wanted in cc) in
         let found : file_at (take t.gate all) path ≡ Some at.file.file = ap (λ (q : List ℕ). file_at (take t.gate all) q) (sym path_is) ∙ at.file.found in
         let told : ask (take (length t.entries) all) (Read path offset count) ≡ Some (Bytes (length t.entries) (bytes_from offset count at.file.file.bytes)) =
-        asked_file sys host floor s all settled core (Read path offset count) log path (λ m bytes. Bytes m (bytes_from offset count bytes)) (asks_read path offset count) t at.file.file h found at.file.kind in
+        asked_file sys host floor named s all settled core (Read path offset count) log path (λ m bytes. Bytes m (bytes_from offset count bytes)) (asks_read path offset count) t at.file.file h found at.file.kind in
         let next : IsAtFile (j + 1) host floor u s all settled = record {
           all_read = at.all_read;
           file = record { file = at.file.file; i = at.file.i; is = at.file.is; below = at.file.below; entry = at.file.entry; path = at.file.path; wanted = at.file.wanted; found = at.file.found; kind = at.file.kind; sized = at.file.sized; same = tt };
         } in
-        next_line sys host floor s all settled core FileLines j u (Ends (Bytes (length t.entries) (loaded_bytes u offset))) is (head, next)
+        next_line sys host floor named s all settled core FileLines j u (Ends (Bytes (length t.entries) (loaded_bytes u offset))) is (head, next)
         (λ sure. has ∙ loaded_next s.memory u FileLines j refl refl)
-        (λ last. ends sys host floor s all settled core u (Bytes (length t.entries) (loaded_bytes u offset))
+        (λ last. ends sys host floor named s all settled core u (Bytes (length t.entries) (loaded_bytes u offset))
         (record { low = h.low; high = h.high; is = told ∙ ap (λ (bytes : List ℕ). Some (Bytes (length t.entries) bytes)) (sym (bytes_are last)) }) h.seen)

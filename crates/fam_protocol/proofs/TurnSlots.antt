@@ -18,7 +18,7 @@ use Rattle.fam_protocol.specs.Seen.{Seen}
 use Rattle.fam_protocol.specs.Lines.{gate_of}
 use Rattle.fam_protocol.specs.Core.{System, Core}
 use Rattle.fam_protocol.specs.Tasks.{HasRead, HasReadAll, AtPlace}
-use Rattle.fam_protocol.specs.After.{After}
+use Rattle.fam_protocol.specs.After.{After, Named}
 use Rattle.fam_protocol.proofs.PartWords.{slot_words_are}
 use Rattle.fam_protocol.proofs.Moved.{IsTask}
 use Rattle.fam_protocol.proofs.Tell.{goes}
@@ -51,21 +51,22 @@ module _ (sys : System) (host floor : ℕ) (s : Seen) (all : List File) (settled
   slot_reads i t f params high below is words =
       ap (λ (l : List ℕ). entry_of t.params l i) words ∙ ap (λ (p : Params). entry_of p (slot_words s.memory p i) i) params ∙ (core.stands i f is (omega (arith, core.order))).slot
 
+module _ (sys : System) (host floor : ℕ) (named : Option Named) (s : Seen) (all : List File) (settled : ℕ) (core : Core sys s all settled) where
   -- the turn of a slot's words
-  pub slot_checked : (cmd : Cmd) (log : ReadsLog cmd) (i : ℕ) (t : Task) → IsTask sys host (commanded t cmd) → AtPlace (at.Check i) sys host floor (commanded t cmd) s all settled → After (slot_turn (commanded t cmd) i (entry_of t.params t.words i)) sys host floor (commanded t cmd) s all settled
+  pub slot_checked : (cmd : Cmd) (log : ReadsLog cmd) (i : ℕ) (t : Task) → IsTask sys host (commanded t cmd) → AtPlace (at.Check i) sys host floor (commanded t cmd) s all settled → After (slot_turn (commanded t cmd) i (entry_of t.params t.words i)) sys host floor named (commanded t cmd) s all settled
   slot_checked cmd log i t is g =
       let u : Task = commanded t cmd in
       let below : i < t.gate = subst (λ (n : ℕ). i < n) (log.slots t) g.1.below in
       let found = some_at all i (omega (arith, g.1.gate.high, core.order, core.high)) in
       let f : File = found.0 in
-      let reads : entry_of t.params t.words i ≡ Ok f.entry = slot_reads i t f g.0.params g.1.gate.high below found.1 (g.2 below ∙ slot_words_are s.memory u i) in
+      let reads : entry_of t.params t.words i ≡ Ok f.entry = slot_reads sys host floor s all settled core i t f g.0.params g.1.gate.high below found.1 (g.2 below ∙ slot_words_are s.memory u i) in
       let before : t.entries ≡ entries_of (take i all) = log.back i u all g.1.read in
       let joins : join_fault t.params t.entries f.entry ≡ None =
       ap (λ (p : Params). join_fault p t.entries f.entry) g.0.params ∙ ap (λ (l : List Entry). join_fault sys.params l f.entry) before ∙ (core.history i f found.1).joins in
       let t' : Task = record u { entries = t.entries ++ f.entry ∷ []; words = []; place = slot_or_decide u (i + 1) } in
       let more : t'.entries ≡ entries_of (take (i + 1) all) = ap (λ (l : List Entry). l ++ f.entry ∷ []) before ∙ sym (entries_more all i f found.1) in
-      subst (λ (r : Result Entry Reason). After (slot_turn u i r) sys host floor u s all settled) (sym reads)
-      (subst (λ (o : Option Reason). After (join_turn u i f.entry o) sys host floor u s all settled) (sym joins)
-      (goes sys host floor s all settled core u t' (record { command = is.command; me = is.me; lines = is.lines })
+      subst (λ (r : Result Entry Reason). After (slot_turn u i r) sys host floor named u s all settled) (sym reads)
+      (subst (λ (o : Option Reason). After (join_turn u i f.entry o) sys host floor named u s all settled) (sym joins)
+      (goes sys host floor named s all settled core u t' (record { command = is.command; me = is.me; lines = is.lines })
       (at_next sys host floor s all settled t' (i + 1) (slots_read u) (log.slots t ∙ sym (log.slots t')) (record { params = g.0.params; master = g.0.master })
       (record { low = g.1.gate.low; high = g.1.gate.high; writer = g.1.gate.writer }) (omega (arith, log.slots t)) (log.read (i + 1) t' all more) refl)))

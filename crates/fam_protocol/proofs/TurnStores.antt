@@ -17,10 +17,10 @@ use Rattle.fam_protocol.specs.Seen.{Seen}
 use Rattle.fam_protocol.specs.Lines.{Finished}
 use Rattle.fam_protocol.specs.Core.{System, Core}
 use Rattle.fam_protocol.specs.Tasks.{IsWriting, StoresData, StoresSlot, HasData, HasAllData, HasSlot}
-use Rattle.fam_protocol.specs.After.{After}
+use Rattle.fam_protocol.specs.After.{After, Named, HoldsNamed}
 use Rattle.fam_protocol.proofs.Given.{Given}
 use Rattle.fam_protocol.proofs.Moved.{IsTask, moved, task_moved}
-use Rattle.fam_protocol.proofs.Tell.{goes, ends}
+use Rattle.fam_protocol.proofs.Tell.{goes, ends, holds_last}
 
 -- the size of the file that is written
 pub size_is : (entry : Option Entry) (e : Entry) → entry ≡ Some e → size_of entry ≡ e.size
@@ -67,41 +67,41 @@ slot_more j host t s before here b lt = go (cases_eq b j)
 data_all : (j host : ℕ) (t : Task) (s : Seen) → lines_of (size_of t.entry) ≤ j → HasData j host t s → HasAllData host t s
 data_all j host t s last before count b lt within = before b (let below : b < lines_of (size_of t.entry) = below_line b (size_of t.entry) within in omega arith) within
 
-module _ (sys : System) (host floor : ℕ) (s : Seen) (all : List File) (settled : ℕ) (core : Core sys s all settled) where
+module _ (sys : System) (host floor : ℕ) (named : Option Named) (s : Seen) (all : List File) (settled : ℕ) (core : Core sys s all settled) where
   -- the turn behind a store into the file
-  pub store_data : (j k : ℕ) (t : Task) (word : ℕ) → IsTask sys host t → Given (at.StoreData j k) sys host floor word t s all settled → After (turn_at (at.StoreData j k) t word) sys host floor t s all settled
+  pub store_data : (j k : ℕ) (t : Task) (word : ℕ) → IsTask sys host t → Given (at.StoreData j k) sys host floor word t s all settled → After (turn_at (at.StoreData j k) t word) sys host floor named t s all settled
   store_data j k t word is g = go (nat_lt k 7) refl
     where
-      go : (b : Bool) → nat_lt k 7 ≡ b → After (Goes (record t { place = cond b (at.StoreData j (k + 1)) (at.SendData j) })) sys host floor t s all settled
+      go : (b : Bool) → nat_lt k 7 ≡ b → After (Goes (record t { place = cond b (at.StoreData j (k + 1)) (at.SendData j) })) sys host floor named t s all settled
       go true e =
           let p : Place = at.StoreData j (k + 1) in
-          goes sys host floor s all settled core t (moved t p t.words) (task_moved t p t.words sys host is)
+          goes sys host floor named s all settled core t (moved t p t.words) (task_moved t p t.words sys host is)
           (grind (arith, nat_tests), data_moved sys host s all settled t p j (k + 1) g.1)
       go false e =
           let p : Place = at.SendData j in
           let last : k + 1 ≡ 8 = let lt = g.0 in grind (arith, nat_tests) in
-          goes sys host floor s all settled core t (moved t p t.words) (task_moved t p t.words sys host is)
+          goes sys host floor named s all settled core t (moved t p t.words) (task_moved t p t.words sys host is)
           (data_moved sys host s all settled t p j 8 (subst (λ (n : ℕ). StoresData j n sys host t s all settled) last g.1))
 
   -- the turn behind a line of the file that is sent
-  pub send_data : (j : ℕ) (t : Task) (word : ℕ) → IsTask sys host t → Given (at.SendData j) sys host floor word t s all settled → After (turn_at (at.SendData j) t word) sys host floor t s all settled
+  pub send_data : (j : ℕ) (t : Task) (word : ℕ) → IsTask sys host t → Given (at.SendData j) sys host floor word t s all settled → After (turn_at (at.SendData j) t word) sys host floor named t s all settled
   unfolding writing_moved
   send_data j t word is g = go (nat_lt (j + 1) (lines_of (size_of t.entry))) refl
     where
       size : size_of t.entry ≡ g.0.writing.file.entry.size
       size = size_is t.entry g.0.writing.file.entry g.0.writing.entry
 
-      go : (b : Bool) → nat_lt (j + 1) (lines_of (size_of t.entry)) ≡ b → After (Goes (record t { place = cond b (at.StoreData (j + 1) 0) (at.StoreSlot 0 0) })) sys host floor t s all settled
+      go : (b : Bool) → nat_lt (j + 1) (lines_of (size_of t.entry)) ≡ b → After (Goes (record t { place = cond b (at.StoreData (j + 1) 0) (at.StoreSlot 0 0) })) sys host floor named t s all settled
       go true e =
           let p : Place = at.StoreData (j + 1) 0 in
           let below : j + 1 < lines_of (size_of t.entry) = grind (arith, nat_tests) in
           let within : line_bytes * (j + 1) < size_of t.entry = line_below (j + 1) (size_of t.entry) below in
-          goes sys host floor s all settled core t (moved t p t.words) (task_moved t p t.words sys host is)
+          goes sys host floor named s all settled core t (moved t p t.words) (task_moved t p t.words sys host is)
           (omega arith, record { writing = writing_moved sys host s all settled t p g.0.writing; line = subst (λ (n : ℕ). line_bytes * (j + 1) < n) size within; before = data_more j host t s g.0.before g.1; here = tt })
       go false e =
           let p : Place = at.StoreSlot 0 0 in
           let last : lines_of (size_of t.entry) ≤ j + 1 = grind (arith, nat_tests) in
-          goes sys host floor s all settled core t (moved t p t.words) (task_moved t p t.words sys host is) (
+          goes sys host floor named s all settled core t (moved t p t.words) (task_moved t p t.words sys host is) (
             omega arith,
             record {
               writing = writing_moved sys host s all settled t p g.0.writing;
@@ -113,28 +113,28 @@ module _ (sys : System) (host floor : ℕ) (s : Seen) (all : List File) (settled
           )
 
   -- the turn behind a store into the slot
-  pub store_slot : (j k : ℕ) (t : Task) (word : ℕ) → IsTask sys host t → Given (at.StoreSlot j k) sys host floor word t s all settled → After (turn_at (at.StoreSlot j k) t word) sys host floor t s all settled
+  pub store_slot : (j k : ℕ) (t : Task) (word : ℕ) → IsTask sys host t → Given (at.StoreSlot j k) sys host floor word t s all settled → After (turn_at (at.StoreSlot j k) t word) sys host floor named t s all settled
   store_slot j k t word is g = go (nat_lt k 7) refl
     where
-      go : (b : Bool) → nat_lt k 7 ≡ b → After (Goes (record t { place = cond b (at.StoreSlot j (k + 1)) (at.SendSlot j) })) sys host floor t s all settled
+      go : (b : Bool) → nat_lt k 7 ≡ b → After (Goes (record t { place = cond b (at.StoreSlot j (k + 1)) (at.SendSlot j) })) sys host floor named t s all settled
       go true e =
           let p : Place = at.StoreSlot j (k + 1) in
-          goes sys host floor s all settled core t (moved t p t.words) (task_moved t p t.words sys host is)
+          goes sys host floor named s all settled core t (moved t p t.words) (task_moved t p t.words sys host is)
           (grind (arith, nat_tests), slot_moved sys host s all settled t p j (k + 1) g.1)
       go false e =
           let p : Place = at.SendSlot j in
           let last : k + 1 ≡ 8 = let lt = g.0 in grind (arith, nat_tests) in
-          goes sys host floor s all settled core t (moved t p t.words) (task_moved t p t.words sys host is)
+          goes sys host floor named s all settled core t (moved t p t.words) (task_moved t p t.words sys host is)
           (slot_moved sys host s all settled t p j 8 (subst (λ (n : ℕ). StoresSlot j n sys host t s all settled) last g.1))
 
   -- the turn behind a line of the slot that is sent
-  pub send_slot : (j : ℕ) (t : Task) (word : ℕ) → IsTask sys host t → Given (at.SendSlot j) sys host floor word t s all settled → After (turn_at (at.SendSlot j) t word) sys host floor t s all settled
+  pub send_slot : (j : ℕ) (t : Task) (word : ℕ) → IsTask sys host t → Given (at.SendSlot j) sys host floor word t s all settled → After (turn_at (at.SendSlot j) t word) sys host floor named t s all settled
   send_slot j t word is g = go (nat_lt (j + 1) (geometry t.params).lines) refl
     where
-      go : (b : Bool) → nat_lt (j + 1) (geometry t.params).lines ≡ b → After (Goes (record t { place = cond b (at.StoreSlot (j + 1) 0) at.StoreGate })) sys host floor t s all settled
+      go : (b : Bool) → nat_lt (j + 1) (geometry t.params).lines ≡ b → After (Goes (record t { place = cond b (at.StoreSlot (j + 1) 0) at.StoreGate })) sys host floor named t s all settled
       go true e =
           let p : Place = at.StoreSlot (j + 1) 0 in
-          goes sys host floor s all settled core t (moved t p t.words) (task_moved t p t.words sys host is) (
+          goes sys host floor named s all settled core t (moved t p t.words) (task_moved t p t.words sys host is) (
             omega arith,
             record {
               writing = writing_moved sys host s all settled t p g.0.writing;
@@ -147,7 +147,7 @@ module _ (sys : System) (host floor : ℕ) (s : Seen) (all : List File) (settled
       go false e =
           let p : Place = at.StoreGate in
           let last : j + 1 ≡ 8 = let lt = g.0.line in grind (arith, nat_tests) in
-          goes sys host floor s all settled core t (moved t p t.words) (task_moved t p t.words sys host is)
+          goes sys host floor named s all settled core t (moved t p t.words) (task_moved t p t.words sys host is)
           (record {
             writing = writing_moved sys host s all settled t p g.0.writing;
             contents = g.0.contents;
@@ -155,14 +155,14 @@ module _ (sys : System) (host floor : ℕ) (s : Seen) (all : List File) (settled
           })
 
   -- the turn behind the store of the gate
-  pub store_gate : (t : Task) (word : ℕ) → IsTask sys host t → Given at.StoreGate sys host floor word t s all settled → After (turn_at at.StoreGate t word) sys host floor t s all settled
+  pub store_gate : (t : Task) (word : ℕ) → IsTask sys host t → Given at.StoreGate sys host floor word t s all settled → After (turn_at at.StoreGate t word) sys host floor named t s all settled
   store_gate t word is g =
-      goes sys host floor s all settled core t (moved t at.SendGate t.words) (task_moved t at.SendGate t.words sys host is)
+      goes sys host floor named s all settled core t (moved t at.SendGate t.words) (task_moved t at.SendGate t.words sys host is)
       (record { master = g.master; published = g.published; pending = g.pending; file = g.file; last = g.last; entry = g.entry })
 
   -- the turn behind the gate that is sent: the answer
-  pub send_gate : (t : Task) (word : ℕ) → IsTask sys host t → Given at.SendGate sys host floor word t s all settled → After (turn_at at.SendGate t word) sys host floor t s all settled
-  send_gate t word is g =
-      ends sys host floor s all settled core t (Appended t.gate)
-      (record { count = g.0.pending; file = g.0.file; last = g.0.last; entry = g.0.entry })
+  pub send_gate : (t : Task) (word : ℕ) → IsTask sys host t → HoldsNamed t named → Given at.SendGate sys host floor word t s all settled → After (turn_at at.SendGate t word) sys host floor named t s all settled
+  send_gate t word is holds g =
+      ends sys host floor named s all settled core t (Appended t.gate)
+      (holds_last floor named t all holds g.0.pending g.0.file g.0.last g.0.entry)
       (omega (arith, g.1))

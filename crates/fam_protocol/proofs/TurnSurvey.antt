@@ -21,7 +21,7 @@ use Rattle.fam_rules.specs.Reports.{Survey, applied_or, below_gate, past_gate, s
 use Rattle.fam_protocol.specs.Seen.{Seen}
 use Rattle.fam_protocol.specs.Core.{System, Core, IsHistory}
 use Rattle.fam_protocol.specs.Tasks.{HasSurveyed, AtPlace}
-use Rattle.fam_protocol.specs.After.{After, IsReported}
+use Rattle.fam_protocol.specs.After.{After, IsReported, Named}
 use Rattle.fam_protocol.proofs.PartWords.{slot_words_are}
 use Rattle.fam_protocol.proofs.Moved.{IsTask}
 use Rattle.fam_protocol.proofs.Tell.{goes, ends}
@@ -85,7 +85,7 @@ history_apart : (p : Params) (all : List File) → IsHistory p all → overlap_o
 history_apart p all history =
     ap (overlap_of p.unit) (sym (numbered_is 0 (entries_of all))) ∙ no_overlap p.unit (entries_of all) (laid_apart p (entries_of all) (history_laid p all history)).once
 
-module _ (sys : System) (host floor : ℕ) (s : Seen) (all : List File) (settled : ℕ) (core : Core sys s all settled) (t : Task) where
+module _ (sys : System) (host floor : ℕ) (named : Option Named) (s : Seen) (all : List File) (settled : ℕ) (core : Core sys s all settled) (t : Task) where
   surveyed : (i : ℕ) (b : Bool) → nat_lt i t.gate ≡ b → AtPlace (at.Check i) sys host floor (commanded t Fsck) s all settled → HasSurveyed (i + 1) t.gate (cond b (below_gate t.survey i (entry_of t.params t.words i)) (past_gate t.survey (entry_of t.params t.words i))) all
   surveyed i false e g = past_next i t.gate t.survey all (entry_of t.params t.words i) g.1.read (grind (arith, nat_tests))
   surveyed i true e g =
@@ -105,11 +105,11 @@ module _ (sys : System) (host floor : ℕ) (s : Seen) (all : List File) (settled
   surveyed_slot i g = surveyed i (nat_lt i t.gate) refl g
 
   -- the turn of a slot that is surveyed
-  pub survey_checked : (i : ℕ) → IsTask sys host (commanded t Fsck) → AtPlace (at.Check i) sys host floor (commanded t Fsck) s all settled → After (check_turn Fsck (commanded t Fsck) i) sys host floor (commanded t Fsck) s all settled
+  pub survey_checked : (i : ℕ) → IsTask sys host (commanded t Fsck) → AtPlace (at.Check i) sys host floor (commanded t Fsck) s all settled → After (check_turn Fsck (commanded t Fsck) i) sys host floor named (commanded t Fsck) s all settled
   survey_checked i is g =
       let u : Task = commanded t Fsck in
       let t' : Task = record u { survey = survey_slot t.params t.gate i t.words t.survey; words = []; place = slot_or_decide u (i + 1) } in
-      goes sys host floor s all settled core u t' (record { command = is.command; me = is.me; lines = is.lines })
+      goes sys host floor named s all settled core u t' (record { command = is.command; me = is.me; lines = is.lines })
       (at_next sys host floor s all settled t' (i + 1) t.params.slots refl (record { params = g.0.params; master = g.0.master })
       (record { low = g.1.gate.low; high = g.1.gate.high; writer = g.1.gate.writer }) (let below : i < t.params.slots = g.1.below in omega arith) (surveyed_slot i g) refl)
 
@@ -143,6 +143,6 @@ module _ (sys : System) (host floor : ℕ) (s : Seen) (all : List File) (settled
       }
 
   -- the turn of the report
-  pub survey_told : AtPlace at.Decide sys host floor (commanded t Fsck) s all settled → After (decide_turn Fsck (commanded t Fsck)) sys host floor (commanded t Fsck) s all settled
+  pub survey_told : AtPlace at.Decide sys host floor (commanded t Fsck) s all settled → After (decide_turn Fsck (commanded t Fsck)) sys host floor named (commanded t Fsck) s all settled
   unfolding report_by
-  survey_told g = ends sys host floor s all settled core (commanded t Fsck) (Reports (report_by t.params t.gate t.survey)) (reported g) g.1.gate.high
+  survey_told g = ends sys host floor named s all settled core (commanded t Fsck) (Reports (report_by t.params t.gate t.survey)) (reported g) g.1.gate.high

@@ -1,8 +1,10 @@
 -- What a turn of a task says about the history, what it may say, and what holds after it. docs/MODEL.md, "The protocol".
-use Rattle.std.specs.Prelude.{ℕ, ⊤, ◌≡◌, ◌≢◌, ◌⊎◌, ◌+◌, ◌-◌, ◌≤◌, max, List, [], ◌∷◌, ◌++◌, length, take, count_by, slice_get, Some, None, Ok, Err}
+use Rattle.std.specs.Prelude.{ℕ, ⊤, ◌≡◌, ◌≢◌, ◌⊎◌, ◌+◌, ◌-◌, ◌≤◌, max, List, [], ◌∷◌, ◌++◌, length, take, count_by, slice_get, Option, Some, None, Ok, Err}
 use Rattle.fam_base.specs.declared.entry.Params.{Params}
 use Rattle.fam_base.specs.declared.entry.Entry.{Entry}
 use Rattle.fam_format.specs.Layout.{device_units, gate_line}
+use Rattle.fam_machine.specs.declared.op.Place.{Place}
+use Rattle.fam_machine.specs.declared.op.Place.TheVariants as at
 use Rattle.fam_machine.specs.Task.{Task, content_of}
 use Rattle.fam_machine.specs.Turns.{Turn, Goes, Marks, Finds, Writes, Ends}
 use Rattle.fam_rules.specs.declared.answers.Refused.{Refused}
@@ -20,6 +22,35 @@ use Rattle.fam_protocol.specs.Seen.{Seen}
 use Rattle.fam_protocol.specs.Lines.{gate_of}
 use Rattle.fam_protocol.specs.Core.{System, Core, top_of}
 use Rattle.fam_protocol.specs.Tasks.{TaskHolds}
+
+-- What a host keeps of its task's notes.
+
+-- an entry that a note `Writes` names, and its sequence number
+pub record Named : Type 0 where
+  pub seq : ℕ
+  pub entry : Entry
+
+-- a host's task, and what its notes told: how much was settled at its mark, and the entry that it named
+pub record Run : Type 0 where
+  pub task : Task
+  pub floor : ℕ
+  pub named : Option Named
+
+-- the task has named the entry that it appends, and writes
+abbrev pub HasNamed : Place → Type 0
+HasNamed (at.StoreData j k) = ⊤
+HasNamed (at.SendData j) = ⊤
+HasNamed (at.StoreSlot j k) = ⊤
+HasNamed (at.SendSlot j) = ⊤
+HasNamed at.StoreGate = ⊤
+HasNamed at.SendGate = ⊤
+HasNamed other = ⊥
+
+-- the entry that the task holds is the one that it named, as the next behind those that its gate counts
+pub record HoldsNamed (t : Task) (named : Option Named) : Type 0 where
+  pub entry : Entry
+  pub held : t.entry ≡ Some entry
+  pub is : named ≡ Some (record { seq = t.gate; entry = entry })
 
 -- What a turn changes.
 
@@ -114,37 +145,38 @@ MayRefuse refused.ParentIsFile sys t all settled = IsRefused sys.params t all se
 MayRefuse (refused.LogFull slots) sys t all settled = IsRefused sys.params t all settled (refused.LogFull slots)
 MayRefuse (refused.NoSpace units) sys t all settled = IsRefused sys.params t all settled (refused.NoSpace units)
 
--- the entry that the task named is the last of all
-pub record IsAppended (t : Task) (all : List File) (seq : ℕ) : Type 0 where
+-- the entry that the run's task named, with this number, is the last of all; and the task holds it
+pub record IsAppended (r : Run) (all : List File) (seq : ℕ) : Type 0 where
   pub count : length all ≡ seq + 1
   pub file : File
   pub last : slice_get all seq ≡ Some file
-  pub entry : t.entry ≡ Some file.entry
+  pub named : r.named ≡ Some (record { seq = seq; entry = file.entry })
+  pub entry : r.task.entry ≡ Some file.entry
 
-abbrev pub MayReply : Reply → System → Task → ℕ → List File → ℕ → Type 0
-MayReply (Appended seq) sys t floor all settled = IsAppended t all seq
-MayReply (NotAppended r) sys t floor all settled = MayRefuse r sys t all settled
-MayReply (Reports report) sys t floor all settled = IsReported sys.params floor all report
-MayReply (NoSuperblock fault) sys t floor all settled = ⊥
-MayReply (BadHeader fault) sys t floor all settled = ⊥
-MayReply (BadSlot seq reason) sys t floor all settled = ⊥
-MayReply (Played m tree) sys t floor all settled = IsAsked t floor all (Played m tree)
-MayReply (Same m) sys t floor all settled = IsAsked t floor all (Same m)
-MayReply (Differs m offset found wanted) sys t floor all settled = IsAsked t floor all (Differs m offset found wanted)
-MayReply (Length m size wanted) sys t floor all settled = IsAsked t floor all (Length m size wanted)
-MayReply (Bytes m bytes) sys t floor all settled = IsAsked t floor all (Bytes m bytes)
-MayReply (NotFound m) sys t floor all settled = IsAsked t floor all (NotFound m)
-MayReply (IsDirectory m) sys t floor all settled = IsAsked t floor all (IsDirectory m)
-MayReply (Checks m checked) sys t floor all settled = IsAsked t floor all (Checks m checked)
+abbrev pub MayReply : Reply → System → Run → List File → ℕ → Type 0
+MayReply (Appended seq) sys r all settled = IsAppended r all seq
+MayReply (NotAppended why) sys r all settled = MayRefuse why sys r.task all settled
+MayReply (Reports report) sys r all settled = IsReported sys.params r.floor all report
+MayReply (NoSuperblock fault) sys r all settled = ⊥
+MayReply (BadHeader fault) sys r all settled = ⊥
+MayReply (BadSlot seq reason) sys r all settled = ⊥
+MayReply (Played m tree) sys r all settled = IsAsked r.task r.floor all (Played m tree)
+MayReply (Same m) sys r all settled = IsAsked r.task r.floor all (Same m)
+MayReply (Differs m offset found wanted) sys r all settled = IsAsked r.task r.floor all (Differs m offset found wanted)
+MayReply (Length m size wanted) sys r all settled = IsAsked r.task r.floor all (Length m size wanted)
+MayReply (Bytes m bytes) sys r all settled = IsAsked r.task r.floor all (Bytes m bytes)
+MayReply (NotFound m) sys r all settled = IsAsked r.task r.floor all (NotFound m)
+MayReply (IsDirectory m) sys r all settled = IsAsked r.task r.floor all (IsDirectory m)
+MayReply (Checks m checked) sys r all settled = IsAsked r.task r.floor all (Checks m checked)
 
 -- a note or an answer that the history before it allows
-abbrev pub MaySay : Turn → System → Task → ℕ → List File → ℕ → Type 0
-MaySay (Goes next) sys t floor all settled = ⊤
-MaySay (Marks next) sys t floor all settled = ⊤
-MaySay (Finds n next) sys t floor all settled = (n ≡ settled) ⊎ ((n ≡ settled + 1) × (n ≡ length all))
-MaySay (Writes seq e next) sys t floor all settled =
-    (seq ≡ settled) × (seq ≡ length all) × (decide sys.params t.me (entries_of all) t.cmd ≡ Some (Ok e))
-MaySay (Ends reply) sys t floor all settled = MayReply reply sys t floor all settled
+abbrev pub MaySay : Turn → System → Run → List File → ℕ → Type 0
+MaySay (Goes next) sys r all settled = ⊤
+MaySay (Marks next) sys r all settled = ⊤
+MaySay (Finds n next) sys r all settled = (n ≡ settled) ⊎ ((n ≡ settled + 1) × (n ≡ length all))
+MaySay (Writes seq e next) sys r all settled =
+    (seq ≡ settled) × (seq ≡ length all) × (decide sys.params r.task.me (entries_of all) r.task.cmd ≡ Some (Ok e))
+MaySay (Ends reply) sys r all settled = MayReply reply sys r all settled
 
 -- What holds after it.
 
@@ -176,8 +208,8 @@ abbrev pub Changes : System → ℕ → Seen → List File → ℕ → List File
 Changes sys host s all settled all' settled' =
     ((sys.master ≡ Some host) × Relists sys s all settled all' settled') ⊎ Raises s all settled all' settled'
 
-pub record After (turn : Turn) (sys : System) (host floor : ℕ) (t : Task) (s : Seen) (all : List File) (settled : ℕ) : Type 0 where
-  pub may : MaySay turn sys t floor all settled
+pub record After (turn : Turn) (sys : System) (host floor : ℕ) (named : Option Named) (t : Task) (s : Seen) (all : List File) (settled : ℕ) : Type 0 where
+  pub may : MaySay turn sys (record { task = t; floor = floor; named = named }) all settled
   pub core : Core sys s (list_after turn all) (settled_after turn settled)
   pub task : GoesOn turn sys host (floor_after turn settled floor) s (list_after turn all) (settled_after turn settled)
   pub change : Changes sys host s all settled (list_after turn all) (settled_after turn settled)

@@ -19,7 +19,8 @@ use Rattle.fam_rules.specs.Place.{line_bytes}
 use Rattle.fam_rules.specs.Reply.{Reply, Played, Same, Differs, Length, Bytes, NotFound, IsDirectory, Checks, NoSuperblock, BadHeader, BadSlot}
 use Rattle.fam_protocol.specs.Seen.{Seen}
 use Rattle.fam_protocol.specs.Tasks.{HasRead, wanted_path}
-use Rattle.fam_protocol.specs.Way.{Hosts, Run, Known, Damaged, Way}
+use Rattle.fam_protocol.specs.After.{Run}
+use Rattle.fam_protocol.specs.Way.{Hosts, Known, Damaged, Way}
 use Rattle.fam_protocol.specs.Steps.{Steps}
 
 -- Moments of a run.
@@ -75,16 +76,6 @@ HasGate (at.Word part j k) = IsPastGate part
 HasGate (at.Check i) = ⊤
 HasGate at.Decide = ⊤
 HasGate other = ⊥
-
--- the task has named the entry that it appends, and writes
-abbrev pub HasNamed : Place → Type 0
-HasNamed (at.StoreData j k) = ⊤
-HasNamed (at.SendData j) = ⊤
-HasNamed (at.StoreSlot j k) = ⊤
-HasNamed (at.SendSlot j) = ⊤
-HasNamed at.StoreGate = ⊤
-HasNamed at.SendGate = ⊤
-HasNamed other = ⊥
 
 -- What was loaded.
 

@@ -6,19 +6,14 @@ use Rattle.fam_format.specs.Layout.{least_lines}
 use Rattle.fam_format.specs.Reading.{Lines, Reading, NoSuperblock, BadHeader, BadSlot, Sound, reading_of}
 use Rattle.fam_machine.specs.declared.cell.Cell.TheVariants.{Absent}
 use Rattle.fam_machine.specs.OneLine.{IsDirty}
-use Rattle.fam_machine.specs.Task.{Task}
 use Rattle.fam_rules.specs.Asks.{File}
 pub use Rattle.fam_rules.specs.Alone.{held_file}
 use Rattle.fam_rules.specs.Place.{line_bytes}
 use Rattle.fam_protocol.specs.Seen.{Seen}
 use Rattle.fam_protocol.specs.Core.{Core, IsWide}
 use Rattle.fam_protocol.specs.Tasks.{TaskHolds}
+use Rattle.fam_protocol.specs.After.{Run, HasNamed, HoldsNamed}
 use Rattle.fam_protocol.specs.Bad.{Still, BadTaskHolds}
-
--- a host's task, and what was settled at its mark
-pub record Run : Type 0 where
-  pub task : Task
-  pub floor : ℕ
 
 -- the declared hosts: their UUIDs and their tasks
 pub record Hosts : Type 0 where
@@ -66,6 +61,8 @@ Stage (Known p all settled) lines hosts s = IsKnown p all settled lines hosts s
 -- an image of so many lines
 pub record Way (settled : Settled) (lines : ℕ) (hosts : Hosts) (s : Seen) : Type 0 where
   pub declared : AreHosts hosts s
+  -- a task that writes holds what it named
+  pub named : (h : ℕ) (r : Run) → hosts.run h ≡ Some r → HasNamed r.task.place → HoldsNamed r.task r.named
   pub wide : IsWide s
   pub stage : Stage settled lines hosts s
 

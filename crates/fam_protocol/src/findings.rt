@@ -11,12 +11,11 @@ ghost use Rattle.fam_machine.specs.Task.{Task};
 ghost use Rattle.fam_machine.specs.Turns.{Ends, Finds, Writes};
 ghost use Rattle.fam_machine.specs.declared.op.Part.{Part};
 ghost use Rattle.fam_machine.specs.declared.op.Place.{Place};
-ghost use Rattle.fam_protocol.specs.After.{IsAppended, IsAsked, IsRefused, IsReported, IsStranger};
+ghost use Rattle.fam_protocol.specs.After.{HasNamed, IsAppended, IsAsked, IsRefused, IsReported, IsStranger};
 ghost use Rattle.fam_protocol.specs.Bad.{IsBadStranger, Still, fault_of};
 ghost use Rattle.fam_protocol.specs.Findings.{
   DamagedStep,
   HasGate,
-  HasNamed,
   IsCurrent,
   IsFoundCount,
   IsLoadedSlot,
@@ -36,13 +35,13 @@ ghost use Rattle.fam_rules.specs.declared.answers.Refused.{Refused};
 ghost use Rattle.fam_rules.specs.declared.answers.Report.{Report};
 
 /// A gate that a task has loaded counts at least the entries that were settled at its mark, which is when it dropped
-/// the gate's line, and at most those that there are (`loaded`). Where a task writes, the entry that it named is the
-/// last one, and comes right behind those that its gate counts (`named`).
+/// the gate's line, and at most those that there are (`loaded`). Where a task writes, the entry and the number that
+/// its own note named are those of the last one, which comes right behind those that its gate counts (`named`).
 pub fn a_loaded_gate_is_current()
     ensures loaded { (p : Params) (all : List File) (settled : ℕ) (at : SoundTask p all settled)
         → HasGate at.run.task.place → IsCurrent at.run.floor at.run.task all }
     ensures named { (p : Params) (all : List File) (settled : ℕ) (at : SoundTask p all settled)
-        → HasNamed at.run.task.place → IsAppended at.run.task all at.run.task.gate }
+        → HasNamed at.run.task.place → IsAppended at.run all at.run.task.gate }
 {}
 
 /// A slot below the loaded gate, once it is loaded whole, reads as the entry of the history that has its number; and
@@ -87,10 +86,10 @@ pub fn an_answer_is_of_a_settled_front()
         (step : SoundStep p all settled) → turn_given step.run.task step.word ≡ Ends (Reports report)
         → IsReported p step.run.floor all report }
 
-    // An entry that is appended is the last of all, and the one that the task named.
+    // An entry that is appended is the last of all, and the one that the task's own note named, with that number.
     ensures appended { (p : Params) (all : List File) (settled seq : ℕ) (step : SoundStep p all settled)
         → turn_given step.run.task step.word ≡ Ends (Appended seq)
-        → IsAppended step.run.task all seq }
+        → IsAppended step.run all seq }
 
     // A refusal is the one that the rules decide of the whole history, with nothing pending; or the host is another
     // one than the master.

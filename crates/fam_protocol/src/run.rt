@@ -5,11 +5,12 @@ ghost use Rattle.fam_base.specs.Image.{Image};
 ghost use Rattle.fam_base.specs.declared.cmd.Cmd.{Cmd};
 ghost use Rattle.fam_base.specs.declared.entry.Params.{Params};
 ghost use Rattle.fam_format.specs.Layout.{device_limit, least_lines};
+ghost use Rattle.fam_protocol.specs.After.{Run};
 ghost use Rattle.fam_protocol.specs.Core.{IsWide};
 ghost use Rattle.fam_protocol.specs.Events.{Declares, Formats, MayFormat, Starts, Stops};
 ghost use Rattle.fam_protocol.specs.Seen.{DriftsAt, Loses, Seen};
 ghost use Rattle.fam_protocol.specs.Steps.{StepHolds, Steps};
-ghost use Rattle.fam_protocol.specs.Way.{AreHosts, Hosts, Known, Run, Settled, Way, alone, no_hosts, settled_at_first};
+ghost use Rattle.fam_protocol.specs.Way.{AreHosts, Hosts, Known, Settled, Way, alone, no_hosts, settled_at_first};
 ghost use Rattle.fam_rules.specs.Place.{line_bytes};
 
 /// Every image of at most 1 TiB, whatever it holds, is the beginning of a run: before any host is declared and

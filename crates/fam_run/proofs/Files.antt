@@ -8,7 +8,7 @@ use Rattle.std.proofs.lemmas.List.Elements.{All-get_or}
 use Rattle.std.proofs.lemmas.Option.{same_Some, slice_get_cases}
 use Rattle.fam_base.specs.declared.cmd.Cmd.{Cmd}
 use Rattle.fam_base.specs.declared.cmd.Attr.{Attr}
-use Rattle.fam_base.specs.declared.cmd.Cmd.TheVariants.{Logplay, Mkdir, Fsck}
+use Rattle.fam_base.specs.declared.cmd.Cmd.TheVariants.{Mkdir, Fsck}
 use Rattle.fam_base.specs.Paths.{is_path}
 use Rattle.fam_base.specs.declared.line.LineNo.{LineNo}
 use Rattle.fam_base.specs.declared.entry.Params.{Params}
@@ -43,8 +43,9 @@ use Rattle.fam_tasks.specs.declared.answer.Answer.{Answer}
 use Rattle.fam_tasks.specs.declared.answer.Answer.TheVariants.{NotYet}
 use Rattle.fam_tasks.specs.declared.answer.Turn.TheVariants.{Done}
 use Rattle.fam_tasks.specs.Answers.{reply_of}
+use Rattle.fam_rules.specs.Reports.{is_file}
 use Rattle.fam_tasks.specs.Sound.{IsServed, most_lines}
-use Rattle.fam_tasks.specs.Tells.{Tells, TellsUnless, file_at, is_file, meets_file, tells_file}
+use Rattle.fam_tasks.specs.Tells.{Tells, TellsUnless, file_at, meets_file, tells_file}
 use Rattle.fam_run.specs.Files.{IsDue, files_in, meets_a_file, meets_by, meets_in}
 use Rattle.fam_run.specs.Run.{EndsBy, HasEnded, IsPlain, Ran, fault_of}
 
@@ -225,9 +226,6 @@ run_due image me cmd given told enough most normal served command no_fault ran =
     (subst (λ (o : Option LineNo). EndsBy o cmd me image given told) no_fault ran)
 
 -- Commands.
-
-pub playing_command : IsCommand Logplay
-playing_command = record { wish = λ w is. absurd (cc); content = tt }
 
 -- a directory is to be made
 pub directory_command : (path : List ℕ) (attr : Attr) → IsTrue (is_path path) → IsAttr attr → IsCommand (Mkdir path attr)

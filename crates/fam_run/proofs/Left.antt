@@ -26,8 +26,9 @@ use Rattle.fam_machine.specs.declared.op.Place.TheVariants as at
 use Rattle.fam_machine.specs.Stands.{task_after}
 use Rattle.fam_machine.specs.Task.{Task}
 use Rattle.fam_machine.specs.Turns.{Turn, Goes, Marks, Finds, Writes, Ends, turn_at, magic_turn, super_turn, host_turn, host_refusal, header_turn, gate_turn, finds_or_goes, with_gate, slot_or_decide, check_turn, slot_turn, join_turn, decide_turn, wish_turn, append_turn, line_turn, word_turn, with_word, slot_or_gate}
+use Rattle.fam_rules.specs.Reports.{is_file}
 use Rattle.fam_tasks.specs.Sound.{IsServed, IsLine, IsSoundAt}
-use Rattle.fam_tasks.specs.Tells.{file_at, is_file, tells_file}
+use Rattle.fam_tasks.specs.Tells.{file_at, tells_file}
 use Rattle.fam_run.specs.Run.{IsPlain}
 
 -- how many operations may still come behind the loads of superblock and header, at most: the log has no more slots

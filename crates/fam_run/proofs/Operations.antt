@@ -11,7 +11,7 @@ use Rattle.fam_machine.specs.declared.op.Place.{Place}
 use Rattle.fam_machine.specs.declared.op.Place.TheVariants as at
 use Rattle.fam_machine.specs.Caches.{Cache, cell_at, cell_changed}
 use Rattle.fam_machine.specs.OneLine.{brought, current, failed_send, words_of}
-use Rattle.fam_machine.specs.Operations.{Machine, operated, given, failed, not_sent}
+use Rattle.fam_machine.specs.Operations.{Machine, operated, given, failed, not_sent, op_line}
 use Rattle.fam_machine.specs.Task.{Task, op_at, op_of}
 use Rattle.fam_machine.specs.Turns as turns
 use Rattle.fam_machine.specs.Turns.{turn_of}
@@ -19,7 +19,7 @@ use Rattle.fam_machine.proofs.CacheLemmas.{cell_at-with_cell_same}
 use Rattle.fam_cache.specs.Effects.{FailsTo, FromMemory}
 use Rattle.fam_tasks.specs.declared.answer.Turn.{Turn}
 use Rattle.fam_tasks.specs.Tells.{Tells, TellsUnless, file_at, is_digest, meets_file}
-use Rattle.fam_run.specs.Operation.{HasTurned, HasFailed, line_of}
+use Rattle.fam_run.specs.Operation.{HasTurned, HasFailed}
 
 -- only a Digest meets a file
 no_file_at : (place : Place) (task : Task) → is_digest (op_at task place) ≡ false → file_at place task ≡ false
@@ -71,9 +71,9 @@ loaded task new m line k value turn told held is from reads same tells =
     }
 
 -- a send that fails
-send_failed : (task : Task) (m : Machine) (line : LineNo) (op : Op) (told : Option Image) (held : Cache) → op ≡ op_of task → line_of op ≡ Some line → ((through : ℕ) → failed through op m ≡ not_sent through line.0 m) → FailsTo line.0 (λ through memory. failed_send through memory (cell_at m.cache line.0)) m.image told → held ≡ m.cache → HasFailed task m line task told held
+send_failed : (task : Task) (m : Machine) (line : LineNo) (op : Op) (told : Option Image) (held : Cache) → op ≡ op_of task → op_line op ≡ Some line → ((through : ℕ) → failed through op m ≡ not_sent through line.0 m) → FailsTo line.0 (λ through memory. failed_send through memory (cell_at m.cache line.0)) m.image told → held ≡ m.cache → HasFailed task m line task told held
 send_failed task m line op told held is at sends fails same = record {
-  line = ap line_of (sym is) ∙ at;
+  line = ap op_line (sym is) ∙ at;
   through = fails.through;
   fits = fails.fits;
   left = with_line line.0 fails.words m.image;

@@ -28,7 +28,10 @@ use Rattle.fam_tasks.specs.Sound.{IsSound, IsWithin}
 use Rattle.fam_tasks.specs.Tells.{Replies, TellsUnless, meets_file}
 use Rattle.fam_run.specs.declared.operation.Outcome.{Outcome}
 use Rattle.fam_run.specs.declared.operation.Outcome.TheVariants.{Turned, Failed}
-use Rattle.fam_run.specs.Operation.{Did, HasTurned, HasFailed, IsNoFault, KeepsLines, OnTurn, ended}
+use Rattle.fam_run.specs.Operation.{Did, HasTurned, HasFailed, IsNoFault, IsOfMemory, KeepsLines, OnFault, OnTurn, ended}
+use Rattle.fam_run.specs.declared.reading.Reading.{Reading}
+use Rattle.fam_run.specs.declared.reading.Reading.TheVariants as reading
+use Rattle.fam_run.specs.Reading.{Around, HasOperated, OnOutcome}
 use Rattle.fam_run.specs.Run.{HasEnded, HasStopped, IsPlain, Ran, Reached, Running, fault_of}
 use Rattle.fam_run.proofs.Left.{Kept, kept, left}
 
@@ -55,15 +58,15 @@ goes_on false (Writes seq e t) turn new on tells = record { no_file = refl; next
 goes_on false (Ends reply) turn new on tells = absurd (no_reply turn reply on tells)
 
 -- a task that goes on comes nearer to its end
-pub kept_on : (task new : Task) (outcome : Outcome) → ended outcome ≡ None → IsSound task → OnTurn task outcome new → Kept (left task) task new
-kept_on task new (Failed line) on sound went = absurd cc
-kept_on task new (Turned turn) on sound went =
+pub kept_on : (held : Cache) (task new : Task) (outcome : Outcome) → ended outcome ≡ None → IsSound task → OnTurn task held outcome new → Kept (left task) task new
+kept_on held task new (Failed line) on sound went = absurd cc
+kept_on held task new (Turned turn) on sound went =
     let so : GoesOn (meets_file task) (turn_of task (given_by (op_of task) went.word)) new =
     goes_on (meets_file task) (turn_of task (given_by (op_of task) went.word)) turn new on went.tells in
     kept task new (unwrap_or (given_by (op_of task) went.word) 0) sound.served sound.stands so.no_file so.next
 
-pub lines_kept : (task new : Task) (outcome : Outcome) → IsSound task → OnTurn task outcome new → KeepsLines outcome task new
-lines_kept task new outcome sound went on = (kept_on task new outcome on sound went).lines
+pub lines_kept : (held : Cache) (task new : Task) (outcome : Outcome) → IsSound task → OnTurn task held outcome new → KeepsLines outcome task new
+lines_kept held task new outcome sound went on = (kept_on held task new outcome on sound went).lines
 
 -- the line of the operation, in an image of as many lines
 inside_by : (op : Op) (lines : ℕ) (image : Image) → length image ≡ lines → IsWithin lines op → IsInside op image
@@ -78,7 +81,7 @@ inside_by Digest lines image count within = tt
 machine_of : Image → Cache → Machine
 machine_of image cache = record { image = image; cache = cache }
 
-pub running_on : (cmd : Cmd) (me : List ℕ) (image : Image) (task new : Task) (held after : Cache) (told now : Option Image) (outcome : Outcome) → ended outcome ≡ None → IsSound task → OnTurn task outcome new → IsWithin task.lines (op_of task) → IfTold told (λ (i : Image). length i ≡ task.lines) → IfTold told (λ (i : Image). Did task (record { image = i; cache = held }) outcome new now after) → Running cmd me image task held told → Running cmd me image new after now
+pub running_on : (cmd : Cmd) (me : List ℕ) (image : Image) (task new : Task) (held after : Cache) (told now : Option Image) (outcome : Outcome) → ended outcome ≡ None → IsSound task → OnTurn task after outcome new → IsWithin task.lines (op_of task) → IfTold told (λ (i : Image). length i ≡ task.lines) → IfTold told (λ (i : Image). Did task (record { image = i; cache = held }) outcome new now after) → Running cmd me image task held told → Running cmd me image new after now
 running_on cmd me image task new held after told now (Failed line) on sound went within count did run = absurd cc
 running_on cmd me image task new held after told now (Turned turn) on sound went within count did run =
     let m : Machine = record { image = run.now; cache = held } in
@@ -91,7 +94,7 @@ running_on cmd me image task new held after told now (Turned turn) on sound went
       now = (operated (op_of task) m).image;
       came = subst (λ (c : Cache). Came cmd me image new (with_given run.words (given (op_of task) m)) (run.made + 1) (record { image = (operated (op_of task) m).image; cache = c })) (sym done.cache)
           (goes run.came inside so.next);
-      plain = (kept_on task new (Turned turn) on sound went).plain run.plain;
+      plain = (kept_on after task new (Turned turn) on sound went).plain run.plain;
       told_is = done.image;
     }
 
@@ -162,3 +165,19 @@ not_begun cmd me image task lines held told start count empty is = record {
   plain = subst IsPlain (sym start) (All-nil (λ (e : Entry). e.kind ≡ Directory));
   told_is = is;
 }
+
+-- A task that reads.
+
+pub read_goes : (a : Around) (r : Reading) → r ≡ reading.On → OnOutcome r (λ outcome. IfTold a.told (λ image. Did a.task (record { image = image; cache = a.old }) outcome a.next a.left a.new)) → OnOutcome r (λ outcome. OnTurn a.task a.new outcome a.next)
+    → OnOutcome r (λ outcome. OnFault outcome a.before a.now) → OnOutcome r (IsOfMemory a.size) → HasOperated a None
+read_goes a reading.On is did turns failed line = record { outcome = Turned Go; ends = refl; did = did; turns = turns; own = λ at e. cc; failed = failed; line = line }
+read_goes a (reading.Failed at) is did turns failed line = absurd cc
+read_goes a reading.Due is did turns failed line = absurd cc
+
+pub read_fails : (a : Around) (r : Reading) (at : LineNo) → r ≡ reading.Failed at → OnOutcome r (λ outcome. IfTold a.told (λ image. Did a.task (record { image = image; cache = a.old }) outcome a.next a.left a.new)) → OnOutcome r (λ outcome. OnTurn a.task a.new outcome a.next)
+    → OnOutcome r (λ outcome. OnFault outcome a.before a.now) → OnOutcome r (IsOfMemory a.size) → HasOperated a (Some (answer.MediaFault at))
+read_fails a reading.On at is did turns failed line = absurd cc
+read_fails a (reading.Failed l) at is did turns failed line =
+    let same : l ≡ at = cc in
+    record { outcome = Failed l; ends = ap (λ (l : LineNo). Some (answer.MediaFault l)) same; did = did; turns = turns; own = tt; failed = failed; line = line }
+read_fails a reading.Due at is did turns failed line = absurd cc

@@ -1,11 +1,14 @@
 -- What one operation of a task does to its task, to its host's cache and to memory.
-use Rattle.std.specs.Prelude.{ℕ, ◌≡◌, ◌≢◌, ◌<◌, ⊤, Option, Some, None}
+use Rattle.std.specs.Prelude.{ℕ, ◌≡◌, ◌≢◌, ◌<◌, ⊤, Option, Some, None, slice_index}
 use Rattle.fam_base.specs.Image.{Image}
 use Rattle.fam_base.specs.declared.line.LineNo.{LineNo}
+use Rattle.fam_cache.specs.Effects.{FromMemory}
+use Rattle.fam_machine.specs.declared.cell.Cell.TheVariants.{Absent}
 use Rattle.fam_machine.specs.declared.op.Op.{Op}
 use Rattle.fam_machine.specs.declared.op.Op.TheVariants.{Load, Store, WriteBack, Invalidate, Digest}
-use Rattle.fam_machine.specs.Caches.{Cache}
-use Rattle.fam_machine.specs.Operations.{Machine, operated, given, failed}
+use Rattle.fam_machine.specs.Caches.{Cache, cell_at, cell_changed, with_cell}
+use Rattle.fam_machine.specs.OneLine.{brought, cleaned, stored, words_of}
+use Rattle.fam_machine.specs.Operations.{Machine, operated, given, failed, op_line}
 use Rattle.fam_machine.specs.Stands.{given_by}
 use Rattle.fam_machine.specs.Task.{Task, op_of}
 use Rattle.fam_machine.specs.Turns.{turn_of}
@@ -19,14 +22,6 @@ use Rattle.fam_tasks.specs.Tells.{TellsUnless, meets_file}
 use Rattle.fam_run.specs.declared.operation.Outcome.{Outcome}
 use Rattle.fam_run.specs.declared.operation.Outcome.TheVariants.{Turned, Failed}
 
--- the line that an operation asks for
-abbrev pub line_of : Op → Option LineNo
-line_of (Load line word) = Some line
-line_of (Store line word value) = Some line
-line_of (WriteBack line) = Some line
-line_of (Invalidate line) = Some line
-line_of Digest = None
-
 -- the operation was done on this machine: memory and cache are what it leaves, and the task went on to `new`, saying `turn`
 pub record HasTurned (task : Task) (m : Machine) (turn : Turn) (new : Task) (told : Option Image) (held : Cache) : Type 0 where
   pub image : told ≡ Some (operated (op_of task) m).image
@@ -35,7 +30,7 @@ pub record HasTurned (task : Task) (m : Machine) (turn : Turn) (new : Task) (tol
 
 -- memory failed in the operation, at its line, and some words of a send came through. Task and cache are as before
 pub record HasFailed (task : Task) (m : Machine) (at : LineNo) (new : Task) (told : Option Image) (held : Cache) : Type 0 where
-  pub line : line_of (op_of task) ≡ Some at
+  pub line : op_line (op_of task) ≡ Some at
   pub through : ℕ
   pub fits : through < masks
   pub left : Image
@@ -49,15 +44,37 @@ abbrev pub Did : Task → Machine → Outcome → Task → Option Image → Cach
 Did task m (Turned turn) new told held = HasTurned task m turn new told held
 Did task m (Failed line) new told held = HasFailed task m line new told held
 
--- the task goes on by some word, as after a load that gave it
-pub record HasGone (task : Task) (turn : Turn) (new : Task) : Type 0 where
+-- a load gives the word of the copy that the host has then
+abbrev pub IsGiven : Op → Cache → ℕ → Type 0
+IsGiven (Load line k) held word = word ≡ slice_index (words_of (cell_at held line.0)) k
+IsGiven (Store line k value) held word = ⊤
+IsGiven (WriteBack line) held word = ⊤
+IsGiven (Invalidate line) held word = ⊤
+IsGiven Digest held word = ⊤
+
+-- the task goes on by the word that the operation gave
+pub record HasGone (task : Task) (held : Cache) (turn : Turn) (new : Task) : Type 0 where
   pub word : ℕ
+  pub given : IsGiven (op_of task) held word
   pub tells : TellsUnless (meets_file task) (turn_of task (given_by (op_of task) word)) turn new
 
 -- a task goes on, and after a failure it stays
-abbrev pub OnTurn : Task → Outcome → Task → Type 0
-OnTurn task (Turned turn) new = HasGone task turn new
-OnTurn task (Failed line) new = new ≡ task
+abbrev pub OnTurn : Task → Cache → Outcome → Task → Type 0
+OnTurn task held (Turned turn) new = HasGone task held turn new
+OnTurn task held (Failed line) new = new ≡ task
+
+-- what an operation leaves of the cache: of its line what the machine's table has, for the words that memory has there
+abbrev pub LeavesCache : Op → Option Image → Cache → Cache → Type 0
+LeavesCache (Load line k) told old new = FromMemory told line.0 (λ memory. new ≡ cell_changed line.0 (brought memory) old)
+LeavesCache (Store line k value) told old new = FromMemory told line.0 (λ memory. new ≡ cell_changed line.0 (stored k value memory) old)
+LeavesCache (WriteBack line) told old new = new ≡ cell_changed line.0 cleaned old
+LeavesCache (Invalidate line) told old new = new ≡ with_cell line.0 Absent old
+LeavesCache Digest told old new = new ≡ old
+
+-- after a failure the cache is as before
+abbrev pub OnCache : Outcome → Op → Option Image → Cache → Cache → Type 0
+OnCache (Turned turn) op told old new = LeavesCache op told old new
+OnCache (Failed line) op told old new = new ≡ old
 
 -- no task answers that memory failed
 abbrev pub IsNoFault : Outcome → Type 0

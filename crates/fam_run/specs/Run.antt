@@ -6,7 +6,7 @@ use Rattle.fam_base.specs.declared.cmd.Cmd.{Cmd}
 use Rattle.fam_base.specs.declared.entry.Entry.{Entry}
 use Rattle.fam_base.specs.declared.entry.Kind.TheVariants.{Directory}
 use Rattle.fam_machine.specs.Caches.{Cache}
-use Rattle.fam_machine.specs.Operations.{Machine, operated, failed}
+use Rattle.fam_machine.specs.Operations.{Machine, operated, failed, op_line}
 use Rattle.fam_machine.specs.Solo.{Came, IsInside, turn_on}
 use Rattle.fam_machine.specs.Task.{Task, op_of}
 use Rattle.fam_media.specs.Outside.{masks}
@@ -14,7 +14,6 @@ use Rattle.fam_tasks.specs.declared.answer.Answer.{Answer}
 use Rattle.fam_tasks.specs.declared.answer.Answer.TheVariants as answer
 use Rattle.fam_tasks.specs.declared.answer.Turn.TheVariants.{Done}
 use Rattle.fam_tasks.specs.Tells.{TellsUnless, meets_file}
-use Rattle.fam_run.specs.Operation.{line_of}
 
 -- a task has read no file: each slot that it took is a directory's
 abbrev pub IsPlain : Task → Type 0
@@ -66,7 +65,7 @@ pub record HasEnded (cmd : Cmd) (me : List ℕ) (image : Image) (given : Answer)
 -- memory failed in the operation that came next, at its line, and some words of a send came through
 pub record HasBroken (cmd : Cmd) (me : List ℕ) (image : Image) (at : LineNo) (told : Option Image) : Type 0 where
   pub reached : Reached cmd me image
-  pub line : line_of (op_of reached.task) ≡ Some at
+  pub line : op_line (op_of reached.task) ≡ Some at
   pub through : ℕ
   pub fits : through < masks
   pub broken : Image

@@ -5,6 +5,7 @@
 #![tactic(auto)]
 
 mod operation;
+mod reading;
 mod solo;
 
 pub use operation::{Outcome, operate};

@@ -4,7 +4,7 @@ ghost use Rattle.std.specs.Prelude.{◌≡◌, ◌≤◌, IfOk, OnErr};
 ghost use Rattle.fam_machine.specs.Operations.{Machine};
 ghost use Rattle.fam_machine.specs.Task.{op_of};
 ghost use Rattle.fam_media.specs.Outside.{IfTold};
-ghost use Rattle.fam_run.specs.Operation.{Did, IsNoFault, IsOfMemory, KeepsLines, OnFault, OnTurn};
+ghost use Rattle.fam_run.specs.Operation.{Did, IsNoFault, IsOfMemory, KeepsLines, OnCache, OnFault, OnTurn};
 ghost use Rattle.fam_tasks.specs.Sound.{IsWithin};
 
 use fam_base::{LineNo, OutOfMemory};
@@ -37,8 +37,11 @@ pub fn operate<M: Media>(
     ensures told { IfOk result (λ outcome. IfTold (M.image media.old) (λ image.
         Did task.old (record { image = image; cache = cache.old.lines }) outcome task.new
         (M.image media.new) cache.new.lines)) }
-    // Whatever the image is, the task goes on by some word.
-    ensures turns { IfOk result (λ outcome. OnTurn task.old outcome task.new) }
+    // Whether one is told or not, the cache is what the machine's table makes of the operation's line, and the task goes
+    // on by the word of the copy.
+    ensures cache { IfOk result (λ outcome. OnCache outcome (op_of task.old) (M.image media.old)
+        cache.old.lines cache.new.lines) }
+    ensures turns { IfOk result (λ outcome. OnTurn task.old cache.new.lines outcome task.new) }
     ensures keeps { IfOk result (λ outcome. KeepsLines outcome task.old task.new) }
     // The task doesn't know of faults, and an operation fails only by one.
     ensures own { IfOk result IsNoFault }

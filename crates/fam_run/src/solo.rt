@@ -9,12 +9,15 @@ ghost use Rattle.fam_media.specs.Outside.{IfTold};
 ghost use Rattle.fam_base.specs.Commands.{mode_limit};
 ghost use Rattle.fam_rules.specs.DecideLaws.{IsAttr};
 ghost use Rattle.fam_protocol.specs.Tasks.{IsCommand};
-ghost use Rattle.fam_tasks.specs.Sound.{IsServed};
+ghost use Rattle.fam_tasks.specs.Sound.{IsServed, IsWithin};
 ghost use Rattle.fam_run.specs.Files.{IsDue, meets_a_file};
 ghost use Rattle.fam_run.specs.Operation.{ended};
+ghost use Rattle.fam_run.specs.Reading.{HasOperated};
+ghost use Rattle.fam_machine.specs.Task.{op_of};
 ghost use Rattle.fam_run.specs.Run.{HasStopped, Ran, Running, fault_of};
 
 use crate::operation::{Outcome, operate};
+use crate::reading::{Reading, read_next};
 use fam_base::{Attr, Cmd, OutOfMemory};
 use fam_cache::HostCache;
 use fam_media::Media;
@@ -31,6 +34,39 @@ fn answer_of(outcome: Outcome) -> Option<Answer>
         Outcome::Turned(Turn::Note(_)) => None,
         Outcome::Turned(Turn::Done(answer)) => Some(answer),
         Outcome::Failed(line) => Some(Answer::MediaFault(line)),
+    }
+}
+
+/// Does the next operation of a command that has not answered, and gives the answer with which it ends, if it does.
+#[inline(always)]
+fn go_on<M: Media>(
+    cache: &mut HostCache,
+    task: &mut Task,
+    media: &mut M,
+) -> Result<Option<Answer>, OutOfMemory>
+    requires lines { task.old.lines ≡ M.size media.old }
+
+    ensures operated { IfOk result (HasOperated (record {
+      task = task.old;
+      next = task.new;
+      old = cache.old.lines;
+      new = cache.new.lines;
+      told = M.image media.old;
+      left = M.image media.new;
+      size = M.size media.old;
+      before = M.faults media.old;
+      now = M.faults media.new;
+    })) }
+    ensures within { IsWithin task.old.lines (op_of task.old) }
+    ensures undone { OnErr result (media.new ≡ media.old) }
+
+    ensures size { M.size media.new ≡ M.size media.old }
+    ensures later { M.faults media.old ≤ M.faults media.new }
+{
+    match read_next(cache, task, media)? {
+        Reading::On => Ok(None),
+        Reading::Failed(line) => Ok(Some(Answer::MediaFault(line))),
+        Reading::Due => Ok(answer_of(operate(cache, task, media)?)),
     }
 }
 
@@ -58,7 +94,7 @@ fn finish<M: Media>(
 {
     'operations: loop {
         task.is_sound();
-        if let Some(answer) = answer_of(operate(cache, task, media)?) {
+        if let Some(answer) = go_on(cache, task, media)? {
             return Ok(answer);
         }
         task.is_sound();

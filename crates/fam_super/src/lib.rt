@@ -13,8 +13,9 @@ mod words;
 pub use fam_format::{SuperFault, SuperField};
 pub use hosts::Role;
 pub use master::role;
-pub use read::{is_unit, read_super};
+pub use read::{LOG_LIMIT, is_unit, read_super};
 pub use spell::Super;
+pub use words::MAGIC;
 
 #[cfg(test)]
 mod tests;

@@ -16,7 +16,7 @@ use crate::words::{
 };
 use fam_base::{Line, Params};
 use fam_crc::crc_words;
-use fam_format::{LOG_OFFSET, SuperFault, SuperField, byte_of};
+use fam_format::{LOG_OFFSET, SLOT_BYTES, SuperFault, SuperField, byte_of};
 use uuid::Uuid;
 
 /// The fewest bytes of a unit.
@@ -26,10 +26,7 @@ const LEAST_UNIT: u64 = 4096;
 const MOST_UNIT: u64 = 2_097_152;
 
 /// The most bytes of a log.
-const LOG_LIMIT: u64 = 67_108_864;
-
-/// The bytes of a slot, and of the log before its first slot.
-const SLOT_BYTES: u64 = 512;
+pub const LOG_LIMIT: u64 = 67_108_864;
 
 fn magic_fault(word: u64) -> Option<SuperFault>
     ensures { result ≡ format.magic_fault word }

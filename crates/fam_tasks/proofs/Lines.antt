@@ -9,10 +9,6 @@ use Rattle.fam_super.proofs.Lines.{eight_is}
 pub eight_of : (line part words : List ℕ) (first : ℕ) → line ≡ part → part ≡ slice_range words first (first + 8) → line ≡ slice_range words first (first + 8)
 eight_of line part words first a b = a ∙ b
 
--- a line of as many words as there are is all of them
-pub one_line : (words line : List ℕ) → length words ≡ 8 → line ≡ slice_range words 0 8 → line ≡ words
-one_line words line count is = is ∙ take_all 8 words (omega arith)
-
 -- two lines are all sixteen words
 pub two_lines : (words first second : List ℕ) → length words ≡ 16 → first ≡ slice_range words 0 8 → second ≡ slice_range words 8 16 → eight first ++ eight second ≡ words
 two_lines words first second count a b =

@@ -14,7 +14,8 @@ use Rattle.fam_machine.specs.Turns as turns
 use Rattle.fam_machine.specs.Turns.{turn_at, turn_of, check_turn, slot_turn, join_turn}
 use Rattle.fam_tasks.specs.declared.answer.Turn.{Turn}
 use Rattle.fam_tasks.specs.Sound.{IsServed}
-use Rattle.fam_tasks.specs.Tells.{Tells, TellsUnless, meets_file, file_at, tells_file, is_file}
+use Rattle.fam_tasks.specs.Tells.{Tells, TellsUnless, meets_file, file_at, tells_file}
+use Rattle.fam_rules.specs.Reports.{is_file}
 use Rattle.fam_tasks.proofs.Directories.{bare_joins}
 
 -- the commands that a task can run read slots as entries

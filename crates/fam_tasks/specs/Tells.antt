@@ -1,13 +1,14 @@
 -- How a turn that a call gives tells the one of the definition.
-use Rattle.std.specs.Prelude.{◌≡◌, Bool, true, false, Some, Result, Ok, Err}
+use Rattle.std.specs.Prelude.{◌≡◌, ◌||◌, nat_lt, Bool, true, false, Some, Result, Ok, Err}
 use Rattle.fam_base.specs.declared.entry.Entry.{Entry}
-use Rattle.fam_base.specs.declared.entry.Kind.{Kind}
-use Rattle.fam_base.specs.declared.entry.Kind.TheVariants.{File, Directory}
 use Rattle.fam_format.specs.declared.faults.Reason.{Reason}
 use Rattle.fam_format.specs.Slot.{entry_of}
 use Rattle.fam_rules.specs.Reply.{Reply}
+use Rattle.fam_rules.specs.Reports.{is_file}
 use Rattle.fam_machine.specs.declared.op.Op.{Op}
 use Rattle.fam_machine.specs.declared.op.Op.TheVariants.{Load, Store, WriteBack, Invalidate, Digest}
+use Rattle.fam_machine.specs.declared.op.Part.{Part}
+use Rattle.fam_machine.specs.declared.op.Part.TheVariants as part
 use Rattle.fam_machine.specs.declared.op.Place.{Place}
 use Rattle.fam_machine.specs.declared.op.Place.TheVariants as at
 use Rattle.fam_machine.specs.Task.{Task}
@@ -24,13 +25,13 @@ Replies Go reply = ⊥
 Replies (Note note) reply = ⊥
 Replies (Done answer) reply = reply_of answer ≡ Some reply
 
--- the turn of the definition, and what the call gave and left. The entry that is written is the task's own. Of a task
--- that is done nothing is said
+-- the turn of the definition, and what the call gave and left. Of a task that is done nothing is
+-- said
 abbrev pub Tells : turns.Turn → Turn → Task → Type 0
 Tells (turns.Goes t) turn new = (turn ≡ Go) × (new ≡ t)
 Tells (turns.Marks t) turn new = (turn ≡ Note Mark) × (new ≡ t)
 Tells (turns.Finds n t) turn new = (turn ≡ Note (Found n)) × (new ≡ t)
-Tells (turns.Writes seq e t) turn new = (turn ≡ Note (Writes seq)) × (new ≡ t)
+Tells (turns.Writes seq e t) turn new = (turn ≡ Note (Writes seq e)) × (new ≡ t)
 Tells (turns.Ends reply) turn new = Replies turn reply
 
 -- the operation that thinks
@@ -41,10 +42,18 @@ is_digest (WriteBack line) = false
 is_digest (Invalidate line) = false
 is_digest Digest = true
 
--- no directory
-abbrev pub is_file : Kind → Bool
-is_file File = true
-is_file Directory = false
+-- a slot's part
+abbrev pub is_slot : Part → Bool
+is_slot part.Superblock = false
+is_slot part.Header = false
+is_slot (part.Slot i) = true
+is_slot part.File = false
+
+-- a place at which the next operation leads on among the lines that are read, whatever it gives
+abbrev pub is_reading : Place → Bool
+is_reading (at.Drop part j) = true
+is_reading (at.Word part j k) = nat_lt k 7 || is_slot part
+is_reading place = false
 
 -- a slot reads as a file
 abbrev pub tells_file : Result Entry Reason → Bool

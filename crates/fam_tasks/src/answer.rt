@@ -4,7 +4,7 @@ ghost use Rattle.std.specs.Prelude.{◌≡◌, Some};
 ghost use Rattle.fam_rules.specs.Reply.{BadHeader, NoSuperblock, NotAppended};
 ghost use Rattle.fam_tasks.specs.Answers.{reply_of, IsOfDirectory};
 
-use fam_base::{Kind, LineNo};
+use fam_base::{Entry, Kind, LineNo};
 use fam_format::{LogFault, LogField, Reason, SuperFault, SuperField};
 use fam_rules::Refused;
 use fam_tree::Tree;
@@ -17,8 +17,8 @@ pub enum TaskNote {
     Mark,
     /// A command that appends has found so many entries.
     Found(u64),
-    /// It goes on to append an entry, which `Task::entry` gives, under this number.
-    Writes(u64),
+    /// It goes on to append this entry under this number.
+    Writes(u64, Entry),
 }
 
 /// What came of an operation.

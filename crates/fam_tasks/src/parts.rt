@@ -17,15 +17,9 @@ ghost use Rattle.fam_tasks.specs.Sound.{IsServed};
 use crate::buffer::Buffer;
 use fam_base::{Cmd, Entry, LineNo, Params};
 use fam_entry::{LogFault, Reason, read_entry, read_log};
-use fam_format::{LOG_LINE, SuperFault};
-use fam_super::read_super;
+use fam_format::{LOG_LINE, SLOT_LINES, SuperFault};
+use fam_super::{MAGIC, read_super};
 use uuid::Uuid;
-
-/// Word 0 of line 0: the bytes `famfs-01`.
-pub(crate) const MAGIC: u64 = 0x3130_2d73_666d_6166;
-
-/// Lines of a slot, and of header and gate with the room behind them.
-pub(crate) const SLOT_LINES: u64 = 8;
 
 /// Line `j` of slot `i`.
 pub(crate) fn line_of_slot(params: &Params, i: u64, j: u64) -> LineNo

@@ -11,7 +11,7 @@ ghost use Rattle.fam_machine.specs.Turns.{turn_of};
 ghost use Rattle.fam_tasks.specs.declared.answer.Answer.TheVariants.{MediaFault};
 ghost use Rattle.fam_tasks.specs.declared.answer.Turn.TheVariants.{Done, Go};
 ghost use Rattle.fam_tasks.specs.Sound.{most_lines, IsLine, IsServed, IsSound, IsSoundAt, IsWithin};
-ghost use Rattle.fam_tasks.specs.Tells.{Tells, TellsUnless, is_digest, meets_file};
+ghost use Rattle.fam_tasks.specs.Tells.{Tells, TellsUnless, is_digest, is_reading, meets_file};
 
 mod digests;
 mod loads;
@@ -144,13 +144,6 @@ impl Task {
         }
     }
 
-    /// The entry that the task goes on to append, once it has noted so.
-    pub fn entry(&self) -> Option<Entry>
-        ensures { result ≡ self.now.entry }
-    {
-        self.entry
-    }
-
     /// Tells that the operation was done, with the word of a load and None otherwise. The operation isn't Digest.
     pub fn feed(&mut self, word: Option<u64>) -> Turn
         requires { is_digest (op_of self.old) ≡ false }
@@ -180,6 +173,42 @@ impl Task {
             Place::SendSlot { line } => self.send_slot(line),
             Place::StoreGate => self.go(Place::SendGate),
             Place::SendGate => Turn::Done(Answer::Ok(self.gate)),
+        }
+    }
+
+    /// Whether the task only reads on among the lines that it reads, once the next operation is done.
+    #[inline(always)]
+    pub fn reads_on(&self) -> bool
+        ensures { result ≡ is_reading self.now.place }
+    {
+        match self.place {
+            Place::Drop { .. } => true,
+            Place::Word { part, word, .. } => word < LAST_WORD || matches!(part, Part::Slot(_)),
+            _ => false,
+        }
+    }
+
+    /// Does what `feed` does, of a task that reads on: its turn is to go on.
+    #[inline(always)]
+    pub fn read_on(&mut self, word: Option<u64>)
+        requires { is_reading self.old.place ≡ true }
+        ensures { Tells (turn_of self.old word) Go self.new }
+    {
+        self.is_sound();
+        match self.place {
+            Place::Drop { part, line } => {
+                self.place = Place::Word {
+                    part,
+                    line,
+                    word: 0,
+                };
+            }
+            Place::Word {
+                part,
+                line,
+                word: k,
+            } => self.load_on(part, line, k, word.unwrap_or(0)),
+            _ => unreachable!(),
         }
     }
 

@@ -103,7 +103,7 @@ fn a_mkdir_on_an_empty_log_has_106_operations(rt: HostRuntime) -> Result<(), Fai
     let wanted_notes = [
         (30, TaskNote::Mark),
         (31, TaskNote::Found(0)),
-        (32, TaskNote::Writes(0)),
+        (32, TaskNote::Writes(0, entry)),
     ];
     assert!(rt; notes.as_slice() == wanted_notes.as_slice());
     assert!(rt; matches!(answer, Some(Answer::Ok(0))));
@@ -123,7 +123,7 @@ fn a_mkdir_appends_behind_the_entries_that_it_read(rt: HostRuntime) -> Result<()
     let wanted_notes = [
         (30, TaskNote::Mark),
         (31, TaskNote::Found(1)),
-        (105, TaskNote::Writes(1)),
+        (105, TaskNote::Writes(1, entry)),
     ];
     assert!(rt; notes.as_slice() == wanted_notes.as_slice());
     assert!(rt; matches!(answer, Some(Answer::Ok(1))));

@@ -1,4 +1,5 @@
 pub mod Views
 pub mod Keyed
+pub mod Boxed
 pub mod TakenBack
 pub mod Words

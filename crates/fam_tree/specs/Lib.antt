@@ -1,3 +1,4 @@
+pub mod Boxed
 pub mod Lines
 pub mod NextExtent
 pub mod Faults

@@ -8,6 +8,7 @@ ghost use Rattle.std.specs.FinMap as map;
 ghost use Rattle.fam_base.specs.PathOrder.{path_cmp};
 ghost use Rattle.fam_format.specs.Tree.{with_entry, tree_fault};
 ghost use Rattle.fam_tree.specs.Faults.{reason_of};
+ghost use Rattle.fam_tree.specs.Boxed.{entries_in};
 ghost use Rattle.fam_tree.specs.Iter.{tree_iter_rest};
 ghost use Rattle.fam_tree.specs.Keyed.{AreKeyed, IsKeyed, paths_of};
 
@@ -18,10 +19,12 @@ use std::collections::BTreeMap;
 use std::collections::btree_map::Values;
 use std::marker::Model;
 
-/// The entries of a file system by their paths.
+/// The entries of a file system by their paths. Each lies alone on the heap, so that to make room among paths moves no
+/// entry.
 #[derive(Drop)]
 pub struct Tree {
-    entries: BTreeMap<Path, Entry>,
+    alloc: Global,
+    entries: BTreeMap<Path, Box<Entry>>,
 }
 
 impl Model for Tree {
@@ -31,32 +34,40 @@ impl Model for Tree {
     ghost use Rattle.std.specs.Coded.{coded_list, coded_ℕ};
     ghost use Rattle.fam_base.specs.contracts.entry.Entry as entry_type;
     ghost use Rattle.fam_tree.specs.Keyed.{AreKeyed};
+    ghost use Rattle.fam_tree.specs.Boxed.{entries_in};
 
     ghost Value = { map.FinMap path_cmp Entry };
 
     ghost coded = { map.code (coded_list coded_ℕ) entry_type.the_row.coded };
 
-    ghost view = { λ t. map.from_entries t.entries.entries };
+    ghost view = { λ t. map.from_entries (entries_in t.entries.entries) };
 
-    ghost invariant = { λ t. AreKeyed t.entries.entries };
+    ghost invariant = { λ t. AreKeyed (entries_in t.entries.entries) };
 }
 
-fn put(held: &mut BTreeMap<Path, Entry>, entry: &Entry) -> Result<(), OutOfMemory>
-    ensures added { OnOk result (map.from_entries {R = path_cmp} held.new.entries
-        ≡ with_entry (map.from_entries held.old.entries) entry.now) }
-    ensures keyed { AreKeyed held.old.entries → AreKeyed held.new.entries }
+fn put(
+    held: &mut BTreeMap<Path, Box<Entry>>,
+    alloc: Global,
+    entry: &Entry,
+) -> Result<(), OutOfMemory>
+    ensures added { OnOk result (map.from_entries {R = path_cmp} (entries_in held.new.entries)
+        ≡ with_entry (map.from_entries (entries_in held.old.entries)) entry.now) }
+    ensures keyed { AreKeyed (entries_in held.old.entries) → AreKeyed (entries_in held.new.entries) }
     ensures same { OnErr result (held.new.entries ≡ held.old.entries) }
 {
-    match held.insert(entry.path, *entry) {
+    let Ok(boxed) = Box::new(alloc, *entry) else {
+        return Err(OutOfMemory);
+    };
+    match held.insert(entry.path, boxed) {
         Ok(_) => Ok(()),
         Err(_) => Err(OutOfMemory),
     }
 }
 
-fn drop_at(held: &mut BTreeMap<Path, Entry>, path: &Path)
-    ensures gone { map.from_entries {R = path_cmp} held.new.entries
-        ≡ map.remove (map.from_entries held.old.entries) path.now }
-    ensures keyed { AreKeyed held.old.entries → AreKeyed held.new.entries }
+fn drop_at(held: &mut BTreeMap<Path, Box<Entry>>, path: &Path)
+    ensures gone { map.from_entries {R = path_cmp} (entries_in held.new.entries)
+        ≡ map.remove (map.from_entries (entries_in held.old.entries)) path.now }
+    ensures keyed { AreKeyed (entries_in held.old.entries) → AreKeyed (entries_in held.new.entries) }
 {
     let _ = held.remove(path);
 }
@@ -67,6 +78,7 @@ impl Tree {
         ensures { result ≡ map.empty }
     {
         Tree {
+            alloc,
             entries: BTreeMap::new(alloc),
         }
     }
@@ -76,7 +88,7 @@ impl Tree {
         ensures value { result ≡ map.get self.now path.now }
         ensures own { IfSome result (λ entry. entry.path ≡ path.now) }
     {
-        self.entries.get(path).copied()
+        self.entry_at(path).copied()
     }
 
     /// How many entries there are.
@@ -101,9 +113,13 @@ impl Tree {
 
     /// The entry at a path, which isn't copied.
     fn entry_at(&self, path: &Path) -> Option<&Entry>
-        ensures { option_map (λ entry. entry.now) result ≡ map.get self.now path.now }
+        ensures value { option_map (λ entry. entry.now) result ≡ map.get self.now path.now }
+        ensures own { IfSome result (λ entry. entry.now.path ≡ path.now) }
     {
-        self.entries.get(path)
+        match self.entries.get(path) {
+            Some(entry) => Some(&**entry),
+            None => None,
+        }
     }
 
     fn fault(&self, entry: &Entry) -> Option<ApplyFault>
@@ -135,7 +151,7 @@ impl Tree {
         if let Some(fault) = self.fault(entry) {
             return Err(fault);
         }
-        match put(&mut self.entries, entry) {
+        match put(&mut self.entries, self.alloc, entry) {
             Ok(()) => Ok(()),
             Err(_) => Err(ApplyFault::OutOfMemory),
         }
@@ -153,9 +169,8 @@ impl Tree {
     pub fn copy(&self, alloc: Global) -> Result<Tree, OutOfMemory>
         ensures { IfOk result (λ tree. tree ≡ self.now) }
     {
-        let _ = alloc;
         match self.entries.clone() {
-            Ok(entries) => Ok(Tree { entries }),
+            Ok(entries) => Ok(Tree { alloc, entries }),
             Err(_) => Err(OutOfMemory),
         }
     }
@@ -164,7 +179,7 @@ impl Tree {
 /// The entries of a tree, in byte order of their paths.
 #[derive(Drop)]
 pub struct TreeIter<'a> {
-    entries: Values<'a, Path, Entry>,
+    entries: Values<'a, Path, Box<Entry>>,
 }
 
 impl<'a> Iterator for TreeIter<'a> {
@@ -175,6 +190,9 @@ impl<'a> Iterator for TreeIter<'a> {
     ghost remaining = { item_count tree_iter_rest };
 
     fn next(&mut self) -> Option<&'a Entry> {
-        self.entries.next()
+        match self.entries.next() {
+            Some(entry) => Some(&**entry),
+            None => None,
+        }
     }
 }

@@ -22,6 +22,14 @@ use Rattle.famfs.specs.Due.{IsTaskStopped, TaskDue}
 use Rattle.famfs.specs.Ends.{Leaves, Passage}
 use Rattle.famfs.specs.Says.{AnswerSays, IsDone, TaskSays}
 
+-- nothing was done
+not_begun : (image : Image) (me : List ℕ) (c : Cmd) → IsTaskStopped image me c image
+not_begun image me c =
+    inl (record { reached = record { task = starting c me (length image); words = []; made = 0; machine = fresh image; came = starts; plain = All-nil (λ (e : Entry). e.kind ≡ Directory) }; left = refl })
+
+pub untouched_stopped : (media : Passage) (me : List ℕ) (c : Cmd) → media.image_now ≡ media.image → Leaves media (λ image left. IsTaskStopped image me c left)
+untouched_stopped media me c same image is = (image, same ∙ is, not_begun image me c)
+
 module _ (media : Passage) (me : List ℕ) (c : Cmd) (count : IfTold media.image (λ image. length image ≡ media.size)) where
   -- the image is large enough
   enough_due : (image left : Image) (a : Answer) → least_lines ≤ length image → IsDue (meets_a_file image me c) image me c a (Some left) → TaskDue (nat_lt (length image) least_lines) image me c (said.Answered a) left
@@ -83,7 +91,7 @@ module _ (media : Passage) (me : List ℕ) (c : Cmd) (count : IfTold media.image
         same ∙ is,
         record {
           due = small image lines (nat_lt (length image) least_lines) refl;
-          stopped = inl (record { reached = record { task = starting c me (length image); words = []; made = 0; machine = fresh image; came = starts; plain = All-nil (λ (e : Entry). e.kind ≡ Directory) }; left = refl });
+          stopped = not_begun image me c;
         },
       )
     where

@@ -1,5 +1,5 @@
 -- What making a file system says, by its end.
-use Rattle.std.proofs.Common.{◌≡◌, ℕ, ◌*◌, Bool, true, false, List, length, map, Option, Some, None, Result, Ok, Err, inl, inr, refl, sym, ap, subst, ◌∙◌}
+use Rattle.std.proofs.Common.{◌≡◌, ◌≢◌, ℕ, ◌*◌, Bool, true, false, List, length, map, Option, Some, None, option_map, Result, Ok, Err, refl, sym, ap, subst, ◌∙◌}
 use Rattle.std.specs.Prelude.{⊤, nat_lt, if◌then◌else◌}
 use Rattle.std.specs.FinMap as finmap
 use Rattle.fam_base.specs.declared.entry.Params.{Params}
@@ -21,9 +21,11 @@ use Rattle.fam_rules.specs.Place.{line_bytes}
 use Rattle.fam_rules.specs.Written.{formatted}
 use Rattle.famfs.specs.declared.said.Said.{Said}
 use Rattle.famfs.specs.declared.said.Said.TheVariants as said
-use Rattle.famfs.specs.Due.{IsMkfsBroken, IsMkfsDue, MadeDue, MkfsDue, said_of_end}
+use Rattle.famfs.specs.Due.{IsMkfsBroken, IsMkfsDue, MadeDue, MkfsDue, early_of, refused_said, said_of_end}
 use Rattle.famfs.specs.Ends.{Leaves, Passage}
-use Rattle.famfs.specs.Says.{IsCutShort, IsMadeOf, MkfsSays, MkfsWants}
+use Rattle.famfs.specs.Said.{said_status}
+use Rattle.famfs.specs.Says.{IsCutShort, MkfsSays}
+use Rattle.famfs.specs.declared.status.Status.TheVariants.{MediaFault}
 
 -- nothing stands in the way where no superblock reads
 free_due : (r : Result Params SuperFault) (p : Params) (image left : Image) (shown : Said) → goes_on false r ≡ true → shown ≡ said.Made p → left ≡ formatted image p → MadeDue r p image shown left
@@ -112,7 +114,7 @@ module _ (media : Passage) (me : List ℕ) (unit log : ℕ) (fs : List ℕ) (cou
     }
 
     taken : (e : MkfsEnd) → Ends (asked unit log fs me media.size) false media.size (seen media.image finmap.empty) (seen media.image_now now) media.faults media.faults_now e → MkfsSays media me unit log fs (said_of_end e)
-    taken (end.Made p) (same, h) = subst (λ (p : Params). Leaves media (λ image left. IsMkfsDue image me unit log fs (said.Made p) left)) (sym same) (made h)
+    taken (end.Made p) (same, h) = (same, subst (λ (p : Params). Leaves media (λ image left. IsMkfsDue image me unit log fs (said.Made p) left)) (sym same) (made h))
     taken (end.HasSuper id) h = held id h
     taken (end.Failed line) h = cut line h
     taken (end.BadGeometry u l) h = absurd h
@@ -141,28 +143,28 @@ module _ (media : Passage) (me : List ℕ) (unit log : ℕ) (fs : List ℕ) (cou
       go None is = taken now is e (subst (λ (c : Cache). Ends (asked unit log fs me media.size) false media.size (seen media.image c) (seen media.image_now now) media.faults media.faults_now e) empty (ends is))
       go (Some r) is = subst (λ (e : MkfsEnd). MkfsSays media me unit log fs (said_of_end e)) (sym (refuses r is)) (refused_says r (is_refusal unit log _ r is) (refused r is (untouched r is)))
 
--- the parameters of one that is made
-pub made_of : (p : Params) (unit log have : ℕ) (e : MkfsEnd) → ((r : MkfsEnd) → refusal unit log have ≡ Some r → e ≡ r)
-    → (size faults faults_now : ℕ) (s t : Seen) → (refusal unit log have ≡ None → Ends p false size s t faults faults_now e) → IsMadeOf p (said_of_end e)
-made_of p unit log have e refuses size faults faults_now s t ends = go e (refusal unit log have) refl refuses ends
+-- what is refused at once is said at once, and no other end
+pub made_early : (unit log lines : ℕ) (p : Params) (e : MkfsEnd) → ((r : MkfsEnd) → refusal unit log (line_bytes * lines) ≡ Some r → e ≡ r)
+    → (size faults faults_now : ℕ) (s t : Seen) → (refusal unit log (line_bytes * lines) ≡ None → Ends p false size s t faults faults_now e) → refused_said unit log lines ≡ early_of (said_of_end e)
+made_early unit log lines p e refuses size faults faults_now s t ends = go (refusal unit log (line_bytes * lines)) refl
   where
-    of_refusal : (e : MkfsEnd) → IsRefusal e → IsMadeOf p (said_of_end e)
+    of_refusal : (r : MkfsEnd) → IsRefusal r → Some (said_of_end r) ≡ early_of (said_of_end r)
     of_refusal (end.Made p) allowed = absurd allowed
     of_refusal (end.HasSuper id) allowed = absurd allowed
     of_refusal (end.Failed line) allowed = absurd allowed
-    of_refusal (end.BadGeometry u l) allowed = tt
-    of_refusal (end.TooSmall wanted have) allowed = tt
+    of_refusal (end.BadGeometry u l) allowed = refl
+    of_refusal (end.TooSmall wanted have) allowed = refl
 
-    of_end : (e : MkfsEnd) → Ends p false size s t faults faults_now e → IsMadeOf p (said_of_end e)
-    of_end (end.Made other) (same, h) = same
-    of_end (end.HasSuper id) h = tt
-    of_end (end.Failed line) h = tt
-    of_end (end.BadGeometry u l) h = tt
-    of_end (end.TooSmall wanted have) h = tt
+    of_end : (e : MkfsEnd) → Ends p false size s t faults faults_now e → None ≡ early_of (said_of_end e)
+    of_end (end.Made other) h = refl
+    of_end (end.HasSuper id) h = refl
+    of_end (end.Failed line) h = refl
+    of_end (end.BadGeometry u l) h = absurd h
+    of_end (end.TooSmall wanted have) h = absurd h
 
-    go : (e : MkfsEnd) (o : Option MkfsEnd) → refusal unit log have ≡ o → ((r : MkfsEnd) → refusal unit log have ≡ Some r → e ≡ r) → (refusal unit log have ≡ None → Ends p false size s t faults faults_now e) → IsMadeOf p (said_of_end e)
-    go e None is refuses ends = of_end e (ends is)
-    go e (Some r) is refuses ends = subst (λ (e : MkfsEnd). IsMadeOf p (said_of_end e)) (sym (refuses r is)) (of_refusal r (is_refusal unit log have r is))
+    go : (o : Option MkfsEnd) → refusal unit log (line_bytes * lines) ≡ o → refused_said unit log lines ≡ early_of (said_of_end e)
+    go None is = ap (option_map said_of_end) is ∙ of_end e (ends is)
+    go (Some r) is = ap (option_map said_of_end) is ∙ of_refusal r (is_refusal unit log _ r is) ∙ ap (λ (r : MkfsEnd). early_of (said_of_end r)) (sym (refuses r is))
 
 -- no memory was left for the text of what is not made
 abbrev IsNotMade : Said → Type 0
@@ -172,27 +174,28 @@ IsNotMade (said.Answered a) = ⊤
 IsNotMade (said.HasSuper fs) = ⊤
 IsNotMade (said.BadGeometry unit log) = ⊤
 IsNotMade (said.TooSmall wanted have) = ⊤
-IsNotMade (said.Refused line) = ⊤
+IsNotMade (said.Failed line) = ⊤
 
-unmade : (o : Option MkfsEnd) (r : Result Params SuperFault) (p : Params) (image left : Image) (shown : Said) → IsNotMade shown → MadeDue r p image shown left → left ≡ image
-unmade o (Ok other) p image left shown not (is, same) = same
-unmade o (Err fault) p image left shown not (is, same) = absurd (subst IsNotMade is not)
+unmade : (r : Result Params SuperFault) (p : Params) (image left : Image) (shown : Said) → IsNotMade shown → MadeDue r p image shown left → left ≡ image
+unmade (Ok other) p image left shown not (is, same) = same
+unmade (Err fault) p image left shown not (is, same) = absurd (subst IsNotMade is not)
 
 not_due : (o : Option MkfsEnd) (p : Params) (image left : Image) (shown : Said) → IsNotMade shown → MkfsDue o p image shown left → left ≡ image
-not_due None p image left shown not due = unmade None (super_in (line_at image) (line_bytes * length image)) p image left shown not due
+not_due None p image left shown not due = unmade (super_in (line_at image) (line_bytes * length image)) p image left shown not due
 not_due (Some refused) p image left shown not (is, same) = same
 
 module _ (media : Passage) (me : List ℕ) (unit log : ℕ) (fs : List ℕ) where
-  not_stopped : (shown : Said) → IsNotMade shown → Leaves media (λ image left. IsMkfsDue image me unit log fs shown left) → MkfsWants media me unit log fs
-  not_stopped shown not leaves = inl (λ image is.
+  not_stopped : (shown : Said) → IsNotMade shown → Leaves media (λ image left. IsMkfsDue image me unit log fs shown left) → Leaves media (λ image left. left ≡ image)
+  not_stopped shown not leaves image is =
       let d = leaves image is in
-      (d.0, d.1, not_due _ _ image d.0 shown not d.2))
+      (d.0, d.1, not_due _ _ image d.0 shown not d.2)
 
-  pub mkfs_wants : (shown : Said) → ((p : Params) → shown ≡ said.Made p → ⊥) → MkfsSays media me unit log fs shown → MkfsWants media me unit log fs
-  mkfs_wants (said.Made p) other l = absurd (other p refl)
-  mkfs_wants (said.HasSuper id) other l = not_stopped _ tt l
-  mkfs_wants (said.BadGeometry u g) other l = not_stopped _ tt l
-  mkfs_wants (said.TooSmall wanted have) other l = not_stopped _ tt l
-  mkfs_wants (said.Refused line) other broken = inr (line, broken)
-  mkfs_wants (said.Small lines) other l = absurd l
-  mkfs_wants (said.Answered a) other l = absurd l
+  -- of what is neither made nor failed nothing was written
+  pub mkfs_wants : (shown : Said) → ((p : Params) → shown ≡ said.Made p → ⊥) → said_status shown ≢ MediaFault → MkfsSays media me unit log fs shown → Leaves media (λ image left. left ≡ image)
+  mkfs_wants (said.Made p) other sound l = absurd (other p refl)
+  mkfs_wants (said.HasSuper id) other sound l = not_stopped _ tt l
+  mkfs_wants (said.BadGeometry u g) other sound l = not_stopped _ tt l
+  mkfs_wants (said.TooSmall wanted have) other sound l = not_stopped _ tt l
+  mkfs_wants (said.Failed line) other sound broken = absurd (sound refl)
+  mkfs_wants (said.Small lines) other sound l = absurd l
+  mkfs_wants (said.Answered a) other sound l = absurd l

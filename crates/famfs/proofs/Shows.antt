@@ -1,10 +1,11 @@
 -- What is said is what may be shown.
-use Rattle.std.proofs.Common.{◌≡◌, ℕ, List, Option, inl, inr, refl, sym, ap, subst, ◌∙◌}
+use Rattle.std.proofs.Common.{◌≡◌, ℕ, List, Option, None, refl, sym, ap, subst, ◌∙◌}
 use Rattle.std.specs.Prelude.{IfOk, OnErr, Result, Ok, Err}
 use Rattle.fam_base.specs.declared.cmd.Cmd.{Cmd}
 use Rattle.fam_base.specs.declared.cmd.Cmd.TheVariants as cmd
 use Rattle.fam_base.specs.declared.line.LineNo.{LineNo}
 use Rattle.fam_base.specs.Image.{Image}
+use Rattle.fam_mkfs.specs.Mkfs.{asked}
 use Rattle.fam_tasks.specs.declared.answer.Answer.{Answer}
 use Rattle.fam_tasks.specs.declared.answer.Answer.TheVariants as answer
 use Rattle.famfs.specs.declared.command.Command.{Command}
@@ -15,10 +16,10 @@ use Rattle.famfs.specs.declared.status.Status.{Status}
 use Rattle.famfs.specs.declared.top.Shown.{Shown}
 use Rattle.famfs.specs.declared.status.Status.TheVariants.{Done, Refused, MediaFault, Damaged, NotYet}
 use Rattle.famfs.specs.Commands.{mkdir_cmd}
-use Rattle.famfs.specs.Due.{Call, IsBroken, IsDue, IsMkfsBroken, IsMkfsDue, IsStopped, IsTaskBroken, IsTaskDue, IsTaskStopped, fault_said, fs_or}
-use Rattle.famfs.specs.Ends.{CommandShows, IsBrokenSomewhere, IsShown, Leaves, Passage, ShowsFault, ShowsWant}
+use Rattle.famfs.specs.Due.{Call, IsBroken, IsDue, IsMkfsBroken, IsMkfsDue, IsOfCommand, IsOfMkfs, IsOfTask, IsStopped, IsTaskBroken, IsTaskDue, IsTaskStopped, early_of, early_said, fault_said, fs_or, refused_said, small_said}
+use Rattle.famfs.specs.Ends.{CommandShows, IsShown, Leaves, Passage, ShowsFault, ShowsWant}
 use Rattle.famfs.specs.Said.{answer_status, said_status, said_text}
-use Rattle.famfs.specs.Says.{AnswerSays, IsCutShort, IsDone, MkfsSays, MkfsWants, ShowsSaid, TaskSays, TaskWants, Wants}
+use Rattle.famfs.specs.Says.{AnswerSays, IsCutShort, IsDone, MkfsSays, ShowsSaid, TaskSays}
 use Rattle.famfs.specs.Texts.{memory_text}
 
 -- what is left meets more where each such image does
@@ -26,104 +27,73 @@ pub leaves_more : (media : Passage) (P Q : Image → Image → Type 0) → ((ima
 leaves_more media P Q f l image is = let x = l image is in (x.0, x.1, f image x.0 x.2)
 
 -- a command's row of what is shown, left, broken and stopped
-record Rows (call : Call) (due : Said → Image → Image → Type 0) (broken : LineNo → Image → Image → Type 0) (fault : LineNo → Said) : Type 0 where
+record Rows (call : Call) (lines : ℕ) (own : Said → Type 0) (early : Option Said) (due : Said → Image → Image → Type 0) (broken : LineNo → Image → Image → Type 0) (fault : LineNo → Said) : Type 0 where
   to_due : (shown : Said) (image left : Image) → due shown image left → IsDue call call.command image shown left
   to_broken : (line : LineNo) (image left : Image) → broken line image left → IsBroken call call.command image line left
   fault_is : (line : LineNo) → fault_said call.command line ≡ fault line
+  own_is : (shown : Said) → own shown → IsOfCommand call call.command lines shown
+  early_is : early_said call.command lines ≡ early
+  fault_late : (line : LineNo) → early_of (fault line) ≡ None
 
-module _ (media : Passage) (call : Call) (due : Said → Image → Image → Type 0) (broken : LineNo → Image → Image → Type 0) (fault : LineNo → Said) (rows : Rows call due broken fault) where
+module _ (media : Passage) (call : Call) (own : Said → Type 0) (early : Option Said) (due : Said → Image → Image → Type 0) (broken : LineNo → Image → Image → Type 0) (fault : LineNo → Said) (rows : Rows call media.size own early due broken fault) where
   -- a text with a status that is no fault's
-  shows_due : (shown : Said) (status : Status) (text : List ℕ) → status ≡ said_status shown → text ≡ said_text shown → Leaves media (due shown) → IsShown media call status text
-  shows_due shown status text s t l = record { shown = shown; status_is = s; text_is = t; leaves = leaves_more media (due shown) (λ image left. IsDue call call.command image shown left) (rows.to_due shown) l }
+  shows_due : (shown : Said) (status : Status) (text : List ℕ) → status ≡ said_status shown → text ≡ said_text shown → own shown → early ≡ early_of shown → Leaves media (due shown) → IsShown media call status text
+  shows_due shown status text s t o e l = record { shown = shown; status_is = s; text_is = t; own = rows.own_is shown o; early = rows.early_is ∙ e; leaves = leaves_more media (due shown) (λ image left. IsDue call call.command image shown left) (rows.to_due shown) l }
 
-  shows_fault : (line : LineNo) (text : List ℕ) → text ≡ said_text (fault line) → IsCutShort media line (broken line) → ShowsFault media call text
-  shows_fault line text t cut = record {
+  shows_fault : (line : LineNo) (text : List ℕ) → text ≡ said_text (fault line) → early ≡ early_of (fault line) → IsCutShort media line (broken line) → ShowsFault media call text
+  shows_fault line text t e cut = record {
     rose = cut.rose;
     line = line;
     within = cut.within;
+    early = rows.early_is ∙ e ∙ rows.fault_late line;
     text_is = t ∙ ap said_text (sym (rows.fault_is line));
     leaves = leaves_more media (broken line) (λ image left. IsBroken call call.command image line left) (rows.to_broken line) cut.leaves;
   }
 
-  somewhere : (line : LineNo) → IsCutShort media line (broken line) → Leaves media (IsBrokenSomewhere call)
-  somewhere line cut = leaves_more media (broken line) (IsBrokenSomewhere call) (λ image left b. (line, rows.to_broken line image left b)) cut.leaves
-
-  shows_want : (stopped : Image → Image → Type 0) → ((image left : Image) → stopped image left → IsStopped call call.command image left) → Wants media stopped broken → ShowsWant media call memory_text
-  shows_want stopped to_stopped (inl l) = record { text_is = refl; leaves = inl (leaves_more media stopped (λ image left. IsStopped call call.command image left) to_stopped l) }
-  shows_want stopped to_stopped (inr cut) = record { text_is = refl; leaves = inr (cut.1.rose, somewhere cut.0 cut.1) }
+  shows_want : (stopped : Image → Image → Type 0) → ((image left : Image) → stopped image left → IsStopped call call.command image left) → Leaves media stopped → ShowsWant media call memory_text
+  shows_want stopped to_stopped l = record { text_is = refl; leaves = leaves_more media stopped (λ image left. IsStopped call call.command image left) to_stopped l }
 
 -- Commands on the log.
 
 module _ (media : Passage) (call : Call) (c : Cmd) where
   TaskRows : Type 0
-  TaskRows = Rows call (λ shown image left. IsTaskDue image call.me c shown left) (λ line image left. IsTaskBroken image call.me c line left) (λ line. said.Answered (answer.MediaFault line))
+  TaskRows = Rows call media.size IsOfTask (small_said media.size) (λ shown image left. IsTaskDue image call.me c shown left) (λ line image left. IsTaskBroken image call.me c line left) (λ line. said.Answered (answer.MediaFault line))
 
   module _ (rows : TaskRows) where
-    done : (shown : Said) (status : Status) (text : List ℕ) → status ≡ said_status shown → text ≡ said_text shown → Leaves media (IsDone call.me c shown) → IsShown media call status text
+    done : (shown : Said) (status : Status) (text : List ℕ) → status ≡ said_status shown → text ≡ said_text shown → IsOfTask shown → small_said media.size ≡ early_of shown → Leaves media (IsDone call.me c shown) → IsShown media call status text
     unfolding TaskRows
-    done shown status text s t l = shows_due media call _ _ _ rows shown status text s t (leaves_more media (IsDone call.me c shown) (λ image left. IsTaskDue image call.me c shown left) (λ image left d. d.due) l)
+    done shown status text s t o e l = shows_due media call _ _ _ _ _ rows shown status text s t o e (leaves_more media (IsDone call.me c shown) (λ image left. IsTaskDue image call.me c shown left) (λ image left d. d.due) l)
 
     at_status : (want : Status) (status : Status) (text : List ℕ) → status ≡ want → CommandShows media call want text → CommandShows media call status text
     at_status want status text is shows = subst (λ (x : Status). CommandShows media call x text) (sym is) shows
 
-    answer_shows : (a : Answer) (status : Status) (text : List ℕ) → status ≡ answer_status a → text ≡ said_text (said.Answered a) → AnswerSays media call.me c a → CommandShows media call status text
+    answer_shows : (a : Answer) (status : Status) (text : List ℕ) → status ≡ answer_status a → text ≡ said_text (said.Answered a) → small_said media.size ≡ None → AnswerSays media call.me c a → CommandShows media call status text
     unfolding TaskRows
-    answer_shows (answer.Ok seq) status text s t l = at_status Done status text s (done (said.Answered (answer.Ok seq)) Done text refl t l)
-    answer_shows (answer.Played m tree) status text s t l = at_status Done status text s (done (said.Answered (answer.Played m tree)) Done text refl t l)
-    answer_shows (answer.NoSuper word) status text s t l = at_status Damaged status text s (done (said.Answered (answer.NoSuper word)) Damaged text refl t l)
-    answer_shows (answer.BadSuper field found wanted) status text s t l = at_status Damaged status text s (done (said.Answered (answer.BadSuper field found wanted)) Damaged text refl t l)
-    answer_shows (answer.BadLog field found wanted) status text s t l = at_status Damaged status text s (done (said.Answered (answer.BadLog field found wanted)) Damaged text refl t l)
-    answer_shows (answer.BadEntry seq reason) status text s t l = at_status Damaged status text s (done (said.Answered (answer.BadEntry seq reason)) Damaged text refl t l)
-    answer_shows (answer.NotMaster me master) status text s t l = at_status Refused status text s (done (said.Answered (answer.NotMaster me master)) Refused text refl t l)
-    answer_shows (answer.Exists kind) status text s t l = at_status Refused status text s (done (said.Answered (answer.Exists kind)) Refused text refl t l)
-    answer_shows answer.NoParent status text s t l = at_status Refused status text s (done (said.Answered answer.NoParent) Refused text refl t l)
-    answer_shows answer.ParentIsFile status text s t l = at_status Refused status text s (done (said.Answered answer.ParentIsFile) Refused text refl t l)
-    answer_shows (answer.LogFull slots) status text s t l = at_status Refused status text s (done (said.Answered (answer.LogFull slots)) Refused text refl t l)
-    answer_shows (answer.MediaFault line) status text s t cut = at_status MediaFault status text s (shows_fault media call _ _ _ rows line text t cut)
-    answer_shows answer.NotYet status text s t l = at_status NotYet status text s (done (said.Answered answer.NotYet) NotYet text refl t l)
+    answer_shows (answer.Ok seq) status text s t e l = at_status Done status text s (done (said.Answered (answer.Ok seq)) Done text refl t tt e l)
+    answer_shows (answer.Played m tree) status text s t e l = at_status Done status text s (done (said.Answered (answer.Played m tree)) Done text refl t tt e l)
+    answer_shows (answer.NoSuper word) status text s t e l = at_status Damaged status text s (done (said.Answered (answer.NoSuper word)) Damaged text refl t tt e l)
+    answer_shows (answer.BadSuper field found wanted) status text s t e l = at_status Damaged status text s (done (said.Answered (answer.BadSuper field found wanted)) Damaged text refl t tt e l)
+    answer_shows (answer.BadLog field found wanted) status text s t e l = at_status Damaged status text s (done (said.Answered (answer.BadLog field found wanted)) Damaged text refl t tt e l)
+    answer_shows (answer.BadEntry seq reason) status text s t e l = at_status Damaged status text s (done (said.Answered (answer.BadEntry seq reason)) Damaged text refl t tt e l)
+    answer_shows (answer.NotMaster me master) status text s t e l = at_status Refused status text s (done (said.Answered (answer.NotMaster me master)) Refused text refl t tt e l)
+    answer_shows (answer.Exists kind) status text s t e l = at_status Refused status text s (done (said.Answered (answer.Exists kind)) Refused text refl t tt e l)
+    answer_shows answer.NoParent status text s t e l = at_status Refused status text s (done (said.Answered answer.NoParent) Refused text refl t tt e l)
+    answer_shows answer.ParentIsFile status text s t e l = at_status Refused status text s (done (said.Answered answer.ParentIsFile) Refused text refl t tt e l)
+    answer_shows (answer.LogFull slots) status text s t e l = at_status Refused status text s (done (said.Answered (answer.LogFull slots)) Refused text refl t tt e l)
+    answer_shows (answer.MediaFault line) status text s t e cut = at_status MediaFault status text s (shows_fault media call _ _ _ _ _ rows line text t e cut)
+    answer_shows answer.NotYet status text s t e l = at_status NotYet status text s (done (said.Answered answer.NotYet) NotYet text refl t tt e l)
 
-    said_shows : (shown : Said) (status : Status) (text : List ℕ) → status ≡ said_status shown → text ≡ said_text shown → TaskSays media call.me c shown → CommandShows media call status text
-    said_shows (said.Small lines) status text s t l = at_status Damaged status text s (done (said.Small lines) Damaged text refl t l)
-    said_shows (said.Answered a) status text s t l = answer_shows a status text s t l
-    said_shows (said.Made p) status text s t l = absurd l
-    said_shows (said.HasSuper fs) status text s t l = absurd l
-    said_shows (said.BadGeometry unit log) status text s t l = absurd l
-    said_shows (said.TooSmall need have) status text s t l = absurd l
-    said_shows (said.Refused line) status text s t l = absurd l
+    said_shows : (shown : Said) (status : Status) (text : List ℕ) → status ≡ said_status shown → text ≡ said_text shown → small_said media.size ≡ early_of shown → TaskSays media call.me c shown → CommandShows media call status text
+    said_shows (said.Small lines) status text s t e l = at_status Damaged status text s (done (said.Small lines) Damaged text refl t tt e l)
+    said_shows (said.Answered a) status text s t e l = answer_shows a status text s t e l
+    said_shows (said.Made p) status text s t e l = absurd l
+    said_shows (said.HasSuper fs) status text s t e l = absurd l
+    said_shows (said.BadGeometry unit log) status text s t e l = absurd l
+    said_shows (said.TooSmall need have) status text s t e l = absurd l
+    said_shows (said.Failed line) status text s t e l = absurd l
 
-    task_shows : (status : Status) (text : List ℕ) → ShowsSaid (TaskSays media call.me c) status text → CommandShows media call status text
-    task_shows status text s = said_shows s.shown status text s.status_is s.text_is s.says_it
-
--- no memory was left for the text
-pub task_wants : (media : Passage) (me : List ℕ) (c : Cmd) (shown : Said) → TaskSays media me c shown → TaskWants media me c
-task_wants media me c shown says = go shown says
-  where
-    stopped : (s : Said) → Leaves media (IsDone me c s) → TaskWants media me c
-    stopped s l = inl (leaves_more media (IsDone me c s) (λ image left. IsTaskStopped image me c left) (λ image left d. d.stopped) l)
-
-    by_answer : (a : Answer) → AnswerSays media me c a → TaskWants media me c
-    by_answer (answer.MediaFault line) cut = inr (line, cut)
-    by_answer (answer.Ok seq) l = stopped _ l
-    by_answer (answer.Played m tree) l = stopped _ l
-    by_answer (answer.NoSuper word) l = stopped _ l
-    by_answer (answer.BadSuper field found wanted) l = stopped _ l
-    by_answer (answer.BadLog field found wanted) l = stopped _ l
-    by_answer (answer.BadEntry seq reason) l = stopped _ l
-    by_answer (answer.NotMaster me master) l = stopped _ l
-    by_answer (answer.Exists kind) l = stopped _ l
-    by_answer answer.NoParent l = stopped _ l
-    by_answer answer.ParentIsFile l = stopped _ l
-    by_answer (answer.LogFull slots) l = stopped _ l
-    by_answer answer.NotYet l = stopped _ l
-
-    go : (s : Said) → TaskSays media me c s → TaskWants media me c
-    go (said.Small lines) l = stopped (said.Small lines) l
-    go (said.Answered a) l = by_answer a l
-    go (said.Made p) l = absurd l
-    go (said.HasSuper fs) l = absurd l
-    go (said.BadGeometry unit log) l = absurd l
-    go (said.TooSmall need have) l = absurd l
-    go (said.Refused line) l = absurd l
+    task_shows : (status : Status) (text : List ℕ) → ShowsSaid (small_said media.size) (TaskSays media call.me c) status text → CommandShows media call status text
+    task_shows status text s = said_shows s.shown status text s.status_is s.text_is s.early_is s.says_it
 
 module _ (media : Passage) (me random : List ℕ) where
   call_of : Command → Call
@@ -131,26 +101,22 @@ module _ (media : Passage) (me random : List ℕ) where
 
   logplay_rows : TaskRows media (record { command = Logplay; me = me; random = random }) cmd.Logplay
   unfolding TaskRows
-  logplay_rows = record { to_due = λ shown image left d. d; to_broken = λ line image left b. b; fault_is = λ line. refl }
+  logplay_rows = record { to_due = λ shown image left d. d; to_broken = λ line image left b. b; fault_is = λ line. refl; own_is = λ shown o. o; early_is = refl; fault_late = λ line. refl }
 
-  pub logplay_shows : (status : Status) (text : List ℕ) → ShowsSaid (TaskSays media me cmd.Logplay) status text → CommandShows media (record { command = Logplay; me = me; random = random }) status text
+  pub logplay_shows : (status : Status) (text : List ℕ) → ShowsSaid (small_said media.size) (TaskSays media me cmd.Logplay) status text → CommandShows media (record { command = Logplay; me = me; random = random }) status text
   logplay_shows = task_shows media (record { command = Logplay; me = me; random = random }) cmd.Logplay logplay_rows
-
-  pub logplay_want : TaskWants media me cmd.Logplay → ShowsWant media (record { command = Logplay; me = me; random = random }) memory_text
-  unfolding TaskRows
-  logplay_want = shows_want media (record { command = Logplay; me = me; random = random }) _ _ _ logplay_rows _ (λ image left d. d)
 
   module _ (path : List ℕ) where
     mkdir_rows : TaskRows media (record { command = Mkdir path; me = me; random = random }) (mkdir_cmd path)
     unfolding TaskRows
-    mkdir_rows = record { to_due = λ shown image left d. d; to_broken = λ line image left b. b; fault_is = λ line. refl }
+    mkdir_rows = record { to_due = λ shown image left d. d; to_broken = λ line image left b. b; fault_is = λ line. refl; own_is = λ shown o. o; early_is = refl; fault_late = λ line. refl }
 
-    pub mkdir_shows : (status : Status) (text : List ℕ) → ShowsSaid (TaskSays media me (mkdir_cmd path)) status text → CommandShows media (record { command = Mkdir path; me = me; random = random }) status text
+    pub mkdir_shows : (status : Status) (text : List ℕ) → ShowsSaid (small_said media.size) (TaskSays media me (mkdir_cmd path)) status text → CommandShows media (record { command = Mkdir path; me = me; random = random }) status text
     mkdir_shows = task_shows media (record { command = Mkdir path; me = me; random = random }) (mkdir_cmd path) mkdir_rows
 
-    pub mkdir_want : TaskWants media me (mkdir_cmd path) → ShowsWant media (record { command = Mkdir path; me = me; random = random }) memory_text
+    pub mkdir_want : Leaves media (λ image left. IsTaskStopped image me (mkdir_cmd path) left) → ShowsWant media (record { command = Mkdir path; me = me; random = random }) memory_text
     unfolding TaskRows
-    mkdir_want = shows_want media (record { command = Mkdir path; me = me; random = random }) _ _ _ mkdir_rows _ (λ image left d. d)
+    mkdir_want = shows_want media (record { command = Mkdir path; me = me; random = random }) _ _ _ _ _ mkdir_rows _ (λ image left d. d)
 
   -- Making a file system.
 
@@ -158,33 +124,30 @@ module _ (media : Passage) (me random : List ℕ) where
     mkfs_call : Call
     mkfs_call = record { command = Mkfs unit log fs; me = me; random = random }
 
-    mkfs_rows : Rows (record { command = Mkfs unit log fs; me = me; random = random }) (λ shown image left. IsMkfsDue image me unit log (fs_or random fs) shown left) (λ line image left. IsMkfsBroken image me unit log (fs_or random fs) line left) (λ line. said.Refused line)
-    mkfs_rows = record { to_due = λ shown image left d. d; to_broken = λ line image left b. b; fault_is = λ line. refl }
+    mkfs_rows : Rows (record { command = Mkfs unit log fs; me = me; random = random }) media.size (IsOfMkfs (asked unit log (fs_or random fs) me media.size)) (refused_said unit log media.size) (λ shown image left. IsMkfsDue image me unit log (fs_or random fs) shown left) (λ line image left. IsMkfsBroken image me unit log (fs_or random fs) line left) (λ line. said.Failed line)
+    mkfs_rows = record { to_due = λ shown image left d. d; to_broken = λ line image left b. b; fault_is = λ line. refl; own_is = λ shown o. o; early_is = refl; fault_late = λ line. refl }
 
-    made : (shown : Said) (want status : Status) (text : List ℕ) → want ≡ said_status shown → status ≡ want → text ≡ said_text shown → Leaves media (λ image left. IsMkfsDue image me unit log (fs_or random fs) shown left)
+    made : (shown : Said) (want status : Status) (text : List ℕ) → want ≡ said_status shown → status ≡ want → text ≡ said_text shown → IsOfMkfs (asked unit log (fs_or random fs) me media.size) shown → refused_said unit log media.size ≡ early_of shown → Leaves media (λ image left. IsMkfsDue image me unit log (fs_or random fs) shown left)
         → IsShown media (record { command = Mkfs unit log fs; me = me; random = random }) want text
-    made shown want status text w s t l = shows_due media _ _ _ _ mkfs_rows shown want text w t l
+    made shown want status text w s t o e l = shows_due media _ _ _ _ _ _ mkfs_rows shown want text w t o e l
 
-    mkfs_said : (shown : Said) (status : Status) (text : List ℕ) → status ≡ said_status shown → text ≡ said_text shown → MkfsSays media me unit log (fs_or random fs) shown → CommandShows media (record { command = Mkfs unit log fs; me = me; random = random }) status text
-    mkfs_said (said.Made p) status text s t l = subst (λ (x : Status). CommandShows media (record { command = Mkfs unit log fs; me = me; random = random }) x text) (sym s) (made (said.Made p) Done status text refl s t l)
-    mkfs_said (said.HasSuper other) status text s t l = subst (λ (x : Status). CommandShows media (record { command = Mkfs unit log fs; me = me; random = random }) x text) (sym s) (made (said.HasSuper other) Refused status text refl s t l)
-    mkfs_said (said.BadGeometry u g) status text s t l = subst (λ (x : Status). CommandShows media (record { command = Mkfs unit log fs; me = me; random = random }) x text) (sym s) (made (said.BadGeometry u g) Refused status text refl s t l)
-    mkfs_said (said.TooSmall need have) status text s t l = subst (λ (x : Status). CommandShows media (record { command = Mkfs unit log fs; me = me; random = random }) x text) (sym s) (made (said.TooSmall need have) Refused status text refl s t l)
-    mkfs_said (said.Refused line) status text s t cut = subst (λ (x : Status). CommandShows media (record { command = Mkfs unit log fs; me = me; random = random }) x text) (sym s) (shows_fault media _ _ _ _ mkfs_rows line text t cut)
-    mkfs_said (said.Small lines) status text s t l = absurd l
-    mkfs_said (said.Answered a) status text s t l = absurd l
+    mkfs_said : (shown : Said) (status : Status) (text : List ℕ) → status ≡ said_status shown → text ≡ said_text shown → refused_said unit log media.size ≡ early_of shown → MkfsSays media me unit log (fs_or random fs) shown → CommandShows media (record { command = Mkfs unit log fs; me = me; random = random }) status text
+    mkfs_said (said.Made p) status text s t e l = subst (λ (x : Status). CommandShows media (record { command = Mkfs unit log fs; me = me; random = random }) x text) (sym s) (made (said.Made p) Done status text refl s t l.0 e l.1)
+    mkfs_said (said.HasSuper other) status text s t e l = subst (λ (x : Status). CommandShows media (record { command = Mkfs unit log fs; me = me; random = random }) x text) (sym s) (made (said.HasSuper other) Refused status text refl s t tt e l)
+    mkfs_said (said.BadGeometry u g) status text s t e l = subst (λ (x : Status). CommandShows media (record { command = Mkfs unit log fs; me = me; random = random }) x text) (sym s) (made (said.BadGeometry u g) Refused status text refl s t tt e l)
+    mkfs_said (said.TooSmall need have) status text s t e l = subst (λ (x : Status). CommandShows media (record { command = Mkfs unit log fs; me = me; random = random }) x text) (sym s) (made (said.TooSmall need have) Refused status text refl s t tt e l)
+    mkfs_said (said.Failed line) status text s t e cut = subst (λ (x : Status). CommandShows media (record { command = Mkfs unit log fs; me = me; random = random }) x text) (sym s) (shows_fault media _ _ _ _ _ _ mkfs_rows line text t e cut)
+    mkfs_said (said.Small lines) status text s t e l = absurd l
+    mkfs_said (said.Answered a) status text s t e l = absurd l
 
-    pub mkfs_shows : (status : Status) (text : List ℕ) → ShowsSaid (MkfsSays media me unit log (fs_or random fs)) status text → CommandShows media (record { command = Mkfs unit log fs; me = me; random = random }) status text
-    mkfs_shows status text s = mkfs_said s.shown status text s.status_is s.text_is s.says_it
-
-    pub mkfs_want : MkfsWants media me unit log (fs_or random fs) → ShowsWant media (record { command = Mkfs unit log fs; me = me; random = random }) memory_text
-    mkfs_want = shows_want media _ _ _ _ mkfs_rows _ (λ image left d. d)
+    pub mkfs_shows : (status : Status) (text : List ℕ) → ShowsSaid (refused_said unit log media.size) (MkfsSays media me unit log (fs_or random fs)) status text → CommandShows media (record { command = Mkfs unit log fs; me = me; random = random }) status text
+    mkfs_shows status text s = mkfs_said s.shown status text s.status_is s.text_is s.early_is s.says_it
 
 -- what is said is shown
-pub shows_what : {E : Type 0} (r : Result Shown E) (says : Said → Type 0) (said : Said) → says said → IfOk r (λ shown. shown.status ≡ said_status said) → IfOk r (λ shown. shown.text.items ≡ said_text said)
-    → IfOk r (λ shown. ShowsSaid says shown.status shown.text.items)
-shows_what (Ok shown) says said holds status text = record { shown = said; says_it = holds; status_is = status; text_is = text }
-shows_what (Err none) says said holds status text = tt
+pub shows_what : {E : Type 0} (r : Result Shown E) (early : Option Said) (says : Said → Type 0) (said : Said) → says said → early ≡ early_of said → IfOk r (λ shown. shown.status ≡ said_status said) → IfOk r (λ shown. shown.text.items ≡ said_text said)
+    → IfOk r (λ shown. ShowsSaid early says shown.status shown.text.items)
+shows_what (Ok shown) early says said holds first status text = record { shown = said; says_it = holds; early_is = first; status_is = status; text_is = text }
+shows_what (Err none) early says said holds first status text = tt
 
 -- a command that is another shows what that one shows
 pub call_shows : {E : Type 0} (r : Result Shown E) (media : Passage) (me random : List ℕ) (command other : Command) (P : Status → List ℕ → Type 0) → command ≡ other

@@ -1,6 +1,6 @@
 -- What a command shows on an image and what it leaves of it; and what faults and want of memory leave in its place.
 -- docs/MANUAL.md, "Statuses".
-use Rattle.std.specs.Prelude.{ℕ, ◌≡◌, ◌⊎◌, ◌*◌, ◌<◌, ◌≤◌, Bool, true, false, nat_lt, List, ◌∷◌, ◌++◌, length, Option, Some, None, Result, Ok, Err}
+use Rattle.std.specs.Prelude.{ℕ, ⊤, ◌≡◌, ◌⊎◌, ◌*◌, ◌<◌, ◌≤◌, Bool, true, false, nat_lt, List, ◌∷◌, ◌++◌, length, Option, Some, None, option_map, if◌then◌else◌, Result, Ok, Err}
 use Rattle.fam_base.specs.declared.cmd.Cmd.{Cmd}
 use Rattle.fam_base.specs.declared.cmd.Cmd.TheVariants as cmd
 use Rattle.fam_base.specs.declared.line.LineNo.{LineNo}
@@ -10,13 +10,12 @@ use Rattle.fam_format.specs.declared.faults.SuperFault.{SuperFault}
 use Rattle.fam_format.specs.Layout.{least_lines}
 use Rattle.fam_format.specs.Reading.{super_in}
 use Rattle.fam_machine.specs.declared.op.Op.{Op}
-use Rattle.fam_machine.specs.Operations.{failed, operated_all}
+use Rattle.fam_machine.specs.Operations.{failed, op_line, operated_all}
 use Rattle.fam_machine.specs.Solo.{fresh}
 use Rattle.fam_media.specs.Outside.{masks}
 use Rattle.fam_mkfs.specs.declared.make.MkfsEnd.{MkfsEnd}
 use Rattle.fam_mkfs.specs.declared.make.MkfsEnd.TheVariants as end
 use Rattle.fam_mkfs.specs.Mkfs.{asked, due_ops, refusal}
-use Rattle.fam_mkfs.specs.Runs.{line_of}
 use Rattle.fam_rules.specs.Place.{line_bytes}
 use Rattle.fam_rules.specs.Written.{formatted}
 use Rattle.fam_run.specs.Files as files
@@ -75,7 +74,7 @@ said_of_end (end.Made p) = said.Made p
 said_of_end (end.BadGeometry unit log) = said.BadGeometry unit log
 said_of_end (end.TooSmall need have) = said.TooSmall need have
 said_of_end (end.HasSuper fs) = said.HasSuper fs
-said_of_end (end.Failed line) = said.Refused line
+said_of_end (end.Failed line) = said.Failed line
 
 -- a superblock stands in the way; or the file system is made
 abbrev pub MadeDue : Result Params SuperFault → Params → Image → Said → Image → Type 0
@@ -97,12 +96,38 @@ pub record IsMkfsBroken (image : Image) (me : List ℕ) (unit log : ℕ) (fs : L
   pub op : Op
   pub rest : List Op
   pub split : due_ops false (asked unit log fs me (length image)) (fresh image) ≡ done ++ op ∷ rest
-  pub at : line_of op ≡ Some line.0
+  pub at : op_line op ≡ Some line
   pub through : ℕ
   pub fits : through < masks
   pub fails : failed through op (operated_all done (fresh image)) ≡ Some left
 
+-- What is said at once, whatever the image holds.
+
+-- an image of so many lines is too small for a command on the log
+abbrev pub small_said : ℕ → Option Said
+small_said lines = if nat_lt lines least_lines then Some (said.Small lines) else None
+
+-- a unit and a log that mkfs refuses on an image of so many lines
+abbrev pub refused_said : ℕ → ℕ → ℕ → Option Said
+refused_said unit log lines = option_map said_of_end (refusal unit log (line_bytes * lines))
+
+-- what is said that only says it at once
+abbrev pub early_of : Said → Option Said
+early_of (said.Small lines) = Some (said.Small lines)
+early_of (said.BadGeometry unit log) = Some (said.BadGeometry unit log)
+early_of (said.TooSmall need have) = Some (said.TooSmall need have)
+early_of (said.Answered answer) = None
+early_of (said.Made p) = None
+early_of (said.HasSuper fs) = None
+early_of (said.Failed line) = None
+
 -- By the command.
+
+-- what is due at once on an image of so many lines
+abbrev pub early_said : Command → ℕ → Option Said
+early_said Logplay lines = small_said lines
+early_said (Mkdir path) lines = small_said lines
+early_said (Mkfs unit log fs) lines = refused_said unit log lines
 
 -- what is due: it is shown, and left
 abbrev pub IsDue : Call → Command → Image → Said → Image → Type 0
@@ -122,8 +147,34 @@ IsStopped call Logplay image left = IsTaskStopped image call.me cmd.Logplay left
 IsStopped call (Mkdir path) image left = IsTaskStopped image call.me (mkdir_cmd path) left
 IsStopped call (Mkfs unit log fs) image left = left ≡ image
 
+-- what a command on the log says, whatever the image holds: that it is too small, or an answer
+abbrev pub IsOfTask : Said → Type 0
+IsOfTask (said.Small lines) = ⊤
+IsOfTask (said.Answered answer) = ⊤
+IsOfTask (said.Made p) = ⊥
+IsOfTask (said.HasSuper fs) = ⊥
+IsOfTask (said.BadGeometry unit log) = ⊥
+IsOfTask (said.TooSmall need have) = ⊥
+IsOfTask (said.Failed line) = ⊥
+
+-- what mkfs says, whatever the image holds: a file system that it made is the one that was asked for
+abbrev pub IsOfMkfs : Params → Said → Type 0
+IsOfMkfs p (said.Small lines) = ⊥
+IsOfMkfs p (said.Answered answer) = ⊥
+IsOfMkfs p (said.Made made) = made ≡ p
+IsOfMkfs p (said.HasSuper fs) = ⊤
+IsOfMkfs p (said.BadGeometry unit log) = ⊤
+IsOfMkfs p (said.TooSmall need have) = ⊤
+IsOfMkfs p (said.Failed line) = ⊤
+
+-- by the command, on an image of so many lines
+abbrev pub IsOfCommand : Call → Command → ℕ → Said → Type 0
+IsOfCommand call Logplay lines shown = IsOfTask shown
+IsOfCommand call (Mkdir path) lines shown = IsOfTask shown
+IsOfCommand call (Mkfs unit log fs) lines shown = IsOfMkfs (asked unit log (fs_or call.random fs) call.me lines) shown
+
 -- the line that says where memory failed: mkfs is refused so, other commands answer so
 abbrev pub fault_said : Command → LineNo → Said
 fault_said Logplay line = said.Answered (answer.MediaFault line)
 fault_said (Mkdir path) line = said.Answered (answer.MediaFault line)
-fault_said (Mkfs unit log fs) line = said.Refused line
+fault_said (Mkfs unit log fs) line = said.Failed line

@@ -8,7 +8,7 @@ use Rattle.famfs.specs.declared.command.Command.{Command}
 use Rattle.famfs.specs.declared.said.Said.{Said}
 use Rattle.famfs.specs.declared.status.Status.{Status}
 use Rattle.famfs.specs.declared.status.Status.TheVariants.{Done, Refused, Usage, MediaFault, SinkFault, OutOfMemory, Damaged, NotYet}
-use Rattle.famfs.specs.Due.{Call, IsBroken, IsDue, IsStopped, fault_said}
+use Rattle.famfs.specs.Due.{Call, IsBroken, IsDue, IsOfCommand, IsStopped, early_of, early_said, fault_said}
 use Rattle.famfs.specs.Said.{said_status, said_text}
 use Rattle.famfs.specs.Texts.{memory_text, usage_text}
 
@@ -19,6 +19,11 @@ pub record Passage : Type 0 where
   pub size : ℕ
   pub faults : ℕ
   pub faults_now : ℕ
+
+-- from one state of a media to another, by what the media tells of each
+abbrev pub passed : {S : Type 0} → (S → Option Image) → (S → ℕ) → (S → ℕ) → S → S → Passage
+passed image size faults old now =
+    record { image = image old; image_now = image now; size = size old; faults = faults old; faults_now = faults now }
 
 -- what the call meets: the command that the words name, its host and random bytes, the media, and the sink before and
 -- after it
@@ -36,29 +41,29 @@ pub record Meeting : Type 0 where
 abbrev pub Leaves : Passage → (Image → Image → Type 0) → Type 0
 Leaves media P = IfTold media.image (λ image. (left : Image) × (media.image_now ≡ Some left) × P image left)
 
--- what is due is shown, and left. Where no image is told, the status is still that of what is shown
+-- what is due is shown, and left. Where no image is told, what is shown is still one of the command's own, its status
+-- and text are its, and what needs no look at the image is shown exactly where it is due
 pub record IsShown (media : Passage) (call : Call) (status : Status) (text : List ℕ) : Type 0 where
   pub shown : Said
   pub status_is : status ≡ said_status shown
   pub text_is : text ≡ said_text shown
+  pub own : IsOfCommand call call.command media.size shown
+  pub early : early_said call.command media.size ≡ early_of shown
   pub leaves : Leaves media (λ image left. IsDue call call.command image shown left)
 
--- the media failed: its count rose, and the text names the line
+-- the media failed: its count rose, and the text names the line. Nothing was to be said at once
 pub record ShowsFault (media : Passage) (call : Call) (text : List ℕ) : Type 0 where
   pub rose : Rose media.faults media.faults_now
   pub line : LineNo
   pub within : line.0 < media.size
+  pub early : early_said call.command media.size ≡ None
   pub text_is : text ≡ said_text (fault_said call.command line)
   pub leaves : Leaves media (λ image left. IsBroken call call.command image line left)
 
--- what memory's failure at some line leaves
-abbrev pub IsBrokenSomewhere : Call → Image → Image → Type 0
-IsBrokenSomewhere call image left = (line : LineNo) × IsBroken call call.command image line left
-
--- no memory was left. Where the media failed as well, memory is left as it then may be
+-- no memory was left: what was done by then stands, and memory didn't fail
 pub record ShowsWant (media : Passage) (call : Call) (text : List ℕ) : Type 0 where
   pub text_is : text ≡ memory_text
-  pub leaves : Leaves media (IsStopped call call.command) ⊎ (Rose media.faults media.faults_now × Leaves media (IsBrokenSomewhere call))
+  pub leaves : Leaves media (IsStopped call call.command)
 
 -- what a command may show, by its status
 abbrev pub CommandShows : Passage → Call → Status → List ℕ → Type 0

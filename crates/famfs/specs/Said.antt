@@ -58,7 +58,7 @@ said_text (said.Made params) = line (made_words params)
 said_text (said.HasSuper fs) = line (codes "refused has superblock" ++ uuid_text fs)
 said_text (said.BadGeometry unit log) = line (codes "refused bad geometry" ++ number unit ++ number log)
 said_text (said.TooSmall need have) = line (codes "refused too small" ++ number need ++ number have)
-said_text (said.Refused at) = line (codes "refused media fault" ++ number at.0)
+said_text (said.Failed at) = line (codes "refused media fault" ++ number at.0)
 
 -- the status of a task's answer
 abbrev pub answer_status : Answer → Status
@@ -84,4 +84,4 @@ said_status (said.Made params) = status.Done
 said_status (said.HasSuper fs) = status.Refused
 said_status (said.BadGeometry unit log) = status.Refused
 said_status (said.TooSmall need have) = status.Refused
-said_status (said.Refused at) = status.MediaFault
+said_status (said.Failed at) = status.MediaFault

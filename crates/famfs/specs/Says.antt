@@ -1,15 +1,15 @@
 -- What the parts of a call promise: what is said, with what it leaves of the media.
-use Rattle.std.specs.Prelude.{ℕ, ⊤, ◌≡◌, ◌⊎◌, ◌<◌, List}
+use Rattle.std.specs.Prelude.{ℕ, ◌≡◌, ◌<◌, List, Option}
 use Rattle.fam_base.specs.declared.cmd.Cmd.{Cmd}
-use Rattle.fam_base.specs.declared.entry.Params.{Params}
 use Rattle.fam_base.specs.declared.line.LineNo.{LineNo}
 use Rattle.fam_base.specs.Image.{Image}
 use Rattle.fam_media.specs.Causes.{Rose}
+use Rattle.fam_mkfs.specs.Mkfs.{asked}
 use Rattle.fam_tasks.specs.declared.answer.Answer.{Answer}
 use Rattle.fam_tasks.specs.declared.answer.Answer.TheVariants as answer
 use Rattle.famfs.specs.declared.said.Said.{Said}
 use Rattle.famfs.specs.declared.said.Said.TheVariants as said
-use Rattle.famfs.specs.Due.{IsMkfsBroken, IsMkfsDue, IsTaskBroken, IsTaskDue, IsTaskStopped}
+use Rattle.famfs.specs.Due.{IsMkfsBroken, IsMkfsDue, IsTaskBroken, IsTaskDue, IsTaskStopped, early_of}
 use Rattle.famfs.specs.declared.status.Status.{Status}
 use Rattle.famfs.specs.Ends.{Leaves, Passage}
 use Rattle.famfs.specs.Said.{said_status, said_text}
@@ -38,43 +38,22 @@ TaskSays media me c (said.Made p) = ⊥
 TaskSays media me c (said.HasSuper fs) = ⊥
 TaskSays media me c (said.BadGeometry unit log) = ⊥
 TaskSays media me c (said.TooSmall need have) = ⊥
-TaskSays media me c (said.Refused line) = ⊥
+TaskSays media me c (said.Failed line) = ⊥
 
 -- what making a file system says
 abbrev pub MkfsSays : Passage → List ℕ → ℕ → ℕ → List ℕ → Said → Type 0
-MkfsSays media me unit log fs (said.Refused line) = IsCutShort media line (λ image left. IsMkfsBroken image me unit log fs line left)
+MkfsSays media me unit log fs (said.Failed line) = IsCutShort media line (λ image left. IsMkfsBroken image me unit log fs line left)
 MkfsSays media me unit log fs (said.Small lines) = ⊥
 MkfsSays media me unit log fs (said.Answered other) = ⊥
-MkfsSays media me unit log fs (said.Made p) = Leaves media (λ image left. IsMkfsDue image me unit log fs (said.Made p) left)
+MkfsSays media me unit log fs (said.Made p) = (p ≡ asked unit log fs me media.size) × Leaves media (λ image left. IsMkfsDue image me unit log fs (said.Made p) left)
 MkfsSays media me unit log fs (said.HasSuper other) = Leaves media (λ image left. IsMkfsDue image me unit log fs (said.HasSuper other) left)
 MkfsSays media me unit log fs (said.BadGeometry u l) = Leaves media (λ image left. IsMkfsDue image me unit log fs (said.BadGeometry u l) left)
 MkfsSays media me unit log fs (said.TooSmall need have) = Leaves media (λ image left. IsMkfsDue image me unit log fs (said.TooSmall need have) left)
 
--- something is said with this status and this text
-pub record ShowsSaid (says : Said → Type 0) (status : Status) (text : List ℕ) : Type 0 where
+-- something is said with this status and this text, and what is to be said at once
+pub record ShowsSaid (early : Option Said) (says : Said → Type 0) (status : Status) (text : List ℕ) : Type 0 where
   pub shown : Said
   pub says_it : says shown
+  pub early_is : early ≡ early_of shown
   pub status_is : status ≡ said_status shown
   pub text_is : text ≡ said_text shown
-
--- no memory was left: what was done stands, or the media failed as well
-abbrev pub Wants : Passage → (Image → Image → Type 0) → (LineNo → Image → Image → Type 0) → Type 0
-Wants media stopped broken = Leaves media stopped ⊎ ((line : LineNo) × IsCutShort media line (broken line))
-
--- of a command on the log
-abbrev pub TaskWants : Passage → List ℕ → Cmd → Type 0
-TaskWants media me c = Wants media (λ image left. IsTaskStopped image me c left) (λ line image left. IsTaskBroken image me c line left)
-
--- of making a file system: nothing was written
-abbrev pub MkfsWants : Passage → List ℕ → ℕ → ℕ → List ℕ → Type 0
-MkfsWants media me unit log fs = Wants media (λ image left. left ≡ image) (λ line image left. IsMkfsBroken image me unit log fs line left)
-
--- a file system that was made has these parameters
-abbrev pub IsMadeOf : Params → Said → Type 0
-IsMadeOf p (said.Made made) = made ≡ p
-IsMadeOf p (said.Small lines) = ⊤
-IsMadeOf p (said.Answered other) = ⊤
-IsMadeOf p (said.HasSuper fs) = ⊤
-IsMadeOf p (said.BadGeometry unit log) = ⊤
-IsMadeOf p (said.TooSmall need have) = ⊤
-IsMadeOf p (said.Refused line) = ⊤

@@ -1,15 +1,14 @@
 //! A file as a media. This is a trusted edge: what a real file holds, no clause tells.
 
 ghost use Rattle.std.specs.Prelude.{◌≡◌, ◌≤◌, ◌*◌, None};
+ghost use Rattle.fam_media.specs.declared.media.TheConstants.{MOST_LINES};
 
 use byteorder::{ByteOrder, LittleEndian};
 use fam_base::{Line, LineNo};
+use fam_format::LINE_BYTES;
 use fam_media::{Failed, MOST_LINES, Media};
 use std::fs::File;
 use std::os::unix::fs::FileExt;
-
-/// Bytes of a line.
-const LINE_BYTES: u64 = 64;
 
 /// A file as a media: each line is read when it is asked for, and written at once. It tells nothing of its
 /// content, and counts its faults.
@@ -18,12 +17,12 @@ pub struct FileMedia {
     file: Option<File>,
     lines: u64,
     faults: u64,
-    ghost bounded: { lines ≤ 17179869184 },
+    ghost bounded: { lines ≤ MOST_LINES },
 }
 
 /// How many whole lines a file has, at most those of 1 TiB.
 fn lines_of(file: &Option<File>) -> u64
-    ensures { result ≤ 17179869184 }
+    ensures { result ≤ MOST_LINES }
 {
     match file {
         Some(file) => match file.metadata() {

@@ -50,6 +50,17 @@ fn given(rt: &HostRuntime) -> Result<Vec<String>, OutOfMemory> {
     Ok(words)
 }
 
+/// Takes the numbers of those standard streams that are closed, so that no image is opened under one of them and
+/// written over by the output. The files are to be held as long as an image is.
+fn streams(rt: &HostRuntime) -> [Option<File>; 3] {
+    [none(rt), none(rt), none(rt)]
+}
+
+/// A file that gives nothing, and that can't be written.
+fn none(rt: &HostRuntime) -> Option<File> {
+    File::open(rt, "/dev/null").ok()
+}
+
 /// Opens an image for reading and writing. One that may not be written counts as none.
 fn opened(rt: &HostRuntime, name: &str) -> Option<File> {
     OpenOptions::new()
@@ -72,6 +83,7 @@ fn random(rt: &HostRuntime) -> [u8; 16] {
 
 /// Runs the command that the words name on the image that they name.
 fn run(rt: &HostRuntime, words: &Vec<String>) -> Result<Status, OutOfMemory> {
+    let _streams = streams(rt);
     let file = match image_of(rt.alloc(), words)? {
         Some(name) => opened(rt, name.text()),
         None => None,
@@ -95,12 +107,15 @@ fn run(rt: &HostRuntime, words: &Vec<String>) -> Result<Status, OutOfMemory> {
 #[cfg(test)]
 mod tests;
 
+/// Does what the program's words say.
+fn ran(rt: &HostRuntime) -> Result<Status, OutOfMemory> {
+    let words = given(rt)?;
+    run(rt, &words)
+}
+
 fn main(rt: HostRuntime) -> ExitCode {
-    let status = match given(&rt) {
-        Ok(words) => match run(&rt, &words) {
-            Ok(status) => status,
-            Err(OutOfMemory) => Status::OutOfMemory,
-        },
+    let status = match ran(&rt) {
+        Ok(status) => status,
         Err(OutOfMemory) => Status::OutOfMemory,
     };
     ExitCode::from(status.number())

@@ -1,12 +1,14 @@
 //! What a command on its own shows: its last note, or why it ended early. `specs/Said.antt` has the texts and the
 //! statuses.
 
-ghost use Rattle.std.specs.Prelude.{◌≡◌, IfOk, string_bytes};
+ghost use Rattle.std.specs.Prelude.{◌≡◌, ◌≢◌, ◌≤◌, [], IfOk, OnErr, string_bytes, vec_capacity};
+ghost use Rattle.famfs.specs.declared.status.Status.TheVariants.{MediaFault};
 ghost use Rattle.famfs.specs.Said as spec;
 
 use crate::status::Status;
 use crate::texts::{
-    entry_line, kind, line, line_of, log_line, media_fault_line, played_lines, super_line,
+    FAILURE_BYTES, entry_line, failure_line, kind, line, line_of, log_line, played_lines,
+    super_line,
 };
 use fam_base::{Kind, LineNo, OutOfMemory, Params};
 use fam_format::{LogFault, SuperFault};
@@ -30,7 +32,7 @@ pub(crate) enum Said {
     /// No file system is made: it would need `need` bytes, and the image has `have`.
     TooSmall { need: u64, have: u64 },
     /// No file system is made: memory failed at this line.
-    Refused(LineNo),
+    Failed(LineNo),
 }
 
 /// The status of an answer.
@@ -65,7 +67,7 @@ pub(crate) fn said_status(said: &Said) -> Status
         Said::HasSuper(_) => Status::Refused,
         Said::BadGeometry { .. } => Status::Refused,
         Said::TooSmall { .. } => Status::Refused,
-        Said::Refused(_) => Status::MediaFault,
+        Said::Failed(_) => Status::MediaFault,
     }
 }
 
@@ -100,9 +102,14 @@ fn exists_line(alloc: Global, there: Kind) -> Result<Vec<u8>, OutOfMemory>
     line_of(alloc, format!(in alloc; "exists {name}"))
 }
 
-/// The text of an answer: its line, and the listing behind it.
-fn answered_lines(alloc: Global, answer: &Answer) -> Result<Vec<u8>, OutOfMemory>
-    ensures { IfOk result (λ bytes. bytes.items ≡ spec.answered_text answer.now) }
+/// The text of an answer: its line, and the listing behind it. Where memory failed it takes the room that was made for
+/// it.
+fn answered_lines(alloc: Global, room: Vec<u8>, answer: &Answer) -> Result<Vec<u8>, OutOfMemory>
+    requires empty { room.items ≡ [] }
+    requires room { FAILURE_BYTES ≤ vec_capacity room }
+
+    ensures text { IfOk result (λ bytes. bytes.items ≡ spec.answered_text answer.now) }
+    ensures failure { OnErr result (spec.answer_status answer.now ≢ MediaFault) }
 {
     match answer {
         Answer::Ok(seq) => line_of(alloc, format!(in alloc; "ok {seq}")),
@@ -138,18 +145,23 @@ fn answered_lines(alloc: Global, answer: &Answer) -> Result<Vec<u8>, OutOfMemory
         Answer::NoParent => line(alloc, "no parent"),
         Answer::ParentIsFile => line(alloc, "parent is a file"),
         Answer::LogFull(slots) => line_of(alloc, format!(in alloc; "log full {slots}")),
-        Answer::MediaFault(at) => media_fault_line(alloc, *at),
+        Answer::MediaFault(at) => Ok(failure_line(room, "media fault", at.0)),
         Answer::NotYet => line(alloc, "not yet"),
     }
 }
 
-/// The text with its line feeds.
-pub(crate) fn said_lines(alloc: Global, said: &Said) -> Result<Vec<u8>, OutOfMemory>
-    ensures { IfOk result (λ bytes. bytes.items ≡ spec.said_text said.now) }
+/// The text with its line feeds. Where memory failed it takes the room that was made for it, so no memory is wanted
+/// then.
+pub(crate) fn said_lines(alloc: Global, room: Vec<u8>, said: &Said) -> Result<Vec<u8>, OutOfMemory>
+    requires empty { room.items ≡ [] }
+    requires room { FAILURE_BYTES ≤ vec_capacity room }
+
+    ensures text { IfOk result (λ bytes. bytes.items ≡ spec.said_text said.now) }
+    ensures failure { OnErr result (spec.said_status said.now ≢ MediaFault) }
 {
     match said {
         Said::Small(lines) => line_of(alloc, format!(in alloc; "refused image too small {lines}")),
-        Said::Answered(answer) => answered_lines(alloc, answer),
+        Said::Answered(answer) => answered_lines(alloc, room, answer),
         Said::Made(params) => line_of(alloc, made_words(alloc, params)),
         Said::HasSuper(fs) => line_of(alloc, format!(in alloc; "refused has superblock {fs}")),
         Said::BadGeometry { unit, log } => {
@@ -161,9 +173,6 @@ pub(crate) fn said_lines(alloc: Global, said: &Said) -> Result<Vec<u8>, OutOfMem
         Said::TooSmall { need, have } => {
             line_of(alloc, format!(in alloc; "refused too small {need} {have}"))
         }
-        Said::Refused(at) => {
-            let number = at.0;
-            line_of(alloc, format!(in alloc; "refused media fault {number}"))
-        }
+        Said::Failed(at) => Ok(failure_line(room, "refused media fault", at.0)),
     }
 }

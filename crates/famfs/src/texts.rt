@@ -1,9 +1,10 @@
 //! The texts that the program prints. `specs/Texts.antt` has their forms.
 
-ghost use Rattle.std.specs.Prelude.{◌≡◌, ◌++◌, [], ◌∷◌, IfOk, string_bytes, codes, List, ℕ};
+ghost use Rattle.std.specs.Prelude.{◌≡◌, ◌≤◌, ◌<◌, ◌+◌, ◌++◌, [], ◌∷◌, IfOk, length, string_bytes, codes, vec_len, vec_capacity, List, ℕ};
+ghost use Rattle.std.specs.Fmt.{decimal};
 ghost use Rattle.famfs.specs.Texts as text;
 
-use fam_base::{Kind, LineNo, OutOfMemory};
+use fam_base::{Kind, OutOfMemory};
 use fam_format::{LogFault, LogField, Reason, SuperFault, SuperField};
 use fam_tree::{Tree, print_listing};
 use std::alloc::{AllocError, Global};
@@ -14,6 +15,9 @@ pub(crate) const USAGE: &str =
 
 /// What is printed where no memory is left.
 pub(crate) const MEMORY: &str = "out of memory\n";
+
+/// The most bytes of a line that says where memory failed: 20, a space, 20 digits and the line feed.
+pub(crate) const FAILURE_BYTES: usize = 42;
 
 fn super_field(field: SuperField) -> &'static str
     ensures { result.now ≡ text.super_field_text field }
@@ -182,10 +186,63 @@ pub(crate) fn played_lines(alloc: Global, m: u64, tree: &Tree) -> Result<Vec<u8>
     }
 }
 
-/// The line that names a line of the media which can't be read.
-pub(crate) fn media_fault_line(alloc: Global, at: LineNo) -> Result<Vec<u8>, OutOfMemory>
-    ensures { IfOk result (λ bytes. bytes.items ≡ text.media_fault_text at.0) }
+/// Room for a line that says where memory failed.
+pub(crate) fn failure_room(alloc: Global) -> Result<Vec<u8>, OutOfMemory>
+    ensures empty { IfOk result (λ room. room.items ≡ []) }
+    ensures room { IfOk result (λ room. FAILURE_BYTES ≤ vec_capacity room) }
 {
-    let number = at.0;
-    line_of(alloc, format!(in alloc; "media fault {number}"))
+    match Vec::with_capacity(alloc, FAILURE_BYTES) {
+        Ok(room) => Ok(room),
+        Err(_) => Err(OutOfMemory),
+    }
+}
+
+/// Puts words behind a text that has room for them.
+fn put_words(bytes: &mut Vec<u8>, words: &str)
+    requires room { vec_len bytes.old + length words.now ≤ vec_capacity bytes.old }
+    ensures items { bytes.new.items ≡ bytes.old.items ++ words.now }
+    ensures len { vec_len bytes.new ≡ vec_len bytes.old + length words.now }
+    ensures capacity { vec_capacity bytes.old ≤ vec_capacity bytes.new }
+{
+    let _ = bytes.extend_from_slice(words.as_bytes());
+}
+
+/// Puts a byte behind a text that has room for it.
+fn put_byte(bytes: &mut Vec<u8>, byte: u8)
+    requires room { vec_len bytes.old < vec_capacity bytes.old }
+    ensures items { bytes.new.items ≡ bytes.old.items ++ byte ∷ [] }
+    ensures len { vec_len bytes.new ≡ vec_len bytes.old + 1 }
+    ensures capacity { vec_capacity bytes.old ≤ vec_capacity bytes.new }
+{
+    let _ = bytes.push(byte);
+}
+
+/// Puts a number in decimal behind a text that has room for it.
+fn put_number(bytes: &mut Vec<u8>, number: u64)
+    requires room { vec_len bytes.old + length (decimal number) ≤ vec_capacity bytes.old }
+    ensures items { bytes.new.items ≡ bytes.old.items ++ decimal number }
+    ensures len { vec_len bytes.new ≡ vec_len bytes.old + length (decimal number) }
+    ensures capacity { vec_capacity bytes.old ≤ vec_capacity bytes.new }
+{
+    if number < 10 {
+        return put_byte(bytes, b'0' + number as u8);
+    }
+    put_number(bytes, number / 10);
+    put_byte(bytes, b'0' + (number % 10) as u8);
+}
+
+/// The line of at most 20 bytes and a number. It stands in the room that was made for it, and
+/// takes no memory.
+pub(crate) fn failure_line(room: Vec<u8>, words: &str, number: u64) -> Vec<u8>
+    requires empty { room.items ≡ [] }
+    requires room { FAILURE_BYTES ≤ vec_capacity room }
+    requires words { length words.now ≤ 20 }
+    ensures { result.items ≡ text.line (words.now ++ text.number number) }
+{
+    let mut bytes = room;
+    put_words(&mut bytes, words);
+    put_byte(&mut bytes, b' ');
+    put_number(&mut bytes, number);
+    put_byte(&mut bytes, b'\n');
+    bytes
 }

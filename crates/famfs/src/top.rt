@@ -1,14 +1,14 @@
 //! The top call: it does all that the program does, over any media, shelf and sink.
 
-ghost use Rattle.std.specs.Prelude.{◌≡◌, ◌≢◌, ◌≤◌, IfOk, OnErr, ℕ, map, string_bytes};
-ghost use Rattle.fam_mkfs.specs.Mkfs.{asked};
+ghost use Rattle.std.specs.Prelude.{◌≡◌, ◌≢◌, ◌≤◌, [], IfOk, OnErr, ℕ, map, string_bytes, vec_capacity};
 ghost use Rattle.fam_tasks.specs.Sound.{IsServed};
 ghost use Rattle.famfs.specs.Commands.{mkdir_cmd};
 ghost use Rattle.famfs.specs.Due as due;
 ghost use Rattle.famfs.specs.Due.{IsTaskStopped};
-ghost use Rattle.famfs.specs.Ends.{CommandShows, Ends, Leaves, PutAs, ShowsWant};
+ghost use Rattle.famfs.specs.Ends.{CommandShows, Ends, Leaves, PutAs, ShowsWant, passed};
 ghost use Rattle.famfs.specs.Said as texts;
-ghost use Rattle.famfs.specs.Says.{IsMadeOf, MkfsSays, MkfsWants, ShowsSaid, TaskSays, TaskWants};
+ghost use Rattle.famfs.specs.Says.{MkfsSays, ShowsSaid, TaskSays};
+ghost use Rattle.famfs.specs.declared.status.Status.TheVariants.{MediaFault};
 ghost use Rattle.famfs.specs.Texts.{memory_text};
 ghost use Rattle.famfs.specs.Words.{command_of};
 
@@ -16,22 +16,16 @@ use crate::command::Command;
 use crate::fresh::version4;
 use crate::said::{Said, said_lines, said_status};
 use crate::status::Status;
-use crate::texts::{MEMORY, USAGE};
+use crate::texts::{FAILURE_BYTES, MEMORY, USAGE, failure_room};
 use crate::words::command;
-use fam_base::{Attr, Cmd, OutOfMemory, Params, Path};
+use fam_base::{Attr, Cmd, OutOfMemory, Path};
 use fam_cache::HostCache;
 use fam_format::LEAST_LINES;
 use fam_media::{Media, Shelf, Sink};
-use fam_mkfs::{MkfsEnd, mkfs};
+use fam_mkfs::{MkfsEnd, asked, mkfs};
 use fam_run::run;
 use std::alloc::Global;
 use uuid::Uuid;
-
-/// Bytes of a line.
-const LINE_BYTES: u64 = 64;
-
-/// Bytes of a slot of the log.
-const SLOT_BYTES: u64 = 512;
 
 /// Mode 0755, and the first user and group.
 const DIRECTORY: Attr = Attr {
@@ -47,14 +41,18 @@ struct Shown {
     text: Vec<u8>,
 }
 
-/// What is said, with its text.
-fn show(alloc: Global, said: &Said) -> Result<Shown, OutOfMemory>
+/// What is said, with its text. That memory failed is shown in the room that was made for it, without more memory.
+fn show(alloc: Global, room: Vec<u8>, said: &Said) -> Result<Shown, OutOfMemory>
+    requires empty { room.items ≡ [] }
+    requires room { FAILURE_BYTES ≤ vec_capacity room }
+
     ensures status { IfOk result (λ shown. shown.status ≡ texts.said_status said.now) }
     ensures text { IfOk result (λ shown. shown.text.items ≡ texts.said_text said.now) }
+    ensures failure { OnErr result (texts.said_status said.now ≢ MediaFault) }
 {
     Ok(Shown {
         status: said_status(said),
-        text: said_lines(alloc, said)?,
+        text: said_lines(alloc, room, said)?,
     })
 }
 
@@ -62,20 +60,9 @@ fn show(alloc: Global, said: &Said) -> Result<Shown, OutOfMemory>
 fn answered<M: Media>(alloc: Global, cmd: Cmd, me: Uuid, media: &mut M) -> Result<Said, OutOfMemory>
     requires served { IsServed cmd }
 
-    ensures says { IfOk result (TaskSays (record {
-      image = M.image media.old;
-      image_now = M.image media.new;
-      size = M.size media.old;
-      faults = M.faults media.old;
-      faults_now = M.faults media.new;
-    }) me cmd) }
-    ensures want { OnErr result (Leaves (record {
-      image = M.image media.old;
-      image_now = M.image media.new;
-      size = M.size media.old;
-      faults = M.faults media.old;
-      faults_now = M.faults media.new;
-    }) (λ image left. IsTaskStopped image me cmd left)) }
+    ensures says { IfOk result (TaskSays (passed M.image M.size M.faults media.old media.new) me cmd) }
+    ensures early { IfOk result (λ said. due.small_said (M.size media.old) ≡ due.early_of said) }
+    ensures want { OnErr result (Leaves (passed M.image M.size M.faults media.old media.new) (λ image left. IsTaskStopped image me cmd left)) }
     ensures size { M.size media.new ≡ M.size media.old }
     ensures later { M.faults media.old ≤ M.faults media.new }
 {
@@ -95,11 +82,11 @@ fn end_said(end: MkfsEnd) -> Said
         MkfsEnd::BadGeometry { unit, log } => Said::BadGeometry { unit, log },
         MkfsEnd::TooSmall { need, have } => Said::TooSmall { need, have },
         MkfsEnd::HasSuper(fs) => Said::HasSuper(fs),
-        MkfsEnd::Failed(line) => Said::Refused(line),
+        MkfsEnd::Failed(line) => Said::Failed(line),
     }
 }
 
-/// Runs a command on the log, and shows what it says.
+/// Runs a command on the log, and shows what it says. Room for the line that says where memory failed is made first.
 fn task_shown<M: Media>(
     alloc: Global,
     cmd: Cmd,
@@ -108,26 +95,16 @@ fn task_shown<M: Media>(
 ) -> Result<Shown, OutOfMemory>
     requires served { IsServed cmd }
 
-    ensures shows { IfOk result (λ shown. ShowsSaid (TaskSays (record {
-      image = M.image media.old;
-      image_now = M.image media.new;
-      size = M.size media.old;
-      faults = M.faults media.old;
-      faults_now = M.faults media.new;
-    }) me cmd)
+    ensures shows { IfOk result (λ shown. ShowsSaid (due.small_said (M.size media.old))
+        (TaskSays (passed M.image M.size M.faults media.old media.new) me cmd)
         shown.status shown.text.items) }
-    ensures want { OnErr result (TaskWants (record {
-      image = M.image media.old;
-      image_now = M.image media.new;
-      size = M.size media.old;
-      faults = M.faults media.old;
-      faults_now = M.faults media.new;
-    }) me cmd) }
+    ensures want { OnErr result (Leaves (passed M.image M.size M.faults media.old media.new) (λ image left. IsTaskStopped image me cmd left)) }
     ensures size { M.size media.new ≡ M.size media.old }
     ensures later { M.faults media.old ≤ M.faults media.new }
 {
+    let room = failure_room(alloc)?;
     let said = answered(alloc, cmd, me, media)?;
-    show(alloc, &said)
+    show(alloc, room, &said)
 }
 
 /// Makes a file system through an empty cache, and says how that ended.
@@ -139,14 +116,8 @@ fn make<M: Media>(
     me: Uuid,
     media: &mut M,
 ) -> Result<Said, OutOfMemory>
-    ensures says { IfOk result (MkfsSays (record {
-      image = M.image media.old;
-      image_now = M.image media.new;
-      size = M.size media.old;
-      faults = M.faults media.old;
-      faults_now = M.faults media.new;
-    }) me unit log fs) }
-    ensures params { IfOk result (IsMadeOf (asked unit log fs me (M.size media.old))) }
+    ensures says { IfOk result (MkfsSays (passed M.image M.size M.faults media.old media.new) me unit log fs) }
+    ensures early { IfOk result (λ said. due.refused_said unit log (M.size media.old) ≡ due.early_of said) }
     ensures want { OnErr result (M.image media.new ≡ M.image media.old) }
     ensures size { M.size media.new ≡ M.size media.old }
     ensures later { M.faults media.old ≤ M.faults media.new }
@@ -156,8 +127,8 @@ fn make<M: Media>(
     Ok(end_said(end))
 }
 
-/// Makes a file system, and shows how that ended. The text of one that is made finds its memory before anything is
-/// written.
+/// Makes a file system, and shows how that ended. The texts that say that it is made, or where memory failed, find
+/// their memory before anything is written.
 fn make_shown<M: Media>(
     alloc: Global,
     unit: u64,
@@ -166,36 +137,19 @@ fn make_shown<M: Media>(
     me: Uuid,
     media: &mut M,
 ) -> Result<Shown, OutOfMemory>
-    ensures shows { IfOk result (λ shown. ShowsSaid (MkfsSays (record {
-      image = M.image media.old;
-      image_now = M.image media.new;
-      size = M.size media.old;
-      faults = M.faults media.old;
-      faults_now = M.faults media.new;
-    }) me unit log fs)
+    ensures shows { IfOk result (λ shown. ShowsSaid (due.refused_said unit log (M.size media.old))
+        (MkfsSays (passed M.image M.size M.faults media.old media.new) me unit log fs)
         shown.status shown.text.items) }
-    ensures want { OnErr result (MkfsWants (record {
-      image = M.image media.old;
-      image_now = M.image media.new;
-      size = M.size media.old;
-      faults = M.faults media.old;
-      faults_now = M.faults media.new;
-    }) me unit log fs) }
+    ensures want { OnErr result (Leaves (passed M.image M.size M.faults media.old media.new) (λ image left. left ≡ image)) }
     ensures size { M.size media.new ≡ M.size media.old }
     ensures later { M.faults media.old ≤ M.faults media.new }
 {
-    let made = Said::Made(Params {
-        log_length: log,
-        slots: (log / SLOT_BYTES).saturating_sub(1),
-        unit,
-        device: LINE_BYTES * media.lines(),
-        fs,
-        master: me,
-    });
-    let done = show(alloc, &made)?;
+    let made = Said::Made(asked(unit, log, fs, me, media.lines()));
+    let done = show(alloc, failure_room(alloc)?, &made)?;
+    let room = failure_room(alloc)?;
     match make(alloc, unit, log, fs, me, media)? {
         Said::Made(_) => Ok(done),
-        said => show(alloc, &said),
+        said => show(alloc, room, &said),
     }
 }
 
@@ -227,21 +181,9 @@ fn command_shown<M: Media>(
     random: [u8; 16],
     media: &mut M,
 ) -> Result<Shown, OutOfMemory>
-    ensures shows { IfOk result (λ shown. CommandShows (record {
-      image = M.image media.old;
-      image_now = M.image media.new;
-      size = M.size media.old;
-      faults = M.faults media.old;
-      faults_now = M.faults media.new;
-    })
+    ensures shows { IfOk result (λ shown. CommandShows (passed M.image M.size M.faults media.old media.new)
         (record { command = command; me = me; random = random }) shown.status shown.text.items) }
-    ensures want { OnErr result (ShowsWant (record {
-      image = M.image media.old;
-      image_now = M.image media.new;
-      size = M.size media.old;
-      faults = M.faults media.old;
-      faults_now = M.faults media.new;
-    })
+    ensures want { OnErr result (ShowsWant (passed M.image M.size M.faults media.old media.new)
         (record { command = command; me = me; random = random }) memory_text) }
     ensures size { M.size media.new ≡ M.size media.old }
     ensures later { M.faults media.old ≤ M.faults media.new }
@@ -283,13 +225,7 @@ pub fn famfs<M: Media, S: Shelf, K: Sink>(
       command = command_of (map string_bytes words.now.items);
       me = me;
       random = random;
-      media = (record {
-        image = M.image media.old;
-        image_now = M.image media.new;
-        size = M.size media.old;
-        faults = M.faults media.old;
-        faults_now = M.faults media.new;
-      });
+      media = passed M.image M.size M.faults media.old media.new;
       sink_before = K.faults out.old;
       sink_now = K.faults out.new;
       put_before = K.bytes out.old;
@@ -297,6 +233,7 @@ pub fn famfs<M: Media, S: Shelf, K: Sink>(
     }) result }
     ensures size { M.size media.new ≡ M.size media.old }
     ensures later { M.faults media.old ≤ M.faults media.new }
+    ensures sink { K.faults out.old ≤ K.faults out.new }
     ensures shelf { shelf.new ≡ shelf.old }
 {
     match command(words) {

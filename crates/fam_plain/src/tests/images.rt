@@ -1,4 +1,4 @@
-//! Whole images of 4 MiB, sound and damaged. The damage is that of a session with real files.
+//! Whole images of 4 MiB, sound and damaged.
 
 ghost use Rattle.std.specs.Prelude.{◌<◌, ◌≤◌, ◌^◌, length};
 

@@ -74,7 +74,7 @@ impl Task {
                         self.entry = Some(entry);
                         self.buffer = Buffer::of_slot(spell(&entry, self.gate));
                         self.place = Place::StoreSlot { line: 0, word: 0 };
-                        Turn::Note(TaskNote::Writes(self.gate))
+                        Turn::Note(TaskNote::Writes(self.gate, entry))
                     }
                 }
             }

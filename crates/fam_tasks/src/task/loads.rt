@@ -1,24 +1,22 @@
 //! Turns of a task that read: what comes of the words that its loads gave.
 
-ghost use Rattle.std.specs.Prelude.{◌≡◌};
+ghost use Rattle.std.specs.Prelude.{◌≡◌, ◌<◌, true};
 ghost use Rattle.fam_format.specs.Log.{gate_fault};
 ghost use Rattle.fam_format.specs.Super.{magic_fault};
 ghost use Rattle.fam_machine.specs.declared.op.Part.TheVariants as part;
 ghost use Rattle.fam_machine.specs.declared.op.Place.TheVariants as at;
 ghost use Rattle.fam_machine.specs.Turns as turns;
 ghost use Rattle.fam_tasks.specs.declared.answer.TaskNote.TheVariants.{Mark};
-ghost use Rattle.fam_tasks.specs.declared.answer.Turn.TheVariants.{Note};
-ghost use Rattle.fam_tasks.specs.Tells.{Tells};
+ghost use Rattle.fam_tasks.specs.declared.answer.Turn.TheVariants.{Go, Note};
+ghost use Rattle.fam_tasks.specs.Tells.{Tells, is_reading};
 
 use super::{LAST_LINE, LAST_WORD, Task, done, slot_or_decide};
 use crate::answer::{Answer, TaskNote, Turn, log_answer, super_answer};
-use crate::parts::{MAGIC, is_refused, read_body, read_header};
+use crate::parts::{is_refused, read_body, read_header};
 use fam_base::Cmd;
-use fam_format::LogField;
+use fam_format::{LINE_BYTES, LogField};
 use fam_machine::{Part, Place};
-
-/// Bytes of a line.
-const LINE_BYTES: u64 = 64;
+use fam_super::MAGIC;
 
 impl Task {
     /// Word 0 of line 0 was loaded.
@@ -43,20 +41,51 @@ impl Task {
         ensures { Tells (turns.word_turn (turns.with_word self.old word) part line k)
             result self.new }
     {
+        self.is_sound();
         if k < LAST_WORD {
-            self.buffer.push(word);
-            self.place = Place::Word {
-                part,
-                line,
-                word: k + 1,
-            };
+            self.load_within(part, line, k, word);
             return Turn::Go;
         }
         match part {
             Part::Superblock => self.load_superblock(line, word),
             Part::Header => self.load_header(word),
-            Part::Slot(slot) => self.load_slot(slot, line, word),
+            Part::Slot(slot) => {
+                self.load_slot(slot, line, word);
+                Turn::Go
+            }
             Part::File => unreachable!(),
+        }
+    }
+
+    /// A word was loaded that isn't the last of its line.
+    #[inline(always)]
+    pub(super) fn load_within(&mut self, part: Part, line: u64, k: u8, word: u64)
+        requires place { self.old.place ≡ at.Word part line k }
+        requires within { k < LAST_WORD }
+        ensures { Tells (turns.word_turn (turns.with_word self.old word) part line k) Go self.new }
+    {
+        self.buffer.push(word);
+        self.place = Place::Word {
+            part,
+            line,
+            word: k + 1,
+        };
+    }
+
+    /// A word was loaded that leads on among the lines that are read.
+    #[inline(always)]
+    pub(super) fn load_on(&mut self, part: Part, line: u64, k: u8, word: u64)
+        requires place { self.old.place ≡ at.Word part line k }
+        requires reading { is_reading self.old.place ≡ true }
+        ensures { Tells (turns.word_turn (turns.with_word self.old word) part line k) Go self.new }
+    {
+        self.is_sound();
+        if k < LAST_WORD {
+            return self.load_within(part, line, k, word);
+        }
+        match part {
+            Part::Slot(slot) => self.load_slot(slot, line, word),
+            _ => unreachable!(),
         }
     }
 
@@ -113,10 +142,11 @@ impl Task {
     }
 
     /// The last word of a line of a slot was loaded.
-    fn load_slot(&mut self, slot: u64, line: u64, word: u64) -> Turn
+    #[inline(always)]
+    pub(super) fn load_slot(&mut self, slot: u64, line: u64, word: u64)
         requires { self.old.place ≡ at.Word (part.Slot slot) line 7 }
         ensures { Tells (turns.line_turn (turns.with_word self.old word) (part.Slot slot) line)
-            result self.new }
+            Go self.new }
     {
         self.buffer.push(word);
         self.place = if line < LAST_LINE {
@@ -127,7 +157,6 @@ impl Task {
         } else {
             Place::Check { slot }
         };
-        Turn::Go
     }
 
     /// The gate's line was dropped.

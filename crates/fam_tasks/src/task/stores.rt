@@ -9,7 +9,8 @@ ghost use Rattle.fam_tasks.specs.Tells.{Tells};
 
 use super::{LAST_LINE, LAST_WORD, Task};
 use crate::answer::Turn;
-use crate::parts::{SLOT_LINES, line_of_slot};
+use crate::parts::line_of_slot;
+use fam_format::SLOT_LINES;
 use fam_machine::{Op, Place};
 
 impl Task {

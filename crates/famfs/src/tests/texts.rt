@@ -3,6 +3,7 @@
 use super::images::{FS, MASTER, OTHER, directory, params};
 use crate::said::{Said, said_lines, said_status};
 use crate::status::Status;
+use crate::texts::failure_room;
 use fam_base::{Kind, LineNo};
 use fam_format::{LogField, Reason, SuperField};
 use fam_tasks::Answer;
@@ -13,7 +14,7 @@ use uuid::Uuid;
 
 /// Whether this is shown with this status and text.
 fn says(alloc: Global, said: &Said, status: Status, want: &str) -> Result<bool, Fail> {
-    let text = said_lines(alloc, said)?;
+    let text = said_lines(alloc, failure_room(alloc)?, said)?;
     Ok(said_status(said) == status && text.as_slice() == want.as_bytes())
 }
 
@@ -138,7 +139,7 @@ fn what_mkfs_does_is_told(rt: HostRuntime) -> Result<(), Fail> {
     let small = Said::Small(32_769);
     let want = "refused image too small 32769\n";
     assert!(rt; says(alloc, &small, Status::Damaged, want)?);
-    let fault = Said::Refused(LineNo(2));
+    let fault = Said::Failed(LineNo(2));
     assert!(rt; says(alloc, &fault, Status::MediaFault, "refused media fault 2\n")?);
     Ok(())
 }

@@ -21,4 +21,4 @@ returns-in-Err-invalidate-clause-told g c = λ image is.
 
 -- src/operation.rt:29:1
 pub returns-in-Ok-clause-keeps : goal.returns-in-Ok-clause-keeps
-returns-in-Ok-clause-keeps g c = lines_kept c.args.task.now c.feed.new.self (Turned c.feed.result) c.is_sound.ensures (search rules)
+returns-in-Ok-clause-keeps g c = lines_kept c.load.new.self.lines c.args.task.now c.feed.new.self (Turned c.feed.result) c.is_sound.ensures (search rules)

@@ -3,26 +3,26 @@ use Rattle.fam_cache.proofs.StoreLemmas.{on_err_too}
 use Rattle.famfs.proofs.Answered.{says_answer, says_small, says_stopped}
 use Rattle.famfs.proofs.top.answered.Goals as goal
 use Rattle.famfs.specs.declared.said.Said.TheVariants as said
-use Rattle.famfs.specs.Ends.{Passage}
+use Rattle.famfs.specs.Ends.{Passage, passed}
 use Rattle.famfs.specs.Says.{TaskSays}
 
 -- src/top.rt:89:9
 pub returns-then-lines-lt-LEAST_LINES-clause-says :
     goal.returns-then-lines-lt-LEAST_LINES-clause-says
 returns-then-lines-lt-LEAST_LINES-clause-says g c =
-    let media : Passage = record { image = g.M.Media.image c.args.media.now; image_now = g.M.Media.image c.args.media.now; size = g.M.Media.size c.args.media.now; faults = g.M.Media.faults c.args.media.now; faults_now = g.M.Media.faults c.args.media.now } in
+    let media : Passage = passed g.M.Media.image g.M.Media.size g.M.Media.faults c.args.media.now c.args.media.now in
     subst (λ (n : ℕ). TaskSays media c.args.me c.args.cmd (said.Small n)) (sym c.lines-lines.ensures.count)
     (says_small media c.args.me c.args.cmd (g.met.M.Media.told c.args.media.now) (omega (arith, c.lines-lines.ensures.count, c.if-lines-lt-LEAST_LINES.true)) refl)
 
 -- src/top.rt:91:23
 pub returns-in_err-run-clause-want : goal.returns-in_err-run-clause-want
 returns-in_err-run-clause-want g c =
-    let media : Passage = record { image = g.M.Media.image c.args.media.now; image_now = g.M.Media.image c.run.new.media; size = g.M.Media.size c.args.media.now; faults = g.M.Media.faults c.args.media.now; faults_now = g.M.Media.faults c.run.new.media } in
+    let media : Passage = passed g.M.Media.image g.M.Media.size g.M.Media.faults c.args.media.now c.run.new.media in
     on_err_too c.from_residual.result (says_stopped media c.args.me c.args.cmd c.in_err-run.ensures.stopped)
 
 -- src/top.rt:62:1
 pub returns-clause-says : goal.returns-clause-says
 returns-clause-says g c =
-    let media : Passage = record { image = g.M.Media.image c.args.media.now; image_now = g.M.Media.image c.run.new.media; size = g.M.Media.size c.args.media.now; faults = g.M.Media.faults c.args.media.now; faults_now = g.M.Media.faults c.run.new.media } in
+    let media : Passage = passed g.M.Media.image g.M.Media.size g.M.Media.faults c.args.media.now c.run.new.media in
     says_answer media c.args.me c.args.cmd (g.met.M.Media.told c.args.media.now) c.in_ok-run.field-0 (omega (arith, c.lines-lines.ensures.count, c.if-lines-lt-LEAST_LINES.false))
     c.in_ok-run.ensures.ran c.in_ok-run.ensures.due c.in_ok-run.ensures.failed c.in_ok-run.ensures.line

@@ -2,7 +2,7 @@ use Rattle.std.proofs.Common.{◌∙◌, refl, sym, map, string_bytes, Some, Non
 use Rattle.famfs.proofs.Endings.{put_ends, shows_by}
 use Rattle.famfs.proofs.top.famfs.Goals as goal
 use Rattle.famfs.specs.declared.status.Status.TheVariants.{OutOfMemory, Usage}
-use Rattle.famfs.specs.Ends.{Meeting}
+use Rattle.famfs.specs.Ends.{Meeting, passed}
 use Rattle.famfs.specs.Texts.{memory_text, usage_text}
 use Rattle.famfs.specs.Words.{command_of}
 
@@ -13,7 +13,7 @@ returns-in-Ok-clause-ends g c =
       command = command_of (map string_bytes c.args.words.now.items);
       me = c.args.me;
       random = c.args.random;
-      media = record { image = g.M.Media.image c.args.media.now; image_now = g.M.Media.image c.command_shown.new.media; size = g.M.Media.size c.args.media.now; faults = g.M.Media.faults c.args.media.now; faults_now = g.M.Media.faults c.command_shown.new.media };
+      media = passed g.M.Media.image g.M.Media.size g.M.Media.faults c.args.media.now c.command_shown.new.media;
       sink_before = g.K.Sink.faults c.args.out.now;
       sink_now = g.K.Sink.faults c.put.new.out;
       put_before = g.K.Sink.bytes c.args.out.now;
@@ -28,7 +28,7 @@ returns-in-Err-clause-ends g c =
       command = command_of (map string_bytes c.args.words.now.items);
       me = c.args.me;
       random = c.args.random;
-      media = record { image = g.M.Media.image c.args.media.now; image_now = g.M.Media.image c.command_shown.new.media; size = g.M.Media.size c.args.media.now; faults = g.M.Media.faults c.args.media.now; faults_now = g.M.Media.faults c.command_shown.new.media };
+      media = passed g.M.Media.image g.M.Media.size g.M.Media.faults c.args.media.now c.command_shown.new.media;
       sink_before = g.K.Sink.faults c.args.out.now;
       sink_now = g.K.Sink.faults c.put-in-Err.new.out;
       put_before = g.K.Sink.bytes c.args.out.now;
@@ -43,7 +43,7 @@ returns-in-None-clause-ends g c =
       command = command_of (map string_bytes c.args.words.now.items);
       me = c.args.me;
       random = c.args.random;
-      media = record { image = g.M.Media.image c.args.media.now; image_now = g.M.Media.image c.args.media.now; size = g.M.Media.size c.args.media.now; faults = g.M.Media.faults c.args.media.now; faults_now = g.M.Media.faults c.args.media.now };
+      media = passed g.M.Media.image g.M.Media.size g.M.Media.faults c.args.media.now c.args.media.now;
       sink_before = g.K.Sink.faults c.args.out.now;
       sink_now = g.K.Sink.faults c.put-in-None.new.out;
       put_before = g.K.Sink.bytes c.args.out.now;

@@ -1,0 +1,16 @@
+use Rattle.std.proofs.Common.{refl}
+use Rattle.fam_cache.proofs.InOrder.{stands_here}
+use Rattle.fam_cache.proofs.HeldLemmas.{cell_read}
+use Rattle.fam_cache.proofs.places.held_word.Goals as goal
+
+pub returns-then-stands-clause-held : goal.returns-then-stands-clause-held
+returns-then-stands-clause-held c =
+    let es = c.args.places.now.items in
+    let at = stands_here es c.requires.sorted c.args.last c.args.line (rw c.deref.ensures.value at (c.if-stands.ensures.0 refl)) in
+    rw (cell_read es c.args.line c.args.last c.index.result.now c.requires.sorted at c.index.ensures) c.word_in.ensures.held
+
+pub returns-then-stands-clause-value : goal.returns-then-stands-clause-value
+returns-then-stands-clause-value c =
+    let es = c.args.places.now.items in
+    let at = stands_here es c.requires.sorted c.args.last c.args.line (rw c.deref.ensures.value at (c.if-stands.ensures.0 refl)) in
+    rw (cell_read es c.args.line c.args.last c.index.result.now c.requires.sorted at c.index.ensures) c.word_in.ensures.value

@@ -1,0 +1,11 @@
+use Rattle.std.proofs.Common.{refl}
+use Rattle.fam_cache.proofs.StoreLemmas.{on_err_too}
+use Rattle.famfs.proofs.Answered.{untouched_stopped}
+use Rattle.famfs.proofs.top.task_shown.Goals as goal
+use Rattle.famfs.specs.Ends.{Passage, passed}
+
+-- src/top.rt:105:16
+pub returns-in_err-room-clause-want : goal.returns-in_err-room-clause-want
+returns-in_err-room-clause-want g c =
+    let media : Passage = passed g.M.Media.image g.M.Media.size g.M.Media.faults c.args.media.now c.args.media.now in
+    on_err_too c.from_residual.result (untouched_stopped media c.args.me c.args.cmd refl)
