@@ -1,8 +1,8 @@
 -- Lines read and written in an image, and its normal form, in which each line has eight words.
-use Rattle.std.proofs.Common.{◌≡◌, ℕ, zero, suc, Bool, true, false, cond, ◌<◌, ◌≤◌, List, [], ◌∷◌, length, get_or, set, Option, Some, None, refl, sym, ap, ◌∙◌, arith}
-use Rattle.std.specs.Prelude.{◌≢◌, map, option_map}
+use Rattle.std.proofs.Common.{◌≡◌, ℕ, zero, suc, Bool, true, false, cond, ◌<◌, List, [], ◌∷◌, length, get_or, set, Some, refl, sym, ap, ◌∙◌, arith}
+use Rattle.std.specs.Prelude.{◌≢◌, map}
 use Rattle.std.proofs.Math.ListN.{get_or-map}
-use Rattle.std.proofs.lemmas.List.{map-set, set-set, set_comm, set-get_or, set_past, get_or-set_same, get_or-set_other, get_or_past, length-set, same_lists, get_or_default}
+use Rattle.std.proofs.lemmas.List.{map-set, set-get_or, get_or-set_same, get_or-set_other, length-set, same_lists, get_or_default}
 use Rattle.fam_base.specs.Image.{Image, eight, line_at, with_line, masked, with_masked, IsNormal}
 
 -- ---- a line's eight words
@@ -10,14 +10,6 @@ use Rattle.fam_base.specs.Image.{Image, eight, line_at, with_line, masked, with_
 -- a line has eight words
 pub length-eight : (words : List ℕ) → length (eight words) ≡ 8
 length-eight words = refl
-
--- they are its eight words
-pub eight-eight : (words : List ℕ) → eight (eight words) ≡ eight words
-eight-eight words = refl
-
--- a line that was read has them
-pub eight-line_at : (image : Image) (at : ℕ) → eight (line_at image at) ≡ line_at image at
-eight-line_at image at = refl
 
 -- ---- masks
 
@@ -40,11 +32,6 @@ pub masked-all : (new old : List ℕ) → masked 255 new old ≡ eight new
 unfolding masked
 masked-all new old = refl
 
--- only the eight words count
-pub masked-eight : (mask : ℕ) (new old : List ℕ) → masked mask (eight new) (eight old) ≡ masked mask new old
-unfolding masked
-masked-eight mask new old = refl
-
 same_both : (b : Bool) (x : ℕ) → cond b x x ≡ x
 same_both true x = refl
 same_both false x = refl
@@ -65,47 +52,15 @@ module _ (image : Image) (at : ℕ) (words : List ℕ) where
   pub line_at-with_line_other : (other : ℕ) → other ≢ at → line_at (with_line at words image) other ≡ line_at image other
   line_at-with_line_other other h = ap eight (get_or-set_other image at other (eight words) [] h)
 
-  -- past the end nothing is written
-  pub with_line_past : length image ≤ at → with_line at words image ≡ image
-  with_line_past past = set_past image at (eight words) past
-
-  -- the later of two writes of a line stays
-  pub with_line-with_line : (later : List ℕ) → with_line at later (with_line at words image) ≡ with_line at later image
-  with_line-with_line later = set-set image at (eight words) (eight later)
-
-  -- writes of two lines in either order
-  pub with_line_comm : (other : ℕ) (more : List ℕ) → at ≢ other → with_line other more (with_line at words image) ≡ with_line at words (with_line other more image)
-  with_line_comm other more h = set_comm image at other (eight words) (eight more) h
-
   -- an image keeps its length
   pub length-with_line : length (with_line at words image) ≡ length image
   length-with_line = length-set image at (eight words)
-
-  -- only the eight words are written
-  pub with_line-eight : with_line at (eight words) image ≡ with_line at words image
-  with_line-eight = refl
-
--- past the image's end a line has zeros
-pub line_at_past : (image : Image) (at : ℕ) → length image ≤ at → line_at image at ≡ eight []
-line_at_past image at past = ap eight (get_or_past image at [] past)
 
 module _ (image : Image) (at : ℕ) (words : List ℕ) (mask : ℕ) where
   -- a masked write is a write of the masked line
   pub with_masked-with_line : with_masked at words mask image ≡ with_line at (masked mask words (line_at image at)) image
   unfolding masked
   with_masked-with_line = refl
-
-  pub line_at-with_masked : at < length image → line_at (with_masked at words mask image) at ≡ masked mask words (line_at image at)
-  line_at-with_masked within = ap eight (get_or-set_same image at _ [] within) ∙ eight-masked mask words (line_at image at)
-
-  pub line_at-with_masked_other : (other : ℕ) → other ≢ at → line_at (with_masked at words mask image) other ≡ line_at image other
-  line_at-with_masked_other other h = ap eight (get_or-set_other image at other _ [] h)
-
-  pub with_masked_past : length image ≤ at → with_masked at words mask image ≡ image
-  with_masked_past past = set_past image at _ past
-
-  pub length-with_masked : length (with_masked at words mask image) ≡ length image
-  length-with_masked = length-set image at _
 
 -- ---- the normal form
 
@@ -155,22 +110,3 @@ same_images a b normal_a normal_b same_length same_lines =
     get_or_default a k d (eight []) below
     ∙ sym (line_at_normal a normal_a k) ∙ same_lines k below ∙ line_at_normal b normal_b k
     ∙ get_or_default b k (eight []) d (omega arith))
-
--- ---- where the image may be untold
-
--- writes keep the form of an image that may be told
-pub normal_after_line : (image : Option Image) (at : ℕ) (words : List ℕ) → IsNormal image → IsNormal (option_map (with_line at words) image)
-normal_after_line None at words normal = tt
-normal_after_line (Some image) at words normal = normal-with_line image normal at words
-
-pub normal_after_masked : (image : Option Image) (at : ℕ) (words : List ℕ) (mask : ℕ) → IsNormal image → IsNormal (option_map (with_masked at words mask) image)
-normal_after_masked None at words mask normal = tt
-normal_after_masked (Some image) at words mask normal = normal-with_masked image normal at words mask
-
-pub none_masked : (image : Option Image) (at : ℕ) (words : List ℕ) → IsNormal image → option_map (with_masked at words 0) image ≡ image
-none_masked None at words normal = refl
-none_masked (Some image) at words normal = ap Some (with_masked-none image normal at words)
-
-pub all_masked : (image : Option Image) (at : ℕ) (words : List ℕ) → option_map (with_masked at words 255) image ≡ option_map (with_line at words) image
-all_masked None at words = refl
-all_masked (Some image) at words = ap Some (with_masked-all image at words)

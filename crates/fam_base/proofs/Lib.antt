@@ -4,3 +4,4 @@ pub mod ImageLemmas
 pub mod EscapeLemmas
 pub mod NameLemmas
 pub mod UnitLemmas
+pub mod FieldOrder

@@ -8,6 +8,7 @@ use Rattle.std.proofs.lemmas.List.{take-append-drop, drop_more, drop-replicate, 
 use Rattle.std.proofs.lemmas.List.Folds.{list_all-append, list_any_at, list_any_none, list_all_at}
 use Rattle.std.proofs.lemmas.List.Sums.{suffix_len_is}
 use Rattle.std.proofs.lemmas.List.Splits.{length-slice_split}
+use Rattle.fam_base.proofs.FieldOrder.{HasNoZero}
 use Rattle.fam_base.specs.Paths.{is_name, is_slash, names, has_no_nul, path_limit, is_path, parent_of, IsPathField}
 
 pub record PathParts (bytes : List ℕ) : Type 0 where
@@ -193,3 +194,11 @@ parent_of_front front name none =
     parent_at (front ++ 47 ∷ name) (length front) (omega arith) (get_or_at front 47 name 0 (length front) refl)
     (λ k from within slash. no_slash_at name none (k - length front - 1) (omega arith) (sym (after_front front name k from) ∙ slash))
     ∙ ap Some (take-append_seam front (47 ∷ name))
+
+-- a path has no zero
+pub no_zero : (xs : List ℕ) → has_no_nul xs ≡ true → HasNoZero xs
+no_zero [] h = tt
+no_zero (x ∷ xs) h =
+    let first : 0 < x = grind (arith, nat_tests) in
+    let rest : has_no_nul xs ≡ true = grind (arith, nat_tests) in
+    (first, no_zero xs rest)

@@ -9,6 +9,7 @@ mod cmd;
 mod entry;
 mod escapes;
 mod extents;
+mod field_order;
 mod host_name;
 mod image;
 mod line;

@@ -4,7 +4,7 @@
 
 ghost use Rattle.std.specs.Prelude.{◌≡◌, ◌↔◌, ℕ, ◌<◌, ◌≤◌, List, ◌∷◌, ◌++◌, true, false, Some, None, IsTrue, IsOk, IfOk, length};
 ghost use Rattle.std.specs.List.{list_all, list_any};
-ghost use Rattle.fam_base.specs.Paths.{slash, is_name, is_slash, names, has_no_nul, is_path, parent_of};
+ghost use Rattle.fam_base.specs.Paths.{slash, is_name, is_slash, names, has_no_nul, is_path, padded, parent_of};
 
 use std::marker::Model;
 
@@ -105,6 +105,15 @@ impl Path {
         ensures path { IsTrue (is_path self.now) }
     {
         &self.bytes[..self.len]
+    }
+
+    /// The bytes of the path in a field, with zeros behind.
+    #[inline(always)]
+    pub(crate) fn field(&self) -> &[u8; PATH_LIMIT]
+        ensures same { result.now ≡ padded self.now }
+        ensures path { IsTrue (is_path self.now) }
+    {
+        &self.bytes
     }
 
     /// The path without its last name. A path of one name has none: its parent is the root, which is no

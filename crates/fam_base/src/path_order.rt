@@ -5,6 +5,7 @@ ghost use Rattle.std.specs.Cmp;
 ghost use Rattle.std.specs.Cmp.Lexicographic.{nat_list_eq_equiv, nat_list_cmp_total, texts_ties, texts_po};
 ghost use Rattle.fam_base.specs.PathOrder.{path_cmp, path_eq};
 
+use crate::field_order::order;
 use crate::path::Path;
 use std::cmp::Ordering;
 
@@ -45,6 +46,6 @@ impl Ord for Path {
     ghost matches_eq = { texts_ties };
 
     fn cmp(&self, other: &Path) -> Ordering {
-        self.bytes().cmp(other.bytes())
+        order(self.field(), other.field())
     }
 }

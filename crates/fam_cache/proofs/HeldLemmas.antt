@@ -10,9 +10,10 @@ use Rattle.fam_machine.specs.declared.cell.Cell.{Cell}
 use Rattle.fam_machine.specs.declared.cell.Cell.TheVariants.{Absent, Clean, Dirty}
 use Rattle.fam_machine.specs.Caches.{cell_at, with_cell}
 use Rattle.fam_machine.proofs.CacheLemmas.{greater, equal, same_key, other_key, cell_at-empty, cell_at-with_cell_same, cell_at-with_cell_other, same_cells, with_cell_own}
+use Rattle.fam_machine.proofs.WideLines.{eight_whole}
 use Rattle.fam_cache.specs.Places.{Places, normal, cache_of, no_place, number_at, copy_at, Before, StandsAt, IsGap, is_absent, EndsAbsent}
 use Rattle.fam_base.specs.Image.{eight}
-use Rattle.std.proofs.lemmas.List.{get_or_default, same_lists, length-set}
+use Rattle.std.proofs.lemmas.List.{get_or_default, length-set}
 use Rattle.fam_cache.proofs.InOrder.{rises}
 
 -- the copy of what was found among places
@@ -136,12 +137,6 @@ eight_index words (suc (suc (suc (suc (suc zero))))) below = refl
 eight_index words (suc (suc (suc (suc (suc (suc zero)))))) below = refl
 eight_index words (suc (suc (suc (suc (suc (suc (suc zero))))))) below = refl
 eight_index words (suc (suc (suc (suc (suc (suc (suc (suc k)))))))) below = absurd (omega arith)
-
--- a list of eight words is its eight words
-pub eight_whole : (words : List ℕ) → length words ≡ 8 → eight words ≡ words
-eight_whole words is =
-    same_lists (eight words) words (sym is) (λ k d below.
-    get_or_default (eight words) k d 0 below ∙ eight_index words k below ∙ get_or_default words k 0 d (omega arith))
 
 -- a word set in eight words leaves eight words
 pub eight_set : (words : List ℕ) (k v : ℕ) → eight (set (eight words) k v) ≡ set (eight words) k v

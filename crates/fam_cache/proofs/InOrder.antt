@@ -2,7 +2,6 @@
 use Rattle.std.proofs.Common.{◌≡◌, ◌≢◌, ℕ, zero, suc, ◌+◌, ◌<◌, ◌≤◌, Bool, true, T, inl, inr, [], ◌∷◌, length, set, refl, sym, ap, subst, ◌∙◌, arith}
 use Rattle.std.proofs.lemmas.Bool.{false≢true, and_parts, cases_order, cases_eq}
 use Rattle.std.specs.List.{insert}
-use Rattle.std.proofs.lemmas.List.Edits.{get_or-insert_at, get_or-insert_below, length-insert}
 use Rattle.std.specs.Ordering.{nat_cmp, is_lt}
 use Rattle.std.specs.Cmp.{nat_cmp_total}
 use Rattle.std.specs.FinMap.{is_sorted, put}
@@ -10,7 +9,7 @@ use Rattle.std.specs.FinMap.Entries.{below_all, is_sorted-put}
 use Rattle.fam_machine.specs.declared.cell.Cell.{Cell}
 use Rattle.fam_machine.proofs.CacheLemmas.{less, greater, equal}
 use Rattle.fam_machine.proofs.DirtyLemmas.{true_of}
-use Rattle.fam_cache.specs.Places.{Places, number_at, Before, StandsAt, IsGap, no_place}
+use Rattle.fam_cache.specs.Places.{Places, number_at, Before, StandsAt, IsGap}
 
 pub truth : (b : Bool) → b ≡ true → T b
 truth b h = subst (λ (x : Bool). T x) (sym h) tt
@@ -98,11 +97,3 @@ module _ (es : Places) (i k : ℕ) (v : Cell) where
 
   pub sorted_set : is_sorted nat_cmp es ≡ true → StandsAt es i k → is_sorted nat_cmp (set es i (k, v)) ≡ true
   sorted_set sorted at = ap (is_sorted nat_cmp) (put_at at) ∙ sorted_put es k v sorted
-
-  -- a line that was put into its gap stands there
-  pub stands_after : IsGap es i k → StandsAt (insert es i (k, v)) i k
-  stands_after gap = record {
-    within = omega (arith, length-insert es i (k, v) gap.within, gap.within);
-    before = λ j b. omega (arith, ap (λ (e : ℕ × Cell). e.0) (get_or-insert_below es i (k, v) no_place j b gap.within), gap.before j b);
-    is = ap (λ (e : ℕ × Cell). e.0) (get_or-insert_at es i (k, v) no_place gap.within);
-  }

@@ -61,11 +61,6 @@ abbrev pub is_gap : Spot → Bool
 is_gap (Place at) = false
 is_gap (Gap at) = true
 
--- the copy at a spot, absent in a gap
-abbrev pub copy_in : Places → Spot → Cell
-copy_in places (Place at) = copy_at places at
-copy_in places (Gap at) = Absent
-
 -- a place that is given up where it stands last
 abbrev pub is_absent : Cell → Bool
 is_absent Absent = true

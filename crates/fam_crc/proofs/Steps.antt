@@ -180,6 +180,22 @@ word_split r w a b c d e f g h _ below pa pb pc pd pe pf pg ph =
     (level 8 (2 ^ 48) x))))))) in
     rw (pa, pb, pc, pd, pe, pf, pg, ph) (simp xor_assoc (sum ∙ ap (steps 64) (xor_comm w r) ∙ steps_word r w below))
 
+steps_zero : (n : ℕ) → steps n 0 ≡ 0
+unfolding steps
+steps_zero zero = refl
+steps_zero (suc n) = steps_zero n
+
+none_there : (n y : ℕ) → y ≡ 0 → 0 ≡ steps n y
+none_there n y none = sym (ap (steps n) none ∙ steps_zero n)
+
+-- the four look-ups of a word of which the higher half adds nothing
+pub half_split : (r w a b c d : ℕ) → r < 2 ^ 32 → w < 2 ^ 64 → let x : ℕ = bit_xor w r in
+    x < 2 ^ 32 → a ≡ steps 64 (x % 256) → b ≡ steps 56 (x / 2 ^ 8 % 256) → c ≡ steps 48 (x / 2 ^ 16 % 256) → d ≡ steps 40 (x / 2 ^ 24 % 256) → bit_xor (bit_xor (bit_xor a b) c) d ≡ fold after_byte r (to_le_bytes w64 w)
+half_split r w a b c d fits below small pa pb pc pd =
+    let x : ℕ = bit_xor w r in
+    sym (xor_zero_r _ ∙ xor_zero_r _ ∙ xor_zero_r _ ∙ xor_zero_r _)
+    ∙ word_split r w a b c d 0 0 0 0 fits below pa pb pc pd (none_there 32 (x / 2 ^ 32 % 256) (omega (arith, small))) (none_there 24 (x / 2 ^ 40 % 256) (omega (arith, small))) (none_there 16 (x / 2 ^ 48 % 256) (omega (arith, small))) (none_there 8 (x / 2 ^ 56) (omega (arith, small)))
+
 -- the highest byte of a word and a register
 pub top_fits : (w r : ℕ) → w < 2 ^ 64 → r < 2 ^ 32 → bit_xor w r / 2 ^ 56 < 256
 top_fits w r a b = let both : bit_xor w r < 2 ^ 64 = xor_lt 64 w r a (omega arith) in omega arith

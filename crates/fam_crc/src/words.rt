@@ -11,6 +11,9 @@ use crate::tables::{
     after_8, after_16, after_24, after_32, after_40, after_48, after_56, after_64,
 };
 
+/// The first number above those of the lower half of a word.
+const HALF: u64 = 0x1_0000_0000;
+
 /// The CRC-32 of the words' bytes, each word by its eight bytes with the lowest first. That of no words is 0.
 pub fn crc_words(words: &[u64]) -> u32
     ensures { result ≡ crc32 (bytes_of_words words.now) }
@@ -27,11 +30,14 @@ fn word_step(register: u32, word: u64) -> u32
     ensures { result ≡ fold after_byte register (to_le_bytes w64 word) }
 {
     let x = word ^ register as u64;
-    after_64((x % 256) as u8)
+    let low = after_64((x % 256) as u8)
         ^ after_56(((x >> 8) % 256) as u8)
         ^ after_48(((x >> 16) % 256) as u8)
-        ^ after_40(((x >> 24) % 256) as u8)
-        ^ after_32(((x >> 32) % 256) as u8)
+        ^ after_40(((x >> 24) % 256) as u8);
+    if x < HALF {
+        return low;
+    }
+    low ^ after_32(((x >> 32) % 256) as u8)
         ^ after_24(((x >> 40) % 256) as u8)
         ^ after_16(((x >> 48) % 256) as u8)
         ^ after_8((x >> 56) as u8)

@@ -2,3 +2,4 @@ pub mod Filling
 pub mod ExtentsRead
 pub mod Ranges
 pub mod Found
+pub mod Strays

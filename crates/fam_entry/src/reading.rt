@@ -132,7 +132,22 @@ fn has_stray_byte(words: &[u64; SLOT_WORDS], i: usize) -> bool
     false
 }
 
+/// Whether a word is one. Most words are 0, and those are none.
+#[inline(always)]
 fn is_stray(words: &[u64; SLOT_WORDS], i: usize) -> bool
+    requires from { slots.extents_word ≤ i }
+    requires below { i < CRC_WORD }
+    ensures { result ≡ slots.is_stray words.now i }
+{
+    let word = words[i];
+    if word == 0 {
+        return false;
+    }
+    is_stray_there(words, i)
+}
+
+/// Whether a word is one, by its place.
+fn is_stray_there(words: &[u64; SLOT_WORDS], i: usize) -> bool
     requires from { slots.extents_word ≤ i }
     requires below { i < CRC_WORD }
     ensures { result ≡ slots.is_stray words.now i }

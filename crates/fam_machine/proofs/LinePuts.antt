@@ -8,14 +8,8 @@ use Rattle.fam_machine.specs.declared.op.Op.{Op}
 use Rattle.fam_machine.specs.declared.op.Op.TheVariants.{Load, Store, Invalidate}
 use Rattle.fam_machine.specs.Caches.{Cache, cell_at, with_cell}
 use Rattle.fam_machine.specs.OneLine.{brought, current, sent, stored}
-use Rattle.fam_machine.specs.Operations.{Machine, operated, operated_all}
-use Rattle.fam_machine.specs.Table.{load_ops, store_ops}
-use Rattle.fam_machine.specs.Task.{line_no}
+use Rattle.fam_machine.specs.Operations.{Machine, machine, operated, operated_all, load_ops, store_ops, line_no}
 use Rattle.fam_machine.proofs.CacheLemmas.{cell_at-with_cell_same, with_cell_twice}
-
--- the machine with a cache
-abbrev pub machine : Image → Cache → Machine
-machine image cache = record { image = image; cache = cache }
 
 -- operations one after another, in two parts
 pub operated_all-append : (a b : List Op) (m : Machine) → operated_all (a ++ b) m ≡ operated_all b (operated_all a m)

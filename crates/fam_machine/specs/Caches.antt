@@ -1,6 +1,6 @@
 -- One host's whole cache: a finite map from line number to eight words and a mark. A line that the map doesn't
 -- hold is absent. An operation changes the cache and the image at its own line, and nothing else.
-use Rattle.std.specs.Prelude.{ℕ, ◌≡◌, Bool, true, false, List, Option, Some, None, refl, count_by}
+use Rattle.std.specs.Prelude.{ℕ, ⊤, ◌≡◌, Bool, true, false, List, length, Option, Some, None, refl, count_by}
 use Rattle.std.specs.Ordering.{nat_cmp}
 use Rattle.std.specs.FinMap as map
 use Rattle.std.specs.Coded.{Coded, code_by, coded×, coded_ℕ, coded_bool, coded_list}
@@ -49,6 +49,16 @@ cell_changed line step cache = with_cell line (step (cell_at cache line)) cache
 -- the image after a step at one line, which makes eight words of eight words
 abbrev pub line_changed : ℕ → (List ℕ → List ℕ) → Image → Image
 line_changed line step image = with_line line (step (line_at image line)) image
+
+-- a copy that memory needn't get: none, or eight words that the host didn't store into. They may be stale
+abbrev pub IsCleanCell : Cell → Type 0
+IsCleanCell Absent = ⊤
+IsCleanCell (Clean words) = length words ≡ 8
+IsCleanCell (Dirty words) = ⊥
+
+-- a cache that has nothing to send
+abbrev pub IsClean : Cache → Type 0
+IsClean cache = (line : ℕ) → IsCleanCell (cell_at cache line)
 
 -- whether memory may lack words of a line
 abbrev pub is_marked_dirty : Mark → Bool

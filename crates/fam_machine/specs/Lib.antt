@@ -1,10 +1,9 @@
 pub mod OneLine
 pub mod Moves
 pub mod Caches
-pub mod Task
-pub mod Turns
-pub mod Table
-pub mod Stands
 pub mod Operations
-pub mod Counts
-pub mod Solo
+pub mod Cuts
+pub mod HostMoves
+pub mod Slips
+pub mod Whole
+pub mod Mkfs

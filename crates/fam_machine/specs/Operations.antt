@@ -1,5 +1,6 @@
 -- One operation on a whole cache and the one memory. docs/MODEL.md, "The machine".
-use Rattle.std.specs.Prelude.{ℕ, List, [], ◌∷◌, slice_index, Option, Some, None, option_map}
+use Rattle.std.specs.Prelude.{ℕ, List, [], ◌∷◌, slice_index, Option, Some, None, option_map, ⊤, ◌<◌, length, map}
+use Rattle.std.specs.List.{range_with_len}
 use Rattle.fam_base.specs.declared.line.LineNo.{LineNo}
 use Rattle.fam_base.specs.Image.{Image, line_at, with_line}
 use Rattle.fam_machine.specs.declared.cell.Cell.{Cell}
@@ -9,6 +10,10 @@ use Rattle.fam_machine.specs.declared.op.Op.TheVariants.{Load, Store, WriteBack,
 use Rattle.fam_machine.specs.OneLine.{brought, cleaned, current, failed_send, sent, stored}
 use Rattle.fam_machine.specs.Caches.{Cache, cell_at, cell_changed, line_changed, with_cell}
 
+-- a line by its number
+abbrev pub line_no : ℕ → LineNo
+line_no l = record { 0 = l }
+
 -- the line that an operation asks for; a Digest asks for none
 abbrev pub op_line : Op → Option LineNo
 op_line (Load l k) = Some l
@@ -17,10 +22,22 @@ op_line (WriteBack l) = Some l
 op_line (Invalidate l) = Some l
 op_line Digest = None
 
+-- the operation's line is one of the image's
+abbrev pub IsInside : Op → Image → Type 0
+IsInside (Load line k) image = line.0 < length image
+IsInside (Store line k value) image = line.0 < length image
+IsInside (WriteBack line) image = line.0 < length image
+IsInside (Invalidate line) image = line.0 < length image
+IsInside Digest image = ⊤
+
 -- memory, and the cache of the host that operates on it
 pub record Machine : Type 0 where
   pub image : Image
   pub cache : Cache
+
+-- the machine of an image and a cache
+abbrev pub machine : Image → Cache → Machine
+machine image cache = record { image = image; cache = cache }
 
 -- what an operation leaves, where memory doesn't fail
 abbrev pub operated : Op → Machine → Machine
@@ -40,27 +57,53 @@ given (WriteBack l) m = None
 given (Invalidate l) m = None
 given Digest m = None
 
--- an absent line can't be brought: memory stays
-abbrev pub not_brought : Image → Cell → Option Image
-not_brought image Absent = Some image
-not_brought image (Clean words) = None
-not_brought image (Dirty words) = None
+-- the word that comes of an operation: a load gives one
+abbrev pub given_by : Op → ℕ → Option ℕ
+given_by (Load line k) word = Some word
+given_by (Store line k value) word = None
+given_by (WriteBack line) word = None
+given_by (Invalidate line) word = None
+given_by Digest word = None
 
--- the image after a send of a line failed, of which the masked words came through
-abbrev pub not_sent : ℕ → ℕ → Machine → Option Image
-not_sent through l m =
-    option_map (λ words. with_line l words m.image) (failed_send through (line_at m.image l) (cell_at m.cache l))
+-- where memory failed: the line, and the machine that is left
+pub record Failure : Type 0 where
+  pub line : LineNo
+  pub left : Machine
 
--- the image after memory failed in an operation; a mask says which words of a send came through. The cache is as
--- before. None: the operation asks nothing of memory, and can't fail
-abbrev pub failed : ℕ → Op → Machine → Option Image
-failed through (Load l k) m = not_brought m.image (cell_at m.cache l.0)
-failed through (Store l k value) m = not_brought m.image (cell_at m.cache l.0)
-failed through (WriteBack l) m = not_sent through l.0 m
-failed through (Invalidate l) m = not_sent through l.0 m
+-- an absent line can't be brought: the machine stays
+abbrev pub not_brought : LineNo → Machine → Cell → Option Failure
+not_brought l m Absent = Some (record { line = l; left = m })
+not_brought l m (Clean words) = None
+not_brought l m (Dirty words) = None
+
+-- a send of a line failed that left these words in memory. The copy is as before
+abbrev pub torn_at : LineNo → Machine → List ℕ → Failure
+torn_at l m words = record { line = l; left = record m { image = with_line l.0 words m.image } }
+
+-- so it failed, and the masked words came through
+abbrev pub not_sent : ℕ → LineNo → Machine → Option Failure
+not_sent through l m = option_map (torn_at l m) (failed_send through (line_at m.image l.0) (cell_at m.cache l.0))
+
+-- memory failed in an operation; a mask says which words of a send came through. None: the operation asks nothing
+-- of memory, and can't fail
+abbrev pub failed : ℕ → Op → Machine → Option Failure
+failed through (Load l k) m = not_brought l m (cell_at m.cache l.0)
+failed through (Store l k value) m = not_brought l m (cell_at m.cache l.0)
+failed through (WriteBack l) m = not_sent through l m
+failed through (Invalidate l) m = not_sent through l m
 failed through Digest m = None
 
 -- operations, one after another
 abbrev pub operated_all : List Op → Machine → Machine
 operated_all [] m = m
 operated_all (op ∷ ops) m = operated_all ops (operated op m)
+
+-- Operations on all words of a line.
+
+-- a line is invalidated, and its first so many words are loaded
+abbrev pub load_ops : ℕ → ℕ → List Op
+load_ops line count = Invalidate (line_no line) ∷ map (λ k. Load (line_no line) k) (range_with_len 0 count)
+
+-- the eight words of a line are stored
+abbrev pub store_ops : ℕ → List ℕ → List Op
+store_ops line words = map (λ k. Store (line_no line) k (slice_index words k)) (range_with_len 0 8)

@@ -1,10 +1,15 @@
 //! Laws of the machine at one line: each operation but a store is a drift, a list of moves that a cache may
 //! make by itself. So what every move keeps, every operation keeps.
 
-ghost use Rattle.std.specs.Prelude.{◌≡◌, ℕ, List, Some};
+ghost use Rattle.std.specs.Prelude.{◌≡◌, ◌<◌, ℕ, List, Some, length, map as map_list};
+ghost use Rattle.fam_base.specs.Image.{Image, eight};
+ghost use Rattle.fam_machine.specs.HostMoves.{Move, move_failed, moved_cell, moved_words};
 ghost use Rattle.fam_machine.specs.Moves.{Drifts};
 ghost use Rattle.fam_machine.specs.OneLine.{brought, cleaned, failed_leak, failed_send, fetched, leaked, sent};
+ghost use Rattle.fam_machine.specs.Operations.{Failure, Machine, failed, IsInside};
+ghost use Rattle.fam_machine.specs.Slips.{SlipsAt};
 ghost use Rattle.fam_machine.specs.declared.cell.Cell.{Cell};
+ghost use Rattle.fam_machine.specs.declared.op.Op.{Op};
 
 /// A load brings an absent line; so does a store, before it sets its word.
 pub fn bring_drifts()
@@ -34,4 +39,20 @@ pub fn leak_drifts()
 /// A fetch brings an absent line, and refreshes masked words of a clean one.
 pub fn fetch_drifts()
     ensures { (mask : ℕ) (m : List ℕ) (c : Cell) → Drifts m c m (fetched mask m c) }
+{}
+
+/// A cache's own move, an eviction, a leak or a fetch, is a drift.
+pub fn own_moves_drift()
+    ensures { (move : Move) (m : List ℕ) (c : Cell) → Drifts m c (moved_words move m c) (moved_cell move m c) }
+{}
+
+/// Where memory fails, in an operation or in a cache's own move, no line of memory but its own has other words, and it
+/// drifted there while the host's copy stayed.
+pub fn failures_slip()
+    ensures operation { (op : Op) (m : Machine) (through : ℕ) (failure : Failure) →
+        map_list eight m.image ≡ m.image → IsInside op m.image → failed through op m ≡ Some failure →
+        SlipsAt failure.line.0 m.image failure.left.image m.cache }
+    ensures own_move { (move : Move) (line : ℕ) (m : Machine) (through : ℕ) (left : Image) →
+        map_list eight m.image ≡ m.image → line < length m.image → move_failed move line through m ≡ Some left →
+        SlipsAt line m.image left m.cache }
 {}

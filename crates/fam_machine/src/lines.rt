@@ -4,9 +4,7 @@ ghost use Rattle.std.specs.Prelude.{◌≡◌, ◌∷◌, ◌++◌, ℕ, List, [
 ghost use Rattle.fam_base.specs.Image.{eight, line_at, with_line};
 ghost use Rattle.fam_machine.specs.Caches.{cell_at, with_cell};
 ghost use Rattle.fam_machine.specs.OneLine.{current};
-ghost use Rattle.fam_machine.specs.Operations.{Machine, operated, operated_all};
-ghost use Rattle.fam_machine.specs.Table.{load_ops, store_ops};
-ghost use Rattle.fam_machine.specs.Task.{line_no};
+ghost use Rattle.fam_machine.specs.Operations.{Machine, operated, operated_all, load_ops, store_ops, line_no};
 ghost use Rattle.fam_machine.specs.declared.cell.Cell.TheVariants.{Absent, Clean};
 ghost use Rattle.fam_machine.specs.declared.op.Op.TheVariants.{Invalidate};
 

@@ -1,14 +1,14 @@
 -- How making a file system ends, by how its parts end.
-use Rattle.std.proofs.Common.{ℕ, ◌≡◌, ◌<◌, ◌≤◌, Bool, true, false, cond, List, Some, inl, inr, sym, ap, subst, ◌∙◌, arith}
+use Rattle.std.proofs.Common.{ℕ, ◌≡◌, ◌<◌, ◌≤◌, Bool, true, false, List, Some, inl, inr, sym, ap, subst, ◌∙◌, arith}
 use Rattle.fam_base.specs.declared.entry.Params.{Params}
 use Rattle.fam_base.specs.Image.{Image, line_at}
 use Rattle.fam_format.specs.Reading.{super_in}
-use Rattle.fam_machine.specs.Operations.{Machine, operated_all}
+use Rattle.fam_machine.specs.Operations.{Machine, machine, operated_all}
 use Rattle.fam_media.specs.Causes.{Rose}
 use Rattle.fam_mkfs.specs.Ends.{IsMade, IsFound, IsCut}
-use Rattle.fam_mkfs.specs.Mkfs.{read_ops, write_ops, mkfs_ops, found, goes_on}
+use Rattle.fam_machine.specs.Mkfs.{read_ops, write_ops, mkfs_ops, due_by, found, goes_on}
 use Rattle.fam_mkfs.specs.Parts.{Stands}
-use Rattle.fam_mkfs.specs.Runs.{Seen, Passes, Fails, Breaks, machine}
+use Rattle.fam_mkfs.specs.Runs.{Seen, Passes, Fails, Breaks}
 use Rattle.fam_mkfs.proofs.Rows.{passes_both, breaks_first, breaks_second}
 
 -- what rose later rose
@@ -16,7 +16,7 @@ pub rose_since : (a b c : ℕ) → a ≤ b → Rose b c → Rose a c
 rose_since a b c upto rose = elim rose [ inl h ↦ inl (omega arith) | inr h ↦ inr h ]
 
 -- both cases of what is due begin with the reading
-due_first : (goes : Bool) (p : Params) (m : Machine) (line : ℕ) (now : Seen) → Fails read_ops m line now → Fails (mkfs_ops p) m line now → Fails (cond goes (mkfs_ops p) read_ops) m line now
+due_first : (goes : Bool) (p : Params) (m : Machine) (line : ℕ) (now : Seen) → Fails read_ops m line now → Fails (mkfs_ops p) m line now → Fails (due_by goes p) m line now
 due_first true p m line now short long = long
 due_first false p m line now short long = short
 
@@ -34,7 +34,7 @@ cut_late p force size line s t u lines before mid now mid_size within same later
   within = omega arith;
   rose = rose_since before mid now later rose;
   fails = λ image is.
-      subst (λ (b : Bool). Fails (cond b (mkfs_ops p) read_ops) (machine image s.lines) line u) (sym goes ∙ ap (goes_on force) (says image is p.device))
+      subst (λ (b : Bool). Fails (due_by b p) (machine image s.lines) line u) (sym goes ∙ ap (goes_on force) (says image is p.device))
       ((breaks_second read_ops (write_ops p) line s t u passes broken).fails image is);
 }
 

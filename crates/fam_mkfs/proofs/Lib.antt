@@ -4,4 +4,3 @@ pub mod WholeLines
 pub mod SuperLines
 pub mod SuperPuts
 pub mod Ending
-pub mod Formats

@@ -2,9 +2,9 @@
 use Rattle.std.proofs.Common.{ℕ, ◌≡◌, List, ◌∷◌, ◌++◌, Some, sym, ap, subst, ◌∙◌, append_assoc}
 use Rattle.fam_base.specs.Image.{Image}
 use Rattle.fam_machine.specs.declared.op.Op.{Op}
-use Rattle.fam_machine.specs.Operations.{Machine, failed, operated_all}
+use Rattle.fam_machine.specs.Operations.{Machine, failed, machine, operated_all}
 use Rattle.fam_machine.proofs.LinePuts.{operated_all-append}
-use Rattle.fam_mkfs.specs.Runs.{Seen, Passes, Breaks, machine}
+use Rattle.fam_mkfs.specs.Runs.{Seen, Passes, Breaks}
 
 -- what a row leaves, as a machine
 left_by : (ops : List Op) (before now : Seen) (image : Image) → Passes ops before now → before.told ≡ Some image → machine (operated_all ops (machine image before.lines)).image now.lines ≡ operated_all ops (machine image before.lines)
@@ -24,16 +24,18 @@ pub breaks_first : (a b : List Op) (line : ℕ) (s t : Seen) → Breaks a line s
 breaks_first a b line s t broken = record {
   fails = λ image is.
       let f = broken.fails image is in
+      let c = f.cuts in
       record {
-        done = f.done;
-        op = f.op;
-        rest = f.rest ++ b;
-        split = ap (λ (ops : List Op). ops ++ b) f.split ∙ append_assoc f.done (f.op ∷ f.rest) b;
-        at = f.at;
-        through = f.through;
-        fits = f.fits;
-        image = f.image;
         left = f.left;
+        cuts = record {
+          done = c.done;
+          op = c.op;
+          rest = c.rest ++ b;
+          split = ap (λ (ops : List Op). ops ++ b) c.split ∙ append_assoc c.done (c.op ∷ c.rest) b;
+          through = c.through;
+          fits = c.fits;
+          fails = c.fails;
+        };
         told = f.told;
         lines = f.lines;
       };
@@ -44,19 +46,21 @@ pub breaks_second : (a b : List Op) (line : ℕ) (s t u : Seen) → Passes a s t
 breaks_second a b line s t u p broken = record {
   fails = λ image is.
       let f = broken.fails _ (p.image image is) in
-      let joined = ap (operated_all f.done) (left_by a s t image p is) ∙ sym (operated_all-append a f.done (machine image s.lines)) in
+      let c = f.cuts in
+      let joined = ap (operated_all c.done) (left_by a s t image p is) ∙ sym (operated_all-append a c.done (machine image s.lines)) in
       record {
-        done = a ++ f.done;
-        op = f.op;
-        rest = f.rest;
-        split = ap (λ (ops : List Op). a ++ ops) f.split ∙ sym (append_assoc a f.done (f.op ∷ f.rest));
-        at = f.at;
-        through = f.through;
-        fits = f.fits;
-        image = f.image;
-        left = ap (failed f.through f.op) (sym joined) ∙ f.left;
+        left = f.left;
+        cuts = record {
+          done = a ++ c.done;
+          op = c.op;
+          rest = c.rest;
+          split = ap (λ (ops : List Op). a ++ ops) c.split ∙ sym (append_assoc a c.done (c.op ∷ c.rest));
+          through = c.through;
+          fits = c.fits;
+          fails = ap (failed c.through c.op) (sym joined) ∙ c.fails;
+        };
         told = f.told;
-        lines = f.lines ∙ ap (λ (m : Machine). m.cache) joined;
+        lines = f.lines;
       };
 }
 

@@ -3,14 +3,14 @@ use Rattle.std.proofs.Common.{ℕ, ◌≡◌, ◌≢◌, List, [], ◌∷◌, Op
 use Rattle.std.specs.Prelude.{option_map}
 use Rattle.std.proofs.lemmas.Bool.{false≢true}
 use Rattle.fam_base.specs.Image.{Image, with_line}
+use Rattle.fam_base.specs.declared.line.LineNo.{LineNo}
 use Rattle.fam_cache.specs.Effects.{FailsTo, FromMemory}
 use Rattle.fam_machine.specs.declared.cell.Cell.{Cell}
 use Rattle.fam_machine.specs.declared.cell.Cell.TheVariants.{Absent, Clean, Dirty}
 use Rattle.fam_machine.specs.declared.op.Op.TheVariants.{Load, Store, Invalidate}
 use Rattle.fam_machine.specs.Caches.{Cache, cell_at, cell_changed, with_cell}
 use Rattle.fam_machine.specs.OneLine.{IsHeld, brought, failed_send, stored}
-use Rattle.fam_machine.specs.Operations.{not_brought}
-use Rattle.fam_machine.specs.Task.{line_no}
+use Rattle.fam_machine.specs.Operations.{Machine, machine, not_brought, torn_at, line_no}
 use Rattle.fam_machine.proofs.CacheLemmas.{cell_at-with_cell_same, cell_at-with_cell_other, with_cell_own}
 use Rattle.fam_media.specs.Outside.{IfTold}
 use Rattle.fam_mkfs.specs.Runs.{Breaks, seen}
@@ -50,24 +50,25 @@ others_after_load told line old new from = others_same line (brought from.memory
 pub others_after_store : (told : Option Image) (line word value : ℕ) (old new : Cache) → FromMemory told line (λ memory. new ≡ cell_changed line (stored word value memory) old) → (other : ℕ) → other ≢ line → cell_at new other ≡ cell_at old other
 others_after_store told line word value old new from = others_same line (stored word value from.memory (cell_at old line)) old new from.is
 
-not_held : (image : Image) (cell : Cell) → (IsHeld cell → ⊥) → not_brought image cell ≡ Some image
-not_held image Absent never = refl
-not_held image (Clean words) never = absurd (never refl)
-not_held image (Dirty words) never = absurd (never refl)
+not_held : (line : LineNo) (m : Machine) (cell : Cell) → (IsHeld cell → ⊥) → not_brought line m cell ≡ Some (record { line = line; left = m })
+not_held line m Absent never = refl
+not_held line m (Clean words) never = absurd (never refl)
+not_held line m (Dirty words) never = absurd (never refl)
 
 -- a load or a store fails where the line is absent, and leaves everything
 pub load_breaks : (line word : ℕ) (told now : Option Image) (old new : Cache) → (IsHeld (cell_at old line) → ⊥) → now ≡ told → new ≡ old → Breaks (Load (line_no line) word ∷ []) line (seen told old) (seen now new)
 load_breaks line word told now old new never same kept = record {
   fails = λ image is. record {
-    done = [];
-    op = Load (line_no line) word;
-    rest = [];
-    split = refl;
-    at = refl;
-    through = 0;
-    fits = omega arith;
-    image = image;
-    left = not_held image (cell_at old line) never;
+    left = machine image old;
+    cuts = record {
+      done = [];
+      op = Load (line_no line) word;
+      rest = [];
+      split = refl;
+      through = 0;
+      fits = omega arith;
+      fails = not_held (line_no line) (machine image old) (cell_at old line) never;
+    };
     told = same ∙ is;
     lines = kept;
   };
@@ -76,15 +77,16 @@ load_breaks line word told now old new never same kept = record {
 pub store_breaks : (line word value : ℕ) (told now : Option Image) (old new : Cache) → (IsHeld (cell_at old line) → ⊥) → now ≡ told → new ≡ old → Breaks (Store (line_no line) word value ∷ []) line (seen told old) (seen now new)
 store_breaks line word value told now old new never same kept = record {
   fails = λ image is. record {
-    done = [];
-    op = Store (line_no line) word value;
-    rest = [];
-    split = refl;
-    at = refl;
-    through = 0;
-    fits = omega arith;
-    image = image;
-    left = not_held image (cell_at old line) never;
+    left = machine image old;
+    cuts = record {
+      done = [];
+      op = Store (line_no line) word value;
+      rest = [];
+      split = refl;
+      through = 0;
+      fits = omega arith;
+      fails = not_held (line_no line) (machine image old) (cell_at old line) never;
+    };
     told = same ∙ is;
     lines = kept;
   };
@@ -96,15 +98,16 @@ drop_breaks line told now old new torn kept = record {
   fails = λ image is.
       let t = torn image is in
       record {
-        done = [];
-        op = Invalidate (line_no line);
-        rest = [];
-        split = refl;
-        at = refl;
-        through = t.through;
-        fits = t.fits;
-        image = with_line line t.words image;
-        left = ap (option_map (λ (words : List ℕ). with_line line words image)) t.left;
+        left = machine (with_line line t.words image) old;
+        cuts = record {
+          done = [];
+          op = Invalidate (line_no line);
+          rest = [];
+          split = refl;
+          through = t.through;
+          fits = t.fits;
+          fails = ap (option_map (torn_at (line_no line) (machine image old))) t.left;
+        };
         told = t.written;
         lines = kept;
       };

@@ -10,13 +10,11 @@ use Rattle.fam_machine.specs.declared.cell.Cell.TheVariants.{Clean}
 use Rattle.fam_machine.specs.declared.op.Op.TheVariants.{Invalidate}
 use Rattle.fam_machine.specs.Caches.{Cache, cell_at}
 use Rattle.fam_machine.specs.OneLine.{sent, words_of}
-use Rattle.fam_machine.specs.Operations.{Machine, operated, operated_all}
-use Rattle.fam_machine.specs.Table.{load_ops}
-use Rattle.fam_machine.specs.Task.{line_no}
+use Rattle.fam_machine.specs.Operations.{Machine, machine, operated, operated_all, load_ops, line_no}
 use Rattle.fam_machine.proofs.CacheLemmas.{cell_at-with_cell_same}
 use Rattle.fam_machine.proofs.LinePuts.{line_loaded}
-use Rattle.fam_mkfs.specs.Mkfs.{read_ops}
-use Rattle.fam_mkfs.specs.Runs.{Seen, Passes, Breaks, machine}
+use Rattle.fam_machine.specs.Mkfs.{read_ops}
+use Rattle.fam_mkfs.specs.Runs.{Seen, Passes, Breaks}
 use Rattle.fam_mkfs.proofs.Rows.{passes_both, breaks_first, breaks_second}
 
 -- the image after a line was loaded

@@ -9,7 +9,7 @@ use Rattle.fam_format.specs.Log.{log_words}
 use Rattle.fam_format.specs.Super.{magic_line, super_words}
 use Rattle.fam_rules.specs.Written.{Put, zero_line}
 use Rattle.fam_machine.specs.declared.op.Op.{Op}
-use Rattle.fam_mkfs.specs.Mkfs.{put_ops, write_ops}
+use Rattle.fam_machine.specs.Mkfs.{put_ops, write_ops}
 use Rattle.fam_mkfs.specs.Runs.{Seen, Passes, Breaks}
 use Rattle.fam_mkfs.proofs.Rows.{passes_both, breaks_first, breaks_second}
 

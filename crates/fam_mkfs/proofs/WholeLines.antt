@@ -10,14 +10,12 @@ use Rattle.fam_machine.specs.declared.op.Op.{Op}
 use Rattle.fam_machine.specs.declared.op.Op.TheVariants.{Load, Store, Invalidate}
 use Rattle.fam_machine.specs.Caches.{with_cell}
 use Rattle.fam_machine.specs.OneLine.{brought}
-use Rattle.fam_machine.specs.Operations.{Machine, operated, operated_all}
-use Rattle.fam_machine.specs.Table.{load_ops, store_ops}
-use Rattle.fam_machine.specs.Task.{line_no}
+use Rattle.fam_machine.specs.Operations.{Machine, machine, operated, operated_all, load_ops, store_ops, line_no}
 use Rattle.fam_machine.proofs.CacheLemmas.{cell_at-with_cell_same, with_cell_twice}
 use Rattle.fam_machine.proofs.LinePuts.{line_loaded}
 use Rattle.fam_mkfs.specs.declared.lines.FailedAt.{FailedAt}
-use Rattle.fam_mkfs.specs.Mkfs.{put_ops}
-use Rattle.fam_mkfs.specs.Runs.{Seen, Passes, Breaks, machine}
+use Rattle.fam_machine.specs.Mkfs.{put_ops}
+use Rattle.fam_mkfs.specs.Runs.{Seen, Passes, Breaks}
 use Rattle.fam_mkfs.proofs.Rows.{passes_both, breaks_first, breaks_second}
 
 -- an error that is handed on says what it said

@@ -2,12 +2,12 @@
 use Rattle.std.specs.Prelude.{ℕ, ◌≡◌, ◌<◌, Bool, true, false, List, Some, Ok}
 use Rattle.fam_base.specs.declared.entry.Params.{Params}
 use Rattle.fam_base.specs.Image.{Image}
-use Rattle.fam_machine.specs.Operations.{Machine}
+use Rattle.fam_machine.specs.Operations.{Machine, machine}
 use Rattle.fam_media.specs.Causes.{Rose}
 use Rattle.fam_mkfs.specs.declared.make.MkfsEnd.{MkfsEnd}
 use Rattle.fam_mkfs.specs.declared.make.MkfsEnd.TheVariants.{Made, BadGeometry, TooSmall, HasSuper, Failed}
-use Rattle.fam_mkfs.specs.Mkfs.{read_ops, mkfs_ops, due_ops, found, goes_on}
-use Rattle.fam_mkfs.specs.Runs.{Seen, Passes, Fails, machine}
+use Rattle.fam_machine.specs.Mkfs.{read_ops, mkfs_ops, due_ops, found, goes_on}
+use Rattle.fam_mkfs.specs.Runs.{Seen, Passes, Fails}
 
 -- all operations were done, and no superblock stood in the way
 pub record IsMade (p : Params) (force : Bool) (before now : Seen) : Type 0 where

@@ -1,5 +1,4 @@
-pub mod Mkfs
+pub mod Refusals
 pub mod Runs
 pub mod Ends
 pub mod Parts
-pub mod Whole

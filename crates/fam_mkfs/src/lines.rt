@@ -4,12 +4,11 @@ ghost use Rattle.std.specs.Prelude.{◌≡◌, ◌≢◌, ◌∷◌, ◌+◌, �
 ghost use Rattle.fam_base.specs.Image.{eight, line_at};
 ghost use Rattle.fam_machine.specs.Caches.{cell_at, cell_changed, with_cell};
 ghost use Rattle.fam_machine.specs.OneLine.{IsHeld, words_of};
-ghost use Rattle.fam_machine.specs.Table.{load_ops};
-ghost use Rattle.fam_machine.specs.Task.{line_no};
+ghost use Rattle.fam_machine.specs.Operations.{load_ops, line_no};
 ghost use Rattle.fam_machine.specs.declared.cell.Cell.TheVariants.{Absent};
 ghost use Rattle.fam_machine.specs.declared.op.Op.TheVariants.{Invalidate, Load, Store};
 ghost use Rattle.fam_media.specs.Outside.{IfTold};
-ghost use Rattle.fam_mkfs.specs.Mkfs.{put_ops};
+ghost use Rattle.fam_machine.specs.Mkfs.{put_ops};
 ghost use Rattle.fam_mkfs.specs.Runs.{Breaks, Leaves, Passes, seen};
 
 use fam_base::{Line, LineNo};

@@ -5,12 +5,13 @@ ghost use Rattle.fam_base.specs.Image.{Image, line_at};
 ghost use Rattle.fam_format.specs.Layout.{least_lines};
 ghost use Rattle.fam_format.specs.Reading.{super_in};
 ghost use Rattle.fam_machine.specs.Caches.{cell_at};
-ghost use Rattle.fam_machine.specs.Operations.{operated_all};
+ghost use Rattle.fam_machine.specs.Operations.{machine, operated_all};
 ghost use Rattle.fam_rules.specs.Place.{line_bytes};
-ghost use Rattle.fam_mkfs.specs.Mkfs as spec;
+ghost use Rattle.fam_machine.specs.Mkfs as spec;
 ghost use Rattle.fam_mkfs.specs.Ends.{Ends};
 ghost use Rattle.fam_mkfs.specs.Parts.{HeldLines, IsElsewhere, Stands};
-ghost use Rattle.fam_mkfs.specs.Runs.{Breaks, Leaves, Passes, machine, seen};
+ghost use Rattle.fam_mkfs.specs.Refusals as refusals;
+ghost use Rattle.fam_mkfs.specs.Runs.{Breaks, Leaves, Passes, seen};
 
 use crate::lines::{FailedAt, read_line, write_line};
 use fam_base::{Line, LineNo, OutOfMemory, Params};
@@ -61,9 +62,12 @@ pub fn asked(unit: u64, log: u64, fs: Uuid, me: Uuid, lines: u64) -> Params
     }
 }
 
-/// What is refused before anything is done, on a device of so many bytes.
-fn refusal(unit: u64, log: u64, have: u64) -> Option<MkfsEnd>
-    ensures { result ≡ spec.refusal unit log have }
+/// What is refused before anything is done, on a device of so many bytes: `BadGeometry`, or else `TooSmall`.
+///
+/// `mkfs` asks it first. So who tests it before, and then other causes of its own, calls `mkfs` where it is `None`, and
+/// neither of these two comes then.
+pub fn refusal(unit: u64, log: u64, have: u64) -> Option<MkfsEnd>
+    ensures { result ≡ refusals.refusal unit log have }
 {
     if !is_geometry(unit, log) {
         return Some(MkfsEnd::BadGeometry { unit, log });
@@ -174,8 +178,8 @@ fn make<M: Media>(cache: &mut HostCache, media: &mut M, params: &Params, force: 
 /// The device is the whole media. What stands there is written over where `force` says so.
 ///
 /// `BadGeometry` and `TooSmall` come before anything else. Room for six lines is taken then, so want of memory
-/// changes no line. The clauses hold for any cache; where it holds no line, `a_file_system_is_made` says what the
-/// operations leave in memory.
+/// changes no line. The clauses hold for any cache; where it holds no line, `fam_machine::a_file_system_is_made` says
+/// what the operations leave in memory.
 pub fn mkfs<M: Media>(
     cache: &mut HostCache,
     media: &mut M,
@@ -186,14 +190,14 @@ pub fn mkfs<M: Media>(
     force: bool,
 ) -> Result<MkfsEnd, OutOfMemory>
     // What is refused at once comes whatever the media and the memory do, and nothing is done.
-    ensures refused { (end : MkfsEnd) → spec.refusal unit log (line_bytes * M.size media.old) ≡ Some end
+    ensures refused { (end : MkfsEnd) → refusals.refusal unit log (line_bytes * M.size media.old) ≡ Some end
         → result ≡ Ok end }
-    ensures untouched { (end : MkfsEnd) → spec.refusal unit log (line_bytes * M.size media.old) ≡ Some end
+    ensures untouched { (end : MkfsEnd) → refusals.refusal unit log (line_bytes * M.size media.old) ≡ Some end
         → media.new ≡ media.old }
-    ensures unchanged { (end : MkfsEnd) → spec.refusal unit log (line_bytes * M.size media.old) ≡ Some end
+    ensures unchanged { (end : MkfsEnd) → refusals.refusal unit log (line_bytes * M.size media.old) ≡ Some end
         → cache.new ≡ cache.old }
 
-    ensures ends { spec.refusal unit log (line_bytes * M.size media.old) ≡ None → IfOk result
+    ensures ends { refusals.refusal unit log (line_bytes * M.size media.old) ≡ None → IfOk result
         (Ends (spec.asked unit log fs me (M.size media.old)) force (M.size media.old)
         (seen (M.image media.old) cache.old.lines) (seen (M.image media.new) cache.new.lines)
         (M.faults media.old) (M.faults media.new)) }

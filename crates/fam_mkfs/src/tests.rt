@@ -151,6 +151,7 @@ fn a_superblock_is_written_over_by_force_alone(rt: HostRuntime) -> Result<(), Fa
 
 #[test]
 fn numbers_are_refused_before_the_media_is_asked(rt: HostRuntime) -> Result<(), Fail> {
+    assert_eq!(rt; refusal(4096, 65_536, 2_166_784), None);
     let mut media = MemMedia::new(rt.alloc(), 33_792)?;
     media.fail(0, Mask(0))?;
     assert_eq!(rt;

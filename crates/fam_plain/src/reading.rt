@@ -1,21 +1,19 @@
 //! A whole image, read slot by slot.
 
-ghost use Rattle.std.specs.Prelude.{◌≡◌, ◌+◌, ◌*◌, ◌<◌, ◌≤◌, ◌^◌, ◌++◌, [], length, IfOk};
+ghost use Rattle.std.specs.Prelude.{◌≡◌, ◌+◌, ◌*◌, ◌<◌, ◌≤◌, ◌^◌, [], length, IfOk};
 ghost use Rattle.fam_base.specs.Image.{line_at};
 ghost use Rattle.fam_format.specs.Layout as layout;
 ghost use Rattle.fam_format.specs.Params.{SoundParams};
-ghost use Rattle.fam_format.specs.Log.{log_fault, gate_fault};
+ghost use Rattle.fam_format.specs.Log as header;
 ghost use Rattle.fam_format.specs.Reading as format;
 ghost use Rattle.fam_base.specs.declared.entry.Params.{Params};
 ghost use Rattle.fam_plain.specs.Says.{Says};
 
-use crate::entry::plain_entry;
 use crate::join::join_fault;
-use crate::log::{plain_gate_fault, plain_log_fault};
-use crate::places::SLOT_WORDS;
-use crate::superblock::plain_super;
 use fam_base::{Entry, Line, OutOfMemory, Params};
-use fam_format::{GATE_LINE, LOG_LINE, LogFault, Reason, SLOT_LINES, SuperFault};
+use fam_entry::{SLOT_WORDS, read_entry, read_log};
+use fam_format::{GATE_LINE, LOG_LINE, LogFault, LogField, Reason, SLOT_LINES, SuperFault};
+use fam_super::read_super;
 use std::alloc::Global;
 
 /// The first fault of an image, or what it holds.
@@ -43,15 +41,6 @@ fn line_of(image: &[Line], at: u64) -> Line
     } else {
         [0; 8]
     }
-}
-
-/// The words of lines 1 and 2.
-fn super_words(image: &[Line]) -> [u64; 16]
-    ensures { result ≡ line_at image.now 1 ++ line_at image.now 2 }
-{
-    let [a, b, c, d, e, f, g, h] = line_of(image, 1);
-    let [i, j, k, l, m, n, o, p] = line_of(image, 2);
-    [a, b, c, d, e, f, g, h, i, j, k, l, m, n, o, p]
 }
 
 /// Word `k` of slot `i`.
@@ -82,7 +71,7 @@ fn slot_in(image: &[Line], params: &Params, i: u64) -> Result<Entry, Reason>
     requires sound { SoundParams params.now }
     ensures { result ≡ format.slot_in (line_at image.now) params.now i }
 {
-    plain_entry(&slot_words(image, i), i, params)
+    read_entry(&slot_words(image, i), i, params)
 }
 
 /// The slots below the gate, from the first on.
@@ -117,29 +106,43 @@ fn read_slots(
     })
 }
 
+/// The fault of a gate that counts more entries than there are slots.
+fn gate_fault(gate: u64, params: &Params) -> Option<LogFault>
+    ensures { result ≡ header.gate_fault gate params.now }
+{
+    if gate <= params.slots {
+        return None;
+    }
+    Some(LogFault::BadLog {
+        field: LogField::Gate,
+        found: gate,
+        wanted: params.slots,
+    })
+}
+
 /// The gate and the slots below it.
 fn read_below(alloc: Global, image: &[Line], params: &Params) -> Result<Reading, OutOfMemory>
     requires { SoundParams params.now }
     ensures { IfOk result (λ r. Says r (format.read_below (line_at image.now) params.now
-        (gate_fault (format.gate_in (line_at image.now)) params.now))) }
+        (header.gate_fault (format.gate_in (line_at image.now)) params.now))) }
 {
     let [gate, ..] = line_of(image, GATE_LINE);
-    if let Some(fault) = plain_gate_fault(gate, params) {
+    if let Some(fault) = gate_fault(gate, params) {
         return Ok(Reading::BadHeader(fault));
     }
     read_slots(alloc, image, params, gate)
 }
 
 /// The log's header, and what is below it.
-fn read_log(alloc: Global, image: &[Line], params: &Params) -> Result<Reading, OutOfMemory>
+fn read_header(alloc: Global, image: &[Line], params: &Params) -> Result<Reading, OutOfMemory>
     requires { SoundParams params.now }
     ensures { IfOk result (λ r. Says r (format.read_log (line_at image.now) params.now
-        (log_fault (line_at image.now layout.log_line) params.now))) }
+        (header.log_fault (line_at image.now layout.log_line) params.now))) }
 {
-    if let Some(fault) = plain_log_fault(&line_of(image, LOG_LINE), params) {
-        return Ok(Reading::BadHeader(fault));
+    match read_log(&line_of(image, LOG_LINE), params) {
+        Ok(()) => read_below(alloc, image, params),
+        Err(fault) => Ok(Reading::BadHeader(fault)),
     }
-    read_below(alloc, image, params)
 }
 
 /// What an image says: the first fault of superblock, header, gate and the slots below the gate, in this order, or
@@ -150,10 +153,9 @@ pub fn plain_reading(alloc: Global, image: &[Line]) -> Result<Reading, OutOfMemo
     requires fits { 64 * length image.now ≤ layout.device_limit }
     ensures { IfOk result (λ r. Says r (format.reading image.now)) }
 {
-    let first = line_of(image, 0)[0];
-    let have = 64 * image.len() as u64;
-    match plain_super(first, &super_words(image), have) {
-        Ok(params) => read_log(alloc, image, &params),
+    let lines = [line_of(image, 0), line_of(image, 1), line_of(image, 2)];
+    match read_super(&lines, 64 * image.len() as u64) {
+        Ok(params) => read_header(alloc, image, &params),
         Err(fault) => Ok(Reading::NoSuperblock(fault)),
     }
 }

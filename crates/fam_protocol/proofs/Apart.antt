@@ -1,5 +1,5 @@
 -- The lines of a history's entries are apart, and none of them is a line of the head or the gate's.
-use Rattle.std.proofs.Common.{◌≡◌, ℕ, zero, suc, ◌+◌, ◌*◌, ◌/◌, ◌%◌, ◌<◌, ◌≤◌, ◌⊎◌, List, [], ◌∷◌, ◌++◌, length, map, take, slice_get, Option, Some, None, inl, inr, refl, sym, ap, subst, ◌∙◌, arith}
+use Rattle.std.proofs.Common.{◌≡◌, ℕ, zero, suc, ◌+◌, ◌*◌, ◌/◌, ◌%◌, ◌<◌, ◌≤◌, ◌⊎◌, List, [], ◌∷◌, ◌++◌, length, take, slice_get, Some, inl, inr, refl, sym, ap, subst, ◌∙◌, arith}
 use Rattle.std.specs.Prelude.{option_map}
 use Rattle.std.proofs.lemmas.List.{take-map, take_all, take-append-le}
 use Rattle.std.proofs.lemmas.Option.{slice_get-map, slice_get_within}
@@ -13,20 +13,12 @@ use Rattle.fam_format.proofs.JoinLaws.{joins_from}
 use Rattle.fam_rules.specs.Asks.{File, entries_of}
 use Rattle.fam_rules.specs.Place.{line_bytes, place, AreApart, IsFreeAfter, IsLaidOut}
 use Rattle.fam_rules.specs.Written.{file_line}
+use Rattle.fam_rules.proofs.AskProofs.{member_from}
 use Rattle.fam_rules.proofs.FilePlaces.{line_place, place_behind}
 use Rattle.fam_rules.proofs.ListPlaces.{laid_apart, bytes_apart}
 use Rattle.fam_protocol.specs.Core.{Belongs, IsHistory, IsHeadLine, IsSlotLine, IsFileLine, IsLineOf}
 
 -- Members of lists.
-
--- a member of a mapped list
-member_by : {X Y : Type 0} (v : X → Y) (xs : List X) (k : ℕ) (y : Y) (r : Option X) → slice_get xs k ≡ r → option_map v r ≡ Some y → (x : X) × (slice_get xs k ≡ Some x) × (v x ≡ y)
-member_by v xs k y (Some x) is h = (x, is, cc)
-member_by v xs k y None is h = absurd (cc)
-
--- a member of a mapped list comes of a member
-pub member_from : {X Y : Type 0} (v : X → Y) (xs : List X) (k : ℕ) (y : Y) → slice_get (map v xs) k ≡ Some y → (x : X) × (slice_get xs k ≡ Some x) × (v x ≡ y)
-member_from v xs k y h = member_by v xs k y (slice_get xs k) refl (sym (slice_get-map v xs k) ∙ h)
 
 -- a member of a list with one more behind it
 pub with_last : {X : Type 0} (xs : List X) (e : X) (k : ℕ) (f : X) → slice_get (xs ++ e ∷ []) k ≡ Some f → ((k < length xs) × (slice_get xs k ≡ Some f)) ⊎ ((k ≡ length xs) × (e ≡ f))

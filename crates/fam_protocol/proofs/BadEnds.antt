@@ -13,8 +13,8 @@ use Rattle.fam_format.specs.Log.{log_fault, gate_fault}
 use Rattle.fam_format.specs.Reading.{Reading, Lines, BadHeader, BadSlot, Sound, super_in, slot_in, gate_in, joined_or, slot_or, read_super, read_log, read_below, read_slots, reading_of}
 use Rattle.fam_format.specs.Slot.{entry_of}
 use Rattle.fam_format.specs.Tree.{join_fault}
-use Rattle.fam_machine.specs.Task.{Task}
-use Rattle.fam_machine.specs.Turns.{slots_read, super_end, log_end, check_turn, slot_turn}
+use Rattle.fam_commands.specs.Task.{Task}
+use Rattle.fam_commands.specs.Turns.{slots_read, super_end, log_end, check_turn, slot_turn}
 use Rattle.fam_rules.specs.Reply.{Reply}
 use Rattle.fam_rules.specs.Reply as reply
 use Rattle.fam_rules.specs.Reports.{report_of, report_by, report_super, report_log, report_below, log_report, survey_slots, no_survey}
@@ -81,7 +81,8 @@ module _ (image : Lines) (have : ℕ) (t : Task) where
     says_header fault is = says_log fault (reads_log ∙ ap (read_log image p) is) (reports_log ∙ ap (report_log image p) is)
 
     module _ (header : log_fault (image log_line) p ≡ None) where
-      reads_below : reading_of image have ≡ read_below image p (gate_fault (gate_in image) p)
+      -- what comes behind the header
+      pub reads_below : reading_of image have ≡ read_below image p (gate_fault (gate_in image) p)
       reads_below = reads_log ∙ ap (read_log image p) header
 
       reports_below : report_of image have ≡ report_below image p (gate_fault (gate_in image) p)

@@ -1,9 +1,9 @@
 -- On a damaged image nothing is dirty: caches move, and memory doesn't.
 use Rattle.std.proofs.Common.{ℕ, List, Option, ◌∙◌}
 use Rattle.fam_format.specs.Layout.{gate_line}
-use Rattle.fam_machine.specs.declared.op.Place.{Place}
-use Rattle.fam_machine.specs.declared.op.Place.TheVariants as at
-use Rattle.fam_machine.specs.Task.{Task, part_line}
+use Rattle.fam_commands.specs.declared.place.Place.{Place}
+use Rattle.fam_commands.specs.declared.place.Place.TheVariants as at
+use Rattle.fam_commands.specs.Task.{Task, part_line}
 use Rattle.fam_format.specs.Reading.{Lines}
 use Rattle.fam_protocol.specs.Seen.{Seen, DriftsAt}
 use Rattle.fam_protocol.specs.Lines.{Fresh}

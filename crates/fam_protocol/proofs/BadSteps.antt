@@ -6,11 +6,12 @@ use Rattle.fam_format.specs.Reading.{Lines}
 use Rattle.fam_machine.specs.declared.cell.Cell.{Cell}
 use Rattle.fam_machine.specs.declared.cell.Cell.TheVariants.{Absent}
 use Rattle.fam_machine.specs.declared.op.Op.TheVariants.{Load, Invalidate}
-use Rattle.fam_machine.specs.declared.op.Place.{Place}
-use Rattle.fam_machine.specs.declared.op.Place.TheVariants as at
+use Rattle.fam_commands.specs.declared.place.Place.{Place}
+use Rattle.fam_commands.specs.declared.place.Place.TheVariants as at
 use Rattle.fam_machine.specs.OneLine.{brought, sent}
-use Rattle.fam_machine.specs.Task.{Task, line_no, op_at, op_of, part_line}
-use Rattle.fam_machine.specs.Turns.{turn_at}
+use Rattle.fam_commands.specs.Task.{Task, op_at, op_of, part_line}
+use Rattle.fam_machine.specs.Operations.{line_no}
+use Rattle.fam_commands.specs.Turns.{turn_at}
 use Rattle.fam_machine.proofs.Drifting.{brought_drifts, absent_drifts}
 use Rattle.fam_rules.specs.Place.{line_bytes}
 use Rattle.fam_protocol.specs.Seen.{Seen, DriftsAt, Operates}

@@ -18,12 +18,12 @@ use Rattle.fam_format.specs.Tree.{join_fault}
 use Rattle.fam_format.specs.Slot.{entry_of}
 use Rattle.fam_format.specs.Reading.{Reading, Lines, Sound, super_in, gate_in, slot_in, slot_words, slot_or, joined_or, read_slots, reading_of}
 use Rattle.fam_format.proofs.RoundTrip.{same_words, same_words_pass}
-use Rattle.fam_machine.specs.declared.op.Part.{Part}
-use Rattle.fam_machine.specs.declared.op.Part.TheVariants.{Superblock, Header, Slot, File as FileLines}
-use Rattle.fam_machine.specs.declared.op.Place.{Place}
-use Rattle.fam_machine.specs.declared.op.Place.TheVariants as at
-use Rattle.fam_machine.specs.Task.{Task, part_count, part_line}
-use Rattle.fam_machine.specs.Turns.{Turn, Goes, Marks, Finds, Writes, Ends, slots_read, slot_or_decide, magic_turn, host_refusal, host_turn, super_turn, header_turn, with_gate, finds_or_goes, gate_turn, join_turn, slot_turn, survey_turn, check_turn, decide_turn, line_or, line_turn, with_word, word_turn}
+use Rattle.fam_commands.specs.declared.place.Part.{Part}
+use Rattle.fam_commands.specs.declared.place.Part.TheVariants.{Superblock, Header, Slot, File as FileLines}
+use Rattle.fam_commands.specs.declared.place.Place.{Place}
+use Rattle.fam_commands.specs.declared.place.Place.TheVariants as at
+use Rattle.fam_commands.specs.Task.{Task, part_count, part_line}
+use Rattle.fam_commands.specs.Turns.{Turn, Goes, Marks, Finds, Writes, Ends, slots_read, slot_or_decide, magic_turn, host_refusal, host_turn, super_turn, header_turn, with_gate, finds_or_goes, gate_turn, join_turn, slot_turn, survey_turn, check_turn, decide_turn, line_or, line_turn, with_word, word_turn}
 use Rattle.fam_rules.specs.declared.answers.Refused.TheVariants.{NotMaster}
 use Rattle.fam_rules.specs.declared.answers.Refused.TheVariants as refused
 use Rattle.fam_rules.specs.Decide.{Wish, wish_of}
@@ -33,8 +33,7 @@ use Rattle.fam_rules.specs.Reply as reply
 use Rattle.fam_rules.specs.Reports.{report_of, report_by, survey_slots, survey_slot}
 use Rattle.fam_protocol.specs.Seen.{Seen}
 use Rattle.fam_protocol.specs.Lines.{Fresh}
-use Rattle.fam_protocol.specs.Tasks.{HasLoaded, part_words}
-use Rattle.fam_protocol.specs.Tasks.{NoSlot}
+use Rattle.fam_protocol.specs.Tasks.{HasLoaded, part_words, NoSlot}
 use Rattle.fam_protocol.specs.Bad.{HasMagic, ReadsSuper, ReadsHeader, ReadsSlots, Remains, OnBadPart, AtBadPlace, BadTaskHolds, MaySayBad, MayReplyBad, GoesOnBad, FindsBad, fault_of}
 use Rattle.fam_protocol.proofs.BadWords.{IsMeta, loaded_is, is_loaded, next_word, all_words}
 use Rattle.fam_protocol.proofs.PartWords.{super_words_are, header_words_are}

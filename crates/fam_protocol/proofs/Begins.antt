@@ -1,25 +1,32 @@
--- An image with no cache and no task is the beginning of a way.
-use Rattle.std.proofs.Common.{◌≡◌, ℕ, ◌*◌, ◌/◌, ◌%◌, ◌≤◌, ◌≢◌, Bool, true, false, List, [], ◌∷◌, length, map, take, slice_get, Some, None, refl, sym, ap, subst, ◌∙◌, arith}
+-- An image with no task, and with caches that have nothing to send, is the beginning of a way.
+use Rattle.std.proofs.Common.{◌≡◌, ℕ, ◌*◌, ◌/◌, ◌%◌, ◌≤◌, ◌≢◌, Bool, true, false, List, [], ◌∷◌, length, map, take, slice_get, Option, Some, None, refl, sym, ap, subst, ◌∙◌, arith}
 use Rattle.std.specs.Prelude.{nat_lt, if◌then◌else◌}
-use Rattle.std.proofs.lemmas.Bool.{false≢true}
 use Rattle.std.proofs.lemmas.Bool.Decides.{nat_tests}
 use Rattle.std.proofs.lemmas.List.{take-map, length-map}
 use Rattle.std.proofs.lemmas.List.FromFn.{length-map-range_with_len, get_or-map-range_with_len}
 use Rattle.fam_base.specs.declared.entry.Params.{Params}
 use Rattle.fam_base.specs.declared.entry.Entry.{Entry}
 use Rattle.fam_base.specs.Image.{Image, line_at}
-use Rattle.fam_format.specs.Layout.{device_limit, least_lines}
+use Rattle.fam_format.specs.Layout.{device_limit, gate_line, least_lines}
 use Rattle.fam_format.specs.Params.{SoundParams}
 use Rattle.fam_format.specs.Reading.{Lines, Reading, NoSuperblock, BadHeader, BadSlot, Sound, reading_of, slot_words}
 use Rattle.fam_format.specs.Slot.{Proper}
 use Rattle.fam_format.specs.Tree.{join_fault}
 use Rattle.fam_format.proofs.EntryLawsProofs.{read_proper}
+use Rattle.fam_machine.specs.declared.cell.Cell.{Cell}
+use Rattle.fam_machine.specs.declared.cell.Cell.TheVariants.{Absent, Clean, Dirty}
+use Rattle.fam_machine.specs.Caches.{IsCleanCell}
+use Rattle.fam_machine.specs.OneLine.{IsDirty}
+use Rattle.fam_machine.proofs.CleanCaches.{clean_wide, not_dirty}
 use Rattle.fam_rules.specs.Asks.{File, entries_of}
 use Rattle.fam_rules.specs.Content.{byte_in}
 use Rattle.fam_rules.specs.Place.{line_bytes, place}
-use Rattle.fam_protocol.specs.Core.{Belongs, IsHistory, Stands}
-use Rattle.fam_protocol.specs.Way.{Small, Damaged, Stage, Way, IsKnown, no_hosts, alone, held_file, settled_by, settled_at_first}
-use Rattle.fam_protocol.proofs.Apart.{IsOnLine, byte_on_line, member_from}
+use Rattle.fam_protocol.specs.Lines.{gate_of, top}
+use Rattle.fam_protocol.specs.Core.{Belongs, IsHistory, IsWide, Stands, masters_copy}
+use Rattle.fam_protocol.specs.After.{Run}
+use Rattle.fam_protocol.specs.Way.{Hosts, Owner, Rests, seen_with, Small, Damaged, Stage, Way, IsKnown, no_hosts, alone, held_file, settled_by, settled_at_first}
+use Rattle.fam_rules.proofs.AskProofs.{member_from}
+use Rattle.fam_protocol.proofs.Apart.{IsOnLine, byte_on_line}
 use Rattle.fam_protocol.proofs.SoundReads.{super_is_sound, IsRead, Tells, AreTold, ReadsSound, sound_reads}
 
 -- The entries with the bytes of memory.
@@ -72,45 +79,66 @@ module _ (memory : Lines) (p : Params) (entries : List Entry) (sound : SoundPara
 
 -- The beginning.
 
-module _ (image : Image) (limit : line_bytes * length image ≤ device_limit) where
+no_run : (hosts : Hosts) → ((h : ℕ) → hosts.run h ≡ None) → (h : ℕ) (r : Run) → hosts.run h ≡ Some r → ⊥
+no_run hosts idle h r is = absurd (let none : hosts.run h ≡ None = idle h in cc)
+
+module _ (image : Image) (limit : line_bytes * length image ≤ device_limit) (hosts : Hosts) (copy : ℕ → ℕ → Cell) (rests : Rests hosts (seen_with image copy)) where
+  wide : IsWide (seen_with image copy)
+  wide = record { memory = λ l. refl; copies = λ h l. clean_wide (line_at image l) (copy h l) refl (rests.clean h l) }
+
+  none_dirty : (h l : ℕ) → IsDirty (copy h l) → ⊥
+  none_dirty h l dirty = not_dirty (copy h l) (rests.clean h l) dirty
+
+  -- nothing that wasn't sent is above memory's gate
+  pub same_top : (o : Option ℕ) → top (line_at image gate_line) (masters_copy o (seen_with image copy) gate_line) ≡ gate_of (line_at image gate_line)
+  same_top None = refl
+  same_top (Some h) = by_copy (copy h gate_line) (rests.clean h gate_line)
+    where
+      by_copy : (c : Cell) → IsCleanCell c → top (line_at image gate_line) c ≡ gate_of (line_at image gate_line)
+      by_copy Absent clean = refl
+      by_copy (Clean words) clean = refl
+      by_copy (Dirty words) clean = absurd clean
+
   -- a sound reading
   known : (p : Params) (entries : List Entry) → least_lines ≤ length image → reading_of (line_at image) (line_bytes * length image) ≡ Sound p entries
-      → IsKnown p (map (held_file (line_at image)) entries) (length entries) (length image) no_hosts (alone image)
+      → IsKnown p (map (held_file (line_at image)) entries) (length entries) (length image) hosts (seen_with image copy)
   known p entries enough h =
       let reads : ReadsSound (line_at image) (line_bytes * length image) p entries = sound_reads (line_at image) (line_bytes * length image) p entries h in
       let is : IsRead (line_bytes * length image) p = super_is_sound _ _ (line_bytes * length image) p limit reads.super in
       let count : length (map (held_file (line_at image)) entries) ≡ length entries = length-map entries (held_file (line_at image)) in
+      let named : Owner hosts p.master = rests.owner p.master in
+      let at_top : top (line_at image gate_line) (masters_copy named.host (seen_with image copy) gate_line) ≡ gate_of (line_at image gate_line) = same_top named.host in
       record {
         enough = enough;
-        master = None;
+        master = named.host;
         core = record {
-          wide = record { memory = λ l. refl; copies = λ h l. refl };
-          head = record { sound = is.sound; device = is.device; super = reads.super; header = reads.header; clean = λ h l head dirty. absurd (false≢true dirty) };
-          named = record { is = λ h none. absurd (cc); only = λ h none. absurd (cc) };
-          only_master = λ h l dirty. absurd (false≢true dirty);
+          wide = wide;
+          head = record { sound = is.sound; device = is.device; super = reads.super; header = reads.header; clean = λ h l head dirty. none_dirty h l dirty };
+          named = record { is = named.is; only = named.only };
+          only_master = λ h l dirty. absurd (none_dirty h l dirty);
           low = omega (arith, reads.count);
-          order = omega arith;
-          high = omega (arith, reads.count, count);
+          order = omega (arith, at_top);
+          high = omega (arith, reads.count, count, at_top);
           near = omega (arith, count);
           room = omega (arith, reads.count, reads.gate, count);
           history = held_history (line_at image) p entries is.sound reads.slots;
           stands = λ i f at below. all_stand (line_at image) p entries is.sound reads.slots i f at;
-          clean = λ i f h l at below line dirty. absurd (false≢true dirty);
+          clean = λ i f h l at below line dirty. none_dirty h l dirty;
         };
-        tasks = λ h r none. absurd (cc);
+        tasks = λ h r run. absurd (no_run hosts rests.idle h r run);
       }
 
   -- another reading
   damaged : least_lines ≤ length image → ((p : Params) (entries : List Entry) → reading_of (line_at image) (line_bytes * length image) ≢ Sound p entries)
-      → Stage (Damaged (line_at image)) (length image) no_hosts (alone image)
+      → Stage (Damaged (line_at image)) (length image) hosts (seen_with image copy)
   damaged enough bad = record {
     enough = enough;
-    still = record { wide = record { memory = λ l. refl; copies = λ h l. refl }; memory = λ l. refl; clean = λ h l dirty. absurd (false≢true dirty); bad = bad };
-    tasks = λ h r none. absurd (cc);
+    still = record { wide = wide; memory = λ l. refl; clean = none_dirty; bad = bad };
+    tasks = λ h r run. absurd (no_run hosts rests.idle h r run);
   }
 
   -- by the reading
-  by_reading : (r : Reading) → reading_of (line_at image) (line_bytes * length image) ≡ r → least_lines ≤ length image → Stage (settled_by (line_at image) r) (length image) no_hosts (alone image)
+  by_reading : (r : Reading) → reading_of (line_at image) (line_bytes * length image) ≡ r → least_lines ≤ length image → Stage (settled_by (line_at image) r) (length image) hosts (seen_with image copy)
   by_reading (NoSuperblock fault) is enough = damaged enough (λ p es sound. cc)
   by_reading (BadHeader fault) is enough = damaged enough (λ p es sound. cc)
   by_reading (BadSlot i reason) is enough = damaged enough (λ p es sound. cc)
@@ -118,15 +146,27 @@ module _ (image : Image) (limit : line_bytes * length image ≤ device_limit) wh
 
   -- by the number of lines
   by_size : (few : Bool) → nat_lt (length image) least_lines ≡ few
-      → Stage (if few then Small (line_at image) else settled_by (line_at image) (reading_of (line_at image) (line_bytes * length image))) (length image) no_hosts (alone image)
-  by_size true is = record { memory = λ l. refl; few = grind (arith, nat_tests); idle = λ h. refl; clean = λ h l dirty. absurd (false≢true dirty) }
+      → Stage (if few then Small (line_at image) else settled_by (line_at image) (reading_of (line_at image) (line_bytes * length image))) (length image) hosts (seen_with image copy)
+  by_size true is = record { memory = λ l. refl; few = grind (arith, nat_tests); idle = rests.idle; clean = none_dirty }
   by_size false is = by_reading (reading_of (line_at image) (line_bytes * length image)) refl (grind (arith, nat_tests))
 
   -- an image of at most 1 TiB begins a way, whatever it holds
-  pub begins : Way (settled_at_first image) (length image) no_hosts (alone image)
-  begins = record {
-    declared = record { apart = λ h k id none. absurd (cc); absent = λ h l none. refl; idle = λ h none. refl };
-    named = λ h r none. absurd (cc);
-    wide = record { memory = λ l. refl; copies = λ h l. refl };
+  pub begins_with : Way (settled_at_first image) (length image) hosts (seen_with image copy)
+  begins_with = record {
+    declared = rests.declared;
+    marked = λ h r run. absurd (no_run hosts rests.idle h r run);
+    named = λ h r run. absurd (no_run hosts rests.idle h r run);
+    wide = wide;
     stage = by_size (nat_lt (length image) least_lines) refl;
   }
+
+-- so it does with no host
+pub begins : (image : Image) → line_bytes * length image ≤ device_limit → Way (settled_at_first image) (length image) no_hosts (alone image)
+begins image limit =
+    begins_with image limit no_hosts (λ h l. Absent)
+    record {
+      declared = record { apart = λ h k id none. absurd (cc); absent = λ h l none. refl; idle = λ h none. refl };
+      owner = λ id. record { host = None; is = λ h none. absurd (cc); only = λ h none. absurd (cc) };
+      idle = λ h. refl;
+      clean = λ h l. tt;
+    }

@@ -2,11 +2,11 @@
 use Rattle.std.proofs.Common.{◌≡◌, ℕ, List, Option, Some, sym, ap, subst, ◌∙◌}
 use Rattle.fam_format.specs.Layout.{geometry, gate_line, slot_line}
 use Rattle.fam_machine.specs.declared.cell.Cell.{Cell}
-use Rattle.fam_machine.specs.declared.op.Part.{Part}
-use Rattle.fam_machine.specs.declared.op.Part.TheVariants.{Superblock, Header, Slot, File as FileLines}
-use Rattle.fam_machine.specs.declared.op.Place.{Place}
-use Rattle.fam_machine.specs.declared.op.Place.TheVariants as at
-use Rattle.fam_machine.specs.Task.{Task, data_words, line_of, part_line}
+use Rattle.fam_commands.specs.declared.place.Part.{Part}
+use Rattle.fam_commands.specs.declared.place.Part.TheVariants.{Superblock, Header, Slot, File as FileLines}
+use Rattle.fam_commands.specs.declared.place.Place.{Place}
+use Rattle.fam_commands.specs.declared.place.Place.TheVariants as at
+use Rattle.fam_commands.specs.Task.{Task, data_words, line_of, part_line}
 use Rattle.fam_rules.specs.Asks.{File}
 use Rattle.fam_rules.specs.Written.{slot_part}
 use Rattle.fam_protocol.specs.Seen.{Seen}
@@ -19,7 +19,7 @@ use Rattle.fam_protocol.specs.Bad.{AtBadPlace}
 abbrev pub with_copies : Seen → (ℕ → ℕ → Cell) → Seen
 with_copies s copy = record { memory = s.memory; copy = copy }
 
-module _ (sys sys' : System) (host floor : ℕ) (t : Task) (s : Seen) (copy : ℕ → ℕ → Cell) (all : List File) (settled : ℕ) (params : sys'.params ≡ sys.params) (on : sys.master ≡ Some host → sys'.master ≡ Some host)
+module _ (sys sys' : System) (host : ℕ) (floor : Option ℕ) (t : Task) (s : Seen) (copy : ℕ → ℕ → Cell) (all : List File) (settled : ℕ) (params : sys'.params ≡ sys.params) (on : sys.master ≡ Some host → sys'.master ≡ Some host)
     (back : sys'.master ≡ Some host → sys.master ≡ Some host) (same : (l : ℕ) → copy host l ≡ s.copy host l) where
   -- the host's copy of a line
   fresh_kept : (l : ℕ) → Fresh (s.memory l) (s.copy host l) → Fresh (s.memory l) (copy host l)

@@ -1,30 +1,31 @@
 -- A cache's own move at a line keeps all tasks' facts, those of its own host among them.
 use Rattle.std.proofs.Common.{ℕ, ◌≤◌, ◌≡◌, ◌≢◌, inl, inr, List, length, sym, ◌∙◌, subst, arith}
-use Rattle.std.specs.Prelude.{Some}
+use Rattle.std.specs.Prelude.{Some, Option}
 use Rattle.std.proofs.lemmas.Option.{same_Some}
 use Rattle.fam_format.specs.Layout.{gate_line}
 use Rattle.fam_machine.specs.declared.cell.Cell.{Cell}
 use Rattle.fam_machine.specs.declared.cell.Cell.TheVariants.{Absent, Clean, Dirty}
 use Rattle.fam_machine.specs.OneLine.{IsDirty}
 use Rattle.fam_machine.specs.Moves.{Moves}
-use Rattle.fam_machine.specs.Task.{Task}
+use Rattle.fam_commands.specs.Task.{Task}
 use Rattle.fam_rules.specs.Asks.{File}
 use Rattle.fam_protocol.specs.Seen.{Seen, DriftsAt}
-use Rattle.fam_protocol.specs.Lines.{Fresh, FreshGate, Holding, Finished, gate_of, top}
+use Rattle.fam_protocol.specs.Lines.{Fresh, FreshGate, Holding, Finished, gate_of, top, IsAtLeast}
 use Rattle.fam_protocol.specs.Core.{System, Core, top_of}
 use Rattle.fam_protocol.specs.Tasks.{TaskHolds}
 use Rattle.fam_protocol.proofs.LineMoves.{gate_grows, fresh_kept, fresh_gate_kept, holding_kept, finished_kept}
 use Rattle.fam_protocol.proofs.Free.{Same, same, cell_kept, own, gate_cell, quiet_same}
 use Rattle.fam_protocol.proofs.Keeping.{Keeps, task_kept}
+use Rattle.fam_protocol.proofs.Floors.{at_least_more}
 
 -- a copy that a reader may load is no newer than memory
-order_at : (floor : ℕ) (m : List ℕ) (c : Cell) → FreshGate floor m c → gate_of m ≤ top m c
+order_at : (floor : Option ℕ) (m : List ℕ) (c : Cell) → FreshGate floor m c → gate_of m ≤ top m c
 order_at floor m Absent f = omega arith
 order_at floor m (Clean w) f = omega arith
 order_at floor m (Dirty w) f = absurd f
 
 -- memory's gate may grow under a reader's copy
-pub gate_grown : (floor : ℕ) (m m' : List ℕ) (c : Cell) → gate_of m ≤ gate_of m' → FreshGate floor m c → FreshGate floor m' c
+pub gate_grown : (floor : Option ℕ) (m m' : List ℕ) (c : Cell) → gate_of m ≤ gate_of m' → FreshGate floor m c → FreshGate floor m' c
 gate_grown floor m m' Absent le f = tt
 gate_grown floor m m' (Clean w) le f = (f.0, omega (arith, f.1, le))
 gate_grown floor m m' (Dirty w) le f = f
@@ -37,19 +38,19 @@ module _ (sys : System) (s s' : Seen) (all : List File) (settled : ℕ) (core : 
   cell = gate_cell host line s s' drifts core.wide sys all settled core
 
   -- any host's copy of the gate's line
-  gate_copy : (h floor : ℕ) → floor ≤ settled → FreshGate floor (s.memory gate_line) (s.copy h gate_line) → FreshGate floor (s'.memory gate_line) (s'.copy h gate_line)
+  gate_copy : (h : ℕ) (floor : Option ℕ) → IsAtLeast floor settled → FreshGate floor (s.memory gate_line) (s.copy h gate_line) → FreshGate floor (s'.memory gate_line) (s'.copy h gate_line)
   gate_copy h floor low f = go (same h host)
     where
       P : List ℕ → Cell → Type 0
-      P m c = (floor ≤ gate_of m) × (gate_of m ≤ top m c) × FreshGate floor m c
+      P m c = IsAtLeast floor (gate_of m) × (gate_of m ≤ top m c) × FreshGate floor m c
 
       step : (m m' : List ℕ) (c c' : Cell) → Moves m c m' c' → length m ≡ 8 → P m c → P m' c'
-      step m m' c c' v l q = let g = gate_grows v q.1 in (omega (arith, g.0, q.0), g.1, fresh_gate_kept floor q.0 v q.2)
+      step m m' c c' v l q = let g = gate_grows v q.1 in (at_least_more floor (gate_of m) (gate_of m') g.0 q.0, g.1, fresh_gate_kept floor q.0 v q.2)
 
       go : Same h host → FreshGate floor (s'.memory gate_line) (s'.copy h gate_line)
       go (inl e) = subst (λ x. FreshGate floor (s'.memory gate_line) (s'.copy x gate_line)) (sym e)
           (own host line s s' drifts core.wide P step gate_line
-          (subst (λ x. P (s.memory gate_line) (s.copy x gate_line)) e (omega (arith, low, core.low), order_at floor (s.memory gate_line) (s.copy h gate_line) f, f))).2
+          (subst (λ x. P (s.memory gate_line) (s.copy x gate_line)) e (at_least_more floor settled (gate_of (s.memory gate_line)) core.low low, order_at floor (s.memory gate_line) (s.copy h gate_line) f, f))).2
       go (inr ne) = gate_grown floor (s.memory gate_line) (s'.memory gate_line) (s'.copy h gate_line) cell.0
           (subst (λ (c : Cell). FreshGate floor (s.memory gate_line) c) (sym (drifts.only.hosts h gate_line ne)) f)
 
@@ -76,5 +77,5 @@ module _ (sys : System) (s s' : Seen) (all : List File) (settled : ℕ) (core : 
   }
 
   -- so does what is known of the task
-  pub drift_task : (h floor : ℕ) (t : Task) → TaskHolds sys h floor t s all settled → TaskHolds sys h floor t s' all settled
+  pub drift_task : (h : ℕ) (floor : Option ℕ) (t : Task) → TaskHolds sys h floor t s all settled → TaskHolds sys h floor t s' all settled
   drift_task h floor t holds = task_kept sys s s' all settled core h floor (drift_keeps h) t holds

@@ -11,14 +11,14 @@ use Rattle.fam_format.specs.Reading.{Lines}
 use Rattle.fam_machine.specs.declared.cell.Cell.{Cell}
 use Rattle.fam_machine.specs.declared.cell.Cell.TheVariants.{Absent}
 use Rattle.fam_machine.specs.OneLine.{IsDirty, current}
-use Rattle.fam_machine.specs.Task.{starting}
+use Rattle.fam_commands.specs.Task.{starting}
 use Rattle.fam_rules.specs.Asks.{File}
 use Rattle.fam_rules.specs.Place.{line_bytes}
 use Rattle.fam_protocol.specs.Seen.{Seen, Loses}
 use Rattle.fam_protocol.specs.Lines.{gate_of, top}
 use Rattle.fam_protocol.specs.Core.{System, Core, IsMaster, IsWide, masters_copy, top_of}
 use Rattle.fam_protocol.specs.Tasks.{TaskHolds, IsCommand}
-use Rattle.fam_protocol.specs.After.{Run, HasNamed, HoldsNamed}
+use Rattle.fam_protocol.specs.After.{Run, HasNamed, HoldsNamed, HasMarked, IsMarked}
 use Rattle.fam_protocol.specs.Bad.{BadTaskHolds}
 use Rattle.fam_protocol.specs.Way.{Hosts, Settled, Small, Damaged, Known, AreHosts, IsSmall, IsDamaged, IsKnown, Stage, Way}
 use Rattle.fam_protocol.specs.Events.{Declares, Starts, Stops}
@@ -62,11 +62,10 @@ record Carried (old : Hosts) (s : Seen) (copy : ℕ → ℕ → Cell) (host : �
 record Begun (old : Hosts) (lines host : ℕ) (r : Run) : Type 0 where
   me : List ℕ
   cmd : Cmd
-  floor : ℕ
   enough : least_lines ≤ lines
   declared : old.uuid host ≡ Some me
   command : IsCommand cmd
-  is : r ≡ record { task = starting cmd me lines; floor = floor; named = None }
+  is : r ≡ record { task = starting cmd me lines; floor = None; named = None }
 
 -- what may become of copies: a copy that isn't as before is gone
 record Loosens (s : Seen) (copy : ℕ → ℕ → Cell) : Type 0 where
@@ -91,6 +90,11 @@ module _ (old new : Hosts) (lines : ℕ) (s : Seen) (copy : ℕ → ℕ → Cell
   named_same : ((h : ℕ) (r : Run) → old.run h ≡ Some r → HasNamed r.task.place → HoldsNamed r.task r.named) → (h : ℕ) (r : Run) → Carried old s copy h r ⊎ Begun old lines h r → HasNamed r.task.place → HoldsNamed r.task r.named
   named_same named h r (inl carried) has = named h r carried.run has
   named_same named h r (inr begun) has = absurd (subst (λ (q : Run). HasNamed q.task.place) begun.is has)
+
+  -- nor has it a mark
+  marked_same : ((h : ℕ) (r : Run) → old.run h ≡ Some r → HasMarked r.task.place → IsMarked r.floor) → (h : ℕ) (r : Run) → Carried old s copy h r ⊎ Begun old lines h r → HasMarked r.task.place → IsMarked r.floor
+  marked_same marked h r (inl carried) has = marked h r carried.run has
+  marked_same marked h r (inr begun) has = absurd (subst (λ (q : Run). HasMarked q.task.place) begun.is has)
 
   -- a small image
   small_by : ((h : ℕ) → old.run h ≡ None) → lines < least_lines → (h : ℕ) (r : Option Run) → new.run h ≡ r → r ≡ None
@@ -151,7 +155,7 @@ module _ (old new : Hosts) (lines : ℕ) (s : Seen) (copy : ℕ → ℕ → Cell
   stage_same (Known p all settled) is = known_same p all settled is
 
   way_same : (settled : Settled) → Way settled lines old s → Way settled lines new (with_copies s copy)
-  way_same settled way = record { declared = hosts_same way.declared; named = λ h r run. named_same way.named h r (runs h r run); wide = loosens.wide way.wide; stage = stage_same settled way.stage }
+  way_same settled way = record { declared = hosts_same way.declared; marked = λ h r run. marked_same way.marked h r (runs h r run); named = λ h r run. named_same way.named h r (runs h r run); wide = loosens.wide way.wide; stage = stage_same settled way.stage }
 
 -- nothing becomes of copies
 nothing_lost : (s : Seen) → Loosens s s.copy
@@ -251,11 +255,10 @@ module _ (settled : Settled) (lines host : ℕ) (old new : Hosts) where
         | inl is ↦ inr record {
           me = starts.me;
           cmd = cmd;
-          floor = starts.floor;
           enough = enough;
           declared = ap old.uuid is ∙ starts.declared;
           command = starts.command;
-          is = let here : new.run h ≡ Some (record { task = starting cmd starts.me lines; floor = starts.floor; named = None }) = ap new.run is ∙ starts.is in cc;
+          is = let here : new.run h ≡ Some (record { task = starting cmd starts.me lines; floor = None; named = None }) = ap new.run is ∙ starts.is in cc;
         }
         | inr other ↦ inl record { run = sym (starts.runs h other) ∙ run; same = λ l. refl }
       ]
@@ -274,7 +277,7 @@ module _ (settled : Settled) (lines host : ℕ) (old new : Hosts) where
 -- A new host.
 
 -- two lists of bytes are one, or they aren't
-one_or_two : (a b : List ℕ) → (a ≡ b) ⊎ (a ≢ b)
+pub one_or_two : (a b : List ℕ) → (a ≡ b) ⊎ (a ≢ b)
 one_or_two a b = by_test (bytes_eq a b) refl
   where
     by_test : (r : Bool) → bytes_eq a b ≡ r → (a ≡ b) ⊎ (a ≢ b)
@@ -399,4 +402,4 @@ module _ (lines host : ℕ) (id : List ℕ) (old new : Hosts) (s : Seen) (declar
 -- a host is declared
 pub way_declared : (settled : Settled) (lines host : ℕ) (id : List ℕ) (old new : Hosts) (s : Seen) → Way settled lines old s → Declares host id old new → Way settled lines new s
 way_declared settled lines host id old new s way declares =
-    record { declared = hosts_declared lines host id old new s declares way.declared; named = λ h r run. way.named h r (sym (declares.runs h) ∙ run); wide = way.wide; stage = stage_declared lines host id old new s declares way.declared settled way.stage }
+    record { declared = hosts_declared lines host id old new s declares way.declared; marked = λ h r run. way.marked h r (sym (declares.runs h) ∙ run); named = λ h r run. way.named h r (sym (declares.runs h) ∙ run); wide = way.wide; stage = stage_declared lines host id old new s declares way.declared settled way.stage }

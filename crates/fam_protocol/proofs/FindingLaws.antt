@@ -12,12 +12,12 @@ use Rattle.fam_format.specs.Reading.{Lines, reading_of, slot_word, slot_words}
 use Rattle.fam_format.specs.ReadingLaws.{HasWords}
 use Rattle.fam_format.specs.Slot.{entry_of}
 use Rattle.fam_format.proofs.EntryLawsProofs.{read_spelled}
-use Rattle.fam_machine.specs.declared.op.Part.TheVariants.{Superblock, Header, Slot, File as FileLines}
-use Rattle.fam_machine.specs.declared.op.Place.{Place}
-use Rattle.fam_machine.specs.declared.op.Place.TheVariants as at
-use Rattle.fam_machine.specs.Stands.{turn_given}
-use Rattle.fam_machine.specs.Task.{Task, first_line, line_of, part_line}
-use Rattle.fam_machine.specs.Turns.{Turn, Finds, Writes, Ends}
+use Rattle.fam_commands.specs.declared.place.Part.TheVariants.{Superblock, Header, Slot, File as FileLines}
+use Rattle.fam_commands.specs.declared.place.Place.{Place}
+use Rattle.fam_commands.specs.declared.place.Place.TheVariants as at
+use Rattle.fam_commands.specs.Stands.{turn_given}
+use Rattle.fam_commands.specs.Task.{Task, first_line, line_of, part_line}
+use Rattle.fam_commands.specs.Turns.{Turn, Finds, Writes, Ends}
 use Rattle.fam_rules.specs.declared.answers.Refused.{Refused}
 use Rattle.fam_rules.specs.declared.answers.Refused.TheVariants as refused
 use Rattle.fam_rules.specs.declared.answers.Report.{Report}
@@ -63,7 +63,7 @@ slot_fits memory p i k fits =
           subst (λ (n : ℕ). n < 2 ^ 64) (sym (get_or_past (slot_words memory p i) k 0 (omega (arith, long)))) (omega arith)
     ]
 
-module _ (sys : System) (host floor : ℕ) (t : Task) (s : Seen) (all : List File) (settled : ℕ) (core : Core sys s all settled) where
+module _ (sys : System) (host : ℕ) (floor : Option ℕ) (t : Task) (s : Seen) (all : List File) (settled : ℕ) (core : Core sys s all settled) where
   gate_current : KnowsGate host floor t s all settled → IsCurrent floor t all
   gate_current knows = record { low = knows.low; high = omega (arith, knows.high, core.order, core.high) }
 
@@ -111,7 +111,7 @@ module _ (sys : System) (host floor : ℕ) (t : Task) (s : Seen) (all : List Fil
       }
 
 -- a word of a file's line that memory has, where it was loaded
-module _ (sys : System) (host floor : ℕ) (t : Task) (s : Seen) (all : List File) (settled j k word : ℕ) (core : Core sys s all settled) (below : k < 8) (f : ReadsFile t all j) (high : t.gate ≤ gate_of (s.memory gate_line))
+module _ (sys : System) (host : ℕ) (floor : Option ℕ) (t : Task) (s : Seen) (all : List File) (settled j k word : ℕ) (core : Core sys s all settled) (below : k < 8) (f : ReadsFile t all j) (high : t.gate ≤ gate_of (s.memory gate_line))
     (is : word ≡ slice_index (s.memory (part_line t FileLines j)) k) where
   byte_loaded : (b : ℕ) → b < 8 → 64 * (first_line t.cmd + j) + (8 * k + b) < f.file.entry.size → byte_of word b ≡ slice_index f.file.bytes (64 * (first_line t.cmd + j) + (8 * k + b))
   byte_loaded b lt inside =

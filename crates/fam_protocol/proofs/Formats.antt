@@ -73,6 +73,7 @@ module _ (maker : ℕ) (p : Params) (lines : ℕ) (hosts : Hosts) (old new : See
   pub way_formatted : AreHosts hosts old → IsWide new → Way (Known p [] 0) lines hosts new
   way_formatted are wide = record {
     declared = hosts_formatted are;
+    marked = λ h r run. absurd (let none = may.idle h in cc);
     named = λ h r run. absurd (let none = may.idle h in cc);
     wide = wide;
     stage = record {

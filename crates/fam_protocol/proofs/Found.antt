@@ -4,27 +4,16 @@ use Rattle.std.specs.Prelude.{Some}
 use Rattle.std.specs.Option.{option_map}
 use Rattle.std.specs.List.{range_with_len, find}
 use Rattle.std.specs.FinMap as finmap
-use Rattle.std.proofs.lemmas.List.{take-map}
 use Rattle.fam_base.specs.declared.entry.Params.{Params}
-use Rattle.fam_base.specs.declared.entry.Entry.{Entry}
 use Rattle.fam_format.specs.Tree.{replay}
 use Rattle.fam_format.proofs.JoinLaws.{joins_from}
 use Rattle.fam_rules.specs.Asks.{File, entries_of, file_at}
-use Rattle.fam_rules.proofs.AskProofs.{AreNew, tree_finds, entry_of_file}
+use Rattle.fam_rules.proofs.AskProofs.{file_in_tree}
 use Rattle.fam_protocol.specs.Core.{IsHistory}
-use Rattle.fam_protocol.proofs.Apart.{member_from}
 
--- the entries of a history have new paths
-history_new : (p : Params) (all : List File) → IsHistory p all → AreNew (entries_of all)
-history_new p all history i e at =
-    let (f, is, same) = member_from (λ (g : File). g.entry) all i e at in
-    ap (λ (q : List ℕ). finmap.get (replay (take i (entries_of all))) q) (sym (ap (λ (x : Entry). x.path) same))
-    ∙ ap (λ (l : List Entry). finmap.get (replay l) f.entry.path) (take-map (λ (g : File). g.entry) i all)
-    ∙ (joins_from p (entries_of (take i all)) f.entry (history i f is).joins).absent
-
--- so the tree has the entry of the one file at a path
+-- the tree has the entry of the one file at a path
 pub found_at : (p : Params) (all : List File) (path : List ℕ) → IsHistory p all → finmap.get (replay (entries_of all)) path ≡ option_map (λ (g : File). g.entry) (file_at all path)
-found_at p all path history = sym (entry_of_file all path ∙ tree_finds (entries_of all) path (history_new p all history))
+found_at p all path history = sym (file_in_tree p all path (λ i f is. joins_from p (entries_of (take i all)) f.entry (history i f is).joins))
 
 -- Looking for the first number that passes a test.
 

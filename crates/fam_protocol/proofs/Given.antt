@@ -1,25 +1,25 @@
 -- What an operation gave its task, in terms of memory and caches after it.
-use Rattle.std.specs.Prelude.{ℕ, ◌≡◌, ◌+◌, ◌<◌, ◌≤◌, List, slice_index, Some}
+use Rattle.std.specs.Prelude.{ℕ, ◌≡◌, ◌+◌, ◌<◌, ◌≤◌, List, slice_index, Some, Option}
 use Rattle.fam_format.specs.Layout.{gate_line, slot_line}
 use Rattle.fam_machine.specs.declared.cell.Cell.TheVariants.{Absent}
-use Rattle.fam_machine.specs.declared.op.Place.{Place}
-use Rattle.fam_machine.specs.declared.op.Place.TheVariants as at
-use Rattle.fam_machine.specs.Task.{Task, data_words, line_of, part_line}
+use Rattle.fam_commands.specs.declared.place.Place.{Place}
+use Rattle.fam_commands.specs.declared.place.Place.TheVariants as at
+use Rattle.fam_commands.specs.Task.{Task, data_words, line_of, part_line}
 use Rattle.fam_rules.specs.Asks.{File}
 use Rattle.fam_rules.specs.Written.{slot_part}
 use Rattle.fam_protocol.specs.Seen.{Seen}
-use Rattle.fam_protocol.specs.Lines.{Finished, gate_of}
+use Rattle.fam_protocol.specs.Lines.{Finished, gate_of, IsAtLeast}
 use Rattle.fam_protocol.specs.Core.{System}
 use Rattle.fam_protocol.specs.Tasks.{IsSure, StoresData, StoresSlot, HasPublished, AtPlace}
 
 -- the word of a load of the gate
-pub record GivesGate (sys : System) (host floor word : ℕ) (s : Seen) : Type 0 where
-  pub low : floor ≤ word
+pub record GivesGate (sys : System) (host : ℕ) (floor : Option ℕ) (word : ℕ) (s : Seen) : Type 0 where
+  pub low : IsAtLeast floor word
   pub high : word ≤ gate_of (s.memory gate_line)
   pub masters : sys.master ≡ Some host → word ≡ gate_of (s.memory gate_line)
 
 -- what is known after the operation of a task at a place, and before its turn
-abbrev pub Given : Place → System → ℕ → ℕ → ℕ → Task → Seen → List File → ℕ → Type 0
+abbrev pub Given : Place → System → ℕ → Option ℕ → ℕ → Task → Seen → List File → ℕ → Type 0
 Given at.DropMagic sys host floor word t s all settled =
     AtPlace at.DropMagic sys host floor t s all settled × (s.copy host 0 ≡ Absent)
 Given at.Magic sys host floor word t s all settled =

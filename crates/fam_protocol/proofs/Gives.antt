@@ -8,17 +8,17 @@ use Rattle.fam_format.specs.Layout.{gate_line, slot_line}
 use Rattle.fam_format.proofs.EntryLawsProofs.{spelling_count}
 use Rattle.fam_machine.specs.declared.cell.Cell.{Cell}
 use Rattle.fam_machine.specs.declared.cell.Cell.TheVariants.{Absent, Clean, Dirty}
-use Rattle.fam_machine.specs.declared.op.Place.{Place}
-use Rattle.fam_machine.specs.declared.op.Place.TheVariants as at
+use Rattle.fam_commands.specs.declared.place.Place.{Place}
+use Rattle.fam_commands.specs.declared.place.Place.TheVariants as at
 use Rattle.fam_machine.specs.Moves.{Drifts}
 use Rattle.fam_machine.specs.OneLine.{brought, cleaned, current, sent, stored}
-use Rattle.fam_machine.specs.Task.{Task, data_words, line_of, op_at, part_line, size_of}
+use Rattle.fam_commands.specs.Task.{Task, data_words, line_of, op_at, part_line, size_of}
 use Rattle.fam_machine.proofs.Drifting.{absent_drifts, brought_drifts, cleaned_drifts}
 use Rattle.fam_rules.specs.Asks.{File}
 use Rattle.fam_rules.specs.Place.{line_bytes}
 use Rattle.fam_rules.specs.Written.{slot_part}
 use Rattle.fam_protocol.specs.Seen.{Seen, DriftsAt, LeavesAt, Operates}
-use Rattle.fam_protocol.specs.Lines.{Fresh, FreshGate, Finished, gate_of, top}
+use Rattle.fam_protocol.specs.Lines.{Fresh, FreshGate, Finished, gate_of, top, IsAtLeast}
 use Rattle.fam_protocol.specs.Core.{System, Core, IsLineOf, masters_copy}
 use Rattle.fam_protocol.specs.Tasks.{AtPlace, HasPublished, IsAtGate, IsWriting, StoresData, StoresSlot}
 use Rattle.fam_protocol.proofs.Apart.{files_apart, slots_apart, slot_no_file}
@@ -29,14 +29,15 @@ use Rattle.fam_protocol.proofs.Keeping.{Keeps, place_kept}
 use Rattle.fam_protocol.proofs.LineMoves.{fresh_current}
 use Rattle.fam_protocol.proofs.Publish.{core_published, has_published, publish_keeps}
 use Rattle.fam_protocol.proofs.Stores.{cleaned_fresh, core_stored, finished_other, holding_here, part_length, part_word, sent_whole, store_keeps, writing_stored}
+use Rattle.fam_protocol.proofs.Floors.{at_least_more}
 
 -- what is known after an operation
-pub record Leaves (p : Place) (sys : System) (host floor word : ℕ) (t : Task) (s s' : Seen) (all : List File) (settled : ℕ) : Type 0 where
+pub record Leaves (p : Place) (sys : System) (host : ℕ) (floor : Option ℕ) (word : ℕ) (t : Task) (s s' : Seen) (all : List File) (settled : ℕ) : Type 0 where
   pub core : Core sys s' all settled
   pub given : Given p sys host floor word t s' all settled
   pub others : (h : ℕ) → h ≢ host → Keeps sys h settled s s'
 
-module _ (sys : System) (s s' : Seen) (all : List File) (settled : ℕ) (core : Core sys s all settled) (host floor word : ℕ) (t : Task) where
+module _ (sys : System) (s s' : Seen) (all : List File) (settled : ℕ) (core : Core sys s all settled) (host : ℕ) (floor : Option ℕ) (word : ℕ) (t : Task) where
   -- a drop, a load, a write-back
   module _ (p : Place) (line : ℕ) (m : List ℕ) (c : Cell) (left : LeavesAt host line s s' m c) (d : Drifts (s.memory line) (s.copy host line) m c) (known : AtPlace p sys host floor t s all settled) where
     moves : DriftsAt host line s s'
@@ -58,9 +59,9 @@ module _ (sys : System) (s s' : Seen) (all : List File) (settled : ℕ) (core : 
       gives ∙ ap (λ (w : List ℕ). slice_index w k) (fresh_current (s.memory line) (s.copy host line) fresh ∙ sym left.memory_is)
 
   -- what a load of the gate gives
-  gate_word : (m : List ℕ) (c : Cell) → settled ≤ gate_of m → floor ≤ settled → FreshGate floor m c → word ≡ slice_index (current m c) 0 → (floor ≤ word) × (word ≤ gate_of m)
-  gate_word m Absent low lo f e = (omega arith, omega arith)
-  gate_word m (Clean w) low lo f e = (omega (arith, f.0), omega (arith, f.1))
+  gate_word : (m : List ℕ) (c : Cell) → settled ≤ gate_of m → IsAtLeast floor settled → FreshGate floor m c → word ≡ slice_index (current m c) 0 → IsAtLeast floor word × (word ≤ gate_of m)
+  gate_word m Absent low lo f e = (at_least_more floor settled word (omega (arith, low, e)) lo, omega arith)
+  gate_word m (Clean w) low lo f e = (at_least_more floor (gate_of w) word (omega (arith, e)) f.0, omega (arith, f.1))
   gate_word m (Dirty w) low lo f e = absurd f
 
   gives_gate : LeavesAt host gate_line s s' (s.memory gate_line) (brought (s.memory gate_line) (s.copy host gate_line)) → word ≡ slice_index (current (s.memory gate_line) (s.copy host gate_line)) 0

@@ -4,11 +4,11 @@ use Rattle.std.specs.Prelude.{slice_index, Option, Some}
 use Rattle.fam_base.specs.declared.entry.Params.{Params}
 use Rattle.fam_base.specs.declared.entry.Entry.{Entry}
 use Rattle.fam_format.specs.Layout.{gate_line, slot_line}
-use Rattle.fam_machine.specs.declared.op.Part.{Part}
-use Rattle.fam_machine.specs.declared.op.Part.TheVariants.{Superblock, Header, Slot, File as FileLines}
-use Rattle.fam_machine.specs.declared.op.Place.{Place}
-use Rattle.fam_machine.specs.declared.op.Place.TheVariants as at
-use Rattle.fam_machine.specs.Task.{Task, data_words, first_line, line_of, part_count, part_line, size_of, wanted_lines}
+use Rattle.fam_commands.specs.declared.place.Part.{Part}
+use Rattle.fam_commands.specs.declared.place.Part.TheVariants.{Superblock, Header, Slot, File as FileLines}
+use Rattle.fam_commands.specs.declared.place.Place.{Place}
+use Rattle.fam_commands.specs.declared.place.Place.TheVariants as at
+use Rattle.fam_commands.specs.Task.{Task, data_words, first_line, line_of, part_count, part_line, size_of, wanted_lines}
 use Rattle.fam_rules.specs.Asks.{File}
 use Rattle.fam_rules.specs.Written.{slot_part}
 use Rattle.fam_rules.proofs.RoomSame.{map_range_same}
@@ -29,7 +29,7 @@ pub record Keeps (sys : System) (h settled : ℕ) (s s' : Seen) : Type 0 where
   pub quiet : (l : ℕ) → Quiet s l → s'.memory l ≡ s.memory l
   pub fresh : (l : ℕ) → Quiet s l → Fresh (s.memory l) (s.copy h l) → Fresh (s'.memory l) (s'.copy h l)
   pub gate : gate_of (s.memory gate_line) ≤ gate_of (s'.memory gate_line)
-  pub at_gate : (floor : ℕ) → IsAtGate sys h floor s settled → IsAtGate sys h floor s' settled
+  pub at_gate : (floor : Option ℕ) → IsAtGate sys h floor s settled → IsAtGate sys h floor s' settled
   pub writing : sys.master ≡ Some h → KeepsWriting sys h s s'
 
 -- the same lines have the same words
@@ -37,7 +37,7 @@ pub part_same : (memory memory' : ℕ → List ℕ) (t : Task) (part : Part) →
 part_same memory memory' t part lines =
     map_range_same _ _ 0 (8 * part_count t part) (λ n _ lt. ap (λ (w : List ℕ). slice_index w (n % 8)) (lines (n / 8) (omega (arith, lt))))
 
-module _ (sys : System) (s s' : Seen) (all : List File) (settled : ℕ) (core : Core sys s all settled) (h floor : ℕ) (keeps : Keeps sys h settled s s') where
+module _ (sys : System) (s s' : Seen) (all : List File) (settled : ℕ) (core : Core sys s all settled) (h : ℕ) (floor : Option ℕ) (keeps : Keeps sys h settled s s') where
   gate_kept : (t : Task) → KnowsGate h floor t s all settled → KnowsGate h floor t s' all settled
   gate_kept t g = record { low = g.low; high = omega (arith, g.high, keeps.gate); writer = g.writer }
 

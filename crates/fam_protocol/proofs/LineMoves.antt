@@ -1,26 +1,15 @@
 -- What each move of a cache keeps at one line, and so each list of moves.
-use Rattle.std.proofs.Common.{ℕ, zero, suc, ◌/◌, ◌%◌, ◌^◌, ◌==◌, ◌≤◌, ◌≡◌, List, [], ◌∷◌, length, refl, sym, ◌∙◌, subst, arith, cond, Bool, true, false}
-use Rattle.std.specs.Prelude.{slice_index}
-use Rattle.fam_base.specs.Image.{eight, masked}
+use Rattle.std.proofs.Common.{ℕ, zero, suc, ◌/◌, ◌%◌, ◌^◌, ◌==◌, ◌≤◌, ◌≡◌, List, length, refl, sym, ◌∙◌, subst, arith, cond, Bool, true, false}
+use Rattle.std.specs.Prelude.{slice_index, Option}
+use Rattle.fam_base.specs.Image.{masked}
 use Rattle.fam_base.proofs.ImageLemmas.{length-masked, masked-same}
 use Rattle.fam_machine.specs.declared.cell.Cell.{Cell}
 use Rattle.fam_machine.specs.declared.cell.Cell.TheVariants.{Absent, Clean, Dirty}
 use Rattle.fam_machine.specs.OneLine.{IsDirty, current}
 use Rattle.fam_machine.specs.Moves.{Moves, brings, refreshes, sends, sends_whole, cleans, drops, Drifts, rests, goes}
-use Rattle.fam_protocol.specs.Lines.{gate_of, top, Fresh, FreshGate, Holding, Finished}
-
--- a line of eight words is its eight words
-pub eight_whole : (words : List ℕ) → length words ≡ 8 → eight words ≡ words
-eight_whole (a ∷ b ∷ c ∷ d ∷ e ∷ f ∷ g ∷ h ∷ []) is = refl
-eight_whole [] is = absurd (omega (arith, is))
-eight_whole (a ∷ []) is = absurd (omega (arith, is))
-eight_whole (a ∷ b ∷ []) is = absurd (omega (arith, is))
-eight_whole (a ∷ b ∷ c ∷ []) is = absurd (omega (arith, is))
-eight_whole (a ∷ b ∷ c ∷ d ∷ []) is = absurd (omega (arith, is))
-eight_whole (a ∷ b ∷ c ∷ d ∷ e ∷ []) is = absurd (omega (arith, is))
-eight_whole (a ∷ b ∷ c ∷ d ∷ e ∷ f ∷ []) is = absurd (omega (arith, is))
-eight_whole (a ∷ b ∷ c ∷ d ∷ e ∷ f ∷ g ∷ []) is = absurd (omega (arith, is))
-eight_whole (a ∷ b ∷ c ∷ d ∷ e ∷ f ∷ g ∷ h ∷ i ∷ more) is = absurd (omega (arith, is))
+use Rattle.fam_machine.proofs.WideLines.{eight_whole}
+use Rattle.fam_protocol.specs.Lines.{gate_of, top, Fresh, FreshGate, Holding, Finished, IsAtLeast}
+use Rattle.fam_protocol.proofs.Floors.{at_least_more}
 
 -- a line masked over itself
 pub masked_same : (mask : ℕ) (m : List ℕ) → length m ≡ 8 → masked mask m m ≡ m
@@ -98,11 +87,11 @@ fresh_kept sends_whole l f = absurd f
 fresh_kept cleans l f = absurd f
 fresh_kept drops l f = tt
 
-gate_refreshed : (mask floor : ℕ) (w m : List ℕ) → (floor ≤ gate_of w) × (gate_of w ≤ gate_of m) → (floor ≤ gate_of (masked mask m w)) × (gate_of (masked mask m w) ≤ gate_of m)
-gate_refreshed mask floor w m h = let g = gate_between mask m w h.1 in (omega (arith, h.0, g.0), g.1)
+gate_refreshed : (mask : ℕ) (floor : Option ℕ) (w m : List ℕ) → IsAtLeast floor (gate_of w) × (gate_of w ≤ gate_of m) → IsAtLeast floor (gate_of (masked mask m w)) × (gate_of (masked mask m w) ≤ gate_of m)
+gate_refreshed mask floor w m h = let g = gate_between mask m w h.1 in (at_least_more floor (gate_of w) (gate_of (masked mask m w)) g.0 h.0, g.1)
 
 -- a copy of the gate stays no older than the mark, and no newer than memory
-pub fresh_gate_kept : {m m' : List ℕ} {c c' : Cell} (floor : ℕ) → floor ≤ gate_of m → Moves m c m' c' → FreshGate floor m c → FreshGate floor m' c'
+pub fresh_gate_kept : {m m' : List ℕ} {c c' : Cell} (floor : Option ℕ) → IsAtLeast floor (gate_of m) → Moves m c m' c' → FreshGate floor m c → FreshGate floor m' c'
 fresh_gate_kept floor low brings f = (low, omega arith)
 fresh_gate_kept floor low (refreshes {m} {w} mask) f = gate_refreshed mask floor w m f
 fresh_gate_kept floor low (sends mask) f = absurd f

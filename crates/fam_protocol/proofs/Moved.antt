@@ -3,11 +3,11 @@ use Rattle.std.proofs.Common.{ℕ, refl, ◌*◌, ◌≡◌, ◌<◌, List, subs
 use Rattle.std.specs.Prelude.{Option, Some}
 use Rattle.fam_base.specs.declared.cmd.Cmd.{Cmd}
 use Rattle.fam_base.specs.declared.cmd.Cmd.TheVariants.{Fsck}
-use Rattle.fam_machine.specs.declared.op.Part.{Part}
-use Rattle.fam_machine.specs.declared.op.Part.TheVariants.{Superblock, Header, Slot, File as FileLines}
-use Rattle.fam_machine.specs.declared.op.Place.{Place}
-use Rattle.fam_machine.specs.Task.{Task, part_count, part_line}
-use Rattle.fam_machine.specs.Turns.{slots_read, Turn, Goes, Marks, Finds, Writes, Ends}
+use Rattle.fam_commands.specs.declared.place.Part.{Part}
+use Rattle.fam_commands.specs.declared.place.Part.TheVariants.{Superblock, Header, Slot, File as FileLines}
+use Rattle.fam_commands.specs.declared.place.Place.{Place}
+use Rattle.fam_commands.specs.Task.{Task, part_count, part_line}
+use Rattle.fam_commands.specs.Turns.{slots_read, Turn, Goes, Marks, Finds, Writes, Ends}
 use Rattle.fam_rules.specs.Asks.{File}
 use Rattle.fam_rules.specs.Reply.{Reply, Appended, NotAppended, Played, Same, Differs, Length, Bytes, NotFound, IsDirectory, Checks, Reports, NoSuperblock, BadHeader, BadSlot}
 use Rattle.fam_rules.specs.declared.answers.Refused.{Refused}
@@ -83,7 +83,7 @@ module _ (t : Task) (p : Place) (w : List ℕ) where
   read_by Fsck i all h = h
   read_by cmd i all h = h
 
-  module _ (host floor : ℕ) (s : Seen) (all : List File) (settled : ℕ) where
+  module _ (host : ℕ) (floor : Option ℕ) (s : Seen) (all : List File) (settled : ℕ) where
     pub gate_moved : KnowsGate host floor t s all settled → KnowsGate host floor (moved t p w) s all settled
     gate_moved h = record { low = h.low; high = h.high; writer = h.writer }
 
@@ -106,7 +106,7 @@ module _ (t : Task) (p : Place) (w : List ℕ) where
     on_moved FileLines j sys h = (head_moved sys host h.0, file_moved j h.1)
 
   -- what a turn may say, where it is the moved task's
-  module _ (sys : System) (floor : ℕ) (named : Option Named) (all : List File) (settled : ℕ) where
+  module _ (sys : System) (floor : Option ℕ) (named : Option Named) (all : List File) (settled : ℕ) where
     asked_moved : (reply : Reply) → IsAsked (moved t p w) floor all reply → IsAsked t floor all reply
     asked_moved reply h = record { low = h.low; high = h.high; is = h.is }
 

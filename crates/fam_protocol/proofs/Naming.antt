@@ -1,13 +1,13 @@
 -- A host keeps what its task named, and the task holds it until it ends.
 use Rattle.std.proofs.Common.{ℕ, ◌≡◌, ◌+◌, Some, sym, ap, subst}
 use Rattle.std.proofs.lemmas.Option.{same_Some}
-use Rattle.fam_machine.specs.declared.op.Place.{Place}
-use Rattle.fam_machine.specs.declared.op.Place.TheVariants as at
-use Rattle.fam_machine.specs.Turns.{Turn, Goes, Marks, Finds, Writes, Ends, turn_at, store_or_send, data_or_slot, slot_or_gate}
+use Rattle.fam_commands.specs.declared.place.Place.{Place}
+use Rattle.fam_commands.specs.declared.place.Place.TheVariants as at
+use Rattle.fam_commands.specs.Turns.{Turn, Goes, Marks, Finds, Writes, Ends, turn_at, store_or_send, data_or_slot, slot_or_gate}
 use Rattle.fam_protocol.specs.After.{Run, HasNamed, HoldsNamed}
-use Rattle.fam_protocol.specs.Alone.{IsBeforeWrites}
+use Rattle.fam_commands.specs.Appends.{IsBeforeWrites}
 use Rattle.fam_protocol.specs.Steps.{run_after}
-use Rattle.fam_protocol.proofs.AloneTurns.{SaysAt, turn_says}
+use Rattle.fam_commands.proofs.BeforeWrites.{SaysAt, turn_says}
 
 -- a run whose task, where it writes, holds what it named
 abbrev pub KeepsNamed : Run → Type 0

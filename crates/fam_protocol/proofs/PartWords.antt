@@ -8,9 +8,9 @@ use Rattle.fam_base.specs.declared.cmd.Cmd.{Cmd}
 use Rattle.fam_base.specs.declared.cmd.Cmd.TheVariants.{Verify}
 use Rattle.fam_format.specs.Layout.{log_line}
 use Rattle.fam_format.specs.Reading.{slot_words}
-use Rattle.fam_machine.specs.declared.op.Part.{Part}
-use Rattle.fam_machine.specs.declared.op.Part.TheVariants.{Superblock, Header, Slot, File as FileLines}
-use Rattle.fam_machine.specs.Task.{Task, part_count, part_line}
+use Rattle.fam_commands.specs.declared.place.Part.{Part}
+use Rattle.fam_commands.specs.declared.place.Part.TheVariants.{Superblock, Header, Slot, File as FileLines}
+use Rattle.fam_commands.specs.Task.{Task, part_count, part_line}
 use Rattle.fam_protocol.specs.Tasks.{HasLoaded, part_words, kept_from}
 
 -- a range without its first places

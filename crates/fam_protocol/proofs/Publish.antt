@@ -14,7 +14,7 @@ use Rattle.fam_format.specs.Slot.{entry_of, spelling}
 use Rattle.fam_format.proofs.EntryLawsProofs.{spelling_count, spelling_read}
 use Rattle.fam_machine.specs.declared.cell.Cell.{Cell}
 use Rattle.fam_machine.specs.OneLine.{IsDirty, current, stored}
-use Rattle.fam_machine.specs.Task.{Task, content_of, data_words, line_of, size_of}
+use Rattle.fam_commands.specs.Task.{Task, content_of, data_words, line_of, size_of}
 use Rattle.fam_rules.specs.Asks.{File}
 use Rattle.fam_rules.specs.Content.{byte_in, fill, file_words}
 use Rattle.fam_rules.specs.Place.{line_bytes}

@@ -8,7 +8,7 @@ use Rattle.fam_base.specs.declared.cmd.Cmd.TheVariants.{Logplay, Mkdir, Creat, C
 use Rattle.fam_base.specs.declared.entry.Entry.{Entry}
 use Rattle.fam_format.specs.Layout.{log_line, slot_line}
 use Rattle.fam_machine.specs.OneLine.{IsDirty}
-use Rattle.fam_machine.specs.Task.{first_line, line_of, wanted_end, wanted_lines, wanted_start}
+use Rattle.fam_commands.specs.Task.{first_line, line_of, wanted_end, wanted_lines, wanted_start}
 use Rattle.fam_rules.specs.Asks.{File}
 use Rattle.fam_rules.specs.Place.{line_bytes}
 use Rattle.fam_rules.specs.Written.{lines_of}

@@ -1,16 +1,16 @@
 -- What a note or an answer of one host changes of the history, and what another host's task knows of it.
 use Rattle.std.proofs.Common.{ℕ, ◌≤◌, ◌≡◌, ◌≢◌, inl, inr, List, take, max, min, refl, sym, ◌∙◌, ap, arith}
-use Rattle.std.specs.Prelude.{Some}
+use Rattle.std.specs.Prelude.{Some, Option}
 use Rattle.std.proofs.lemmas.Option.{same_Some}
 use Rattle.fam_base.specs.declared.cmd.Cmd.{Cmd}
 use Rattle.fam_base.specs.declared.cmd.Cmd.TheVariants.{Logplay, Mkdir, Creat, Cp, Verify, Read, Check, Fsck}
 use Rattle.fam_format.specs.Layout.{gate_line}
-use Rattle.fam_machine.specs.declared.op.Part.{Part}
-use Rattle.fam_machine.specs.declared.op.Part.TheVariants.{Superblock, Header, Slot, File as FileLines}
-use Rattle.fam_machine.specs.declared.op.Place.{Place}
-use Rattle.fam_machine.specs.declared.op.Place.TheVariants as at
-use Rattle.fam_machine.specs.Task.{Task}
-use Rattle.fam_machine.specs.Turns.{slots_read}
+use Rattle.fam_commands.specs.declared.place.Part.{Part}
+use Rattle.fam_commands.specs.declared.place.Part.TheVariants.{Superblock, Header, Slot, File as FileLines}
+use Rattle.fam_commands.specs.declared.place.Place.{Place}
+use Rattle.fam_commands.specs.declared.place.Place.TheVariants as at
+use Rattle.fam_commands.specs.Task.{Task}
+use Rattle.fam_commands.specs.Turns.{slots_read}
 use Rattle.fam_rules.specs.Asks.{File, entries_of, file_at}
 use Rattle.fam_protocol.specs.Seen.{Seen}
 use Rattle.fam_protocol.specs.Lines.{gate_of}
@@ -18,10 +18,11 @@ use Rattle.fam_protocol.specs.Core.{System, Core, top_of}
 use Rattle.fam_protocol.specs.Tasks.{AtPlace, HasRead, HasReadAll, HasSurveyed, IsAtSlot, IsWriting, KnowsGate, KnowsHead, OnPart, ReadsFile, TaskHolds}
 use Rattle.fam_protocol.specs.After.{Changes, Relists}
 use Rattle.fam_protocol.proofs.Settle.{get_alike}
+use Rattle.fam_protocol.proofs.Floors.{at_least_more}
 
 module _ (sys : System) (s : Seen) (all : List File) (settled : ℕ) (core : Core sys s all settled) where
   -- an answer shows m entries, all of them published
-  module _ (m : ℕ) (seen : m ≤ gate_of (s.memory gate_line)) (h floor : ℕ) (t : Task) where
+  module _ (m : ℕ) (seen : m ≤ gate_of (s.memory gate_line)) (h : ℕ) (floor : Option ℕ) (t : Task) where
     gate_raised : KnowsGate h floor t s all settled → KnowsGate h floor t s all (max settled m)
     gate_raised g = record {
       low = g.low;
@@ -63,7 +64,7 @@ module _ (sys : System) (s : Seen) (all : List File) (settled : ℕ) (core : Cor
     place_raised (at.Drop part j) k = (on_raised part j k.0, k.1, k.2)
     place_raised (at.Word part j i) k = (on_raised part j k.0, k.1, k.2, k.3)
     place_raised at.DropGate k = k
-    place_raised at.Gate k = (k.0, k.1, k.2, record { low = omega (arith, k.3.low); copy = k.3.copy; masters = k.3.masters })
+    place_raised at.Gate k = (k.0, k.1, k.2, record { low = at_least_more floor settled (max settled m) (omega arith) k.3.low; copy = k.3.copy; masters = k.3.masters })
     place_raised (at.Check i) k = (k.0, slot_raised i k.1, k.2)
     place_raised at.Decide k = (k.0, all_raised k.1)
     place_raised (at.StoreData j i) k = (k.0, record { writing = writing_raised k.1.writing; line = k.1.line; before = k.1.before; here = k.1.here })
@@ -77,7 +78,7 @@ module _ (sys : System) (s : Seen) (all : List File) (settled : ℕ) (core : Cor
     task_raised holds = record { command = holds.command; me = holds.me; lines = holds.lines; place = place_raised t.place holds.place }
 
   -- the master changes the list past the top, and host h isn't the master
-  module _ (all' : List File) (settled' : ℕ) (r : Relists sys s all settled all' settled') (master : ℕ) (is : sys.master ≡ Some master) (h floor : ℕ) (ne : h ≢ master) (t : Task) where
+  module _ (all' : List File) (settled' : ℕ) (r : Relists sys s all settled all' settled') (master : ℕ) (is : sys.master ≡ Some master) (h : ℕ) (floor : Option ℕ) (ne : h ≢ master) (t : Task) where
     other : sys.master ≡ Some h → ⊥
     other e = ne (same_Some _ _ (sym e ∙ is))
 
@@ -145,7 +146,7 @@ module _ (sys : System) (s : Seen) (all : List File) (settled : ℕ) (core : Cor
     place_relisted (at.Drop part j) k = (on_relisted part j k.0, k.1, k.2)
     place_relisted (at.Word part j i) k = (on_relisted part j k.0, k.1, k.2, k.3)
     place_relisted at.DropGate k = k
-    place_relisted at.Gate k = (k.0, k.1, k.2, record { low = omega (arith, k.3.low, r.up); copy = k.3.copy; masters = k.3.masters })
+    place_relisted at.Gate k = (k.0, k.1, k.2, record { low = at_least_more floor settled settled' r.up k.3.low; copy = k.3.copy; masters = k.3.masters })
     place_relisted (at.Check i) k = (k.0, slot_relisted i k.0 k.1, k.2)
     place_relisted at.Decide k = (k.0, all_relisted k.0 k.1)
     place_relisted (at.StoreData j i) k = absurd (other k.1.writing.master)
@@ -159,6 +160,6 @@ module _ (sys : System) (s : Seen) (all : List File) (settled : ℕ) (core : Cor
     task_relisted holds = record { command = holds.command; me = holds.me; lines = holds.lines; place = place_relisted t.place holds.place }
 
   -- another host's task after a host's note or answer
-  pub task_resettled : (host h floor : ℕ) (t : Task) (all' : List File) (settled' : ℕ) → h ≢ host → Changes sys host s all settled all' settled' → TaskHolds sys h floor t s all settled → TaskHolds sys h floor t s all' settled'
+  pub task_resettled : (host h : ℕ) (floor : Option ℕ) (t : Task) (all' : List File) (settled' : ℕ) → h ≢ host → Changes sys host s all settled all' settled' → TaskHolds sys h floor t s all settled → TaskHolds sys h floor t s all' settled'
   task_resettled host h floor t all' settled' ne (inl c) holds = task_relisted all' settled' c.1 host c.0 h floor ne t holds
   task_resettled host h floor t all' settled' ne (inr c) holds = rw (c.same, c.is) (task_raised c.m c.seen h floor t holds)

@@ -1,8 +1,10 @@
 -- What a sound reading says of superblock, header, gate and slots, whatever numbers the lines have.
 use Prim.Native.Nat.{zero, suc}
-use Rattle.std.proofs.Common.{◌≡◌, ℕ, ◌+◌, ◌≤◌, List, [], ◌∷◌, ◌++◌, length, take, slice_get, Option, Some, None, Result, Ok, Err, inl, inr, refl, sym, ap, subst, ◌∙◌, arith, length-append}
+use Rattle.std.proofs.Common.{◌≡◌, ℕ, ◌+◌, ◌<◌, ◌≤◌, List, [], ◌∷◌, ◌++◌, length, take, slice_get, false, Option, Some, None, Result, Ok, Err, inl, inr, refl, sym, ap, subst, ◌∙◌, arith, length-append}
 use Rattle.std.proofs.lemmas.Bool.Decides.{nat_tests}
-use Rattle.std.proofs.lemmas.List.{take_all, take-append-le}
+use Rattle.std.specs.Prelude.{nat_lt}
+use Rattle.std.proofs.lemmas.List.{take_all, take_more, take-append-le}
+use Rattle.std.proofs.lemmas.Option.{slice_get_cases}
 use Rattle.fam_base.specs.declared.entry.Params.{Params}
 use Rattle.fam_base.specs.declared.entry.Entry.{Entry}
 use Rattle.fam_format.specs.declared.faults.SuperFault.{SuperFault}
@@ -155,3 +157,36 @@ module _ (line : Lines) (have : ℕ) (q : Params) (es : List Entry) where
   pub sound_reads : reading_of line have ≡ Sound q es → ReadsSound line have q es
   unfolding reading_of
   sound_reads h = by_super (super_in line have) refl h
+
+-- And back.
+
+gate_passes : (gate : ℕ) (p : Params) → gate ≤ p.slots → gate_fault gate p ≡ None
+gate_passes gate p h = let is : nat_lt p.slots gate ≡ false = grind (arith, nat_tests) in rw is refl
+
+module _ (line : Lines) (p : Params) (es : List Entry) (told : AreTold line p es) where
+  -- reading passes a slot that tells its entry
+  passes : (i more : ℕ) (e : Entry) → slice_get es i ≡ Some e → take (i + 1) es ≡ take i es ++ e ∷ [] → read_slots line p i (suc more) (take i es) ≡ read_slots line p (i + 1) more (take (i + 1) es)
+  passes i more e at next =
+      let tells : Tells line p (take i es) i e = told i e at in
+      ap (λ (r : Result Entry Reason). slot_or p (take i es) i r (λ x. read_slots line p (i + 1) more (take i es ++ x ∷ []))) tells.reads
+      ∙ ap (λ (f : Option Reason). joined_or i f (read_slots line p (i + 1) more (take i es ++ e ∷ []))) tells.joins
+      ∙ ap (λ (xs : List Entry). read_slots line p (i + 1) more xs) (sym next)
+
+  -- the member at a place
+  member : (i : ℕ) → i < length es → (e : Entry) × (slice_get es i ≡ Some e) × (take (i + 1) es ≡ take i es ++ e ∷ [])
+  member i below = elim (slice_get_cases es i).1 [
+    | inl (e, within, is, same) ↦ (e, is, take_more es i e below ∙ ap (λ (x : Entry). take i es ++ x ∷ []) same)
+    | inr (past, none) ↦ absurd (omega (arith, past, below))
+  ]
+
+  slots_sound : (more i : ℕ) → i + more ≡ length es → read_slots line p i more (take i es) ≡ Sound p es
+  slots_sound zero i count = ap (Sound p) (take_all i es (omega arith))
+  slots_sound (suc more) i count =
+      let at = member i (omega arith) in
+      passes i more at.0 at.1 at.2 ∙ slots_sound more (i + 1) (omega arith)
+
+pub reads_sound : (line : Lines) (have : ℕ) (p : Params) (es : List Entry) → ReadsSound line have p es → reading_of line have ≡ Sound p es
+unfolding reading_of
+reads_sound line have p es reads =
+    ap (read_super line) reads.super ∙ ap (read_log line p) reads.header ∙ ap (read_below line p) (gate_passes (gate_in line) p reads.gate)
+    ∙ slots_sound line p es reads.slots (gate_in line) 0 (let n = reads.count in omega arith)

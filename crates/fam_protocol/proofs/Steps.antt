@@ -8,11 +8,12 @@ use Rattle.fam_format.specs.Reading.{Lines}
 use Rattle.fam_machine.specs.declared.cell.Cell.TheVariants.{Absent}
 use Rattle.fam_machine.specs.declared.op.Op.{Op}
 use Rattle.fam_machine.specs.declared.op.Op.TheVariants.{Load, Store, WriteBack, Invalidate, Digest}
-use Rattle.fam_machine.specs.declared.op.Place.{Place}
-use Rattle.fam_machine.specs.declared.op.Place.TheVariants as at
-use Rattle.fam_machine.specs.Stands.{given_by, turn_given}
-use Rattle.fam_machine.specs.Task.{Task, op_at, op_of}
-use Rattle.fam_machine.specs.Turns.{Turn, Goes, Marks, Finds, Writes, Ends, turn_at}
+use Rattle.fam_commands.specs.declared.place.Place.{Place}
+use Rattle.fam_commands.specs.declared.place.Place.TheVariants as at
+use Rattle.fam_machine.specs.Operations.{given_by}
+use Rattle.fam_commands.specs.Stands.{turn_given}
+use Rattle.fam_commands.specs.Task.{Task, op_at, op_of}
+use Rattle.fam_commands.specs.Turns.{Turn, Goes, Marks, Finds, Writes, Ends, turn_at}
 use Rattle.fam_rules.specs.Asks.{File}
 use Rattle.fam_rules.specs.Place.{line_bytes}
 use Rattle.fam_protocol.specs.Seen.{Seen, DriftsAt, Operates}
@@ -28,6 +29,7 @@ use Rattle.fam_protocol.proofs.Drifting.{drift_task}
 use Rattle.fam_protocol.proofs.Free.{Same, core_kept, dirty_was, memory_still, same, wide_now}
 use Rattle.fam_protocol.proofs.Gives.{gives}
 use Rattle.fam_protocol.proofs.Keeping.{task_kept}
+use Rattle.fam_protocol.proofs.Marking.{KeepsMark, mark_kept}
 use Rattle.fam_protocol.proofs.Naming.{KeepsNamed, named_kept}
 use Rattle.fam_protocol.proofs.Resettle.{task_resettled}
 use Rattle.fam_protocol.proofs.Turned.{turned}
@@ -95,7 +97,7 @@ module _ (lines : ℕ) (hosts : Hosts) (host line : ℕ) (s s' : Seen) (drift : 
 
   -- a cache's own move keeps everything
   pub way_drifted : (settled : Settled) → Way settled lines hosts s → Way settled lines hosts s'
-  way_drifted settled way = record { declared = drift_hosts way.declared; named = way.named; wide = wide_now host line s s' drift way.wide; stage = drift_stage settled way.wide way.stage }
+  way_drifted settled way = record { declared = drift_hosts way.declared; marked = way.marked; named = way.named; wide = wide_now host line s s' drift way.wide; stage = drift_stage settled way.wide way.stage }
 
 -- A task's own step.
 module _ (lines host word : ℕ) (r : Run) (old new : Hosts) (s s' : Seen) where
@@ -185,6 +187,16 @@ step_named host word settled r old new s s' steps named h q run = by_host (same 
         (ap (λ (t : Turn). run_after t (settled_count settled) r) (sym (given_turn r.task.place r.task word refl)) ∙ sym steps.mine ∙ subst (λ x. new.run x ≡ Some q) e run)
     by_host (inr ne) = named h q (sym (steps.runs h ne) ∙ run)
 
+-- every task behind its mark has what was settled then
+step_marked : (host word : ℕ) (settled : Settled) (r : Run) (old new : Hosts) (s s' : Seen) → Steps host word settled r old new s s' → ((h : ℕ) (q : Run) → old.run h ≡ Some q → KeepsMark q) → (h : ℕ) (q : Run) → new.run h ≡ Some q → KeepsMark q
+step_marked host word settled r old new s s' steps marked h q run = by_host (same h host)
+  where
+    by_host : Same h host → KeepsMark q
+    by_host (inl e) =
+        mark_kept r q (settled_count settled) r.task.place word (marked host r steps.is)
+        (ap (λ (t : Turn). run_after t (settled_count settled) r) (sym (given_turn r.task.place r.task word refl)) ∙ sym steps.mine ∙ subst (λ x. new.run x ≡ Some q) e run)
+    by_host (inr ne) = marked h q (sym (steps.runs h ne) ∙ run)
+
 -- a task's step says what it may, and keeps everything
 pub way_stepped : (lines host word : ℕ) (settled : Settled) (r : Run) (old new : Hosts) (s s' : Seen) → Way settled lines old s → Steps host word settled r old new s s' → StepHolds settled lines word r old new s'
 unfolding turn sys
@@ -199,7 +211,7 @@ way_stepped lines host word settled r old new s s' way steps = go settled way.st
         let b = bad_step lines host word r old new s s' image is steps in
         record {
           says = subst (λ (x : Turn). MaySayBad x image (line_bytes * lines) r.task) (sym turn_is) b.0;
-          way = hosts_are (Damaged image) lines old new s' steps.uuids (record { declared = step_hosts host word (Damaged image) r old new s s' steps way.declared; named = step_named host word (Damaged image) r old new s s' steps way.named; wide = b.1.still.wide; stage = b.1 });
+          way = hosts_are (Damaged image) lines old new s' steps.uuids (record { declared = step_hosts host word (Damaged image) r old new s s' steps way.declared; marked = step_marked host word (Damaged image) r old new s s' steps way.marked; named = step_named host word (Damaged image) r old new s s' steps way.named; wide = b.1.still.wide; stage = b.1 });
         }
     go (Known p all n) is steps =
         let a = after lines host word r old new s s' p all n is steps (way.named host r steps.is) in
@@ -207,5 +219,5 @@ way_stepped lines host word settled r old new s s' way steps = go settled way.st
         record {
           says = record { master = is.master; may = subst (λ (x : Turn). MaySay x (record { params = p; have = line_bytes * lines; uuid = old.uuid; master = is.master }) r all n) (sym turn_is) a.may };
           way = subst (λ (x : Turn). Way (Known p (list_after x all) (settled_after x n)) lines new s') (sym turn_is)
-              (hosts_are _ lines old new s' steps.uuids (record { declared = step_hosts host word (Known p all n) r old new s s' steps way.declared; named = step_named host word (Known p all n) r old new s s' steps way.named; wide = a.core.wide; stage = k }));
+              (hosts_are _ lines old new s' steps.uuids (record { declared = step_hosts host word (Known p all n) r old new s s' steps way.declared; marked = step_marked host word (Known p all n) r old new s s' steps way.marked; named = step_named host word (Known p all n) r old new s s' steps way.named; wide = a.core.wide; stage = k }));
         }

@@ -8,7 +8,7 @@ use Rattle.fam_format.specs.Layout.{gate_line, log_line}
 use Rattle.fam_machine.specs.declared.cell.Cell.{Cell}
 use Rattle.fam_machine.specs.declared.cell.Cell.TheVariants.{Absent, Clean, Dirty}
 use Rattle.fam_machine.specs.OneLine.{IsDirty, cleaned, current, sent, stored}
-use Rattle.fam_machine.specs.Task.{Task}
+use Rattle.fam_commands.specs.Task.{Task}
 use Rattle.fam_rules.specs.Asks.{File}
 use Rattle.fam_rules.specs.Written.{slot_part}
 use Rattle.fam_protocol.specs.Seen.{Seen, LeavesAt}

@@ -4,8 +4,8 @@ use Rattle.std.specs.Prelude.{Option, Some, slice_get}
 use Rattle.std.proofs.lemmas.Option.{same_Some}
 use Rattle.fam_base.specs.declared.entry.Entry.{Entry}
 use Rattle.fam_format.specs.Layout.{gate_line}
-use Rattle.fam_machine.specs.Task.{Task}
-use Rattle.fam_machine.specs.Turns.{Goes, Marks, Ends}
+use Rattle.fam_commands.specs.Task.{Task}
+use Rattle.fam_commands.specs.Turns.{Goes, Marks, Ends}
 use Rattle.fam_rules.specs.Asks.{File}
 use Rattle.fam_rules.specs.Reply.{Reply}
 use Rattle.fam_protocol.specs.Seen.{Seen}
@@ -17,11 +17,11 @@ use Rattle.fam_protocol.proofs.Settle.{core_raised}
 use Rattle.fam_protocol.proofs.Moved.{IsTask}
 
 -- a task that is its host's, at its place
-pub holds : (sys : System) (host floor : ℕ) (t : Task) (s : Seen) (all : List File) (settled : ℕ) → IsTask sys host t → AtPlace t.place sys host floor t s all settled → TaskHolds sys host floor t s all settled
+pub holds : (sys : System) (host : ℕ) (floor : Option ℕ) (t : Task) (s : Seen) (all : List File) (settled : ℕ) → IsTask sys host t → AtPlace t.place sys host floor t s all settled → TaskHolds sys host floor t s all settled
 holds sys host floor t s all settled is at = record { command = is.command; me = is.me; lines = is.lines; place = at }
 
 -- a task that holds what it named has appended it, where its entry is the last of all
-pub holds_last : (floor : ℕ) (named : Option Named) (t : Task) (all : List File) → HoldsNamed t named → length all ≡ t.gate + 1 → (file : File) → slice_get all t.gate ≡ Some file → t.entry ≡ Some file.entry
+pub holds_last : (floor : Option ℕ) (named : Option Named) (t : Task) (all : List File) → HoldsNamed t named → length all ≡ t.gate + 1 → (file : File) → slice_get all t.gate ≡ Some file → t.entry ≡ Some file.entry
     → IsAppended (record { task = t; floor = floor; named = named }) all t.gate
 holds_last floor named t all holds count file last entry = record {
   count = count;
@@ -31,7 +31,7 @@ holds_last floor named t all holds count file last entry = record {
   entry = entry;
 }
 
-module _ (sys : System) (host floor : ℕ) (named : Option Named) (s : Seen) (all : List File) (settled : ℕ) (core : Core sys s all settled) where
+module _ (sys : System) (host : ℕ) (floor : Option ℕ) (named : Option Named) (s : Seen) (all : List File) (settled : ℕ) (core : Core sys s all settled) where
   -- a turn that goes on
   pub goes : (t t' : Task) → IsTask sys host t' → AtPlace t'.place sys host floor t' s all settled → After (Goes t') sys host floor named t s all settled
   goes t t' is at = record {
@@ -42,11 +42,11 @@ module _ (sys : System) (host floor : ℕ) (named : Option Named) (s : Seen) (al
   }
 
   -- a turn behind which the mark stands
-  pub marks : (t t' : Task) → IsTask sys host t' → AtPlace t'.place sys host settled t' s all settled → After (Marks t') sys host floor named t s all settled
+  pub marks : (t t' : Task) → IsTask sys host t' → AtPlace t'.place sys host (Some settled) t' s all settled → After (Marks t') sys host floor named t s all settled
   marks t t' is at = record {
     may = tt;
     core = core;
-    task = holds sys host settled t' s all settled is at;
+    task = holds sys host (Some settled) t' s all settled is at;
     change = inr (record { same = refl; m = 0; seen = omega arith; is = omega arith });
   }
 

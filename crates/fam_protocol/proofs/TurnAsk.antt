@@ -18,10 +18,10 @@ use Rattle.fam_base.specs.declared.entry.Kind.{Kind}
 use Rattle.fam_base.specs.declared.entry.Kind.TheVariants as kind
 use Rattle.fam_base.specs.PathOrder.{path_eq}
 use Rattle.fam_format.specs.Tree.{replay}
-use Rattle.fam_machine.specs.declared.op.Part.TheVariants.{File as FileLines}
-use Rattle.fam_machine.specs.declared.op.Place.TheVariants as at
-use Rattle.fam_machine.specs.Task.{Task, wanted_end, wanted_start, wanted_lines}
-use Rattle.fam_machine.specs.Turns.{Turn, Ends, found_turn, kind_turn, read_file, verify_lines, verify_turn, bytes_turn, slots_read}
+use Rattle.fam_commands.specs.declared.place.Part.TheVariants.{File as FileLines}
+use Rattle.fam_commands.specs.declared.place.Place.TheVariants as at
+use Rattle.fam_commands.specs.Task.{Task, wanted_end, wanted_start, wanted_lines}
+use Rattle.fam_commands.specs.Turns.{Turn, Ends, found_turn, kind_turn, read_file, verify_lines, verify_turn, bytes_turn, slots_read}
 use Rattle.fam_rules.specs.Asks.{File, entries_of, file_at, ask, of_file, of_kind, verified, compared, compared_at, bytes_from}
 use Rattle.fam_rules.specs.Content.{content_byte}
 use Rattle.fam_rules.specs.Place.{line_bytes}
@@ -59,7 +59,7 @@ pub lines_some : (cmd : Cmd) (size : ℕ) → wanted_start cmd < wanted_end cmd 
 lines_some cmd size lt =
     rw (lt-leb (wanted_end cmd size) (wanted_start cmd) lt) (omega arith)
 
-module _ (sys : System) (host floor : ℕ) (named : Option Named) (s : Seen) (all : List File) (settled : ℕ) (core : Core sys s all settled) (cmd : Cmd) (log : ReadsLog cmd) (path : List ℕ) (question : ℕ → List ℕ → Reply) (asks : (files : List File) → ask files cmd ≡ Some (of_file (length files) (file_at files path) (question (length files)))) (t : Task) where
+module _ (sys : System) (host : ℕ) (floor : Option ℕ) (named : Option Named) (s : Seen) (all : List File) (settled : ℕ) (core : Core sys s all settled) (cmd : Cmd) (log : ReadsLog cmd) (path : List ℕ) (question : ℕ → List ℕ → Reply) (asks : (files : List File) → ask files cmd ≡ Some (of_file (length files) (file_at files path) (question (length files)))) (t : Task) where
   -- the answer, by what stands at the path
   pub asked_at : (o : Option File) → HasFirst floor (commanded t cmd) s all → file_at (take t.gate all) path ≡ o → ask (take (length t.entries) all) cmd ≡ Some (of_file (length t.entries) o (question (length t.entries)))
   asked_at o h found =
@@ -134,7 +134,7 @@ no_bytes offset count bytes past =
 no_bytes_same : (m : ℕ) (bytes : List ℕ) (against : Content) → length bytes ≡ 0 → compared m bytes against ≡ Same m
 no_bytes_same m bytes against none = ap (λ (n : ℕ). compared_at m bytes against (find (λ o. not (get_or bytes o 0 == content_byte against o)) (range_with_len 0 n))) none
 
-module _ (sys : System) (host floor : ℕ) (named : Option Named) (s : Seen) (all : List File) (settled : ℕ) (core : Core sys s all settled) (t : Task) where
+module _ (sys : System) (host : ℕ) (floor : Option ℕ) (named : Option Named) (s : Seen) (all : List File) (settled : ℕ) (core : Core sys s all settled) (t : Task) where
   -- a file is compared with a content
   module _ (path : List ℕ) (against : Content) (log : ReadsLog (Verify path against)) (is : IsTask sys host (commanded t (Verify path against))) (g : AtPlace at.Decide sys host floor (commanded t (Verify path against)) s all settled) where
     verify_starts : (f : File) → file_at (take t.gate all) path ≡ Some f → f.entry.kind ≡ kind.File → IsOfSize (Verify path against) f.entry.size → ((m : ℕ) → verified m f.bytes against ≡ compared m f.bytes against) → After (verify_lines (commanded t (Verify path against)) f.entry) sys host floor named (commanded t (Verify path against)) s all settled

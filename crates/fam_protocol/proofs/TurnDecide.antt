@@ -11,9 +11,9 @@ use Rattle.fam_base.specs.declared.entry.Entry.{Entry}
 use Rattle.fam_format.specs.Layout.{geometry, gate_line}
 use Rattle.fam_format.specs.Slot.{spelling}
 use Rattle.fam_format.specs.Tree.{replay}
-use Rattle.fam_machine.specs.declared.op.Place.TheVariants as at
-use Rattle.fam_machine.specs.Task.{Task, content_of}
-use Rattle.fam_machine.specs.Turns.{decide_turn, append_turn, first_store}
+use Rattle.fam_commands.specs.declared.place.Place.TheVariants as at
+use Rattle.fam_commands.specs.Task.{Task, content_of}
+use Rattle.fam_commands.specs.Turns.{decide_turn, append_turn, first_store}
 use Rattle.fam_rules.specs.declared.answers.Refused.{Refused}
 use Rattle.fam_rules.specs.declared.answers.Refused.TheVariants as refused
 use Rattle.fam_rules.specs.Asks.{File, entries_of}
@@ -24,7 +24,7 @@ use Rattle.fam_rules.specs.Reply.{NotAppended, Played, Checks}
 use Rattle.fam_rules.proofs.ContentLines.{length_of_fill}
 use Rattle.fam_rules.proofs.DecideProofs.{may_append}
 use Rattle.fam_protocol.specs.Seen.{Seen}
-use Rattle.fam_protocol.specs.Lines.{gate_of}
+use Rattle.fam_protocol.specs.Lines.{gate_of, IsAtLeast}
 use Rattle.fam_protocol.specs.Core.{System, Core, Belongs, top_of}
 use Rattle.fam_protocol.specs.Tasks.{HasReadAll, IsWriting, AtPlace}
 use Rattle.fam_protocol.specs.After.{After, Relists, MayRefuse, new_file, Named}
@@ -35,17 +35,18 @@ use Rattle.fam_protocol.proofs.History.{entries_count}
 use Rattle.fam_protocol.proofs.Apart.{last_member, history_more}
 use Rattle.fam_rules.proofs.RefusalProofs.{refused_for}
 use Rattle.fam_protocol.proofs.TurnSlots.{commanded, ReadsLog, all_entries}
+use Rattle.fam_protocol.proofs.Floors.{at_least_more}
 
 -- the entries that a task has read are the first ones, as many as its gate says
-pub record HasFirst (floor : ℕ) (t : Task) (s : Seen) (all : List File) : Type 0 where
+pub record HasFirst (floor : Option ℕ) (t : Task) (s : Seen) (all : List File) : Type 0 where
   pub count : length t.entries ≡ t.gate
   pub front : length (take (length t.entries) all) ≡ length t.entries
   pub entries : entries_of (take (length t.entries) all) ≡ t.entries
-  pub low : floor ≤ length t.entries
+  pub low : IsAtLeast floor (length t.entries)
   pub high : length t.entries ≤ length all
   pub seen : length t.entries ≤ gate_of (s.memory gate_line)
 
-module _ (sys : System) (host floor : ℕ) (s : Seen) (all : List File) (settled : ℕ) (core : Core sys s all settled) where
+module _ (sys : System) (host : ℕ) (floor : Option ℕ) (s : Seen) (all : List File) (settled : ℕ) (core : Core sys s all settled) where
   -- a task that has read all slots has the first entries
   pub has_first : (cmd : Cmd) (log : ReadsLog cmd) (t : Task) → HasReadAll host floor (commanded t cmd) s all settled → HasFirst floor (commanded t cmd) s all
   has_first cmd log t h =
@@ -56,12 +57,12 @@ module _ (sys : System) (host floor : ℕ) (s : Seen) (all : List File) (settled
         count = count;
         front = length-take-le (length t.entries) all (omega arith);
         entries = ap (λ (n : ℕ). entries_of (take n all)) count ∙ sym entries;
-        low = omega (arith, h.gate.low);
+        low = at_least_more floor t.gate (length t.entries) (omega (arith, count)) h.gate.low;
         high = omega arith;
         seen = omega (arith, h.gate.high);
       }
 
-module _ (sys : System) (host floor : ℕ) (named : Option Named) (s : Seen) (all : List File) (settled : ℕ) (core : Core sys s all settled) where
+module _ (sys : System) (host : ℕ) (floor : Option ℕ) (named : Option Named) (s : Seen) (all : List File) (settled : ℕ) (core : Core sys s all settled) where
   -- the tree is listed
   pub decide_logplay : (log : ReadsLog Logplay) (t : Task) → AtPlace at.Decide sys host floor (commanded t Logplay) s all settled → After (decide_turn Logplay (commanded t Logplay)) sys host floor named (commanded t Logplay) s all settled
   decide_logplay log t g =

@@ -10,10 +10,10 @@ use Rattle.fam_base.specs.declared.entry.Params.{Params}
 use Rattle.fam_format.specs.declared.faults.LogFault.{LogFault}
 use Rattle.fam_format.specs.Layout.{gate_line}
 use Rattle.fam_format.specs.Log.{gate_fault}
-use Rattle.fam_machine.specs.declared.op.Part.TheVariants.{Slot}
-use Rattle.fam_machine.specs.declared.op.Place.TheVariants as at
-use Rattle.fam_machine.specs.Task.{Task}
-use Rattle.fam_machine.specs.Turns.{Goes, Finds, turn_at, gate_turn, finds_or_goes, with_gate, slots_read}
+use Rattle.fam_commands.specs.declared.place.Part.TheVariants.{Slot}
+use Rattle.fam_commands.specs.declared.place.Place.TheVariants as at
+use Rattle.fam_commands.specs.Task.{Task}
+use Rattle.fam_commands.specs.Turns.{Goes, Finds, turn_at, gate_turn, finds_or_goes, with_gate, slots_read}
 use Rattle.fam_rules.specs.Asks.{File}
 use Rattle.fam_rules.specs.Decide.{Wish, wish_of}
 use Rattle.fam_rules.specs.Reports.{Survey, no_survey}
@@ -53,7 +53,7 @@ found_is n settled long low fits near = go (cases_eq n settled)
     go (inr ne) = inr (omega arith, omega arith)
 
 -- the task at the next slot, or at the decision
-pub at_next : (sys : System) (host floor : ℕ) (s : Seen) (all : List File) (settled : ℕ) (t : Task) (i n : ℕ) → n ≡ slots_read t → KnowsHead sys host t → KnowsGate host floor t s all settled → i ≤ n → HasRead t.cmd i t all → t.words ≡ [] → AtPlace (cond (nat_lt i n) (at.Drop (Slot i) 0) at.Decide) sys host floor t s all settled
+pub at_next : (sys : System) (host : ℕ) (floor : Option ℕ) (s : Seen) (all : List File) (settled : ℕ) (t : Task) (i n : ℕ) → n ≡ slots_read t → KnowsHead sys host t → KnowsGate host floor t s all settled → i ≤ n → HasRead t.cmd i t all → t.words ≡ [] → AtPlace (cond (nat_lt i n) (at.Drop (Slot i) 0) at.Decide) sys host floor t s all settled
 at_next sys host floor s all settled t i n count head gate le read words = go (nat_lt i n) refl
   where
     go : (b : Bool) → nat_lt i n ≡ b → AtPlace (cond b (at.Drop (Slot i) 0) at.Decide) sys host floor t s all settled
@@ -64,7 +64,7 @@ at_next sys host floor s all settled t i n count head gate le read words = go (n
         let last : i ≡ n = grind (arith, nat_tests) in
         (head, record { gate = gate; read = subst (λ (k : ℕ). HasRead t.cmd k t all) (last ∙ count) read })
 
-module _ (sys : System) (host floor : ℕ) (named : Option Named) (s : Seen) (all : List File) (settled : ℕ) (core : Core sys s all settled) where
+module _ (sys : System) (host : ℕ) (floor : Option ℕ) (named : Option Named) (s : Seen) (all : List File) (settled : ℕ) (core : Core sys s all settled) where
   -- the gate is loaded: all is set for the first slot
   at_first : (word : ℕ) (t : Task) (all' : List File) (settled' : ℕ) → NoSlot t → t.words ≡ [] → KnowsHead sys host t → KnowsGate host floor (with_gate t word) s all' settled' → AtPlace (with_gate t word).place sys host floor (with_gate t word) s all' settled'
   at_first word t all' settled' none words head gate =

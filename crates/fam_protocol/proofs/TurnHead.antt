@@ -12,12 +12,12 @@ use Rattle.fam_format.specs.Log.{log_fault}
 use Rattle.fam_format.specs.Stop.{stop}
 use Rattle.fam_format.specs.Super.{magic_fault, super_body_of, super_of}
 use Rattle.fam_machine.specs.declared.cell.Cell.{Cell}
-use Rattle.fam_machine.specs.declared.op.Part.{Part}
-use Rattle.fam_machine.specs.declared.op.Part.TheVariants.{Superblock, Header}
-use Rattle.fam_machine.specs.declared.op.Place.{Place}
-use Rattle.fam_machine.specs.declared.op.Place.TheVariants as at
-use Rattle.fam_machine.specs.Task.{Task, part_count, part_line}
-use Rattle.fam_machine.specs.Turns.{Turn, Goes, turn_at, line_or, line_turn, magic_turn, super_turn, host_turn, host_refusal, header_turn}
+use Rattle.fam_commands.specs.declared.place.Part.{Part}
+use Rattle.fam_commands.specs.declared.place.Part.TheVariants.{Superblock, Header}
+use Rattle.fam_commands.specs.declared.place.Place.{Place}
+use Rattle.fam_commands.specs.declared.place.Place.TheVariants as at
+use Rattle.fam_commands.specs.Task.{Task, part_count, part_line}
+use Rattle.fam_commands.specs.Turns.{Turn, Goes, turn_at, line_or, line_turn, magic_turn, super_turn, host_turn, host_refusal, header_turn}
 use Rattle.fam_rules.specs.declared.answers.Refused.TheVariants.{NotMaster}
 use Rattle.fam_rules.specs.Asks.{File}
 use Rattle.fam_rules.specs.Decide.{Wish, wish_of}
@@ -43,7 +43,7 @@ pub super_parts : (word : ℕ) (words : List ℕ) (have : ℕ) (p : Params) → 
 unfolding super_of
 super_parts word words have p h = passed (magic_fault word) (super_body_of words have) p h
 
-module _ (sys : System) (host floor : ℕ) (named : Option Named) (s : Seen) (all : List File) (settled : ℕ) (core : Core sys s all settled) where
+module _ (sys : System) (host : ℕ) (floor : Option ℕ) (named : Option Named) (s : Seen) (all : List File) (settled : ℕ) (core : Core sys s all settled) where
   -- the turn behind the drop of line 0
   pub drop_magic : (t : Task) (word : ℕ) → IsTask sys host t → Given at.DropMagic sys host floor word t s all settled → After (turn_at at.DropMagic t word) sys host floor named t s all settled
   drop_magic t word is g =
@@ -78,7 +78,7 @@ module _ (sys : System) (host floor : ℕ) (named : Option Named) (s : Seen) (al
         head_moved t at.Gate t.words sys host g.0.2,
         record {
           low = omega arith;
-          copy = subst (λ (c : Cell). FreshGate settled (s.memory gate_line) c) (sym g.1) tt;
+          copy = subst (λ (c : Cell). FreshGate (Some settled) (s.memory gate_line) c) (sym g.1) tt;
           masters = λ _. subst (λ (c : Cell). Fresh (s.memory gate_line) c) (sym g.1) tt;
         },
       )

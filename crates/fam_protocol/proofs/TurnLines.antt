@@ -11,10 +11,10 @@ use Rattle.fam_base.specs.declared.cmd.Content.TheVariants as content
 use Rattle.fam_base.specs.declared.entry.Entry.{Entry}
 use Rattle.fam_base.specs.Image.{byte_of}
 use Rattle.fam_format.proofs.Stops.{find_none, none_found}
-use Rattle.fam_machine.specs.declared.op.Part.{Part}
-use Rattle.fam_machine.specs.declared.op.Part.TheVariants.{File as FileLines}
-use Rattle.fam_machine.specs.Task.{Task, first_line, line_of, part_count, size_of, wanted_end, wanted_start, wanted_lines}
-use Rattle.fam_machine.specs.Turns.{Ends, file_turn, compare_turn, line_difference, loaded_bytes}
+use Rattle.fam_commands.specs.declared.place.Part.{Part}
+use Rattle.fam_commands.specs.declared.place.Part.TheVariants.{File as FileLines}
+use Rattle.fam_commands.specs.Task.{Task, first_line, line_of, part_count, size_of, wanted_end, wanted_start, wanted_lines}
+use Rattle.fam_commands.specs.Turns.{Ends, file_turn, compare_turn, line_difference, loaded_bytes}
 use Rattle.fam_rules.specs.Asks.{File, file_at, ask, verified, compared, compared_at, first_difference, bytes_from}
 use Rattle.fam_rules.specs.Content.{byte_in, content_byte}
 use Rattle.fam_rules.specs.Place.{line_bytes}
@@ -50,7 +50,7 @@ differ_false a b h = eqb-true a b (not-false (a == b) h)
 false_differ : (a b : ℕ) → a ≡ b → not (a == b) ≡ false
 false_differ a b h = ap not (eq-eqb a b h)
 
-module _ (sys : System) (host floor : ℕ) (named : Option Named) (s : Seen) (all : List File) (settled : ℕ) (core : Core sys s all settled) (t : Task) where
+module _ (sys : System) (host : ℕ) (floor : Option ℕ) (named : Option Named) (s : Seen) (all : List File) (settled : ℕ) (core : Core sys s all settled) (t : Task) where
   -- byte o of the file that is read, as memory has it
   file_byte : (u : Task) (j o : ℕ) → KnowsHead sys host u → IsAtFile j host floor u s all settled → (f : ReadsFile u all j) → o < f.file.entry.size → byte_in (s.memory (file_line f.file.entry (o / line_bytes))) (o % line_bytes) ≡ slice_index f.file.bytes o
   file_byte u j o head at f below = (core.stands f.i f.file f.is (omega (arith, f.below, at.all_read.gate.high, core.order))).bytes o below

@@ -5,10 +5,10 @@ use Rattle.std.proofs.lemmas.Bool.Decides.{nat_tests}
 use Rattle.fam_base.specs.declared.entry.Entry.{Entry}
 use Rattle.std.specs.Prelude.{Option, Some}
 use Rattle.fam_format.specs.Layout.{geometry, slot_line}
-use Rattle.fam_machine.specs.declared.op.Place.{Place}
-use Rattle.fam_machine.specs.declared.op.Place.TheVariants as at
-use Rattle.fam_machine.specs.Task.{Task, data_words, line_of, size_of}
-use Rattle.fam_machine.specs.Turns.{Goes, turn_at}
+use Rattle.fam_commands.specs.declared.place.Place.{Place}
+use Rattle.fam_commands.specs.declared.place.Place.TheVariants as at
+use Rattle.fam_commands.specs.Task.{Task, data_words, line_of, size_of}
+use Rattle.fam_commands.specs.Turns.{Goes, turn_at}
 use Rattle.fam_rules.specs.Asks.{File}
 use Rattle.fam_rules.specs.Place.{line_bytes}
 use Rattle.fam_rules.specs.Reply.{Appended}
@@ -67,7 +67,7 @@ slot_more j host t s before here b lt = go (cases_eq b j)
 data_all : (j host : ℕ) (t : Task) (s : Seen) → lines_of (size_of t.entry) ≤ j → HasData j host t s → HasAllData host t s
 data_all j host t s last before count b lt within = before b (let below : b < lines_of (size_of t.entry) = below_line b (size_of t.entry) within in omega arith) within
 
-module _ (sys : System) (host floor : ℕ) (named : Option Named) (s : Seen) (all : List File) (settled : ℕ) (core : Core sys s all settled) where
+module _ (sys : System) (host : ℕ) (floor : Option ℕ) (named : Option Named) (s : Seen) (all : List File) (settled : ℕ) (core : Core sys s all settled) where
   -- the turn behind a store into the file
   pub store_data : (j k : ℕ) (t : Task) (word : ℕ) → IsTask sys host t → Given (at.StoreData j k) sys host floor word t s all settled → After (turn_at (at.StoreData j k) t word) sys host floor named t s all settled
   store_data j k t word is g = go (nat_lt k 7) refl

@@ -11,9 +11,9 @@ use Rattle.fam_format.specs.Layout.{device_units}
 use Rattle.fam_format.specs.Slot.{entry_of}
 use Rattle.fam_format.specs.Stop.{or_else}
 use Rattle.fam_format.specs.Tree.{replay, tree_fault, join_fault}
-use Rattle.fam_machine.specs.declared.op.Place.TheVariants as at
-use Rattle.fam_machine.specs.Task.{Task}
-use Rattle.fam_machine.specs.Turns.{check_turn, decide_turn, slot_or_decide}
+use Rattle.fam_commands.specs.declared.place.Place.TheVariants as at
+use Rattle.fam_commands.specs.Task.{Task}
+use Rattle.fam_commands.specs.Turns.{check_turn, decide_turn, slot_or_decide}
 use Rattle.fam_rules.specs.declared.answers.LogState.TheVariants as log
 use Rattle.fam_rules.specs.Asks.{File, entries_of}
 use Rattle.fam_rules.specs.Reply.{Reports}
@@ -85,7 +85,7 @@ history_apart : (p : Params) (all : List File) → IsHistory p all → overlap_o
 history_apart p all history =
     ap (overlap_of p.unit) (sym (numbered_is 0 (entries_of all))) ∙ no_overlap p.unit (entries_of all) (laid_apart p (entries_of all) (history_laid p all history)).once
 
-module _ (sys : System) (host floor : ℕ) (named : Option Named) (s : Seen) (all : List File) (settled : ℕ) (core : Core sys s all settled) (t : Task) where
+module _ (sys : System) (host : ℕ) (floor : Option ℕ) (named : Option Named) (s : Seen) (all : List File) (settled : ℕ) (core : Core sys s all settled) (t : Task) where
   surveyed : (i : ℕ) (b : Bool) → nat_lt i t.gate ≡ b → AtPlace (at.Check i) sys host floor (commanded t Fsck) s all settled → HasSurveyed (i + 1) t.gate (cond b (below_gate t.survey i (entry_of t.params t.words i)) (past_gate t.survey (entry_of t.params t.words i))) all
   surveyed i false e g = past_next i t.gate t.survey all (entry_of t.params t.words i) g.1.read (grind (arith, nat_tests))
   surveyed i true e g =

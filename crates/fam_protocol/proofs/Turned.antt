@@ -4,12 +4,12 @@ use Rattle.std.specs.Prelude.{Option, Some, None}
 use Rattle.std.proofs.lemmas.Bool.Decides.{nat_tests}
 use Rattle.fam_base.specs.declared.cmd.Cmd.{Cmd}
 use Rattle.fam_base.specs.declared.cmd.Cmd.TheVariants.{Logplay, Mkdir, Creat, Cp, Verify, Read, Check, Fsck}
-use Rattle.fam_machine.specs.declared.op.Part.{Part}
-use Rattle.fam_machine.specs.declared.op.Part.TheVariants.{Superblock, Header, Slot, File as FileLines}
-use Rattle.fam_machine.specs.declared.op.Place.{Place}
-use Rattle.fam_machine.specs.declared.op.Place.TheVariants as at
-use Rattle.fam_machine.specs.Task.{Task, part_count}
-use Rattle.fam_machine.specs.Turns.{Goes, turn_at, check_turn, decide_turn, file_turn, line_turn, with_word}
+use Rattle.fam_commands.specs.declared.place.Part.{Part}
+use Rattle.fam_commands.specs.declared.place.Part.TheVariants.{Superblock, Header, Slot, File as FileLines}
+use Rattle.fam_commands.specs.declared.place.Place.{Place}
+use Rattle.fam_commands.specs.declared.place.Place.TheVariants as at
+use Rattle.fam_commands.specs.Task.{Task, part_count}
+use Rattle.fam_commands.specs.Turns.{Goes, turn_at, check_turn, decide_turn, file_turn, line_turn, with_word}
 use Rattle.fam_rules.specs.Asks.{File}
 use Rattle.fam_rules.specs.Place.{line_bytes}
 use Rattle.fam_protocol.specs.Seen.{Seen}
@@ -29,7 +29,7 @@ use Rattle.fam_protocol.proofs.TurnAsk.{decide_verify, decide_read}
 use Rattle.fam_protocol.proofs.TurnLines.{verify_line, read_line}
 use Rattle.fam_protocol.proofs.TurnSurvey.{survey_checked, survey_told}
 
-module _ (sys : System) (host floor : ℕ) (named : Option Named) (s : Seen) (all : List File) (settled : ℕ) (core : Core sys s all settled) where
+module _ (sys : System) (host : ℕ) (floor : Option ℕ) (named : Option Named) (s : Seen) (all : List File) (settled : ℕ) (core : Core sys s all settled) where
   check_by : (cmd : Cmd) (i : ℕ) (t : Task) → IsTask sys host (commanded t cmd) → AtPlace (at.Check i) sys host floor (commanded t cmd) s all settled → After (check_turn cmd (commanded t cmd) i) sys host floor named (commanded t cmd) s all settled
   check_by Fsck i t is g = survey_checked sys host floor named s all settled core t i is g
   check_by cmd i t is g = slot_checked sys host floor named s all settled core cmd (reads_log cmd (λ e. cc)) i t is g

@@ -3,10 +3,12 @@ use Rattle.std.specs.Prelude.{ℕ, ⊤, ◌≡◌, ◌≢◌, ◌⊎◌, ◌+◌
 use Rattle.fam_base.specs.declared.entry.Params.{Params}
 use Rattle.fam_base.specs.declared.entry.Entry.{Entry}
 use Rattle.fam_format.specs.Layout.{device_units, gate_line}
-use Rattle.fam_machine.specs.declared.op.Place.{Place}
-use Rattle.fam_machine.specs.declared.op.Place.TheVariants as at
-use Rattle.fam_machine.specs.Task.{Task, content_of}
-use Rattle.fam_machine.specs.Turns.{Turn, Goes, Marks, Finds, Writes, Ends}
+use Rattle.fam_commands.specs.declared.place.Part.{Part}
+use Rattle.fam_commands.specs.declared.place.Part.TheVariants.{Superblock, Header, Slot, File as FileLines}
+use Rattle.fam_commands.specs.declared.place.Place.{Place}
+use Rattle.fam_commands.specs.declared.place.Place.TheVariants as at
+use Rattle.fam_commands.specs.Task.{Task, content_of}
+use Rattle.fam_commands.specs.Turns.{Turn, Goes, Marks, Finds, Writes, Ends}
 use Rattle.fam_rules.specs.declared.answers.Refused.{Refused}
 use Rattle.fam_rules.specs.declared.answers.Refused.TheVariants as refused
 use Rattle.fam_rules.specs.declared.answers.Report.{Report}
@@ -19,7 +21,7 @@ use Rattle.fam_rules.specs.Decide.{decide}
 use Rattle.fam_rules.specs.Reply.{Reply, Appended, NotAppended, Played, Same, Differs, Length, Bytes, NotFound, IsDirectory, Checks, Reports, NoSuperblock, BadHeader, BadSlot}
 use Rattle.fam_rules.specs.Reports.{is_file, is_directory, used_count}
 use Rattle.fam_protocol.specs.Seen.{Seen}
-use Rattle.fam_protocol.specs.Lines.{gate_of}
+use Rattle.fam_protocol.specs.Lines.{IsAtLeast, gate_of}
 use Rattle.fam_protocol.specs.Core.{System, Core, top_of}
 use Rattle.fam_protocol.specs.Tasks.{TaskHolds}
 
@@ -30,10 +32,10 @@ pub record Named : Type 0 where
   pub seq : ℕ
   pub entry : Entry
 
--- a host's task, and what its notes told: how much was settled at its mark, and the entry that it named
+-- a host's task, and what its notes told by now: how much was settled at its mark, and the entry that it named
 pub record Run : Type 0 where
   pub task : Task
-  pub floor : ℕ
+  pub floor : Option ℕ
   pub named : Option Named
 
 -- the task has named the entry that it appends, and writes
@@ -44,7 +46,43 @@ HasNamed (at.StoreSlot j k) = ⊤
 HasNamed (at.SendSlot j) = ⊤
 HasNamed at.StoreGate = ⊤
 HasNamed at.SendGate = ⊤
-HasNamed other = ⊥
+HasNamed at.DropMagic = ⊥
+HasNamed at.Magic = ⊥
+HasNamed (at.Drop part j) = ⊥
+HasNamed (at.Word part j k) = ⊥
+HasNamed at.DropGate = ⊥
+HasNamed at.Gate = ⊥
+HasNamed (at.Check i) = ⊥
+HasNamed at.Decide = ⊥
+
+-- slots and files are read behind the gate
+abbrev pub IsPastGate : Part → Type 0
+IsPastGate Superblock = ⊥
+IsPastGate Header = ⊥
+IsPastGate (Slot i) = ⊤
+IsPastGate FileLines = ⊤
+
+-- the task has dropped the gate's line, which is its mark
+abbrev pub HasMarked : Place → Type 0
+HasMarked at.DropMagic = ⊥
+HasMarked at.Magic = ⊥
+HasMarked (at.Drop part j) = IsPastGate part
+HasMarked (at.Word part j k) = IsPastGate part
+HasMarked at.DropGate = ⊥
+HasMarked at.Gate = ⊤
+HasMarked (at.Check i) = ⊤
+HasMarked at.Decide = ⊤
+HasMarked (at.StoreData j k) = ⊤
+HasMarked (at.SendData j) = ⊤
+HasMarked (at.StoreSlot j k) = ⊤
+HasMarked (at.SendSlot j) = ⊤
+HasMarked at.StoreGate = ⊤
+HasMarked at.SendGate = ⊤
+
+-- what was settled at the mark is noted
+abbrev pub IsMarked : Option ℕ → Type 0
+IsMarked None = ⊥
+IsMarked (Some floor) = ⊤
 
 -- the entry that the task holds is the one that it named, as the next behind those that its gate counts
 pub record HoldsNamed (t : Task) (named : Option Named) : Type 0 where
@@ -98,22 +136,25 @@ settled_after (Marks t) settled = settled
 settled_after (Writes seq e t) settled = settled
 
 -- what was settled at the task's mark
-abbrev pub floor_after : Turn → ℕ → ℕ → ℕ
-floor_after (Marks t) settled floor = settled
-floor_after turn settled floor = floor
+abbrev pub floor_after : Turn → ℕ → Option ℕ → Option ℕ
+floor_after (Marks t) settled floor = Some settled
+floor_after (Goes t) settled floor = floor
+floor_after (Finds n t) settled floor = floor
+floor_after (Writes seq e t) settled floor = floor
+floor_after (Ends reply) settled floor = floor
 
 -- What a turn may say.
 
 -- an answer on the first m entries: no fewer than were settled at the mark, and no more than there are
-pub record IsAsked (t : Task) (floor : ℕ) (all : List File) (reply : Reply) : Type 0 where
-  pub low : floor ≤ shown_by reply
+pub record IsAsked (t : Task) (floor : Option ℕ) (all : List File) (reply : Reply) : Type 0 where
+  pub low : IsAtLeast floor (shown_by reply)
   pub high : shown_by reply ≤ length all
   pub is : ask (take (shown_by reply) all) t.cmd ≡ Some reply
 
 -- a report on the first m entries, in the same bounds
-pub record IsReported (p : Params) (floor : ℕ) (all : List File) (report : Report) : Type 0 where
+pub record IsReported (p : Params) (floor : Option ℕ) (all : List File) (report : Report) : Type 0 where
   pub m : ℕ
-  pub low : floor ≤ m
+  pub low : IsAtLeast floor m
   pub high : m ≤ length all
   pub superblock : report.superblock ≡ superblock.Sound
   pub log : report.log ≡ log.Sound m p.slots
@@ -181,7 +222,7 @@ MaySay (Ends reply) sys r all settled = MayReply reply sys r all settled
 -- What holds after it.
 
 -- of the task itself, where it goes on
-abbrev pub GoesOn : Turn → System → ℕ → ℕ → Seen → List File → ℕ → Type 0
+abbrev pub GoesOn : Turn → System → ℕ → Option ℕ → Seen → List File → ℕ → Type 0
 GoesOn (Goes t) sys host floor s all settled = TaskHolds sys host floor t s all settled
 GoesOn (Marks t) sys host floor s all settled = TaskHolds sys host floor t s all settled
 GoesOn (Finds n t) sys host floor s all settled = TaskHolds sys host floor t s all settled
@@ -208,7 +249,7 @@ abbrev pub Changes : System → ℕ → Seen → List File → ℕ → List File
 Changes sys host s all settled all' settled' =
     ((sys.master ≡ Some host) × Relists sys s all settled all' settled') ⊎ Raises s all settled all' settled'
 
-pub record After (turn : Turn) (sys : System) (host floor : ℕ) (named : Option Named) (t : Task) (s : Seen) (all : List File) (settled : ℕ) : Type 0 where
+pub record After (turn : Turn) (sys : System) (host : ℕ) (floor : Option ℕ) (named : Option Named) (t : Task) (s : Seen) (all : List File) (settled : ℕ) : Type 0 where
   pub may : MaySay turn sys (record { task = t; floor = floor; named = named }) all settled
   pub core : Core sys s (list_after turn all) (settled_after turn settled)
   pub task : GoesOn turn sys host (floor_after turn settled floor) s (list_after turn all) (settled_after turn settled)

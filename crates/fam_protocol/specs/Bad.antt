@@ -2,7 +2,8 @@
 -- docs/MODEL.md, "The protocol".
 use Rattle.std.specs.Prelude.{ℕ, ⊤, ◌≡◌, ◌≢◌, ◌-◌, ◌*◌, ◌<◌, List, [], slice_index, Option, Some, None, Ok}
 use Rattle.fam_base.specs.declared.cmd.Cmd.{Cmd}
-use Rattle.fam_base.specs.declared.cmd.Cmd.TheVariants.{Fsck}
+use Rattle.fam_base.specs.declared.cmd.Cmd.TheVariants.{Logplay, Mkdir, Creat, Cp, Verify, Read, Check, Fsck}
+use Rattle.fam_rules.specs.declared.answers.Refused.{Refused}
 use Rattle.fam_base.specs.declared.entry.Params.{Params}
 use Rattle.fam_base.specs.declared.entry.Entry.{Entry}
 use Rattle.fam_format.specs.declared.faults.Reason.{Reason}
@@ -10,17 +11,17 @@ use Rattle.fam_format.specs.Layout.{gate_line, log_line}
 use Rattle.fam_format.specs.Log.{log_fault, gate_fault}
 use Rattle.fam_format.specs.Super.{magic_fault}
 use Rattle.fam_format.specs.Reading.{Reading, Lines, NoSuperblock, BadHeader, BadSlot, Sound, super_in, gate_in, read_slots, reading_of}
-use Rattle.fam_machine.specs.declared.op.Part.{Part}
-use Rattle.fam_machine.specs.declared.op.Part.TheVariants.{Superblock, Header, Slot, File as FileLines}
-use Rattle.fam_machine.specs.declared.op.Place.{Place}
-use Rattle.fam_machine.specs.declared.op.Place.TheVariants as at
+use Rattle.fam_commands.specs.declared.place.Part.{Part}
+use Rattle.fam_commands.specs.declared.place.Part.TheVariants.{Superblock, Header, Slot, File as FileLines}
+use Rattle.fam_commands.specs.declared.place.Place.{Place}
+use Rattle.fam_commands.specs.declared.place.Place.TheVariants as at
 use Rattle.fam_machine.specs.OneLine.{IsDirty}
-use Rattle.fam_machine.specs.Task.{Task, part_count, part_line}
-use Rattle.fam_machine.specs.Turns.{Turn, Goes, Marks, Finds, Writes, Ends, slots_read}
-use Rattle.fam_rules.specs.declared.answers.Refused.TheVariants.{NotMaster}
+use Rattle.fam_commands.specs.Task.{Task, part_count, part_line}
+use Rattle.fam_commands.specs.Turns.{Turn, Goes, Marks, Finds, Writes, Ends, slots_read}
+use Rattle.fam_rules.specs.declared.answers.Refused.TheVariants.{NotMaster, BadStripe, Exists, NoParent, ParentIsFile, LogFull, NoSpace}
 use Rattle.fam_rules.specs.Decide.{Wish, wish_of}
 use Rattle.fam_rules.specs.Place.{line_bytes}
-use Rattle.fam_rules.specs.Reply.{Reply, NotAppended, Reports}
+use Rattle.fam_rules.specs.Reply.{Reply, NotAppended, Reports, Appended, Played, Same, Differs, Length, Bytes, NotFound, IsDirectory, Checks}
 use Rattle.fam_rules.specs.Reply as reply
 use Rattle.fam_rules.specs.Reports.{report_of, report_by, survey_slots}
 use Rattle.fam_protocol.specs.Seen.{Seen}
@@ -53,7 +54,13 @@ pub record ReadsHeader (image : Lines) (have : ℕ) (t : Task) : Type 0 where
 abbrev pub Remains : Cmd → Lines → ℕ → ℕ → Task → Type 0
 Remains Fsck image have i t =
     report_by t.params t.gate (survey_slots image t.params t.gate i (t.params.slots - i) t.survey) ≡ report_of image have
-Remains cmd image have i t = read_slots image t.params i (t.gate - i) t.entries ≡ reading_of image have
+Remains Logplay image have i t = read_slots image t.params i (t.gate - i) t.entries ≡ reading_of image have
+Remains (Mkdir path attr) image have i t = read_slots image t.params i (t.gate - i) t.entries ≡ reading_of image have
+Remains (Creat path size attr stripe fill) image have i t = read_slots image t.params i (t.gate - i) t.entries ≡ reading_of image have
+Remains (Cp path attr stripe bytes) image have i t = read_slots image t.params i (t.gate - i) t.entries ≡ reading_of image have
+Remains (Verify path against) image have i t = read_slots image t.params i (t.gate - i) t.entries ≡ reading_of image have
+Remains (Read path offset count) image have i t = read_slots image t.params i (t.gate - i) t.entries ≡ reading_of image have
+Remains (Check listing) image have i t = read_slots image t.params i (t.gate - i) t.entries ≡ reading_of image have
 
 -- the gate is within the slots, and i of them are read
 pub record ReadsSlots (image : Lines) (have i : ℕ) (t : Task) : Type 0 where
@@ -111,14 +118,32 @@ pub record IsBadStranger (image : Lines) (have : ℕ) (t : Task) (me master : Li
   pub master_is : master ≡ params.master
   pub other : me ≢ master
 
+-- the refusal of another host than the master
+abbrev pub MayRefuseBad : Refused → Lines → ℕ → Task → Type 0
+MayRefuseBad (NotMaster me master) image have t = IsBadStranger image have t me master
+MayRefuseBad BadStripe image have t = ⊥
+MayRefuseBad (Exists kind) image have t = ⊥
+MayRefuseBad NoParent image have t = ⊥
+MayRefuseBad ParentIsFile image have t = ⊥
+MayRefuseBad (LogFull slots) image have t = ⊥
+MayRefuseBad (NoSpace units) image have t = ⊥
+
 -- the image's own fault, or its report, or the refusal of another host than the master
 abbrev pub MayReplyBad : Reply → Lines → ℕ → Task → Type 0
-MayReplyBad (NotAppended (NotMaster me master)) image have t = IsBadStranger image have t me master
+MayReplyBad (NotAppended why) image have t = MayRefuseBad why image have t
 MayReplyBad (Reports report) image have t = report ≡ report_of image have
 MayReplyBad (reply.NoSuperblock fault) image have t = fault_of (reading_of image have) ≡ Some (reply.NoSuperblock fault)
 MayReplyBad (reply.BadHeader fault) image have t = fault_of (reading_of image have) ≡ Some (reply.BadHeader fault)
 MayReplyBad (reply.BadSlot i reason) image have t = fault_of (reading_of image have) ≡ Some (reply.BadSlot i reason)
-MayReplyBad other image have t = ⊥
+MayReplyBad (Appended seq) image have t = ⊥
+MayReplyBad (Played m tree) image have t = ⊥
+MayReplyBad (Same m) image have t = ⊥
+MayReplyBad (Differs m offset found wanted) image have t = ⊥
+MayReplyBad (Length m size wanted) image have t = ⊥
+MayReplyBad (Bytes m bytes) image have t = ⊥
+MayReplyBad (NotFound m) image have t = ⊥
+MayReplyBad (IsDirectory m) image have t = ⊥
+MayReplyBad (Checks m checked) image have t = ⊥
 
 -- the master finds the image's gate where a slot is bad
 pub record FindsBad (image : Lines) (have n : ℕ) : Type 0 where

@@ -9,7 +9,7 @@ use Rattle.fam_format.specs.Params.{SoundParams}
 use Rattle.fam_format.specs.Super.{magic_line, super_words}
 use Rattle.fam_machine.specs.declared.cell.Cell.TheVariants.{Absent}
 use Rattle.fam_machine.specs.OneLine.{IsDirty}
-use Rattle.fam_machine.specs.Task.{starting}
+use Rattle.fam_commands.specs.Task.{starting}
 use Rattle.fam_rules.specs.Place.{line_bytes}
 use Rattle.fam_rules.specs.Written.{zero_line}
 use Rattle.fam_protocol.specs.Seen.{Seen}
@@ -26,14 +26,12 @@ pub record Declares (host : ℕ) (id : List ℕ) (old new : Hosts) : Type 0 wher
   pub uuids : (h : ℕ) → h ≢ host → new.uuid h ≡ old.uuid h
   pub runs : (h : ℕ) → new.run h ≡ old.run h
 
--- a declared host begins a command on an image of so many lines, and has named nothing. What was settled at its mark
--- is looked at only behind the mark
+-- a declared host begins a command on an image of so many lines, and has no mark and has named nothing
 pub record Starts (host : ℕ) (cmd : Cmd) (lines : ℕ) (old new : Hosts) : Type 0 where
   pub me : List ℕ
-  pub floor : ℕ
   pub declared : old.uuid host ≡ Some me
   pub command : IsCommand cmd
-  pub is : new.run host ≡ Some (record { task = starting cmd me lines; floor = floor; named = None })
+  pub is : new.run host ≡ Some (record { task = starting cmd me lines; floor = None; named = None })
   pub uuids : (h : ℕ) → new.uuid h ≡ old.uuid h
   pub runs : (h : ℕ) → h ≢ host → new.run h ≡ old.run h
 

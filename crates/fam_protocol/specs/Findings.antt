@@ -1,25 +1,24 @@
 -- What a task has loaded of a sound file system, and what it says of it, as the laws tell it. docs/MODEL.md,
 -- "The protocol".
-use Rattle.std.specs.Prelude.{ℕ, ⊤, ◌≡◌, ◌⊎◌, ◌+◌, ◌*◌, ◌<◌, ◌≤◌, List, length, take, slice_get, slice_index, Some, Ok}
+use Rattle.std.specs.Prelude.{ℕ, ⊤, ◌≡◌, ◌⊎◌, ◌+◌, ◌*◌, ◌<◌, ◌≤◌, List, length, take, slice_get, slice_index, Some, Ok, Option}
 use Rattle.fam_base.specs.declared.entry.Params.{Params}
 use Rattle.fam_base.specs.Image.{byte_of}
 use Rattle.fam_format.specs.Layout.{geometry}
 use Rattle.fam_format.specs.Reading.{Lines}
 use Rattle.fam_format.specs.ReadingLaws.{HasWords}
 use Rattle.fam_format.specs.Slot.{entry_of, spelling}
-use Rattle.fam_machine.specs.declared.op.Part.{Part}
-use Rattle.fam_machine.specs.declared.op.Part.TheVariants.{Superblock, Header, Slot, File as FileLines}
-use Rattle.fam_machine.specs.declared.op.Place.{Place}
-use Rattle.fam_machine.specs.declared.op.Place.TheVariants as at
-use Rattle.fam_machine.specs.Task.{Task, first_line}
+use Rattle.fam_commands.specs.declared.place.Place.{Place}
+use Rattle.fam_commands.specs.declared.place.Place.TheVariants as at
+use Rattle.fam_commands.specs.Task.{Task, first_line}
 use Rattle.fam_rules.specs.declared.answers.Refused.{Refused}
-use Rattle.fam_rules.specs.declared.answers.Refused.TheVariants.{NotMaster}
+use Rattle.fam_rules.specs.declared.answers.Refused.TheVariants.{NotMaster, BadStripe, Exists, NoParent, ParentIsFile, LogFull, NoSpace}
 use Rattle.fam_rules.specs.Asks.{File, file_at}
 use Rattle.fam_rules.specs.Place.{line_bytes}
-use Rattle.fam_rules.specs.Reply.{Reply, Played, Same, Differs, Length, Bytes, NotFound, IsDirectory, Checks, NoSuperblock, BadHeader, BadSlot}
+use Rattle.fam_rules.specs.Reply.{Reply, Played, Same, Differs, Length, Bytes, NotFound, IsDirectory, Checks, NoSuperblock, BadHeader, BadSlot, Appended, NotAppended, Reports}
 use Rattle.fam_protocol.specs.Seen.{Seen}
+use Rattle.fam_protocol.specs.Lines.{IsAtLeast}
 use Rattle.fam_protocol.specs.Tasks.{HasRead, wanted_path}
-use Rattle.fam_protocol.specs.After.{Run}
+use Rattle.fam_protocol.specs.After.{IsPastGate, Run}
 use Rattle.fam_protocol.specs.Way.{Hosts, Known, Damaged, Way}
 use Rattle.fam_protocol.specs.Steps.{Steps}
 
@@ -62,26 +61,28 @@ pub record DamagedStep (image : Lines) (lines : ℕ) : Type 0 where
 
 -- Places.
 
--- slots and files are read behind the gate
-abbrev pub IsPastGate : Part → Type 0
-IsPastGate Superblock = ⊥
-IsPastGate Header = ⊥
-IsPastGate (Slot i) = ⊤
-IsPastGate FileLines = ⊤
-
 -- the task has loaded the gate, and reads or decides
 abbrev pub HasGate : Place → Type 0
 HasGate (at.Drop part j) = IsPastGate part
 HasGate (at.Word part j k) = IsPastGate part
 HasGate (at.Check i) = ⊤
 HasGate at.Decide = ⊤
-HasGate other = ⊥
+HasGate at.DropMagic = ⊥
+HasGate at.Magic = ⊥
+HasGate at.DropGate = ⊥
+HasGate at.Gate = ⊥
+HasGate (at.StoreData j k) = ⊥
+HasGate (at.SendData j) = ⊥
+HasGate (at.StoreSlot j k) = ⊥
+HasGate (at.SendSlot j) = ⊥
+HasGate at.StoreGate = ⊥
+HasGate at.SendGate = ⊥
 
 -- What was loaded.
 
 -- the gate counts all that was settled at the task's mark, and no more than there is
-pub record IsCurrent (floor : ℕ) (t : Task) (all : List File) : Type 0 where
-  pub low : floor ≤ t.gate
+pub record IsCurrent (floor : Option ℕ) (t : Task) (all : List File) : Type 0 where
+  pub low : IsAtLeast floor t.gate
   pub high : t.gate ≤ length all
 
 -- the words of slot i read as entry i of the history; where memory has words of 64 bits they are its spelling. The
@@ -119,16 +120,36 @@ IsOfEntries (Bytes m bytes) = ⊤
 IsOfEntries (NotFound m) = ⊤
 IsOfEntries (IsDirectory m) = ⊤
 IsOfEntries (Checks m checked) = ⊤
-IsOfEntries other = ⊥
+IsOfEntries (Appended seq) = ⊥
+IsOfEntries (NotAppended refused) = ⊥
+IsOfEntries (Reports report) = ⊥
+IsOfEntries (NoSuperblock fault) = ⊥
+IsOfEntries (BadHeader fault) = ⊥
+IsOfEntries (BadSlot seq reason) = ⊥
 
 -- an answer that names a fault of the image
 abbrev pub IsOfFault : Reply → Type 0
 IsOfFault (NoSuperblock fault) = ⊤
 IsOfFault (BadHeader fault) = ⊤
 IsOfFault (BadSlot seq reason) = ⊤
-IsOfFault other = ⊥
+IsOfFault (Appended seq) = ⊥
+IsOfFault (NotAppended refused) = ⊥
+IsOfFault (Played m tree) = ⊥
+IsOfFault (Same m) = ⊥
+IsOfFault (Differs m offset found wanted) = ⊥
+IsOfFault (Length m size wanted) = ⊥
+IsOfFault (Bytes m bytes) = ⊥
+IsOfFault (NotFound m) = ⊥
+IsOfFault (IsDirectory m) = ⊥
+IsOfFault (Checks m checked) = ⊥
+IsOfFault (Reports report) = ⊥
 
 -- a refusal for another cause than the host
 abbrev pub IsOfCommand : Refused → Type 0
 IsOfCommand (NotMaster me master) = ⊥
-IsOfCommand other = ⊤
+IsOfCommand BadStripe = ⊤
+IsOfCommand (Exists kind) = ⊤
+IsOfCommand NoParent = ⊤
+IsOfCommand ParentIsFile = ⊤
+IsOfCommand (LogFull slots) = ⊤
+IsOfCommand (NoSpace units) = ⊤

@@ -1,4 +1,5 @@
 pub mod Seen
+pub mod Hosted
 pub mod Lines
 pub mod Core
 pub mod Tasks
@@ -8,5 +9,3 @@ pub mod Way
 pub mod Events
 pub mod Steps
 pub mod Findings
-pub mod Refused
-pub mod Alone

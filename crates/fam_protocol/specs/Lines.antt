@@ -1,6 +1,6 @@
 -- What one host's copy of a line may be beside memory's words m. Every move of a cache keeps each of these.
 -- docs/MODEL.md, "The protocol".
-use Rattle.std.specs.Prelude.{ℕ, zero, suc, ⊤, ◌≡◌, ◌≤◌, List, take, slice_index}
+use Rattle.std.specs.Prelude.{ℕ, zero, suc, ⊤, ◌≡◌, ◌≤◌, List, take, slice_index, Option, Some, None}
 use Rattle.fam_machine.specs.declared.cell.Cell.{Cell}
 use Rattle.fam_machine.specs.declared.cell.Cell.TheVariants.{Absent, Clean, Dirty}
 
@@ -14,10 +14,15 @@ Fresh m (Dirty words) = ⊥
 abbrev pub gate_of : List ℕ → ℕ
 gate_of words = slice_index words 0
 
+-- there is a mark, and so many entries are no fewer than were settled at it
+abbrev pub IsAtLeast : Option ℕ → ℕ → Type 0
+IsAtLeast None count = ⊥
+IsAtLeast (Some floor) count = floor ≤ count
+
 -- a copy of the gate's line that a reader may load: no older than its mark, and no newer than memory
-abbrev pub FreshGate : ℕ → List ℕ → Cell → Type 0
+abbrev pub FreshGate : Option ℕ → List ℕ → Cell → Type 0
 FreshGate floor m Absent = ⊤
-FreshGate floor m (Clean words) = (floor ≤ gate_of words) × (gate_of words ≤ gate_of m)
+FreshGate floor m (Clean words) = IsAtLeast floor (gate_of words) × (gate_of words ≤ gate_of m)
 FreshGate floor m (Dirty words) = ⊥
 
 -- the larger of memory's gate and a dirty one

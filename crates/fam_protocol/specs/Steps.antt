@@ -2,9 +2,9 @@
 -- docs/MODEL.md, "The protocol".
 use Rattle.std.specs.Prelude.{ℕ, ◌≡◌, ◌≢◌, ◌*◌, List, Option, Some, None}
 use Rattle.fam_base.specs.declared.entry.Params.{Params}
-use Rattle.fam_machine.specs.Stands.{turn_given}
-use Rattle.fam_machine.specs.Task.{op_of}
-use Rattle.fam_machine.specs.Turns.{Turn, Goes, Marks, Finds, Writes, Ends}
+use Rattle.fam_commands.specs.Stands.{turn_given}
+use Rattle.fam_commands.specs.Task.{op_of}
+use Rattle.fam_commands.specs.Turns.{Turn, Goes, Marks, Finds, Writes, Ends}
 use Rattle.fam_rules.specs.Asks.{File}
 use Rattle.fam_rules.specs.Place.{line_bytes}
 use Rattle.fam_protocol.specs.Seen.{Seen, Operates}
@@ -21,7 +21,7 @@ settled_count (Known p all settled) = settled
 -- the task that goes on, with what was settled at its mark and what it named
 abbrev pub run_after : Turn → ℕ → Run → Option Run
 run_after (Goes t) settled r = Some (record r { task = t })
-run_after (Marks t) settled r = Some (record r { task = t; floor = settled })
+run_after (Marks t) settled r = Some (record r { task = t; floor = Some settled })
 run_after (Finds n t) settled r = Some (record r { task = t })
 run_after (Writes seq e t) settled r = Some (record r { task = t; named = Some (record { seq = seq; entry = e }) })
 run_after (Ends reply) settled r = None

@@ -2,17 +2,18 @@
 use Rattle.std.specs.Prelude.{ℕ, ⊤, ◌≡◌, ◌+◌, ◌-◌, ◌*◌, ◌/◌, ◌%◌, ◌<◌, ◌≤◌, min, List, [], length, map, take, drop, slice_get, slice_index, Option, Some, None}
 use Rattle.std.specs.List.{enumerate_from, range_with_len}
 use Rattle.fam_base.specs.declared.cmd.Cmd.{Cmd}
-use Rattle.fam_base.specs.declared.cmd.Cmd.TheVariants.{Verify, Read, Fsck}
+use Rattle.fam_base.specs.declared.cmd.Cmd.TheVariants.{Logplay, Mkdir, Creat, Cp, Verify, Read, Check, Fsck}
+use Rattle.fam_base.specs.declared.cmd.Content.{Content}
 use Rattle.fam_base.specs.declared.cmd.Content.TheVariants as content
 use Rattle.fam_base.specs.declared.entry.Kind.TheVariants as kind
 use Rattle.fam_format.specs.Layout.{geometry, gate_line, slot_line}
 use Rattle.fam_format.specs.Slot.{spelling}
-use Rattle.fam_machine.specs.declared.op.Part.{Part}
-use Rattle.fam_machine.specs.declared.op.Part.TheVariants.{Superblock, Header, Slot, File as FileLines}
-use Rattle.fam_machine.specs.declared.op.Place.{Place}
-use Rattle.fam_machine.specs.declared.op.Place.TheVariants as at
-use Rattle.fam_machine.specs.Task.{Task, content_of, data_words, line_of, part_count, part_line, size_of}
-use Rattle.fam_machine.specs.Turns.{slots_read}
+use Rattle.fam_commands.specs.declared.place.Part.{Part}
+use Rattle.fam_commands.specs.declared.place.Part.TheVariants.{Superblock, Header, Slot, File as FileLines}
+use Rattle.fam_commands.specs.declared.place.Place.{Place}
+use Rattle.fam_commands.specs.declared.place.Place.TheVariants as at
+use Rattle.fam_commands.specs.Task.{Task, content_of, data_words, line_of, part_count, part_line, size_of}
+use Rattle.fam_commands.specs.Turns.{slots_read}
 use Rattle.fam_rules.specs.Asks.{File, entries_of, file_at}
 use Rattle.fam_rules.specs.Content.{HoldsBytes, content_byte, fill}
 use Rattle.fam_rules.specs.Decide.{Wish, wish_of}
@@ -21,7 +22,7 @@ use Rattle.fam_rules.specs.Place.{line_bytes}
 use Rattle.fam_rules.specs.Reports.{Survey, no_survey}
 use Rattle.fam_rules.specs.Written.{slot_part}
 use Rattle.fam_protocol.specs.Seen.{Seen}
-use Rattle.fam_protocol.specs.Lines.{Fresh, FreshGate, Holding, Finished, gate_of}
+use Rattle.fam_protocol.specs.Lines.{IsAtLeast, Fresh, FreshGate, Holding, Finished, gate_of}
 use Rattle.fam_protocol.specs.Core.{System, top_of}
 
 -- Commands.
@@ -40,8 +41,20 @@ part_words memory t part =
 
 -- the first word that is kept when line j is read: a file that is compared is looked at line by line
 abbrev pub kept_from : Cmd → Part → ℕ → ℕ
-kept_from (Verify path against) FileLines j = 8 * j
-kept_from cmd part j = 0
+kept_from Logplay part j = 0
+kept_from (Mkdir path attr) part j = 0
+kept_from (Creat path size attr stripe fill) part j = 0
+kept_from (Cp path attr stripe bytes) part j = 0
+kept_from (Read path offset count) part j = 0
+kept_from (Check listing) part j = 0
+kept_from Fsck part j = 0
+kept_from (Verify path against) part j = compared_from part j
+  where
+    compared_from : Part → ℕ → ℕ
+    compared_from Superblock j = 0
+    compared_from Header j = 0
+    compared_from (Slot i) j = 0
+    compared_from FileLines j = 8 * j
 
 -- the task has the words of the lines before line j, as far as they are kept, and the first k of line j
 abbrev pub HasLoaded : (ℕ → List ℕ) → Task → Part → ℕ → ℕ → Type 0
@@ -72,8 +85,8 @@ pub record KnowsHead (sys : System) (host : ℕ) (t : Task) : Type 0 where
 
 -- the gate is loaded: it counts all that was settled at the mark, and no more than memory's does. A command that
 -- appends has found the whole history, and nothing pending
-pub record KnowsGate (host floor : ℕ) (t : Task) (s : Seen) (all : List File) (settled : ℕ) : Type 0 where
-  pub low : floor ≤ t.gate
+pub record KnowsGate (host : ℕ) (floor : Option ℕ) (t : Task) (s : Seen) (all : List File) (settled : ℕ) : Type 0 where
+  pub low : IsAtLeast floor t.gate
   pub high : t.gate ≤ gate_of (s.memory gate_line)
   pub writer : (w : Wish) → wish_of t.cmd ≡ Some w → (settled ≡ t.gate) × (length all ≡ t.gate)
 
@@ -87,23 +100,52 @@ pub record HasSurveyed (i gate : ℕ) (survey : Survey) (all : List File) : Type
 -- i slots are read: their entries are the first ones
 abbrev pub HasRead : Cmd → ℕ → Task → List File → Type 0
 HasRead Fsck i t all = HasSurveyed i t.gate t.survey all
-HasRead cmd i t all = t.entries ≡ entries_of (take i all)
+HasRead Logplay i t all = t.entries ≡ entries_of (take i all)
+HasRead (Mkdir path attr) i t all = t.entries ≡ entries_of (take i all)
+HasRead (Creat path size attr stripe fill) i t all = t.entries ≡ entries_of (take i all)
+HasRead (Cp path attr stripe bytes) i t all = t.entries ≡ entries_of (take i all)
+HasRead (Verify path against) i t all = t.entries ≡ entries_of (take i all)
+HasRead (Read path offset count) i t all = t.entries ≡ entries_of (take i all)
+HasRead (Check listing) i t all = t.entries ≡ entries_of (take i all)
 
 -- which path a command reads the file of
 abbrev pub wanted_path : Cmd → Option (List ℕ)
 wanted_path (Verify path against) = Some path
 wanted_path (Read path offset count) = Some path
-wanted_path cmd = None
+wanted_path Logplay = None
+wanted_path (Mkdir path attr) = None
+wanted_path (Creat path size attr stripe fill) = None
+wanted_path (Cp path attr stripe bytes) = None
+wanted_path (Check listing) = None
+wanted_path Fsck = None
 
 -- given bytes are as many as the file's
+abbrev pub IsGivenSize : Content → ℕ → Type 0
+IsGivenSize content.Zero size = ⊤
+IsGivenSize (content.Seed seed) size = ⊤
+IsGivenSize (content.Bytes given) size = length given ≡ size
+
+-- so are those that a command compares with
 abbrev pub IsOfSize : Cmd → ℕ → Type 0
-IsOfSize (Verify path (content.Bytes given)) size = length given ≡ size
-IsOfSize cmd size = ⊤
+IsOfSize (Verify path against) size = IsGivenSize against size
+IsOfSize Logplay size = ⊤
+IsOfSize (Mkdir path attr) size = ⊤
+IsOfSize (Creat path wished attr stripe fill) size = ⊤
+IsOfSize (Cp path attr stripe bytes) size = ⊤
+IsOfSize (Read path offset count) size = ⊤
+IsOfSize (Check listing) size = ⊤
+IsOfSize Fsck size = ⊤
 
 -- the file's bytes below an offset are the content's
 abbrev pub IsSameBelow : Cmd → File → ℕ → Type 0
 IsSameBelow (Verify path against) f end = (o : ℕ) → o < end → o < f.entry.size → slice_index f.bytes o ≡ content_byte against o
-IsSameBelow cmd f end = ⊤
+IsSameBelow Logplay f end = ⊤
+IsSameBelow (Mkdir path attr) f end = ⊤
+IsSameBelow (Creat path size attr stripe fill) f end = ⊤
+IsSameBelow (Cp path attr stripe bytes) f end = ⊤
+IsSameBelow (Read path offset count) f end = ⊤
+IsSameBelow (Check listing) f end = ⊤
+IsSameBelow Fsck f end = ⊤
 
 -- the task reads the file of this entry, one of those below its gate
 pub record ReadsFile (t : Task) (all : List File) (j : ℕ) : Type 0 where
@@ -120,23 +162,23 @@ pub record ReadsFile (t : Task) (all : List File) (j : ℕ) : Type 0 where
   pub same : IsSameBelow t.cmd file (line_bytes * j)
 
 -- all slots are read
-pub record HasReadAll (host floor : ℕ) (t : Task) (s : Seen) (all : List File) (settled : ℕ) : Type 0 where
+pub record HasReadAll (host : ℕ) (floor : Option ℕ) (t : Task) (s : Seen) (all : List File) (settled : ℕ) : Type 0 where
   pub gate : KnowsGate host floor t s all settled
   pub read : HasRead t.cmd (slots_read t) t all
 
 -- slot i comes next
-pub record IsAtSlot (i host floor : ℕ) (t : Task) (s : Seen) (all : List File) (settled : ℕ) : Type 0 where
+pub record IsAtSlot (i host : ℕ) (floor : Option ℕ) (t : Task) (s : Seen) (all : List File) (settled : ℕ) : Type 0 where
   pub gate : KnowsGate host floor t s all settled
   pub below : i < slots_read t
   pub read : HasRead t.cmd i t all
 
 -- line j of the file comes next
-pub record IsAtFile (j host floor : ℕ) (t : Task) (s : Seen) (all : List File) (settled : ℕ) : Type 0 where
+pub record IsAtFile (j host : ℕ) (floor : Option ℕ) (t : Task) (s : Seen) (all : List File) (settled : ℕ) : Type 0 where
   pub all_read : HasReadAll host floor t s all settled
   pub file : ReadsFile t all j
 
 -- what is known when line j of a part is read
-abbrev pub OnPart : Part → ℕ → System → ℕ → ℕ → Task → Seen → List File → ℕ → Type 0
+abbrev pub OnPart : Part → ℕ → System → ℕ → Option ℕ → Task → Seen → List File → ℕ → Type 0
 OnPart Superblock j sys host floor t s all settled = NoSlot t
 OnPart Header j sys host floor t s all settled = NoSlot t × KnowsHead sys host t
 OnPart (Slot i) j sys host floor t s all settled = KnowsHead sys host t × IsAtSlot i host floor t s all settled
@@ -202,15 +244,15 @@ pub record HasPublished (sys : System) (host : ℕ) (t : Task) (s : Seen) (all :
   pub last : slice_get all t.gate ≡ Some file
   pub entry : t.entry ≡ Some file.entry
 
--- A task at its place. `floor` is what was settled at its mark.
+-- A task at its place. `floor` is what was settled at its mark, once it is made.
 
 -- the gate's line was dropped: a copy that came back is no older than the mark, and the master's is memory's
-pub record IsAtGate (sys : System) (host floor : ℕ) (s : Seen) (settled : ℕ) : Type 0 where
-  pub low : floor ≤ settled
+pub record IsAtGate (sys : System) (host : ℕ) (floor : Option ℕ) (s : Seen) (settled : ℕ) : Type 0 where
+  pub low : IsAtLeast floor settled
   pub copy : FreshGate floor (s.memory gate_line) (s.copy host gate_line)
   pub masters : sys.master ≡ Some host → Fresh (s.memory gate_line) (s.copy host gate_line)
 
-abbrev pub AtPlace : Place → System → ℕ → ℕ → Task → Seen → List File → ℕ → Type 0
+abbrev pub AtPlace : Place → System → ℕ → Option ℕ → Task → Seen → List File → ℕ → Type 0
 AtPlace at.DropMagic sys host floor t s all settled = NoSlot t
 AtPlace at.Magic sys host floor t s all settled = NoSlot t × Fresh (s.memory 0) (s.copy host 0)
 AtPlace (at.Drop part j) sys host floor t s all settled =
@@ -231,7 +273,7 @@ AtPlace at.StoreGate sys host floor t s all settled = MayPublish sys host t s al
 AtPlace at.SendGate sys host floor t s all settled = HasPublished sys host t s all
 
 -- a task is its host's, of an image of this size, and what its place says holds
-pub record TaskHolds (sys : System) (host floor : ℕ) (t : Task) (s : Seen) (all : List File) (settled : ℕ) : Type 0 where
+pub record TaskHolds (sys : System) (host : ℕ) (floor : Option ℕ) (t : Task) (s : Seen) (all : List File) (settled : ℕ) : Type 0 where
   pub command : IsCommand t.cmd
   pub me : sys.uuid host ≡ Some t.me
   pub lines : line_bytes * t.lines ≡ sys.have

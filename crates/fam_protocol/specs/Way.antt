@@ -4,7 +4,9 @@ use Rattle.fam_base.specs.declared.entry.Params.{Params}
 use Rattle.fam_base.specs.Image.{Image, line_at}
 use Rattle.fam_format.specs.Layout.{least_lines}
 use Rattle.fam_format.specs.Reading.{Lines, Reading, NoSuperblock, BadHeader, BadSlot, Sound, reading_of}
+use Rattle.fam_machine.specs.declared.cell.Cell.{Cell}
 use Rattle.fam_machine.specs.declared.cell.Cell.TheVariants.{Absent}
+use Rattle.fam_machine.specs.Caches.{IsCleanCell}
 use Rattle.fam_machine.specs.OneLine.{IsDirty}
 use Rattle.fam_rules.specs.Asks.{File}
 pub use Rattle.fam_rules.specs.Alone.{held_file}
@@ -12,7 +14,7 @@ use Rattle.fam_rules.specs.Place.{line_bytes}
 use Rattle.fam_protocol.specs.Seen.{Seen}
 use Rattle.fam_protocol.specs.Core.{Core, IsWide}
 use Rattle.fam_protocol.specs.Tasks.{TaskHolds}
-use Rattle.fam_protocol.specs.After.{Run, HasNamed, HoldsNamed}
+use Rattle.fam_protocol.specs.After.{Run, HasMarked, HasNamed, HoldsNamed, IsMarked}
 use Rattle.fam_protocol.specs.Bad.{Still, BadTaskHolds}
 
 -- the declared hosts: their UUIDs and their tasks
@@ -61,6 +63,8 @@ Stage (Known p all settled) lines hosts s = IsKnown p all settled lines hosts s
 -- an image of so many lines
 pub record Way (settled : Settled) (lines : ℕ) (hosts : Hosts) (s : Seen) : Type 0 where
   pub declared : AreHosts hosts s
+  -- a task behind its mark has what was settled then
+  pub marked : (h : ℕ) (r : Run) → hosts.run h ≡ Some r → HasMarked r.task.place → IsMarked r.floor
   -- a task that writes holds what it named
   pub named : (h : ℕ) (r : Run) → hosts.run h ≡ Some r → HasNamed r.task.place → HoldsNamed r.task r.named
   pub wide : IsWide s
@@ -86,3 +90,22 @@ settled_by image (Sound p entries) = Known p (map (held_file image) entries) (le
 -- what an image settles: too few lines have no reading
 abbrev pub settled_at_first : Image → Settled
 settled_at_first image = if nat_lt (length image) least_lines then Small (line_at image) else settled_by (line_at image) (reading_of (line_at image) (line_bytes * length image))
+
+-- Between commands.
+
+-- which declared host has a UUID, or none
+pub record Owner (hosts : Hosts) (id : List ℕ) : Type 0 where
+  pub host : Option ℕ
+  pub is : (h : ℕ) → host ≡ Some h → hosts.uuid h ≡ Some id
+  pub only : (h : ℕ) → hosts.uuid h ≡ Some id → host ≡ Some h
+
+-- an image, and these caches
+abbrev pub seen_with : Image → (ℕ → ℕ → Cell) → Seen
+seen_with image copy = record { memory = line_at image; copy = copy }
+
+-- no host has a task, and no cache has anything to send: what copies there are may be stale
+pub record Rests (hosts : Hosts) (s : Seen) : Type 0 where
+  pub declared : AreHosts hosts s
+  pub owner : (id : List ℕ) → Owner hosts id
+  pub idle : (h : ℕ) → hosts.run h ≡ None
+  pub clean : (h l : ℕ) → IsCleanCell (s.copy h l)

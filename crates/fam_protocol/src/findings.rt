@@ -5,14 +5,15 @@
 ghost use Rattle.std.specs.Prelude.{◌≡◌, ◌<◌, ◌*◌, ℕ, List, Ok, Some, length};
 ghost use Rattle.fam_base.specs.declared.entry.Entry.{Entry};
 ghost use Rattle.fam_base.specs.declared.entry.Params.{Params};
-ghost use Rattle.fam_format.specs.Reading.{Lines, reading_of};
-ghost use Rattle.fam_machine.specs.Stands.{turn_given};
-ghost use Rattle.fam_machine.specs.Task.{Task};
-ghost use Rattle.fam_machine.specs.Turns.{Ends, Finds, Writes};
-ghost use Rattle.fam_machine.specs.declared.op.Part.{Part};
-ghost use Rattle.fam_machine.specs.declared.op.Place.{Place};
+ghost use Rattle.fam_format.specs.Reading.{BadSlot, Lines, gate_in, reading_of, super_in};
+ghost use Rattle.fam_format.specs.declared.faults.Reason.{Reason};
+ghost use Rattle.fam_commands.specs.Stands.{turn_given};
+ghost use Rattle.fam_commands.specs.Task.{Task};
+ghost use Rattle.fam_commands.specs.Turns.{Ends, Finds, Writes, with_gate};
+ghost use Rattle.fam_commands.specs.declared.place.Part.{Part};
+ghost use Rattle.fam_commands.specs.declared.place.Place.{Place};
 ghost use Rattle.fam_protocol.specs.After.{HasNamed, IsAppended, IsAsked, IsRefused, IsReported, IsStranger};
-ghost use Rattle.fam_protocol.specs.Bad.{IsBadStranger, Still, fault_of};
+ghost use Rattle.fam_protocol.specs.Bad.{FindsBad, IsBadStranger, Still, fault_of};
 ghost use Rattle.fam_protocol.specs.Findings.{
   DamagedStep,
   HasGate,
@@ -27,7 +28,7 @@ ghost use Rattle.fam_protocol.specs.Findings.{
   SoundTask,
 };
 ghost use Rattle.fam_rules.specs.Asks.{File, entries_of};
-ghost use Rattle.fam_rules.specs.Decide.{decide};
+ghost use Rattle.fam_rules.specs.Decide.{Wish, decide, wish_of};
 ghost use Rattle.fam_rules.specs.Place.{line_bytes};
 ghost use Rattle.fam_rules.specs.Reply.{Appended, NotAppended, Reply, Reports};
 ghost use Rattle.fam_rules.specs.Reports.{report_of};
@@ -135,4 +136,21 @@ pub fn a_damaged_image_names_its_fault()
     // Memory stays what it was, and nobody has anything to send.
     ensures same { (image : Lines) (lines : ℕ) (step : DamagedStep image lines)
         → Still image (line_bytes * lines) step.after }
+{}
+
+/// On an image of which a slot below the gate is bad, a command that appends, of any host that passed the master's test,
+/// finds the image's gate.
+pub fn a_damaged_gate_is_found()
+    // What a task finds on a damaged image is the image's gate, and a slot is bad.
+    ensures found { (image : Lines) (lines n : ℕ) (t : Task) (step : DamagedStep image lines)
+        → turn_given step.run.task step.word ≡ Finds n t → FindsBad image (line_bytes * lines) n }
+
+    // It is noted as soon as the gate is loaded. Only the master comes so far, as the superblock names it.
+    ensures noted { (image : Lines) (lines slot : ℕ) (reason : Reason) (wish : Wish) (step : DamagedStep image lines)
+        → reading_of image (line_bytes * lines) ≡ BadSlot slot reason → wish_of step.run.task.cmd ≡ Some wish
+        → step.run.task.place ≡ Place.Gate
+        → turn_given step.run.task step.word ≡ Finds (gate_in image) (with_gate step.run.task (gate_in image)) }
+    ensures master { (image : Lines) (lines : ℕ) (wish : Wish) (step : DamagedStep image lines)
+        → wish_of step.run.task.cmd ≡ Some wish → step.run.task.place ≡ Place.Gate
+        → (params : Params) × (super_in image (line_bytes * lines) ≡ Ok params) × (step.run.task.me ≡ params.master) }
 {}

@@ -10,7 +10,9 @@ ghost use Rattle.fam_protocol.specs.Core.{IsWide};
 ghost use Rattle.fam_protocol.specs.Events.{Declares, Formats, MayFormat, Starts, Stops};
 ghost use Rattle.fam_protocol.specs.Seen.{DriftsAt, Loses, Seen};
 ghost use Rattle.fam_protocol.specs.Steps.{StepHolds, Steps};
-ghost use Rattle.fam_protocol.specs.Way.{AreHosts, Hosts, Known, Settled, Way, alone, no_hosts, settled_at_first};
+ghost use Rattle.fam_protocol.specs.Way.{AreHosts, Hosts, Known, Rests, Settled, Way, alone, no_hosts, seen_with, settled_at_first};
+ghost use Rattle.fam_machine.specs.declared.cell.Cell.{Cell};
+ghost use Rattle.fam_rules.specs.Asks.{File};
 ghost use Rattle.fam_rules.specs.Place.{line_bytes};
 
 /// Every image of at most 1 TiB, whatever it holds, is the beginning of a run: before any host is declared and
@@ -19,6 +21,19 @@ ghost use Rattle.fam_rules.specs.Place.{line_bytes};
 pub fn an_image_begins_a_run()
     ensures { (image : Image) → line_bytes * length image ≤ device_limit
         → Way (settled_at_first image) (length image) no_hosts (alone image) }
+{}
+
+/// The same holds between commands, of any number of hosts: of every image, while no host has a task and no cache has
+/// anything to send, however stale its copies are (`again`). And where nothing is pending then, what is settled is told
+/// by the image's reading (`told`).
+pub fn an_image_at_rest_begins_a_run()
+    ensures again { (image : Image) (hosts : Hosts) (copy : ℕ → ℕ → Cell) → line_bytes * length image ≤ device_limit
+        → Rests hosts (seen_with image copy)
+        → Way (settled_at_first image) (length image) hosts (seen_with image copy) }
+    ensures told { (image : Image) (hosts : Hosts) (copy : ℕ → ℕ → Cell) (p : Params) (all : List File)
+        → line_bytes * length image ≤ device_limit → Rests hosts (seen_with image copy)
+        → Way (Known p all (length all)) (length image) hosts (seen_with image copy)
+        → settled_at_first image ≡ Known p all (length all) }
 {}
 
 /// Whatever happens next, what the protocol keeps holds again: for every image, any number of hosts, any commands,

@@ -3,7 +3,7 @@
 use Rattle.std.specs.Prelude.{ℕ, ◌*◌, ◌/◌, ◌%◌, List, length, map, Option, Some, None, Result, Ok, Err, unwrap_or}
 use Rattle.std.specs.List.{range_with_len}
 use Rattle.fam_base.specs.declared.cmd.Cmd.{Cmd}
-use Rattle.fam_base.specs.declared.cmd.Cmd.TheVariants.{Creat, Cp, Fsck}
+use Rattle.fam_base.specs.declared.cmd.Cmd.TheVariants.{Logplay, Mkdir, Creat, Cp, Verify, Read, Check, Fsck}
 use Rattle.fam_base.specs.declared.cmd.Content.{Content}
 use Rattle.fam_base.specs.declared.cmd.Content.TheVariants as content
 use Rattle.fam_base.specs.declared.entry.Params.{Params}
@@ -30,7 +30,12 @@ held_file memory e =
 abbrev pub content_of : Cmd → Content
 content_of (Creat path size attr stripe fill) = fill
 content_of (Cp path attr stripe bytes) = content.Bytes bytes
-content_of cmd = content.Zero
+content_of Logplay = content.Zero
+content_of (Mkdir path attr) = content.Zero
+content_of (Verify path against) = content.Zero
+content_of (Read path offset count) = content.Zero
+content_of (Check listing) = content.Zero
+content_of Fsck = content.Zero
 
 -- a command that appends, of another host than the one that the superblock names
 abbrev pub stranger : Option Wish → Result Params SuperFault → List ℕ → Option Refused
@@ -60,10 +65,20 @@ abbrev pub reply_unless : Option Refused → Reply → Reply
 reply_unless (Some refused) other = reply.NotAppended refused
 reply_unless None other = other
 
+-- of a command other than a check of the whole file system
+abbrev pub reply_to : Lines → ℕ → List ℕ → Cmd → Reply
+reply_to memory have me cmd = reply_unless (stranger (wish_of cmd) (super_in memory have) me) (reading_reply memory have me cmd (reading_of memory have))
+
 -- a check of the whole file system reports, whatever the image says
 abbrev pub reply_in : Lines → ℕ → List ℕ → Cmd → Reply
 reply_in memory have me Fsck = reply.Reports (report_of memory have)
-reply_in memory have me cmd = reply_unless (stranger (wish_of cmd) (super_in memory have) me) (reading_reply memory have me cmd (reading_of memory have))
+reply_in memory have me Logplay = reply_to memory have me Logplay
+reply_in memory have me (Mkdir path attr) = reply_to memory have me (Mkdir path attr)
+reply_in memory have me (Creat path size attr stripe fill) = reply_to memory have me (Creat path size attr stripe fill)
+reply_in memory have me (Cp path attr stripe bytes) = reply_to memory have me (Cp path attr stripe bytes)
+reply_in memory have me (Verify path against) = reply_to memory have me (Verify path against)
+reply_in memory have me (Read path offset count) = reply_to memory have me (Read path offset count)
+reply_in memory have me (Check listing) = reply_to memory have me (Check listing)
 
 -- what the command answers on an image
 unfoldable pub alone_reply : Image → List ℕ → Cmd → Reply

@@ -1,5 +1,5 @@
 -- What a reading command answers on a list of entries with their bytes. docs/MODEL.md, "Ask".
-use Rattle.std.specs.Prelude.{ℕ, ◌==◌, not, if◌then◌else◌, List, length, map, find, take, drop, slice_index, Option, Some, None}
+use Rattle.std.specs.Prelude.{ℕ, ◌≡◌, ◌==◌, not, if◌then◌else◌, List, length, map, find, take, drop, slice_get, slice_index, Option, Some, None}
 use Rattle.std.specs.List.{range_with_len}
 use Rattle.fam_base.specs.declared.cmd.Cmd.{Cmd}
 use Rattle.fam_base.specs.declared.cmd.Cmd.TheVariants.{Logplay, Mkdir, Creat, Cp, Verify, Read, Check, Fsck}
@@ -8,7 +8,9 @@ use Rattle.fam_base.specs.declared.cmd.Content.TheVariants as content
 use Rattle.fam_base.specs.declared.entry.Entry.{Entry}
 use Rattle.fam_base.specs.declared.entry.Kind.{Kind}
 use Rattle.fam_base.specs.declared.entry.Kind.TheVariants as kind
+use Rattle.fam_base.specs.declared.entry.Params.{Params}
 use Rattle.fam_base.specs.PathOrder.{path_eq}
+use Rattle.fam_format.specs.ReadingLaws.{Joins}
 use Rattle.fam_format.specs.Tree.{replay}
 use Rattle.fam_rules.specs.Content.{content_byte}
 use Rattle.fam_rules.specs.Reply.{Reply, Played, Same, Differs, Length, Bytes, NotFound, IsDirectory, Checks}
@@ -22,6 +24,10 @@ pub record File : Type 0 where
 -- the entries alone
 abbrev pub entries_of : List File → List Entry
 entries_of files = map (λ f. f.entry) files
+
+-- each entry joins those before it
+abbrev pub AreJoined : Params → List File → Type 0
+AreJoined p files = (i : ℕ) (f : File) → slice_get files i ≡ Some f → Joins p (entries_of (take i files)) f.entry
 
 -- the entry of this path
 abbrev pub file_at : List File → List ℕ → Option File

@@ -19,26 +19,27 @@ use Rattle.fam_format.specs.declared.faults.SuperFault.{SuperFault}
 use Rattle.fam_format.specs.Layout.{device_limit, least_lines}
 use Rattle.fam_format.specs.Reading.{Lines, Reading, NoSuperblock, BadHeader, BadSlot, Sound, gate_in, reading_of, slot_in, super_in}
 use Rattle.fam_format.specs.Slot.{entry_of}
-use Rattle.fam_machine.specs.declared.op.Place.{Place}
-use Rattle.fam_machine.specs.declared.op.Place.TheVariants as at
-use Rattle.fam_machine.specs.Operations.{Machine, operated}
-use Rattle.fam_machine.specs.Solo.{Came, IsInside, turn_on}
-use Rattle.fam_machine.specs.Task.{Task, op_at, op_of}
-use Rattle.fam_machine.specs.Turns as turns
-use Rattle.fam_machine.specs.Turns.{Goes, Marks, Finds, Writes, Ends}
+use Rattle.fam_commands.specs.declared.place.Place.{Place}
+use Rattle.fam_commands.specs.declared.place.Place.TheVariants as at
+use Rattle.fam_machine.specs.Caches.{Cache, IsClean}
+use Rattle.fam_machine.specs.Operations.{Machine, operated, IsInside}
+use Rattle.fam_commands.specs.Solo.{Came, turn_on}
+use Rattle.fam_commands.specs.Task.{Task, op_at, op_of}
+use Rattle.fam_commands.specs.Turns as turns
+use Rattle.fam_commands.specs.Turns.{Goes, Marks, Finds, Writes, Ends}
 use Rattle.fam_rules.specs.declared.answers.Refused.{Refused}
 use Rattle.fam_rules.specs.Alone.{stranger}
 use Rattle.fam_rules.specs.Decide.{wish_of}
 use Rattle.fam_rules.specs.DecideLaws.{IsAttr, IsSoundWish}
 use Rattle.fam_rules.specs.Place.{line_bytes}
 use Rattle.fam_rules.specs.Reply.{Reply}
-use Rattle.fam_protocol.specs.Alone.{IsBeforeWrites}
+use Rattle.fam_commands.specs.Appends.{IsBeforeWrites}
 use Rattle.fam_protocol.specs.Tasks.{IsCommand}
-use Rattle.fam_protocol.proofs.AloneLaws.{alone}
-use Rattle.fam_protocol.proofs.AloneMachine.{came_looks}
-use Rattle.fam_protocol.proofs.AloneReads.{AtCheck, CheckedAt, ComesTo, Finished, IsHeadless, refused_host, headless, stopped, all_read, checked, finished}
-use Rattle.fam_protocol.proofs.AloneReply.{Answers}
-use Rattle.fam_protocol.proofs.AloneSlots.{HasTold}
+use Rattle.fam_solo.proofs.AloneLaws.{alone}
+use Rattle.fam_solo.proofs.AloneMachine.{came_looks, looks_end}
+use Rattle.fam_solo.proofs.AloneReads.{AtCheck, CheckedAt, ComesTo, Finished, IsHeadless, refused_host, headless, stopped, all_read, checked, finished}
+use Rattle.fam_solo.proofs.AloneReply.{Answers}
+use Rattle.fam_solo.proofs.AloneSlots.{HasTold}
 use Rattle.fam_tasks.specs.declared.answer.Answer.{Answer}
 use Rattle.fam_tasks.specs.declared.answer.Answer.TheVariants.{NotYet}
 use Rattle.fam_tasks.specs.declared.answer.Turn.TheVariants.{Done}
@@ -47,7 +48,7 @@ use Rattle.fam_rules.specs.Reports.{is_file}
 use Rattle.fam_tasks.specs.Sound.{IsServed, most_lines}
 use Rattle.fam_tasks.specs.Tells.{Tells, TellsUnless, file_at, meets_file, tells_file}
 use Rattle.fam_run.specs.Files.{IsDue, files_in, meets_a_file, meets_by, meets_in}
-use Rattle.fam_run.specs.Run.{EndsBy, HasEnded, IsPlain, Ran, fault_of}
+use Rattle.fam_run.specs.Run.{EndsBy, HasEnded, HasLeft, IsPlain, Ran, fault_of}
 
 -- Tests of the first numbers.
 
@@ -151,10 +152,10 @@ told_ends (Finds n t) given after tells = absurd (let no : Done given ≡ _ = te
 told_ends (Writes seq e t) given after tells = absurd (let no : Done given ≡ _ = tells.0 in cc)
 told_ends (Ends reply) given after tells = (reply, refl, tells)
 
-module _ (image : Image) (me : List ℕ) (cmd : Cmd) (enough : least_lines ≤ length image) (limit : line_bytes * length image ≤ device_limit) (normal : map eight image ≡ image) (command : IsCommand cmd) (other : cmd ≡ Fsck → ⊥) where
+module _ (image : Image) (me : List ℕ) (cmd : Cmd) (cache : Cache) (enough : least_lines ≤ length image) (limit : line_bytes * length image ≤ device_limit) (normal : map eight image ≡ image) (clean : IsClean cache) (command : IsCommand cmd) (other : cmd ≡ Fsck → ⊥) where
   -- At a file.
 
-  met_at : (place : Place) (t : Task) → CheckedAt cmd me image enough limit normal command other place t → file_at place t ≡ true → meets_a_file image me cmd ≡ true
+  met_at : (place : Place) (t : Task) → CheckedAt cmd me image cache enough limit normal clean command other place t → file_at place t ≡ true → meets_a_file image me cmd ≡ true
   unfolding meets_a_file
   met_at (at.Check i) t c is =
       ap (λ (o : Option Refused). meets_by (line_at image) o (super_in (line_at image) (line_bytes * length image)) (reading_of (line_at image) (line_bytes * length image))) c.known
@@ -162,19 +163,19 @@ module _ (image : Image) (me : List ℕ) (cmd : Cmd) (enough : least_lines ≤ l
       ∙ met_in (line_at image) t.params i (reading_of (line_at image) (line_bytes * length image)) c.comes (ap tells_file (sym c.tells) ∙ is)
   met_at place t c is = absurd (cc)
 
-  pub met : (t : Task) (words : List ℕ) (made : ℕ) (m : Machine) → Came cmd me image t words made m → meets_file t ≡ true → (meets_a_file image me cmd ≡ true) × ((operated (op_of t) m).image ≡ image)
+  pub met : (t : Task) (words : List ℕ) (made : ℕ) (m : Machine) → Came cmd me image cache t words made m → meets_file t ≡ true → (meets_a_file image me cmd ≡ true) × ((operated (op_of t) m).image ≡ image)
   met t words made m came is = (
-    met_at t.place t (checked cmd me image enough limit normal command other t words made m came) is,
-    ap (λ (x : Machine). x.image) (file_leaves t.place t m is) ∙ (came_looks cmd me image normal t words made m came (file_before t.place t is)).image_is,
+    met_at t.place t (checked cmd me image cache enough limit normal clean command other t words made m came) is,
+    ap (λ (x : Machine). x.image) (file_leaves t.place t m is) ∙ (came_looks cmd me image cache normal clean t words made m came (file_before t.place t is)).image_is,
   )
 
   -- Elsewhere.
 
-  module _ (t : Task) (words : List ℕ) (made : ℕ) (m : Machine) (reply : Reply) (came : Came cmd me image t words made m) (plain : IsPlain t) (no_file : meets_file t ≡ false) where
+  module _ (t : Task) (words : List ℕ) (made : ℕ) (m : Machine) (reply : Reply) (came : Came cmd me image cache t words made m) (plain : IsPlain t) (no_file : meets_file t ≡ false) where
     -- the slots up to the bad one at which it stands
     up_to : (i : ℕ) → t.place ≡ at.Check i → HasTold (line_at image) (line_bytes * length image) i t.entries → (p : Params) → super_in (line_at image) (line_bytes * length image) ≡ Ok p → (k : ℕ) → k < i + 1 → tells_file (slot_in (line_at image) p k) ≡ false
     up_to i place told p super k below =
-        let c : AtCheck cmd me image enough limit normal command other i t = subst (λ (x : Place). CheckedAt cmd me image enough limit normal command other x t) place (checked cmd me image enough limit normal command other t words made m came) in
+        let c : AtCheck cmd me image cache enough limit normal clean command other i t = subst (λ (x : Place). CheckedAt cmd me image cache enough limit normal clean command other x t) place (checked cmd me image cache enough limit normal clean command other t words made m came) in
         let here : tells_file (entry_of t.params t.words i) ≡ false = subst (λ (x : Place). file_at x t ≡ false) place no_file in
         let params_ok : Ok t.params ≡ Ok p = sym c.super ∙ super in
         let params : t.params ≡ p = cc in
@@ -199,11 +200,11 @@ module _ (image : Image) (me : List ℕ) (cmd : Cmd) (enough : least_lines ≤ l
         ∙ no_files (line_at image) p (gate_in (line_at image)) (told_plain (line_at image) p (line_bytes * length image) (gate_in (line_at image)) t.entries told super plain))
 
     pub not_met : IsInside (op_of t) m.image → turn_on t m ≡ Ends reply → meets_a_file image me cmd ≡ false
-    not_met inside ends = by_finish (finished cmd me image enough limit normal command other t words made m reply came inside ends)
+    not_met inside ends = by_finish (finished cmd me image cache enough limit normal clean command other t words made m reply came inside ends)
 
   -- What is due.
 
-  module _ (given : Answer) (told : Option Image) (ended : HasEnded cmd me image given told) where
+  module _ (given : Answer) (told : Option Image) (ended : HasEnded cmd me image cache given told) where
     due_by : (file : Bool) → meets_file ended.reached.task ≡ file → TellsUnless file (turn_on ended.reached.task ended.reached.machine) (Done given) ended.after → IsDue (meets_a_file image me cmd) image me cmd given told
     due_by true is not_yet =
         let at_file = met ended.reached.task ended.reached.words ended.reached.made ended.reached.machine ended.reached.came is in
@@ -212,18 +213,31 @@ module _ (image : Image) (me : List ℕ) (cmd : Cmd) (enough : least_lines ≤ l
     due_by false is tells =
         let ends = told_ends (turn_on ended.reached.task ended.reached.machine) given ended.after tells in
         let none : meets_a_file image me cmd ≡ false = not_met ended.reached.task ended.reached.words ended.reached.made ended.reached.machine ends.0 ended.reached.came ended.reached.plain is ended.inside ends.1 in
-        let answers : Answers image me cmd ends.0 (operated (op_of ended.reached.task) ended.reached.machine).image = alone image me cmd ended.reached.task ended.reached.words ended.reached.made ended.reached.machine ends.0 enough limit normal command ended.reached.came ended.inside ends.1 in
+        let answers : Answers image me cmd ends.0 (operated (op_of ended.reached.task) ended.reached.machine).image = (alone image me cmd cache ended.reached.task ended.reached.words ended.reached.made ended.reached.machine ends.0 enough limit normal clean command ended.reached.came ended.inside ends.1).0 in
         rw none (ends.2 ∙ ap Some answers.answer, ended.left ∙ ap Some answers.left_is)
 
     pub due : IsDue (meets_a_file image me cmd) image me cmd given told
     due = due_by (meets_file ended.reached.task) refl ended.reply
 
--- a command ran to its answer, and memory didn't fail
-pub run_due : (image : Image) (me : List ℕ) (cmd : Cmd) (given : Answer) (told : Option Image) → least_lines ≤ length image → length image ≤ most_lines → map eight image ≡ image → IsServed cmd → IsCommand cmd → fault_of given ≡ None → Ran cmd me image given told
+-- the cache has nothing to send then either
+pub left_clean : (image : Image) (me : List ℕ) (cmd : Cmd) (cache : Cache) (given : Answer) (told : Option Image) (held : Cache) → least_lines ≤ length image → length image ≤ most_lines → map eight image ≡ image → IsClean cache → IsCommand cmd → HasLeft cmd me image cache given told held
+    → IsClean held
+left_clean image me cmd cache given told held enough most normal clean command left =
+    subst IsClean (sym left.keeps) (by_file (meets_file left.ended.reached.task) refl left.ended.reply)
+  where
+    by_file : (file : Bool) → meets_file left.ended.reached.task ≡ file → TellsUnless file (turn_on left.ended.reached.task left.ended.reached.machine) (Done given) left.ended.after → IsClean (operated (op_of left.ended.reached.task) left.ended.reached.machine).cache
+    by_file true is tells =
+        (looks_end cmd me image cache normal clean left.ended.reached.task left.ended.reached.words left.ended.reached.made left.ended.reached.machine left.ended.reached.came (file_before left.ended.reached.task.place left.ended.reached.task is)).1
+    by_file false is tells =
+        let ends = told_ends (turn_on left.ended.reached.task left.ended.reached.machine) given left.ended.after tells in
+        (alone image me cmd cache left.ended.reached.task left.ended.reached.words left.ended.reached.made left.ended.reached.machine ends.0 enough (omega (arith, most)) normal clean command left.ended.reached.came left.ended.inside ends.1).1
+
+-- a command ran to its answer, from a cache that had nothing to send, and memory didn't fail
+pub run_due : (image : Image) (me : List ℕ) (cmd : Cmd) (cache : Cache) (given : Answer) (told : Option Image) → least_lines ≤ length image → length image ≤ most_lines → map eight image ≡ image → IsClean cache → IsServed cmd → IsCommand cmd → fault_of given ≡ None → Ran cmd me image cache given told
     → IsDue (meets_a_file image me cmd) image me cmd given told
-run_due image me cmd given told enough most normal served command no_fault ran =
-    due image me cmd enough (omega (arith, most)) normal command (λ fsck. subst IsServed fsck served) given told
-    (subst (λ (o : Option LineNo). EndsBy o cmd me image given told) no_fault ran)
+run_due image me cmd cache given told enough most normal clean served command no_fault ran =
+    due image me cmd cache enough (omega (arith, most)) normal clean command (λ fsck. subst IsServed fsck served) given told
+    (subst (λ (o : Option LineNo). EndsBy o cmd me image cache given told) no_fault ran)
 
 -- Commands.
 

@@ -19,13 +19,13 @@ use Rattle.fam_format.specs.Tree.{join_fault}
 use Rattle.fam_rules.specs.declared.answers.Refused.{Refused}
 use Rattle.fam_rules.specs.Decide.{Wish, wish_of, decide_wish}
 use Rattle.fam_rules.specs.Place.{line_bytes}
-use Rattle.fam_machine.specs.declared.op.Part.{Part}
-use Rattle.fam_machine.specs.declared.op.Part.TheVariants as part
-use Rattle.fam_machine.specs.declared.op.Place.{Place}
-use Rattle.fam_machine.specs.declared.op.Place.TheVariants as at
-use Rattle.fam_machine.specs.Stands.{task_after}
-use Rattle.fam_machine.specs.Task.{Task}
-use Rattle.fam_machine.specs.Turns.{Turn, Goes, Marks, Finds, Writes, Ends, turn_at, magic_turn, super_turn, host_turn, host_refusal, header_turn, gate_turn, finds_or_goes, with_gate, slot_or_decide, check_turn, slot_turn, join_turn, decide_turn, wish_turn, append_turn, line_turn, word_turn, with_word, slot_or_gate}
+use Rattle.fam_commands.specs.declared.place.Part.{Part}
+use Rattle.fam_commands.specs.declared.place.Part.TheVariants as part
+use Rattle.fam_commands.specs.declared.place.Place.{Place}
+use Rattle.fam_commands.specs.declared.place.Place.TheVariants as at
+use Rattle.fam_commands.specs.Stands.{task_after}
+use Rattle.fam_commands.specs.Task.{Task}
+use Rattle.fam_commands.specs.Turns.{Turn, Goes, Marks, Finds, Writes, Ends, turn_at, magic_turn, super_turn, host_turn, host_refusal, header_turn, gate_turn, finds_or_goes, with_gate, slot_or_decide, check_turn, slot_turn, join_turn, decide_turn, wish_turn, append_turn, line_turn, word_turn, with_word, slot_or_gate}
 use Rattle.fam_rules.specs.Reports.{is_file}
 use Rattle.fam_tasks.specs.Sound.{IsServed, IsLine, IsSoundAt}
 use Rattle.fam_tasks.specs.Tells.{file_at, tells_file}

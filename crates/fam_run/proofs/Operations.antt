@@ -1,20 +1,20 @@
 -- What the cache's calls promise is what the machine does.
-use Rattle.std.proofs.Common.{ℕ, ◌≡◌, Bool, false, List, Option, Some, refl, sym, ap, subst, ◌∙◌}
+use Rattle.std.proofs.Common.{ℕ, ◌≡◌, Bool, false, List, Option, Some, refl, sym, ap, subst, ◌∙◌, arith}
 use Rattle.std.specs.Prelude.{slice_index, option_map}
-use Rattle.fam_base.specs.Image.{Image, line_at, with_line}
+use Rattle.fam_base.specs.Image.{Image, line_at}
 use Rattle.fam_base.specs.declared.line.LineNo.{LineNo}
 use Rattle.fam_machine.specs.declared.cell.Cell.{Cell}
 use Rattle.fam_machine.specs.declared.cell.Cell.TheVariants.{Absent, Clean, Dirty}
 use Rattle.fam_machine.specs.declared.op.Op.{Op}
-use Rattle.fam_machine.specs.declared.op.Op.TheVariants.{Load, WriteBack, Invalidate}
-use Rattle.fam_machine.specs.declared.op.Place.{Place}
-use Rattle.fam_machine.specs.declared.op.Place.TheVariants as at
+use Rattle.fam_machine.specs.declared.op.Op.TheVariants.{Load, Store, WriteBack, Invalidate}
+use Rattle.fam_commands.specs.declared.place.Place.{Place}
+use Rattle.fam_commands.specs.declared.place.Place.TheVariants as at
 use Rattle.fam_machine.specs.Caches.{Cache, cell_at, cell_changed}
-use Rattle.fam_machine.specs.OneLine.{brought, current, failed_send, words_of}
-use Rattle.fam_machine.specs.Operations.{Machine, operated, given, failed, not_sent, op_line}
-use Rattle.fam_machine.specs.Task.{Task, op_at, op_of}
-use Rattle.fam_machine.specs.Turns as turns
-use Rattle.fam_machine.specs.Turns.{turn_of}
+use Rattle.fam_machine.specs.OneLine.{IsHeld, brought, current, failed_send, words_of}
+use Rattle.fam_machine.specs.Operations.{Machine, operated, given, failed, not_brought, not_sent, torn_at}
+use Rattle.fam_commands.specs.Task.{Task, op_at, op_of}
+use Rattle.fam_commands.specs.Turns as turns
+use Rattle.fam_commands.specs.Turns.{turn_of}
 use Rattle.fam_machine.proofs.CacheLemmas.{cell_at-with_cell_same}
 use Rattle.fam_cache.specs.Effects.{FailsTo, FromMemory}
 use Rattle.fam_tasks.specs.declared.answer.Turn.{Turn}
@@ -70,21 +70,45 @@ loaded task new m line k value turn told held is from reads same tells =
           (subst (λ (w : Option ℕ). Tells (turn_of task w) turn new) (ap Some word ∙ ap (λ (op : Op). given op m) is) tells);
     }
 
+-- a line that can't be brought is absent, and everything stays
+not_held : (line : LineNo) (m : Machine) (cell : Cell) → (IsHeld cell → ⊥) → not_brought line m cell ≡ Some (record { line = line; left = m })
+not_held line m Absent never = refl
+not_held line m (Clean words) never = absurd (never refl)
+not_held line m (Dirty words) never = absurd (never refl)
+
+bring_failed : (task : Task) (m : Machine) (line : LineNo) (op : Op) (told : Option Image) (held : Cache) → op ≡ op_of task → ((through : ℕ) → failed through op m ≡ not_brought line m (cell_at m.cache line.0)) → (IsHeld (cell_at m.cache line.0) → ⊥) → told ≡ Some m.image → held ≡ m.cache → HasFailed task m line task told held
+bring_failed task m line op told held is brings never same kept = record {
+  through = 0;
+  fits = omega arith;
+  failure = record { line = line; left = m };
+  fails = ap (λ (o : Op). failed 0 o m) (sym is) ∙ brings 0 ∙ not_held line m (cell_at m.cache line.0) never;
+  line = refl;
+  image = same;
+  cache = kept;
+  stays = refl;
+}
+
+pub load_failed : (task : Task) (m : Machine) (line : LineNo) (k : ℕ) (told : Option Image) (held : Cache) → Load line k ≡ op_of task → (IsHeld (cell_at m.cache line.0) → ⊥) → told ≡ Some m.image → held ≡ m.cache → HasFailed task m line task told held
+load_failed task m line k told held is = bring_failed task m line (Load line k) told held is (λ _. refl)
+
+pub store_failed : (task : Task) (m : Machine) (line : LineNo) (k value : ℕ) (told : Option Image) (held : Cache) → Store line k value ≡ op_of task → (IsHeld (cell_at m.cache line.0) → ⊥) → told ≡ Some m.image → held ≡ m.cache → HasFailed task m line task told held
+store_failed task m line k value told held is = bring_failed task m line (Store line k value) told held is (λ _. refl)
+
 -- a send that fails
-send_failed : (task : Task) (m : Machine) (line : LineNo) (op : Op) (told : Option Image) (held : Cache) → op ≡ op_of task → op_line op ≡ Some line → ((through : ℕ) → failed through op m ≡ not_sent through line.0 m) → FailsTo line.0 (λ through memory. failed_send through memory (cell_at m.cache line.0)) m.image told → held ≡ m.cache → HasFailed task m line task told held
-send_failed task m line op told held is at sends fails same = record {
-  line = ap op_line (sym is) ∙ at;
+send_failed : (task : Task) (m : Machine) (line : LineNo) (op : Op) (told : Option Image) (held : Cache) → op ≡ op_of task → ((through : ℕ) → failed through op m ≡ not_sent through line m) → FailsTo line.0 (λ through memory. failed_send through memory (cell_at m.cache line.0)) m.image told → held ≡ m.cache → HasFailed task m line task told held
+send_failed task m line op told held is sends fails same = record {
   through = fails.through;
   fits = fails.fits;
-  left = with_line line.0 fails.words m.image;
-  fails = ap (λ (o : Op). failed fails.through o m) (sym is) ∙ sends fails.through ∙ ap (option_map (λ (words : List ℕ). with_line line.0 words m.image)) fails.left;
+  failure = torn_at line m fails.words;
+  fails = ap (λ (o : Op). failed fails.through o m) (sym is) ∙ sends fails.through ∙ ap (option_map (torn_at line m)) fails.left;
+  line = refl;
   image = fails.written;
   cache = same;
   stays = refl;
 }
 
 pub write_back_failed : (task : Task) (m : Machine) (line : LineNo) (told : Option Image) (held : Cache) → WriteBack line ≡ op_of task → FailsTo line.0 (λ through memory. failed_send through memory (cell_at m.cache line.0)) m.image told → held ≡ m.cache → HasFailed task m line task told held
-write_back_failed task m line told held is = send_failed task m line (WriteBack line) told held is refl (λ _. refl)
+write_back_failed task m line told held is = send_failed task m line (WriteBack line) told held is (λ _. refl)
 
 pub invalidate_failed : (task : Task) (m : Machine) (line : LineNo) (told : Option Image) (held : Cache) → Invalidate line ≡ op_of task → FailsTo line.0 (λ through memory. failed_send through memory (cell_at m.cache line.0)) m.image told → held ≡ m.cache → HasFailed task m line task told held
-invalidate_failed task m line told held is = send_failed task m line (Invalidate line) told held is refl (λ _. refl)
+invalidate_failed task m line told held is = send_failed task m line (Invalidate line) told held is (λ _. refl)

@@ -1,7 +1,6 @@
 -- A command that runs alone, by one operation.
 use Rattle.std.proofs.Common.{ℕ, ◌≡◌, ◌+◌, Bool, true, false, List, [], length, Option, Some, None, refl, sym, ap, subst, ◌∙◌, arith}
 use Rattle.std.specs.Prelude.{unwrap_or}
-use Rattle.std.specs.FinMap as map
 use Rattle.std.proofs.lemmas.List.Elements.{All-nil}
 use Rattle.std.proofs.lemmas.Option.{same_Some}
 use Rattle.fam_base.specs.Image.{Image}
@@ -13,12 +12,12 @@ use Rattle.fam_rules.specs.Reply.{Reply}
 use Rattle.fam_machine.specs.declared.op.Op.{Op}
 use Rattle.fam_machine.specs.declared.op.Op.TheVariants.{Load, Store, WriteBack, Invalidate, Digest}
 use Rattle.fam_machine.specs.Caches.{Cache}
-use Rattle.fam_machine.specs.Operations.{Machine, given, operated}
-use Rattle.fam_machine.specs.Solo.{Came, starts, goes, IsInside, turn_on}
-use Rattle.fam_machine.specs.Stands.{given_by, task_after, with_given}
-use Rattle.fam_machine.specs.Task.{Task, op_of, starting}
-use Rattle.fam_machine.specs.Turns as turns
-use Rattle.fam_machine.specs.Turns.{Goes, Marks, Finds, Writes, Ends, turn_of}
+use Rattle.fam_machine.specs.Operations.{Machine, given, operated, IsInside, given_by}
+use Rattle.fam_commands.specs.Solo.{Came, starts, goes, turn_on}
+use Rattle.fam_commands.specs.Stands.{task_after, with_given}
+use Rattle.fam_commands.specs.Task.{Task, op_of, starting}
+use Rattle.fam_commands.specs.Turns as turns
+use Rattle.fam_commands.specs.Turns.{Goes, Marks, Finds, Writes, Ends, turn_of}
 use Rattle.fam_media.specs.Outside.{IfTold}
 use Rattle.fam_tasks.specs.declared.answer.Answer.{Answer}
 use Rattle.fam_tasks.specs.declared.answer.Answer.TheVariants as answer
@@ -32,7 +31,7 @@ use Rattle.fam_run.specs.Operation.{Did, HasTurned, HasFailed, IsNoFault, IsOfMe
 use Rattle.fam_run.specs.declared.reading.Reading.{Reading}
 use Rattle.fam_run.specs.declared.reading.Reading.TheVariants as reading
 use Rattle.fam_run.specs.Reading.{Around, HasOperated, OnOutcome}
-use Rattle.fam_run.specs.Run.{HasEnded, HasStopped, IsPlain, Ran, Reached, Running, fault_of}
+use Rattle.fam_run.specs.Run.{HasEnded, HasLeft, HasStopped, IsPlain, Ran, Reached, Running, fault_of}
 use Rattle.fam_run.proofs.Left.{Kept, kept, left}
 
 -- The task goes on.
@@ -81,9 +80,9 @@ inside_by Digest lines image count within = tt
 machine_of : Image → Cache → Machine
 machine_of image cache = record { image = image; cache = cache }
 
-pub running_on : (cmd : Cmd) (me : List ℕ) (image : Image) (task new : Task) (held after : Cache) (told now : Option Image) (outcome : Outcome) → ended outcome ≡ None → IsSound task → OnTurn task after outcome new → IsWithin task.lines (op_of task) → IfTold told (λ (i : Image). length i ≡ task.lines) → IfTold told (λ (i : Image). Did task (record { image = i; cache = held }) outcome new now after) → Running cmd me image task held told → Running cmd me image new after now
-running_on cmd me image task new held after told now (Failed line) on sound went within count did run = absurd cc
-running_on cmd me image task new held after told now (Turned turn) on sound went within count did run =
+pub running_on : (cmd : Cmd) (me : List ℕ) (image : Image) (cache : Cache) (task new : Task) (held after : Cache) (told now : Option Image) (outcome : Outcome) → ended outcome ≡ None → IsSound task → OnTurn task after outcome new → IsWithin task.lines (op_of task) → IfTold told (λ (i : Image). length i ≡ task.lines) → IfTold told (λ (i : Image). Did task (record { image = i; cache = held }) outcome new now after) → Running cmd me image cache task held told → Running cmd me image cache new after now
+running_on cmd me image cache task new held after told now (Failed line) on sound went within count did run = absurd cc
+running_on cmd me image cache task new held after told now (Turned turn) on sound went within count did run =
     let m : Machine = record { image = run.now; cache = held } in
     let done : HasTurned task m turn new now after = did run.now run.told_is in
     let so : GoesOn (meets_file task) (turn_on task m) new = goes_on (meets_file task) (turn_on task m) turn new on done.tells in
@@ -92,14 +91,14 @@ running_on cmd me image task new held after told now (Turned turn) on sound went
       words = with_given run.words (given (op_of task) m);
       made = run.made + 1;
       now = (operated (op_of task) m).image;
-      came = subst (λ (c : Cache). Came cmd me image new (with_given run.words (given (op_of task) m)) (run.made + 1) (record { image = (operated (op_of task) m).image; cache = c })) (sym done.cache)
+      came = subst (λ (c : Cache). Came cmd me image cache new (with_given run.words (given (op_of task) m)) (run.made + 1) (record { image = (operated (op_of task) m).image; cache = c })) (sym done.cache)
           (goes run.came inside so.next);
       plain = (kept_on after task new (Turned turn) on sound went).plain run.plain;
       told_is = done.image;
     }
 
-abbrev reached : (cmd : Cmd) (me : List ℕ) (image : Image) (task : Task) (held : Cache) (told : Option Image) → Running cmd me image task held told → Reached cmd me image
-reached cmd me image task held told run = record { task = task; words = run.words; made = run.made; machine = record { image = run.now; cache = held }; came = run.came; plain = run.plain }
+abbrev reached : (cmd : Cmd) (me : List ℕ) (image : Image) (cache : Cache) (task : Task) (held : Cache) (told : Option Image) → Running cmd me image cache task held told → Reached cmd me image cache
+reached cmd me image cache task held told run = record { task = task; words = run.words; made = run.made; machine = record { image = run.now; cache = held }; came = run.came; plain = run.plain }
 
 -- The command ends.
 
@@ -118,50 +117,66 @@ no_fault (answer.LogFull slots) own = refl
 no_fault (answer.MediaFault line) own = absurd (own line refl)
 no_fault answer.NotYet own = refl
 
-done_ran : (cmd : Cmd) (me : List ℕ) (image : Image) (task new : Task) (held after : Cache) (told now : Option Image) (given : Answer) → IsNoFault (Turned (Done given)) → IsWithin task.lines (op_of task) → IfTold told (λ (i : Image). length i ≡ task.lines) → IfTold told (λ (i : Image). HasTurned task (record { image = i; cache = held }) (Done given) new now after) → Running cmd me image task held told → Ran cmd me image given now
-done_ran cmd me image task new held after told now given own within count did run =
+done_left : (cmd : Cmd) (me : List ℕ) (image : Image) (cache : Cache) (task new : Task) (held after : Cache) (told now : Option Image) (given : Answer) → IsWithin task.lines (op_of task) → IfTold told (λ (i : Image). length i ≡ task.lines) → IfTold told (λ (i : Image). HasTurned task (record { image = i; cache = held }) (Done given) new now after) → Running cmd me image cache task held told → HasLeft cmd me image cache given now after
+done_left cmd me image cache task new held after told now given within count did run =
     let done : HasTurned task (record { image = run.now; cache = held }) (Done given) new now after = did run.now run.told_is in
-    let ends : HasEnded cmd me image given now = record {
-      reached = reached cmd me image task held told run;
-      inside = inside_by (op_of task) task.lines run.now (count run.now run.told_is) within;
-      left = done.image;
-      after = new;
-      reply = done.tells;
-    } in
+    record {
+      ended = record {
+        reached = reached cmd me image cache task held told run;
+        inside = inside_by (op_of task) task.lines run.now (count run.now run.told_is) within;
+        left = done.image;
+        after = new;
+        reply = done.tells;
+      };
+      keeps = done.cache;
+    }
+
+done_ran : (cmd : Cmd) (me : List ℕ) (image : Image) (cache : Cache) (task new : Task) (held after : Cache) (told now : Option Image) (given : Answer) → IsNoFault (Turned (Done given)) → IsWithin task.lines (op_of task) → IfTold told (λ (i : Image). length i ≡ task.lines) → IfTold told (λ (i : Image). HasTurned task (record { image = i; cache = held }) (Done given) new now after) → Running cmd me image cache task held told → Ran cmd me image cache given now
+done_ran cmd me image cache task new held after told now given own within count did run =
+    let ends : HasEnded cmd me image cache given now = (done_left cmd me image cache task new held after told now given within count did run).ended in
     rw (no_fault given own) ends
 
-failed_ran : (cmd : Cmd) (me : List ℕ) (image : Image) (task new : Task) (held after : Cache) (told now : Option Image) (line : LineNo) → IfTold told (λ (i : Image). HasFailed task (record { image = i; cache = held }) line new now after) → Running cmd me image task held told → Ran cmd me image (answer.MediaFault line) now
-failed_ran cmd me image task new held after told now line did run =
+failed_ran : (cmd : Cmd) (me : List ℕ) (image : Image) (cache : Cache) (task new : Task) (held after : Cache) (told now : Option Image) (line : LineNo) → IfTold told (λ (i : Image). HasFailed task (record { image = i; cache = held }) line new now after) → Running cmd me image cache task held told → Ran cmd me image cache (answer.MediaFault line) now
+failed_ran cmd me image cache task new held after told now line did run =
     let broke : HasFailed task (record { image = run.now; cache = held }) line new now after = did run.now run.told_is in
     record {
-      reached = reached cmd me image task held told run;
-      line = broke.line;
+      reached = reached cmd me image cache task held told run;
       through = broke.through;
       fits = broke.fits;
-      broken = broke.left;
+      failure = broke.failure;
       fails = broke.fails;
+      line = broke.line;
       left = broke.image;
     }
 
-pub answered : (cmd : Cmd) (me : List ℕ) (image : Image) (task new : Task) (held after : Cache) (told now : Option Image) (outcome : Outcome) (given : Answer) → ended outcome ≡ Some given → IsNoFault outcome → IsWithin task.lines (op_of task) → IfTold told (λ (i : Image). length i ≡ task.lines) → IfTold told (λ (i : Image). Did task (record { image = i; cache = held }) outcome new now after) → Running cmd me image task held told → Ran cmd me image given now
-answered cmd me image task new held after told now (Turned Go) given ends own within count did run = absurd cc
-answered cmd me image task new held after told now (Turned (Note note)) given ends own within count did run = absurd cc
-answered cmd me image task new held after told now (Turned (Done a)) given ends own within count did run =
-    subst (λ (x : Answer). Ran cmd me image x now) (same_Some a given ends) (done_ran cmd me image task new held after told now a own within count did run)
-answered cmd me image task new held after told now (Failed line) given ends own within count did run =
-    subst (λ (x : Answer). Ran cmd me image x now) (same_Some (answer.MediaFault line) given ends) (failed_ran cmd me image task new held after told now line did run)
+pub answered : (cmd : Cmd) (me : List ℕ) (image : Image) (cache : Cache) (task new : Task) (held after : Cache) (told now : Option Image) (outcome : Outcome) (given : Answer) → ended outcome ≡ Some given → IsNoFault outcome → IsWithin task.lines (op_of task) → IfTold told (λ (i : Image). length i ≡ task.lines) → IfTold told (λ (i : Image). Did task (record { image = i; cache = held }) outcome new now after) → Running cmd me image cache task held told → Ran cmd me image cache given now
+answered cmd me image cache task new held after told now (Turned Go) given ends own within count did run = absurd cc
+answered cmd me image cache task new held after told now (Turned (Note note)) given ends own within count did run = absurd cc
+answered cmd me image cache task new held after told now (Turned (Done a)) given ends own within count did run =
+    subst (λ (x : Answer). Ran cmd me image cache x now) (same_Some a given ends) (done_ran cmd me image cache task new held after told now a own within count did run)
+answered cmd me image cache task new held after told now (Failed line) given ends own within count did run =
+    subst (λ (x : Answer). Ran cmd me image cache x now) (same_Some (answer.MediaFault line) given ends) (failed_ran cmd me image cache task new held after told now line did run)
 
-pub stopped : (cmd : Cmd) (me : List ℕ) (image : Image) (task : Task) (held : Cache) (told now : Option Image) → now ≡ told → Running cmd me image task held told → HasStopped cmd me image now
-stopped cmd me image task held told now same run = record { reached = reached cmd me image task held told run; left = same ∙ run.told_is }
+-- without a fault, with what is left of the cache
+pub left_behind : (cmd : Cmd) (me : List ℕ) (image : Image) (cache : Cache) (task new : Task) (held after : Cache) (told now : Option Image) (outcome : Outcome) (given : Answer) → ended outcome ≡ Some given → fault_of given ≡ None → IsWithin task.lines (op_of task) → IfTold told (λ (i : Image). length i ≡ task.lines) → IfTold told (λ (i : Image). Did task (record { image = i; cache = held }) outcome new now after) → Running cmd me image cache task held told → HasLeft cmd me image cache given now after
+left_behind cmd me image cache task new held after told now (Turned Go) given ends none within count did run = absurd cc
+left_behind cmd me image cache task new held after told now (Turned (Note note)) given ends none within count did run = absurd cc
+left_behind cmd me image cache task new held after told now (Turned (Done a)) given ends none within count did run =
+    subst (λ (x : Answer). HasLeft cmd me image cache x now after) (same_Some a given ends) (done_left cmd me image cache task new held after told now a within count did run)
+left_behind cmd me image cache task new held after told now (Failed line) given ends none within count did run =
+    absurd (let fault : fault_of given ≡ Some line = sym (ap fault_of (same_Some (answer.MediaFault line) given ends)) in cc)
+
+pub stopped : (cmd : Cmd) (me : List ℕ) (image : Image) (cache : Cache) (task : Task) (held : Cache) (told now : Option Image) → now ≡ told → Running cmd me image cache task held told → HasStopped cmd me image cache now
+stopped cmd me image cache task held told now same run = record { reached = reached cmd me image cache task held told run; left = same ∙ run.told_is }
 
 -- the command has not begun
-pub not_begun : (cmd : Cmd) (me : List ℕ) (image : Image) (task : Task) (lines : ℕ) (held : Cache) (told : Option Image) → task ≡ starting cmd me lines → length image ≡ lines → held ≡ map.empty → told ≡ Some image → Running cmd me image task held told
-not_begun cmd me image task lines held told start count empty is = record {
+pub not_begun : (cmd : Cmd) (me : List ℕ) (image : Image) (cache : Cache) (task : Task) (lines : ℕ) (held : Cache) (told : Option Image) → task ≡ starting cmd me lines → length image ≡ lines → held ≡ cache → told ≡ Some image → Running cmd me image cache task held told
+not_begun cmd me image cache task lines held told start count same is = record {
   words = [];
   made = 0;
   now = image;
-  came = subst (λ (t : Task). Came cmd me image t [] 0 (record { image = image; cache = held })) (ap (starting cmd me) count ∙ sym start)
-      (subst (λ (c : Cache). Came cmd me image (starting cmd me (length image)) [] 0 (record { image = image; cache = c })) (sym empty) starts);
+  came = subst (λ (t : Task). Came cmd me image cache t [] 0 (record { image = image; cache = held })) (ap (starting cmd me) count ∙ sym start)
+      (subst (λ (c : Cache). Came cmd me image cache (starting cmd me (length image)) [] 0 (record { image = image; cache = c })) (sym same) starts);
   plain = subst IsPlain (sym start) (All-nil (λ (e : Entry). e.kind ≡ Directory));
   told_is = is;
 }

@@ -8,10 +8,9 @@ use Rattle.fam_machine.specs.declared.op.Op.{Op}
 use Rattle.fam_machine.specs.declared.op.Op.TheVariants.{Load, Store, WriteBack, Invalidate, Digest}
 use Rattle.fam_machine.specs.Caches.{Cache, cell_at, cell_changed, with_cell}
 use Rattle.fam_machine.specs.OneLine.{brought, cleaned, stored, words_of}
-use Rattle.fam_machine.specs.Operations.{Machine, operated, given, failed, op_line}
-use Rattle.fam_machine.specs.Stands.{given_by}
-use Rattle.fam_machine.specs.Task.{Task, op_of}
-use Rattle.fam_machine.specs.Turns.{turn_of}
+use Rattle.fam_machine.specs.Operations.{Failure, Machine, operated, given, failed, given_by}
+use Rattle.fam_commands.specs.Task.{Task, op_of}
+use Rattle.fam_commands.specs.Turns.{turn_of}
 use Rattle.fam_media.specs.Causes.{Rose}
 use Rattle.fam_media.specs.Outside.{masks}
 use Rattle.fam_tasks.specs.declared.answer.Answer.{Answer}
@@ -28,15 +27,16 @@ pub record HasTurned (task : Task) (m : Machine) (turn : Turn) (new : Task) (tol
   pub cache : held ≡ (operated (op_of task) m).cache
   pub tells : TellsUnless (meets_file task) (turn_of task (given (op_of task) m)) turn new
 
--- memory failed in the operation, at its line, and some words of a send came through. Task and cache are as before
+-- memory failed in the operation, at this line, and some words of a send came through: memory and cache are what
+-- that leaves. The task is as before
 pub record HasFailed (task : Task) (m : Machine) (at : LineNo) (new : Task) (told : Option Image) (held : Cache) : Type 0 where
-  pub line : op_line (op_of task) ≡ Some at
   pub through : ℕ
   pub fits : through < masks
-  pub left : Image
-  pub fails : failed through (op_of task) m ≡ Some left
-  pub image : told ≡ Some left
-  pub cache : held ≡ m.cache
+  pub failure : Failure
+  pub fails : failed through (op_of task) m ≡ Some failure
+  pub line : failure.line ≡ at
+  pub image : told ≡ Some failure.left.image
+  pub cache : held ≡ failure.left.cache
   pub stays : new ≡ task
 
 -- the operation, done or failed
@@ -71,10 +71,18 @@ LeavesCache (WriteBack line) told old new = new ≡ cell_changed line.0 cleaned 
 LeavesCache (Invalidate line) told old new = new ≡ with_cell line.0 Absent old
 LeavesCache Digest told old new = new ≡ old
 
--- after a failure the cache is as before
+-- what is left of the cache where memory failed in an operation: each asks for one line, and leaves the copies as before
+abbrev pub FailsCache : Op → Cache → Cache → Type 0
+FailsCache (Load line k) old new = new ≡ old
+FailsCache (Store line k value) old new = new ≡ old
+FailsCache (WriteBack line) old new = new ≡ old
+FailsCache (Invalidate line) old new = new ≡ old
+FailsCache Digest old new = ⊥
+
+-- what is left of the cache, by the outcome
 abbrev pub OnCache : Outcome → Op → Option Image → Cache → Cache → Type 0
 OnCache (Turned turn) op told old new = LeavesCache op told old new
-OnCache (Failed line) op told old new = new ≡ old
+OnCache (Failed line) op told old new = FailsCache op old new
 
 -- no task answers that memory failed
 abbrev pub IsNoFault : Outcome → Type 0

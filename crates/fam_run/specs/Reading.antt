@@ -2,7 +2,7 @@
 use Rattle.std.specs.Prelude.{ℕ, ◌≡◌, ⊤, Option}
 use Rattle.fam_base.specs.Image.{Image}
 use Rattle.fam_machine.specs.Caches.{Cache}
-use Rattle.fam_machine.specs.Task.{Task}
+use Rattle.fam_commands.specs.Task.{Task}
 use Rattle.fam_media.specs.Outside.{IfTold}
 use Rattle.fam_tasks.specs.declared.answer.Answer.{Answer}
 use Rattle.fam_tasks.specs.declared.answer.Turn.TheVariants.{Go}

@@ -1,4 +1,4 @@
--- What a command that runs alone, on an empty cache, has done when it ends.
+-- What a command that runs alone, from a host's cache, has done when it ends.
 use Rattle.std.specs.Prelude.{ℕ, ◌≡◌, ◌<◌, List, All, Option, Some, None}
 use Rattle.fam_base.specs.Image.{Image}
 use Rattle.fam_base.specs.declared.line.LineNo.{LineNo}
@@ -6,9 +6,9 @@ use Rattle.fam_base.specs.declared.cmd.Cmd.{Cmd}
 use Rattle.fam_base.specs.declared.entry.Entry.{Entry}
 use Rattle.fam_base.specs.declared.entry.Kind.TheVariants.{Directory}
 use Rattle.fam_machine.specs.Caches.{Cache}
-use Rattle.fam_machine.specs.Operations.{Machine, operated, failed, op_line}
-use Rattle.fam_machine.specs.Solo.{Came, IsInside, turn_on}
-use Rattle.fam_machine.specs.Task.{Task, op_of}
+use Rattle.fam_machine.specs.Operations.{Failure, Machine, operated, failed, IsInside}
+use Rattle.fam_commands.specs.Solo.{Came, turn_on}
+use Rattle.fam_commands.specs.Task.{Task, op_of}
 use Rattle.fam_media.specs.Outside.{masks}
 use Rattle.fam_tasks.specs.declared.answer.Answer.{Answer}
 use Rattle.fam_tasks.specs.declared.answer.Answer.TheVariants as answer
@@ -35,53 +35,58 @@ fault_of (answer.LogFull slots) = None
 fault_of (answer.MediaFault line) = Some line
 fault_of answer.NotYet = None
 
--- how far the command came from this image: its task stands before an operation, on this machine
-pub record Reached (cmd : Cmd) (me : List ℕ) (image : Image) : Type 0 where
+-- how far the command came from this image and cache: its task stands before an operation, on this machine
+pub record Reached (cmd : Cmd) (me : List ℕ) (image : Image) (cache : Cache) : Type 0 where
   pub task : Task
   pub words : List ℕ
   pub made : ℕ
   pub machine : Machine
-  pub came : Came cmd me image task words made machine
+  pub came : Came cmd me image cache task words made machine
   pub plain : IsPlain task
 
 -- the command stands there still, with this task, this cache and this memory
-pub record Running (cmd : Cmd) (me : List ℕ) (image : Image) (task : Task) (held : Cache) (told : Option Image) : Type 0 where
+pub record Running (cmd : Cmd) (me : List ℕ) (image : Image) (cache : Cache) (task : Task) (held : Cache) (told : Option Image) : Type 0 where
   pub words : List ℕ
   pub made : ℕ
   pub now : Image
-  pub came : Came cmd me image task words made (record { image = now; cache = held })
+  pub came : Came cmd me image cache task words made (record { image = now; cache = held })
   pub plain : IsPlain task
   pub told_is : told ≡ Some now
 
 -- one more operation was done, and with it the task answers: as the definition's turn, or where the slot that it
 -- looks at is a file's, that it can't read it yet
-pub record HasEnded (cmd : Cmd) (me : List ℕ) (image : Image) (given : Answer) (told : Option Image) : Type 0 where
-  pub reached : Reached cmd me image
+pub record HasEnded (cmd : Cmd) (me : List ℕ) (image : Image) (cache : Cache) (given : Answer) (told : Option Image) : Type 0 where
+  pub reached : Reached cmd me image cache
   pub inside : IsInside (op_of reached.task) reached.machine.image
   pub left : told ≡ Some (operated (op_of reached.task) reached.machine).image
   pub after : Task
   pub reply : TellsUnless (meets_file reached.task) (turn_on reached.task reached.machine) (Done given) after
 
--- memory failed in the operation that came next, at its line, and some words of a send came through
-pub record HasBroken (cmd : Cmd) (me : List ℕ) (image : Image) (at : LineNo) (told : Option Image) : Type 0 where
-  pub reached : Reached cmd me image
-  pub line : op_line (op_of reached.task) ≡ Some at
+-- the same, with what is left of the cache
+pub record HasLeft (cmd : Cmd) (me : List ℕ) (image : Image) (cache : Cache) (given : Answer) (told : Option Image) (held : Cache) : Type 0 where
+  pub ended : HasEnded cmd me image cache given told
+  pub keeps : held ≡ (operated (op_of ended.reached.task) ended.reached.machine).cache
+
+-- memory failed in the operation that came next, at this line, and some words of a send came through
+pub record HasBroken (cmd : Cmd) (me : List ℕ) (image : Image) (cache : Cache) (at : LineNo) (told : Option Image) : Type 0 where
+  pub reached : Reached cmd me image cache
   pub through : ℕ
   pub fits : through < masks
-  pub broken : Image
-  pub fails : failed through (op_of reached.task) reached.machine ≡ Some broken
-  pub left : told ≡ Some broken
+  pub failure : Failure
+  pub fails : failed through (op_of reached.task) reached.machine ≡ Some failure
+  pub line : failure.line ≡ at
+  pub left : told ≡ Some failure.left.image
 
 -- no memory was left for the operation that came next
-pub record HasStopped (cmd : Cmd) (me : List ℕ) (image : Image) (told : Option Image) : Type 0 where
-  pub reached : Reached cmd me image
+pub record HasStopped (cmd : Cmd) (me : List ℕ) (image : Image) (cache : Cache) (told : Option Image) : Type 0 where
+  pub reached : Reached cmd me image cache
   pub left : told ≡ Some reached.machine.image
 
 -- by whether the answer is that memory failed
-abbrev pub EndsBy : Option LineNo → Cmd → List ℕ → Image → Answer → Option Image → Type 0
-EndsBy None cmd me image given told = HasEnded cmd me image given told
-EndsBy (Some line) cmd me image given told = HasBroken cmd me image line told
+abbrev pub EndsBy : Option LineNo → Cmd → List ℕ → Image → Cache → Answer → Option Image → Type 0
+EndsBy None cmd me image cache given told = HasEnded cmd me image cache given told
+EndsBy (Some line) cmd me image cache given told = HasBroken cmd me image cache line told
 
--- the command's run, from an image to what is left of it
-abbrev pub Ran : Cmd → List ℕ → Image → Answer → Option Image → Type 0
-Ran cmd me image given told = EndsBy (fault_of given) cmd me image given told
+-- the command's run, from an image and a cache to what is left of the image
+abbrev pub Ran : Cmd → List ℕ → Image → Cache → Answer → Option Image → Type 0
+Ran cmd me image cache given told = EndsBy (fault_of given) cmd me image cache given told

@@ -2,7 +2,7 @@
 
 ghost use Rattle.std.specs.Prelude.{◌≡◌, ◌≤◌, IfOk, OnErr};
 ghost use Rattle.fam_machine.specs.Operations.{Machine};
-ghost use Rattle.fam_machine.specs.Task.{op_of};
+ghost use Rattle.fam_commands.specs.Task.{op_of};
 ghost use Rattle.fam_media.specs.Outside.{IfTold};
 ghost use Rattle.fam_run.specs.Operation.{Did, IsOfMemory, OnFault, OnTurn};
 ghost use Rattle.fam_run.specs.Reading.{OnOutcome};

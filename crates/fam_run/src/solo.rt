@@ -1,6 +1,7 @@
 //! A command that runs alone: one host, whose cache is empty at first.
 
 ghost use Rattle.std.specs.Prelude.{◌≡◌, ◌<◌, ◌≤◌, ℕ, List, None, IfOk, IfSome, OnErr, OnSome};
+ghost use Rattle.std.specs.FinMap as map;
 ghost use Rattle.fam_base.specs.Image.{Image};
 ghost use Rattle.fam_base.specs.declared.cmd.Cmd.{Cmd};
 ghost use Rattle.fam_format.specs.Layout.{least_lines};
@@ -13,8 +14,9 @@ ghost use Rattle.fam_tasks.specs.Sound.{IsServed, IsWithin};
 ghost use Rattle.fam_run.specs.Files.{IsDue, meets_a_file};
 ghost use Rattle.fam_run.specs.Operation.{ended};
 ghost use Rattle.fam_run.specs.Reading.{HasOperated};
-ghost use Rattle.fam_machine.specs.Task.{op_of};
-ghost use Rattle.fam_run.specs.Run.{HasStopped, Ran, Running, fault_of};
+ghost use Rattle.fam_machine.specs.Caches.{Cache};
+ghost use Rattle.fam_commands.specs.Task.{op_of};
+ghost use Rattle.fam_run.specs.Run.{HasLeft, HasStopped, Ran, Running, fault_of};
 
 use crate::operation::{Outcome, operate};
 use crate::reading::{Reading, read_next};
@@ -78,13 +80,16 @@ fn finish<M: Media>(
 ) -> Result<Answer, OutOfMemory>
     requires lines { task.old.lines ≡ M.size media.old }
 
-    // From wherever the command has come to on an image.
-    ensures ran { IfOk result (λ answer. (cmd : Cmd) (me : List ℕ) (image : Image) →
-        Running cmd me image task.old cache.old.lines (M.image media.old) →
-        Ran cmd me image answer (M.image media.new)) }
-    ensures stopped { OnErr result ((cmd : Cmd) (me : List ℕ) (image : Image) →
-        Running cmd me image task.old cache.old.lines (M.image media.old) →
-        HasStopped cmd me image (M.image media.new)) }
+    // From wherever the command has come to on an image, whatever cache it began with.
+    ensures ran { IfOk result (λ answer. (cmd : Cmd) (me : List ℕ) (image : Image) (from : Cache) →
+        Running cmd me image from task.old cache.old.lines (M.image media.old) →
+        Ran cmd me image from answer (M.image media.new)) }
+    ensures left { IfOk result (λ answer. fault_of answer ≡ None → (cmd : Cmd) (me : List ℕ) (image : Image) (from : Cache) →
+        Running cmd me image from task.old cache.old.lines (M.image media.old) →
+        HasLeft cmd me image from answer (M.image media.new) cache.new.lines) }
+    ensures stopped { OnErr result ((cmd : Cmd) (me : List ℕ) (image : Image) (from : Cache) →
+        Running cmd me image from task.old cache.old.lines (M.image media.old) →
+        HasStopped cmd me image from (M.image media.new)) }
     ensures failed { IfOk result (λ answer.
         OnSome (fault_of answer) (Rose (M.faults media.old) (M.faults media.new))) }
     ensures line { IfOk result (λ answer. IfSome (fault_of answer) (λ line. line.0 < M.size media.old)) }
@@ -137,9 +142,9 @@ pub fn run<M: Media>(
     // Where an image is told, the command's operations were done on it, one after another, up to the answer or the
     // fault.
     ensures ran { IfOk result (λ answer. IfTold (M.image media.old)
-        (λ image. Ran cmd me image answer (M.image media.new))) }
+        (λ image. Ran cmd me image map.empty answer (M.image media.new))) }
     ensures stopped { OnErr result (IfTold (M.image media.old)
-        (λ image. HasStopped cmd me image (M.image media.new))) }
+        (λ image. HasStopped cmd me image map.empty (M.image media.new))) }
     // Without a fault the answer, and what is left, are those of the rules, or NotYet where the command meets a file.
     ensures due { IfOk result (λ answer. fault_of answer ≡ None → IfTold (M.image media.old)
         (λ image. IsDue (meets_a_file image me cmd) image me cmd answer (M.image media.new))) }

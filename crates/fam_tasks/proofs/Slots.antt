@@ -7,11 +7,11 @@ use Rattle.fam_base.specs.declared.entry.Kind.TheVariants.{Directory}
 use Rattle.fam_format.specs.declared.faults.Reason.{Reason}
 use Rattle.fam_format.specs.Slot.{entry_of}
 use Rattle.fam_format.specs.Tree.{replay, tree_fault}
-use Rattle.fam_machine.specs.declared.op.Place.{Place}
-use Rattle.fam_machine.specs.declared.op.Place.TheVariants as at
-use Rattle.fam_machine.specs.Task.{Task}
-use Rattle.fam_machine.specs.Turns as turns
-use Rattle.fam_machine.specs.Turns.{turn_at, turn_of, check_turn, slot_turn, join_turn}
+use Rattle.fam_commands.specs.declared.place.Place.{Place}
+use Rattle.fam_commands.specs.declared.place.Place.TheVariants as at
+use Rattle.fam_commands.specs.Task.{Task}
+use Rattle.fam_commands.specs.Turns as turns
+use Rattle.fam_commands.specs.Turns.{turn_at, turn_of, check_turn, slot_turn, join_turn}
 use Rattle.fam_tasks.specs.declared.answer.Turn.{Turn}
 use Rattle.fam_tasks.specs.Sound.{IsServed}
 use Rattle.fam_tasks.specs.Tells.{Tells, TellsUnless, meets_file, file_at, tells_file}

@@ -1,6 +1,6 @@
 -- What a contract sees of a task.
 use Rattle.fam_rules.specs.Reports.{no_survey}
-use Rattle.fam_machine.specs.Task.{Task}
+use Rattle.fam_commands.specs.Task.{Task}
 use Rattle.fam_tasks.specs.declared.task.Task.TheInside.{Inside}
 
 -- its command, host, place and what it read. It surveys nothing

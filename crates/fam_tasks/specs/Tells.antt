@@ -7,12 +7,12 @@ use Rattle.fam_rules.specs.Reply.{Reply}
 use Rattle.fam_rules.specs.Reports.{is_file}
 use Rattle.fam_machine.specs.declared.op.Op.{Op}
 use Rattle.fam_machine.specs.declared.op.Op.TheVariants.{Load, Store, WriteBack, Invalidate, Digest}
-use Rattle.fam_machine.specs.declared.op.Part.{Part}
-use Rattle.fam_machine.specs.declared.op.Part.TheVariants as part
-use Rattle.fam_machine.specs.declared.op.Place.{Place}
-use Rattle.fam_machine.specs.declared.op.Place.TheVariants as at
-use Rattle.fam_machine.specs.Task.{Task}
-use Rattle.fam_machine.specs.Turns as turns
+use Rattle.fam_commands.specs.declared.place.Part.{Part}
+use Rattle.fam_commands.specs.declared.place.Part.TheVariants as part
+use Rattle.fam_commands.specs.declared.place.Place.{Place}
+use Rattle.fam_commands.specs.declared.place.Place.TheVariants as at
+use Rattle.fam_commands.specs.Task.{Task}
+use Rattle.fam_commands.specs.Turns as turns
 use Rattle.fam_tasks.specs.declared.answer.Turn.{Turn}
 use Rattle.fam_tasks.specs.declared.answer.Turn.TheVariants.{Go, Note, Done}
 use Rattle.fam_tasks.specs.declared.answer.TaskNote.TheVariants.{Mark, Found, Writes}
@@ -53,7 +53,18 @@ is_slot part.File = false
 abbrev pub is_reading : Place → Bool
 is_reading (at.Drop part j) = true
 is_reading (at.Word part j k) = nat_lt k 7 || is_slot part
-is_reading place = false
+is_reading at.DropMagic = false
+is_reading at.Magic = false
+is_reading at.DropGate = false
+is_reading at.Gate = false
+is_reading (at.Check i) = false
+is_reading at.Decide = false
+is_reading (at.StoreData j k) = false
+is_reading (at.SendData j) = false
+is_reading (at.StoreSlot j k) = false
+is_reading (at.SendSlot j) = false
+is_reading at.StoreGate = false
+is_reading at.SendGate = false
 
 -- a slot reads as a file
 abbrev pub tells_file : Result Entry Reason → Bool
@@ -63,7 +74,19 @@ tells_file (Err reason) = false
 -- at a place: the words of the slot that is looked at read as a file
 abbrev pub file_at : Place → Task → Bool
 file_at (at.Check i) t = tells_file (entry_of t.params t.words i)
-file_at place t = false
+file_at at.DropMagic t = false
+file_at at.Magic t = false
+file_at (at.Drop part j) t = false
+file_at (at.Word part j k) t = false
+file_at at.DropGate t = false
+file_at at.Gate t = false
+file_at at.Decide t = false
+file_at (at.StoreData j k) t = false
+file_at (at.SendData j) t = false
+file_at (at.StoreSlot j k) t = false
+file_at (at.SendSlot j) t = false
+file_at at.StoreGate t = false
+file_at at.SendGate t = false
 
 -- a task meets a file, which it can't read yet
 abbrev pub meets_file : Task → Bool

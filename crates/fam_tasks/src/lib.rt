@@ -1,8 +1,8 @@
 //! Tasks: commands on their way over the cache of a host. A task says which operation it does next, takes the word
 //! that a load gave, and knows nothing else of memory.
 //!
-//! A contract sees a `Task` as the record of `fam_machine/specs/Task.antt`. What comes next is `op_of` of it, and
-//! what comes of that is `turn_of` in `fam_machine/specs/Turns.antt`. `specs/` says how a `Turn` and an `Answer`
+//! A contract sees a `Task` as the record of `fam_commands/specs/Task.antt`. What comes next is `op_of` of it, and
+//! what comes of that is `turn_of` in `fam_commands/specs/Turns.antt`. `specs/` says how a `Turn` and an `Answer`
 //! tell these, and which tasks there are.
 #![tactic(auto)]
 

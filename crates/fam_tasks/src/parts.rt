@@ -9,7 +9,7 @@ ghost use Rattle.fam_format.specs.Slot.{entry_of};
 ghost use Rattle.fam_format.specs.Super.{super_body_of};
 ghost use Rattle.fam_rules.specs.Decide.{wish_of};
 ghost use Rattle.fam_rules.specs.declared.answers.Refused.TheVariants.{NotMaster};
-ghost use Rattle.fam_machine.specs.Turns.{host_refusal};
+ghost use Rattle.fam_commands.specs.Turns.{host_refusal};
 ghost use Rattle.fam_entry.specs.Tests.{Tells};
 ghost use Rattle.fam_tasks.specs.Reading.{IsBareDirectory};
 ghost use Rattle.fam_tasks.specs.Sound.{IsServed};

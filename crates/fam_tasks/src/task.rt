@@ -3,11 +3,11 @@
 ghost use Rattle.std.specs.Prelude.{◌≡◌, ◌≢◌, ◌≤◌, ◌<◌, nat_lt, if◌then◌else◌, true, false, None, IfOk, OnErr};
 ghost use Rattle.fam_base.specs.declared.line.LineNo.{LineNo};
 ghost use Rattle.fam_format.specs.Layout.{least_lines};
-ghost use Rattle.fam_machine.specs.declared.op.Part.TheVariants as part;
-ghost use Rattle.fam_machine.specs.declared.op.Place.TheVariants as at;
-ghost use Rattle.fam_machine.specs.Task as spec;
-ghost use Rattle.fam_machine.specs.Task.{op_of, starting};
-ghost use Rattle.fam_machine.specs.Turns.{turn_of};
+ghost use Rattle.fam_commands.specs.declared.place.Part.TheVariants as part;
+ghost use Rattle.fam_commands.specs.declared.place.Place.TheVariants as at;
+ghost use Rattle.fam_commands.specs.Task as spec;
+ghost use Rattle.fam_commands.specs.Task.{op_of, starting};
+ghost use Rattle.fam_commands.specs.Turns.{turn_of};
 ghost use Rattle.fam_tasks.specs.declared.answer.Answer.TheVariants.{MediaFault};
 ghost use Rattle.fam_tasks.specs.declared.answer.Turn.TheVariants.{Done, Go};
 ghost use Rattle.fam_tasks.specs.Sound.{most_lines, IsLine, IsServed, IsSound, IsSoundAt, IsWithin};
@@ -22,8 +22,9 @@ use crate::buffer::Buffer;
 use crate::history::History;
 use crate::parts::line_of_slot;
 use fam_base::{Cmd, Entry, LineNo, OutOfMemory, Params};
+use fam_commands::{Part, Place};
 use fam_format::{GATE_LINE, LOG_LINE};
-use fam_machine::{Op, Part, Place};
+use fam_machine::Op;
 use std::alloc::Global;
 use std::marker::Model;
 use uuid::Uuid;
@@ -50,7 +51,7 @@ pub struct Task {
 }
 
 impl Model for Task {
-    ghost use Rattle.fam_machine.specs.Task as spec;
+    ghost use Rattle.fam_commands.specs.Task as spec;
 
     ghost Value = { spec.Task };
 

@@ -3,3 +3,4 @@ pub mod Keyed
 pub mod Boxed
 pub mod TakenBack
 pub mod Words
+pub mod Puts

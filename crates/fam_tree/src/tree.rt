@@ -1,12 +1,13 @@
 //! Trees of entries. `specs/Keyed.antt` says how entries stand in a tree, and fam_format's `specs/Tree.antt`
 //! which entries join it.
 
-ghost use Rattle.std.specs.Prelude.{◌≡◌, OnOk, OnErr, IfOk, IfErr, IfSome, option_map};
+ghost use Rattle.std.specs.Prelude.{◌≡◌, None, OnOk, OnErr, IfOk, IfErr, IfSome, option_map};
 ghost use Rattle.std.specs.Iterator.{YieldsFirstRef, item_count};
 ghost use Rattle.std.specs.List.Sorted.{IsStrictlySortedBy};
 ghost use Rattle.std.specs.FinMap as map;
 ghost use Rattle.fam_base.specs.PathOrder.{path_cmp};
-ghost use Rattle.fam_format.specs.Tree.{with_entry, tree_fault};
+ghost use Rattle.fam_base.specs.Paths.{parent_of};
+ghost use Rattle.fam_format.specs.Tree.{root_fault, with_entry, tree_fault};
 ghost use Rattle.fam_tree.specs.Faults.{reason_of};
 ghost use Rattle.fam_tree.specs.Boxed.{entries_in};
 ghost use Rattle.fam_tree.specs.Iter.{tree_iter_rest};
@@ -45,21 +46,39 @@ impl Model for Tree {
     ghost invariant = { λ t. AreKeyed (entries_in t.entries.entries) };
 }
 
+/// Puts an entry at its path where nothing stands there, by one search. Else it says what stands there, and nothing
+/// changes.
 fn put(
     held: &mut BTreeMap<Path, Box<Entry>>,
     alloc: Global,
     entry: &Entry,
-) -> Result<(), OutOfMemory>
-    ensures added { OnOk result (map.from_entries {R = path_cmp} (entries_in held.new.entries)
+) -> Result<Option<Kind>, OutOfMemory>
+    ensures stood { IfOk result (λ kind. kind ≡ option_map (λ old. old.kind)
+        (map.get {R = path_cmp} (map.from_entries (entries_in held.old.entries)) entry.now.path)) }
+    ensures added { IfOk result (λ kind. kind ≡ None → map.from_entries {R = path_cmp} (entries_in held.new.entries)
         ≡ with_entry (map.from_entries (entries_in held.old.entries)) entry.now) }
-    ensures keyed { AreKeyed (entries_in held.old.entries) → AreKeyed (entries_in held.new.entries) }
+    ensures kept { IfOk result (λ kind. IfSome kind (λ _. map.from_entries {R = path_cmp} (entries_in held.new.entries)
+        ≡ map.from_entries (entries_in held.old.entries))) }
+    ensures free { OnErr result (map.get {R = path_cmp} (map.from_entries (entries_in held.old.entries)) entry.now.path
+        ≡ None) }
     ensures same { OnErr result (held.new.entries ≡ held.old.entries) }
+    ensures keyed { AreKeyed (entries_in held.old.entries) → AreKeyed (entries_in held.new.entries) }
 {
     let Ok(boxed) = Box::new(alloc, *entry) else {
-        return Err(OutOfMemory);
+        return match held.get(&entry.path) {
+            Some(old) => Ok(Some(old.kind)),
+            None => Err(OutOfMemory),
+        };
     };
     match held.insert(entry.path, boxed) {
-        Ok(_) => Ok(()),
+        Ok(None) => Ok(None),
+        Ok(Some(old)) => {
+            let kind = old.kind;
+            match held.insert(entry.path, old) {
+                Ok(_) => Ok(Some(kind)),
+                Err(_) => unreachable!(),
+            }
+        }
         Err(_) => Err(OutOfMemory),
     }
 }
@@ -122,13 +141,11 @@ impl Tree {
         }
     }
 
-    fn fault(&self, entry: &Entry) -> Option<ApplyFault>
-        ensures none { result ≡ None → tree_fault self.now entry.now ≡ None }
-        ensures fault { IfSome result (λ e. (reason_of e ≡ tree_fault self.now entry.now)) }
+    /// Why the parent of an entry has no entry below it.
+    fn parent_fault(&self, entry: &Entry) -> Option<ApplyFault>
+        ensures none { result ≡ None → root_fault self.now (parent_of entry.now.path) ≡ None }
+        ensures fault { IfSome result (λ e. (reason_of e ≡ root_fault self.now (parent_of entry.now.path))) }
     {
-        if let Some(old) = self.entry_at(&entry.path) {
-            return Some(ApplyFault::Exists(old.kind));
-        }
         let parent = entry.path.parent()?;
         match self.entry_at(&parent) {
             None => Some(ApplyFault::NoParent),
@@ -148,11 +165,16 @@ impl Tree {
         ensures cause { IfErr result (λ fault. reason_of fault ≡ tree_fault self.old entry.now) }
         ensures same { OnErr result (self.new ≡ self.old) }
     {
-        if let Some(fault) = self.fault(entry) {
-            return Err(fault);
+        if let Some(fault) = self.parent_fault(entry) {
+            // What stands at the path is found out first.
+            return match self.entry_at(&entry.path) {
+                Some(old) => Err(ApplyFault::Exists(old.kind)),
+                None => Err(fault),
+            };
         }
         match put(&mut self.entries, self.alloc, entry) {
-            Ok(()) => Ok(()),
+            Ok(None) => Ok(()),
+            Ok(Some(kind)) => Err(ApplyFault::Exists(kind)),
             Err(_) => Err(ApplyFault::OutOfMemory),
         }
     }

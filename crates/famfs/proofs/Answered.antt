@@ -3,14 +3,15 @@ use Rattle.std.proofs.Common.{◌≡◌, ℕ, ◌<◌, ◌≤◌, Bool, true, fa
 use Rattle.std.specs.Prelude.{nat_lt, IfSome, OnSome}
 use Rattle.std.proofs.lemmas.Bool.Decides.{nat_tests}
 use Rattle.std.proofs.lemmas.List.Elements.{All-nil}
+use Rattle.std.specs.FinMap as finmap
 use Rattle.fam_base.specs.declared.cmd.Cmd.{Cmd}
 use Rattle.fam_base.specs.declared.entry.Entry.{Entry}
 use Rattle.fam_base.specs.declared.entry.Kind.TheVariants.{Directory}
 use Rattle.fam_base.specs.Image.{Image}
 use Rattle.fam_format.specs.Layout.{least_lines}
 use Rattle.fam_machine.specs.Operations.{operated}
-use Rattle.fam_machine.specs.Solo.{fresh, starts}
-use Rattle.fam_machine.specs.Task.{op_of, starting}
+use Rattle.fam_commands.specs.Solo.{fresh, starts}
+use Rattle.fam_commands.specs.Task.{op_of, starting}
 use Rattle.fam_media.specs.Causes.{Rose}
 use Rattle.fam_media.specs.Outside.{IfTold}
 use Rattle.fam_run.specs.Files.{IsDue, meets_a_file}
@@ -40,7 +41,7 @@ module _ (media : Passage) (me : List ℕ) (c : Cmd) (count : IfTold media.image
       go false is = record { answer = a; shown_is = refl; due = due }
 
   -- an answer without a fault
-  ended : (a : Answer) → least_lines ≤ media.size → IfTold media.image (λ image. HasEnded c me image a media.image_now) → IfTold media.image (λ image. IsDue (meets_a_file image me c) image me c a media.image_now) → Leaves media (IsDone me c (said.Answered a))
+  ended : (a : Answer) → least_lines ≤ media.size → IfTold media.image (λ image. HasEnded c me image finmap.empty a media.image_now) → IfTold media.image (λ image. IsDue (meets_a_file image me c) image me c a media.image_now) → Leaves media (IsDone me c (said.Answered a))
   ended a enough ran due image is =
       let e = ran image is in
       let left : Image = (operated (op_of e.reached.task) e.reached.machine).image in
@@ -53,7 +54,7 @@ module _ (media : Passage) (me : List ℕ) (c : Cmd) (count : IfTold media.image
         },
       )
 
-  pub says_answer : (a : Answer) → least_lines ≤ media.size → IfTold media.image (λ image. Ran c me image a media.image_now)
+  pub says_answer : (a : Answer) → least_lines ≤ media.size → IfTold media.image (λ image. Ran c me image finmap.empty a media.image_now)
       → (fault_of a ≡ None → IfTold media.image (λ image. IsDue (meets_a_file image me c) image me c a media.image_now))
       → OnSome (fault_of a) (Rose media.faults media.faults_now) → IfSome (fault_of a) (λ line. line.0 < media.size) → AnswerSays media me c a
   says_answer (answer.Ok seq) enough ran due rose line = ended _ enough ran (due refl)
@@ -72,13 +73,13 @@ module _ (media : Passage) (me : List ℕ) (c : Cmd) (count : IfTold media.image
     rose = rose;
     within = line;
     leaves = λ image is.
-        let b : HasBroken c me image at media.image_now = ran image is in
+        let b : HasBroken c me image finmap.empty at media.image_now = ran image is in
         let lines : length image ≡ media.size = count image is in (
-          b.broken,
+          b.failure.left.image,
           b.left,
           record {
             enough = omega (arith, lines, enough);
-            broken = record { reached = b.reached; line = b.line; through = b.through; fits = b.fits; broken = b.broken; fails = b.fails; left = refl };
+            broken = record { reached = b.reached; through = b.through; fits = b.fits; failure = b.failure; fails = b.fails; line = b.line; left = refl };
           },
         );
   }
@@ -100,7 +101,7 @@ module _ (media : Passage) (me : List ℕ) (c : Cmd) (count : IfTold media.image
       small image lines false is = absurd (grind (arith, nat_tests))
 
 -- no memory was left for an operation
-pub says_stopped : (media : Passage) (me : List ℕ) (c : Cmd) → IfTold media.image (λ image. HasStopped c me image media.image_now) → Leaves media (λ image left. IsTaskStopped image me c left)
+pub says_stopped : (media : Passage) (me : List ℕ) (c : Cmd) → IfTold media.image (λ image. HasStopped c me image finmap.empty media.image_now) → Leaves media (λ image left. IsTaskStopped image me c left)
 says_stopped media me c stopped image is =
     let h = stopped image is in
     (h.reached.machine.image, h.left, inl (record { reached = h.reached; left = refl }))

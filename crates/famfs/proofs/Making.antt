@@ -1,21 +1,24 @@
 -- What making a file system says, by its end.
-use Rattle.std.proofs.Common.{◌≡◌, ◌≢◌, ℕ, ◌*◌, Bool, true, false, List, length, map, Option, Some, None, option_map, Result, Ok, Err, refl, sym, ap, subst, ◌∙◌}
-use Rattle.std.specs.Prelude.{⊤, nat_lt, if◌then◌else◌}
+use Rattle.std.proofs.Common.{◌≡◌, ◌≢◌, ℕ, ◌*◌, true, false, List, length, map, Option, Some, None, option_map, Result, Ok, Err, refl, sym, ap, subst, ◌∙◌}
+use Rattle.std.specs.Prelude.{⊤}
 use Rattle.std.specs.FinMap as finmap
 use Rattle.fam_base.specs.declared.entry.Params.{Params}
 use Rattle.fam_base.specs.declared.line.LineNo.{LineNo}
 use Rattle.fam_base.specs.Image.{Image, eight, line_at}
 use Rattle.fam_format.specs.declared.faults.SuperFault.{SuperFault}
-use Rattle.fam_format.specs.Params.{need}
 use Rattle.fam_format.specs.Reading.{super_in}
 use Rattle.fam_machine.specs.Caches.{Cache}
-use Rattle.fam_machine.specs.Solo.{fresh}
+use Rattle.fam_commands.specs.Solo.{fresh}
 use Rattle.fam_media.specs.Outside.{IfTold}
-use Rattle.fam_mkfs.proofs.Formats.{empty_formats, read_empty}
+use Rattle.fam_machine.proofs.CleanCaches.{clean_empty}
+use Rattle.fam_machine.proofs.MkfsOps.{clean_formats, read_image}
 use Rattle.fam_mkfs.specs.declared.make.MkfsEnd.{MkfsEnd}
 use Rattle.fam_mkfs.specs.declared.make.MkfsEnd.TheVariants as end
 use Rattle.fam_mkfs.specs.Ends.{Ends, IsCut, IsFound, IsMade}
-use Rattle.fam_mkfs.specs.Mkfs.{asked, due_ops, found, goes_on, is_geometry, refusal}
+use Rattle.fam_mkfs.specs.Refusals.{end_of, refusal}
+use Rattle.fam_machine.specs.Mkfs.{EarlyRefusal, asked, due_ops, early_refusal, found, goes_on}
+use Rattle.fam_machine.specs.Mkfs as early
+use Rattle.fam_machine.specs.Cuts.{Cuts}
 use Rattle.fam_mkfs.specs.Runs.{Seen, seen}
 use Rattle.fam_rules.specs.Place.{line_bytes}
 use Rattle.fam_rules.specs.Written.{formatted}
@@ -53,12 +56,12 @@ IsRefusal (end.BadGeometry unit log) = ⊤
 IsRefusal (end.TooSmall wanted have) = ⊤
 
 is_refusal : (unit log have : ℕ) (e : MkfsEnd) → refusal unit log have ≡ Some e → IsRefusal e
-is_refusal unit log have e some = go (is_geometry unit log) (nat_lt have (need log unit)) some
+is_refusal unit log have e some = go (early_refusal unit log have) some
   where
-    go : (b few : Bool) → (if b then (if few then Some (end.TooSmall (need log unit) have) else None) else Some (end.BadGeometry unit log)) ≡ Some e → IsRefusal e
-    go true true some = subst IsRefusal (let same : end.TooSmall (need log unit) have ≡ e = cc in same) tt
-    go true false some = absurd cc
-    go false few some = subst IsRefusal (let same : end.BadGeometry unit log ≡ e = cc in same) tt
+    go : (o : Option EarlyRefusal) → option_map end_of o ≡ Some e → IsRefusal e
+    go None some = absurd cc
+    go (Some (early.BadGeometry u l)) some = subst IsRefusal (let same : end.BadGeometry u l ≡ e = cc in same) tt
+    go (Some (early.TooSmall needed given)) some = subst IsRefusal (let same : end.TooSmall needed given ≡ e = cc in same) tt
 
 module _ (media : Passage) (me : List ℕ) (unit log : ℕ) (fs : List ℕ) (count : IfTold media.image (λ image. length image ≡ media.size)) (normal : IfTold media.image (λ image. map eight image ≡ image)) where
   -- the numbers are taken
@@ -68,7 +71,7 @@ module _ (media : Passage) (me : List ℕ) (unit log : ℕ) (fs : List ℕ) (cou
 
     -- what was found by the reading is what the image says
     reads_image : (image : Image) → media.image ≡ Some image → found (asked unit log fs me (length image)) (fresh image) ≡ super_in (line_at image) (line_bytes * length image)
-    reads_image image is = ap (λ (i : Image). super_in (line_at i) (line_bytes * length image)) (read_empty image (normal image is))
+    reads_image image is = ap (λ (i : Image). super_in (line_at i) (line_bytes * length image)) (read_image image finmap.empty (normal image is) clean_empty)
 
     made : IsMade (asked unit log fs me media.size) false (seen media.image finmap.empty) (seen media.image_now now) → Leaves media (λ image left. IsMkfsDue image me unit log fs (said.Made (asked unit log fs me media.size)) left)
     made h image is =
@@ -76,7 +79,7 @@ module _ (media : Passage) (me : List ℕ) (unit log : ℕ) (fs : List ℕ) (cou
         let same : asked unit log fs me media.size ≡ p = ap (asked unit log fs me) (sym (count image is)) in
         let free : goes_on false (found p (fresh image)) ≡ true = subst (λ (q : Params). goes_on false (found q (fresh image)) ≡ true) same (h.free image is) in (
           formatted image p,
-          h.passes.image image is ∙ ap Some (empty_formats (asked unit log fs me media.size) image (normal image is) ∙ ap (formatted image) same),
+          h.passes.image image is ∙ ap Some (clean_formats image finmap.empty (normal image is) clean_empty (asked unit log fs me media.size) ∙ ap (formatted image) same),
           allowed_due _ p image _ _ (none_at image is) (free_due _ p image _ _ (ap (goes_on false) (sym (reads_image image is)) ∙ free) (ap said.Made same) refl),
         )
 
@@ -87,7 +90,7 @@ module _ (media : Passage) (me : List ℕ) (unit log : ℕ) (fs : List ℕ) (cou
         let n = h.names image is in
         let reads : super_in (line_at image) (line_bytes * length image) ≡ Ok n.other = sym (reads_image image is) ∙ ap (λ (q : Params). found q (fresh image)) (sym same) ∙ n.reads in (
           image,
-          h.passes.image image is ∙ ap Some (read_empty image (normal image is)),
+          h.passes.image image is ∙ ap Some (read_image image finmap.empty (normal image is) clean_empty),
           allowed_due _ p image image _ (none_at image is) (held_due _ n.other p image image _ reads (ap said.HasSuper n.named) refl),
         )
 
@@ -97,18 +100,13 @@ module _ (media : Passage) (me : List ℕ) (unit log : ℕ) (fs : List ℕ) (cou
       within = h.within;
       leaves = λ image is.
           let f = h.fails image is in (
-            f.image,
+            f.left.image,
             f.told,
             record {
               allowed = none_at image is;
-              done = f.done;
-              op = f.op;
-              rest = f.rest;
-              split = ap (λ (n : ℕ). due_ops false (asked unit log fs me n) (fresh image)) (count image is) ∙ f.split;
-              at = f.at;
-              through = f.through;
-              fits = f.fits;
-              fails = f.left;
+              state = f.left;
+              cuts = subst (λ (n : ℕ). Cuts (due_ops false (asked unit log fs me n) (fresh image)) (fresh image) line.0 f.left) (sym (count image is)) f.cuts;
+              left_is = refl;
             },
           );
     }

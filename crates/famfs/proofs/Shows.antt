@@ -5,7 +5,7 @@ use Rattle.fam_base.specs.declared.cmd.Cmd.{Cmd}
 use Rattle.fam_base.specs.declared.cmd.Cmd.TheVariants as cmd
 use Rattle.fam_base.specs.declared.line.LineNo.{LineNo}
 use Rattle.fam_base.specs.Image.{Image}
-use Rattle.fam_mkfs.specs.Mkfs.{asked}
+use Rattle.fam_machine.specs.Mkfs.{asked}
 use Rattle.fam_tasks.specs.declared.answer.Answer.{Answer}
 use Rattle.fam_tasks.specs.declared.answer.Answer.TheVariants as answer
 use Rattle.famfs.specs.declared.command.Command.{Command}
@@ -20,7 +20,7 @@ use Rattle.famfs.specs.Due.{Call, IsBroken, IsDue, IsMkfsBroken, IsMkfsDue, IsOf
 use Rattle.famfs.specs.Ends.{CommandShows, IsShown, Leaves, Passage, ShowsFault, ShowsWant}
 use Rattle.famfs.specs.Said.{answer_status, said_status, said_text}
 use Rattle.famfs.specs.Says.{AnswerSays, IsCutShort, IsDone, MkfsSays, ShowsSaid, TaskSays}
-use Rattle.famfs.specs.Texts.{memory_text}
+use Rattle.fam_journal.specs.Programs.{memory_line}
 
 -- what is left meets more where each such image does
 pub leaves_more : (media : Passage) (P Q : Image → Image → Type 0) → ((image left : Image) → P image left → Q image left) → Leaves media P → Leaves media Q
@@ -50,7 +50,7 @@ module _ (media : Passage) (call : Call) (own : Said → Type 0) (early : Option
     leaves = leaves_more media (broken line) (λ image left. IsBroken call call.command image line left) (rows.to_broken line) cut.leaves;
   }
 
-  shows_want : (stopped : Image → Image → Type 0) → ((image left : Image) → stopped image left → IsStopped call call.command image left) → Leaves media stopped → ShowsWant media call memory_text
+  shows_want : (stopped : Image → Image → Type 0) → ((image left : Image) → stopped image left → IsStopped call call.command image left) → Leaves media stopped → ShowsWant media call memory_line
   shows_want stopped to_stopped l = record { text_is = refl; leaves = leaves_more media stopped (λ image left. IsStopped call call.command image left) to_stopped l }
 
 -- Commands on the log.
@@ -96,9 +96,6 @@ module _ (media : Passage) (call : Call) (c : Cmd) where
     task_shows status text s = said_shows s.shown status text s.status_is s.text_is s.early_is s.says_it
 
 module _ (media : Passage) (me random : List ℕ) where
-  call_of : Command → Call
-  call_of command = record { command = command; me = me; random = random }
-
   logplay_rows : TaskRows media (record { command = Logplay; me = me; random = random }) cmd.Logplay
   unfolding TaskRows
   logplay_rows = record { to_due = λ shown image left d. d; to_broken = λ line image left b. b; fault_is = λ line. refl; own_is = λ shown o. o; early_is = refl; fault_late = λ line. refl }
@@ -114,16 +111,13 @@ module _ (media : Passage) (me random : List ℕ) where
     pub mkdir_shows : (status : Status) (text : List ℕ) → ShowsSaid (small_said media.size) (TaskSays media me (mkdir_cmd path)) status text → CommandShows media (record { command = Mkdir path; me = me; random = random }) status text
     mkdir_shows = task_shows media (record { command = Mkdir path; me = me; random = random }) (mkdir_cmd path) mkdir_rows
 
-    pub mkdir_want : Leaves media (λ image left. IsTaskStopped image me (mkdir_cmd path) left) → ShowsWant media (record { command = Mkdir path; me = me; random = random }) memory_text
+    pub mkdir_want : Leaves media (λ image left. IsTaskStopped image me (mkdir_cmd path) left) → ShowsWant media (record { command = Mkdir path; me = me; random = random }) memory_line
     unfolding TaskRows
     mkdir_want = shows_want media (record { command = Mkdir path; me = me; random = random }) _ _ _ _ _ mkdir_rows _ (λ image left d. d)
 
   -- Making a file system.
 
   module _ (unit log : ℕ) (fs : Option (List ℕ)) where
-    mkfs_call : Call
-    mkfs_call = record { command = Mkfs unit log fs; me = me; random = random }
-
     mkfs_rows : Rows (record { command = Mkfs unit log fs; me = me; random = random }) media.size (IsOfMkfs (asked unit log (fs_or random fs) me media.size)) (refused_said unit log media.size) (λ shown image left. IsMkfsDue image me unit log (fs_or random fs) shown left) (λ line image left. IsMkfsBroken image me unit log (fs_or random fs) line left) (λ line. said.Failed line)
     mkfs_rows = record { to_due = λ shown image left d. d; to_broken = λ line image left b. b; fault_is = λ line. refl; own_is = λ shown o. o; early_is = refl; fault_late = λ line. refl }
 
@@ -157,6 +151,6 @@ call_shows (Ok shown) media me random command other P same shows p = subst (λ (
 call_shows (Err none) media me random command other P same shows p = tt
 
 pub call_wants : {T E : Type 0} (r : Result T E) (media : Passage) (me random : List ℕ) (command other : Command) (W : Type 0) → command ≡ other
-    → (W → ShowsWant media (record { command = other; me = me; random = random }) memory_text) → OnErr r W → OnErr r (ShowsWant media (record { command = command; me = me; random = random }) memory_text)
+    → (W → ShowsWant media (record { command = other; me = me; random = random }) memory_line) → OnErr r W → OnErr r (ShowsWant media (record { command = command; me = me; random = random }) memory_line)
 call_wants (Ok shown) media me random command other W same wants w = tt
-call_wants (Err none) media me random command other W same wants w = subst (λ (c : Command). ShowsWant media (record { command = c; me = me; random = random }) memory_text) (sym same) (wants w)
+call_wants (Err none) media me random command other W same wants w = subst (λ (c : Command). ShowsWant media (record { command = c; me = me; random = random }) memory_line) (sym same) (wants w)

@@ -1,6 +1,7 @@
 -- What a command shows on an image and what it leaves of it; and what faults and want of memory leave in its place.
 -- docs/MANUAL.md, "Statuses".
-use Rattle.std.specs.Prelude.{ℕ, ⊤, ◌≡◌, ◌⊎◌, ◌*◌, ◌<◌, ◌≤◌, Bool, true, false, nat_lt, List, ◌∷◌, ◌++◌, length, Option, Some, None, option_map, if◌then◌else◌, Result, Ok, Err}
+use Rattle.std.specs.Prelude.{ℕ, ⊤, ◌≡◌, ◌⊎◌, ◌*◌, ◌≤◌, Bool, true, false, nat_lt, List, length, Option, Some, None, option_map, if◌then◌else◌, Result, Ok, Err}
+use Rattle.std.specs.FinMap as finmap
 use Rattle.fam_base.specs.declared.cmd.Cmd.{Cmd}
 use Rattle.fam_base.specs.declared.cmd.Cmd.TheVariants as cmd
 use Rattle.fam_base.specs.declared.line.LineNo.{LineNo}
@@ -9,13 +10,13 @@ use Rattle.fam_base.specs.Image.{Image, line_at}
 use Rattle.fam_format.specs.declared.faults.SuperFault.{SuperFault}
 use Rattle.fam_format.specs.Layout.{least_lines}
 use Rattle.fam_format.specs.Reading.{super_in}
-use Rattle.fam_machine.specs.declared.op.Op.{Op}
-use Rattle.fam_machine.specs.Operations.{failed, op_line, operated_all}
-use Rattle.fam_machine.specs.Solo.{fresh}
-use Rattle.fam_media.specs.Outside.{masks}
+use Rattle.fam_machine.specs.Cuts.{Cuts}
+use Rattle.fam_machine.specs.Operations.{Machine}
+use Rattle.fam_commands.specs.Solo.{fresh}
 use Rattle.fam_mkfs.specs.declared.make.MkfsEnd.{MkfsEnd}
 use Rattle.fam_mkfs.specs.declared.make.MkfsEnd.TheVariants as end
-use Rattle.fam_mkfs.specs.Mkfs.{asked, due_ops, refusal}
+use Rattle.fam_mkfs.specs.Refusals.{refusal}
+use Rattle.fam_machine.specs.Mkfs.{asked, due_ops}
 use Rattle.fam_rules.specs.Place.{line_bytes}
 use Rattle.fam_rules.specs.Written.{formatted}
 use Rattle.fam_run.specs.Files as files
@@ -55,11 +56,11 @@ IsTaskDue image me c shown left = TaskDue (nat_lt (length image) least_lines) im
 -- the command's first operations were done, before it met a file, and in the next one, at this line, memory failed
 pub record IsTaskBroken (image : Image) (me : List ℕ) (c : Cmd) (line : LineNo) (left : Image) : Type 0 where
   pub enough : least_lines ≤ length image
-  pub broken : HasBroken c me image line (Some left)
+  pub broken : HasBroken c me image finmap.empty line (Some left)
 
 -- the command's first operations were done, before it met a file, and no other; or all of them
 abbrev pub IsTaskStopped : Image → List ℕ → Cmd → Image → Type 0
-IsTaskStopped image me c left = HasStopped c me image (Some left) ⊎ ((answer : Answer) × HasEnded c me image answer (Some left))
+IsTaskStopped image me c left = HasStopped c me image finmap.empty (Some left) ⊎ ((answer : Answer) × HasEnded c me image finmap.empty answer (Some left))
 
 -- Making a file system.
 
@@ -92,14 +93,9 @@ IsMkfsDue image me unit log fs shown left = MkfsDue (refusal unit log (line_byte
 -- of the operations that are due the first ones were done, and in the next one, at this line, memory failed
 pub record IsMkfsBroken (image : Image) (me : List ℕ) (unit log : ℕ) (fs : List ℕ) (line : LineNo) (left : Image) : Type 0 where
   pub allowed : refusal unit log (line_bytes * length image) ≡ None
-  pub done : List Op
-  pub op : Op
-  pub rest : List Op
-  pub split : due_ops false (asked unit log fs me (length image)) (fresh image) ≡ done ++ op ∷ rest
-  pub at : op_line op ≡ Some line
-  pub through : ℕ
-  pub fits : through < masks
-  pub fails : failed through op (operated_all done (fresh image)) ≡ Some left
+  pub state : Machine
+  pub cuts : Cuts (due_ops false (asked unit log fs me (length image)) (fresh image)) (fresh image) line.0 state
+  pub left_is : left ≡ state.image
 
 -- What is said at once, whatever the image holds.
 

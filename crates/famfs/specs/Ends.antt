@@ -10,7 +10,7 @@ use Rattle.famfs.specs.declared.status.Status.{Status}
 use Rattle.famfs.specs.declared.status.Status.TheVariants.{Done, Refused, Usage, MediaFault, SinkFault, OutOfMemory, Damaged, NotYet}
 use Rattle.famfs.specs.Due.{Call, IsBroken, IsDue, IsOfCommand, IsStopped, early_of, early_said, fault_said}
 use Rattle.famfs.specs.Said.{said_status, said_text}
-use Rattle.famfs.specs.Texts.{memory_text, usage_text}
+use Rattle.fam_journal.specs.Programs.{memory_line, usage_line}
 
 -- the media before and after a call: the image where it is told, its lines and the counts of faults
 pub record Passage : Type 0 where
@@ -62,7 +62,7 @@ pub record ShowsFault (media : Passage) (call : Call) (text : List ℕ) : Type 0
 
 -- no memory was left: what was done by then stands, and memory didn't fail
 pub record ShowsWant (media : Passage) (call : Call) (text : List ℕ) : Type 0 where
-  pub text_is : text ≡ memory_text
+  pub text_is : text ≡ memory_line
   pub leaves : Leaves media (IsStopped call call.command)
 
 -- what a command may show, by its status
@@ -78,8 +78,14 @@ CommandShows media call NotYet text = IsShown media call NotYet text
 
 -- what words that are no command show, which leave the image
 abbrev pub UsageShows : Passage → Status → List ℕ → Type 0
-UsageShows media Usage text = (text ≡ usage_text) × (media.image_now ≡ media.image)
-UsageShows media status text = ⊥
+UsageShows media Usage text = (text ≡ usage_line) × (media.image_now ≡ media.image)
+UsageShows media Done text = ⊥
+UsageShows media Refused text = ⊥
+UsageShows media MediaFault text = ⊥
+UsageShows media SinkFault text = ⊥
+UsageShows media OutOfMemory text = ⊥
+UsageShows media Damaged text = ⊥
+UsageShows media NotYet text = ⊥
 
 -- what may be shown with a status
 abbrev pub MayShowBy : Option Command → Meeting → Status → List ℕ → Type 0

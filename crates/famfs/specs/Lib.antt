@@ -2,7 +2,6 @@ pub mod Numbers
 pub mod Sizes
 pub mod Fresh
 pub mod Words
-pub mod Texts
 pub mod Said
 pub mod Commands
 pub mod Due

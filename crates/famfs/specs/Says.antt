@@ -4,7 +4,7 @@ use Rattle.fam_base.specs.declared.cmd.Cmd.{Cmd}
 use Rattle.fam_base.specs.declared.line.LineNo.{LineNo}
 use Rattle.fam_base.specs.Image.{Image}
 use Rattle.fam_media.specs.Causes.{Rose}
-use Rattle.fam_mkfs.specs.Mkfs.{asked}
+use Rattle.fam_machine.specs.Mkfs.{asked}
 use Rattle.fam_tasks.specs.declared.answer.Answer.{Answer}
 use Rattle.fam_tasks.specs.declared.answer.Answer.TheVariants as answer
 use Rattle.famfs.specs.declared.said.Said.{Said}
@@ -28,7 +28,18 @@ pub record IsCutShort (media : Passage) (line : LineNo) (P : Image → Image →
 -- the answer of a command on the log
 abbrev pub AnswerSays : Passage → List ℕ → Cmd → Answer → Type 0
 AnswerSays media me c (answer.MediaFault line) = IsCutShort media line (λ image left. IsTaskBroken image me c line left)
-AnswerSays media me c other = Leaves media (IsDone me c (said.Answered other))
+AnswerSays media me c (answer.Ok seq) = Leaves media (IsDone me c (said.Answered (answer.Ok seq)))
+AnswerSays media me c (answer.Played m tree) = Leaves media (IsDone me c (said.Answered (answer.Played m tree)))
+AnswerSays media me c (answer.NoSuper word) = Leaves media (IsDone me c (said.Answered (answer.NoSuper word)))
+AnswerSays media me c (answer.BadSuper field found wanted) = Leaves media (IsDone me c (said.Answered (answer.BadSuper field found wanted)))
+AnswerSays media me c (answer.BadLog field found wanted) = Leaves media (IsDone me c (said.Answered (answer.BadLog field found wanted)))
+AnswerSays media me c (answer.BadEntry seq reason) = Leaves media (IsDone me c (said.Answered (answer.BadEntry seq reason)))
+AnswerSays media me c (answer.NotMaster host master) = Leaves media (IsDone me c (said.Answered (answer.NotMaster host master)))
+AnswerSays media me c (answer.Exists kind) = Leaves media (IsDone me c (said.Answered (answer.Exists kind)))
+AnswerSays media me c answer.NoParent = Leaves media (IsDone me c (said.Answered answer.NoParent))
+AnswerSays media me c answer.ParentIsFile = Leaves media (IsDone me c (said.Answered answer.ParentIsFile))
+AnswerSays media me c (answer.LogFull slots) = Leaves media (IsDone me c (said.Answered (answer.LogFull slots)))
+AnswerSays media me c answer.NotYet = Leaves media (IsDone me c (said.Answered answer.NotYet))
 
 -- what a command on the log says: its answer, or that the image is too small
 abbrev pub TaskSays : Passage → List ℕ → Cmd → Said → Type 0

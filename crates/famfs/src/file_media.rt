@@ -1,47 +1,162 @@
-//! A file as a media. This is a trusted edge: what a real file holds, no clause tells.
+//! A file as a media, with some lines of it read ahead. This is a trusted edge: what a real file holds, no clause tells.
+//!
+//! Lines behind the gate's are read ahead for a reader that goes upward, and each of them is given once. The gate's line,
+//! and those before it, are always read by themselves, and then all that was read ahead is forgotten. So what is given of
+//! slots and files after a gate was read is never older than that gate.
 
-ghost use Rattle.std.specs.Prelude.{◌≡◌, ◌≤◌, ◌*◌, None};
+ghost use Rattle.std.specs.Prelude.{◌≡◌, ◌≤◌, ◌<◌, ◌+◌, ◌-◌, ◌*◌, ◌↔◌, IsTrue, None, vec_len};
+ghost use Rattle.fam_media.specs.Causes.{HasCause};
 ghost use Rattle.fam_media.specs.declared.media.TheConstants.{MOST_LINES};
 
 use byteorder::{ByteOrder, LittleEndian};
 use fam_base::{Line, LineNo};
-use fam_format::LINE_BYTES;
+use fam_format::{GATE_LINE, LINE_BYTES};
 use fam_media::{Failed, MOST_LINES, Media};
+use std::alloc::Global;
 use std::fs::File;
+use std::io::{Seek, SeekFrom};
 use std::os::unix::fs::FileExt;
 
-/// A file as a media: each line is read when it is asked for, and written at once. It tells nothing of its
-/// content, and counts its faults.
+/// The bytes that are read ahead at most.
+const PAGE_BYTES: usize = 65536;
+
+/// The bytes that are read ahead where no line before this one was given.
+const FIRST_BYTES: usize = 4096;
+
+/// A file as a media: each line is read when it is asked for or ahead of that, and written at once. It tells nothing of
+/// its content, and counts its faults.
 #[derive(Drop)]
 pub struct FileMedia {
     file: Option<File>,
     lines: u64,
     faults: u64,
+    /// Lines that were read ahead, from line `first` to `end`; those from `next` on may still be given.
+    page: Vec<u8>,
+    first: u64,
+    next: u64,
+    end: u64,
     ghost bounded: { lines ≤ MOST_LINES },
+    ghost from: { first ≤ next },
+    ghost held: { 64 * (end - first) ≤ vec_len page },
 }
 
-/// How many whole lines a file has, at most those of 1 TiB.
-fn lines_of(file: &Option<File>) -> u64
+/// How many whole lines a file or a block device has, at most those of 1 TiB. A device's length isn't in its metadata, but
+/// its end can be found as a file's can.
+fn lines_of(file: &mut Option<File>) -> u64
     ensures { result ≤ MOST_LINES }
 {
     match file {
-        Some(file) => match file.metadata() {
-            Ok(metadata) => (metadata.len() / LINE_BYTES).min(MOST_LINES),
+        Some(file) => match file.seek(SeekFrom::End(0)) {
+            Ok(bytes) => (bytes / LINE_BYTES).min(MOST_LINES),
             Err(_) => 0,
         },
         None => 0,
     }
 }
 
+/// The first byte of a line.
+fn byte_of(line: u64) -> u64
+    requires within { line < MOST_LINES }
+    ensures { result ≡ 64 * line }
+{
+    line * LINE_BYTES
+}
+
+/// Room for lines that are read ahead, or none where the heap has none.
+fn page(alloc: Global) -> Vec<u8> {
+    match vec![in alloc; 0u8; PAGE_BYTES] {
+        Ok(bytes) => bytes,
+        Err(_) => Vec::new(alloc),
+    }
+}
+
+/// Reads so many bytes from a line on, or as many as there are, and says how many whole lines they are.
+fn read_lines(file: &File, page: &mut Vec<u8>, want: usize, line: u64) -> u64
+    requires within { line < MOST_LINES }
+    ensures len { vec_len page.new ≡ vec_len page.old }
+    ensures few { 64 * result ≤ vec_len page.old }
+{
+    if page.len() < want {
+        return 0;
+    }
+    match file.read_at(&mut page[..want], byte_of(line)) {
+        Ok(got) => got as u64 / LINE_BYTES,
+        Err(_) => 0,
+    }
+}
+
 impl FileMedia {
     /// The lines of a file. One that couldn't be opened, or that has fewer than 64 bytes, has no lines.
-    pub fn new(file: Option<File>) -> FileMedia {
-        let lines = lines_of(&file);
+    pub fn new(alloc: Global, mut file: Option<File>) -> FileMedia {
+        let lines = lines_of(&mut file);
         FileMedia {
             file,
             lines,
             faults: 0,
+            page: page(alloc),
+            first: 0,
+            next: 0,
+            end: 0,
         }
+    }
+
+    /// Whether a line was read ahead, and may still be given.
+    #[inline(always)]
+    fn is_ahead(&self, line: u64) -> bool
+        ensures { IsTrue result ↔ ((self.now.next ≤ line) × (line < self.now.end)) }
+    {
+        self.next <= line && line < self.end
+    }
+
+    /// Gives a line that was read ahead, for the one time.
+    #[inline(always)]
+    fn take(&mut self, line: u64) -> Line
+        requires ahead { (self.old.next ≤ line) × (line < self.old.end) }
+        requires within { line < MOST_LINES }
+        ensures lines { self.new.lines ≡ self.old.lines }
+        ensures faults { self.new.faults ≡ self.old.faults }
+    {
+        let start = (line - self.first) as usize * 64;
+        let mut words = [0; 8];
+        LittleEndian::read_u64_into(&self.page[start..start + 64], &mut words);
+        self.next = line + 1;
+        words
+    }
+
+    /// Reads ahead from a line on: more where the reader comes from the lines that were read ahead before.
+    fn fill(&mut self, line: u64)
+        requires within { line < MOST_LINES }
+        ensures lines { self.new.lines ≡ self.old.lines }
+        ensures faults { self.new.faults ≡ self.old.faults }
+    {
+        let more = self.first < self.end && line == self.end;
+        let want = if more { PAGE_BYTES } else { FIRST_BYTES };
+        self.first = line;
+        self.next = line;
+        self.end = line;
+        let Some(file) = &self.file else {
+            return;
+        };
+        let got = read_lines(file, &mut self.page, want, line);
+        self.end = line + got;
+    }
+
+    /// Reads a line by itself.
+    fn read_one(&mut self, line: u64) -> Result<Line, Failed>
+        requires within { line < MOST_LINES }
+        ensures lines { self.new.lines ≡ self.old.lines }
+        ensures cause { HasCause self.old.faults self.new.faults result }
+    {
+        let mut words = [0; 8];
+        let mut bytes = [0; 64];
+        if let Some(file) = &self.file {
+            if file.read_exact_at(&mut bytes, byte_of(line)).is_ok() {
+                LittleEndian::read_u64_into(&bytes, &mut words);
+                return Ok(words);
+            }
+        }
+        self.faults = self.faults.saturating_add(1);
+        Err(Failed)
     }
 }
 
@@ -60,24 +175,30 @@ impl Media for FileMedia {
         self.lines
     }
 
+    #[inline]
     fn read(&mut self, line: LineNo) -> Result<Line, Failed> {
-        let mut words = [0; 8];
-        let mut bytes = [0; 64];
-        if let Some(file) = &self.file {
-            if file.read_exact_at(&mut bytes, line.0 * LINE_BYTES).is_ok() {
-                LittleEndian::read_u64_into(&bytes, &mut words);
-                return Ok(words);
-            }
+        if line.0 <= GATE_LINE {
+            self.end = 0;
+            return self.read_one(line.0);
         }
-        self.faults = self.faults.saturating_add(1);
-        Err(Failed)
+        if self.is_ahead(line.0) {
+            return Ok(self.take(line.0));
+        }
+        self.fill(line.0);
+        if self.is_ahead(line.0) {
+            return Ok(self.take(line.0));
+        }
+        self.read_one(line.0)
     }
 
     fn write(&mut self, line: LineNo, words: &Line) -> Result<(), Failed> {
         let mut bytes = [0; 64];
         LittleEndian::write_u64_into(words, &mut bytes);
+        if self.is_ahead(line.0) {
+            self.next = line.0 + 1;
+        }
         if let Some(file) = &self.file {
-            if file.write_all_at(&bytes, line.0 * LINE_BYTES).is_ok() {
+            if file.write_all_at(&bytes, byte_of(line.0)).is_ok() {
                 return Ok(());
             }
         }

@@ -51,13 +51,14 @@ fn given(rt: &HostRuntime) -> Result<Vec<String>, OutOfMemory> {
 }
 
 /// Takes the numbers of those standard streams that are closed, so that no image is opened under one of them and
-/// written over by the output. The files are to be held as long as an image is.
-fn streams(rt: &HostRuntime) -> [Option<File>; 3] {
-    [none(rt), none(rt), none(rt)]
+/// written over by the output. The files are to be held as long as an image is. None where one of them can't be opened:
+/// then nobody knows which number an image would get.
+fn streams(rt: &HostRuntime) -> Option<[File; 3]> {
+    Some([null(rt)?, null(rt)?, null(rt)?])
 }
 
 /// A file that gives nothing, and that can't be written.
-fn none(rt: &HostRuntime) -> Option<File> {
+fn null(rt: &HostRuntime) -> Option<File> {
     File::open(rt, "/dev/null").ok()
 }
 
@@ -81,14 +82,17 @@ fn random(rt: &HostRuntime) -> [u8; 16] {
     bytes
 }
 
-/// Runs the command that the words name on the image that they name.
+/// Runs the command that the words name on the image that they name. Where the numbers of the standard streams can't be
+/// held, no image is opened, and the output counts as failed.
 fn run(rt: &HostRuntime, words: &Vec<String>) -> Result<Status, OutOfMemory> {
-    let _streams = streams(rt);
+    let Some(_streams) = streams(rt) else {
+        return Ok(Status::SinkFault);
+    };
     let file = match image_of(rt.alloc(), words)? {
         Some(name) => opened(rt, name.text()),
         None => None,
     };
-    let mut media = FileMedia::new(file);
+    let mut media = FileMedia::new(rt.alloc(), file);
     let mut shelf = MemShelf::new(rt.alloc());
     let mut out = StdSink::new(rt.stdout());
     let me = Uuid::from_bytes(SYSTEM);

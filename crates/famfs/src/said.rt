@@ -4,6 +4,8 @@
 ghost use Rattle.std.specs.Prelude.{◌≡◌, ◌≢◌, ◌≤◌, [], IfOk, OnErr, string_bytes, vec_capacity};
 ghost use Rattle.famfs.specs.declared.status.Status.TheVariants.{MediaFault};
 ghost use Rattle.famfs.specs.Said as spec;
+ghost use Rattle.fam_journal.specs.Texts as text;
+ghost use Rattle.fam_rules.specs.declared.answers.Refused.TheVariants as refused;
 
 use crate::status::Status;
 use crate::texts::{
@@ -72,31 +74,31 @@ pub(crate) fn said_status(said: &Said) -> Status
 }
 
 /// The sizes of a file system.
-fn sizes_words(alloc: Global, unit: u64, log: u64, device: u64) -> Result<String, AllocError>
-    ensures { IfOk result (λ s. string_bytes s ≡ spec.sizes_words unit log device) }
+fn sizes_text(alloc: Global, unit: u64, log: u64, device: u64) -> Result<String, AllocError>
+    ensures { IfOk result (λ s. string_bytes s ≡ text.sizes_text unit log device) }
 {
     format!(in alloc; " unit {unit} log {log} device {device}")
 }
 
 /// A file system that was made: its UUID, and its sizes.
-fn made_words(alloc: Global, params: &Params) -> Result<String, AllocError>
-    ensures { IfOk result (λ s. string_bytes s ≡ spec.made_words params.now) }
+fn made_text(alloc: Global, params: &Params) -> Result<String, AllocError>
+    ensures { IfOk result (λ s. string_bytes s ≡ text.made_text params.now) }
 {
-    let sizes = sizes_words(alloc, params.unit, params.log_length, params.device)?;
+    let sizes = sizes_text(alloc, params.unit, params.log_length, params.device)?;
     let fs = params.fs;
     format!(in alloc; "made {fs}{sizes}")
 }
 
 /// The line that names this host and the one that appends to the log.
 fn not_master_line(alloc: Global, me: Uuid, master: Uuid) -> Result<Vec<u8>, OutOfMemory>
-    ensures { IfOk result (λ bytes. bytes.items ≡ spec.not_master_text me master) }
+    ensures { IfOk result (λ bytes. bytes.items ≡ text.line (text.cause_text (refused.NotMaster me master))) }
 {
     line_of(alloc, format!(in alloc; "not master {me} {master}"))
 }
 
 /// The line that names what stands at the path.
 fn exists_line(alloc: Global, there: Kind) -> Result<Vec<u8>, OutOfMemory>
-    ensures { IfOk result (λ bytes. bytes.items ≡ spec.exists_text there) }
+    ensures { IfOk result (λ bytes. bytes.items ≡ text.line (text.cause_text (refused.Exists there))) }
 {
     let name = kind(there);
     line_of(alloc, format!(in alloc; "exists {name}"))
@@ -162,7 +164,7 @@ pub(crate) fn said_lines(alloc: Global, room: Vec<u8>, said: &Said) -> Result<Ve
     match said {
         Said::Small(lines) => line_of(alloc, format!(in alloc; "refused image too small {lines}")),
         Said::Answered(answer) => answered_lines(alloc, room, answer),
-        Said::Made(params) => line_of(alloc, made_words(alloc, params)),
+        Said::Made(params) => line_of(alloc, made_text(alloc, params)),
         Said::HasSuper(fs) => line_of(alloc, format!(in alloc; "refused has superblock {fs}")),
         Said::BadGeometry { unit, log } => {
             line_of(

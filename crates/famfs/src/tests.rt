@@ -7,5 +7,6 @@ mod files;
 mod images;
 mod listings;
 mod making;
+mod manual;
 mod outside;
 mod texts;

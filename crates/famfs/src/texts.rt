@@ -1,8 +1,9 @@
-//! The texts that the program prints. `specs/Texts.antt` has their forms.
+//! The texts that the program prints. fam_journal's `specs/Texts.antt` has their forms.
 
 ghost use Rattle.std.specs.Prelude.{◌≡◌, ◌≤◌, ◌<◌, ◌+◌, ◌++◌, [], ◌∷◌, IfOk, length, string_bytes, codes, vec_len, vec_capacity, List, ℕ};
 ghost use Rattle.std.specs.Fmt.{decimal};
-ghost use Rattle.famfs.specs.Texts as text;
+ghost use Rattle.fam_journal.specs.Texts as text;
+ghost use Rattle.fam_rules.specs.Reply as reply;
 
 use fam_base::{Kind, OutOfMemory};
 use fam_format::{LogFault, LogField, Reason, SuperFault, SuperField};
@@ -16,7 +17,7 @@ pub(crate) const USAGE: &str =
 /// What is printed where no memory is left.
 pub(crate) const MEMORY: &str = "out of memory\n";
 
-/// The most bytes of a line that says where memory failed: 20, a space, 20 digits and the line feed.
+/// The most bytes of a line that says where the media failed: 20, a space, 20 digits and the line feed.
 pub(crate) const FAILURE_BYTES: usize = 42;
 
 fn super_field(field: SuperField) -> &'static str
@@ -123,12 +124,6 @@ pub(crate) fn log_line(alloc: Global, fault: LogFault) -> Result<Vec<u8>, OutOfM
     line_of(alloc, log_text(alloc, fault))
 }
 
-fn seq_text(alloc: Global, seq: u64) -> Result<String, AllocError>
-    ensures { IfOk result (λ s. string_bytes s ≡ text.seq_text seq) }
-{
-    format!(in alloc; "bad entry {seq} ")
-}
-
 /// A text as a line.
 pub(crate) fn line(alloc: Global, words: &str) -> Result<Vec<u8>, OutOfMemory>
     ensures { IfOk result (λ bytes. bytes.items ≡ text.line words.now) }
@@ -157,23 +152,19 @@ pub(crate) fn line_of(
     }
 }
 
+/// The line that names a bad slot, and says what is wrong with it.
 pub(crate) fn entry_line(alloc: Global, seq: u64, reason: Reason) -> Result<Vec<u8>, OutOfMemory>
-    ensures { IfOk result (λ bytes. bytes.items ≡ text.line (text.seq_text seq ++ text.reason_text reason)) }
+    ensures { IfOk result (λ bytes. bytes.items ≡ text.line (text.slot_text seq reason)) }
 {
-    match seq_text(alloc, seq) {
-        Ok(mut whole) => match reason_text(alloc, reason) {
-            Ok(why) => match whole.push_str(why.as_str()) {
-                Ok(()) => line(alloc, whole.as_str()),
-                Err(_) => Err(OutOfMemory),
-            },
-            Err(_) => Err(OutOfMemory),
-        },
+    match reason_text(alloc, reason) {
+        Ok(why) => line_of(alloc, format!(in alloc; "bad entry {seq} {why}")),
         Err(_) => Err(OutOfMemory),
     }
 }
 
+/// How many entries were played, and their listing.
 pub(crate) fn played_lines(alloc: Global, m: u64, tree: &Tree) -> Result<Vec<u8>, OutOfMemory>
-    ensures { IfOk result (λ bytes. bytes.items ≡ text.played_text m tree.now) }
+    ensures { IfOk result (λ bytes. bytes.items ≡ text.reply_text (reply.Played m tree.now)) }
 {
     let Ok(head) = format!(in alloc; "played {m}") else {
         return Err(OutOfMemory);
@@ -186,7 +177,7 @@ pub(crate) fn played_lines(alloc: Global, m: u64, tree: &Tree) -> Result<Vec<u8>
     }
 }
 
-/// Room for a line that says where memory failed.
+/// Room for a line that says where the media failed.
 pub(crate) fn failure_room(alloc: Global) -> Result<Vec<u8>, OutOfMemory>
     ensures empty { IfOk result (λ room. room.items ≡ []) }
     ensures room { IfOk result (λ room. FAILURE_BYTES ≤ vec_capacity room) }

@@ -9,7 +9,7 @@ ghost use Rattle.famfs.specs.Ends.{CommandShows, Ends, Leaves, PutAs, ShowsWant,
 ghost use Rattle.famfs.specs.Said as texts;
 ghost use Rattle.famfs.specs.Says.{MkfsSays, ShowsSaid, TaskSays};
 ghost use Rattle.famfs.specs.declared.status.Status.TheVariants.{MediaFault};
-ghost use Rattle.famfs.specs.Texts.{memory_text};
+ghost use Rattle.fam_journal.specs.Programs.{memory_line};
 ghost use Rattle.famfs.specs.Words.{command_of};
 
 use crate::command::Command;
@@ -184,7 +184,7 @@ fn command_shown<M: Media>(
     ensures shows { IfOk result (λ shown. CommandShows (passed M.image M.size M.faults media.old media.new)
         (record { command = command; me = me; random = random }) shown.status shown.text.items) }
     ensures want { OnErr result (ShowsWant (passed M.image M.size M.faults media.old media.new)
-        (record { command = command; me = me; random = random }) memory_text) }
+        (record { command = command; me = me; random = random }) memory_line) }
     ensures size { M.size media.new ≡ M.size media.old }
     ensures later { M.faults media.old ≤ M.faults media.new }
 {

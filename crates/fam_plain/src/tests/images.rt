@@ -3,9 +3,9 @@
 ghost use Rattle.std.specs.Prelude.{◌<◌, ◌≤◌, ◌^◌, length};
 
 use super::{HEADER, MAGIC, SUPER, directory_words, params, simple_words, words_at};
-use crate::places::SLOT_WORDS;
 use crate::reading::{Reading, plain_reading};
 use fam_base::{Kind, Line};
+use fam_entry::SLOT_WORDS;
 use fam_format::{LogFault, LogField, Reason, SuperFault, SuperField};
 use std::alloc::Global;
 use std::test::Fail;

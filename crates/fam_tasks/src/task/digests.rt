@@ -3,9 +3,9 @@
 ghost use Rattle.std.specs.Prelude.{◌≡◌, [], None, IfOk, OnErr};
 ghost use Rattle.fam_base.specs.declared.cmd.Cmd.TheVariants.{Logplay};
 ghost use Rattle.fam_format.specs.Tree.{replay, tree_fault};
-ghost use Rattle.fam_machine.specs.declared.op.Place.TheVariants as at;
-ghost use Rattle.fam_machine.specs.Turns as turns;
-ghost use Rattle.fam_machine.specs.Turns.{turn_of};
+ghost use Rattle.fam_commands.specs.declared.place.Place.TheVariants as at;
+ghost use Rattle.fam_commands.specs.Turns as turns;
+ghost use Rattle.fam_commands.specs.Turns.{turn_of};
 ghost use Rattle.fam_tasks.specs.Tells.{Tells, TellsUnless, meets_file};
 
 use super::{Task, done, slot_or_decide};
@@ -14,8 +14,8 @@ use crate::buffer::Buffer;
 use crate::history::History;
 use crate::parts::read_slot;
 use fam_base::{Cmd, Entry, Kind, OutOfMemory};
+use fam_commands::Place;
 use fam_entry::spell;
-use fam_machine::Place;
 use std::mem::replace;
 
 impl Task {

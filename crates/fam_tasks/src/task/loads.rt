@@ -3,9 +3,9 @@
 ghost use Rattle.std.specs.Prelude.{◌≡◌, ◌<◌, true};
 ghost use Rattle.fam_format.specs.Log.{gate_fault};
 ghost use Rattle.fam_format.specs.Super.{magic_fault};
-ghost use Rattle.fam_machine.specs.declared.op.Part.TheVariants as part;
-ghost use Rattle.fam_machine.specs.declared.op.Place.TheVariants as at;
-ghost use Rattle.fam_machine.specs.Turns as turns;
+ghost use Rattle.fam_commands.specs.declared.place.Part.TheVariants as part;
+ghost use Rattle.fam_commands.specs.declared.place.Place.TheVariants as at;
+ghost use Rattle.fam_commands.specs.Turns as turns;
 ghost use Rattle.fam_tasks.specs.declared.answer.TaskNote.TheVariants.{Mark};
 ghost use Rattle.fam_tasks.specs.declared.answer.Turn.TheVariants.{Go, Note};
 ghost use Rattle.fam_tasks.specs.Tells.{Tells, is_reading};
@@ -14,8 +14,8 @@ use super::{LAST_LINE, LAST_WORD, Task, done, slot_or_decide};
 use crate::answer::{Answer, TaskNote, Turn, log_answer, super_answer};
 use crate::parts::{is_refused, read_body, read_header};
 use fam_base::Cmd;
+use fam_commands::{Part, Place};
 use fam_format::{LINE_BYTES, LogField};
-use fam_machine::{Part, Place};
 use fam_super::MAGIC;
 
 impl Task {

@@ -1,17 +1,18 @@
 //! Turns of a task that appends: the new slot's words are stored, and its lines are sent.
 
 ghost use Rattle.std.specs.Prelude.{◌≡◌, None};
-ghost use Rattle.fam_machine.specs.declared.op.Place.TheVariants as at;
-ghost use Rattle.fam_machine.specs.Task.{op_of};
-ghost use Rattle.fam_machine.specs.Turns.{turn_of};
+ghost use Rattle.fam_commands.specs.declared.place.Place.TheVariants as at;
+ghost use Rattle.fam_commands.specs.Task.{op_of};
+ghost use Rattle.fam_commands.specs.Turns.{turn_of};
 ghost use Rattle.fam_tasks.specs.Sound.{IsWithin};
 ghost use Rattle.fam_tasks.specs.Tells.{Tells};
 
 use super::{LAST_LINE, LAST_WORD, Task};
 use crate::answer::Turn;
 use crate::parts::line_of_slot;
+use fam_commands::Place;
 use fam_format::SLOT_LINES;
-use fam_machine::{Op, Place};
+use fam_machine::Op;
 
 impl Task {
     /// The store of a word of the new slot.

@@ -15,7 +15,7 @@ fn a_real_file_of_zeros_has_no_superblock(rt: HostRuntime) -> Result<(), Fail> {
     for _ in 0..1024 {
         zeros.write_all(&[0; 4096])?;
     }
-    let mut media = FileMedia::new(opened(&rt, "zeros"));
+    let mut media = FileMedia::new(rt.alloc(), opened(&rt, "zeros"));
     let want = "no superblock 0\n";
     assert!(rt; shows(alloc, &mut media, "logplay zeros", Status::Damaged, want)?);
     remove_file(&rt, "zeros")?;
@@ -26,7 +26,7 @@ fn a_real_file_of_zeros_has_no_superblock(rt: HostRuntime) -> Result<(), Fail> {
 fn a_missing_image_and_a_folder_have_no_lines(rt: HostRuntime) -> Result<(), Fail> {
     let alloc = rt.alloc();
     let want = "refused image too small 0\n";
-    let mut missing = FileMedia::new(opened(&rt, "missing"));
+    let mut missing = FileMedia::new(rt.alloc(), opened(&rt, "missing"));
     assert!(rt;
         shows(
             alloc,
@@ -37,12 +37,12 @@ fn a_missing_image_and_a_folder_have_no_lines(rt: HostRuntime) -> Result<(), Fai
         )?
     );
     create_dir(&rt, "folder")?;
-    let mut folder = FileMedia::new(opened(&rt, "folder"));
+    let mut folder = FileMedia::new(rt.alloc(), opened(&rt, "folder"));
     assert!(rt; shows(alloc, &mut folder, "logplay folder", Status::Damaged, want)?);
     remove_dir(&rt, "folder")?;
     let mut short = File::create(&rt, "short")?;
     short.write_all(&[0; 63])?;
-    let mut short = FileMedia::new(opened(&rt, "short"));
+    let mut short = FileMedia::new(rt.alloc(), opened(&rt, "short"));
     assert!(rt; shows(alloc, &mut short, "logplay short", Status::Damaged, want)?);
     remove_file(&rt, "short")?;
     Ok(())

@@ -4,17 +4,8 @@ use Rattle.fam_base.specs.Image.{byte_of}
 use Rattle.fam_format.specs.Slot.{is_stray_byte, path_word}
 use Rattle.fam_format.proofs.Stops.{any_false}
 use Rattle.fam_entry.proofs.Ranges.{any_first}
+use Rattle.fam_entry.proofs.Strays.{no_stray}
 use Rattle.fam_entry.proofs.reading.has_stray_byte.Goals as goal
-
-and_false : (b : Bool) → (b && false) ≡ false
-and_false true = refl
-and_false false = refl
-
--- a word of zero has no stray byte
-no_stray : (words : List ℕ) (i b : ℕ) → slice_index words i ≡ 0 → is_stray_byte words i b ≡ false
-no_stray words i b is =
-    let past : Bool = nat_le (slice_index words 6) (8 * (i - path_word) + b) in
-    ap (λ (word : ℕ). past && not (byte_of word b == 0)) is ∙ ap (λ (low : ℕ). past && not (low % 256 == 0)) (zero-div (256 ^ b)) ∙ and_false past
 
 pub returns-then-words-i-eq0 : goal.returns-then-words-i-eq0
 returns-then-words-i-eq0 c =

@@ -1,8 +1,7 @@
 use Rattle.std.proofs.Common.{◌∷◌, [], arith, ap, ◌∙◌}
 use Rattle.fam_machine.specs.declared.op.Op.TheVariants.{Load, Invalidate}
 use Rattle.fam_machine.specs.Caches.{Cache, cell_at}
-use Rattle.fam_machine.specs.Table.{load_ops}
-use Rattle.fam_machine.specs.Task.{line_no}
+use Rattle.fam_machine.specs.Operations.{load_ops, line_no}
 use Rattle.fam_mkfs.proofs.Rows.{breaks_first, breaks_second}
 use Rattle.fam_mkfs.proofs.WholeLines.{err_breaks, line_read, eight_words}
 use Rattle.fam_mkfs.proofs.lines.read_line.Goals as goal

@@ -1,5 +1,5 @@
 use Rattle.std.proofs.Common.{arith, ◌∙◌}
-use Rattle.fam_mkfs.specs.Mkfs.{put_ops}
+use Rattle.fam_machine.specs.Mkfs.{put_ops}
 use Rattle.fam_mkfs.proofs.WholeLines.{err_breaks, put_broken_first, put_broken_last, put_passed, store_more}
 use Rattle.fam_mkfs.proofs.lines.write_line.Goals as goal
 

@@ -2,7 +2,7 @@ use Rattle.std.proofs.Common.{◌≡◌, ◌≢◌, ℕ, ◌≤◌, map, get_or}
 use Rattle.std.specs.List.{range_with_len}
 use Rattle.fam_machine.specs.Caches.{cell_at}
 use Rattle.fam_machine.specs.OneLine.{IsHeld}
-use Rattle.fam_machine.specs.Task.{line_no}
+use Rattle.fam_machine.specs.Operations.{line_no}
 use Rattle.fam_machine.specs.declared.op.Op.TheVariants.{Store}
 use Rattle.fam_mkfs.specs.Runs.{Passes, seen}
 use Rattle.fam_mkfs.proofs.lines.write_line.Given as goal

@@ -1,4 +1,4 @@
-use Rattle.fam_mkfs.specs.Mkfs.{read_ops}
+use Rattle.fam_machine.specs.Mkfs.{read_ops}
 use Rattle.fam_mkfs.proofs.SuperLines.{passes_read, breaks_magic, breaks_front, breaks_rest, super_loaded}
 use Rattle.fam_mkfs.proofs.WholeLines.{err_breaks}
 use Rattle.fam_mkfs.proofs.make.read_super_lines.Goals as goal

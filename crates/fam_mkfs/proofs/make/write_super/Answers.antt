@@ -1,6 +1,6 @@
 use Rattle.fam_format.specs.Layout.{log_line, gate_line}
 use Rattle.fam_rules.specs.Written.{zero_line}
-use Rattle.fam_mkfs.specs.Mkfs.{put_ops, write_ops}
+use Rattle.fam_machine.specs.Mkfs.{put_ops, write_ops}
 use Rattle.fam_mkfs.proofs.Rows.{breaks_as, passes_as}
 use Rattle.fam_mkfs.proofs.SuperPuts.{as_written, break_1, break_2, break_3, break_4, break_5, break_6, element, six_pass}
 use Rattle.fam_mkfs.proofs.WholeLines.{err_breaks}

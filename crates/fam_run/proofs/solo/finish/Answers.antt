@@ -2,25 +2,34 @@ use Rattle.std.proofs.Common.{rules, ◌≡◌, ℕ, List, None, sym, ap, ◌∙
 use Rattle.fam_base.specs.Image.{Image}
 use Rattle.fam_base.specs.declared.cmd.Cmd.{Cmd}
 use Rattle.fam_run.specs.Operation.{ended}
+use Rattle.fam_machine.specs.Caches.{Cache}
 use Rattle.fam_run.specs.Run.{HasStopped, Running}
 use Rattle.fam_run.proofs.Left.{Kept, left}
-use Rattle.fam_run.proofs.Running.{answered, kept_on, running_on, stopped}
+use Rattle.fam_run.proofs.Running.{answered, kept_on, left_behind, running_on, stopped}
 use Rattle.fam_run.proofs.solo.finish.Goals as goal
 
 -- src/solo.rt:55:41
 pub returns-in_err-answer-clause-stopped : goal.returns-in_err-answer-clause-stopped
 returns-in_err-answer-clause-stopped g c =
-    let all : (cmd : Cmd) (me : List ℕ) (image : Image) → Running cmd me image c.args.task.now c.args.cache.now.lines (g.M.Media.image c.args.media.now) → HasStopped cmd me image (g.M.Media.image c.go_on.new.media) =
-    λ cmd me image run. stopped cmd me image c.operations.task c.operations.cache.lines (g.M.Media.image c.operations.media) (g.M.Media.image c.go_on.new.media) (ap g.M.Media.image c.in_err-answer.ensures.undone) (c.operations.invariant.running cmd me image run) in
+    let all : (cmd : Cmd) (me : List ℕ) (image : Image) (from : Cache) → Running cmd me image from c.args.task.now c.args.cache.now.lines (g.M.Media.image c.args.media.now) → HasStopped cmd me image from (g.M.Media.image c.go_on.new.media) =
+    λ cmd me image from run. stopped cmd me image from c.operations.task c.operations.cache.lines (g.M.Media.image c.operations.media) (g.M.Media.image c.go_on.new.media) (ap g.M.Media.image c.in_err-answer.ensures.undone) (c.operations.invariant.running cmd me image from run) in
     search (rules, all)
 
 -- src/solo.rt:56:13
 pub returns-in-Some-clause-ran : goal.returns-in-Some-clause-ran
-returns-in-Some-clause-ran g c = λ cmd me image run.
+returns-in-Some-clause-ran g c = λ cmd me image from run.
     let o = c.in_ok-answer.ensures.operated in
-    answered cmd me image c.operations.task c.go_on.new.task c.operations.cache.lines c.go_on.new.cache.lines (g.M.Media.image c.operations.media) (g.M.Media.image c.go_on.new.media) o.outcome c.in-Some.answer (o.ends ∙ c.in-Some.is) o.own c.go_on.ensures.within
+    answered cmd me image from c.operations.task c.go_on.new.task c.operations.cache.lines c.go_on.new.cache.lines (g.M.Media.image c.operations.media) (g.M.Media.image c.go_on.new.media) o.outcome c.in-Some.answer (o.ends ∙ c.in-Some.is) o.own c.go_on.ensures.within
     (λ i is. g.met.M.Media.told c.operations.media i is ∙ sym c.operations.invariant.lines)
-    o.did (c.operations.invariant.running cmd me image run)
+    o.did (c.operations.invariant.running cmd me image from run)
+
+-- src/solo.rt:56:13
+pub returns-in-Some-clause-left : goal.returns-in-Some-clause-left
+returns-in-Some-clause-left g c = λ none cmd me image from run.
+    let o = c.in_ok-answer.ensures.operated in
+    left_behind cmd me image from c.operations.task c.go_on.new.task c.operations.cache.lines c.go_on.new.cache.lines (g.M.Media.image c.operations.media) (g.M.Media.image c.go_on.new.media) o.outcome c.in-Some.answer (o.ends ∙ c.in-Some.is) none c.go_on.ensures.within
+    (λ i is. g.met.M.Media.told c.operations.media i is ∙ sym c.operations.invariant.lines)
+    o.did (c.operations.invariant.running cmd me image from run)
 
 -- src/solo.rt:53:5
 pub operations-smaller : goal.operations-smaller
@@ -43,8 +52,8 @@ operations-preserved g c =
       lines = kept.lines ∙ c.operations.invariant.lines ∙ sym c.go_on.ensures.size;
       size = c.go_on.ensures.size ∙ c.operations.invariant.size;
       later = search rules;
-      running = λ cmd me image run.
-          running_on cmd me image c.operations.task c.go_on.new.task c.operations.cache.lines c.go_on.new.cache.lines (g.M.Media.image c.operations.media) (g.M.Media.image c.go_on.new.media) o.outcome on c.is_sound.ensures o.turns c.go_on.ensures.within
+      running = λ cmd me image from run.
+          running_on cmd me image from c.operations.task c.go_on.new.task c.operations.cache.lines c.go_on.new.cache.lines (g.M.Media.image c.operations.media) (g.M.Media.image c.go_on.new.media) o.outcome on c.is_sound.ensures o.turns c.go_on.ensures.within
           (λ i is. g.met.M.Media.told c.operations.media i is ∙ sym c.operations.invariant.lines)
-          o.did (c.operations.invariant.running cmd me image run);
+          o.did (c.operations.invariant.running cmd me image from run);
     }

@@ -1,0 +1,210 @@
+-- What a task that stands for a command has of the words that its loads gave, place by place.
+use Rattle.std.proofs.Common.{ℕ, ◌≡◌, ◌<◌, ◌≤◌, ◌+◌, ◌*◌, true, List, [], length, drop, Option, Some, None, Ok}
+use Rattle.std.specs.Prelude.{find, slice_index, nat_lt, if◌then◌else◌, ◌==◌}
+use Rattle.std.specs.FinMap as finmap
+use Rattle.fam_base.specs.declared.cmd.Cmd.{Cmd}
+use Rattle.fam_base.specs.declared.cmd.Cmd.TheVariants.{Verify, Read, Fsck}
+use Rattle.fam_base.specs.declared.cmd.Content.{Content}
+use Rattle.fam_base.specs.declared.entry.Params.{Params}
+use Rattle.fam_base.specs.declared.entry.Entry.{Entry}
+use Rattle.fam_base.specs.declared.entry.Kind.TheVariants as kind
+use Rattle.fam_base.specs.PathOrder.{path_eq}
+use Rattle.fam_format.specs.Layout.{geometry, log_line}
+use Rattle.fam_format.specs.Log.{log_fault, gate_fault}
+use Rattle.fam_format.specs.Slot.{spelling}
+use Rattle.fam_format.specs.Super.{magic_fault}
+use Rattle.fam_format.specs.Tree.{replay}
+use Rattle.fam_format.specs.Reading.{Sound}
+use Rattle.fam_rules.specs.Content.{byte_in, content_byte}
+use Rattle.fam_rules.specs.Decide.{decide, wish_of}
+use Rattle.fam_rules.specs.Reports.{Survey, no_survey, survey_slots}
+use Rattle.fam_rules.specs.Reply.{Appended}
+use Rattle.fam_rules.specs.Written.{lines_of}
+use Rattle.fam_commands.specs.declared.place.Part.{Part}
+use Rattle.fam_commands.specs.declared.place.Part.TheVariants.{Superblock, Header, Slot, File}
+use Rattle.fam_commands.specs.declared.place.Place.{Place}
+use Rattle.fam_commands.specs.declared.place.Place.TheVariants as at
+use Rattle.fam_commands.specs.Task.{Task, size_of, wanted_lines, part_count}
+use Rattle.fam_commands.specs.Turns.{Turn, Goes, Marks, Finds, Writes, Ends, slots_read, host_refusal}
+use Rattle.fam_commands.specs.Counts.{steps_of}
+use Rattle.fam_commands.specs.Table.{Note, Quiet, Mark, Answer, fed, fed_super, fed_gate, fed_slots, entries_in, fits_content, magic_note, super_note, header_note, gate_note, slot_note, decision_note, line_note}
+
+-- What the words say.
+
+-- no slot was looked at
+pub record IsFresh (entries : List Entry) (survey : Survey) : Type 0 where
+  pub no_entry : entries ≡ []
+  pub nothing : survey ≡ no_survey
+
+-- the superblock is sound
+pub record HasSuper (cmd : Cmd) (me : List ℕ) (lines : ℕ) (p : Params) (words : List ℕ) : Type 0 where
+  pub super : fed_super words lines ≡ Ok p
+  -- the host may go on
+  pub host : host_refusal (wish_of cmd) p me ≡ None
+  pub long : 17 ≤ length words
+
+-- and so is the header
+pub record HasHeader (cmd : Cmd) (me : List ℕ) (lines : ℕ) (p : Params) (words : List ℕ) : Type 0 where
+  pub head : HasSuper cmd me lines p words
+  pub header : log_fault (fed words log_line) p ≡ None
+  pub long : 25 ≤ length words
+
+-- and the gate
+pub record HasGate (cmd : Cmd) (me : List ℕ) (lines : ℕ) (p : Params) (gate : ℕ) (words : List ℕ) : Type 0 where
+  pub log : HasHeader cmd me lines p words
+  pub gate_is : fed_gate words ≡ gate
+  pub within : gate_fault gate p ≡ None
+  pub long : 26 ≤ length words
+
+-- the first i slots hold these entries
+pub record AreRead (p : Params) (entries : List Entry) (words : List ℕ) (i : ℕ) : Type 0 where
+  pub sound : fed_slots words p i ≡ Sound p entries
+  pub count : length entries ≡ i
+  pub lookups : (path : List ℕ) → finmap.get (replay entries) path ≡ find (λ e. path_eq e.path path) entries
+
+-- what was found in the first i slots
+abbrev pub SlotsKnown : Cmd → Params → ℕ → List Entry → Survey → List ℕ → ℕ → Type 0
+SlotsKnown Fsck p gate entries survey words i = survey ≡ survey_slots (fed words) p gate 0 i no_survey
+SlotsKnown cmd p gate entries survey words i = AreRead p entries words i
+
+-- superblock, header and gate are read, and so many slots
+pub record HasSlots (cmd : Cmd) (me : List ℕ) (lines : ℕ) (p : Params) (gate : ℕ) (entries : List Entry) (survey : Survey) (words : List ℕ) (i : ℕ) : Type 0 where
+  pub gated : HasGate cmd me lines p gate words
+  pub known : SlotsKnown cmd p gate entries survey words i
+  pub long : 26 + 64 * i ≤ length words
+
+-- of a task
+abbrev pub TaskSlots : Task → List ℕ → ℕ → Type 0
+TaskSlots t words i = HasSlots t.cmd t.me t.lines t.params t.gate t.entries t.survey words i
+
+-- the entry whose file is read
+pub record IsChosen (cmd : Cmd) (path : List ℕ) (entries : List Entry) (entry : Option Entry) (e : Entry) : Type 0 where
+  pub is : entry ≡ Some e
+  pub found : find (λ x. path_eq x.path path) entries ≡ Some e
+  pub file : e.kind ≡ kind.File
+  pub fits : fits_content cmd e.size ≡ true
+  pub some : 0 < wanted_lines cmd e.size
+
+-- the first j lines of the file have the content's bytes
+abbrev pub IsSame : Content → Entry → List ℕ → ℕ → Type 0
+IsSame against e loaded j = (o : ℕ) → o < 64 * j → o < e.size → (byte_in loaded o == content_byte against o) ≡ true
+
+-- what is known of the file when its line j is read
+abbrev pub FileKnown : Cmd → ℕ → List Entry → Option Entry → List ℕ → ℕ → Type 0
+FileKnown (Verify path against) gate entries entry words j =
+    (e : Entry) × IsChosen (Verify path against) path entries entry e × IsSame against e (drop (26 + 64 * gate) words) j × (26 + 64 * gate + 8 * j ≤ length words)
+FileKnown (Read path offset count) gate entries entry words j = (e : Entry) × IsChosen (Read path offset count) path entries entry e
+FileKnown cmd gate entries entry words j = ⊥
+
+-- an entry is appended
+pub record IsAppending (t : Task) (words : List ℕ) : Type 0 where
+  pub e : Entry
+  pub slots : TaskSlots t words t.gate
+  pub decided : decide t.params t.me t.entries t.cmd ≡ Some (Ok e)
+  pub entry_is : t.entry ≡ Some e
+  pub spelled : t.words ≡ spelling (geometry t.params) e t.gate
+
+-- The parts that are read.
+
+-- how many words are loaded before a part
+abbrev pub part_words : Task → Part → ℕ
+part_words t Superblock = 1
+part_words t Header = 17
+part_words t (Slot i) = 26 + 64 * i
+part_words t File = 26 + 64 * t.gate
+
+-- and how many operations are made
+abbrev pub part_made : Task → Part → ℕ
+part_made t Superblock = 2
+part_made t Header = 20
+part_made t (Slot i) = 31 + 73 * i
+part_made t File = 32 + 73 * t.gate
+
+-- how many words of a part a command has done with before line j
+abbrev pub done_with : Part → Cmd → ℕ → ℕ
+done_with File (Verify path against) j = 8 * j
+done_with File cmd j = 0
+done_with part cmd j = 0
+
+-- what is known when line j of a part is read
+abbrev pub PartKnown : Part → Task → List ℕ → ℕ → Type 0
+PartKnown Superblock t words j = (magic_fault (slice_index words 0) ≡ None) × (1 ≤ length words) × IsFresh t.entries t.survey
+PartKnown Header t words j = HasSuper t.cmd t.me t.lines t.params words × IsFresh t.entries t.survey
+PartKnown (Slot i) t words j = TaskSlots t words i × (i < slots_read t)
+PartKnown File t words j = TaskSlots t words t.gate × FileKnown t.cmd t.gate t.entries t.entry words j
+
+-- k words of line j of a part are loaded, and so many operations of the line are made
+pub record InPart (part : Part) (t : Task) (words : List ℕ) (j k ops made : ℕ) : Type 0 where
+  pub known : PartKnown part t words j
+  pub within : j < part_count t part
+  pub long : length words ≡ part_words t part + (8 * j + k)
+  pub held : t.words ≡ drop (part_words t part + done_with part t.cmd j) words
+  pub made_is : made ≡ part_made t part + (9 * j + ops)
+
+-- The places.
+
+-- the lines of the new file
+abbrev pub new_lines : Task → ℕ
+new_lines t = lines_of (size_of t.entry)
+
+-- what ties a task at a place to the words and the number of operations
+abbrev pub TieAt : Place → Task → List ℕ → ℕ → Type 0
+TieAt at.DropMagic t words made = (words ≡ []) × (made ≡ 0) × IsFresh t.entries t.survey
+TieAt at.Magic t words made = (words ≡ []) × (made ≡ 1) × IsFresh t.entries t.survey
+TieAt (at.Drop part j) t words made = InPart part t words j 0 0 made
+TieAt (at.Word part j k) t words made = InPart part t words j k (1 + k) made × (k < 8)
+TieAt at.DropGate t words made = HasHeader t.cmd t.me t.lines t.params words × (length words ≡ 25) × (made ≡ 29) × IsFresh t.entries t.survey × (t.words ≡ [])
+TieAt at.Gate t words made = HasHeader t.cmd t.me t.lines t.params words × (length words ≡ 25) × (made ≡ 30) × IsFresh t.entries t.survey × (t.words ≡ [])
+TieAt (at.Check i) t words made =
+    TaskSlots t words i × (i < slots_read t) × (length words ≡ 26 + 64 * i + 64) × (t.words ≡ drop (26 + 64 * i) words) × (made ≡ 31 + 73 * i + 72)
+TieAt at.Decide t words made =
+    TaskSlots t words (slots_read t) × (length words ≡ 26 + 64 * slots_read t) × (made ≡ 31 + 73 * slots_read t)
+TieAt (at.StoreData j k) t words made = IsAppending t words × (j < new_lines t) × (k < 8) × (made ≡ 32 + 73 * t.gate + (9 * j + k))
+TieAt (at.SendData j) t words made = IsAppending t words × (j < new_lines t) × (made ≡ 32 + 73 * t.gate + (9 * j + 8))
+TieAt (at.StoreSlot j k) t words made = IsAppending t words × (j < 8) × (k < 8) × (made ≡ 32 + 73 * t.gate + 9 * new_lines t + (9 * j + k))
+TieAt (at.SendSlot j) t words made = IsAppending t words × (j < 8) × (made ≡ 32 + 73 * t.gate + 9 * new_lines t + (9 * j + 8))
+TieAt at.StoreGate t words made = IsAppending t words × (made ≡ 104 + 73 * t.gate + 9 * new_lines t)
+TieAt at.SendGate t words made = IsAppending t words × (made ≡ 105 + 73 * t.gate + 9 * new_lines t)
+
+-- A task that stands for a command.
+
+-- so of a task of this command
+pub record Tied (cmd : Cmd) (me : List ℕ) (lines : ℕ) (t : Task) (words : List ℕ) (made : ℕ) : Type 0 where
+  pub cmd_is : t.cmd ≡ cmd
+  pub me_is : t.me ≡ me
+  pub lines_is : t.lines ≡ lines
+  pub tie : TieAt t.place t words made
+
+-- so does the task of a turn, where it goes on; where it ends, the operations are as many as the answer says
+abbrev pub TurnTied : Cmd → List ℕ → ℕ → Turn → List ℕ → ℕ → Type 0
+TurnTied cmd me lines (Goes t) words made = Tied cmd me lines t words made
+TurnTied cmd me lines (Marks t) words made = Tied cmd me lines t words made
+TurnTied cmd me lines (Finds n t) words made = Tied cmd me lines t words made
+TurnTied cmd me lines (Writes seq e t) words made = Tied cmd me lines t words made
+TurnTied cmd me lines (Ends reply) words made = made ≡ steps_of cmd lines words reply
+
+-- The notes of the table.
+
+-- with the last load of line j of a part
+abbrev pub line_end : Part → Task → List ℕ → ℕ → Note
+line_end Superblock t words j = if nat_lt (j + 1) 2 then Quiet else super_note t.cmd t.me words t.lines (fed_super words t.lines)
+line_end Header t words j = header_note t.cmd words t.lines (log_fault (fed words log_line) t.params)
+line_end (Slot i) t words j = Quiet
+line_end File t words j = line_note t.cmd words t.entries (wanted_lines t.cmd (size_of t.entry)) j
+
+-- at a place, after these words
+abbrev pub note_at : Place → Task → List ℕ → Note
+note_at at.DropMagic t words = Quiet
+note_at at.Magic t words = magic_note t.cmd words t.lines (magic_fault (slice_index words 0))
+note_at (at.Drop part j) t words = Quiet
+note_at (at.Word part j k) t words = if nat_lt k 7 then Quiet else line_end part t words j
+note_at at.DropGate t words = Mark
+note_at at.Gate t words = gate_note t.cmd words t.lines (gate_fault (fed_gate words) t.params)
+note_at (at.Check i) t words = slot_note t.cmd words t.params i
+note_at at.Decide t words = decision_note t.cmd t.me words t.lines t.params (entries_in (fed_slots words t.params (fed_gate words)))
+note_at (at.StoreData j k) t words = Quiet
+note_at (at.SendData j) t words = Quiet
+note_at (at.StoreSlot j k) t words = Quiet
+note_at (at.SendSlot j) t words = Quiet
+note_at at.StoreGate t words = Quiet
+note_at at.SendGate t words = Answer (Appended t.gate)

@@ -1,0 +1,347 @@
+-- The table of operations: what a command does, operation by operation, and what is noted or answered with each.
+-- It is made from the words that the command's loads gave, as far as these tell it, and from nothing else.
+-- docs/MODEL.md, "The table of operations".
+use Rattle.std.specs.Prelude.{ℕ, ◌+◌, ◌-◌, ◌*◌, ◌==◌, ◌&&◌, nat_lt, Bool, true, false, if◌then◌else◌, List, [], ◌∷◌, ◌++◌, length, map, drop, slice_index, slice_range, Option, Some, None, Result, Ok, Err}
+use Rattle.std.specs.List.{flat_map, range_with_len}
+use Rattle.fam_base.specs.declared.cmd.Cmd.{Cmd}
+use Rattle.fam_base.specs.declared.cmd.Cmd.TheVariants.{Logplay, Mkdir, Creat, Cp, Verify, Read, Check, Fsck}
+use Rattle.fam_base.specs.declared.cmd.Content.{Content}
+use Rattle.fam_base.specs.declared.cmd.Content.TheVariants as content
+use Rattle.fam_base.specs.declared.entry.Params.{Params}
+use Rattle.fam_base.specs.declared.entry.Entry.{Entry}
+use Rattle.fam_base.specs.declared.entry.Kind.{Kind}
+use Rattle.fam_base.specs.declared.entry.Kind.TheVariants as kind
+use Rattle.fam_format.specs.declared.faults.SuperFault.{SuperFault}
+use Rattle.fam_format.specs.declared.faults.LogFault.{LogFault}
+use Rattle.fam_format.specs.Layout.{geometry, log_line, gate_line, slot_line}
+use Rattle.fam_format.specs.Super.{magic_fault}
+use Rattle.fam_format.specs.Log.{log_fault, gate_fault}
+use Rattle.fam_format.specs.Slot.{spelling}
+use Rattle.fam_format.specs.Reading.{Reading, NoSuperblock, BadHeader, BadSlot, Sound, Lines, super_in, gate_in, read_slots}
+use Rattle.fam_rules.specs.declared.answers.Refused.{Refused}
+use Rattle.fam_rules.specs.Asks.{File, file_at, ask}
+use Rattle.fam_rules.specs.Content.{byte_in, content_line}
+use Rattle.fam_rules.specs.Decide.{Wish, wish_of, master_refusal, decide}
+use Rattle.fam_rules.specs.Place.{line_bytes}
+use Rattle.fam_rules.specs.Reply as reply
+use Rattle.fam_rules.specs.Reply.{Reply}
+use Rattle.fam_rules.specs.Reports.{report_of}
+use Rattle.fam_rules.specs.Written.{lines_of, file_line, slot_part}
+use Rattle.fam_machine.specs.declared.op.Op.{Op}
+use Rattle.fam_machine.specs.declared.op.Op.TheVariants.{Load, Store, WriteBack, Invalidate, Digest}
+use Rattle.fam_machine.specs.Operations.{line_no, load_ops, store_ops}
+use Rattle.fam_commands.specs.Task.{no_params, first_line, wanted_lines, content_of}
+
+-- what comes with an operation
+pub data Note : Type 0 where
+  Quiet : Note
+  Mark : Note
+  Found : (n : ℕ) → Note
+  Writing : (seq : ℕ) (e : Entry) → Note
+  Answer : (reply : Reply) → Note
+
+-- a row of the table
+pub record Row : Type 0 where
+  pub op : Op
+  pub note : Note
+
+-- operations of which the last has a note
+abbrev pub rows : List Op → Note → List Row
+rows [] note = []
+rows (op ∷ []) note = record { op = op; note = note } ∷ []
+rows (op ∷ next ∷ more) note = record { op = op; note = Quiet } ∷ rows (next ∷ more) note
+
+-- The operations.
+
+-- the lines of a slot, and then the Digest
+abbrev pub slot_ops : Params → ℕ → List Op
+slot_ops p i = flat_map (λ j. load_ops (slot_line p i j) 8) (range_with_len 0 (geometry p).lines) ++ Digest ∷ []
+
+-- the lines of a new file: each is stored and sent
+abbrev pub data_ops : Entry → Content → List Op
+data_ops e fill = flat_map (λ j. store_ops (file_line e j) (content_line fill e.size j) ++ Invalidate (line_no (file_line e j)) ∷ []) (range_with_len 0 (lines_of e.size))
+
+-- the lines of a new slot: each is stored and written back
+abbrev pub new_slot_ops : Params → ℕ → Entry → List Op
+new_slot_ops p seq e =
+    flat_map (λ j. store_ops (slot_line p seq j) (slot_part (spelling (geometry p) e seq) j) ++ WriteBack (line_no (slot_line p seq j)) ∷ []) (range_with_len 0 (geometry p).lines)
+
+-- an entry is appended: its file, its slot, and the gate
+abbrev pub append_ops : Params → ℕ → Entry → Content → List Op
+append_ops p seq e fill =
+    data_ops e fill ++ new_slot_ops p seq e ++ Store (line_no gate_line) 0 (seq + 1) ∷ WriteBack (line_no gate_line) ∷ []
+
+-- The words.
+
+-- how many words are loaded before the first slot: the magic, lines 1 and 2, the header and the gate
+abbrev pub head_words : ℕ
+head_words = 26
+
+-- the words of one slot
+abbrev pub slot_words : ℕ
+slot_words = 64
+
+-- the loaded words as lines of memory: what a reading may look at
+abbrev pub fed : List ℕ → Lines
+fed words line =
+    if line == 0 then slice_range words 0 1
+    else if line == 1 then slice_range words 1 9
+    else if line == 2 then slice_range words 9 17
+    else if line == log_line then slice_range words 17 25
+    else if line == gate_line then slice_range words 25 26
+    else slice_range words (head_words + 8 * (line - (gate_line + 7))) (head_words + 8 * (line - (gate_line + 7)) + 8)
+
+-- what they say of superblock, gate and the first so many slots
+abbrev pub fed_super : List ℕ → ℕ → Result Params SuperFault
+fed_super words lines = super_in (fed words) (line_bytes * lines)
+
+abbrev pub fed_gate : List ℕ → ℕ
+fed_gate words = gate_in (fed words)
+
+abbrev pub fed_slots : List ℕ → Params → ℕ → Reading
+fed_slots words p n = read_slots (fed words) p 0 n []
+
+-- the entries of a sound reading
+abbrev pub entries_in : Reading → List Entry
+entries_in (NoSuperblock fault) = []
+entries_in (BadHeader fault) = []
+entries_in (BadSlot i reason) = []
+entries_in (Sound p entries) = entries
+
+-- an entry, and the bytes of its file as the words behind the slots give them, of which the first is byte `start`
+abbrev pub fed_file : List ℕ → ℕ → Entry → File
+fed_file words start e = record { entry = e; bytes = map (λ o. byte_in words (o - start)) (range_with_len 0 e.size) }
+
+-- the entries with these bytes
+abbrev pub fed_files : List ℕ → Cmd → List Entry → List File
+fed_files words cmd entries = map (fed_file (drop (head_words + slot_words * length entries) words) (line_bytes * first_line cmd)) entries
+
+-- What is noted.
+
+-- a reply on a damaged image: a check of the whole file system reports
+abbrev pub fault_reply : Cmd → List ℕ → ℕ → Reply → Reply
+fault_reply Fsck words lines other = reply.Reports (report_of (fed words) (line_bytes * lines))
+fault_reply Logplay words lines other = other
+fault_reply (Mkdir path attr) words lines other = other
+fault_reply (Creat path size attr stripe fill) words lines other = other
+fault_reply (Cp path attr stripe bytes) words lines other = other
+fault_reply (Verify path against) words lines other = other
+fault_reply (Read path offset count) words lines other = other
+fault_reply (Check listing) words lines other = other
+
+-- with the load of the magic
+abbrev pub magic_note : Cmd → List ℕ → ℕ → Option SuperFault → Note
+magic_note cmd words lines (Some fault) = Answer (fault_reply cmd words lines (reply.NoSuperblock fault))
+magic_note cmd words lines None = Quiet
+
+-- a command that appends, of another host than the master
+abbrev pub master_note : Option Wish → Params → List ℕ → Note
+master_note None p me = Quiet
+master_note (Some w) p me = refusal_note (master_refusal p me)
+  where
+    refusal_note : Option Refused → Note
+    refusal_note None = Quiet
+    refusal_note (Some refused) = Answer (reply.NotAppended refused)
+
+-- with the last load of the superblock
+abbrev pub super_note : Cmd → List ℕ → List ℕ → ℕ → Result Params SuperFault → Note
+super_note cmd me words lines (Err fault) = Answer (fault_reply cmd words lines (reply.NoSuperblock fault))
+super_note cmd me words lines (Ok p) = master_note (wish_of cmd) p me
+
+-- with the last load of the header
+abbrev pub header_note : Cmd → List ℕ → ℕ → Option LogFault → Note
+header_note cmd words lines (Some fault) = Answer (fault_reply cmd words lines (reply.BadHeader fault))
+header_note cmd words lines None = Quiet
+
+-- a command that appends says what it found
+abbrev pub found_note : Option Wish → ℕ → Note
+found_note None n = Quiet
+found_note (Some w) n = Found n
+
+-- with the load of the gate
+abbrev pub gate_note : Cmd → List ℕ → ℕ → Option LogFault → Note
+gate_note cmd words lines (Some fault) = Answer (fault_reply cmd words lines (reply.BadHeader fault))
+gate_note cmd words lines None = found_note (wish_of cmd) (fed_gate words)
+
+-- by the reading of the slots up to this one
+abbrev pub reading_note : Reading → Note
+reading_note (NoSuperblock fault) = Quiet
+reading_note (BadHeader fault) = Quiet
+reading_note (BadSlot i reason) = Answer (reply.BadSlot i reason)
+reading_note (Sound p entries) = Quiet
+
+-- with the Digest of slot i: a check of the whole file system goes on
+abbrev pub slot_note : Cmd → List ℕ → Params → ℕ → Note
+slot_note Fsck words p i = Quiet
+slot_note Logplay words p i = reading_note (fed_slots words p (i + 1))
+slot_note (Mkdir path attr) words p i = reading_note (fed_slots words p (i + 1))
+slot_note (Creat path size attr stripe fill) words p i = reading_note (fed_slots words p (i + 1))
+slot_note (Cp path attr stripe bytes) words p i = reading_note (fed_slots words p (i + 1))
+slot_note (Verify path against) words p i = reading_note (fed_slots words p (i + 1))
+slot_note (Read path offset count) words p i = reading_note (fed_slots words p (i + 1))
+slot_note (Check listing) words p i = reading_note (fed_slots words p (i + 1))
+
+-- an answer, where there is one
+abbrev pub answer_or : Option Reply → Note
+answer_or None = Quiet
+answer_or (Some given) = Answer given
+
+-- the entry that a command appends, or why none
+abbrev pub append_note : ℕ → Option (Result Entry Refused) → Note
+append_note seq None = Quiet
+append_note seq (Some (Err refused)) = Answer (reply.NotAppended refused)
+append_note seq (Some (Ok e)) = Writing seq e
+
+-- given bytes are as many as the file's
+abbrev pub fits_given : Content → ℕ → Bool
+fits_given content.Zero size = true
+fits_given (content.Seed seed) size = true
+fits_given (content.Bytes given) size = length given == size
+
+-- so are those that a command compares with
+abbrev pub fits_content : Cmd → ℕ → Bool
+fits_content (Verify path against) size = fits_given against size
+fits_content Logplay size = true
+fits_content (Mkdir path attr) size = true
+fits_content (Creat path wished attr stripe fill) size = true
+fits_content (Cp path attr stripe bytes) size = true
+fits_content (Read path offset count) size = true
+fits_content (Check listing) size = true
+fits_content Fsck size = true
+
+-- lines of the file are to be read
+abbrev pub reads_kind : Kind → Cmd → ℕ → Bool
+reads_kind kind.Directory cmd size = false
+reads_kind kind.File cmd size = fits_content cmd size && nat_lt 0 (wanted_lines cmd size)
+
+abbrev pub reads_file : Cmd → Option File → Bool
+reads_file cmd None = false
+reads_file cmd (Some f) = reads_kind f.entry.kind cmd f.entry.size
+
+-- which file a command reads
+abbrev pub wanted_file : Cmd → List File → Option File
+wanted_file (Verify path against) files = file_at files path
+wanted_file (Read path offset count) files = file_at files path
+wanted_file Logplay files = None
+wanted_file (Mkdir path attr) files = None
+wanted_file (Creat path size attr stripe fill) files = None
+wanted_file (Cp path attr stripe bytes) files = None
+wanted_file (Check listing) files = None
+wanted_file Fsck files = None
+
+-- of a command that asks: quiet where lines of a file are to be read, or the answer
+abbrev pub asked_note : Cmd → List ℕ → List Entry → Note
+asked_note cmd words entries =
+    if reads_file cmd (wanted_file cmd (fed_files words cmd entries)) then Quiet else answer_or (ask (fed_files words cmd entries) cmd)
+
+-- with the Digest behind the slots
+abbrev pub decision_note : Cmd → List ℕ → List ℕ → ℕ → Params → List Entry → Note
+decision_note Fsck me words lines p entries = Answer (reply.Reports (report_of (fed words) (line_bytes * lines)))
+decision_note (Mkdir path attr) me words lines p entries = append_note (length entries) (decide p me entries (Mkdir path attr))
+decision_note (Creat path size attr stripe fill) me words lines p entries =
+    append_note (length entries) (decide p me entries (Creat path size attr stripe fill))
+decision_note (Cp path attr stripe bytes) me words lines p entries = append_note (length entries) (decide p me entries (Cp path attr stripe bytes))
+decision_note Logplay me words lines p entries = asked_note Logplay words entries
+decision_note (Verify path against) me words lines p entries = asked_note (Verify path against) words entries
+decision_note (Read path offset count) me words lines p entries = asked_note (Read path offset count) words entries
+decision_note (Check listing) me words lines p entries = asked_note (Check listing) words entries
+
+-- an answer, where it is a difference in the first so many bytes
+abbrev pub early_reply_note : ℕ → Reply → Note
+early_reply_note end (reply.Differs m offset found wanted) = if nat_lt offset end then Answer (reply.Differs m offset found wanted) else Quiet
+early_reply_note end (reply.Appended seq) = Quiet
+early_reply_note end (reply.NotAppended refused) = Quiet
+early_reply_note end (reply.Played m tree) = Quiet
+early_reply_note end (reply.Same m) = Quiet
+early_reply_note end (reply.Length m size wanted) = Quiet
+early_reply_note end (reply.Bytes m bytes) = Quiet
+early_reply_note end (reply.NotFound m) = Quiet
+early_reply_note end (reply.IsDirectory m) = Quiet
+early_reply_note end (reply.Checks m checked) = Quiet
+early_reply_note end (reply.Reports report) = Quiet
+early_reply_note end (reply.NoSuperblock fault) = Quiet
+early_reply_note end (reply.BadHeader fault) = Quiet
+early_reply_note end (reply.BadSlot seq reason) = Quiet
+
+abbrev pub early_note : ℕ → Option Reply → Note
+early_note end None = Quiet
+early_note end (Some given) = early_reply_note end given
+
+-- with the last load of line j of the file
+abbrev pub line_note : Cmd → List ℕ → List Entry → ℕ → ℕ → Note
+line_note cmd words entries count j =
+    if nat_lt (j + 1) count then early_note (line_bytes * (j + 1)) (ask (fed_files words cmd entries) cmd)
+    else answer_or (ask (fed_files words cmd entries) cmd)
+
+-- The table.
+
+-- superblock, header and gate
+abbrev pub head_rows : Cmd → List ℕ → ℕ → List ℕ → Params → List Row
+head_rows cmd me lines words p =
+    rows (load_ops 0 1) (magic_note cmd words lines (magic_fault (slice_index words 0))) ++ rows (load_ops 1 8 ++ load_ops 2 8) (super_note cmd me words lines (fed_super words lines)) ++ rows (load_ops log_line 8) (header_note cmd words lines (log_fault (fed words log_line) p)) ++ rows (Invalidate (line_no gate_line) ∷ []) Mark ++ rows (Load (line_no gate_line) 0 ∷ []) (gate_note cmd words lines (gate_fault (fed_gate words) p))
+
+-- the slots
+abbrev pub slots_rows : Cmd → List ℕ → Params → ℕ → List Row
+slots_rows cmd words p n = flat_map (λ i. rows (slot_ops p i) (slot_note cmd words p i)) (range_with_len 0 n)
+
+-- the lines of a file that hold wanted bytes
+abbrev pub file_rows : Cmd → List ℕ → List Entry → Entry → List Row
+file_rows cmd words entries e =
+    flat_map (λ j. rows (load_ops (file_line e (first_line cmd + j)) 8) (line_note cmd words entries (wanted_lines cmd e.size) j)) (range_with_len 0 (wanted_lines cmd e.size))
+
+-- an append
+abbrev pub append_rows : Cmd → Params → ℕ → Option (Result Entry Refused) → List Row
+append_rows cmd p seq None = []
+append_rows cmd p seq (Some (Err refused)) = []
+append_rows cmd p seq (Some (Ok e)) = rows (append_ops p seq e (content_of cmd)) (Answer (reply.Appended seq))
+
+-- the file that is read
+abbrev pub wanted_rows : Cmd → List ℕ → List Entry → Option File → List Row
+wanted_rows cmd words entries None = []
+wanted_rows cmd words entries (Some f) = file_rows cmd words entries f.entry
+
+-- of a command that asks: the file, where lines of it are to be read
+abbrev pub asked_rows : Cmd → List ℕ → List Entry → List Row
+asked_rows cmd words entries =
+    if reads_file cmd (wanted_file cmd (fed_files words cmd entries)) then wanted_rows cmd words entries (wanted_file cmd (fed_files words cmd entries)) else []
+
+-- what comes behind the decision
+abbrev pub last_rows : Cmd → List ℕ → List ℕ → Params → List Entry → List Row
+last_rows (Mkdir path attr) me words p entries = append_rows (Mkdir path attr) p (length entries) (decide p me entries (Mkdir path attr))
+last_rows (Creat path size attr stripe fill) me words p entries =
+    append_rows (Creat path size attr stripe fill) p (length entries) (decide p me entries (Creat path size attr stripe fill))
+last_rows (Cp path attr stripe bytes) me words p entries =
+    append_rows (Cp path attr stripe bytes) p (length entries) (decide p me entries (Cp path attr stripe bytes))
+last_rows Logplay me words p entries = asked_rows Logplay words entries
+last_rows (Verify path against) me words p entries = asked_rows (Verify path against) words entries
+last_rows (Read path offset count) me words p entries = asked_rows (Read path offset count) words entries
+last_rows (Check listing) me words p entries = asked_rows (Check listing) words entries
+last_rows Fsck me words p entries = []
+
+-- how many slots a command reads
+abbrev pub slots_of_cmd : Cmd → Params → ℕ → ℕ
+slots_of_cmd Fsck p gate = p.slots
+slots_of_cmd Logplay p gate = gate
+slots_of_cmd (Mkdir path attr) p gate = gate
+slots_of_cmd (Creat path size attr stripe fill) p gate = gate
+slots_of_cmd (Cp path attr stripe bytes) p gate = gate
+slots_of_cmd (Verify path against) p gate = gate
+slots_of_cmd (Read path offset count) p gate = gate
+slots_of_cmd (Check listing) p gate = gate
+
+-- the rows behind the gate, by the parameters
+abbrev pub body_rows : Cmd → List ℕ → ℕ → List ℕ → Params → List Row
+body_rows cmd me lines words p =
+    let entries = entries_in (fed_slots words p (fed_gate words)) in
+    slots_rows cmd words p (slots_of_cmd cmd p (fed_gate words)) ++ record { op = Digest; note = decision_note cmd me words lines p entries } ∷ last_rows cmd me words p entries
+
+-- the parameters that the words tell, or none
+abbrev pub params_or : Params → Result Params SuperFault → Params
+params_or default (Ok p) = p
+params_or default (Err fault) = default
+
+-- the whole table of a command, after these words
+abbrev pub table : Cmd → List ℕ → ℕ → List ℕ → List Row
+table cmd me lines words =
+    let p = params_or no_params (fed_super words lines) in
+    head_rows cmd me lines words p ++ body_rows cmd me lines words p

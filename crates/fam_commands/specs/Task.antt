@@ -1,0 +1,143 @@
+-- A task: a command on its way, and the operation that it does next. It knows nothing of memory but the words that
+-- its own loads gave. docs/MODEL.md, "Tasks".
+use Rattle.std.specs.Prelude.{ℕ, ◌+◌, ◌-◌, ◌*◌, ◌/◌, nat_le, if◌then◌else◌, min, List, [], replicate, slice_index, Option, Some, None}
+use Rattle.fam_base.specs.declared.cmd.Cmd.{Cmd}
+use Rattle.fam_base.specs.declared.cmd.Cmd.TheVariants.{Logplay, Mkdir, Creat, Cp, Verify, Read, Check, Fsck}
+use Rattle.fam_base.specs.declared.entry.Params.{Params}
+use Rattle.fam_base.specs.declared.entry.Entry.{Entry}
+use Rattle.fam_format.specs.Layout.{geometry, log_line, gate_line, slot_line}
+use Rattle.fam_format.specs.Words.{uuid_bytes}
+use Rattle.fam_rules.specs.Content.{content_line}
+pub use Rattle.fam_rules.specs.Alone.{content_of}
+use Rattle.fam_rules.specs.Place.{line_bytes}
+use Rattle.fam_rules.specs.Reports.{Survey, no_survey}
+use Rattle.fam_rules.specs.Written.{lines_of, file_line}
+use Rattle.fam_machine.specs.declared.op.Op.{Op}
+use Rattle.fam_machine.specs.declared.op.Op.TheVariants.{Load, Store, WriteBack, Invalidate, Digest}
+use Rattle.fam_machine.specs.Operations.{line_no}
+use Rattle.fam_commands.specs.declared.place.Part.{Part}
+use Rattle.fam_commands.specs.declared.place.Part.TheVariants.{Superblock, Header, Slot, File}
+use Rattle.fam_commands.specs.declared.place.Place.{Place}
+use Rattle.fam_commands.specs.declared.place.Place.TheVariants as at
+
+pub record Task : Type 0 where
+  pub cmd : Cmd
+  -- the UUID of its host
+  pub me : List ℕ
+  -- the lines of the image
+  pub lines : ℕ
+  pub place : Place
+  -- what the superblock says, once it has been read
+  pub params : Params
+  -- the gate, once it has been loaded
+  pub gate : ℕ
+  -- the entries of the slots that were read, in order
+  pub entries : List Entry
+  -- words that were loaded and not yet looked at; or, of the new slot, those to be stored
+  pub words : List ℕ
+  -- the entry whose file is read or written, once it is known
+  pub entry : Option Entry
+  -- what a check of the whole file system has found up to here
+  pub survey : Survey
+
+-- nothing was read of a superblock
+abbrev pub no_params : Params
+no_params =
+    record { log_length = 0; slots = 0; unit = 0; device = 0; fs = replicate uuid_bytes 0; master = replicate uuid_bytes 0 }
+
+-- a command before its first operation
+abbrev pub starting : Cmd → List ℕ → ℕ → Task
+starting cmd me lines = record {
+  cmd = cmd;
+  me = me;
+  lines = lines;
+  place = at.DropMagic;
+  params = no_params;
+  gate = 0;
+  entries = [];
+  words = [];
+  entry = None;
+  survey = no_survey;
+}
+
+-- Which lines a command reads and writes.
+
+-- the bytes of an entry's file
+abbrev pub size_of : Option Entry → ℕ
+size_of None = 0
+size_of (Some e) = e.size
+
+-- the offset behind the last byte that a reader wants
+abbrev pub wanted_end : Cmd → ℕ → ℕ
+wanted_end (Read path offset count) size = min size (offset + count)
+wanted_end Logplay size = size
+wanted_end (Mkdir path attr) size = size
+wanted_end (Creat path wished attr stripe fill) size = size
+wanted_end (Cp path attr stripe bytes) size = size
+wanted_end (Verify path against) size = size
+wanted_end (Check listing) size = size
+wanted_end Fsck size = size
+
+-- the first byte of the file that a reader wants
+abbrev pub wanted_start : Cmd → ℕ
+wanted_start (Read path offset count) = offset
+wanted_start Logplay = 0
+wanted_start (Mkdir path attr) = 0
+wanted_start (Creat path size attr stripe fill) = 0
+wanted_start (Cp path attr stripe bytes) = 0
+wanted_start (Verify path against) = 0
+wanted_start (Check listing) = 0
+wanted_start Fsck = 0
+
+-- the first line of the file that holds a wanted byte
+abbrev pub first_line : Cmd → ℕ
+first_line cmd = wanted_start cmd / line_bytes
+
+-- how many lines hold wanted bytes
+abbrev pub wanted_lines : Cmd → ℕ → ℕ
+wanted_lines cmd size =
+    if nat_le (wanted_end cmd size) (wanted_start cmd) then 0 else lines_of (wanted_end cmd size) - first_line cmd
+
+-- the device's line that holds line j of an entry's file
+abbrev pub line_of : Option Entry → ℕ → ℕ
+line_of None j = 0
+line_of (Some e) j = file_line e j
+
+-- line j of a part
+abbrev pub part_line : Task → Part → ℕ → ℕ
+part_line t Superblock j = 1 + j
+part_line t Header j = log_line
+part_line t (Slot i) j = slot_line t.params i j
+part_line t File j = line_of t.entry (first_line t.cmd + j)
+
+-- how many lines a part has
+abbrev pub part_count : Task → Part → ℕ
+part_count t Superblock = 2
+part_count t Header = 1
+part_count t (Slot i) = (geometry t.params).lines
+part_count t File = wanted_lines t.cmd (size_of t.entry)
+
+-- line j of the new file
+abbrev pub data_words : Task → ℕ → List ℕ
+data_words t j = content_line (content_of t.cmd) (size_of t.entry) j
+
+-- The operation that comes next.
+
+abbrev pub op_at : Task → Place → Op
+op_at t at.DropMagic = Invalidate (line_no 0)
+op_at t at.Magic = Load (line_no 0) 0
+op_at t (at.Drop part j) = Invalidate (line_no (part_line t part j))
+op_at t (at.Word part j k) = Load (line_no (part_line t part j)) k
+op_at t at.DropGate = Invalidate (line_no gate_line)
+op_at t at.Gate = Load (line_no gate_line) 0
+op_at t (at.Check i) = Digest
+op_at t at.Decide = Digest
+op_at t (at.StoreData j k) = Store (line_no (line_of t.entry j)) k (slice_index (data_words t j) k)
+op_at t (at.SendData j) = Invalidate (line_no (line_of t.entry j))
+op_at t (at.StoreSlot j k) = Store (line_no (slot_line t.params t.gate j)) k (slice_index t.words (8 * j + k))
+op_at t (at.SendSlot j) = WriteBack (line_no (slot_line t.params t.gate j))
+op_at t at.StoreGate = Store (line_no gate_line) 0 (t.gate + 1)
+op_at t at.SendGate = WriteBack (line_no gate_line)
+
+abbrev pub op_of : Task → Op
+op_of t = op_at t t.place

@@ -1,0 +1,29 @@
+-- A word of zero is no stray.
+use Rattle.std.proofs.Common.{◌≡◌, ◌==◌, ◌&&◌, ◌+◌, ◌-◌, ◌*◌, ◌^◌, ◌%◌, ℕ, Bool, true, false, cond, not, nat_le, List, slice_index, refl, ap, ◌∙◌}
+use Rattle.std.specs.Prelude.{nat_lt}
+use Rattle.std.specs.List.{list_any, range_with_len}
+use Rattle.std.proofs.Math.Nat.{zero-div}
+use Rattle.fam_base.specs.Image.{byte_of}
+use Rattle.fam_format.specs.Slot.{extents_word, is_stray, is_stray_byte, path_word}
+use Rattle.fam_format.proofs.Stops.{any_false}
+
+and_false : (b : Bool) → (b && false) ≡ false
+and_false true = refl
+and_false false = refl
+
+-- a word of zero has no stray byte
+pub no_stray : (words : List ℕ) (i b : ℕ) → slice_index words i ≡ 0 → is_stray_byte words i b ≡ false
+no_stray words i b is =
+    let past : Bool = nat_le (slice_index words 6) (8 * (i - path_word) + b) in
+    ap (λ (word : ℕ). past && not (byte_of word b == 0)) is ∙ ap (λ (low : ℕ). past && not (low % 256 == 0)) (zero-div (256 ^ b)) ∙ and_false past
+
+by_part : (b x y : Bool) → x ≡ false → y ≡ false → cond b x y ≡ false
+by_part true x y is_x is_y = is_x
+by_part false x y is_x is_y = is_y
+
+pub zero_is_none : (words : List ℕ) (i : ℕ) → slice_index words i ≡ 0 → is_stray words i ≡ false
+zero_is_none words i is =
+    let past : Bool = nat_le (extents_word + 2 * slice_index words 9) i in
+    by_part (nat_lt i path_word) (past && not (slice_index words i == 0)) (list_any (is_stray_byte words i) (range_with_len 0 8))
+    (ap (λ (word : ℕ). past && not (word == 0)) is ∙ and_false past)
+    (any_false (is_stray_byte words i) 0 8 (λ k low below. no_stray words i k is))

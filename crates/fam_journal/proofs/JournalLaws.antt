@@ -1,0 +1,68 @@
+-- The laws, from what stands below.
+use Rattle.std.proofs.Common.{◌≡◌, inl, inr, List, ◌∷◌, [], ◌++◌, length, refl, sym, subst}
+use Rattle.fam_base.specs.Image.{Image}
+use Rattle.fam_journal.specs.Calls as call
+use Rattle.fam_journal.specs.Calls.{BreaksOff, Call, Does}
+use Rattle.fam_journal.specs.Ends.{ReadsAs}
+use Rattle.fam_journal.specs.View.{WorldStands, WorldView, empty_world}
+use Rattle.fam_journal.specs.Kept.{Held, Kept}
+use Rattle.fam_journal.specs.CallRecords.{DoesPart, IsSoundCall}
+use Rattle.fam_journal.specs.Laws.{IsImage, Says, TaskAt, turn_at}
+use Rattle.fam_journal.specs.Legal.{Legal}
+use Rattle.fam_journal.specs.Machines.{Machines, unused}
+use Rattle.fam_journal.specs.Notes.{Note, Refused}
+use Rattle.fam_journal.specs.Past.{first_past, past_of}
+use Rattle.fam_journal.proofs.Begin.{held_first}
+use Rattle.fam_journal.proofs.Following.{cut_notes, does_kept, kept_quiet, operates_kept}
+use Rattle.fam_journal.proofs.Journals.{legal_both}
+use Rattle.fam_journal.proofs.Left.{held_reads}
+use Rattle.fam_journal.proofs.Stepped.{Bridged, bridged}
+
+pub begun : (image : Image) → IsImage image → Held image (unused image) empty_world image
+begun image is = record {
+  memory = refl;
+  stands = λ h. tt;
+  kept = record { views = []; held = held_first image is.limit is.normal; uuids = λ k host none. absurd cc };
+}
+
+pub said : (at : TaskAt) → Says at → Bridged at.past at.host (turn_at at)
+said at says =
+    bridged at.past.start at.past.hosts at.host at.told at.is at.task.cmd at.task.me at.task at.words at.made at.word at.standing (turn_at at) refl at.was at.me says.hosts says.seen at.past.state says.bad says.stage says.says
+
+pub kept_on : (start : Image) (state left : Machines) (old new : WorldView) (call : Call) (notes : List Note) → Held start state old state.memory → IsSoundCall call → Does call state notes left
+    → WorldStands (length start) left new → new.journal ≡ old.journal ++ notes → Held start left new left.memory
+kept_on start state left old new call notes held sound does stands journal = record {
+  memory = refl;
+  stands = stands;
+  kept = subst (λ (z : List Note). Kept start left z) (sym journal) (does_kept start state old.journal held.kept notes left call sound does);
+}
+
+part_does : (start : Image) (state left : Machines) (journal notes : List Note) (call : Call) → Kept start state journal → DoesPart call state notes left → Kept start left (journal ++ notes)
+part_does start state left journal notes (call.Declares name uuid) kept x = kept_quiet start journal notes left state x.0 x.1 kept
+part_does start state left journal notes (call.Makes name fs unit log force) kept x = kept_quiet start journal notes left state x.0 x.1 kept
+part_does start state left journal notes (call.Begins name cmd) kept x = kept_quiet start journal notes left state x.0 x.1 kept
+part_does start state left journal notes (call.Steps name) kept x = kept_quiet start journal notes left state x.0 x.1 kept
+part_does start state left journal notes (call.Finishes name) kept (inl x) = operates_kept start x.host x.count state journal kept notes left x.does
+part_does start state left journal notes (call.Finishes name) kept (inr x) = kept_quiet start journal notes left state x.0 x.1 kept
+part_does start state left journal notes (call.Stops name) kept x = kept_quiet start journal notes left state x.0 x.1 kept
+part_does start state left journal notes (call.Halts name) kept x = kept_quiet start journal notes left state x.0 x.1 kept
+part_does start state left journal notes (call.Moves name line move) kept x = kept_quiet start journal notes left state x.0 x.1 kept
+part_does start state left journal notes (call.Refuses name cause) kept x = kept_quiet start journal notes left state x.0 x.1 kept
+
+pub part_on : (start : Image) (state left : Machines) (old new : WorldView) (call : Call) (notes : List Note) → Held start state old state.memory → DoesPart call state notes left
+    → WorldStands (length start) left new → new.journal ≡ old.journal ++ notes → Held start left new left.memory
+part_on start state left old new call notes held does stands journal = record {
+  memory = refl;
+  stands = stands;
+  kept = subst (λ (z : List Note). Kept start left z) (sym journal) (part_does start state left old.journal notes call held.kept does);
+}
+
+pub cut_legal : (start : Image) (state left : Machines) (old : WorldView) (call : Call) (notes : List Note) → Held start state old state.memory → BreaksOff call state notes left → Legal start (old.journal ++ notes)
+cut_legal start state left old call notes held breaks =
+    let b = cut_notes call state left notes breaks in
+    subst (λ (z : List Note). Legal start (old.journal ++ z)) (sym b.2) (legal_both (first_past start) old.journal (Refused b.0 b.1 ∷ []) held.kept.held.legal (tt, tt))
+
+pub held_reads_as : (start : Image) (state : Machines) (world : WorldView) (image : Image) → Held start state world image → ReadsAs (past_of start world.journal).state image
+held_reads_as start state world image held =
+    subst (λ (z : Image). ReadsAs (past_of start world.journal).state z) held.memory
+    (held_reads start state (record { hosts = held.kept.views; journal = world.journal }) state.memory held.kept.held)

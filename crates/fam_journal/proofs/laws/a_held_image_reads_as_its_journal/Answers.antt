@@ -1,0 +1,9 @@
+use Rattle.fam_journal.proofs.BadStates.{bad_image}
+use Rattle.fam_journal.proofs.JournalLaws.{held_reads_as}
+use Rattle.fam_journal.proofs.laws.a_held_image_reads_as_its_journal.Goals as goal
+
+pub returns : goal.returns
+returns c = record {
+  reads = λ start state world image held. held_reads_as start state world image held;
+  bad = λ start image damage gate journal is. bad_image start image damage gate journal is;
+}

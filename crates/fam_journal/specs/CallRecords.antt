@@ -1,0 +1,295 @@
+-- What the world's calls promise: where the media tells its image, and on every media.
+use Rattle.std.specs.Prelude.{ℕ, ⊤, ◌≡◌, ◌⊎◌, ◌<◌, ◌≤◌, Bool, List, [], ◌∷◌, ◌++◌, length, map, slice_get, Option, Some, None, unwrap_or}
+use Rattle.std.specs.List.{list_any}
+use Rattle.fam_base.specs.Image.{Image}
+use Rattle.fam_machine.specs.Caches.{cell_at}
+use Rattle.fam_machine.specs.OneLine.{IsHeld}
+use Rattle.fam_commands.specs.Task.{Task, op_of}
+use Rattle.fam_machine.specs.Operations.{Machine, given, operated}
+use Rattle.fam_commands.specs.Stands.{note_of, task_after, turn_given}
+use Rattle.fam_commands.specs.Turns.{Turn}
+use Rattle.fam_journal.specs.Members.{changed_at}
+use Rattle.fam_format.specs.Params.{IsUuid}
+use Rattle.fam_protocol.specs.Tasks.{IsCommand}
+use Rattle.fam_journal.specs.Calls as call
+use Rattle.fam_journal.specs.declared.refusal.Refusal.{Refusal}
+use Rattle.fam_journal.specs.declared.refusal.Refusal.TheVariants as why
+use Rattle.fam_journal.specs.Calls.{refusal_of, Call, Does, BreaksOff, IsOfSource, Operates, name_of, number_of}
+use Rattle.fam_journal.specs.Ends.{HasCounted, is_answer_note}
+use Rattle.fam_journal.specs.Forms.{BreaksForm, DoesForm, HostForm, IsFormed, PartForm, forms_of}
+use Rattle.fam_journal.specs.Legal.{Legal}
+use Rattle.fam_journal.specs.Machines.{Machines, notes_of}
+use Rattle.fam_journal.specs.Names.{AreNamed}
+use Rattle.fam_journal.specs.Notes.{Note, Host, Made, Start, Mark, Found, Writes, Answered, Stop, Halt, Refused}
+use Rattle.fam_journal.specs.View.{HostView, WorldView, WorldStands}
+use Rattle.fam_journal.specs.Kept.{Held}
+use Rattle.fam_journal.specs.WorldAlone.{refusal_in, world_after}
+
+-- What a call makes of it. `told` is the media's image, where it is told.
+
+-- the call did what its row says, and the world is held again
+pub record Moves (start : Image) (told : Option Image) (does : List Note → Machines → Type 0) (old new : WorldView) : Type 0 where
+  pub state : Machines
+  pub notes : List Note
+  pub row : does notes state
+  pub told_is : told ≡ Some state.memory
+  pub joined : new.journal ≡ old.journal ++ notes
+  pub held : Held start state new state.memory
+
+-- memory failed in a mkfs: the same, but the world isn't held any more. It stands for the state behind it: the maker's
+-- cache, and every other host as before
+pub record Breaks (start : Image) (told : Option Image) (does : List Note → Machines → Type 0) (old new : WorldView) : Type 0 where
+  pub state : Machines
+  pub notes : List Note
+  pub row : does notes state
+  pub told_is : told ≡ Some state.memory
+  pub joined : new.journal ≡ old.journal ++ notes
+  pub stands : WorldStands (length start) state new
+  pub legal : Legal start new.journal
+
+-- what is left where no memory was found for an operation: a call that runs a task to its answer has done some of its
+-- operations, and any other call nothing
+pub record SomeOfFinish (name : List ℕ) (state : Machines) (notes : List Note) (left : Machines) : Type 0 where
+  pub host : ℕ
+  pub number : number_of name state ≡ Some host
+  pub count : ℕ
+  pub does : Operates host count state notes left
+
+-- of a host that isn't declared nothing was done, where there was no room for the note that says so
+abbrev pub FinishPart : List ℕ → Machines → List Note → Machines → Type 0
+FinishPart name state notes left = SomeOfFinish name state notes left ⊎ ((notes ≡ []) × (left ≡ state))
+
+abbrev pub DoesPart : Call → Machines → List Note → Machines → Type 0
+DoesPart (call.Declares name uuid) state notes left = (notes ≡ []) × (left ≡ state)
+DoesPart (call.Makes name fs unit log force) state notes left = (notes ≡ []) × (left ≡ state)
+DoesPart (call.Begins name cmd) state notes left = (notes ≡ []) × (left ≡ state)
+DoesPart (call.Steps name) state notes left = (notes ≡ []) × (left ≡ state)
+DoesPart (call.Finishes name) state notes left = FinishPart name state notes left
+DoesPart (call.Stops name) state notes left = (notes ≡ []) × (left ≡ state)
+DoesPart (call.Halts name) state notes left = (notes ≡ []) × (left ≡ state)
+DoesPart (call.Moves name line move) state notes left = (notes ≡ []) × (left ≡ state)
+DoesPart (call.Refuses name cause) state notes left = (notes ≡ []) × (left ≡ state)
+
+-- what a call of the world promises where the media's image is told and the world was held: its row is done, or where no
+-- memory was left a part of it, or memory cut it, which only making a file system may be
+abbrev pub CallKeeps : Call → Image → Option Image → Option Image → WorldView → WorldView → Type 0
+CallKeeps call start before told old new =
+    (state : Machines) → before ≡ Some state.memory → Held start state old state.memory → Moves start told (Does call state) old new
+
+abbrev pub CallParts : Call → Image → Option Image → Option Image → WorldView → WorldView → Type 0
+CallParts call start before told old new =
+    (state : Machines) → before ≡ Some state.memory → Held start state old state.memory → Moves start told (DoesPart call state) old new
+
+abbrev pub CallBreaks : Call → Image → Option Image → Option Image → WorldView → WorldView → Type 0
+CallBreaks call start before told old new =
+    (state : Machines) → before ≡ Some state.memory → Held start state old state.memory → Breaks start told (BreaksOff call state) old new
+
+-- UUIDs are such, and a command's numbers, path and bytes fit
+abbrev pub IsSoundCall : Call → Type 0
+IsSoundCall (call.Declares name uuid) = IsUuid uuid
+IsSoundCall (call.Makes name fs unit log force) = IsUuid fs
+IsSoundCall (call.Begins name cmd) = IsCommand cmd
+IsSoundCall (call.Steps name) = ⊤
+IsSoundCall (call.Finishes name) = ⊤
+IsSoundCall (call.Stops name) = ⊤
+IsSoundCall (call.Halts name) = ⊤
+IsSoundCall (call.Moves name line move) = ⊤
+IsSoundCall (call.Refuses name cause) = ⊤
+
+-- What a call promises on every media, told or not. `before` and `now` are the media's counts of faults.
+
+abbrev pub TaskFits : ℕ → Option Task → Type 0
+TaskFits lines None = ⊤
+TaskFits lines (Some t) = t.lines ≡ lines
+
+pub record HostFits (lines : ℕ) (view : HostView) : Type 0 where
+  pub task : TaskFits lines view.task
+  pub cache : (l : ℕ) → IsHeld (cell_at view.cache l) → l < lines
+
+-- all tasks and all cached lines are those of a media of so many lines
+abbrev pub Fits : ℕ → List HostView → Type 0
+Fits lines views = (h : ℕ) (view : HostView) → slice_get views h ≡ Some view → HostFits lines view
+
+-- a host's name and UUID
+abbrev pub heading : HostView → List ℕ × List ℕ
+heading view = (view.name, view.uuid)
+
+-- a call that takes no media adds notes of its form, and the world's hosts are what its journal tells again
+pub record HasForm (c : Call) (lines : ℕ) (old new : WorldView) : Type 0 where
+  pub notes : List Note
+  pub joined : new.journal ≡ old.journal ++ notes
+  pub form : DoesForm c lines (forms_of old.journal) notes
+  pub formed : IsFormed new
+
+-- notes are added that name declared hosts; memory's count rose by as many faults as they tell; hosts keep their names and
+-- UUIDs; what fitted the media fits it still; and hosts that were what the journal tells are so still
+pub record Adds (lines before now : ℕ) (old new : WorldView) : Type 0 where
+  pub notes : List Note
+  pub joined : new.journal ≡ old.journal ++ notes
+  pub counted : HasCounted before now notes
+  pub later : before ≤ now
+  pub named : AreNamed (length new.hosts) notes
+  pub hosts : map heading new.hosts ≡ map heading old.hosts
+  pub fits : Fits lines old.hosts → Fits lines new.hosts
+  pub formed : IsFormed old → IsFormed new
+
+-- what a call adds that didn't lack memory: all of its row, or memory cut it
+abbrev pub CallForm : Call → ℕ → List HostForm → List Note → Type 0
+CallForm c lines hosts notes = DoesForm c lines hosts notes ⊎ BreaksForm c lines hosts notes
+
+abbrev pub cause_noted : Note → Option Refusal
+cause_noted (Host name uuid) = None
+cause_noted (Made host p) = None
+cause_noted (Start host cmd) = None
+cause_noted (Mark host) = None
+cause_noted (Found host n) = None
+cause_noted (Writes host seq entry) = None
+cause_noted (Answered host answer) = None
+cause_noted (Stop host) = None
+cause_noted (Halt host) = None
+cause_noted (Refused name cause) = Some cause
+
+-- the refusal that the notes of a call tell
+abbrev pub refusal_noted : List Note → Option Refusal
+refusal_noted [] = None
+refusal_noted (note ∷ []) = cause_noted note
+refusal_noted (note ∷ next ∷ notes) = None
+
+-- what may still be refused of a call after the tests of `refusal_of`: by what mkfs reads, by memory, or as it is told to
+abbrev pub IsLateMake : Refusal → Type 0
+IsLateMake why.NoHost = ⊥
+IsLateMake (why.SameHost host) = ⊥
+IsLateMake why.TooManyHosts = ⊥
+IsLateMake (why.BadGeometry unit log) = ⊥
+IsLateMake (why.TooSmall need have) = ⊥
+IsLateMake (why.ImageSmall lines) = ⊥
+IsLateMake (why.Busy host) = ⊥
+IsLateMake (why.Dirty host) = ⊥
+IsLateMake (why.HasSuper uuid) = ⊤
+IsLateMake why.Idle = ⊥
+IsLateMake (why.NoLine at lines) = ⊥
+IsLateMake (why.NoFile name) = ⊥
+IsLateMake (why.CopyLimit sum) = ⊥
+IsLateMake (why.BadListing at) = ⊥
+IsLateMake (why.MediaFault at) = ⊤
+
+abbrev pub IsLateMove : Refusal → Type 0
+IsLateMove why.NoHost = ⊥
+IsLateMove (why.SameHost host) = ⊥
+IsLateMove why.TooManyHosts = ⊥
+IsLateMove (why.BadGeometry unit log) = ⊥
+IsLateMove (why.TooSmall need have) = ⊥
+IsLateMove (why.ImageSmall lines) = ⊥
+IsLateMove (why.Busy host) = ⊥
+IsLateMove (why.Dirty host) = ⊥
+IsLateMove (why.HasSuper uuid) = ⊥
+IsLateMove why.Idle = ⊥
+IsLateMove (why.NoLine at lines) = ⊥
+IsLateMove (why.NoFile name) = ⊥
+IsLateMove (why.CopyLimit sum) = ⊥
+IsLateMove (why.BadListing at) = ⊥
+IsLateMove (why.MediaFault at) = ⊤
+
+abbrev pub IsLate : Call → Refusal → Type 0
+IsLate (call.Declares name uuid) cause = ⊥
+IsLate (call.Makes name fs unit log force) cause = IsLateMake cause
+IsLate (call.Begins name cmd) cause = ⊥
+IsLate (call.Steps name) cause = ⊥
+IsLate (call.Finishes name) cause = ⊥
+IsLate (call.Stops name) cause = ⊥
+IsLate (call.Halts name) cause = ⊥
+IsLate (call.Moves name line move) cause = IsLateMove cause
+IsLate (call.Refuses name own) cause = cause ≡ own
+
+-- a call that didn't lack memory answers the refusal that it notes, if any (`said`); that is the first one that the world
+-- alone tells, and then no host changes (`refused`); where the world tells none, only a late one comes (`free`). Its notes
+-- are those of such a call, by what the journal tells (`form`)
+pub record Answers (c : Call) (lines : ℕ) (answered : Option Refusal) (before now : ℕ) (old new : WorldView) : Type 0 where
+  pub adds : Adds lines before now old new
+  pub said : answered ≡ refusal_noted adds.notes
+  pub refused : (cause : Refusal) → refusal_in c old lines ≡ Some cause → (adds.notes ≡ Refused (name_of c) cause ∷ []) × (new.hosts ≡ old.hosts)
+  pub free : (cause : Refusal) → refusal_in c old lines ≡ None → answered ≡ Some cause → IsLate c cause
+  pub form : IsFormed old → CallForm c lines (forms_of old.journal) adds.notes
+
+-- a step says besides whether its task is over: just where it noted an answer
+pub record AnswersStep (name : List ℕ) (lines : ℕ) (answered : Option Refusal) (over : Bool) (before now : ℕ) (old new : WorldView) : Type 0 where
+  pub answers : Answers (call.Steps name) lines answered before now old new
+  pub over_is : over ≡ list_any is_answer_note answers.adds.notes
+
+-- where no memory was left the world and the media are as they were; but a finish adds the notes of what it did (`Adds`)
+pub record LeavesAll (told_before told : Option Image) (before now : ℕ) (old new : WorldView) : Type 0 where
+  pub world : new ≡ old
+  pub media : told ≡ told_before
+  pub count : now ≡ before
+
+-- Calls and their answers: one record for each, which a contract cites. `answered` is the refusal that the call gave, if any.
+
+-- host, begin, stop, halt, refuse: the world alone tells what becomes of it, and what is answered
+pub record WorldCall (c : Call) (lines : ℕ) (answered : Option Refusal) (old new : WorldView) : Type 0 where
+  pub after : new ≡ world_after c lines old
+  pub said : answered ≡ refusal_in c old lines
+
+-- finish, evict, leak, fetch: what holds on every media; and where the image is told, the call's row
+pub record MediaCall (c : Call) (lines : ℕ) (answered : Option Refusal) (told told_now : Option Image) (faults faults_now : ℕ) (old new : WorldView) : Type 0 where
+  pub answers : Answers c lines answered faults faults_now old new
+  pub keeps : (start : Image) → CallKeeps c start told told_now old new
+
+-- step: so too, and whether the task is over
+pub record StepCall (name : List ℕ) (lines : ℕ) (answered : Option Refusal) (over : Bool) (told told_now : Option Image) (faults faults_now : ℕ) (old new : WorldView) : Type 0 where
+  pub answers : AnswersStep name lines answered over faults faults_now old new
+  pub keeps : (start : Image) → CallKeeps (call.Steps name) start told told_now old new
+
+-- a mkfs is cut by memory where it answers that, and else does its row
+abbrev pub KeepsOrBreaks : Refusal → Call → Image → Option Image → Option Image → WorldView → WorldView → Type 0
+KeepsOrBreaks why.NoHost c start told told_now old new = CallKeeps c start told told_now old new
+KeepsOrBreaks (why.SameHost host) c start told told_now old new = CallKeeps c start told told_now old new
+KeepsOrBreaks why.TooManyHosts c start told told_now old new = CallKeeps c start told told_now old new
+KeepsOrBreaks (why.BadGeometry unit log) c start told told_now old new = CallKeeps c start told told_now old new
+KeepsOrBreaks (why.TooSmall need have) c start told told_now old new = CallKeeps c start told told_now old new
+KeepsOrBreaks (why.ImageSmall lines) c start told told_now old new = CallKeeps c start told told_now old new
+KeepsOrBreaks (why.Busy host) c start told told_now old new = CallKeeps c start told told_now old new
+KeepsOrBreaks (why.Dirty host) c start told told_now old new = CallKeeps c start told told_now old new
+KeepsOrBreaks (why.HasSuper uuid) c start told told_now old new = CallKeeps c start told told_now old new
+KeepsOrBreaks why.Idle c start told told_now old new = CallKeeps c start told told_now old new
+KeepsOrBreaks (why.NoLine at lines) c start told told_now old new = CallKeeps c start told told_now old new
+KeepsOrBreaks (why.NoFile name) c start told told_now old new = CallKeeps c start told told_now old new
+KeepsOrBreaks (why.CopyLimit sum) c start told told_now old new = CallKeeps c start told told_now old new
+KeepsOrBreaks (why.BadListing at) c start told told_now old new = CallKeeps c start told told_now old new
+KeepsOrBreaks (why.MediaFault at) c start told told_now old new = CallBreaks c start told told_now old new
+
+abbrev pub MakeLeaves : Option Refusal → Call → Image → Option Image → Option Image → WorldView → WorldView → Type 0
+MakeLeaves None c start told told_now old new = CallKeeps c start told told_now old new
+MakeLeaves (Some cause) c start told told_now old new = KeepsOrBreaks cause c start told told_now old new
+
+-- mkfs
+pub record MakeCall (c : Call) (lines : ℕ) (answered : Option Refusal) (told told_now : Option Image) (faults faults_now : ℕ) (old new : WorldView) : Type 0 where
+  pub answers : Answers c lines answered faults faults_now old new
+  pub leaves : (start : Image) → MakeLeaves answered c start told told_now old new
+
+-- a finish that found no memory: what it did until then stands. Any other call has done nothing (`LeavesAll`)
+pub record FinishWant (name : List ℕ) (lines : ℕ) (told told_now : Option Image) (faults faults_now : ℕ) (old new : WorldView) : Type 0 where
+  pub adds : Adds lines faults faults_now old new
+  pub form : IsFormed old → PartForm (call.Finishes name) lines (forms_of old.journal) adds.notes
+  pub parts : (start : Image) → CallParts (call.Finishes name) start told told_now old new
+
+-- The world after an operation that memory served, as the world's own task has it.
+
+-- a host's own task does its operation on the image
+abbrev pub own_machine : Image → HostView → Machine
+own_machine image view = record { image = image; cache = view.cache }
+
+abbrev pub own_turn : Image → HostView → Task → Turn
+own_turn image view t = turn_given t (unwrap_or (given (op_of t) (own_machine image view)) 0)
+
+abbrev pub stepped_world : Image → ℕ → HostView → Task → WorldView → WorldView
+stepped_world image h view t world = record {
+  hosts = changed_at h (λ v. record v { cache = (operated (op_of t) (own_machine image view)).cache; task = task_after (own_turn image view t) }) world.hosts;
+  journal = world.journal ++ notes_of h (note_of (own_turn image view t));
+}
+
+-- it is the row of a step, on the state that the world stands for
+pub record IsStepped (name : List ℕ) (h : ℕ) (view : HostView) (t : Task) (state : Machines) (world : WorldView) : Type 0 where
+  pub left : Machines
+  pub row : Does (call.Steps name) state (notes_of h (note_of (own_turn state.memory view t))) left
+  pub memory : left.memory ≡ (operated (op_of t) (own_machine state.memory view)).image
+  pub stands : WorldStands (length state.memory) left (stepped_world state.memory h view t world)

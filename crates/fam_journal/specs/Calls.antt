@@ -1,0 +1,278 @@
+-- The calls of the world, and what each of them does on the machine of all hosts: a row for each, by the first refusal.
+use Prim.Native.Nat.{zero, suc}
+use Rattle.std.specs.Prelude.{ℕ, ⊤, ◌≡◌, ◌⊎◌, ◌+◌, ◌*◌, ◌==◌, ◌&&◌, ◌||◌, not, nat_le, nat_lt, if◌then◌else◌, Bool, true, false, List, [], ◌∷◌, ◌++◌, length, slice_get, Option, Some, None, is_some, option_map, Ok}
+use Rattle.std.specs.FinMap as map
+use Rattle.fam_base.specs.declared.cmd.Cmd.{Cmd}
+use Rattle.fam_base.specs.declared.entry.Params.{Params}
+use Rattle.fam_base.specs.PathOrder.{path_eq}
+use Rattle.fam_format.specs.Layout.{least_lines}
+use Rattle.fam_format.specs.Stop.{or_else}
+use Rattle.fam_machine.specs.Caches.{dirty_count}
+use Rattle.fam_machine.specs.Operations.{Machine, operated_all}
+use Rattle.fam_rules.specs.Place.{line_bytes}
+use Rattle.fam_journal.specs.declared.refusal.Refusal.{Refusal}
+use Rattle.fam_journal.specs.declared.refusal.Refusal.TheVariants as why
+use Rattle.fam_machine.specs.HostMoves.{Move, move_failed, moved}
+use Rattle.fam_machine.specs.Cuts.{Cuts}
+use Rattle.fam_journal.specs.Machines.{HostState, Machines, Operation, machine_of, task_begun, with_machine, with_memory, with_task}
+use Rattle.fam_journal.specs.Members.{place_of}
+use Rattle.fam_machine.specs.Mkfs as early
+use Rattle.fam_machine.specs.Mkfs.{EarlyRefusal, asked, due_ops, early_refusal, found, goes_on, mkfs_ops, read_ops}
+use Rattle.fam_journal.specs.Notes.{Note, Host, Made, Start, Stop, Halt, Refused}
+
+-- what the world is asked for, of the host of a name
+pub data Call : Type 0 where
+  Declares : (name uuid : List ℕ) → Call
+  Makes : (name fs : List ℕ) (unit log : ℕ) (force : Bool) → Call
+  Begins : (name : List ℕ) (cmd : Cmd) → Call
+  Steps : (name : List ℕ) → Call
+  Finishes : (name : List ℕ) → Call
+  Stops : (name : List ℕ) → Call
+  Halts : (name : List ℕ) → Call
+  Moves : (name : List ℕ) (line : ℕ) (move : Move) → Call
+  Refuses : (name : List ℕ) (cause : Refusal) → Call
+
+-- the host that is asked
+abbrev pub name_of : Call → List ℕ
+name_of (Declares name uuid) = name
+name_of (Makes name fs unit log force) = name
+name_of (Begins name cmd) = name
+name_of (Steps name) = name
+name_of (Finishes name) = name
+name_of (Stops name) = name
+name_of (Halts name) = name
+name_of (Moves name line move) = name
+name_of (Refuses name cause) = name
+
+-- Refusals, in the order in which they are tried.
+
+-- a name is told by its bytes, and so is a UUID
+abbrev pub has_name : List ℕ → HostState → Bool
+has_name name host = path_eq host.name name
+
+-- the number of the host of a name
+abbrev pub number_of : List ℕ → Machines → Option ℕ
+number_of name m = place_of (has_name name) m.hosts
+
+-- the host has a task
+abbrev pub is_busy : HostState → Bool
+is_busy host = is_some host.task
+
+-- host h is declared and has a task
+abbrev pub is_busy_host : Option HostState → Bool
+is_busy_host None = false
+is_busy_host (Some host) = is_busy host
+
+abbrev pub busy_at : ℕ → Machines → Bool
+busy_at h m = is_busy_host (slice_get m.hosts h)
+
+-- the most hosts of a run
+abbrev pub host_limit : ℕ
+host_limit = 64
+
+-- an earlier host of this name or this UUID
+abbrev pub is_same : List ℕ → List ℕ → HostState → Bool
+is_same name uuid host = path_eq host.name name || path_eq host.uuid uuid
+
+abbrev pub same_refusal : Option ℕ → Option Refusal
+same_refusal None = None
+same_refusal (Some h) = Some (why.SameHost (record { 0 = h }))
+
+abbrev pub busy_refusal : Option ℕ → Option Refusal
+busy_refusal None = None
+busy_refusal (Some h) = Some (why.Busy (record { 0 = h }))
+
+abbrev pub dirty_refusal : Option ℕ → Option Refusal
+dirty_refusal None = None
+dirty_refusal (Some h) = Some (why.Dirty (record { 0 = h }))
+
+abbrev pub when : Bool → Refusal → Option Refusal
+when true cause = Some cause
+when false cause = None
+
+-- the first host other than the maker that has a dirty line; hosts are counted from i
+abbrev pub dirty_from : ℕ → ℕ → List HostState → Option ℕ
+dirty_from maker i [] = None
+dirty_from maker i (host ∷ hosts) =
+    if not (i == maker) && nat_lt 0 (dirty_count host.cache) then Some i else dirty_from maker (i + 1) hosts
+
+-- what is refused of the numbers, as a cause
+abbrev pub cause_of : EarlyRefusal → Refusal
+cause_of (early.BadGeometry unit log) = why.BadGeometry unit log
+cause_of (early.TooSmall needed have) = why.TooSmall needed have
+
+-- before any operation of making a file system, for the maker's number: the numbers, and then the hosts
+abbrev pub makes_refusal : ℕ → ℕ → ℕ → Machines → Option Refusal
+makes_refusal unit log h m =
+    or_else (option_map cause_of (early_refusal unit log (line_bytes * length m.memory)))
+    (or_else (busy_refusal (place_of is_busy m.hosts)) (dirty_refusal (dirty_from h 0 m.hosts)))
+
+-- what may be asked of a declared host
+abbrev pub on_host : Option ℕ → (ℕ → Option Refusal) → Option Refusal
+on_host None next = Some why.NoHost
+on_host (Some h) next = next h
+
+-- a command may begin: the image has a gate, and the host no task
+abbrev pub begins_refusal : ℕ → Machines → Option Refusal
+begins_refusal h m =
+    or_else (when (nat_lt (length m.memory) least_lines) (why.ImageSmall (length m.memory))) (when (busy_at h m) (why.Busy (record { 0 = h })))
+
+-- by a host's name: why nothing may begin there
+abbrev pub may_begin : List ℕ → Machines → Option Refusal
+may_begin name m = on_host (number_of name m) (λ h. begins_refusal h m)
+
+abbrev pub idle_refusal : ℕ → Machines → Option Refusal
+idle_refusal h m = when (not (busy_at h m)) why.Idle
+
+abbrev pub line_refusal : ℕ → Machines → Option Refusal
+line_refusal line m = when (nat_le (length m.memory) line) (why.NoLine line (length m.memory))
+
+-- the first refusal of a call, or none
+unfoldable pub refusal_of : Call → Machines → Option Refusal
+refusal_of (Declares name uuid) m =
+    or_else (same_refusal (place_of (is_same name uuid) m.hosts)) (when (nat_le host_limit (length m.hosts)) why.TooManyHosts)
+refusal_of (Makes name fs unit log force) m = on_host (number_of name m) (λ h. makes_refusal unit log h m)
+refusal_of (Begins name cmd) m = on_host (number_of name m) (λ h. begins_refusal h m)
+refusal_of (Steps name) m = on_host (number_of name m) (λ h. idle_refusal h m)
+refusal_of (Finishes name) m = on_host (number_of name m) (λ h. idle_refusal h m)
+refusal_of (Stops name) m = on_host (number_of name m) (λ h. idle_refusal h m)
+refusal_of (Halts name) m = on_host (number_of name m) (λ h. None)
+refusal_of (Moves name line move) m = on_host (number_of name m) (λ h. line_refusal line m)
+refusal_of (Refuses name cause) m = None
+
+-- Causes that are handed in: what an ask's source comes to, or that nothing may begin.
+
+abbrev pub IsOfSource : Refusal → Type 0
+IsOfSource why.NoHost = ⊥
+IsOfSource (why.SameHost host) = ⊥
+IsOfSource why.TooManyHosts = ⊥
+IsOfSource (why.BadGeometry unit log) = ⊥
+IsOfSource (why.TooSmall need have) = ⊥
+IsOfSource (why.ImageSmall lines) = ⊥
+IsOfSource (why.Busy host) = ⊥
+IsOfSource (why.Dirty host) = ⊥
+IsOfSource (why.HasSuper uuid) = ⊥
+IsOfSource why.Idle = ⊥
+IsOfSource (why.NoLine at lines) = ⊥
+IsOfSource (why.NoFile name) = ⊤
+IsOfSource (why.CopyLimit sum) = ⊤
+IsOfSource (why.BadListing at) = ⊤
+IsOfSource (why.MediaFault at) = ⊥
+
+abbrev pub MayRefuse : List ℕ → Refusal → Machines → Type 0
+MayRefuse name cause m = IsOfSource cause ⊎ (may_begin name m ≡ Some cause)
+
+-- Rows.
+
+-- so many operations of host h, fewer where its task answers
+abbrev pub Operates : ℕ → ℕ → Machines → List Note → Machines → Type 0
+Operates h zero old notes new = (notes ≡ []) × (new ≡ old)
+Operates h (suc n) old notes new =
+    ((busy_at h old ≡ false) × (notes ≡ []) × (new ≡ old)) ⊎ ((busy_at h old ≡ true) × (mid : Machines) × (first : List Note) × (rest : List Note) × Operation h old first mid × Operates h n mid rest new × (notes ≡ first ++ rest))
+
+-- operations up to the answer
+pub record Completes (h : ℕ) (old : Machines) (notes : List Note) (new : Machines) : Type 0 where
+  pub count : ℕ
+  pub does : Operates h count old notes new
+  pub done : busy_at h new ≡ false
+
+-- of a declared host
+abbrev pub OnHost : Option HostState → (HostState → Type 0) → Type 0
+OnHost None P = ⊥
+OnHost (Some host) P = P host
+
+abbrev pub AtHost : ℕ → Machines → (HostState → Type 0) → Type 0
+AtHost h m P = OnHost (slice_get m.hosts h) P
+
+-- a file system is made, all 81 operations; or a superblock stands there, and 27 are
+pub record IsMade (h : ℕ) (p : Params) (force : Bool) (host : HostState) (old : Machines) (notes : List Note) (new : Machines) : Type 0 where
+  pub free : goes_on force (found p (machine_of old host)) ≡ true
+  pub notes_are : notes ≡ Made h p ∷ []
+  pub left : new ≡ with_machine h (operated_all (mkfs_ops p) (machine_of old host)) host.task old
+
+pub record Meets (h : ℕ) (p : Params) (force : Bool) (name : List ℕ) (host : HostState) (old : Machines) (notes : List Note) (new : Machines) : Type 0 where
+  pub unforced : force ≡ false
+  pub other : Params
+  pub stands : found p (machine_of old host) ≡ Ok other
+  pub notes_are : notes ≡ Refused name (why.HasSuper other.fs) ∷ []
+  pub left : new ≡ with_machine h (operated_all read_ops (machine_of old host)) host.task old
+
+-- memory failed in one of the operations that are due
+pub record MakesCut (h : ℕ) (p : Params) (force : Bool) (name : List ℕ) (host : HostState) (old : Machines) (notes : List Note) (new : Machines) : Type 0 where
+  pub line : ℕ
+  pub left : Machine
+  pub cuts : Cuts (due_ops force p (machine_of old host)) (machine_of old host) line left
+  pub notes_are : notes ≡ Refused name (why.MediaFault (record { 0 = line })) ∷ []
+  pub left_is : new ≡ with_machine h left host.task old
+
+-- a cache moved; or memory failed in it
+pub record Moved (h line : ℕ) (move : Move) (host : HostState) (old : Machines) (notes : List Note) (new : Machines) : Type 0 where
+  pub notes_are : notes ≡ []
+  pub left : new ≡ with_machine h (moved move line (machine_of old host)) host.task old
+
+pub record MoveFails (h line : ℕ) (move : Move) (name : List ℕ) (host : HostState) (old : Machines) (notes : List Note) (new : Machines) : Type 0 where
+  pub through : ℕ
+  pub image : Rattle.fam_base.specs.Image.Image
+  pub fails : move_failed move line through (machine_of old host) ≡ Some image
+  pub notes_are : notes ≡ Refused name (why.MediaFault (record { 0 = line })) ∷ []
+  pub left : new ≡ with_memory image old
+
+-- what a call does that isn't refused, and after which the run goes on
+abbrev pub ActsAt : Call → ℕ → HostState → Machines → List Note → Machines → Type 0
+ActsAt (Declares name uuid) h host old notes new = ⊥
+ActsAt (Makes name fs unit log force) h host old notes new =
+    IsMade h (asked unit log fs host.uuid (length old.memory)) force host old notes new ⊎ Meets h (asked unit log fs host.uuid (length old.memory)) force name host old notes new
+ActsAt (Begins name cmd) h host old notes new =
+    (notes ≡ Start h cmd ∷ []) × (new ≡ with_task h (Some (task_begun cmd host.uuid)) old)
+ActsAt (Steps name) h host old notes new = Operation h old notes new
+ActsAt (Finishes name) h host old notes new = Completes h old notes new
+ActsAt (Stops name) h host old notes new = (notes ≡ Stop h ∷ []) × (new ≡ with_task h None old)
+ActsAt (Halts name) h host old notes new =
+    (notes ≡ Halt h ∷ []) × (new ≡ with_machine h (record { image = old.memory; cache = map.empty }) None old)
+ActsAt (Moves name line move) h host old notes new = Moved h line move host old notes new ⊎ MoveFails h line move name host old notes new
+ActsAt (Refuses name cause) h host old notes new = ⊥
+
+-- of the host of this number
+abbrev pub AtNumber : Option ℕ → Machines → (ℕ → HostState → Type 0) → Type 0
+AtNumber None m P = ⊥
+AtNumber (Some h) m P = AtHost h m (P h)
+
+abbrev pub ActsOf : Call → Machines → List Note → Machines → Type 0
+ActsOf call old notes new = AtNumber (number_of (name_of call) old) old (λ h host. ActsAt call h host old notes new)
+
+abbrev pub Acts : Call → Machines → List Note → Machines → Type 0
+Acts (Declares name uuid) old notes new =
+    (notes ≡ Host name uuid ∷ []) × (new ≡ record old { hosts = old.hosts ++ record { name = name; uuid = uuid; cache = map.empty; task = None } ∷ [] })
+Acts (Refuses name cause) old notes new = (notes ≡ Refused name cause ∷ []) × (new ≡ old) × MayRefuse name cause old
+Acts (Makes name fs unit log force) old notes new = ActsOf (Makes name fs unit log force) old notes new
+Acts (Begins name cmd) old notes new = ActsOf (Begins name cmd) old notes new
+Acts (Steps name) old notes new = ActsOf (Steps name) old notes new
+Acts (Finishes name) old notes new = ActsOf (Finishes name) old notes new
+Acts (Stops name) old notes new = ActsOf (Stops name) old notes new
+Acts (Halts name) old notes new = ActsOf (Halts name) old notes new
+Acts (Moves name line move) old notes new = ActsOf (Moves name line move) old notes new
+
+-- a refused call leaves its note, and nothing else
+abbrev pub ByRefusal : List ℕ → Option Refusal → List Note → Machines → Machines → Type 0 → Type 0
+ByRefusal name (Some cause) notes old new acts = (notes ≡ Refused name cause ∷ []) × (new ≡ old)
+ByRefusal name None notes old new acts = acts
+
+-- what a call does after which the run goes on
+abbrev pub Does : Call → Machines → List Note → Machines → Type 0
+Does call old notes new = ByRefusal (name_of call) (refusal_of call old) notes old new (Acts call old notes new)
+
+-- making a file system is cut by memory: nothing goes on behind it
+abbrev pub CutsAt : Call → ℕ → HostState → Machines → List Note → Machines → Type 0
+CutsAt (Makes name fs unit log force) h host old notes new = MakesCut h (asked unit log fs host.uuid (length old.memory)) force name host old notes new
+CutsAt (Declares name uuid) h host old notes new = ⊥
+CutsAt (Begins name cmd) h host old notes new = ⊥
+CutsAt (Steps name) h host old notes new = ⊥
+CutsAt (Finishes name) h host old notes new = ⊥
+CutsAt (Stops name) h host old notes new = ⊥
+CutsAt (Halts name) h host old notes new = ⊥
+CutsAt (Moves name line move) h host old notes new = ⊥
+CutsAt (Refuses name cause) h host old notes new = ⊥
+
+abbrev pub BreaksOff : Call → Machines → List Note → Machines → Type 0
+BreaksOff call old notes new =
+    (refusal_of call old ≡ None) × AtNumber (number_of (name_of call) old) old (λ h host. CutsAt call h host old notes new)

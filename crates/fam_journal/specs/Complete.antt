@@ -1,0 +1,187 @@
+-- What a command may answer at last, by the rules: in each state, for each command. A master's append that the decision
+-- doesn't refuse, unless memory fails, answers that it is done.
+use Rattle.std.specs.Prelude.{ℕ, ⊤, ◌≡◌, ◌≢◌, ◌⊎◌, ◌*◌, List, [], ◌∷◌, ◌++◌, length, take, slice_get, Option, Some, None, Err}
+use Rattle.fam_base.specs.declared.cmd.Cmd.{Cmd}
+use Rattle.fam_base.specs.declared.cmd.Cmd.TheVariants.{Logplay, Mkdir, Creat, Cp, Verify, Read, Check, Fsck}
+use Rattle.fam_base.specs.declared.entry.Params.{Params}
+use Rattle.fam_base.specs.Image.{Image, line_at}
+use Rattle.fam_rules.specs.declared.answers.Refused.{Refused as Cause}
+use Rattle.fam_rules.specs.declared.answers.Refused.TheVariants as cause
+use Rattle.fam_rules.specs.declared.answers.Report.{Report}
+use Rattle.fam_rules.specs.Asks.{File, ask, entries_of}
+use Rattle.fam_rules.specs.Decide.{decide}
+use Rattle.fam_rules.specs.Place.{line_bytes}
+use Rattle.fam_rules.specs.Reply as reply
+use Rattle.fam_rules.specs.Reply.{Reply}
+use Rattle.fam_rules.specs.Reports.{report_of}
+use Rattle.fam_media.specs.Files.{Files}
+use Rattle.fam_journal.specs.declared.event.Event.{Event}
+use Rattle.fam_journal.specs.declared.event.Event.TheVariants as event
+use Rattle.fam_journal.specs.declared.refusal.Refusal.{Refusal}
+use Rattle.fam_journal.specs.Calls.{Completes}
+use Rattle.fam_journal.specs.Events.{Session, first_session}
+use Rattle.fam_journal.specs.Follows.{Follows}
+use Rattle.fam_journal.specs.Ends.{IsClean}
+use Rattle.fam_journal.specs.Machines.{Machines}
+use Rattle.fam_journal.specs.Legal.{InBounds, IsReportOf, OfHost, damaged_master}
+use Rattle.fam_journal.specs.Notes.{Answer, Replied, MediaFault, Note, Host, Made, Start, Mark, Found, Writes, Answered, Stop, Halt, Refused}
+use Rattle.fam_journal.specs.Past.{first_past, Damage, FewLines, NoSuperblock, BadHeader, BadSlot, State, Bad, Sound, HostPast, Past, past_after, with_pending}
+
+-- Sound states.
+
+-- another host than the master
+pub record IsStranger (p : Params) (host : HostPast) (why : Cause) : Type 0 where
+  pub other : host.uuid ≢ p.master
+  pub is : why ≡ cause.NotMaster host.uuid p.master
+
+-- it is done; or its host is a stranger; or the decision refuses it, with nothing pending
+abbrev pub IsAppendAnswer : Params → List File → Option File → HostPast → Cmd → Reply → Type 0
+IsAppendAnswer p history pending host cmd (reply.Appended seq) = ⊤
+IsAppendAnswer p history pending host cmd (reply.NotAppended why) =
+    IsStranger p host why ⊎ ((pending ≡ None) × (decide p host.uuid (entries_of history) cmd ≡ Some (Err why)))
+IsAppendAnswer p history pending host cmd (reply.Played m tree) = ⊥
+IsAppendAnswer p history pending host cmd (reply.Same m) = ⊥
+IsAppendAnswer p history pending host cmd (reply.Differs m offset found wanted) = ⊥
+IsAppendAnswer p history pending host cmd (reply.Length m size wanted) = ⊥
+IsAppendAnswer p history pending host cmd (reply.Bytes m bytes) = ⊥
+IsAppendAnswer p history pending host cmd (reply.NotFound m) = ⊥
+IsAppendAnswer p history pending host cmd (reply.IsDirectory m) = ⊥
+IsAppendAnswer p history pending host cmd (reply.Checks m checked) = ⊥
+IsAppendAnswer p history pending host cmd (reply.Reports report) = ⊥
+IsAppendAnswer p history pending host cmd (reply.NoSuperblock fault) = ⊥
+IsAppendAnswer p history pending host cmd (reply.BadHeader fault) = ⊥
+IsAppendAnswer p history pending host cmd (reply.BadSlot seq reason) = ⊥
+
+-- the question's answer on the first entries, of which there are so many as were settled at the mark, or more
+pub record IsAsked (host : HostPast) (all : List File) (cmd : Cmd) (given : Reply) : Type 0 where
+  pub m : ℕ
+  pub bounds : InBounds host m all
+  pub is : ask (take m all) cmd ≡ Some given
+
+pub record IsReported (p : Params) (host : HostPast) (all : List File) (given : Reply) : Type 0 where
+  pub report : Report
+  pub is : given ≡ reply.Reports report
+  pub says : IsReportOf p host all report
+
+abbrev pub IsSoundAnswer : Params → List File → Option File → HostPast → Cmd → Reply → Type 0
+IsSoundAnswer p history pending host Logplay given = IsAsked host (with_pending history pending) Logplay given
+IsSoundAnswer p history pending host (Mkdir path attr) given = IsAppendAnswer p history pending host (Mkdir path attr) given
+IsSoundAnswer p history pending host (Creat path size attr stripe fill) given =
+    IsAppendAnswer p history pending host (Creat path size attr stripe fill) given
+IsSoundAnswer p history pending host (Cp path attr stripe bytes) given = IsAppendAnswer p history pending host (Cp path attr stripe bytes) given
+IsSoundAnswer p history pending host (Verify path against) given = IsAsked host (with_pending history pending) (Verify path against) given
+IsSoundAnswer p history pending host (Read path offset count) given = IsAsked host (with_pending history pending) (Read path offset count) given
+IsSoundAnswer p history pending host (Check entries) given = IsAsked host (with_pending history pending) (Check entries) given
+IsSoundAnswer p history pending host Fsck given = IsReported p host (with_pending history pending) given
+
+-- Damaged states.
+
+-- the fault's own answer. Where there is no gate no command begins
+abbrev pub IsFaultAnswer : Damage → Reply → Type 0
+IsFaultAnswer (FewLines lines) given = ⊥
+IsFaultAnswer (NoSuperblock fault) given = given ≡ reply.NoSuperblock fault
+IsFaultAnswer (BadHeader fault) given = given ≡ reply.BadHeader fault
+IsFaultAnswer (BadSlot i reason) given = given ≡ reply.BadSlot i reason
+
+-- another host than the one that the superblock names, where it reads
+pub record IsDamagedStranger (image : Image) (damage : Damage) (host : HostPast) (given : Reply) : Type 0 where
+  pub master : List ℕ
+  pub master_is : damaged_master image damage ≡ Some master
+  pub other : host.uuid ≢ master
+  pub is : given ≡ reply.NotAppended (cause.NotMaster host.uuid master)
+
+-- the fault; and whose command appends is the one that the superblock names, where it reads
+pub record IsDamagedMaster (image : Image) (damage : Damage) (host : HostPast) (given : Reply) : Type 0 where
+  pub is : IsFaultAnswer damage given
+  pub own : (master : List ℕ) → damaged_master image damage ≡ Some master → host.uuid ≡ master
+
+-- an append answers that its host is a stranger, just where it is one; and else the fault
+abbrev pub IsDamagedAppend : Image → Damage → HostPast → Reply → Type 0
+IsDamagedAppend image damage host given = IsDamagedMaster image damage host given ⊎ IsDamagedStranger image damage host given
+
+-- a check of the whole file system reports; another command that reads answers the fault, whoever asks
+abbrev pub IsDamagedAnswer : Image → Damage → HostPast → Cmd → Reply → Type 0
+IsDamagedAnswer image damage host Fsck given = given ≡ reply.Reports (report_of (line_at image) (line_bytes * length image))
+IsDamagedAnswer image damage host Logplay given = IsFaultAnswer damage given
+IsDamagedAnswer image damage host (Mkdir path attr) given = IsDamagedAppend image damage host given
+IsDamagedAnswer image damage host (Creat path size attr stripe fill) given = IsDamagedAppend image damage host given
+IsDamagedAnswer image damage host (Cp path attr stripe bytes) given = IsDamagedAppend image damage host given
+IsDamagedAnswer image damage host (Verify path against) given = IsFaultAnswer damage given
+IsDamagedAnswer image damage host (Read path offset count) given = IsFaultAnswer damage given
+IsDamagedAnswer image damage host (Check entries) given = IsFaultAnswer damage given
+
+abbrev pub IsRuled : State → HostPast → Cmd → Reply → Type 0
+IsRuled (Sound p history pending) host cmd given = IsSoundAnswer p history pending host cmd given
+IsRuled (Bad image damage gate) host cmd given = IsDamagedAnswer image damage host cmd given
+
+-- Journals.
+
+-- of the host's last command
+pub record HasRuled (past : Past) (given : Reply) (host : HostPast) : Type 0 where
+  pub cmd : Cmd
+  pub told : host.cmd ≡ Some cmd
+  pub is : IsRuled past.state host cmd given
+
+abbrev pub IsRuledAnswer : Answer → ℕ → Past → Type 0
+IsRuledAnswer (Replied given) host past = OfHost (slice_get past.hosts host) (HasRuled past given)
+IsRuledAnswer (MediaFault line) host past = ⊤
+
+abbrev pub IsRuledNote : Note → Past → Type 0
+IsRuledNote (Host name uuid) past = ⊤
+IsRuledNote (Made host p) past = ⊤
+IsRuledNote (Start host cmd) past = ⊤
+IsRuledNote (Mark host) past = ⊤
+IsRuledNote (Found host n) past = ⊤
+IsRuledNote (Writes host seq entry) past = ⊤
+IsRuledNote (Answered host answer) past = IsRuledAnswer answer host past
+IsRuledNote (Stop host) past = ⊤
+IsRuledNote (Halt host) past = ⊤
+IsRuledNote (Refused name cause) past = ⊤
+
+-- every answer is one of the rules
+abbrev pub AreRuled : Past → List Note → Type 0
+AreRuled past [] = ⊤
+AreRuled past (note ∷ notes) = IsRuledNote note past × AreRuled (past_after past note) notes
+
+-- notes end in an answer of the rules
+pub record EndsInAnswer (notes : List Note) : Type 0 where
+  pub front : List Note
+  pub host : ℕ
+  pub given : Reply
+  pub is : notes ≡ front ++ Answered host (Replied given) ∷ []
+
+-- operations of a host, served by memory, up to its answer
+pub record CanEnd (h : ℕ) (state : Machines) : Type 0 where
+  pub notes : List Note
+  pub left : Machines
+  pub completes : Completes h state notes left
+  pub clean : IsClean notes
+
+-- Runs in which no count rose.
+
+-- a command that is run and isn't refused ends in an answer
+abbrev pub RunEnds : Event → List Note → Type 0
+RunEnds (event.Host name uuid) notes = ⊤
+RunEnds (event.Mkfs name fs unit log force) notes = ⊤
+RunEnds (event.Begin name what) notes = ⊤
+RunEnds (event.Run name what) notes = EndsInAnswer notes ⊎ ((why : Refusal) × (notes ≡ Refused name why ∷ []))
+RunEnds (event.Step name count) notes = ⊤
+RunEnds (event.Finish name) notes = ⊤
+RunEnds (event.Stop name) notes = ⊤
+RunEnds (event.Halt name) notes = ⊤
+RunEnds (event.Evict name line) notes = ⊤
+RunEnds (event.Leak name line mask) notes = ⊤
+RunEnds (event.Fetch name line mask) notes = ⊤
+
+abbrev pub RunsEnd : (files : Files) (events : List Event) (old : Session) (journal : List Note) (new : Session) → Follows files events old journal new → Type 0
+RunsEnd files [] old journal new follows = ⊤
+RunsEnd files (e ∷ events) old journal new follows = RunEnds e follows.1 × RunsEnd files events follows.0 follows.2 new follows.4
+
+-- all events are done, no note tells a fault, every answer is one of the rules, and every command that is run ends in one or
+-- is refused
+pub record IsComplete (files : Files) (events : List Event) (start : Image) (journal : List Note) : Type 0 where
+  pub last : Session
+  pub follows : Follows files events (first_session start) journal last
+  pub clean : IsClean journal
+  pub ruled : AreRuled (first_past start) journal
+  pub ends : RunsEnd files events (first_session start) journal last follows

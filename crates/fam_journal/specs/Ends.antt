@@ -1,0 +1,158 @@
+-- How a run of events ends: one journal and one last state. What is counted of it, what a script puts of it, and what the
+-- image reads as.
+use Rattle.std.specs.Prelude.{ℕ, ⊤, ◌≡◌, ◌⊎◌, ◌+◌, ◌^◌, ◌-◌, ◌≤◌, min, Bool, true, false, List, [], ◌∷◌, count_by, if◌then◌else◌}
+use Rattle.std.specs.List.{list_any}
+use Rattle.fam_base.specs.Image.{Image}
+use Rattle.fam_format.specs.Reading.{reading}
+use Rattle.fam_format.specs.Reading as read
+use Rattle.fam_media.specs.Files.{Files}
+use Rattle.fam_rules.specs.Asks.{entries_of}
+use Rattle.fam_journal.specs.declared.event.Event.{Event}
+use Rattle.fam_journal.specs.declared.refusal.Refusal.{Refusal}
+use Rattle.fam_journal.specs.declared.refusal.Refusal.TheVariants as why
+use Rattle.fam_journal.specs.Events.{Session}
+use Rattle.fam_journal.specs.Follows.{Follows, FollowsBroken, FollowsCut, FollowsFront, FollowsLast, FollowsToSource, SourceEnd}
+use Rattle.fam_journal.specs.Notes.{Answer, Replied, MediaFault, Note, Host, Made, Start, Mark, Found, Writes, Answered, Stop, Halt, Refused}
+use Rattle.fam_journal.specs.Past.{State, Bad, Sound, past_of, settled_length, with_pending}
+
+-- Notes that count.
+
+-- how many faults an answer tells
+abbrev pub answer_faults : Answer → ℕ
+answer_faults (Replied given) = 0
+answer_faults (MediaFault at) = 1
+
+abbrev pub cause_faults : Refusal → ℕ
+cause_faults why.NoHost = 0
+cause_faults (why.SameHost host) = 0
+cause_faults why.TooManyHosts = 0
+cause_faults (why.BadGeometry unit log) = 0
+cause_faults (why.TooSmall need have) = 0
+cause_faults (why.ImageSmall lines) = 0
+cause_faults (why.Busy host) = 0
+cause_faults (why.Dirty host) = 0
+cause_faults (why.HasSuper uuid) = 0
+cause_faults why.Idle = 0
+cause_faults (why.NoLine at lines) = 0
+cause_faults (why.NoFile name) = 0
+cause_faults (why.CopyLimit sum) = 0
+cause_faults (why.BadListing at) = 0
+cause_faults (why.MediaFault at) = 1
+
+abbrev pub note_faults : Note → ℕ
+note_faults (Host name uuid) = 0
+note_faults (Made host p) = 0
+note_faults (Start host cmd) = 0
+note_faults (Mark host) = 0
+note_faults (Found host n) = 0
+note_faults (Writes host seq entry) = 0
+note_faults (Answered host answer) = answer_faults answer
+note_faults (Stop host) = 0
+note_faults (Halt host) = 0
+note_faults (Refused name cause) = cause_faults cause
+
+-- how often memory failed, as the notes have it
+abbrev pub faults_of : List Note → ℕ
+faults_of [] = 0
+faults_of (note ∷ notes) = note_faults note + faults_of notes
+
+-- memory never failed
+abbrev pub IsClean : List Note → Type 0
+IsClean notes = faults_of notes ≡ 0
+
+-- a count of 64 bits rose by at least as many faults as these notes have, or stands at its last value
+abbrev pub HasCounted : ℕ → ℕ → List Note → Type 0
+HasCounted before now notes = min (before + faults_of notes) (2 ^ 64 - 1) ≤ now
+
+-- The run.
+
+-- how the run of events ends
+pub data Ending : Type 0 where
+  -- all events are done
+  AllDone : Ending
+  -- memory failed in a mkfs
+  MkfsFails : Ending
+  -- a source failed or was short
+  SourceFails : (end : SourceEnd) → Ending
+  -- no room was found
+  NoMemory : Ending
+  -- memory failed in a mkfs, and then no room was found for what is put
+  NoMemoryBroken : Ending
+  -- the put of an event's notes failed: no event behind it is done
+  SinkFails : Ending
+
+-- which events are done
+abbrev pub EndsBy : Ending → Files → List Event → Session → List Note → Session → Type 0
+EndsBy AllDone files events old journal new = Follows files events old journal new
+EndsBy MkfsFails files events old journal new = FollowsBroken files events old journal new
+EndsBy (SourceFails end) files events old journal new = FollowsToSource end files events old journal new
+EndsBy NoMemory files events old journal new = FollowsFront files events old journal new ⊎ FollowsCut files events old journal new
+EndsBy NoMemoryBroken files events old journal new = FollowsBroken files events old journal new
+EndsBy SinkFails files events old journal new = FollowsLast files events old journal new
+
+-- the image reads as what a journal settles; a damaged one is left as it is
+abbrev pub ReadsAs : State → Image → Type 0
+ReadsAs (Bad image damage gate) after = after ≡ image
+ReadsAs (Sound p history pending) after =
+    (reading after ≡ read.Sound p (entries_of history)) ⊎ (reading after ≡ read.Sound p (entries_of (with_pending history pending)))
+
+-- so it is but behind a mkfs in which memory failed
+abbrev pub ReadsAfter : Ending → State → Image → Type 0
+ReadsAfter AllDone state after = ReadsAs state after
+ReadsAfter MkfsFails state after = ⊤
+ReadsAfter (SourceFails end) state after = ReadsAs state after
+ReadsAfter NoMemory state after = ReadsAs state after
+ReadsAfter NoMemoryBroken state after = ⊤
+ReadsAfter SinkFails state after = ReadsAs state after
+
+-- The counts of a storm: answers, refusals, and the history's length at the end. That is 0 before the first mkfs that
+-- succeeded.
+
+abbrev pub is_answer_note : Note → Bool
+is_answer_note (Host name uuid) = false
+is_answer_note (Made host p) = false
+is_answer_note (Start host cmd) = false
+is_answer_note (Mark host) = false
+is_answer_note (Found host n) = false
+is_answer_note (Writes host seq entry) = false
+is_answer_note (Answered host answer) = true
+is_answer_note (Stop host) = false
+is_answer_note (Halt host) = false
+is_answer_note (Refused name cause) = false
+
+abbrev pub is_refused_note : Note → Bool
+is_refused_note (Host name uuid) = false
+is_refused_note (Made host p) = false
+is_refused_note (Start host cmd) = false
+is_refused_note (Mark host) = false
+is_refused_note (Found host n) = false
+is_refused_note (Writes host seq entry) = false
+is_refused_note (Answered host answer) = false
+is_refused_note (Stop host) = false
+is_refused_note (Halt host) = false
+is_refused_note (Refused name cause) = true
+
+abbrev pub is_made_note : Note → Bool
+is_made_note (Host name uuid) = false
+is_made_note (Made host p) = true
+is_made_note (Start host cmd) = false
+is_made_note (Mark host) = false
+is_made_note (Found host n) = false
+is_made_note (Writes host seq entry) = false
+is_made_note (Answered host answer) = false
+is_made_note (Stop host) = false
+is_made_note (Halt host) = false
+is_made_note (Refused name cause) = false
+
+pub record Counted : Type 0 where
+  pub answers : ℕ
+  pub refused : ℕ
+  pub settled : ℕ
+
+-- the journal alone tells the state behind a mkfs, whatever the image was
+abbrev pub counted : List Note → Counted
+counted journal = record {
+  answers = count_by is_answer_note journal;
+  refused = count_by is_refused_note journal;
+  settled = if list_any is_made_note journal then settled_length (past_of [] journal).state else 0;
+}

@@ -1,0 +1,428 @@
+-- The form of a journal's notes: which notes a call of the world may add whatever the media holds, by what the notes before
+-- them tell of the hosts.
+use Rattle.std.specs.Prelude.{replicate, ℕ, ◌*◌, ⊤, ◌≡◌, ◌≢◌, ◌⊎◌, ◌<◌, ◌≤◌, Bool, false, List, [], ◌∷◌, ◌++◌, length, map, slice_get, Option, Some, None, is_some, option_map}
+use Rattle.std.specs.FinMap as finmap
+use Rattle.fam_base.specs.declared.cmd.Cmd.{Cmd}
+use Rattle.fam_base.specs.declared.cmd.Cmd.TheVariants.{Logplay, Mkdir, Creat, Cp, Verify, Read, Check, Fsck}
+use Rattle.fam_base.specs.declared.entry.Entry.{Entry}
+use Rattle.fam_format.specs.Stop.{or_else}
+use Rattle.fam_commands.specs.declared.place.Part.TheVariants.{Superblock, Header, Slot, File}
+use Rattle.fam_commands.specs.declared.place.Place.{Place}
+use Rattle.fam_commands.specs.declared.place.Place.TheVariants as at
+use Rattle.fam_machine.specs.Mkfs.{asked, early_refusal}
+use Rattle.fam_commands.specs.Stands.{StandsFor}
+use Rattle.fam_commands.specs.Task.{Task}
+use Rattle.fam_commands.specs.Appends.{HasWish}
+use Rattle.fam_rules.specs.declared.answers.Refused.{Refused as Cause}
+use Rattle.fam_rules.specs.declared.answers.Refused.TheVariants as cause
+use Rattle.fam_rules.specs.Decide.{Wish, wish_of}
+use Rattle.fam_rules.specs.Place.{line_bytes}
+use Rattle.fam_rules.specs.Reply as reply
+use Rattle.fam_rules.specs.Reply.{Reply}
+use Rattle.fam_journal.specs.declared.refusal.Refusal.{Refusal}
+use Rattle.fam_journal.specs.declared.refusal.Refusal.TheVariants as why
+use Rattle.fam_journal.specs.Calls as call
+use Rattle.fam_journal.specs.Calls.{Call, IsOfSource, busy_refusal, cause_of, is_busy, may_begin, name_of, number_of, on_host, refusal_of}
+use Rattle.fam_journal.specs.Machines.{HostState, Machines, TaskState, task_begun}
+use Rattle.fam_journal.specs.Members.{changed_at, place_of}
+use Rattle.fam_journal.specs.Notes.{Answer, Replied, MediaFault, Note, Host, Made, Start, Mark, Found, Writes, Answered, Stop, Halt, Refused}
+use Rattle.fam_journal.specs.Past.{reported_count}
+use Rattle.fam_journal.specs.View.{HostView, WorldView}
+
+-- What a journal tells of the hosts alone.
+
+-- how far a command has come, by the notes that it gave
+pub data Stage : Type 0 where
+  Begun : Stage
+  -- the gate's line was dropped
+  Marked : Stage
+  -- a command that appends found so many entries
+  Met : (n : ℕ) → Stage
+  -- it named the entry of this number
+  Named : (seq : ℕ) → Stage
+
+pub record TaskForm : Type 0 where
+  pub cmd : Cmd
+  pub stage : Stage
+
+-- a host with its running command, if any
+pub record HostForm : Type 0 where
+  pub name : List ℕ
+  pub uuid : List ℕ
+  pub task : Option TaskForm
+
+-- its command, if any, has come to a stage
+abbrev pub with_stage : Stage → HostForm → HostForm
+with_stage stage host = record host { task = option_map (λ (t : TaskForm). record t { stage = stage }) host.task }
+
+-- the hosts after a note
+abbrev pub forms_after : List HostForm → Note → List HostForm
+forms_after hosts (Host name uuid) = hosts ++ record { name = name; uuid = uuid; task = None } ∷ []
+forms_after hosts (Made h p) = hosts
+forms_after hosts (Start h cmd) = changed_at h (λ host. record host { task = Some (record { cmd = cmd; stage = Begun }) }) hosts
+forms_after hosts (Mark h) = changed_at h (with_stage Marked) hosts
+forms_after hosts (Found h n) = changed_at h (with_stage (Met n)) hosts
+forms_after hosts (Writes h seq entry) = changed_at h (with_stage (Named seq)) hosts
+forms_after hosts (Answered h answer) = changed_at h (λ host. record host { task = None }) hosts
+forms_after hosts (Stop h) = changed_at h (λ host. record host { task = None }) hosts
+forms_after hosts (Halt h) = changed_at h (λ host. record host { task = None }) hosts
+forms_after hosts (Refused name why) = hosts
+
+-- the hosts after some notes more
+abbrev pub forms_behind : List HostForm → List Note → List HostForm
+forms_behind hosts [] = hosts
+forms_behind hosts (note ∷ notes) = forms_behind (forms_after hosts note) notes
+
+-- the hosts after a journal
+abbrev pub forms_of : List Note → List HostForm
+forms_of journal = forms_behind [] journal
+
+-- Answers of a command that has come to a stage.
+
+abbrev pub IsVerify : Cmd → Type 0
+IsVerify Logplay = ⊥
+IsVerify (Mkdir path attr) = ⊥
+IsVerify (Creat path size attr stripe fill) = ⊥
+IsVerify (Cp path attr stripe bytes) = ⊥
+IsVerify (Verify path against) = ⊤
+IsVerify (Read path offset count) = ⊥
+IsVerify (Check entries) = ⊥
+IsVerify Fsck = ⊥
+
+abbrev pub IsRead : Cmd → Type 0
+IsRead Logplay = ⊥
+IsRead (Mkdir path attr) = ⊥
+IsRead (Creat path size attr stripe fill) = ⊥
+IsRead (Cp path attr stripe bytes) = ⊥
+IsRead (Verify path against) = ⊥
+IsRead (Read path offset count) = ⊤
+IsRead (Check entries) = ⊥
+IsRead Fsck = ⊥
+
+abbrev pub IsCheck : Cmd → Type 0
+IsCheck Logplay = ⊥
+IsCheck (Mkdir path attr) = ⊥
+IsCheck (Creat path size attr stripe fill) = ⊥
+IsCheck (Cp path attr stripe bytes) = ⊥
+IsCheck (Verify path against) = ⊥
+IsCheck (Read path offset count) = ⊥
+IsCheck (Check entries) = ⊤
+IsCheck Fsck = ⊥
+
+-- nothing was found yet
+abbrev pub IsHead : Stage → Type 0
+IsHead Begun = ⊤
+IsHead Marked = ⊤
+IsHead (Met n) = ⊥
+IsHead (Named seq) = ⊥
+
+-- the gate was read, and nothing is named
+abbrev pub IsReading : Stage → Type 0
+IsReading Begun = ⊥
+IsReading Marked = ⊤
+IsReading (Met n) = ⊤
+IsReading (Named seq) = ⊥
+
+-- what a command that appends found
+abbrev pub HasMet : Stage → Type 0
+HasMet Begun = ⊥
+HasMet Marked = ⊥
+HasMet (Met n) = ⊤
+HasMet (Named seq) = ⊥
+
+-- an answer that tells a count of entries stands behind the mark
+abbrev pub CountForm : Option ℕ → Stage → Type 0
+CountForm None stage = ⊤
+CountForm (Some m) stage = stage ≡ Marked
+
+-- why nothing is appended: the host is another one than the master; or what the found entries tell
+abbrev pub CauseForm : List ℕ → Stage → Cause → Type 0
+CauseForm me stage (cause.NotMaster own master) = (own ≡ me) × (own ≢ master) × ((stage ≡ Begun) ⊎ HasMet stage)
+CauseForm me stage cause.BadStripe = HasMet stage
+CauseForm me stage (cause.Exists kind) = HasMet stage
+CauseForm me stage cause.NoParent = HasMet stage
+CauseForm me stage cause.ParentIsFile = HasMet stage
+CauseForm me stage (cause.LogFull slots) = HasMet stage
+CauseForm me stage (cause.NoSpace units) = HasMet stage
+
+-- which replies a host's command can give, and where: that it is done behind the entry of this number that it named
+abbrev pub ReplyForm : List ℕ → Cmd → Stage → Reply → Type 0
+ReplyForm me cmd stage (reply.Appended seq) = stage ≡ Named seq
+ReplyForm me cmd stage (reply.NotAppended why) = HasWish cmd × CauseForm me stage why
+ReplyForm me cmd stage (reply.Played m tree) = (cmd ≡ Logplay) × (stage ≡ Marked)
+ReplyForm me cmd stage (reply.Same m) = IsVerify cmd × (stage ≡ Marked)
+ReplyForm me cmd stage (reply.Differs m offset found wanted) = IsVerify cmd × (stage ≡ Marked)
+ReplyForm me cmd stage (reply.Length m size wanted) = IsVerify cmd × (stage ≡ Marked)
+ReplyForm me cmd stage (reply.Bytes m bytes) = IsRead cmd × (stage ≡ Marked)
+ReplyForm me cmd stage (reply.NotFound m) = (IsVerify cmd ⊎ IsRead cmd) × (stage ≡ Marked)
+ReplyForm me cmd stage (reply.IsDirectory m) = (IsVerify cmd ⊎ IsRead cmd) × (stage ≡ Marked)
+ReplyForm me cmd stage (reply.Checks m checked) = IsCheck cmd × (stage ≡ Marked)
+ReplyForm me cmd stage (reply.Reports report) = (cmd ≡ Fsck) × CountForm (reported_count report.log) stage
+ReplyForm me cmd stage (reply.NoSuperblock fault) = (cmd ≢ Fsck) × (stage ≡ Begun)
+ReplyForm me cmd stage (reply.BadHeader fault) = (cmd ≢ Fsck) × IsHead stage
+ReplyForm me cmd stage (reply.BadSlot seq reason) = (cmd ≢ Fsck) × IsReading stage
+
+-- memory may fail at any time
+abbrev pub AnswerForm : List ℕ → Cmd → Stage → Answer → Type 0
+AnswerForm me cmd stage (Replied given) = ReplyForm me cmd stage given
+AnswerForm me cmd stage (MediaFault line) = ⊤
+
+-- Notes of a running command.
+
+-- the entry has the path, kind, size and attributes that a command wants
+pub record IsWished (w : Wish) (entry : Entry) : Type 0 where
+  pub kind : entry.kind ≡ w.kind
+  pub path : entry.path ≡ w.path
+  pub size : entry.size ≡ w.size
+  pub mode : entry.mode ≡ w.attr.mode
+  pub uid : entry.uid ≡ w.attr.uid
+  pub gid : entry.gid ≡ w.attr.gid
+
+-- so it is of a command that appends
+abbrev pub EntryForm : Cmd → Entry → Type 0
+EntryForm cmd entry = (w : Wish) × (wish_of cmd ≡ Some w) × IsWished w entry
+
+-- which note the command of host h may give next
+abbrev pub TaskNote : ℕ → List ℕ → TaskForm → Note → Type 0
+TaskNote h me t (Host name uuid) = ⊥
+TaskNote h me t (Made host p) = ⊥
+TaskNote h me t (Start host cmd) = ⊥
+TaskNote h me t (Mark host) = (host ≡ h) × (t.stage ≡ Begun)
+TaskNote h me t (Found host n) = (host ≡ h) × HasWish t.cmd × (t.stage ≡ Marked)
+TaskNote h me t (Writes host seq entry) = (host ≡ h) × EntryForm t.cmd entry × (t.stage ≡ Met seq)
+TaskNote h me t (Answered host answer) = (host ≡ h) × AnswerForm me t.cmd t.stage answer
+TaskNote h me t (Stop host) = ⊥
+TaskNote h me t (Halt host) = ⊥
+TaskNote h me t (Refused name why) = ⊥
+
+-- the host has a running command, of which this holds
+abbrev pub OfTask : Option TaskForm → (TaskForm → Type 0) → Type 0
+OfTask None P = ⊥
+OfTask (Some t) P = P t
+
+abbrev pub OfRunning : Option HostForm → (List ℕ → TaskForm → Type 0) → Type 0
+OfRunning None P = ⊥
+OfRunning (Some host) P = OfTask host.task (P host.uuid)
+
+-- notes of host h's running command, one behind another. Behind its answer it runs no more, so nothing comes
+abbrev pub OperationsForm : ℕ → List HostForm → List Note → Type 0
+OperationsForm h hosts [] = ⊤
+OperationsForm h hosts (note ∷ notes) = OfRunning (slice_get hosts h) (λ me t. TaskNote h me t note) × OperationsForm h (forms_after hosts note) notes
+
+-- the host has a running command
+abbrev pub runs_form : Option HostForm → Bool
+runs_form None = false
+runs_form (Some host) = is_some host.task
+
+-- and at the end it runs none
+pub record CompletesForm (h : ℕ) (hosts : List HostForm) (notes : List Note) : Type 0 where
+  pub operations : OperationsForm h hosts notes
+  pub done : runs_form (slice_get (forms_behind hosts notes) h) ≡ false
+
+-- Refusals: the first one, as far as the notes tell it.
+
+abbrev pub shown_running : Option TaskForm → Option TaskState
+shown_running None = None
+shown_running (Some t) = Some (task_begun t.cmd [])
+
+abbrev pub shown_form : HostForm → HostState
+shown_form host = record { name = host.name; uuid = host.uuid; cache = finmap.empty; task = shown_running host.task }
+
+-- on a media of so many lines
+abbrev pub shown_forms : ℕ → List HostForm → Machines
+shown_forms lines hosts = record { memory = replicate lines []; hosts = map shown_form hosts }
+
+-- before any operation of making a file system: notes don't tell whose lines are dirty
+abbrev pub makes_told : ℕ → ℕ → Machines → Option Refusal
+makes_told unit log m = or_else (option_map cause_of (early_refusal unit log (line_bytes * length m.memory))) (busy_refusal (place_of is_busy m.hosts))
+
+abbrev pub refusal_told : Call → ℕ → List HostForm → Option Refusal
+refusal_told (call.Declares name uuid) lines hosts = refusal_of (call.Declares name uuid) (shown_forms lines hosts)
+refusal_told (call.Makes name fs unit log force) lines hosts = on_host (number_of name (shown_forms lines hosts)) (λ h. makes_told unit log (shown_forms lines hosts))
+refusal_told (call.Begins name cmd) lines hosts = refusal_of (call.Begins name cmd) (shown_forms lines hosts)
+refusal_told (call.Steps name) lines hosts = refusal_of (call.Steps name) (shown_forms lines hosts)
+refusal_told (call.Finishes name) lines hosts = refusal_of (call.Finishes name) (shown_forms lines hosts)
+refusal_told (call.Stops name) lines hosts = refusal_of (call.Stops name) (shown_forms lines hosts)
+refusal_told (call.Halts name) lines hosts = refusal_of (call.Halts name) (shown_forms lines hosts)
+refusal_told (call.Moves name line move) lines hosts = refusal_of (call.Moves name line move) (shown_forms lines hosts)
+refusal_told (call.Refuses name why) lines hosts = refusal_of (call.Refuses name why) (shown_forms lines hosts)
+
+-- Calls.
+
+-- another host than the maker has a dirty line
+pub record DirtyForm (name : List ℕ) (lines : ℕ) (hosts : List HostForm) (notes : List Note) : Type 0 where
+  pub maker : ℕ
+  pub number : number_of name (shown_forms lines hosts) ≡ Some maker
+  pub dirty : ℕ
+  pub declared : dirty < length hosts
+  pub other : dirty ≢ maker
+  pub notes_are : notes ≡ Refused name (why.Dirty (record { 0 = dirty })) ∷ []
+
+-- a superblock stands there
+pub record SuperForm (force : Bool) (name : List ℕ) (notes : List Note) : Type 0 where
+  pub unforced : force ≡ false
+  pub fs : List ℕ
+  pub notes_are : notes ≡ Refused name (why.HasSuper fs) ∷ []
+
+-- memory failed at a line
+abbrev pub FaultForm : List ℕ → List Note → Type 0
+FaultForm name notes = (line : ℕ) × (notes ≡ Refused name (why.MediaFault (record { 0 = line })) ∷ [])
+
+-- what a call adds that isn't refused as the notes tell it, of a declared host: a file system is made of just what was asked
+-- for
+abbrev pub ActsForm : Call → ℕ → HostForm → ℕ → List HostForm → List Note → Type 0
+ActsForm (call.Declares name uuid) h host lines hosts notes = ⊥
+ActsForm (call.Makes name fs unit log force) h host lines hosts notes =
+    (notes ≡ Made h (asked unit log fs host.uuid lines) ∷ []) ⊎ SuperForm force name notes
+ActsForm (call.Begins name cmd) h host lines hosts notes = notes ≡ Start h cmd ∷ []
+ActsForm (call.Steps name) h host lines hosts notes = OperationsForm h hosts notes × (length notes ≤ 1)
+ActsForm (call.Finishes name) h host lines hosts notes = CompletesForm h hosts notes
+ActsForm (call.Stops name) h host lines hosts notes = notes ≡ Stop h ∷ []
+ActsForm (call.Halts name) h host lines hosts notes = notes ≡ Halt h ∷ []
+ActsForm (call.Moves name line move) h host lines hosts notes =
+    (notes ≡ []) ⊎ (notes ≡ Refused name (why.MediaFault (record { 0 = line })) ∷ [])
+ActsForm (call.Refuses name why) h host lines hosts notes = ⊥
+
+-- the host of a number is declared, and this holds of it
+abbrev pub OfHostForm : Option HostForm → (HostForm → Type 0) → Type 0
+OfHostForm None P = ⊥
+OfHostForm (Some host) P = P host
+
+abbrev pub AtForm : Option ℕ → List HostForm → (ℕ → HostForm → Type 0) → Type 0
+AtForm None hosts P = ⊥
+AtForm (Some h) hosts P = OfHostForm (slice_get hosts h) (P h)
+
+abbrev pub HostActsForm : Call → ℕ → List HostForm → List Note → Type 0
+HostActsForm c lines hosts notes =
+    AtForm (number_of (name_of c) (shown_forms lines hosts)) hosts (λ h host. ActsForm c h host lines hosts notes)
+
+abbrev pub FreeForm : Call → ℕ → List HostForm → List Note → Type 0
+FreeForm (call.Declares name uuid) lines hosts notes = notes ≡ Host name uuid ∷ []
+FreeForm (call.Makes name fs unit log force) lines hosts notes = HostActsForm (call.Makes name fs unit log force) lines hosts notes ⊎ DirtyForm name lines hosts notes
+FreeForm (call.Begins name cmd) lines hosts notes = HostActsForm (call.Begins name cmd) lines hosts notes
+FreeForm (call.Steps name) lines hosts notes = HostActsForm (call.Steps name) lines hosts notes
+FreeForm (call.Finishes name) lines hosts notes = HostActsForm (call.Finishes name) lines hosts notes
+FreeForm (call.Stops name) lines hosts notes = HostActsForm (call.Stops name) lines hosts notes
+FreeForm (call.Halts name) lines hosts notes = HostActsForm (call.Halts name) lines hosts notes
+FreeForm (call.Moves name line move) lines hosts notes = HostActsForm (call.Moves name line move) lines hosts notes
+FreeForm (call.Refuses name why) lines hosts notes =
+    (notes ≡ Refused name why ∷ []) × (IsOfSource why ⊎ (may_begin name (shown_forms lines hosts) ≡ Some why))
+
+-- by the first refusal, if any
+abbrev pub FormByRefusal : List ℕ → Option Refusal → List Note → Type 0 → Type 0
+FormByRefusal name (Some why) notes free = notes ≡ Refused name why ∷ []
+FormByRefusal name None notes free = free
+
+-- what a call adds after which the run goes on
+abbrev pub DoesForm : Call → ℕ → List HostForm → List Note → Type 0
+DoesForm c lines hosts notes = FormByRefusal (name_of c) (refusal_told c lines hosts) notes (FreeForm c lines hosts notes)
+
+-- memory cuts the making of a file system
+abbrev pub BreaksForm : Call → ℕ → List HostForm → List Note → Type 0
+BreaksForm (call.Declares name uuid) lines hosts notes = ⊥
+BreaksForm (call.Makes name fs unit log force) lines hosts notes =
+    (refusal_told (call.Makes name fs unit log force) lines hosts ≡ None) × FaultForm name notes
+BreaksForm (call.Begins name cmd) lines hosts notes = ⊥
+BreaksForm (call.Steps name) lines hosts notes = ⊥
+BreaksForm (call.Finishes name) lines hosts notes = ⊥
+BreaksForm (call.Stops name) lines hosts notes = ⊥
+BreaksForm (call.Halts name) lines hosts notes = ⊥
+BreaksForm (call.Moves name line move) lines hosts notes = ⊥
+BreaksForm (call.Refuses name why) lines hosts notes = ⊥
+
+-- no memory was left: a finish adds notes of the operations that it did, and any other call none
+abbrev pub PartForm : Call → ℕ → List HostForm → List Note → Type 0
+PartForm (call.Declares name uuid) lines hosts notes = notes ≡ []
+PartForm (call.Makes name fs unit log force) lines hosts notes = notes ≡ []
+PartForm (call.Begins name cmd) lines hosts notes = notes ≡ []
+PartForm (call.Steps name) lines hosts notes = notes ≡ []
+PartForm (call.Finishes name) lines hosts notes =
+    (notes ≡ []) ⊎ ((h : ℕ) × (number_of name (shown_forms lines hosts) ≡ Some h) × OperationsForm h hosts notes)
+PartForm (call.Stops name) lines hosts notes = notes ≡ []
+PartForm (call.Halts name) lines hosts notes = notes ≡ []
+PartForm (call.Moves name line move) lines hosts notes = notes ≡ []
+PartForm (call.Refuses name why) lines hosts notes = notes ≡ []
+
+-- Worlds.
+
+-- the stage of a command that reads entries, by what it wants and the gate that it read
+abbrev pub reading_stage : Option Wish → ℕ → Stage
+reading_stage None gate = Marked
+reading_stage (Some w) gate = Met gate
+
+-- the stage of a task at a place
+abbrev pub stage_at : Place → Task → Stage
+stage_at at.DropMagic t = Begun
+stage_at at.Magic t = Begun
+stage_at (at.Drop Superblock j) t = Begun
+stage_at (at.Drop Header j) t = Begun
+stage_at (at.Drop (Slot i) j) t = reading_stage (wish_of t.cmd) t.gate
+stage_at (at.Drop File j) t = reading_stage (wish_of t.cmd) t.gate
+stage_at (at.Word Superblock j k) t = Begun
+stage_at (at.Word Header j k) t = Begun
+stage_at (at.Word (Slot i) j k) t = reading_stage (wish_of t.cmd) t.gate
+stage_at (at.Word File j k) t = reading_stage (wish_of t.cmd) t.gate
+stage_at at.DropGate t = Begun
+stage_at at.Gate t = Marked
+stage_at (at.Check i) t = reading_stage (wish_of t.cmd) t.gate
+stage_at at.Decide t = reading_stage (wish_of t.cmd) t.gate
+stage_at (at.StoreData j k) t = Named t.gate
+stage_at (at.SendData j) t = Named t.gate
+stage_at (at.StoreSlot j k) t = Named t.gate
+stage_at (at.SendSlot j) t = Named t.gate
+stage_at at.StoreGate t = Named t.gate
+stage_at at.SendGate t = Named t.gate
+
+abbrev pub stage_of : Task → Stage
+stage_of t = stage_at t.place t
+
+-- a task is where its notes tell it is, for the host of this UUID
+pub record IsTaskForm (me : List ℕ) (t : Task) (form : TaskForm) : Type 0 where
+  pub cmd : form.cmd ≡ t.cmd
+  pub me_is : t.me ≡ me
+  pub stage : form.stage ≡ stage_of t
+
+abbrev pub TaskFormed : List ℕ → Option Task → Option TaskForm → Type 0
+TaskFormed me None None = ⊤
+TaskFormed me None (Some form) = ⊥
+TaskFormed me (Some t) None = ⊥
+TaskFormed me (Some t) (Some form) = IsTaskForm me t form
+
+pub record HostFormed (view : HostView) (form : HostForm) : Type 0 where
+  pub name : form.name ≡ view.name
+  pub uuid : form.uuid ≡ view.uuid
+  pub task : TaskFormed view.uuid view.task form.task
+
+-- two lists have as many members, and each two of a place are such
+abbrev pub Pairs : {A B : Type 0} → (A → B → Type 0) → List A → List B → Type 0
+Pairs P [] [] = ⊤
+Pairs P [] (y ∷ ys) = ⊥
+Pairs P (x ∷ xs) [] = ⊥
+Pairs P (x ∷ xs) (y ∷ ys) = P x y × Pairs P xs ys
+
+-- the world's hosts are what its journal tells of them
+abbrev pub IsFormed : WorldView → Type 0
+IsFormed world = Pairs HostFormed world.hosts (forms_of world.journal)
+
+-- Machines: their hosts are what notes tell of them, on a media of so many lines.
+
+-- a task of the machine stands for one whose notes tell where it is
+pub record IsStateTask (lines : ℕ) (me : List ℕ) (state : TaskState) (form : TaskForm) : Type 0 where
+  pub task : Task
+  pub stands : StandsFor state.cmd state.me lines task state.words state.made
+  pub is : IsTaskForm me task form
+
+abbrev pub StateTaskFormed : ℕ → List ℕ → Option TaskState → Option TaskForm → Type 0
+StateTaskFormed lines me None None = ⊤
+StateTaskFormed lines me None (Some form) = ⊥
+StateTaskFormed lines me (Some state) None = ⊥
+StateTaskFormed lines me (Some state) (Some form) = IsStateTask lines me state form
+
+pub record StateFormed (lines : ℕ) (host : HostState) (form : HostForm) : Type 0 where
+  pub name : form.name ≡ host.name
+  pub uuid : form.uuid ≡ host.uuid
+  pub task : StateTaskFormed lines host.uuid host.task form.task
+
+pub record AreFormed (lines : ℕ) (m : Machines) (hosts : List HostForm) : Type 0 where
+  pub lines_are : length m.memory ≡ lines
+  pub formed : Pairs (StateFormed lines) m.hosts hosts

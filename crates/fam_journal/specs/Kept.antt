@@ -1,0 +1,108 @@
+-- What a world keeps: it stands for a state of the machine, its journal is legal, and what the protocol keeps holds.
+use Rattle.std.specs.Prelude.{ℕ, ⊤, ◌≡◌, ◌*◌, ◌≤◌, List, length, map, slice_get, Option, Some, None}
+use Rattle.fam_base.specs.Image.{Image, eight, line_at}
+use Rattle.fam_format.specs.Layout.{device_limit}
+use Rattle.fam_format.specs.Reading.{Lines}
+use Rattle.fam_machine.specs.declared.cell.Cell.{Cell}
+use Rattle.fam_machine.specs.declared.cell.Cell.TheVariants.{Absent}
+use Rattle.fam_machine.specs.Caches.{cell_at}
+use Rattle.fam_commands.specs.Task.{Task}
+use Rattle.fam_rules.specs.Place.{line_bytes}
+use Rattle.fam_protocol.specs.After.{Run}
+use Rattle.fam_protocol.specs.Seen.{Seen}
+use Rattle.fam_protocol.specs.Way.{Hosts, Settled, Small, Damaged, Known, Way}
+use Rattle.fam_format.specs.Params.{IsUuid}
+use Rattle.fam_journal.specs.Legal.{Legal}
+use Rattle.fam_journal.specs.Machines.{HostState, Machines}
+use Rattle.fam_journal.specs.Notes.{Note}
+use Rattle.fam_journal.specs.Past.{Damage, FewLines, NoSuperblock, BadHeader, BadSlot, State, Bad, Sound, HostPast, past_of, with_pending}
+use Rattle.fam_journal.specs.View.{HostView, WorldView, StandsAt, WorldStands}
+
+-- The world and its journal agree.
+
+-- what the journal has of a host's task: its command
+pub record TaskTold (t : Task) (told : HostPast) : Type 0 where
+  pub cmd : told.cmd ≡ Some t.cmd
+
+abbrev pub IfRuns : Option Task → HostPast → Type 0
+IfRuns None told = ⊤
+IfRuns (Some t) told = TaskTold t told
+
+pub record HostTold (view : HostView) (told : HostPast) : Type 0 where
+  pub name : told.name ≡ view.name
+  pub uuid : told.uuid ≡ view.uuid
+  pub task : IfRuns view.task told
+
+abbrev pub ToldAt : Option HostView → Option HostPast → Type 0
+ToldAt None None = ⊤
+ToldAt (Some view) (Some told) = HostTold view told
+ToldAt None (Some told) = ⊥
+ToldAt (Some view) None = ⊥
+
+-- The world as the protocol sees it.
+
+-- what is settled: by the protocol an image without history is small or damaged
+abbrev pub settled_bad : Lines → Damage → Settled
+settled_bad image (FewLines lines) = Small image
+settled_bad image (NoSuperblock fault) = Damaged image
+settled_bad image (BadHeader fault) = Damaged image
+settled_bad image (BadSlot i reason) = Damaged image
+
+abbrev pub settled_of : State → Settled
+settled_of (Bad image damage gate) = settled_bad (line_at image) damage
+settled_of (Sound p history pending) = Known p (with_pending history pending) (length history)
+
+abbrev pub run_of : Task → HostPast → Run
+run_of t told = record { task = t; floor = told.floor; named = told.wrote }
+
+abbrev pub run_with : Option Task → Option HostPast → Option Run
+run_with None told = None
+run_with (Some t) None = None
+run_with (Some t) (Some told) = Some (run_of t told)
+
+abbrev pub run_at : Option HostView → Option HostPast → Option Run
+run_at None told = None
+run_at (Some view) told = run_with view.task told
+
+abbrev pub uuid_at : Option HostView → Option (List ℕ)
+uuid_at None = None
+uuid_at (Some view) = Some view.uuid
+
+abbrev pub copy_at : Option HostView → ℕ → Cell
+copy_at None l = Absent
+copy_at (Some view) l = cell_at view.cache l
+
+abbrev pub hosts_of : List HostView → List HostPast → Hosts
+hosts_of views told =
+    record { uuid = λ h. uuid_at (slice_get views h); run = λ h. run_at (slice_get views h) (slice_get told h) }
+
+abbrev pub seen_of : Image → List HostView → Seen
+seen_of image views = record { memory = line_at image; copy = λ h l. copy_at (slice_get views h) l }
+
+-- What is kept, from the image that was handed in.
+
+-- tasks stand for those of the state, whose memory is the image; the journal agrees with them and is legal; and what the
+-- protocol keeps holds of them
+pub record Agrees (start : Image) (state : Machines) (world : WorldView) (image : Image) : Type 0 where
+  pub memory : state.memory ≡ image
+  pub lines : length image ≡ length start
+  pub normal : map eight image ≡ image
+  pub first : map eight start ≡ start
+  pub limit : line_bytes * length start ≤ device_limit
+  pub stands : (h : ℕ) → StandsAt (length start) (slice_get state.hosts h) (slice_get world.hosts h)
+  pub told : (h : ℕ) → ToldAt (slice_get world.hosts h) (slice_get (past_of start world.journal).hosts h)
+  pub legal : Legal start world.journal
+  pub way : Way (settled_of (past_of start world.journal).state) (length start) (hosts_of world.hosts (past_of start world.journal).hosts) (seen_of image world.hosts)
+
+-- of some tasks: those that stand for the state's
+pub record Kept (start : Image) (state : Machines) (journal : List Note) : Type 0 where
+  pub views : List HostView
+  pub held : Agrees start state (record { hosts = views; journal = journal }) state.memory
+  pub uuids : (k : ℕ) (host : HostState) → slice_get state.hosts k ≡ Some host → IsUuid host.uuid
+
+-- a world is held, at a state of the machine whose memory is the image: it stands for the state; its journal is legal; and
+-- what the protocol keeps holds. A call that was cut gives none
+pub record Held (start : Image) (state : Machines) (world : WorldView) (image : Image) : Type 0 where
+  pub memory : state.memory ≡ image
+  pub stands : WorldStands (length start) state world
+  pub kept : Kept start state world.journal

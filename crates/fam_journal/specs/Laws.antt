@@ -1,0 +1,140 @@
+-- What laws say of journals.
+use Rattle.std.specs.Prelude.{ℕ, ⊤, ◌≡◌, ◌*◌, ◌≤◌, false, List, [], ◌∷◌, ◌++◌, length, map, slice_get, take, Some, None, Result}
+use Rattle.fam_base.specs.declared.entry.Entry.{Entry}
+use Rattle.fam_journal.specs.Events.{Session}
+use Rattle.fam_journal.specs.Listings.{ListingSays}
+use Rattle.fam_base.specs.Image.{Image, eight}
+use Rattle.fam_commands.specs.Stands.{StandsFor, turn_given}
+use Rattle.fam_commands.specs.Task.{Task}
+use Rattle.fam_commands.specs.Turns.{Turn}
+use Rattle.fam_protocol.specs.Seen.{Seen}
+use Rattle.fam_protocol.specs.Steps.{TurnSays}
+use Rattle.fam_protocol.specs.Way.{Hosts, Stage}
+use Rattle.fam_journal.specs.Kept.{TaskTold, run_of, settled_of}
+use Rattle.fam_format.specs.Layout.{device_limit}
+use Rattle.fam_format.specs.Params.{IsUuid}
+use Rattle.fam_rules.specs.Place.{line_bytes}
+use Rattle.fam_journal.specs.declared.event.Event.{Event}
+use Rattle.fam_journal.specs.declared.event.Event.TheVariants as event
+use Rattle.fam_journal.specs.Ends.{Ending, ReadsAfter, is_made_note}
+use Rattle.fam_rules.specs.Asks.{File}
+use Rattle.fam_rules.specs.Reply.{Reply}
+use Rattle.fam_journal.specs.Legal.{Legal}
+use Rattle.fam_journal.specs.Notes.{Note, Answered, Replied}
+use Rattle.fam_journal.specs.Past.{Damage, HostPast, Past, State, Bad, Sound, count_of, first_state, past_of, with_pending}
+
+-- the entries that an answer may be of: the history, and the pending entry behind it
+abbrev pub entries_at : State → List File
+entries_at (Bad image damage gate) = []
+entries_at (Sound p history pending) = with_pending history pending
+
+-- no file system is made
+abbrev pub NoneMade : List Note → Type 0
+NoneMade [] = ⊤
+NoneMade (note ∷ notes) = (is_made_note note ≡ false) × NoneMade notes
+
+-- the entries that are settled
+abbrev pub history_at : State → List File
+history_at (Bad image damage gate) = []
+history_at (Sound p history pending) = history
+
+-- the one stands in front of the other
+pub record IsFront (first all : List File) : Type 0 where
+  pub rest : List File
+  pub is : all ≡ first ++ rest
+
+-- nothing is pending, and so many entries are settled
+abbrev pub IsFree : ℕ → State → Type 0
+IsFree seq (Bad image damage gate) = ⊥
+IsFree seq (Sound p history pending) = (pending ≡ None) × (seq ≡ length history)
+
+-- two answers of entries in one legal journal, with no file system made between them
+pub record TwoAnswers (start : Image) : Type 0 where
+  pub before : List Note
+  pub between : List Note
+  pub first_host : ℕ
+  pub second_host : ℕ
+  pub first : Reply
+  pub second : Reply
+  pub legal : Legal start (before ++ (Answered first_host (Replied first) ∷ (between ++ Answered second_host (Replied second) ∷ [])))
+  pub none : NoneMade between
+  pub m : ℕ
+  pub n : ℕ
+  pub first_count : count_of first ≡ Some m
+  pub second_count : count_of second ≡ Some n
+
+-- the entries of each answer
+abbrev pub first_entries : {start : Image} → TwoAnswers start → List File
+first_entries {start} two = take two.m (entries_at (past_of start two.before).state)
+
+abbrev pub second_entries : {start : Image} → TwoAnswers start → List File
+second_entries {start} two =
+    take two.n (entries_at (past_of start (two.before ++ Answered two.first_host (Replied two.first) ∷ two.between)).state)
+
+-- bytes are one listing, or one first bad line
+abbrev pub OneListing : Type 0
+OneListing = (bytes : List ℕ) (a b : Result (List Entry) ℕ) → ListingSays bytes a → ListingSays bytes b → a ≡ b
+
+-- the same notes, and the same state behind them
+pub record AreSame (notes other : List Note) (state left : Session) : Type 0 where
+  pub notes_are : notes ≡ other
+  pub states_are : state ≡ left
+
+-- an event's UUIDs are such
+abbrev pub IsSoundEvent : Event → Type 0
+IsSoundEvent (event.Host name uuid) = IsUuid uuid
+IsSoundEvent (event.Mkfs name fs unit log force) = IsUuid fs
+IsSoundEvent (event.Begin name what) = ⊤
+IsSoundEvent (event.Run name what) = ⊤
+IsSoundEvent (event.Step name count) = ⊤
+IsSoundEvent (event.Finish name) = ⊤
+IsSoundEvent (event.Stop name) = ⊤
+IsSoundEvent (event.Halt name) = ⊤
+IsSoundEvent (event.Evict name line) = ⊤
+IsSoundEvent (event.Leak name line mask) = ⊤
+IsSoundEvent (event.Fetch name line mask) = ⊤
+
+abbrev pub AreSound : List Event → Type 0
+AreSound [] = ⊤
+AreSound (e ∷ events) = IsSoundEvent e × AreSound events
+
+-- an image that a run may begin with
+pub record IsImage (image : Image) : Type 0 where
+  pub limit : line_bytes * length image ≤ device_limit
+  pub normal : map eight image ≡ image
+
+-- a run's journal is legal, and the image that is left reads as what the journal settles
+pub record IsSettled (ending : Ending) (start : Image) (journal : List Note) (left : Image) : Type 0 where
+  pub legal : Legal start journal
+  pub reads : ReadsAfter ending (past_of start journal).state left
+
+-- a task of a host at a moment of a run: what its journal tells, and the turn that comes of its operation
+pub record TaskAt : Type 0 where
+  pub past : Past
+  pub host : ℕ
+  pub told : HostPast
+  pub is : slice_get past.hosts host ≡ Some told
+  pub task : Task
+  pub words : List ℕ
+  pub made : ℕ
+  pub word : ℕ
+  pub standing : StandsFor task.cmd task.me (length past.start) task words made
+  pub was : TaskTold task told
+  pub me : told.uuid ≡ task.me
+
+-- the turn
+abbrev pub turn_at : TaskAt → Turn
+turn_at at = turn_given at.task at.word
+
+-- a bad state is what its own image reads as, which has so many lines
+pub record IsOwn (lines : ℕ) (image : Image) (damage : Damage) (gate : ℕ) : Type 0 where
+  pub reads : first_state image ≡ Bad image damage gate
+  pub lines_are : length image ≡ lines
+
+-- the protocol lets it say so, while what it keeps holds
+pub record Says (at : TaskAt) : Type 0 where
+  pub hosts : Hosts
+  pub seen : Seen
+  pub bad : (image : Image) (damage : Damage) (gate : ℕ) → at.past.state ≡ Bad image damage gate → IsOwn (length at.past.start) image damage gate
+  pub stage : Stage (settled_of at.past.state) (length at.past.start) hosts seen
+  pub says : TurnSays (turn_at at) (run_of at.task at.told) (settled_of at.past.state) (length at.past.start) hosts

@@ -1,0 +1,192 @@
+-- Which notes the history before them allows: one row for each note and for each answer. docs/MODEL.md, "The journal".
+use Rattle.std.specs.Prelude.{ℕ, ⊤, ◌≡◌, ◌≢◌, ◌⊎◌, ◌+◌, ◌-◌, ◌*◌, ◌≤◌, List, [], ◌∷◌, length, take, count_by, slice_get, Option, Some, None, option_map, Result, Ok, Err}
+use Rattle.fam_base.specs.declared.cmd.Cmd.{Cmd}
+use Rattle.fam_base.specs.declared.entry.Entry.{Entry}
+use Rattle.fam_base.specs.declared.entry.Params.{Params}
+use Rattle.fam_base.specs.Image.{Image, line_at}
+use Rattle.fam_format.specs.declared.faults.SuperFault.{SuperFault}
+use Rattle.fam_format.specs.Layout.{device_units}
+use Rattle.fam_format.specs.Reading.{super_in}
+use Rattle.fam_rules.specs.declared.answers.Refused.{Refused as Cause}
+use Rattle.fam_rules.specs.declared.answers.Refused.TheVariants as cause
+use Rattle.fam_rules.specs.declared.answers.Report.{Report}
+use Rattle.fam_rules.specs.declared.answers.SuperState.TheVariants as superblock
+use Rattle.fam_rules.specs.declared.answers.LogState.TheVariants as log
+use Rattle.fam_rules.specs.Asks.{File, ask, entries_of}
+use Rattle.fam_rules.specs.Decide.{decide}
+use Rattle.fam_rules.specs.Place.{line_bytes}
+use Rattle.fam_rules.specs.Reply as reply
+use Rattle.fam_rules.specs.Reply.{Reply}
+use Rattle.fam_rules.specs.Reports.{is_file, is_directory, report_of, used_count}
+use Rattle.fam_journal.specs.Notes.{Answer, Replied, MediaFault, Note, Host, Made, Start, Mark, Found, Writes, Answered, Stop, Halt, Refused}
+use Rattle.fam_journal.specs.Past.{Damage, FewLines, NoSuperblock, BadHeader, BadSlot, State, Bad, Sound, HostPast, Past, acknowledges, first_past, past_after, with_pending}
+
+-- The master's notes.
+
+-- how many entries may be found: those that are settled, or one more where one is pending; or, where a slot is bad, as
+-- many as the image's gate counts
+abbrev pub FoundPending : ℕ → ℕ → Option File → Type 0
+FoundPending n settled None = n ≡ settled
+FoundPending n settled (Some f) = (n ≡ settled) ⊎ (n ≡ settled + 1)
+
+abbrev pub FoundBad : ℕ → Damage → ℕ → Type 0
+FoundBad n (FewLines lines) gate = ⊥
+FoundBad n (NoSuperblock fault) gate = ⊥
+FoundBad n (BadHeader fault) gate = ⊥
+FoundBad n (BadSlot i reason) gate = n ≡ gate
+
+abbrev pub FoundAllowed : ℕ → State → Type 0
+FoundAllowed n (Sound p history pending) = FoundPending n (length history) pending
+FoundAllowed n (Bad image damage gate) = FoundBad n damage gate
+
+-- what a command that appends is decided to give on the history, with nothing pending
+pub record IsDecided (p : Params) (host : HostPast) (history : List File) (pending : Option File) (decision : Result Entry Cause) : Type 0 where
+  pub cmd : Cmd
+  pub told : host.cmd ≡ Some cmd
+  pub none : pending ≡ None
+  pub is : decide p host.uuid (entries_of history) cmd ≡ Some decision
+
+abbrev pub DecideAllowed : HostPast → Result Entry Cause → State → Type 0
+DecideAllowed host decision (Sound p history pending) = IsDecided p host history pending decision
+DecideAllowed host decision (Bad image damage gate) = ⊥
+
+abbrev pub WritesAllowed : ℕ → Entry → HostPast → State → Type 0
+WritesAllowed seq e host (Sound p history pending) = (seq ≡ length history) × IsDecided p host history pending (Ok e)
+WritesAllowed seq e host (Bad image damage gate) = ⊥
+
+-- Answers of a command that appends.
+
+-- the history's last entry is the one of this number that the host's task named; `state` is the one behind the answer
+pub record IsAcknowledged (seq : ℕ) (host : HostPast) (history : List File) : Type 0 where
+  pub entry : Entry
+  pub named : host.wrote ≡ Some (record { seq = seq; entry = entry })
+  pub count : length history ≡ seq + 1
+  pub last : option_map (λ (f : File). f.entry) (slice_get history seq) ≡ Some entry
+
+abbrev pub AppendedAllowed : ℕ → HostPast → State → Type 0
+AppendedAllowed seq host (Sound p history pending) = IsAcknowledged seq host history
+AppendedAllowed seq host (Bad image damage gate) = ⊥
+
+-- the master that a superblock names
+abbrev pub master_read : Result Params SuperFault → Option (List ℕ)
+master_read (Ok p) = Some p.master
+master_read (Err fault) = None
+
+abbrev pub damaged_master : Image → Damage → Option (List ℕ)
+damaged_master image (FewLines lines) = None
+damaged_master image (NoSuperblock fault) = None
+damaged_master image (BadHeader fault) = master_read (super_in (line_at image) (line_bytes * length image))
+damaged_master image (BadSlot i reason) = master_read (super_in (line_at image) (line_bytes * length image))
+
+abbrev pub master_of : State → Option (List ℕ)
+master_of (Sound p history pending) = Some p.master
+master_of (Bad image damage gate) = damaged_master image damage
+
+-- the host isn't the one that the superblock names
+pub record IsOther (me master : List ℕ) (host : HostPast) (state : State) : Type 0 where
+  pub me_is : me ≡ host.uuid
+  pub master_is : master_of state ≡ Some master
+  pub other : me ≢ master
+
+abbrev pub CauseAllowed : Cause → HostPast → State → Type 0
+CauseAllowed (cause.NotMaster me master) host state = IsOther me master host state
+CauseAllowed cause.BadStripe host state = DecideAllowed host (Err cause.BadStripe) state
+CauseAllowed (cause.Exists kind) host state = DecideAllowed host (Err (cause.Exists kind)) state
+CauseAllowed cause.NoParent host state = DecideAllowed host (Err cause.NoParent) state
+CauseAllowed cause.ParentIsFile host state = DecideAllowed host (Err cause.ParentIsFile) state
+CauseAllowed (cause.LogFull slots) host state = DecideAllowed host (Err (cause.LogFull slots)) state
+CauseAllowed (cause.NoSpace units) host state = DecideAllowed host (Err (cause.NoSpace units)) state
+
+-- Answers of a command that reads.
+
+-- so many entries were read: no fewer than were settled at the mark of this command, and no more than there are
+pub record InBounds (host : HostPast) (m : ℕ) (all : List File) : Type 0 where
+  pub floor : ℕ
+  pub marked : host.floor ≡ Some floor
+  pub low : floor ≤ m
+  pub high : m ≤ length all
+
+-- the question's answer on the first m entries
+pub record IsAskedOf (host : HostPast) (m : ℕ) (all : List File) (given : Reply) : Type 0 where
+  pub bounds : InBounds host m all
+  pub cmd : Cmd
+  pub told : host.cmd ≡ Some cmd
+  pub is : ask (take m all) cmd ≡ Some given
+
+abbrev pub AskAllowed : ℕ → Reply → HostPast → State → Type 0
+AskAllowed m given host (Sound p history pending) = IsAskedOf host m (with_pending history pending) given
+AskAllowed m given host (Bad image damage gate) = ⊥
+
+-- the report of a sound file system of the first m entries
+pub record IsReportOf (p : Params) (host : HostPast) (all : List File) (report : Report) : Type 0 where
+  pub m : ℕ
+  pub bounds : InBounds host m all
+  pub superblock : report.superblock ≡ superblock.Sound
+  pub log : report.log ≡ log.Sound m p.slots
+  pub files : report.files ≡ count_by (λ e. is_file e.kind) (entries_of (take m all))
+  pub directories : report.directories ≡ count_by (λ e. is_directory e.kind) (entries_of (take m all))
+  pub used : report.used ≡ used_count p (entries_of (take m all))
+  pub free : report.free ≡ device_units p - used_count p (entries_of (take m all))
+  pub overlap : report.overlap ≡ None
+  pub bad : report.bad ≡ None
+  pub past : report.past ≤ p.slots - m
+
+abbrev pub ReportAllowed : Report → HostPast → State → Type 0
+ReportAllowed report host (Sound p history pending) = IsReportOf p host (with_pending history pending) report
+ReportAllowed report host (Bad image damage gate) = report ≡ report_of (line_at image) (line_bytes * length image)
+
+-- a fault is the image's own
+abbrev pub DamageAllowed : Damage → State → Type 0
+DamageAllowed damage (Sound p history pending) = ⊥
+DamageAllowed damage (Bad image own gate) = damage ≡ own
+
+-- by the answer; `state` is the one before it
+abbrev pub ReplyAllowed : Reply → HostPast → State → Type 0
+ReplyAllowed (reply.Appended seq) host state = AppendedAllowed seq host (acknowledges seq state)
+ReplyAllowed (reply.NotAppended why) host state = CauseAllowed why host state
+ReplyAllowed (reply.Played m tree) host state = AskAllowed m (reply.Played m tree) host state
+ReplyAllowed (reply.Same m) host state = AskAllowed m (reply.Same m) host state
+ReplyAllowed (reply.Differs m offset found wanted) host state = AskAllowed m (reply.Differs m offset found wanted) host state
+ReplyAllowed (reply.Length m size wanted) host state = AskAllowed m (reply.Length m size wanted) host state
+ReplyAllowed (reply.Bytes m bytes) host state = AskAllowed m (reply.Bytes m bytes) host state
+ReplyAllowed (reply.NotFound m) host state = AskAllowed m (reply.NotFound m) host state
+ReplyAllowed (reply.IsDirectory m) host state = AskAllowed m (reply.IsDirectory m) host state
+ReplyAllowed (reply.Checks m checked) host state = AskAllowed m (reply.Checks m checked) host state
+ReplyAllowed (reply.Reports report) host state = ReportAllowed report host state
+ReplyAllowed (reply.NoSuperblock fault) host state = DamageAllowed (NoSuperblock fault) state
+ReplyAllowed (reply.BadHeader fault) host state = DamageAllowed (BadHeader fault) state
+ReplyAllowed (reply.BadSlot i reason) host state = DamageAllowed (BadSlot i reason) state
+
+-- that memory failed is told by the machine alone
+abbrev pub AnswerAllowed : Answer → HostPast → State → Type 0
+AnswerAllowed (Replied given) host state = ReplyAllowed given host state
+AnswerAllowed (MediaFault line) host state = ⊤
+
+-- Notes.
+
+-- the host is declared, and this holds of it
+abbrev pub OfHost : Option HostPast → (HostPast → Type 0) → Type 0
+OfHost None P = ⊥
+OfHost (Some host) P = P host
+
+-- what is allowed next. Where it says ⊤ the note is told by the machine alone
+abbrev pub Allowed : Past → Note → Type 0
+Allowed past (Host name uuid) = ⊤
+Allowed past (Made h p) = ⊤
+Allowed past (Start h cmd) = ⊤
+Allowed past (Mark h) = ⊤
+Allowed past (Found h n) = FoundAllowed n past.state
+Allowed past (Writes h seq e) = OfHost (slice_get past.hosts h) (λ host. WritesAllowed seq e host past.state)
+Allowed past (Answered h answer) = OfHost (slice_get past.hosts h) (λ host. AnswerAllowed answer host past.state)
+Allowed past (Stop h) = ⊤
+Allowed past (Halt h) = ⊤
+Allowed past (Refused name why) = ⊤
+
+-- each of these notes is allowed behind those before it
+abbrev pub LegalBehind : Past → List Note → Type 0
+LegalBehind past [] = ⊤
+LegalBehind past (note ∷ notes) = Allowed past note × LegalBehind (past_after past note) notes
+
+-- a journal is legal from an image
+abbrev pub Legal : Image → List Note → Type 0
+Legal start journal = LegalBehind (first_past start) journal

@@ -1,0 +1,203 @@
+-- What a journal settles: a fold over its notes, from the image that was handed in. docs/MODEL.md, "The journal".
+use Rattle.std.specs.Prelude.{ℕ, ◌+◌, ◌==◌, nat_lt, if◌then◌else◌, List, [], ◌∷◌, ◌++◌, length, map, slice_get, Option, Some, None}
+use Rattle.fam_base.specs.declared.cmd.Cmd.{Cmd}
+use Rattle.fam_base.specs.declared.entry.Params.{Params}
+use Rattle.fam_base.specs.Image.{Image, line_at}
+use Rattle.fam_format.specs.declared.faults.LogFault.{LogFault}
+use Rattle.fam_format.specs.declared.faults.Reason.{Reason}
+use Rattle.fam_format.specs.declared.faults.SuperFault.{SuperFault}
+use Rattle.fam_format.specs.Layout.{least_lines}
+use Rattle.fam_format.specs.Reading as read
+use Rattle.fam_format.specs.Reading.{Reading, gate_in, reading}
+use Rattle.fam_rules.specs.declared.answers.LogState.{LogState}
+use Rattle.fam_rules.specs.declared.answers.LogState.TheVariants as log
+use Rattle.fam_rules.specs.Alone.{content_of, held_file}
+use Rattle.fam_rules.specs.Asks.{File}
+use Rattle.fam_rules.specs.Content.{fill}
+use Rattle.fam_rules.specs.Reply as reply
+use Rattle.fam_rules.specs.Reply.{Reply}
+use Rattle.fam_protocol.specs.After.{Named}
+use Rattle.fam_journal.specs.Members.{changed_at}
+use Rattle.fam_journal.specs.Notes.{Answer, Replied, MediaFault, Note, Host, Made, Start, Mark, Found, Writes, Answered, Stop, Halt, Refused}
+
+-- The settled state.
+
+-- why an image has no history
+pub data Damage : Type 0 where
+  -- so few lines that there is no gate
+  FewLines : (lines : ℕ) → Damage
+  -- the first fault of its reading
+  NoSuperblock : (fault : SuperFault) → Damage
+  BadHeader : (fault : LogFault) → Damage
+  BadSlot : (i : ℕ) (reason : Reason) → Damage
+
+-- the image that is damaged, how, and what its gate says; or parameters, the entries that are settled with their bytes, and
+-- one more of which no note has said yet whether it is. No note makes a damaged state, so its image is
+-- the one that was handed in
+pub data State : Type 0 where
+  Bad : (image : Image) (damage : Damage) (gate : ℕ) → State
+  Sound : (params : Params) (history : List File) (pending : Option File) → State
+
+-- by what an image says
+abbrev pub state_read : Image → Reading → State
+state_read image (read.NoSuperblock fault) = Bad image (NoSuperblock fault) (gate_in (line_at image))
+state_read image (read.BadHeader fault) = Bad image (BadHeader fault) (gate_in (line_at image))
+state_read image (read.BadSlot i reason) = Bad image (BadSlot i reason) (gate_in (line_at image))
+state_read image (read.Sound p entries) = Sound p (map (held_file (line_at image)) entries) None
+
+-- before the first note
+abbrev pub first_state : Image → State
+first_state image =
+    if nat_lt (length image) least_lines then Bad image (FewLines (length image)) 0 else state_read image (reading image)
+
+-- the history, and the pending entry behind it
+abbrev pub with_pending : List File → Option File → List File
+with_pending history None = history
+with_pending history (Some f) = history ++ f ∷ []
+
+-- the history's length
+abbrev pub settled_length : State → ℕ
+settled_length (Bad image damage gate) = 0
+settled_length (Sound p history pending) = length history
+
+-- an entry is named, with the bytes of its command
+abbrev pub pends : File → State → State
+pends f (Bad image damage gate) = Bad image damage gate
+pends f (Sound p history pending) = Sound p history (Some f)
+
+-- the first m entries were shown: the pending one joins the history where it is one of them
+abbrev pub shows : ℕ → State → State
+shows m (Bad image damage gate) = Bad image damage gate
+shows m (Sound p history pending) = if m == length history + 1 then Sound p (with_pending history pending) None else Sound p history pending
+
+-- the master found n entries: the pending one is dropped where it isn't one of them, and else joins the history
+abbrev pub finds : ℕ → State → State
+finds n (Bad image damage gate) = Bad image damage gate
+finds n (Sound p history pending) = if n == length history then Sound p history None else shows n (Sound p history pending)
+
+-- entry seq is acknowledged: the pending one joins the history where it is this one
+abbrev pub acknowledges : ℕ → State → State
+acknowledges seq (Bad image damage gate) = Bad image damage gate
+acknowledges seq (Sound p history pending) = if seq == length history then Sound p (with_pending history pending) None else Sound p history pending
+
+-- how many entries a report is of, where its log is sound
+abbrev pub reported_count : LogState → Option ℕ
+reported_count (log.Sound entries slots) = Some entries
+reported_count (log.BadLog field found wanted) = None
+reported_count log.Unread = None
+
+-- how many entries a reply is of
+abbrev pub count_of : Reply → Option ℕ
+count_of (reply.Appended seq) = None
+count_of (reply.NotAppended refused) = None
+count_of (reply.Played m tree) = Some m
+count_of (reply.Same m) = Some m
+count_of (reply.Differs m offset found wanted) = Some m
+count_of (reply.Length m size wanted) = Some m
+count_of (reply.Bytes m bytes) = Some m
+count_of (reply.NotFound m) = Some m
+count_of (reply.IsDirectory m) = Some m
+count_of (reply.Checks m checked) = Some m
+count_of (reply.Reports report) = reported_count report.log
+count_of (reply.NoSuperblock fault) = None
+count_of (reply.BadHeader fault) = None
+count_of (reply.BadSlot seq reason) = None
+
+abbrev pub shows_count : Option ℕ → State → State
+shows_count None state = state
+shows_count (Some m) state = shows m state
+
+-- the state after a reply
+abbrev pub replied : Reply → State → State
+replied (reply.Appended seq) state = acknowledges seq state
+replied (reply.NotAppended refused) state = state
+replied (reply.Played m tree) state = shows m state
+replied (reply.Same m) state = shows m state
+replied (reply.Differs m offset found wanted) state = shows m state
+replied (reply.Length m size wanted) state = shows m state
+replied (reply.Bytes m bytes) state = shows m state
+replied (reply.NotFound m) state = shows m state
+replied (reply.IsDirectory m) state = shows m state
+replied (reply.Checks m checked) state = shows m state
+replied (reply.Reports report) state = shows_count (reported_count report.log) state
+replied (reply.NoSuperblock fault) state = state
+replied (reply.BadHeader fault) state = state
+replied (reply.BadSlot seq reason) state = state
+
+-- the state after a task's end
+abbrev pub ended : Answer → State → State
+ended (Replied given) state = replied given state
+ended (MediaFault line) state = state
+
+-- What is known of each host.
+
+-- its name and UUID, its last command, how much was settled at that command's mark, and what it named
+pub record HostPast : Type 0 where
+  pub name : List ℕ
+  pub uuid : List ℕ
+  pub cmd : Option Cmd
+  pub floor : Option ℕ
+  pub wrote : Option Named
+
+-- the image that was handed in, what is settled, and the declared hosts
+pub record Past : Type 0 where
+  pub start : Image
+  pub state : State
+  pub hosts : List HostPast
+
+-- the bytes of a command's new file
+abbrev pub filled : Option Cmd → ℕ → List ℕ
+filled None size = []
+filled (Some cmd) size = fill (content_of cmd) size
+
+-- the last command of a host
+abbrev pub cmd_of : Option HostPast → Option Cmd
+cmd_of None = None
+cmd_of (Some host) = host.cmd
+
+-- the state after a note
+abbrev pub state_after : Past → Note → State
+state_after past (Host name uuid) = past.state
+state_after past (Made h p) = Sound p [] None
+state_after past (Start h cmd) = past.state
+state_after past (Mark h) = past.state
+state_after past (Found h n) = finds n past.state
+state_after past (Writes h seq e) = pends (record { entry = e; bytes = filled (cmd_of (slice_get past.hosts h)) e.size }) past.state
+state_after past (Answered h answer) = ended answer past.state
+state_after past (Stop h) = past.state
+state_after past (Halt h) = past.state
+state_after past (Refused name cause) = past.state
+
+-- a host before its first command
+abbrev pub new_host : List ℕ → List ℕ → HostPast
+new_host name uuid = record { name = name; uuid = uuid; cmd = None; floor = None; wrote = None }
+
+-- the hosts after a note
+abbrev pub hosts_after : Past → Note → List HostPast
+hosts_after past (Host name uuid) = past.hosts ++ new_host name uuid ∷ []
+hosts_after past (Made h p) = past.hosts
+hosts_after past (Start h cmd) = changed_at h (λ x. record x { cmd = Some cmd; floor = None; wrote = None }) past.hosts
+hosts_after past (Mark h) = changed_at h (λ x. record x { floor = Some (settled_length past.state) }) past.hosts
+hosts_after past (Found h n) = past.hosts
+hosts_after past (Writes h seq e) = changed_at h (λ x. record x { wrote = Some (record { seq = seq; entry = e }) }) past.hosts
+hosts_after past (Answered h answer) = past.hosts
+hosts_after past (Stop h) = past.hosts
+hosts_after past (Halt h) = past.hosts
+hosts_after past (Refused name cause) = past.hosts
+
+-- the past after a note
+abbrev pub past_after : Past → Note → Past
+past_after past note = record { start = past.start; state = state_after past note; hosts = hosts_after past note }
+
+-- before the first note
+abbrev pub first_past : Image → Past
+first_past image = record { start = image; state = first_state image; hosts = [] }
+
+-- after some notes more
+abbrev pub past_behind : Past → List Note → Past
+past_behind past [] = past
+past_behind past (note ∷ notes) = past_behind (past_after past note) notes
+
+-- after a journal
+abbrev pub past_of : Image → List Note → Past
+past_of image journal = past_behind (first_past image) journal

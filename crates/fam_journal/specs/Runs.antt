@@ -1,0 +1,127 @@
+-- What a run of events promises: its journal, what it leaves, what is put of it, and which counts rose. One record for a
+-- script, a command on its own and a storm: which texts are right, and which status they have, is the caller's.
+use Rattle.std.specs.Prelude.{ℕ, ⊤, ◌≡◌, ◌⊎◌, ◌+◌, ◌-◌, ◌^◌, min, ◌<◌, ◌≤◌, List, [], ◌∷◌, ◌++◌, slice_get, Option, Some, option_map}
+use Rattle.fam_base.specs.declared.line.LineNo.{LineNo}
+use Rattle.fam_base.specs.Image.{Image}
+use Rattle.fam_media.specs.Files.{Files}
+use Rattle.fam_media.specs.Outside.{IfTold, IsPartlyPut, with_piece}
+use Rattle.fam_journal.specs.declared.event.Event.{Event}
+use Rattle.fam_journal.specs.declared.event.Event.TheVariants as event
+use Rattle.fam_journal.specs.declared.refusal.Refusal.TheVariants as why
+use Rattle.fam_journal.specs.declared.status.Status.{Status}
+use Rattle.fam_journal.specs.declared.status.Status.TheVariants as status
+use Rattle.fam_journal.specs.Ends.{AllDone, Ending, EndsBy, HasCounted, MkfsFails, NoMemory, NoMemoryBroken, ReadsAfter, SinkFails, SourceFails}
+use Rattle.fam_journal.specs.EventForms.{EndsForm}
+use Rattle.fam_journal.specs.Events.{Session, first_session}
+use Rattle.fam_journal.specs.Follows.{Faulted, Short, SourceEnd}
+use Rattle.fam_journal.specs.Legal.{Legal}
+use Rattle.fam_journal.specs.Names.{NameDeclared}
+use Rattle.fam_journal.specs.Notes.{Note, Refused}
+use Rattle.fam_journal.specs.Past.{past_of}
+
+-- a count of 64 bits rose, or stands at its last value
+abbrev pub HasRisen : ℕ → ℕ → Type 0
+HasRisen before now = min (before + 1) (2 ^ 64 - 1) ≤ now
+
+-- what media, shelf and sink tell before and after a call of the program: an image, files and the bytes put, where they tell
+-- them; and always how many lines the media has, how often each of them failed, and how often a source was short
+pub record Outside : Type 0 where
+  pub lines : ℕ
+  pub image : Option Image
+  pub image_now : Option Image
+  pub faults : ℕ
+  pub faults_now : ℕ
+  pub files : Option Files
+  pub shelf : ℕ
+  pub shelf_now : ℕ
+  pub shorts : ℕ
+  pub shorts_now : ℕ
+  pub bytes : Option (List ℕ)
+  pub bytes_now : Option (List ℕ)
+  pub sink : ℕ
+  pub sink_now : ℕ
+
+-- counts never fall
+pub record NoneFalls (out : Outside) : Type 0 where
+  pub media : out.faults ≤ out.faults_now
+  pub shelf : out.shelf ≤ out.shelf_now
+  pub shorts : out.shorts ≤ out.shorts_now
+  pub sink : out.sink ≤ out.sink_now
+
+-- none of them rose, and none stands at its last value
+pub record NoneRose (out : Outside) : Type 0 where
+  pub media : HasRisen out.faults out.faults_now → ⊥
+  pub shelf : HasRisen out.shelf out.shelf_now → ⊥
+  pub shorts : HasRisen out.shorts out.shorts_now → ⊥
+  pub sink : HasRisen out.sink out.sink_now → ⊥
+
+-- Why a run ended early, on every media, shelf and sink.
+
+-- a mkfs for the host of this name
+abbrev pub IsMkfsOf : List ℕ → Event → Type 0
+IsMkfsOf own (event.Host name uuid) = ⊥
+IsMkfsOf own (event.Mkfs name fs unit log force) = name ≡ own
+IsMkfsOf own (event.Begin name what) = ⊥
+IsMkfsOf own (event.Run name what) = ⊥
+IsMkfsOf own (event.Step name count) = ⊥
+IsMkfsOf own (event.Finish name) = ⊥
+IsMkfsOf own (event.Stop name) = ⊥
+IsMkfsOf own (event.Halt name) = ⊥
+IsMkfsOf own (event.Evict name line) = ⊥
+IsMkfsOf own (event.Leak name line mask) = ⊥
+IsMkfsOf own (event.Fetch name line mask) = ⊥
+
+-- the last note tells that memory failed in one of the events, a mkfs
+pub record EndsBroken (events : List Event) (journal : List Note) : Type 0 where
+  pub count : ℕ
+  pub event : Event
+  pub event_is : slice_get events count ≡ Some event
+  pub front : List Note
+  pub name : List ℕ
+  pub line : LineNo
+  pub of_mkfs : IsMkfsOf name event
+  pub is : journal ≡ front ++ Refused name (why.MediaFault line) ∷ []
+
+-- the shelf failed; or a source was short, so that fewer bytes came
+abbrev pub SourceCaused : SourceEnd → Outside → Type 0
+SourceCaused Faulted out = HasRisen out.shelf out.shelf_now
+SourceCaused (Short size got) out = HasRisen out.shorts out.shorts_now × (got < size)
+
+-- an early end has its cause: a note, or a count that rose. Want of memory may come at any time
+abbrev pub IsCaused : Ending → List Event → List Note → Outside → Type 0
+IsCaused AllDone events journal out = ⊤
+IsCaused MkfsFails events journal out = EndsBroken events journal
+IsCaused (SourceFails end) events journal out = SourceCaused end out
+IsCaused NoMemory events journal out = ⊤
+IsCaused NoMemoryBroken events journal out = EndsBroken events journal
+IsCaused SinkFails events journal out = HasRisen out.sink out.sink_now
+
+-- The run.
+
+-- on an image and files that are told: the journal is legal and follows the events, the media has the last image, and that
+-- reads as the journal settles
+pub record RunsOn (ending : Ending) (files : Files) (events : List Event) (start : Image) (now : Option Image) (journal : List Note) : Type 0 where
+  pub last : Session
+  pub legal : Legal start journal
+  pub follows : EndsBy ending files events (first_session start) journal last
+  pub left : now ≡ Some last.machines.memory
+  pub reads : ReadsAfter ending (past_of start journal).state last.machines.memory
+
+-- events ran: one journal, whose notes name hosts declared before them and which has the form of the events, the text that is
+-- to be put of it, and its status. Memory's count rose by at least as many faults as the journal tells
+pub record HasRun (puts : Ending → List Note → List ℕ → Type 0) (gives : Ending → List Note → Status) (ending : Ending) (out : Outside) (events : List Event) (text : List ℕ) (own : Status) : Type 0 where
+  pub journal : List Note
+  pub named : NameDeclared 0 journal
+  pub form : EndsForm ending out.lines events [] journal
+  pub counted : HasCounted out.faults out.faults_now journal
+  pub caused : IsCaused ending events journal out
+  pub text_is : puts ending journal text
+  pub status_is : own ≡ gives ending journal
+  pub told : IfTold out.image (λ start. IfTold out.files (λ files. RunsOn ending files events start out.image_now journal))
+
+-- What is put.
+
+-- the text is put whole, and the status is its own; or the sink failed, its count rose, and a front of the text is put
+pub record IsPut (own given : Status) (text : List ℕ) (out : Outside) : Type 0 where
+  pub outcome : ((given ≡ own) × (out.bytes_now ≡ option_map (with_piece text) out.bytes)) ⊎ ((given ≡ status.SinkFault) × IsPartlyPut out.bytes out.bytes_now text)
+  pub rose : given ≡ status.SinkFault → HasRisen out.sink out.sink_now

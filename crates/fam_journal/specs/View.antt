@@ -1,0 +1,49 @@
+-- A world as it is seen: its hosts, each with its cache and the task that it runs, and its journal. Which states of the machine
+-- it stands for.
+use Rattle.std.specs.Prelude.{ℕ, ⊤, ◌≡◌, List, [], slice_get, Option, Some, None}
+use Rattle.fam_machine.specs.Caches.{Cache}
+use Rattle.fam_commands.specs.Stands.{StandsFor}
+use Rattle.fam_commands.specs.Task.{Task}
+use Rattle.fam_journal.specs.Machines.{HostState, Machines, TaskState}
+use Rattle.fam_journal.specs.Notes.{Note}
+
+-- a host of the world: its task is the one that the code runs
+pub record HostView : Type 0 where
+  pub name : List ℕ
+  pub uuid : List ℕ
+  pub cache : Cache
+  pub task : Option Task
+
+pub record WorldView : Type 0 where
+  pub hosts : List HostView
+  pub journal : List Note
+
+-- no host, and no note
+abbrev pub empty_world : WorldView
+empty_world = record { hosts = []; journal = [] }
+
+-- The world stands for a state of the machine.
+
+-- a task stands for its command, after the words that its loads gave and the operations that it made
+abbrev pub TaskStands : ℕ → Option TaskState → Option Task → Type 0
+TaskStands lines None None = ⊤
+TaskStands lines (Some s) (Some t) = StandsFor s.cmd s.me lines t s.words s.made
+TaskStands lines None (Some t) = ⊥
+TaskStands lines (Some s) None = ⊥
+
+pub record HostStands (lines : ℕ) (state : HostState) (view : HostView) : Type 0 where
+  pub name : state.name ≡ view.name
+  pub uuid : state.uuid ≡ view.uuid
+  pub cache : state.cache ≡ view.cache
+  pub task : TaskStands lines state.task view.task
+
+-- both are declared, or neither is
+abbrev pub StandsAt : ℕ → Option HostState → Option HostView → Type 0
+StandsAt lines None None = ⊤
+StandsAt lines (Some state) (Some view) = HostStands lines state view
+StandsAt lines None (Some view) = ⊥
+StandsAt lines (Some state) None = ⊥
+
+-- the world's own hosts, caches and tasks stand for those of the state
+abbrev pub WorldStands : ℕ → Machines → WorldView → Type 0
+WorldStands lines state world = (h : ℕ) → StandsAt lines (slice_get state.hosts h) (slice_get world.hosts h)

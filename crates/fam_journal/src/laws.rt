@@ -1,0 +1,243 @@
+//! Laws of journals, each with an empty body.
+
+ghost use Rattle.std.specs.Prelude.{◌≡◌, ◌⊎◌, ◌≤◌, ◌++◌, true, false, ℕ, Option, Some, None, Ok, List, [], ◌∷◌, length, map, slice_get, take};
+ghost use Rattle.std.specs.FinMap as finmap;
+ghost use Rattle.fam_base.specs.declared.entry.Entry.{Entry};
+ghost use Rattle.fam_base.specs.Image.{Image, line_at};
+ghost use Rattle.fam_journal.specs.Calls.{busy_at, refusal_of, BreaksOff, Call, Completes, Does, Steps};
+ghost use Rattle.fam_journal.specs.CallRecords.{IsStepped, DoesPart, HasForm, IsSoundCall};
+ghost use Rattle.fam_commands.specs.Task.{Task};
+ghost use Rattle.fam_journal.specs.Complete.{AreRuled, CanEnd, EndsInAnswer, IsComplete};
+ghost use Rattle.fam_journal.specs.Ends.{AllDone, Ending, EndsBy, HasCounted, IsClean, NoMemory, ReadsAs};
+ghost use Rattle.fam_journal.specs.Events.{GoesOn, Session, first_session};
+ghost use Rattle.fam_journal.specs.EventForms.{EndsForm, FollowsForm};
+ghost use Rattle.fam_journal.specs.Follows.{Follows};
+ghost use Rattle.fam_journal.specs.Forms.{AreFormed, BreaksForm, DoesForm, HostForm, IsFormed, PartForm, forms_behind, forms_of};
+ghost use Rattle.fam_journal.specs.View.{HostView, WorldStands, WorldView, empty_world};
+ghost use Rattle.fam_journal.specs.Kept.{Held, Kept, settled_of};
+ghost use Rattle.fam_journal.specs.WorldAlone.{number_in, refusal_in, IsRow, TakesNoMedia, world_after};
+ghost use Rattle.fam_journal.specs.Laws.{AreSame, AreSound, IsFree, IsFront, NoneMade, Says, IsImage, IsSettled, TaskAt, TwoAnswers, first_entries, history_at, second_entries, turn_at};
+ghost use Rattle.fam_journal.specs.Legal.{Legal, LegalBehind};
+ghost use Rattle.fam_journal.specs.Machines.{Machines, notes_of, unused};
+ghost use Rattle.fam_journal.specs.Names.{AreNamed, NameDeclared};
+ghost use Rattle.fam_journal.specs.Notes.{Note, Writes};
+ghost use Rattle.fam_journal.specs.Programs.{Command, Grammar, Script, Storm, Storms, TopEnds, script_limit};
+ghost use Rattle.fam_journal.specs.Runs.{HasRisen, IsCaused, NoneRose, Outside, RunsOn};
+ghost use Rattle.fam_journal.specs.declared.status.Status.{Status};
+ghost use Rattle.fam_journal.specs.declared.status.Status.TheVariants.{Done, MediaFault, OutOfMemory, Refused, SinkFault, SourceFault};
+ghost use Rattle.fam_journal.specs.Texts.{names_behind, render, render_behind};
+ghost use Rattle.fam_journal.specs.Past.{Bad, Damage, HostPast, first_past, past_behind, past_of};
+ghost use Rattle.fam_journal.specs.declared.event.Ask.{Ask};
+ghost use Rattle.fam_journal.specs.declared.event.Event.{Event};
+ghost use Rattle.fam_journal.specs.Members.{changed_at};
+ghost use Rattle.fam_machine.specs.Caches.{Cache};
+ghost use Rattle.fam_commands.specs.Stands.{note_of, task_after, turn_given};
+ghost use Rattle.fam_media.specs.Files.{Files};
+ghost use Rattle.fam_protocol.specs.Steps.{turn_settles};
+
+/// A new world is held, from every image of at most 1 TiB, whatever the image holds.
+pub fn a_new_world_is_held()
+    ensures { (image : Image) → IsImage image → Held image (unused image) empty_world image }
+{}
+
+/// What the protocol lets a task say is what the journal allows next (`legal`), and what the protocol settles by it is what
+/// the journal settles (`settles`): for every turn, on sound and on damaged images.
+pub fn what_a_task_says_is_legal()
+    ensures legal { (at : TaskAt) → Says at → LegalBehind at.past (notes_of at.host (note_of (turn_at at))) }
+    ensures settles { (at : TaskAt) → Says at
+        → settled_of (past_behind at.past (notes_of at.host (note_of (turn_at at)))).state
+        ≡ turn_settles (turn_at at) (settled_of at.past.state) }
+{}
+
+/// Whatever a call of the world does, as its row has it, a world that was held is held again once it stands for the state
+/// behind the row and has the row's notes: with stops, halts, faults of memory and steps of other hosts at any moment. Every
+/// call is one of these: a host is declared; a file system is made, or a superblock stands there; a command begins, does an
+/// operation, or runs to its answer; it is stopped or halted; a cache moves, or memory fails in it; something is refused.
+pub fn a_row_keeps_what_is_held()
+    ensures held { (start : Image) (state left : Machines) (old new : WorldView) (call : Call) (notes : List Note)
+        → Held start state old state.memory → IsSoundCall call → Does call state notes left
+        → WorldStands (length start) left new → new.journal ≡ old.journal ++ notes
+        → Held start left new left.memory }
+
+    // So it is where no memory was found for an operation.
+    ensures part { (start : Image) (state left : Machines) (old new : WorldView) (call : Call) (notes : List Note)
+        → Held start state old state.memory → DoesPart call state notes left
+        → WorldStands (length start) left new → new.journal ≡ old.journal ++ notes
+        → Held start left new left.memory }
+
+    // Where memory fails in a mkfs the world isn't held any more, and the journal is legal.
+    ensures cut { (start : Image) (state left : Machines) (old : WorldView) (call : Call) (notes : List Note)
+        → Held start state old state.memory → BreaksOff call state notes left
+        → Legal start (old.journal ++ notes) }
+{}
+
+/// While a world is held, the image reads as what its journal settles (`reads`). The image of a journal's damaged state is
+/// the one that was handed in, so a damaged image is left as it was (`bad`).
+pub fn a_held_image_reads_as_its_journal()
+    ensures reads { (start : Image) (state : Machines) (world : WorldView) (image : Image)
+        → Held start state world image → ReadsAs (past_of start world.journal).state image }
+    ensures bad { (start image : Image) (damage : Damage) (gate : ℕ) (journal : List Note)
+        → (past_of start journal).state ≡ Bad image damage gate → image ≡ start }
+{}
+
+/// However the run of a script's events ends, its journal is legal, and the image that is left reads as what the journal
+/// settles.
+pub fn a_run_is_settled()
+    ensures { (start : Image) (files : Files) (events : List Event) (ending : Ending) (journal : List Note) (last : Session)
+        → IsImage start → AreSound events
+        → EndsBy ending files events (first_session start) journal last
+        → IsSettled ending start journal last.machines.memory }
+{}
+
+/// Of two answers with no file system made between them, the one of fewer entries has those that stand first in the other
+/// one's, whichever came first.
+pub fn the_history_only_grows()
+    ensures more { (start : Image) (two : TwoAnswers start) → two.m ≤ two.n
+        → first_entries two ≡ take two.m (second_entries two) }
+    ensures fewer { (start : Image) (two : TwoAnswers start) → two.n ≤ two.m
+        → second_entries two ≡ take two.n (first_entries two) }
+{}
+
+/// At most one entry is pending: one is written only where nothing is, and it is numbered by what is settled (`writes`).
+/// What a journal settles only grows until the next file system is made (`grows`).
+pub fn at_most_one_entry_is_pending()
+    ensures writes { (start : Image) (before rest : List Note) (host seq : ℕ) (entry : Entry)
+        → Legal start (before ++ Writes host seq entry ∷ rest) → IsFree seq (past_of start before).state }
+    ensures grows { (start : Image) (before behind : List Note) → NoneMade behind
+        → IsFront (history_at (past_of start before).state) (history_at (past_of start (before ++ behind)).state) }
+{}
+
+/// Every answer in a run's journal, but that memory failed, is one of the rules: of its host's last command, in the state
+/// before it (`ruled`). So a master's append that the decision doesn't refuse answers that it is done. Where memory doesn't
+/// fail, a command that begins and is run through ends in such an answer (`ends`). From wherever a host's task has come to
+/// there is a run to its answer, which memory serves (`can`).
+pub fn every_answer_is_of_the_rules()
+    ensures ruled { (start : Image) (files : Files) (events : List Event) (journal : List Note) (last : Session)
+        → IsImage start → AreSound events → Follows files events (first_session start) journal last
+        → AreRuled (first_past start) journal }
+    ensures ends { (files : Files) (name : List ℕ) (what : Ask) (old new : Session) (notes : List Note)
+        → GoesOn Completes files name what old notes new → IsClean notes → EndsInAnswer notes }
+    ensures can { (start : Image) (state : Machines) (journal : List Note) (host : ℕ) → Kept start state journal
+        → busy_at host state ≡ true → CanEnd host state }
+{}
+
+/// Where memory never fails, events have one journal and one last state.
+pub fn a_clean_run_is_the_only_one()
+    ensures { (files : Files) (events : List Event) (old first second : Session) (a b : List Note)
+        → IsClean a → IsClean b → Follows files events old a first → Follows files events old b second
+        → AreSame a b first second }
+{}
+
+/// The first refusal of a call is the one that a world which stands for the state has by itself.
+pub fn a_refusal_is_told_by_the_world()
+    ensures { (lines : ℕ) (state : Machines) (world : WorldView) (call : Call) → WorldStands lines state world
+        → refusal_of call state ≡ refusal_in call world (length state.memory) }
+{}
+
+/// What a call that takes no media makes of a world, as the world alone tells it, is the call's row: on the state that the
+/// world stands for there are notes and a next state of the row, and the new world stands for that.
+pub fn a_call_without_media_does_its_row()
+    ensures { (state : Machines) (world : WorldView) (call : Call) → WorldStands (length state.memory) state world
+        → TakesNoMedia call (length state.memory) world
+        → IsRow call (length state.memory) state world (world_after call (length state.memory) world) }
+{}
+
+/// The text of a longer journal is the old text and what is put for the notes that were added (`more`). In a journal
+/// that follows events from no hosts each note names a host that is declared before it (`named`), also with
+/// notes added that name hosts of the journal (`adds`); and hosts' names are those of the journal's own notes (`names`).
+pub fn a_text_only_grows()
+    ensures more { (old added : List Note) → render (old ++ added) ≡ render old ++ render_behind (names_behind [] old) added }
+    ensures named { (files : Files) (events : List Event) (image : Image) (journal : List Note) (last : Session)
+        → Follows files events (first_session image) journal last
+        → NameDeclared 0 journal }
+    ensures adds { (old added : List Note) → NameDeclared 0 old → AreNamed (length (names_behind [] old)) added
+        → NameDeclared 0 (old ++ added) }
+    ensures names { (image : Image) (journal : List Note)
+        → names_behind [] journal ≡ map (λ (host : HostPast). host.name) (past_of image journal).hosts }
+{}
+
+/// A status that names a fault has its cause: the media's count of faults rose; the shelf's count of faults, or that of
+/// shorts; the sink's. So it is on every media, shelf and sink, whatever they tell.
+pub fn a_status_has_its_cause()
+    ensures media { (grammar : Grammar) (storms : Storms) (command : Option Command) (out : Outside) (given : Status)
+        → TopEnds grammar storms command out given → given ≡ MediaFault → HasRisen out.faults out.faults_now }
+    ensures source { (grammar : Grammar) (storms : Storms) (command : Option Command) (out : Outside) (given : Status)
+        → TopEnds grammar storms command out given → given ≡ SourceFault
+        → HasRisen out.shelf out.shelf_now ⊎ HasRisen out.shorts out.shorts_now }
+    ensures sink { (grammar : Grammar) (storms : Storms) (command : Option Command) (out : Outside) (given : Status)
+        → TopEnds grammar storms command out given → given ≡ SinkFault → HasRisen out.sink out.sink_now }
+{}
+
+/// Where no count rose, of media, shelf and sink, events are all done, each with its answer by the rules, or there was no
+/// memory (`run`). So a script that the shelf holds, and that is no longer than a script may be and has no bad line, is read
+/// and run to its end: its status is Done or Refused, or there was no memory (`script`); and a storm's is Done, or that
+/// (`storm`).
+pub fn a_run_without_faults_is_complete()
+    ensures run { (out : Outside) (ending : Ending) (journal : List Note) (files : Files) (events : List Event) (start : Image)
+        → NoneRose out → IsImage start → AreSound events → HasCounted out.faults out.faults_now journal
+        → IsCaused ending events journal out → RunsOn ending files events start out.image_now journal
+        → ((ending ≡ AllDone) × IsComplete files events start journal) ⊎ (ending ≡ NoMemory) }
+    ensures script { (grammar : Grammar) (storms : Storms) (out : Outside) (given : Status) (name : List ℕ) (files : Files)
+        (bytes : List ℕ) (events : List Event) → NoneRose out → TopEnds grammar storms (Some (Script name)) out given
+        → out.files ≡ Some files → finmap.get files name ≡ Some bytes → length bytes ≤ script_limit → grammar bytes ≡ Ok events
+        → (given ≡ Done) ⊎ (given ≡ Refused) ⊎ (given ≡ OutOfMemory) }
+    ensures storm { (grammar : Grammar) (storms : Storms) (out : Outside) (given : Status) (seed size : ℕ)
+        → NoneRose out → TopEnds grammar storms (Some (Storm seed size false)) out given
+        → (given ≡ Done) ⊎ (given ≡ OutOfMemory) }
+{}
+
+/// An operation that memory serves is the row of a step, where the world makes of its own host what its own task says: on the
+/// state that the world stands for, with the notes of the task's turn, and the new world stands for the state behind it.
+pub fn an_operation_does_its_row()
+    ensures { (state : Machines) (world : WorldView) (name : List ℕ) (h : ℕ) (view : HostView) (t : Task)
+        → WorldStands (length state.memory) state world → number_in name world ≡ Some h
+        → slice_get world.hosts h ≡ Some view → view.task ≡ Some t → IsStepped name h view t state world }
+{}
+
+/// Whatever a call of the world does on a state whose hosts are what notes tell, its notes have the form that those notes
+/// allow, whatever memory holds; and the hosts behind it are what the notes tell then (`does`). So have those of a mkfs that
+/// memory cuts (`cut`), and of a call for which no memory was found (`part`). A state's hosts are what a journal tells
+/// where a world of such hosts stands for it (`world`).
+pub fn a_row_has_its_form()
+    ensures does { (lines : ℕ) (state left : Machines) (hosts : List HostForm) (notes : List Note) (call : Call)
+        → AreFormed lines state hosts → Does call state notes left
+        → DoesForm call lines hosts notes × AreFormed lines left (forms_behind hosts notes) }
+    ensures cut { (lines : ℕ) (state left : Machines) (hosts : List HostForm) (notes : List Note) (call : Call)
+        → AreFormed lines state hosts → BreaksOff call state notes left → BreaksForm call lines hosts notes }
+    ensures part { (lines : ℕ) (state left : Machines) (hosts : List HostForm) (notes : List Note) (call : Call)
+        → AreFormed lines state hosts → DoesPart call state notes left → PartForm call lines hosts notes }
+    ensures world { (state : Machines) (world : WorldView) → WorldStands (length state.memory) state world → IsFormed world
+        → AreFormed (length state.memory) state (forms_of world.journal) }
+{}
+
+/// The journal of events that follow from an image has their form, on a media of as many lines (`follows`); and so has the
+/// journal of a run, however it ends (`ends`).
+pub fn a_run_has_its_form()
+    ensures follows { (files : Files) (events : List Event) (image : Image) (journal : List Note) (last : Session)
+        → Follows files events (first_session image) journal last → FollowsForm (length image) events [] journal }
+    ensures ends { (files : Files) (events : List Event) (image : Image) (journal : List Note) (last : Session) (ending : Ending)
+        → EndsBy ending files events (first_session image) journal last → EndsForm ending (length image) events [] journal }
+{}
+
+/// Whatever word an operation of a world's own task gives, what its turn notes has the form of a step (`form`), and the
+/// world's hosts are what its journal tells again, whatever cache the host has then (`world`). So a world keeps it on a media
+/// that tells nothing.
+pub fn an_operation_has_its_form()
+    ensures form { (lines : ℕ) (world : WorldView) (name : List ℕ) (h : ℕ) (view : HostView) (t : Task) (word : ℕ)
+        → IsFormed world → number_in name world ≡ Some h → slice_get world.hosts h ≡ Some view → view.task ≡ Some t
+        → refusal_in (Steps name) world lines ≡ None
+        → DoesForm (Steps name) lines (forms_of world.journal) (notes_of h (note_of (turn_given t word))) }
+    ensures world { (world : WorldView) (h : ℕ) (view : HostView) (t : Task) (word : ℕ) (cache : Cache)
+        → IsFormed world → slice_get world.hosts h ≡ Some view → view.task ≡ Some t
+        → IsFormed (record {
+          hosts = changed_at h (λ (v : HostView). record v { cache = cache; task = task_after (turn_given t word) }) world.hosts;
+          journal = world.journal ++ notes_of h (note_of (turn_given t word));
+        }) }
+{}
+
+/// What a call that takes no media makes of a world, as the world alone tells it, has its form where the world's hosts are
+/// what its journal tells; and they are so again.
+pub fn a_call_without_media_has_its_form()
+    ensures { (lines : ℕ) (world : WorldView) (call : Call) → IsFormed world → TakesNoMedia call lines world
+        → HasForm call lines world (world_after call lines world) }
+{}

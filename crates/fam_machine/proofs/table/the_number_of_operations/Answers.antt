@@ -1,5 +1,0 @@
-use Rattle.fam_machine.proofs.Standing.{steps_at_end}
-use Rattle.fam_machine.proofs.table.the_number_of_operations.Goals as goal
-
-pub returns : goal.returns
-returns c = steps_at_end

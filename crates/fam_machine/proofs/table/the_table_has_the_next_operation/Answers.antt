@@ -1,5 +1,0 @@
-use Rattle.fam_machine.proofs.Standing.{next_operation}
-use Rattle.fam_machine.proofs.table.the_table_has_the_next_operation.Goals as goal
-
-pub returns : goal.returns
-returns c = next_operation

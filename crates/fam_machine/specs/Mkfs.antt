@@ -1,0 +1,79 @@
+-- The operations that make a file system, on the maker's cache and the one memory; and what is refused before any.
+use Rattle.std.specs.Prelude.{ℕ, ◌*◌, ◌&&◌, nat_lt, if◌then◌else◌, Bool, true, false, List, [], ◌∷◌, ◌++◌, Option, Some, None, Result, Ok, Err}
+use Rattle.std.specs.List.{flat_map, fold}
+use Rattle.fam_base.specs.declared.entry.Params.{Params}
+use Rattle.fam_base.specs.Image.{line_at}
+use Rattle.fam_format.specs.declared.faults.SuperFault.{SuperFault}
+use Rattle.fam_format.specs.Layout.{slots_of}
+use Rattle.fam_format.specs.Params.{is_unit, is_log_length, need}
+use Rattle.fam_format.specs.Reading.{super_in}
+use Rattle.fam_rules.specs.Place.{line_bytes}
+use Rattle.fam_rules.specs.Written.{Put, format_puts}
+use Rattle.fam_machine.specs.declared.cell.Cell.TheVariants.{Absent}
+use Rattle.fam_machine.specs.declared.op.Op.{Op}
+use Rattle.fam_machine.specs.declared.op.Op.TheVariants.{Invalidate}
+use Rattle.fam_machine.specs.Caches.{Cache, with_cell}
+use Rattle.fam_machine.specs.Operations.{Machine, operated_all, load_ops, store_ops, line_no}
+
+-- the first 27 operations: each of lines 0, 1 and 2 is dropped, and its eight words are loaded
+unfoldable pub read_ops : List Op
+read_ops = load_ops 0 8 ++ load_ops 1 8 ++ load_ops 2 8
+
+-- a line's eight words are stored, and it is sent and dropped
+unfoldable pub put_ops : Put → List Op
+put_ops put = store_ops put.0 put.1 ++ Invalidate (line_no put.0) ∷ []
+
+-- the next 54: six lines are put, in the order of `format_puts`
+unfoldable pub write_ops : Params → List Op
+write_ops p = flat_map put_ops (format_puts p)
+
+-- all 81 operations
+abbrev pub mkfs_ops : Params → List Op
+mkfs_ops p = read_ops ++ write_ops p
+
+-- the cache without a line that was put
+abbrev pub drop_line : Cache → Put → Cache
+drop_line cache put = with_cell put.0 Absent cache
+
+-- the cache without the lines of these puts
+abbrev pub drop_lines : List Put → Cache → Cache
+drop_lines puts cache = fold drop_line cache puts
+
+-- the parameters that are asked for, on a device of so many lines
+abbrev pub asked : ℕ → ℕ → List ℕ → List ℕ → ℕ → Params
+asked unit log fs me lines =
+    record { log_length = log; slots = slots_of log; unit = unit; device = line_bytes * lines; fs = fs; master = me }
+
+-- a unit, and the length of a log of such units
+abbrev pub is_geometry : ℕ → ℕ → Bool
+is_geometry unit log = is_unit unit && is_log_length unit log
+
+-- why nothing is begun: no unit, or no length of a log with this unit; or the device has fewer bytes than are needed
+pub data EarlyRefusal : Type 0 where
+  BadGeometry : (unit log : ℕ) → EarlyRefusal
+  TooSmall : (needed have : ℕ) → EarlyRefusal
+
+-- what is refused before any operation, by the unit, the log and the bytes of the device alone. None: nothing
+abbrev pub early_refusal : ℕ → ℕ → ℕ → Option EarlyRefusal
+early_refusal unit log have =
+    if is_geometry unit log then (if nat_lt have (need log unit) then Some (TooSmall (need log unit) have) else None)
+    else Some (BadGeometry unit log)
+
+-- what the superblock says behind the reading
+abbrev pub found : Params → Machine → Result Params SuperFault
+found p m = super_in (line_at (operated_all read_ops m).image) p.device
+
+-- nothing stands in the way, or it is to be written over
+abbrev pub goes_on : Bool → Result Params SuperFault → Bool
+goes_on true found = true
+goes_on false (Ok other) = false
+goes_on false (Err fault) = true
+
+-- the operations that are due, by whether it goes on
+abbrev pub due_by : Bool → Params → List Op
+due_by true p = mkfs_ops p
+due_by false p = read_ops
+
+-- the operations that are due, by what is found
+abbrev pub due_ops : Bool → Params → Machine → List Op
+due_ops force p m = due_by (goes_on force (found p m)) p

@@ -1,0 +1,31 @@
+//! What all operations of making a file system come to.
+
+ghost use Rattle.std.specs.Prelude.{◌≡◌, ℕ, length, map as map_list};
+ghost use Rattle.fam_base.specs.declared.entry.Params.{Params};
+ghost use Rattle.fam_base.specs.Image.{Image, eight};
+ghost use Rattle.fam_machine.specs.Caches.{Cache, IsClean};
+ghost use Rattle.fam_machine.specs.Mkfs.{drop_lines, mkfs_ops, read_ops};
+ghost use Rattle.fam_machine.specs.Operations.{Machine, machine, operated_all};
+ghost use Rattle.fam_machine.specs.Whole.{IsWhole};
+ghost use Rattle.fam_rules.specs.Written.{format_puts, formatted};
+
+/// A new file system is made by 81 operations, of which the first 27 read. They leave a new file system in memory,
+/// over what the reading left there, and the cache of the reading without the lines that were put (`leaves`). From a
+/// cache that has nothing to send, as an empty one, the reading leaves memory as it is (`reads`), so all of them leave
+/// a new file system over what stood there (`clean`). The cache has nothing to send then either (`reads_sent`,
+/// `sent`).
+pub fn a_file_system_is_made()
+    ensures read_count { length read_ops ≡ 27 }
+    ensures count { (p : Params) → length (mkfs_ops p) ≡ 81 }
+    ensures leaves { (p : Params) (m : Machine) → IsWhole m
+        → operated_all (mkfs_ops p) m ≡ machine (formatted (operated_all read_ops m).image p)
+        (drop_lines (format_puts p) (operated_all read_ops m).cache) }
+    ensures reads { (image : Image) (cache : Cache) → map_list eight image ≡ image → IsClean cache
+        → (operated_all read_ops (machine image cache)).image ≡ image }
+    ensures clean { (p : Params) (image : Image) (cache : Cache) → map_list eight image ≡ image → IsClean cache
+        → (operated_all (mkfs_ops p) (machine image cache)).image ≡ formatted image p }
+    ensures reads_sent { (image : Image) (cache : Cache) → map_list eight image ≡ image → IsClean cache
+        → IsClean (operated_all read_ops (machine image cache)).cache }
+    ensures sent { (p : Params) (image : Image) (cache : Cache) → map_list eight image ≡ image → IsClean cache
+        → IsClean (operated_all (mkfs_ops p) (machine image cache)).cache }
+{}

@@ -1,6 +1,0 @@
-use Rattle.std.proofs.Common.{◌≡◌, ℕ, ◌<◌, ◌≤◌, false}
-use Rattle.fam_format.specs.Slot.{is_stray, extents_word}
-use Rattle.fam_plain.proofs.entry.rest_fault.Given as goal
-
-abbrev pub invariant-loop-i : goal.invariant-loop-i
-invariant-loop-i l = (k : ℕ) → extents_word ≤ k → k < l.i → is_stray l.words k ≡ false

@@ -1,0 +1,12 @@
+pub mod AloneMachine
+pub mod AloneLoads
+pub mod AloneWay
+pub mod AloneReply
+pub mod AloneBad
+pub mod AloneWritten
+pub mod AloneWrites
+pub mod AloneSound
+pub mod AloneSlots
+pub mod AloneFsck
+pub mod AloneReads
+pub mod AloneLaws

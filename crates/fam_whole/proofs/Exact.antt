@@ -1,0 +1,325 @@
+-- Whole events, one after another: the image is the fold of the notes, nothing is pending, and answers are of all of it.
+use Prim.Native.Nat.{zero, suc}
+use Rattle.std.proofs.Common.{◌≡◌, ℕ, ◌*◌, ◌≤◌, inl, inr, Bool, List, [], ◌∷◌, ◌++◌, length, map, Option, Some, None, refl, ap, sym, ◌∙◌, subst}
+use Rattle.std.specs.Prelude.{⊤, nat_lt, if◌then◌else◌, slice_get}
+use Rattle.std.specs.FinMap as finmap
+use Rattle.std.proofs.lemmas.Bool.{cases_eq}
+use Rattle.std.proofs.lemmas.List.{append-nil, append_assoc}
+use Rattle.std.proofs.lemmas.Option.{same_Some}
+use Rattle.fam_base.specs.declared.cmd.Cmd.{Cmd}
+use Rattle.fam_base.specs.Image.{Image, eight, line_at, with_line}
+use Rattle.fam_base.proofs.ImageLemmas.{with_line-line_at}
+use Rattle.fam_format.specs.Layout.{device_limit, least_lines}
+use Rattle.fam_machine.specs.Caches.{Cache, IsClean, IsCleanCell, cell_at}
+use Rattle.fam_machine.specs.Operations.{Machine, machine, operated, operated_all}
+use Rattle.fam_commands.specs.Task.{op_of}
+use Rattle.fam_machine.proofs.CleanCaches.{clean_empty, clean_fetched, clean_leaked, clean_sent, clean_with}
+use Rattle.fam_media.specs.Files.{Files}
+use Rattle.fam_machine.proofs.MkfsOps.{all_sent, clean_formats, read_image, read_sent}
+use Rattle.fam_protocol.specs.Tasks.{IsCommand}
+use Rattle.fam_rules.specs.Place.{line_bytes}
+use Rattle.fam_journal.specs.declared.event.Ask.{Ask}
+use Rattle.fam_journal.specs.declared.event.Event.{Event}
+use Rattle.fam_journal.specs.declared.event.Event.TheVariants as event
+use Rattle.fam_journal.specs.declared.refusal.Refusal.{Refusal}
+use Rattle.fam_journal.specs.Calls as call
+use Rattle.fam_journal.specs.Calls.{Acts, ActsAt, ActsOf, AtNumber, ByRefusal, Call, Completes, Does, OnHost, begins_refusal, busy_at, has_name, name_of, number_of, on_host, refusal_of}
+use Rattle.fam_journal.specs.Ends.{IsClean as AreClean}
+use Rattle.fam_journal.specs.Events.{DoesEvent, GoesOn, Session, first_session}
+use Rattle.fam_journal.specs.Follows.{Follows}
+use Rattle.fam_journal.specs.Kept.{Kept}
+use Rattle.fam_journal.specs.Laws.{AreSound, IsImage, IsSoundEvent}
+use Rattle.fam_machine.specs.HostMoves.{Evict, Fetch, Leak, Move, moved, moved_cell, moved_words}
+use Rattle.fam_journal.specs.Machines.{HostState, Machines, machine_of, task_begun, unused, with_machine, with_task}
+use Rattle.fam_journal.specs.Members.{changed_at}
+use Rattle.fam_machine.specs.Mkfs as here
+use Rattle.fam_journal.specs.Notes.{Note, Refused, Start}
+use Rattle.fam_journal.specs.Past.{Past, first_past, first_state, past_behind, past_of}
+use Rattle.fam_journal.proofs.Cases.{by_host, by_refusal, place_same}
+use Rattle.fam_journal.proofs.Declares.{member_before, member_last}
+use Rattle.fam_journal.proofs.Following.{begun_kept, event_kept, first_kept}
+use Rattle.fam_journal.proofs.Journals.{past_both}
+use Rattle.fam_journal.proofs.Members.{changed_at_member, changed_here, changed_other}
+use Rattle.fam_journal.proofs.Tests.{at_most, no_when, or_first}
+use Rattle.fam_journal.proofs.Unique.{clean_front, clean_rest, not_clean}
+use Rattle.fam_whole.specs.Whole.{AreWhole, AreWholeNotes, IsExact, IsSure, IsWholeEvent, WholeRun, image_behind}
+use Rattle.fam_whole.proofs.Finish.{Finished, finished}
+use Rattle.fam_whole.proofs.Folds.{first_sure, image_both, whole_both}
+use Rattle.fam_whole.proofs.Rests.{HostRests, Rested, rest_state}
+use Rattle.fam_whole.proofs.Running.{Ended, run_alone}
+
+module _ (image : Image) (cache : Cache) (normal : map eight image ≡ image) (clean : IsClean cache) where
+  words_stay : (move : Move) (line : ℕ) → moved_words move (line_at image line) (cell_at cache line) ≡ line_at image line
+  words_stay Evict line = clean_sent (line_at image line) (cell_at cache line) (clean line)
+  words_stay (Leak mask) line = clean_leaked mask (line_at image line) (cell_at cache line) (clean line)
+  words_stay (Fetch mask) line = refl
+
+  cell_clean : (move : Move) (line : ℕ) → IsCleanCell (moved_cell move (line_at image line) (cell_at cache line))
+  cell_clean Evict line = tt
+  cell_clean (Leak mask) line = clean line
+  cell_clean (Fetch mask) line = clean_fetched mask (line_at image line) (cell_at cache line) refl (clean line)
+
+  pub moved_image : (move : Move) (line : ℕ) → (moved move line (machine image cache)).image ≡ image
+  moved_image move line = ap (λ (w : List ℕ). with_line line w image) (words_stay move line) ∙ with_line-line_at image normal line
+
+  moved_clean : (move : Move) (line : ℕ) → IsClean (moved move line (machine image cache)).cache
+  moved_clean move line = clean_with line _ cache clean (cell_clean move line)
+
+-- Hosts at rest.
+
+pub rests_changed : (h : ℕ) (g : HostState → HostState) (memory image : Image) (hosts : List HostState) → Rested (record { memory = memory; hosts = hosts }) → ((host : HostState) → slice_get hosts h ≡ Some host → HostRests (g host)) → Rested (record { memory = image; hosts = changed_at h g hosts })
+rests_changed h g memory image hosts rests mine k host is =
+    elim (cases_eq k h) [
+      | inl e ↦ at_h (slice_get hosts h) refl (subst (λ (n : ℕ). slice_get (changed_at h g hosts) n ≡ Some host) e is)
+      | inr ne ↦ rests k host (sym (changed_other h k g hosts ne) ∙ is)
+    ]
+  where
+    at_h : (o : Option HostState) → slice_get hosts h ≡ o → slice_get (changed_at h g hosts) h ≡ Some host → HostRests host
+    at_h None none is' = absurd (let e = changed_here h g hosts ∙ ap (Rattle.std.specs.Prelude.option_map g) none in cc)
+    at_h (Some z) some is' = subst HostRests (same_Some (g z) host (sym (changed_at_member h g hosts z some) ∙ is')) (mine z some)
+
+rests_more : (memory : Image) (hosts : List HostState) (host : HostState) → Rested (record { memory = memory; hosts = hosts }) → HostRests host → Rested (record { memory = memory; hosts = hosts ++ host ∷ [] })
+rests_more memory hosts host rests mine k z is =
+    elim (cases_eq k (length hosts)) [
+      | inl e ↦ subst HostRests (same_Some host z (sym (member_last hosts host) ∙ subst (λ (n : ℕ). slice_get (hosts ++ host ∷ []) n ≡ Some z) e is)) mine
+      | inr ne ↦ rests k z (sym (member_before hosts host k ne) ∙ is)
+    ]
+
+-- changes that are the same at the place
+changed_same : (h : ℕ) (f g : HostState → HostState) (hosts : List HostState) (host : HostState) → slice_get hosts h ≡ Some host → f host ≡ g host → changed_at h f hosts ≡ changed_at h g hosts
+changed_same h f g [] host is same = refl
+changed_same zero f g (x ∷ hosts) host is same =
+    let e : x ≡ host = same_Some x host is in
+    ap (λ (z : HostState). z ∷ hosts) (ap f e ∙ same ∙ sym (ap g e))
+changed_same (suc h) f g (x ∷ hosts) host is same = ap (λ (zs : List HostState). x ∷ zs) (changed_same h f g hosts host is same)
+
+-- One event.
+
+pub record EventExact (x : Past) (old new : Machines) (notes : List Note) : Type 0 where
+  pub rests : Rested new
+  pub image : new.memory ≡ image_behind x old.memory notes
+  pub whole : AreWholeNotes x old.memory notes
+  pub sure : IsSure (past_behind x notes).state
+
+module _ (start : Image) (files : Files) (old : Machines) (journal : List Note) (kept : Kept start old journal) (rests : Rested old) (sure : IsSure (past_of start journal).state) where
+  abbrev x : Past
+  x = past_of start journal
+
+  abbrev normal : map eight old.memory ≡ old.memory
+  normal = kept.held.normal
+
+  quiet : (name : List ℕ) (cause : Refusal) (new : Machines) (notes : List Note) → notes ≡ Refused name cause ∷ [] → new ≡ old → EventExact x old new notes
+  quiet name cause new notes e f =
+      subst (λ (z : Machines). EventExact x old z notes) (sym f) (subst (EventExact x old old) (sym e) record { rests = rests; image = refl; whole = (tt, tt); sure = sure })
+
+  -- host h has this machine then, and the same task
+  own : (h : ℕ) (host : HostState) → slice_get old.hosts h ≡ Some host → (m : Machine) → IsClean m.cache → Rested (with_machine h m host.task old)
+  own h host is m clean = rests_changed h _ old.memory m.image old.hosts rests (λ z at. record { clean = clean; idle = (rests h host is).idle })
+
+  declared_exact : (name uuid : List ℕ) (new : Machines) (notes : List Note) → Acts (call.Declares name uuid) old notes new → EventExact x old new notes
+  declared_exact name uuid new notes acts =
+      subst (λ (z : Machines). EventExact x old z notes) (sym acts.1)
+      (subst (EventExact x old _) (sym acts.0)
+      record {
+        rests = rests_more old.memory old.hosts (record { name = name; uuid = uuid; cache = finmap.empty; task = None }) rests (record { clean = clean_empty; idle = refl });
+        image = refl;
+        whole = (tt, tt);
+        sure = sure;
+      })
+
+  makes_exact : (name fs : List ℕ) (unit log : ℕ) (force : Bool) (new : Machines) (notes : List Note) (h : ℕ) (host : HostState) → slice_get old.hosts h ≡ Some host → ActsAt (call.Makes name fs unit log force) h host old notes new → EventExact x old new notes
+  makes_exact name fs unit log force new notes h host is (inl made) =
+      let p = here.asked unit log fs host.uuid (length old.memory) in
+      subst (λ (z : Machines). EventExact x old z notes) (sym made.left)
+      (subst (EventExact x old _) (sym made.notes_are)
+      record {
+        rests = own h host is (operated_all (here.mkfs_ops p) (machine_of old host)) (all_sent old.memory host.cache normal (rests h host is).clean p);
+        image = clean_formats old.memory host.cache normal (rests h host is).clean p;
+        whole = (tt, tt);
+        sure = refl;
+      })
+  makes_exact name fs unit log force new notes h host is (inr met) =
+      subst (λ (z : Machines). EventExact x old z notes) (sym met.left)
+      (subst (EventExact x old _) (sym met.notes_are)
+      record {
+        rests = own h host is (operated_all here.read_ops (machine_of old host)) (read_sent old.memory host.cache normal (rests h host is).clean);
+        image = read_image old.memory host.cache normal (rests h host is).clean;
+        whole = (tt, tt);
+        sure = sure;
+      })
+
+  moves_exact : (name : List ℕ) (line : ℕ) (move : Move) (new : Machines) (notes : List Note) → AreClean notes → (h : ℕ) (host : HostState) → slice_get old.hosts h ≡ Some host → ActsAt (call.Moves name line move) h host old notes new → EventExact x old new notes
+  moves_exact name line move new notes clean h host is (inl moves) =
+      subst (λ (z : Machines). EventExact x old z notes) (sym moves.left)
+      (subst (EventExact x old _) (sym moves.notes_are)
+      record {
+        rests = own h host is (moved move line (machine_of old host)) (moved_clean old.memory host.cache normal (rests h host is).clean move line);
+        image = moved_image old.memory host.cache normal (rests h host is).clean move line;
+        whole = tt;
+        sure = sure;
+      })
+  moves_exact name line move new notes clean h host is (inr fails) = absurd (not_clean _ notes fails.notes_are refl clean)
+
+  -- a cache's own move
+  move_exact : (name : List ℕ) (line : ℕ) (move : Move) (new : Machines) (notes : List Note) → AreClean notes → Does (call.Moves name line move) old notes new → EventExact x old new notes
+  move_exact name line move new notes clean does =
+      by_refusal (call.Moves name line move) old new notes does (λ cause e f. quiet name cause new notes e f)
+      (λ free acts. by_host (call.Moves name line move) old new notes acts (λ h host number is at. moves_exact name line move new notes clean h host is at))
+
+  -- a command begins, and is run to its answer
+  module _ (name : List ℕ) (what : Ask) (s new : Session) (same : s.machines ≡ old) (notes : List Note) (clean : AreClean notes) (run : GoesOn Completes files name what s notes new) where
+    pub record Through : Type 0 where
+      pub h : ℕ
+      pub host : HostState
+      pub is : slice_get old.hosts h ≡ Some host
+      pub number : number_of name old ≡ Some h
+      pub rest : List Note
+      pub joined : notes ≡ Start h run.begun.cmd ∷ rest
+      pub sure_then : IsSure (past_of start (journal ++ Start h run.begun.cmd ∷ [])).state
+      pub ended : Ended start h old host is run.begun.cmd (journal ++ Start h run.begun.cmd ∷ []) sure_then new.machines rest
+      pub enough : least_lines ≤ length old.memory
+
+    abbrev cmd : Cmd
+    cmd = run.begun.cmd
+
+    begun : Does (call.Begins name cmd) old run.first run.mid.machines
+    begun = subst (λ (z : Machines). Does (call.Begins name cmd) z run.first run.mid.machines) same run.begun.does
+
+    free : refusal_of (call.Begins name cmd) old ≡ None
+    unfolding refusal_of
+    free = subst (λ (z : Machines). call.may_begin name z ≡ None) same run.begun.free
+
+    state_after : (h : ℕ) → IsSure (past_of start (journal ++ Start h cmd ∷ [])).state
+    state_after h = subst (λ (w : Past). IsSure w.state) (sym (past_both (first_past start) journal (Start h cmd ∷ []))) sure
+
+    through_host : (h : ℕ) (host : HostState) → number_of name old ≡ Some h → slice_get old.hosts h ≡ Some host → ActsAt (call.Begins name cmd) h host old run.first run.mid.machines → Through
+    unfolding refusal_of
+    through_host h host number is at =
+        let mid : Machines = with_task h (Some (task_begun cmd host.uuid)) old in
+        let mid_as : mid ≡ with_machine h (record { image = old.memory; cache = host.cache }) (Some (task_begun cmd host.uuid)) old =
+        ap (λ (hosts : List HostState). record { memory = old.memory; hosts = hosts }) (changed_same h (λ z. record z { task = Some (task_begun cmd host.uuid) }) (λ z. record z { cache = host.cache; task = Some (task_begun cmd host.uuid) }) old.hosts host is refl) in
+        let mid_is : run.mid.machines ≡ with_machine h (record { image = old.memory; cache = host.cache }) (Some (task_begun cmd host.uuid)) old = at.1 ∙ mid_as in
+        let numbers : run.host ≡ h =
+        same_Some run.host h (sym run.number ∙ ap (number_of name) at.1 ∙ place_same (has_name name) (λ z. record z { task = Some (task_begun cmd host.uuid) }) (λ z. refl) h 0 old.hosts ∙ number) in
+        let completes : Completes h (with_machine h (record { image = old.memory; cache = host.cache }) (Some (task_begun cmd host.uuid)) old) run.rest new.machines =
+        subst (λ (n : ℕ). Completes n (with_machine h (record { image = old.memory; cache = host.cache }) (Some (task_begun cmd host.uuid)) old) run.rest new.machines) numbers
+        (subst (λ (z : Machines). Completes run.host z run.rest new.machines) mid_is run.does) in
+        let kept' : Kept start run.mid.machines (journal ++ run.first) = begun_kept start files name what s run.mid journal run.first (subst (λ (z : Machines). Kept start z journal) (sym same) kept) run.begun in
+        let kept_as : Kept start (with_machine h (record { image = old.memory; cache = host.cache }) (Some (task_begun cmd host.uuid)) old) (journal ++ Start h cmd ∷ []) =
+        subst (λ (z : Machines). Kept start z (journal ++ Start h cmd ∷ [])) mid_is (subst (λ (z : List Note). Kept start run.mid.machines (journal ++ z)) at.0 kept') in
+        record {
+          h = h;
+          host = host;
+          is = is;
+          number = number;
+          rest = run.rest;
+          joined = run.joined ∙ ap (λ (z : List Note). z ++ run.rest) at.0;
+          sure_then = state_after h;
+          ended = run_alone start h old host is cmd (journal ++ Start h cmd ∷ []) (state_after h) completes.count new.machines run.rest kept_as completes.does (clean_rest run.first run.rest notes run.joined clean) completes.done;
+          enough = at_most least_lines (length old.memory) (no_when _ _ (or_first _ _ (sym (ap (λ (o : Option ℕ). on_host o (λ h. begins_refusal h old)) number) ∙ free)));
+        }
+
+    pub through : Through
+    through =
+        by_host (call.Begins name cmd) old run.mid.machines run.first
+        (subst (λ (o : Option Refusal). ByRefusal name o run.first old run.mid.machines (Acts (call.Begins name cmd) old run.first run.mid.machines)) free begun) through_host
+
+    command : IsCommand cmd
+    command = run.begun.fits
+
+    run_exact : EventExact x old new.machines notes
+    run_exact = subst (EventExact x old new.machines) (sym through.joined) (from through)
+      where
+        from : (t : Through) → EventExact x old new.machines (Start t.h cmd ∷ t.rest)
+        from t =
+            let j : List Note = journal ++ Start t.h cmd ∷ [] in
+            let past_is : past_of start j ≡ past_behind x (Start t.h cmd ∷ []) = past_both (first_past start) journal (Start t.h cmd ∷ []) in
+            let settled : (past_of start j).state ≡ first_state old.memory = ap (λ (w : Past). w.state) past_is ∙ rest_state start old journal kept rests sure in
+            let limit : line_bytes * length old.memory ≤ device_limit = subst (λ (n : ℕ). line_bytes * n ≤ device_limit) (sym kept.held.lines) kept.held.limit in
+            let f : Finished old (past_of start j) t.rest new.machines (operated (op_of t.ended.t) t.ended.m) =
+            finished start t.h old t.host t.is cmd j t.sure_then settled t.enough limit normal (rests t.h t.host t.is).clean command new.machines t.rest t.ended in
+            let g : Finished old (past_behind x (Start t.h cmd ∷ [])) t.rest new.machines (operated (op_of t.ended.t) t.ended.m) =
+            subst (λ (w : Past). Finished old w t.rest new.machines (operated (op_of t.ended.t) t.ended.m)) past_is f in
+            record {
+              rests = subst Rested (sym t.ended.state_is) (rests_changed t.h (λ z. record z { cache = (operated (op_of t.ended.t) t.ended.m).cache; task = None }) old.memory (operated (op_of t.ended.t) t.ended.m).image old.hosts rests (λ z at. record { clean = g.clean; idle = refl }));
+              image = g.image;
+              whole = (tt, g.whole);
+              sure = g.sure;
+            }
+
+  -- an event
+  event_exact : (e : Event) → IsSoundEvent e → IsWholeEvent e → (s new : Session) → s.machines ≡ old → (notes : List Note) → AreClean notes → DoesEvent files e s notes new → EventExact x old new.machines notes
+  event_exact (event.Host name uuid) sound whole s new same notes clean does =
+      by_refusal (call.Declares name uuid) old new.machines notes (subst (λ (z : Machines). Does (call.Declares name uuid) z notes new.machines) same does.0)
+      (λ cause e f. quiet name cause new.machines notes e f) (λ free acts. declared_exact name uuid new.machines notes acts)
+  event_exact (event.Mkfs name fs unit log force) sound whole s new same notes clean does =
+      by_refusal (call.Makes name fs unit log force) old new.machines notes (subst (λ (z : Machines). Does (call.Makes name fs unit log force) z notes new.machines) same does.0)
+      (λ cause e f. quiet name cause new.machines notes e f)
+      (λ free acts. by_host (call.Makes name fs unit log force) old new.machines notes acts (λ h host number is at. makes_exact name fs unit log force new.machines notes h host is at))
+  event_exact (event.Begin name what) sound whole s new same notes clean does = absurd whole
+  event_exact (event.Run name what) sound whole s new same notes clean (inl run) = run_exact name what s new same notes clean run
+  event_exact (event.Run name what) sound whole s new same notes clean (inr (inl x)) =
+      quiet name x.cause new.machines notes x.notes_are (ap (λ (z : Session). z.machines) x.same ∙ same)
+  event_exact (event.Run name what) sound whole s new same notes clean (inr (inr x)) =
+      by_refusal (call.Refuses name x.cause) old new.machines notes (subst (λ (z : Machines). Does (call.Refuses name x.cause) z notes new.machines) same x.does)
+      (λ cause e f. quiet name cause new.machines notes e f) (λ free acts. quiet name x.cause new.machines notes acts.0 acts.1)
+  event_exact (event.Step name count) sound whole s new same notes clean does = absurd whole
+  event_exact (event.Finish name) sound whole s new same notes clean does = absurd whole
+  event_exact (event.Stop name) sound whole s new same notes clean does = absurd whole
+  event_exact (event.Halt name) sound whole s new same notes clean does = absurd whole
+  event_exact (event.Evict name line) sound whole s new same notes clean does =
+      move_exact name line.0 Evict new.machines notes clean (subst (λ (z : Machines). Does (call.Moves name line.0 Evict) z notes new.machines) same does.0)
+  event_exact (event.Leak name line mask) sound whole s new same notes clean does =
+      move_exact name line.0 (Leak mask.0) new.machines notes clean (subst (λ (z : Machines). Does (call.Moves name line.0 (Leak mask.0)) z notes new.machines) same does.0)
+  event_exact (event.Fetch name line mask) sound whole s new same notes clean does =
+      move_exact name line.0 (Fetch mask.0) new.machines notes clean (subst (λ (z : Machines). Does (call.Moves name line.0 (Fetch mask.0)) z notes new.machines) same does.0)
+
+-- All events.
+
+-- what holds between events
+pub record Between (start : Image) (s : Machines) (journal : List Note) : Type 0 where
+  pub kept : Kept start s journal
+  pub rests : Rested s
+  pub sure : IsSure (past_of start journal).state
+  pub image : s.memory ≡ image_behind (first_past start) start journal
+  pub whole : AreWholeNotes (first_past start) start journal
+
+module _ (start : Image) (files : Files) where
+  pub one_more : (e : Event) → IsSoundEvent e → IsWholeEvent e → (old new : Session) (journal notes : List Note) → Between start old.machines journal → AreClean notes → DoesEvent files e old notes new → Between start new.machines (journal ++ notes)
+  one_more e sound whole old new journal notes between clean does =
+      let x : EventExact (past_of start journal) old.machines new.machines notes = event_exact start files old.machines journal between.kept between.rests between.sure e sound whole old new refl notes clean does in
+      record {
+        kept = event_kept start files e sound old new journal notes between.kept does;
+        rests = x.rests;
+        sure = subst (λ (w : Past). IsSure w.state) (sym (past_both (first_past start) journal notes)) x.sure;
+        image = x.image ∙ ap (λ (i : Image). image_behind (past_of start journal) i notes) between.image ∙ sym (image_both (first_past start) start journal notes);
+        whole = whole_both (first_past start) start journal notes between.whole (subst (λ (i : Image). AreWholeNotes (past_of start journal) i notes) between.image x.whole);
+      }
+
+  all_exact : (events : List Event) → AreSound events → AreWhole events → (old new : Session) (journal notes : List Note) → Between start old.machines journal → AreClean notes → Follows files events old notes new → Between start new.machines (journal ++ notes)
+  all_exact [] sound whole old new journal notes between clean follows =
+      subst (λ (z : Session). Between start z.machines (journal ++ notes)) (sym follows.1)
+      (subst (Between start old.machines) (sym (append-nil journal) ∙ ap (λ (z : List Note). journal ++ z) (sym follows.0)) between)
+  all_exact (e ∷ events) sound whole old new journal notes between clean follows =
+      let one = one_more e sound.0 whole.0 old follows.0 journal follows.1 between (clean_front follows.1 follows.2 notes follows.5 clean) follows.3 in
+      subst (Between start new.machines) (append_assoc journal follows.1 follows.2 ∙ ap (λ (z : List Note). journal ++ z) (sym follows.5))
+      (all_exact events sound.1 whole.1 follows.0 new (journal ++ follows.1) follows.2 one (clean_rest follows.1 follows.2 notes follows.5 clean) follows.4)
+
+  pub at_start : (events : List Event) → AreSound events → IsImage start → Between start (unused start) []
+  at_start events sound image = record {
+    kept = first_kept start image files events sound;
+    rests = λ k host none. absurd cc;
+    sure = first_sure start;
+    image = refl;
+    whole = tt;
+  }
+
+  pub exact : (events : List Event) → IsImage start → AreSound events → (run : WholeRun files events start) → IsExact run
+  exact events image sound run =
+      let between : Between start run.last.machines run.journal = all_exact events sound run.whole (first_session start) run.last [] run.journal (at_start events sound image) run.clean run.follows in
+      record {
+        image = between.image;
+        sure = between.sure;
+        settled = rest_state start run.last.machines run.journal between.kept between.rests between.sure;
+        answers = between.whole;
+      }

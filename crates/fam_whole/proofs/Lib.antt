@@ -1,0 +1,9 @@
+pub mod Folds
+pub mod Places
+pub mod Running
+pub mod Replies
+pub mod Rests
+pub mod Finish
+pub mod Exact
+pub mod Twins
+pub mod Struck

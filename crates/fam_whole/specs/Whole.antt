@@ -1,0 +1,206 @@
+-- Scripts of whole commands: hosts are declared, make file systems and run commands, one event after another, and caches
+-- move by themselves between them. While memory doesn't fail nothing interrupts a command. What then holds of the machine
+-- of all hosts and of its journal.
+use Rattle.std.specs.Prelude.{ℕ, ⊤, ◌≡◌, ◌*◌, if◌then◌else◌, Bool, true, false, List, [], ◌∷◌, ◌++◌, length, slice_get, Some, None}
+use Rattle.fam_base.specs.declared.cmd.Cmd.{Cmd}
+use Rattle.fam_base.specs.Image.{Image, line_at}
+use Rattle.fam_media.specs.Files.{Files}
+use Rattle.fam_rules.specs.Alone.{alone_reply}
+use Rattle.fam_rules.specs.Place.{line_bytes}
+use Rattle.fam_rules.specs.Reply as reply
+use Rattle.fam_rules.specs.Reply.{Reply}
+use Rattle.fam_rules.specs.Reports.{report_of}
+use Rattle.fam_rules.specs.Written.{formatted, written}
+use Rattle.fam_journal.specs.declared.event.Event.{Event}
+use Rattle.fam_journal.specs.declared.event.Event.TheVariants as event
+use Rattle.fam_journal.specs.Ends.{IsClean}
+use Rattle.fam_journal.specs.Events.{Session, first_session}
+use Rattle.fam_journal.specs.Follows.{Follows}
+use Rattle.fam_journal.specs.Legal.{OfHost}
+use Rattle.fam_journal.specs.Notes.{Answer, Replied, MediaFault, Note, Host, Made, Start, Mark, Found, Writes, Answered, Stop, Halt, Refused}
+use Rattle.fam_journal.specs.Past.{HostPast, Past, State, Bad, Sound, count_of, first_past, first_state, past_after, past_of, settled_length}
+
+-- an event that no other host's step interrupts
+abbrev pub IsWholeEvent : Event → Type 0
+IsWholeEvent (event.Host name uuid) = ⊤
+IsWholeEvent (event.Mkfs name fs unit log force) = ⊤
+IsWholeEvent (event.Begin name what) = ⊥
+IsWholeEvent (event.Run name what) = ⊤
+IsWholeEvent (event.Step name count) = ⊥
+IsWholeEvent (event.Finish name) = ⊥
+IsWholeEvent (event.Stop name) = ⊥
+IsWholeEvent (event.Halt name) = ⊥
+IsWholeEvent (event.Evict name line) = ⊤
+IsWholeEvent (event.Leak name line mask) = ⊤
+IsWholeEvent (event.Fetch name line mask) = ⊤
+
+abbrev pub AreWhole : List Event → Type 0
+AreWhole [] = ⊤
+AreWhole (e ∷ events) = IsWholeEvent e × AreWhole events
+
+-- The image, as the notes have it: a mkfs formats it, and an acknowledged entry is written.
+
+abbrev pub acknowledged_image : Image → State → ℕ → Image
+acknowledged_image image (Bad own damage gate) seq = image
+acknowledged_image image (Sound p history None) seq = image
+acknowledged_image image (Sound p history (Some f)) seq = written image p seq f.entry f.bytes
+
+abbrev pub replied_image : Image → State → Reply → Image
+replied_image image state (reply.Appended seq) = acknowledged_image image state seq
+replied_image image state (reply.NotAppended refused) = image
+replied_image image state (reply.Played m tree) = image
+replied_image image state (reply.Same m) = image
+replied_image image state (reply.Differs m offset found wanted) = image
+replied_image image state (reply.Length m size wanted) = image
+replied_image image state (reply.Bytes m bytes) = image
+replied_image image state (reply.NotFound m) = image
+replied_image image state (reply.IsDirectory m) = image
+replied_image image state (reply.Checks m checked) = image
+replied_image image state (reply.Reports report) = image
+replied_image image state (reply.NoSuperblock fault) = image
+replied_image image state (reply.BadHeader fault) = image
+replied_image image state (reply.BadSlot seq reason) = image
+
+abbrev pub answered_image : Image → State → Answer → Image
+answered_image image state (Replied given) = replied_image image state given
+answered_image image state (MediaFault line) = image
+
+abbrev pub image_after : Past → Image → Note → Image
+image_after past image (Host name uuid) = image
+image_after past image (Made host p) = formatted image p
+image_after past image (Start host cmd) = image
+image_after past image (Mark host) = image
+image_after past image (Found host n) = image
+image_after past image (Writes host seq entry) = image
+image_after past image (Answered host answer) = answered_image image past.state answer
+image_after past image (Stop host) = image
+image_after past image (Halt host) = image
+image_after past image (Refused name cause) = image
+
+abbrev pub image_behind : Past → Image → List Note → Image
+image_behind past image [] = image
+image_behind past image (note ∷ notes) = image_behind (past_after past note) (image_after past image note) notes
+
+-- nothing is pending
+abbrev pub IsSure : State → Type 0
+IsSure (Bad image damage gate) = ⊤
+IsSure (Sound p history pending) = pending ≡ None
+
+-- an answer of entries is of the whole history
+abbrev pub IsOfAll : Reply → State → Type 0
+IsOfAll given state = (m : ℕ) → count_of given ≡ Some m → m ≡ settled_length state
+
+-- a report is the image's own, the slots past its gate included; another answer is of the whole history
+abbrev pub IsWholeReply : Reply → State → Image → Type 0
+IsWholeReply (reply.Reports report) state image = report ≡ report_of (line_at image) (line_bytes * length image)
+IsWholeReply (reply.Appended seq) state image = IsOfAll (reply.Appended seq) state
+IsWholeReply (reply.NotAppended refused) state image = IsOfAll (reply.NotAppended refused) state
+IsWholeReply (reply.Played m tree) state image = IsOfAll (reply.Played m tree) state
+IsWholeReply (reply.Same m) state image = IsOfAll (reply.Same m) state
+IsWholeReply (reply.Differs m offset found wanted) state image = IsOfAll (reply.Differs m offset found wanted) state
+IsWholeReply (reply.Length m size wanted) state image = IsOfAll (reply.Length m size wanted) state
+IsWholeReply (reply.Bytes m bytes) state image = IsOfAll (reply.Bytes m bytes) state
+IsWholeReply (reply.NotFound m) state image = IsOfAll (reply.NotFound m) state
+IsWholeReply (reply.IsDirectory m) state image = IsOfAll (reply.IsDirectory m) state
+IsWholeReply (reply.Checks m checked) state image = IsOfAll (reply.Checks m checked) state
+IsWholeReply (reply.NoSuperblock fault) state image = IsOfAll (reply.NoSuperblock fault) state
+IsWholeReply (reply.BadHeader fault) state image = IsOfAll (reply.BadHeader fault) state
+IsWholeReply (reply.BadSlot seq reason) state image = IsOfAll (reply.BadSlot seq reason) state
+
+-- and it is the rules' answer to the host's command, on the image that the command began with
+pub record IsByRules (image : Image) (given : Reply) (host : HostPast) : Type 0 where
+  pub cmd : Cmd
+  pub told : host.cmd ≡ Some cmd
+  pub is : given ≡ alone_reply image host.uuid cmd
+
+abbrev pub IsWholeAnswer : Answer → ℕ → Past → Image → Type 0
+IsWholeAnswer (Replied given) host past image = IsWholeReply given past.state image × OfHost (slice_get past.hosts host) (IsByRules image given)
+IsWholeAnswer (MediaFault line) host past image = ⊤
+
+abbrev pub IsWholeNote : Note → Past → Image → Type 0
+IsWholeNote (Host name uuid) past image = ⊤
+IsWholeNote (Made host p) past image = ⊤
+IsWholeNote (Start host cmd) past image = ⊤
+IsWholeNote (Mark host) past image = ⊤
+IsWholeNote (Found host n) past image = ⊤
+IsWholeNote (Writes host seq entry) past image = ⊤
+IsWholeNote (Answered host answer) past image = IsWholeAnswer answer host past image
+IsWholeNote (Stop host) past image = ⊤
+IsWholeNote (Halt host) past image = ⊤
+IsWholeNote (Refused name cause) past image = ⊤
+
+abbrev pub AreWholeNotes : Past → Image → List Note → Type 0
+AreWholeNotes past image [] = ⊤
+AreWholeNotes past image (note ∷ notes) =
+    IsWholeNote note past image × AreWholeNotes (past_after past note) (image_after past image note) notes
+
+-- a run of whole events in which memory didn't fail
+pub record WholeRun (files : Files) (events : List Event) (start : Image) : Type 0 where
+  pub whole : AreWhole events
+  pub journal : List Note
+  pub last : Session
+  pub follows : Follows files events (first_session start) journal last
+  pub clean : IsClean journal
+
+-- what holds of it; of each front of its events, since that is such a run too: the image is the fold of the notes, nothing
+-- is pending, what the notes settle is what the image reads as, and each answer is of all of it
+pub record IsExact {files : Files} {events : List Event} {start : Image} (run : WholeRun files events start) : Type 0 where
+  pub image : run.last.machines.memory ≡ image_behind (first_past start) start run.journal
+  pub sure : IsSure (past_of start run.journal).state
+  pub settled : (past_of start run.journal).state ≡ first_state run.last.machines.memory
+  pub answers : AreWholeNotes (first_past start) start run.journal
+
+-- Caches' own moves.
+
+abbrev pub is_move : Event → Bool
+is_move (event.Host name uuid) = false
+is_move (event.Mkfs name fs unit log force) = false
+is_move (event.Begin name what) = false
+is_move (event.Run name what) = false
+is_move (event.Step name count) = false
+is_move (event.Finish name) = false
+is_move (event.Stop name) = false
+is_move (event.Halt name) = false
+is_move (event.Evict name line) = true
+is_move (event.Leak name line mask) = true
+is_move (event.Fetch name line mask) = true
+
+-- the events but those
+abbrev pub commands_in : List Event → List Event
+commands_in [] = []
+commands_in (e ∷ events) = if is_move e then commands_in events else e ∷ commands_in events
+
+-- the notes of these events
+abbrev pub notes_unless : Bool → List Note → List Note
+notes_unless true notes = []
+notes_unless false notes = notes
+
+abbrev pub command_notes : (files : Files) (events : List Event) (old : Session) (journal : List Note) (new : Session) → Follows files events old journal new → List Note
+command_notes files [] old journal new follows = []
+command_notes files (e ∷ events) old journal new follows =
+    notes_unless (is_move e) follows.1 ++ command_notes files events follows.0 follows.2 new follows.4
+
+abbrev pub notes_of_commands : {files : Files} {events : List Event} {start : Image} → WholeRun files events start → List Note
+notes_of_commands {files} {events} {start} run = command_notes files events (first_session start) run.journal run.last run.follows
+
+-- two runs have the same notes but for the refusals of caches' own moves, and leave the same image
+pub record AreAlike {files : Files} {one other : List Event} {start : Image} (a : WholeRun files one start) (b : WholeRun files other start) : Type 0 where
+  pub notes : notes_of_commands a ≡ notes_of_commands b
+  pub image : a.last.machines.memory ≡ b.last.machines.memory
+
+-- a cache's own move notes nothing but that it was refused
+abbrev pub IsRefusal : Note → Type 0
+IsRefusal (Host name uuid) = ⊥
+IsRefusal (Made host p) = ⊥
+IsRefusal (Start host cmd) = ⊥
+IsRefusal (Mark host) = ⊥
+IsRefusal (Found host n) = ⊥
+IsRefusal (Writes host seq entry) = ⊥
+IsRefusal (Answered host answer) = ⊥
+IsRefusal (Stop host) = ⊥
+IsRefusal (Halt host) = ⊥
+IsRefusal (Refused name cause) = ⊤
+
+abbrev pub AreRefusals : List Note → Type 0
+AreRefusals [] = ⊤
+AreRefusals (note ∷ notes) = IsRefusal note × AreRefusals notes

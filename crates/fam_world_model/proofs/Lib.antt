@@ -1,0 +1,5 @@
+pub mod Formed
+pub mod Chained
+pub mod Stepping
+pub mod Making
+pub mod Cutting
