@@ -165,7 +165,7 @@ abbrev pub storm_line : ℕ → ℕ → List Event → List Note → List ℕ
 storm_line seed size events journal =
     line (codes "storm" ++ number seed ++ number size ++ codes " events" ++ number (length events) ++ codes " answers" ++ number (counted journal).answers ++ codes " refused" ++ number (counted journal).refused ++ codes " settled" ++ number (counted journal).settled ++ codes " crc" ++ number (crc32 (render journal)))
 
--- a storm puts its line, also where memory failed in a mkfs; or the line of want of memory alone. It reads no source
+-- a storm puts its line, also where memory failed in a mkfs; or the line of out of memory alone. It reads no source
 abbrev pub StormPuts : ℕ → ℕ → List Event → Ending → List Note → List ℕ → Type 0
 StormPuts seed size events AllDone journal text = text ≡ storm_line seed size events journal
 StormPuts seed size events MkfsFails journal text = text ≡ storm_line seed size events journal
@@ -275,7 +275,7 @@ pub record HasBadLine (grammar : Grammar) (out : Outside) (name : List ℕ) (at 
   pub within : length bytes ≤ script_limit
   pub bad : grammar bytes ≡ Err (at, column)
 
--- each of them has its cause. Want of memory may come at any time
+-- each of them has its cause. Memory may run out at any time
 abbrev pub IsEarly : Grammar → Storms → Option Command → Outside → Early → Type 0
 IsEarly grammar storms command out NoCommand = command ≡ None
 IsEarly grammar storms command out (NoScript own) = OfScript command (λ name. (own ≡ name) × IfTold out.files (λ files. finmap.get files name ≡ None))

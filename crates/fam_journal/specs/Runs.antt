@@ -87,7 +87,7 @@ abbrev pub SourceCaused : SourceEnd → Outside → Type 0
 SourceCaused Faulted out = HasRisen out.shelf out.shelf_now
 SourceCaused (Short size got) out = HasRisen out.shorts out.shorts_now × (got < size)
 
--- an early end has its cause: a note, or a count that rose. Want of memory may come at any time
+-- an early end has its cause: a note, or a count that rose. Memory may run out at any time
 abbrev pub IsCaused : Ending → List Event → List Note → Outside → Type 0
 IsCaused AllDone events journal out = ⊤
 IsCaused MkfsFails events journal out = EndsBroken events journal

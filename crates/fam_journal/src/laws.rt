@@ -80,8 +80,8 @@ pub fn a_held_image_reads_as_its_journal()
         → (past_of start journal).state ≡ Bad image damage gate → image ≡ start }
 {}
 
-/// However the run of a script's events ends, its journal is legal, and the image that is left reads as what the journal
-/// settles.
+/// However the run of a script's events ends, its journal is legal. The image that is left reads as what the journal settles,
+/// but behind a mkfs that a media fault cut.
 pub fn a_run_is_settled()
     ensures { (start : Image) (files : Files) (events : List Event) (ending : Ending) (journal : List Note) (last : Session)
         → IsImage start → AreSound events

@@ -177,7 +177,7 @@ fn make<M: Media>(cache: &mut HostCache, media: &mut M, params: &Params, force: 
 /// Makes a file system of this unit and log, with the UUIDs `fs` and of its maker `me`, through the maker's cache.
 /// The device is the whole media. What stands there is written over where `force` says so.
 ///
-/// `BadGeometry` and `TooSmall` come before anything else. Room for six lines is taken then, so want of memory
+/// `BadGeometry` and `TooSmall` come before anything else. Room for six lines is taken then, so `OutOfMemory`
 /// changes no line. The clauses hold for any cache; where it holds no line, `fam_machine::a_file_system_is_made` says
 /// what the operations leave in memory.
 pub fn mkfs<M: Media>(
@@ -206,7 +206,7 @@ pub fn mkfs<M: Media>(
     ensures others { (line : ℕ) → IsElsewhere line
         → cell_at cache.new.lines line ≡ cell_at cache.old.lines line }
 
-    // Want of memory: nothing was done.
+    // Out of memory: nothing was done.
     ensures undone { OnErr result (media.new ≡ media.old) }
     ensures kept { OnErr result (cache.new ≡ cache.old) }
 

@@ -38,7 +38,7 @@ impl Model for History {
     ghost invariant = { λ h. h.tree ≡ replay h.entries.items };
 }
 
-/// Why an entry doesn't join, if want of memory isn't the cause.
+/// Why an entry doesn't join, if memory didn't run out.
 fn reason_against(fault: ApplyFault) -> Result<Reason, OutOfMemory>
     ensures { IfOk result (λ reason. reason_of fault ≡ Some reason) }
 {

@@ -5,7 +5,7 @@ use Rattle.fam_format.specs.declared.faults.Reason.TheVariants as reason
 use Rattle.fam_tree.specs.declared.fault.ApplyFault.{ApplyFault}
 use Rattle.fam_tree.specs.declared.fault.ApplyFault.TheVariants.{Exists, NoParent, ParentIsFile, OutOfMemory}
 
--- why the entry doesn't fit the tree; want of memory says nothing against it
+-- why the entry doesn't fit the tree; running out of memory says nothing against it
 abbrev pub reason_of : ApplyFault → Option Reason
 reason_of (Exists kind) = Some (reason.Exists kind)
 reason_of NoParent = Some reason.NoParent

@@ -161,7 +161,7 @@ impl Tree {
         ensures joins { OnOk result (tree_fault self.old entry.now ≡ None) }
         ensures added { OnOk result (self.new ≡ with_entry self.old entry.now) }
 
-        // Every fault but want of memory comes exactly where the entry doesn't join.
+        // Every fault but out of memory comes exactly where the entry doesn't join.
         ensures cause { IfErr result (λ fault. reason_of fault ≡ tree_fault self.old entry.now) }
         ensures same { OnErr result (self.new ≡ self.old) }
     {

@@ -1,4 +1,4 @@
--- What a command shows on an image and what it leaves of it; and what faults and want of memory leave in its place.
+-- What a command shows on an image and what it leaves of it; and what faults and running out of memory leave in its place.
 -- docs/MANUAL.md, "Statuses".
 use Rattle.std.specs.Prelude.{ℕ, ⊤, ◌≡◌, ◌⊎◌, ◌*◌, ◌≤◌, Bool, true, false, nat_lt, List, length, Option, Some, None, option_map, if◌then◌else◌, Result, Ok, Err}
 use Rattle.std.specs.FinMap as finmap
@@ -137,7 +137,7 @@ IsBroken call Logplay image line left = IsTaskBroken image call.me cmd.Logplay l
 IsBroken call (Mkdir path) image line left = IsTaskBroken image call.me (mkdir_cmd path) line left
 IsBroken call (Mkfs unit log fs) image line left = IsMkfsBroken image call.me unit log (fs_or call.random fs) line left
 
--- what want of memory leaves: of a command on the log what its operations left; of mkfs the image as it was
+-- what running out of memory leaves: of a command on the log what its operations left; of mkfs the image as it was
 abbrev pub IsStopped : Call → Command → Image → Image → Type 0
 IsStopped call Logplay image left = IsTaskStopped image call.me cmd.Logplay left
 IsStopped call (Mkdir path) image left = IsTaskStopped image call.me (mkdir_cmd path) left
