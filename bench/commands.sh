@@ -2,13 +2,14 @@
 # Times mkfs, mkdir and logplay on a log of 8 MiB: 16,382 directories, read from the page cache. python3 writes the
 # image.
 #
-# Measured on one x86-64 processor of about 2.5 GHz with nothing else to do: mkfs 0.004 to 0.010 s; mkdir, which reads
-# 16,382 slots and fills the last one, 0.09 to 0.11 s in 18 of 20 calls, and 0.13 and 0.16 s; logplay of the full log 0.10
-# to 0.11 s in 19 of 20. The shell that starts each takes about 0.005 s more. Half is in the system's 131,069 reads of a
-# line each; the rest is more than a million steps on the cache, parsing, and the tree. Where the disk still writes the
-# image that was just copied, up to 0.2 s.
+# Measured on one x86-64 processor of about 2.5 GHz with nothing else to do: mkfs 0.002 to 0.003 s; mkdir, which reads
+# 16,382 slots and fills the last one, and logplay of the full log 0.06 to 0.07 s in 8 of 10 calls, and 0.11 and 0.12 s.
+# A logplay makes 137 reads. The rest is more than a million steps on the cache, parsing, and the tree. Where the disk
+# still writes the image that was just copied, up to 0.2 s.
 set -eu
 top=$(cd "$(dirname "${BASH_SOURCE[0]}")/.." && pwd)
+"$top/famfs" logplay "$top/crates/famfs/data/img" >/dev/null
+famfs=$top/crates/famfs/out/famfs
 work=$(mktemp -d)
 trap 'rm -rf "$work"' EXIT
 python3 - "$work/img" <<'PY'
@@ -43,10 +44,10 @@ sync
 sleep 1
 for n in 1 2 3 4 5; do
     TIMEFORMAT="mkfs: %R s"
-    time "$top/famfs" mkfs "$work/new$n" -u 4K >"$work/out"
+    time "$famfs" mkfs "$work/new$n" -u 4K >"$work/out"
     TIMEFORMAT="mkdir: %R s"
-    time "$top/famfs" mkdir "$work/full$n" last >"$work/out"
+    time "$famfs" mkdir "$work/full$n" last >"$work/out"
     TIMEFORMAT="logplay: %R s"
-    time "$top/famfs" logplay "$work/full$n" >"$work/out"
+    time "$famfs" logplay "$work/full$n" >"$work/out"
 done
 head -1 "$work/out"
