@@ -5,3 +5,5 @@ pub mod OverlapLemmas
 pub mod StripLemmas
 pub mod MapLemmas
 pub mod ViewLemmas
+pub mod AnyLemmas
+pub mod CountLemmas

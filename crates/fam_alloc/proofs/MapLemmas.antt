@@ -42,7 +42,8 @@ zeros_free n u = ap (λ (w : ℕ). has_bit w (u % 64)) zero_at ∙ ap (λ (d : �
 abbrev pub passing : (ℕ → Bool) → ℕ → ℕ
 passing f n = count_by (λ b. b) (map f (range_with_len 0 n))
 
-passing-suc : (f : ℕ → Bool) (n : ℕ) → passing f (suc n) ≡ passing f n + cond (f n) 1 0
+-- one number more
+pub passing-suc : (f : ℕ → Bool) (n : ℕ) → passing f (suc n) ≡ passing f n + cond (f n) 1 0
 passing-suc f n =
     ap (passing f) (sym (add-one n))
     ∙ ap (λ (bs : List Bool). count_by (λ b. b) bs) (map-range_with_len_more f 0 n n (omega arith))
@@ -85,7 +86,7 @@ passing_one f u (suc n) clear =
     ]
 
 -- a list that doesn't overlap begins with a free unit
-overlap_head : (f : ℕ → Bool) (u : ℕ) (us : List ℕ) → first_overlap f (u ∷ us) ≡ None → f u ≡ false
+pub overlap_head : (f : ℕ → Bool) (u : ℕ) (us : List ℕ) → first_overlap f (u ∷ us) ≡ None → f u ≡ false
 overlap_head f u us h = elim (cases_Bool (f u)) [
   | inl taken ↦ absurd (none-some u (sym h ∙ cond-true (f u) (Some u) (first_overlap (λ v. (v == u) || f v) us) taken))
   | inr clear ↦ clear

@@ -7,7 +7,7 @@ ghost use Rattle.fam_alloc.specs.Taken.{is_taken, taken_units, holds, LieWithin}
 ghost use Rattle.fam_alloc.specs.TakeFaults.{NamesOverlap};
 
 use crate::bits::{MOST_UNITS, mark, zeros};
-use crate::overlap::mark_free;
+use crate::overlap::{first_overlap, mark_free};
 use crate::run::{first_strips, lowest_run};
 use crate::starts::Starts;
 use fam_base::{Extents, OutOfMemory};
@@ -71,6 +71,16 @@ impl AllocMap {
         ensures within { taken_units self.now ≤ length self.now }
     {
         self.used
+    }
+
+    /// The first unit of the extents, in their order and upwards in each, that is used or stands twice: what `take`
+    /// refuses, under the same conditions.
+    pub fn overlap(&self, extents: &Extents, unit: u64) -> Option<u64>
+        requires unit { 0 < unit }
+        requires within { LieWithin unit (length self.now) extents.now }
+        ensures { result ≡ first_overlap (is_taken self.now) (units_in unit extents.now) }
+    {
+        first_overlap(&self.words, extents, unit, self.units)
     }
 
     /// Marks all units of the extents as used. They are whole units: offsets and lengths are multiples of

@@ -9,10 +9,13 @@ mod bits;
 mod overlap;
 mod run;
 mod starts;
+mod used_units;
 
 pub use alloc_map::{AllocMap, TakeFault};
 pub use bits::MOST_UNITS;
+pub use overlap::{repeats_unit, shares_unit};
 pub use starts::Starts;
+pub use used_units::UsedUnits;
 
 #[cfg(test)]
 mod tests;

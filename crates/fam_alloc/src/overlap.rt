@@ -1,9 +1,10 @@
 //! The units of extents: which of them overlap, and how they are marked.
 
-ghost use Rattle.std.specs.Prelude.{◌≡◌, ℕ, true, ◌+◌, ◌*◌, ◌/◌, ◌<◌, ◌≤◌, ◌==◌, ◌||◌, length, take, slice_index_or, vec_len, IfOk, OnOk, IfErr, OnErr};
+ghost use Rattle.std.specs.Prelude.{◌≡◌, ℕ, true, false, ◌+◌, ◌*◌, ◌/◌, ◌<◌, ◌≤◌, ◌==◌, ◌||◌, length, take, slice_index_or, vec_len, IfOk, OnOk, IfErr, OnErr};
 ghost use Rattle.std.specs.List.{list_any};
 ghost use Rattle.fam_base.specs.ExtentLists.{no_extent};
 ghost use Rattle.fam_format.specs.Units.{units_in, first_overlap};
+ghost use Rattle.fam_rules.specs.Reports.{is_overlap};
 ghost use Rattle.fam_alloc.specs.Next.{is_used, is_within, IsNext};
 ghost use Rattle.fam_alloc.specs.Taken.{LieWithin, holds};
 
@@ -100,7 +101,7 @@ fn first_taken(
 }
 
 /// The first unit of the extents, in their order and upwards in each, that is used or stands twice.
-fn first_overlap(words: &Vec<u64>, extents: &Extents, unit: u64, units: u64) -> Option<u64>
+pub fn first_overlap(words: &Vec<u64>, extents: &Extents, unit: u64, units: u64) -> Option<u64>
     requires unit { 0 < unit }
     requires within { LieWithin unit units extents.now }
     requires few { units ≤ MOST_UNITS }
@@ -118,7 +119,7 @@ fn first_overlap(words: &Vec<u64>, extents: &Extents, unit: u64, units: u64) -> 
 }
 
 /// Marks the units of the extents as used, and gives their number.
-fn mark_all(words: &mut Vec<u64>, extents: &Extents, unit: u64, units: u64) -> u64
+pub fn mark_all(words: &mut Vec<u64>, extents: &Extents, unit: u64, units: u64) -> u64
     requires unit { 0 < unit }
     requires within { LieWithin unit units extents.now }
     requires few { units ≤ MOST_UNITS }
@@ -160,4 +161,37 @@ pub fn mark_free(words: &mut Vec<u64>, extents: &Extents, unit: u64, units: u64)
         return Err(taken);
     }
     Ok(mark_all(words, extents, unit, units))
+}
+
+/// Whether a unit stands in both.
+pub fn shares_unit(before: &Extents, extents: &Extents, unit: u64, units: u64) -> bool
+    requires unit { 0 < unit }
+    requires first { LieWithin unit units before.now }
+    requires second { LieWithin unit units extents.now }
+    requires few { units ≤ MOST_UNITS }
+    ensures { result ≡ list_any (holds (units_in unit before.now)) (units_in unit extents.now) }
+{
+    for i in 0..extents.len() {
+        let run = run_at(extents, unit, units, i);
+        if first_shared(before, unit, units, before.len(), run) < run.end {
+            return true;
+        }
+    }
+    false
+}
+
+/// Whether a unit stands in them twice.
+pub fn repeats_unit(extents: &Extents, unit: u64, units: u64) -> bool
+    requires unit { 0 < unit }
+    requires within { LieWithin unit units extents.now }
+    requires few { units ≤ MOST_UNITS }
+    ensures { result ≡ is_overlap (first_overlap (λ _. false) (units_in unit extents.now)) }
+{
+    for i in 0..extents.len() {
+        let run = run_at(extents, unit, units, i);
+        if first_shared(extents, unit, units, i, run) < run.end {
+            return true;
+        }
+    }
+    false
 }

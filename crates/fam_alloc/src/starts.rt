@@ -41,6 +41,14 @@ impl Starts {
         self.len as u64
     }
 
+    /// The numbers in their order.
+    pub fn as_slice(&self) -> &[u64]
+        ensures same { result.now ≡ self.now }
+        ensures few { length self.now ≤ 16 }
+    {
+        &self.items[..self.len]
+    }
+
     /// The one at a place.
     pub fn at(&self, i: u64) -> Option<u64>
         ensures { result ≡ slice_get self.now i }

@@ -4,3 +4,5 @@ pub mod CountLemmas
 pub mod MemoryLemmas
 pub mod SpotLemmas
 pub mod StoreLemmas
+pub mod Performed
+pub mod Runs

@@ -45,7 +45,8 @@ dirty_stays (Dirty words) mask is memory = refl
 pub held_kept : (told : Option Image) (line : ℕ) (copy : Cell) → IsHeld (normal copy) → FromMemory told line (λ memory. normal copy ≡ brought memory (normal copy))
 held_kept told line copy is = from_any told line (λ memory. normal copy ≡ brought memory (normal copy)) (held_stays copy is)
 
-held_still : (cell : Cell) → IsHeld cell → (memory : List ℕ) → brought memory cell ≡ cell
+-- a copy that is held stays where it would be brought
+pub held_still : (cell : Cell) → IsHeld cell → (memory : List ℕ) → brought memory cell ≡ cell
 held_still Absent is memory = absurd cc
 held_still (Clean words) is memory = refl
 held_still (Dirty words) is memory = refl

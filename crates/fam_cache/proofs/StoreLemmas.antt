@@ -15,7 +15,7 @@ on_err_too (Ok x) p = tt
 on_err_too (Err e) p = p
 
 -- the words of a line that was brought are those that the host reads
-brought_words : (memory : List ℕ) (cell : Cell) → words_of (brought memory cell) ≡ current memory cell
+pub brought_words : (memory : List ℕ) (cell : Cell) → words_of (brought memory cell) ≡ current memory cell
 brought_words memory Absent = refl
 brought_words memory (Clean words) = refl
 brought_words memory (Dirty words) = refl

@@ -1,3 +1,6 @@
 pub mod Places
 pub mod Effects
 pub mod States
+pub mod Faults
+pub mod Operations
+pub mod Runs

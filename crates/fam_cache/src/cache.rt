@@ -8,12 +8,13 @@ ghost use Rattle.std.specs.FinMap.{is_sorted};
 ghost use Rattle.fam_machine.specs.declared.cell.Cell.{Cell};
 ghost use Rattle.fam_machine.specs.Caches.{cell_at, cell_changed, dirty_count, line_changed, with_cell};
 ghost use Rattle.fam_machine.specs.OneLine.{IsDirty, IsHeld, brought, cleaned, failed_leak, failed_send, fetched, leaked, sent, stored, words_of};
-ghost use Rattle.fam_media.specs.Causes.{HasCause, Rose};
+ghost use Rattle.fam_media.specs.Causes.{HasCause, IsSteady, Rose};
 ghost use Rattle.fam_media.specs.Outside.{IfTold};
 ghost use Rattle.fam_cache.specs.Effects.{FailsTo, FromMemory};
 ghost use Rattle.fam_cache.specs.Places.{StandsAt, cache_of};
 
 use crate::copies::{bring_copy, fetch_copy, leak_copy, send_copy};
+use crate::fault::CacheFault;
 use crate::places::{
     clean_copy, copy, dirty_lines_of, drop_copy, held_word, make_room, place_of, put_copy, seek,
     set_word, word_at,
@@ -23,15 +24,6 @@ use fam_machine::Cell;
 use fam_media::{Failed, Media};
 use std::alloc::Global;
 use std::marker::Model;
-
-/// Why a line could not be brought.
-#[derive(Clone, Copy, Debug, PartialEq, Eq)]
-pub enum CacheFault {
-    /// The media failed.
-    Failed,
-    /// No memory is left for one more line.
-    OutOfMemory,
-}
 
 /// The place of a line, which is brought from memory where it is absent. Room is taken first.
 fn bring<M: Media>(
@@ -51,8 +43,7 @@ fn bring<M: Media>(
 
     ensures idle { IsHeld (cell_at (cache_of places.old.items) line.0) → IsOk result }
     ensures same { IsHeld (cell_at (cache_of places.old.items) line.0) → media.new ≡ media.old }
-    ensures failed { IsErrOf result CacheFault.Failed →
-        Rose (M.faults media.old) (M.faults media.new) }
+    ensures failed { IsErrOf result CacheFault.Failed → Rose (M.faults media.old) (M.faults media.new) }
     ensures full { IsErrOf result CacheFault.OutOfMemory →
         vec_capacity places.old ≤ vec_len places.old }
     ensures undone { IsErrOf result CacheFault.OutOfMemory → media.new ≡ media.old }
@@ -60,8 +51,7 @@ fn bring<M: Media>(
         vec_capacity places.new ≡ vec_capacity places.old }
 
     ensures image { M.image media.new ≡ M.image media.old }
-    ensures size { M.size media.new ≡ M.size media.old }
-    ensures later { M.faults media.old ≤ M.faults media.new }
+    ensures steady { IsSteady M.size M.faults media.old media.new }
     ensures sorted { IsTrue (is_sorted nat_cmp places.new.items) }
     ensures capacity { vec_capacity places.old ≤ vec_capacity places.new }
     ensures one { vec_len places.new ≤ vec_len places.old + 1 }
@@ -97,8 +87,7 @@ fn refresh<M: Media>(
 
     ensures idle { IsDirty (cell_at (cache_of places.old.items) line.0) → IsOk result }
     ensures same { IsDirty (cell_at (cache_of places.old.items) line.0) → media.new ≡ media.old }
-    ensures failed { IsErrOf result CacheFault.Failed →
-        Rose (M.faults media.old) (M.faults media.new) }
+    ensures failed { IsErrOf result CacheFault.Failed → Rose (M.faults media.old) (M.faults media.new) }
     ensures full { IsErrOf result CacheFault.OutOfMemory →
         vec_capacity places.old ≤ vec_len places.old }
     ensures absent { IsErrOf result CacheFault.OutOfMemory →
@@ -108,8 +97,7 @@ fn refresh<M: Media>(
         vec_capacity places.new ≡ vec_capacity places.old }
 
     ensures image { M.image media.new ≡ M.image media.old }
-    ensures size { M.size media.new ≡ M.size media.old }
-    ensures later { M.faults media.old ≤ M.faults media.new }
+    ensures steady { IsSteady M.size M.faults media.old media.new }
     ensures sorted { IsTrue (is_sorted nat_cmp places.new.items) }
     ensures capacity { vec_capacity places.old ≤ vec_capacity places.new }
     ensures one { vec_len places.new ≤ vec_len places.old + 1 }
@@ -316,15 +304,13 @@ impl HostCache {
         ensures same { IsHeld (cell_at self.old.lines line.0) → media.new ≡ media.old }
 
         // Room is taken first, so where it is missing nothing was done.
-        ensures failed { IsErrOf result CacheFault.Failed →
-            Rose (M.faults media.old) (M.faults media.new) }
+        ensures failed { IsErrOf result CacheFault.Failed → Rose (M.faults media.old) (M.faults media.new) }
         ensures room { IsErrOf result CacheFault.OutOfMemory → self.old.spare ≡ 0 }
         ensures undone { IsErrOf result CacheFault.OutOfMemory → media.new ≡ media.old }
         ensures unchanged { IsErrOf result CacheFault.OutOfMemory → self.new ≡ self.old }
 
         ensures image { M.image media.new ≡ M.image media.old }
-        ensures size { M.size media.new ≡ M.size media.old }
-        ensures later { M.faults media.old ≤ M.faults media.new }
+        ensures steady { IsSteady M.size M.faults media.old media.new }
 
         // Only a line that was brought takes a place.
         ensures spare { self.old.spare ≤ self.new.spare + 1 }
@@ -359,15 +345,13 @@ impl HostCache {
         ensures same { IsHeld (cell_at self.old.lines line.0) → media.new ≡ media.old }
 
         // Room is taken first, so where it is missing nothing was done.
-        ensures failed { IsErrOf result CacheFault.Failed →
-            Rose (M.faults media.old) (M.faults media.new) }
+        ensures failed { IsErrOf result CacheFault.Failed → Rose (M.faults media.old) (M.faults media.new) }
         ensures room { IsErrOf result CacheFault.OutOfMemory → self.old.spare ≡ 0 }
         ensures undone { IsErrOf result CacheFault.OutOfMemory → media.new ≡ media.old }
         ensures unchanged { IsErrOf result CacheFault.OutOfMemory → self.new ≡ self.old }
 
         ensures image { M.image media.new ≡ M.image media.old }
-        ensures size { M.size media.new ≡ M.size media.old }
-        ensures later { M.faults media.old ≤ M.faults media.new }
+        ensures steady { IsSteady M.size M.faults media.old media.new }
 
         // Only a line that was brought takes a place.
         ensures spare { self.old.spare ≤ self.new.spare + 1 }
@@ -398,8 +382,7 @@ impl HostCache {
         ensures same { IsDirty (cell_at self.old.lines line.0) → media.new ≡ media.old }
 
         // Room is taken first, so where it is missing nothing was done.
-        ensures failed { IsErrOf result CacheFault.Failed →
-            Rose (M.faults media.old) (M.faults media.new) }
+        ensures failed { IsErrOf result CacheFault.Failed → Rose (M.faults media.old) (M.faults media.new) }
         ensures room { IsErrOf result CacheFault.OutOfMemory → self.old.spare ≡ 0 }
         ensures absent { IsErrOf result CacheFault.OutOfMemory →
             ¬ (IsHeld (cell_at self.old.lines line.0)) }
@@ -407,8 +390,7 @@ impl HostCache {
         ensures unchanged { IsErrOf result CacheFault.OutOfMemory → self.new ≡ self.old }
 
         ensures image { M.image media.new ≡ M.image media.old }
-        ensures size { M.size media.new ≡ M.size media.old }
-        ensures later { M.faults media.old ≤ M.faults media.new }
+        ensures steady { IsSteady M.size M.faults media.old media.new }
 
         // Only a line that was brought takes a place.
         ensures spare { self.old.spare ≤ self.new.spare + 1 }

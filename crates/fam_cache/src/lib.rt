@@ -5,13 +5,17 @@
 //! task asks for, and by `evict` and `leak`, which the machine does at any time.
 //!
 //! A contract sees a finite map from line number to eight words and a mark, and how many more lines fit with
-//! no allocation. Each call is one operation of `fam_machine/specs/OneLine.antt` at its line.
+//! no allocation. Each call is one operation of `fam_machine/specs/OneLine.antt` at its line, and `perform` does any of
+//! those that a task asks for.
 #![tactic(auto)]
 
 mod cache;
 mod copies;
+mod fault;
+mod perform;
 mod places;
 #[cfg(test)]
 mod tests;
 
-pub use cache::{CacheFault, HostCache};
+pub use cache::HostCache;
+pub use fault::{CacheFault, OperationFault};

@@ -2,6 +2,7 @@
 
 use super::*;
 use fam_base::{Line, LineNo, Mask};
+use fam_machine::Op;
 use fam_media::{Media, MemMedia};
 use std::test::Fail;
 
@@ -23,16 +24,20 @@ fn done<M: Media>(cache: &mut HostCache, media: &mut M, line: u64, step: Step) -
         return None;
     }
     match step {
-        Step::Load(word) if word < 8 => cache.load(media, LineNo(line), word).ok(),
+        Step::Load(word) if word < 8 => cache.perform(media, Op::Load(LineNo(line), word)).ok()?,
         Step::Store(word, value) if word < 8 => {
-            cache
-                .store(media, LineNo(line), word, value)
-                .ok()
-                .map(|_| 0)
+            let op = Op::Store(LineNo(line), word, value);
+            cache.perform(media, op).ok().map(|_| 0)
         }
         Step::Fetch(mask) => cache.fetch(media, LineNo(line), Mask(mask)).ok().map(|_| 0),
-        Step::WriteBack => cache.write_back(media, LineNo(line)).ok().map(|_| 0),
-        Step::Invalidate => cache.invalidate(media, LineNo(line)).ok().map(|_| 0),
+        Step::WriteBack => cache
+            .perform(media, Op::WriteBack(LineNo(line)))
+            .ok()
+            .map(|_| 0),
+        Step::Invalidate => cache
+            .perform(media, Op::Invalidate(LineNo(line)))
+            .ok()
+            .map(|_| 0),
         Step::Evict => cache.evict(media, LineNo(line)).ok().map(|_| 0),
         Step::Leak(mask) => cache.leak(media, LineNo(line), Mask(mask)).ok().map(|_| 0),
         _ => None,
@@ -66,6 +71,7 @@ fn a_host_sees_a_store_once_it_was_sent_and_the_older_copy_dropped(
     let mut writer = HostCache::new(rt.alloc());
     let mut reader = HostCache::new(rt.alloc());
     writer.reserve(2)?;
+    assert!(rt; matches!(writer.perform(&mut media, Op::Digest), Ok(None)));
     assert_eq!(rt; done(&mut reader, &mut media, 3, Step::Load(2)), Some(0));
     assert_eq!(rt;
         done(&mut writer, &mut media, 3, Step::Store(2, 7)),

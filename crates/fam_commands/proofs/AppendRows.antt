@@ -34,7 +34,7 @@ abbrev fits_rows : Cmd → Params → List Entry → Entry → List Row
 fits_rows cmd p entries e = rows (append_ops p (length entries) e (content_of cmd)) (Answer (Appended (length entries)))
 
 -- what comes behind the decision of an append
-last_is : (cmd : Cmd) (p : Params) (me : List ℕ) (words : List ℕ) (entries : List Entry) (e : Entry) → decide p me entries cmd ≡ Some (Ok e) → last_rows cmd me words p entries ≡ fits_rows cmd p entries e
+last_is : (cmd : Cmd) (p : Params) (me : List ℕ) (words : List ℕ) (entries : List Entry) (e : Entry) → decide p me entries cmd ≡ Some (Ok e) → last_rows cmd me words p 0 entries ≡ fits_rows cmd p entries e
 last_is Logplay p me words entries e is = absurd cc
 last_is (Mkdir path attr) p me words entries e is = ap (append_rows (Mkdir path attr) p (length entries)) is
 last_is (Creat path size attr stripe fill) p me words entries e is = ap (append_rows (Creat path size attr stripe fill) p (length entries)) is
@@ -127,7 +127,7 @@ module _ (t : Task) (words more : List ℕ) (a : IsAppending t words) where
   ops = append_ops t.params t.gate a.e (content_of t.cmd)
 
   -- row k behind the decision
-  append_at : (k m : ℕ) → m ≡ 32 + 73 * t.gate + k → slice_get (table t.cmd t.me t.lines (words ++ more)) m ≡ slice_get (rows ops (Answer (Appended t.gate))) k
+  append_at : (k m : ℕ) → m ≡ 32 + 73 * t.gate + k → slice_get (table 0 t.cmd t.me t.lines (words ++ more)) m ≡ slice_get (rows ops (Answer (Appended t.gate))) k
   append_at k m is =
       tail_at t words more k m reads a.slots is
       ∙ ap (λ (l : List Row). slice_get l k) (last_is t.cmd t.params t.me (words ++ more) t.entries a.e a.decided)

@@ -25,7 +25,7 @@ appending_at t place words a = record { e = a.e; slots = a.slots; decided = a.de
 
 -- a task that goes on at a place
 at_place : (t : Task) (place : Place) (words : List ℕ) (made : ℕ) → TieAt place (record t { place = place }) words made → Outcome t (Goes (record t { place = place })) Quiet words made
-at_place t place words made tie = goes_on t (record t { place = place }) words made refl refl refl tie
+at_place t place words made tie = goes_on t (record t { place = place }) words made refl refl refl refl tie
 
 -- The decision.
 
@@ -49,7 +49,7 @@ append_by t words made (Err refused) is h at_made =
 append_by t words made (Ok e) is h at_made =
     record {
       noted = refl;
-      tied = still_tied t (record t { entry = Some e; words = spelling (geometry t.params) e t.gate; place = first_store e.size }) words made refl refl refl
+      tied = still_tied t (record t { entry = Some e; words = spelling (geometry t.params) e t.gate; place = first_store e.size }) words made refl refl refl refl
           (first_store_tie (record t { entry = Some e; words = spelling (geometry t.params) e t.gate }) (first_store e.size) words e made refl
           (record { e = e; slots = h; decided = is; entry_is = refl; spelled = refl }) at_made);
     }
@@ -114,5 +114,5 @@ store_gate_step t words made (a, is) = at_place t at.SendGate words (made + 1) (
 pub send_gate_step : (t : Task) (words : List ℕ) (made : ℕ) → TieAt at.SendGate t words made → Outcome t (Ends (reply.Appended t.gate)) (Answer (reply.Appended t.gate)) words (made + 1)
 send_gate_step t words made (a, is) =
     ends t (reply.Appended t.gate) _ words (made + 1) refl
-    (appended_at (fed_gate words) t.gate (file_lines t.cmd (told_entries words t.lines)) (new_lines t) made a.slots.gated.gate_is
-    (appended_lines t.params t.me t.entries a.e t.cmd (told_entries words t.lines) a.decided ∙ sym (ap (λ (o : Option Entry). lines_of (size_of o)) a.entry_is)) is)
+    (appended_at (fed_gate words) t.gate (file_lines t.cmd (told_entries 0 words t.lines)) (new_lines t) made a.slots.gated.gate_is
+    (appended_lines t.params t.me t.entries a.e t.cmd (told_entries 0 words t.lines) a.decided ∙ sym (ap (λ (o : Option Entry). lines_of (size_of o)) a.entry_is)) is)

@@ -26,7 +26,7 @@ use Rattle.fam_commands.specs.Turns.{Turn, Goes, Marks, Finds, Writes, Ends, sup
 use Rattle.fam_rules.specs.declared.answers.Refused.{Refused}
 use Rattle.fam_rules.specs.Decide.{Wish, decide_wish, master_refusal, wish_of}
 use Rattle.fam_rules.specs.Place.{line_bytes}
-use Rattle.fam_rules.specs.Reply.{Reply, Appended, NotAppended, Reports, NoSuperblock, BadHeader, BadSlot}
+use Rattle.fam_rules.specs.Reply.{Reply, Appended, NotAppended, Reports, NoSuperblock, BadHeader, BadSlot, Played, Same, Differs, Length, Bytes, NotFound, IsDirectory, Checks}
 use Rattle.fam_commands.specs.Appends.{IsBeforeWrites, HasWish}
 
 -- the superblock is read there
@@ -35,7 +35,22 @@ IsBehindSuper at.DropMagic = ⊥
 IsBehindSuper at.Magic = ⊥
 IsBehindSuper (at.Drop Superblock j) = ⊥
 IsBehindSuper (at.Word Superblock j k) = ⊥
-IsBehindSuper other = ⊤
+IsBehindSuper (at.Drop Header j) = ⊤
+IsBehindSuper (at.Drop (Slot i) j) = ⊤
+IsBehindSuper (at.Drop File j) = ⊤
+IsBehindSuper (at.Word Header j k) = ⊤
+IsBehindSuper (at.Word (Slot i) j k) = ⊤
+IsBehindSuper (at.Word File j k) = ⊤
+IsBehindSuper at.DropGate = ⊤
+IsBehindSuper at.Gate = ⊤
+IsBehindSuper (at.Check i) = ⊤
+IsBehindSuper at.Decide = ⊤
+IsBehindSuper (at.StoreData j k) = ⊤
+IsBehindSuper (at.SendData j) = ⊤
+IsBehindSuper (at.StoreSlot j k) = ⊤
+IsBehindSuper (at.SendSlot j) = ⊤
+IsBehindSuper at.StoreGate = ⊤
+IsBehindSuper at.SendGate = ⊤
 
 -- the append begins, with the first line of the file or of the slot
 pub record Begins (cmd : Cmd) (seq : ℕ) (e : Entry) (next : Task) : Type 0 where
@@ -52,7 +67,14 @@ EndsAt p cmd (Reports report) = cmd ≡ Fsck
 EndsAt p cmd (NoSuperblock fault) = cmd ≡ Fsck → ⊥
 EndsAt p cmd (BadHeader fault) = IsBehindSuper p × (cmd ≡ Fsck → ⊥)
 EndsAt p cmd (BadSlot i reason) = IsBehindSuper p × (cmd ≡ Fsck → ⊥)
-EndsAt p cmd other = ⊤
+EndsAt p cmd (Played m tree) = ⊤
+EndsAt p cmd (Same m) = ⊤
+EndsAt p cmd (Differs m offset found wanted) = ⊤
+EndsAt p cmd (Length m size wanted) = ⊤
+EndsAt p cmd (Bytes m bytes) = ⊤
+EndsAt p cmd (NotFound m) = ⊤
+EndsAt p cmd (IsDirectory m) = ⊤
+EndsAt p cmd (Checks m checked) = ⊤
 
 abbrev pub SaysAt : Place → Cmd → Turn → Type 0
 SaysAt p cmd (Goes next) = IsBeforeWrites next.place
@@ -117,8 +139,8 @@ module _ (p : Place) (behind : IsBehindSuper p) (t : Task) where
   gate_says n None = by_wish (wish_of t.cmd)
     where
       by_wish : (o : Option Wish) → SaysAt p t.cmd (finds_or_goes o n (with_gate t n))
-      by_wish None = slot_or (record t { gate = n }) 0
-      by_wish (Some w) = slot_or (record t { gate = n }) 0
+      by_wish None = slot_or (record t { gate = n }) t.first_slot
+      by_wish (Some w) = slot_or (record t { gate = n }) t.first_slot
 
   join_says : (t.cmd ≡ Fsck → ⊥) → (i : ℕ) (e : Entry) (o : Option Reason) → SaysAt p t.cmd (join_turn t i e o)
   join_says other i e (Some reason) = (behind, other)

@@ -28,6 +28,7 @@ use Rattle.fam_rules.specs.Reports.{Survey, super_report, log_report, report_by}
 use Rattle.fam_rules.specs.Reply as reply
 use Rattle.fam_commands.specs.Turns.{super_end, log_end}
 use Rattle.fam_commands.specs.Counts.{super_steps, fault_steps, refused_steps, decided_steps, steps_by}
+use Rattle.fam_format.specs.Layout.{Geometry}
 
 -- Tests in an order.
 
@@ -147,34 +148,34 @@ pub gate_steps : (gate : ℕ) (p : Params) (f : LogFault) → gate_fault gate p 
 gate_steps gate p = test_other (λ (f : LogFault). fault_steps f ≡ 31) (nat_lt p.slots gate) _ refl
 
 -- the answer has the fault, and a report has it too
-report_super_steps : (n d : ℕ) (fault : SuperFault) → steps_by n d (reply.Reports (super_report fault)) ≡ super_steps fault
-report_super_steps n d (NoSuper word) = refl
-report_super_steps n d (BadSuper field found wanted) = refl
+report_super_steps : (g : Geometry) (first n d : ℕ) (fault : SuperFault) → steps_by g first n d (reply.Reports (super_report fault)) ≡ super_steps fault
+report_super_steps g first n d (NoSuper word) = refl
+report_super_steps g first n d (BadSuper field found wanted) = refl
 
 -- so do the answers that name them
-pub super_end_steps : (cmd : Cmd) (n d : ℕ) (fault : SuperFault) → steps_by n d (super_end cmd fault) ≡ super_steps fault
-super_end_steps Fsck n d fault = report_super_steps n d fault
-super_end_steps cmd n d fault = refl
+pub super_end_steps : (cmd : Cmd) (g : Geometry) (first n d : ℕ) (fault : SuperFault) → steps_by g first n d (super_end cmd fault) ≡ super_steps fault
+super_end_steps Fsck g first n d fault = report_super_steps g first n d fault
+super_end_steps cmd g first n d fault = refl
 
-report_log_steps : (n d : ℕ) (fault : LogFault) → steps_by n d (reply.Reports (log_report fault)) ≡ fault_steps fault
-report_log_steps n d (BadLog field found wanted) = refl
+report_log_steps : (g : Geometry) (first n d : ℕ) (fault : LogFault) → steps_by g first n d (reply.Reports (log_report fault)) ≡ fault_steps fault
+report_log_steps g first n d (BadLog field found wanted) = refl
 
 -- of header and gate too
-pub log_end_steps : (cmd : Cmd) (n d : ℕ) (fault : LogFault) → steps_by n d (log_end cmd fault) ≡ fault_steps fault
-log_end_steps Fsck n d fault = report_log_steps n d fault
-log_end_steps cmd n d fault = refl
+pub log_end_steps : (cmd : Cmd) (g : Geometry) (first n d : ℕ) (fault : LogFault) → steps_by g first n d (log_end cmd fault) ≡ fault_steps fault
+log_end_steps Fsck g first n d fault = report_log_steps g first n d fault
+log_end_steps cmd g first n d fault = refl
 
 -- a report of a sound log comes when all slots are read
-pub report_by_steps : (n d : ℕ) (p : Params) (gate : ℕ) (s : Survey) → steps_by n d (reply.Reports (report_by p gate s)) ≡ decided_steps p.slots
+pub report_by_steps : (g : Geometry) (first n d : ℕ) (p : Params) (gate : ℕ) (s : Survey) → steps_by g first n d (reply.Reports (report_by p gate s)) ≡ decided_steps g first p.slots
 unfolding report_by
-report_by_steps n d p gate s = refl
+report_by_steps g first n d p gate s = refl
 
 -- The decision.
 
-module _ (n : ℕ) where
+module _ (g : Geometry) (first n : ℕ) where
   -- a refusal that comes with the decision
   abbrev AtDecision : Refused → Type 0
-  AtDecision r = refused_steps n r ≡ decided_steps n
+  AtDecision r = refused_steps g first n r ≡ decided_steps g first n
 
   stripe_late : (p : Params) (s : Option Stripe) (r : Refused) → stripe_refusal p s ≡ Some r → AtDecision r
   stripe_late p None r h = absurd cc
@@ -234,15 +235,15 @@ module _ (p : Params) (me : List ℕ) (list : List Entry) (w : Wish) where
   striped = stop (stripe_refusal p w.stripe) absent
 
   -- a host that is the master is refused at the decision
-  pub refused_late : (n : ℕ) → master_refusal p me ≡ None → (r : Refused) → decide_wish p me list w ≡ Err r → refused_steps n r ≡ decided_steps n
+  pub refused_late : (g : Geometry) (first n : ℕ) → master_refusal p me ≡ None → (r : Refused) → decide_wish p me list w ≡ Err r → refused_steps g first n r ≡ decided_steps g first n
   unfolding decide_wish
-  refused_late n master =
-      stop_err (AtDecision n) (master_refusal p me) striped (λ r h. absurd (let z : None ≡ Some r = sym master ∙ h in cc))
-      (stop_err (AtDecision n) (stripe_refusal p w.stripe) absent (stripe_late n p w.stripe)
-      (stop_err (AtDecision n) (exists_refusal (finmap.get (replay list) w.path)) has_parent (exists_late n (finmap.get (replay list) w.path))
-      (stop_err (AtDecision n) (parent_refusal (replay list) (parent_of w.path)) not_full (parent_late n (replay list) (parent_of w.path))
-      (stop_err (AtDecision n) (full_refusal p list) roomy (test_other (AtDecision n) (nat_le p.slots (length list)) _ refl)
-      (entry_late n w (room_for p list w) (room_late n p list w))))))
+  refused_late g first n master =
+      stop_err (AtDecision g first n) (master_refusal p me) striped (λ r h. absurd (let z : None ≡ Some r = sym master ∙ h in cc))
+      (stop_err (AtDecision g first n) (stripe_refusal p w.stripe) absent (stripe_late g first n p w.stripe)
+      (stop_err (AtDecision g first n) (exists_refusal (finmap.get (replay list) w.path)) has_parent (exists_late g first n (finmap.get (replay list) w.path))
+      (stop_err (AtDecision g first n) (parent_refusal (replay list) (parent_of w.path)) not_full (parent_late g first n (replay list) (parent_of w.path))
+      (stop_err (AtDecision g first n) (full_refusal p list) roomy (test_other (AtDecision g first n) (nat_le p.slots (length list)) _ refl)
+      (entry_late g first n w (room_for p list w) (room_late g first n p list w))))))
 
   entry_size : (room : Result Room Refused) (e : Entry) → entry_or w room ≡ Ok e → e.size ≡ w.size
   entry_size (Ok found) e h = ap (λ (x : Entry). x.size) (let z : e ≡ entry_for w found = cc in z)

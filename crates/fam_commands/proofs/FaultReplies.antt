@@ -16,7 +16,7 @@ use Rattle.fam_rules.specs.Reply as reply
 use Rattle.fam_rules.specs.Reply.{Reply}
 use Rattle.fam_rules.specs.Reports.{no_survey, survey_slots, super_report, log_report, report_by, report_below, report_log, report_super, report_of}
 use Rattle.fam_commands.specs.Turns.{super_end, log_end}
-use Rattle.fam_commands.specs.Table.{fed, fed_super, fed_gate, fault_reply}
+use Rattle.fam_commands.specs.Table.{fed, fed_super, fed_gate, fault_reply, fed_head}
 
 -- The words of the head.
 
@@ -36,7 +36,7 @@ super_lines_fed words long =
     ∙ take-append-drop 8 (drop 1 words)
 
 -- where the header was loaded last
-pub header_fed : (words : List ℕ) → length words ≡ 25 → fed words log_line ≡ drop 17 words
+pub header_fed : (words : List ℕ) → length words ≡ 25 → fed_head words log_line ≡ drop 17 words
 header_fed words long = take_all 8 (drop 17 words) (omega (arith, length-drop 17 words))
 
 -- the superblock, by its magic and its body
@@ -55,22 +55,22 @@ super_by_body words lines is long =
 -- What a check of the whole file system reports.
 
 module _ (words : List ℕ) (lines : ℕ) where
-  report_on_super : (fault : SuperFault) → fed_super words lines ≡ Err fault → report_of (fed words) (line_bytes * lines) ≡ super_report fault
+  report_on_super : (fault : SuperFault) → fed_super words lines ≡ Err fault → report_of (fed_head words) (line_bytes * lines) ≡ super_report fault
   unfolding report_of
-  report_on_super fault is = ap (report_super (fed words)) is
+  report_on_super fault is = ap (report_super (fed_head words)) is
 
-  report_on_header : (p : Params) (fault : LogFault) → fed_super words lines ≡ Ok p → log_fault (fed words log_line) p ≡ Some fault → report_of (fed words) (line_bytes * lines) ≡ log_report fault
+  report_on_header : (p : Params) (fault : LogFault) → fed_super words lines ≡ Ok p → log_fault (fed_head words log_line) p ≡ Some fault → report_of (fed_head words) (line_bytes * lines) ≡ log_report fault
   unfolding report_of
-  report_on_header p fault super is = ap (report_super (fed words)) super ∙ ap (report_log (fed words) p) is
+  report_on_header p fault super is = ap (report_super (fed_head words)) super ∙ ap (report_log (fed_head words) p) is
 
-  report_on_gate : (p : Params) (fault : LogFault) → fed_super words lines ≡ Ok p → log_fault (fed words log_line) p ≡ None → gate_fault (fed_gate words) p ≡ Some fault → report_of (fed words) (line_bytes * lines) ≡ log_report fault
+  report_on_gate : (p : Params) (fault : LogFault) → fed_super words lines ≡ Ok p → log_fault (fed_head words log_line) p ≡ None → gate_fault (fed_gate words) p ≡ Some fault → report_of (fed_head words) (line_bytes * lines) ≡ log_report fault
   unfolding report_of
-  report_on_gate p fault super header is = ap (report_super (fed words)) super ∙ ap (report_log (fed words) p) header ∙ ap (report_below (fed words) p) is
+  report_on_gate p fault super header is = ap (report_super (fed_head words)) super ∙ ap (report_log (fed_head words) p) header ∙ ap (report_below (fed_head words) p) is
 
   -- a sound head leaves the report to the slots
-  pub report_on_slots : (p : Params) → fed_super words lines ≡ Ok p → log_fault (fed words log_line) p ≡ None → gate_fault (fed_gate words) p ≡ None → report_of (fed words) (line_bytes * lines) ≡ report_by p (fed_gate words) (survey_slots (fed words) p (fed_gate words) 0 p.slots no_survey)
+  pub report_on_slots : (p : Params) → fed_super words lines ≡ Ok p → log_fault (fed_head words log_line) p ≡ None → gate_fault (fed_gate words) p ≡ None → report_of (fed p 0 words) (line_bytes * lines) ≡ report_by p (fed_gate words) (survey_slots (fed p 0 words) p (fed_gate words) 0 p.slots no_survey)
   unfolding report_of
-  report_on_slots p super header within = ap (report_super (fed words)) super ∙ ap (report_log (fed words) p) header ∙ ap (report_below (fed words) p) within
+  report_on_slots p super header within = ap (report_super (fed p 0 words)) super ∙ ap (report_log (fed p 0 words) p) header ∙ ap (report_below (fed p 0 words) p) within
 
   -- the answer where the superblock is bad
   pub super_reply : (cmd : Cmd) (fault : SuperFault) → fed_super words lines ≡ Err fault → fault_reply cmd words lines (reply.NoSuperblock fault) ≡ super_end cmd fault
@@ -78,11 +78,11 @@ module _ (words : List ℕ) (lines : ℕ) where
   super_reply cmd fault is = refl
 
   -- where the header is
-  pub header_reply : (cmd : Cmd) (p : Params) (fault : LogFault) → fed_super words lines ≡ Ok p → log_fault (fed words log_line) p ≡ Some fault → fault_reply cmd words lines (reply.BadHeader fault) ≡ log_end cmd fault
+  pub header_reply : (cmd : Cmd) (p : Params) (fault : LogFault) → fed_super words lines ≡ Ok p → log_fault (fed_head words log_line) p ≡ Some fault → fault_reply cmd words lines (reply.BadHeader fault) ≡ log_end cmd fault
   header_reply Fsck p fault super is = ap reply.Reports (report_on_header p fault super is)
   header_reply cmd p fault super is = refl
 
   -- where the gate is
-  pub gate_reply : (cmd : Cmd) (p : Params) (fault : LogFault) → fed_super words lines ≡ Ok p → log_fault (fed words log_line) p ≡ None → gate_fault (fed_gate words) p ≡ Some fault → fault_reply cmd words lines (reply.BadHeader fault) ≡ log_end cmd fault
+  pub gate_reply : (cmd : Cmd) (p : Params) (fault : LogFault) → fed_super words lines ≡ Ok p → log_fault (fed_head words log_line) p ≡ None → gate_fault (fed_gate words) p ≡ Some fault → fault_reply cmd words lines (reply.BadHeader fault) ≡ log_end cmd fault
   gate_reply Fsck p fault super header is = ap reply.Reports (report_on_gate p fault super header is)
   gate_reply cmd p fault super header is = refl

@@ -1,21 +1,22 @@
 -- What the loaded words say: it stays as more words come, and one slot more is read from its own words.
-use Rattle.std.proofs.Common.{ℕ, zero, suc, ◌≡◌, ◌<◌, ◌≤◌, ◌+◌, ◌-◌, ◌*◌, ◌/◌, ◌%◌, false, List, [], ◌∷◌, ◌++◌, length, get_or, drop, Option, Some, None, Result, Ok, Err, refl, sym, ◌∙◌, ap, arith}
-use Rattle.std.specs.Prelude.{slice_index, slice_range, ◌==◌}
+use Rattle.std.proofs.Common.{ℕ, zero, suc, ◌≡◌, ◌<◌, ◌≤◌, ◌+◌, ◌-◌, ◌*◌, ◌/◌, ◌%◌, false, List, [], ◌∷◌, ◌++◌, length, get_or, drop, Option, Some, None, Result, Ok, Err, refl, sym, ◌∙◌, ap, arith, nat_lt, Bool, if◌then◌else◌}
+use Rattle.std.specs.Prelude.{slice_index, slice_range}
 use Rattle.std.proofs.lemmas.List.{get_or-take, get_or-drop, length-drop, same_lists, get_or_default}
 use Rattle.std.proofs.lemmas.List.FromFn.{length-map-range_with_len, get_or-map-range_with_len}
-use Rattle.std.proofs.lemmas.Bool.Decides.{nat_tests}
 use Rattle.fam_base.specs.declared.entry.Params.{Params}
 use Rattle.fam_base.specs.declared.entry.Entry.{Entry}
 use Rattle.fam_format.specs.declared.faults.Reason.{Reason}
-use Rattle.fam_format.specs.Layout.{log_line, gate_line, slot_line}
+use Rattle.fam_format.specs.Layout.{log_line, slot_line}
 use Rattle.fam_format.specs.Super.{super_of}
 use Rattle.fam_format.specs.Slot.{entry_of}
 use Rattle.fam_format.specs.Tree.{join_fault}
 use Rattle.fam_format.specs.Reading.{Reading, Sound, Lines, slot_word, slot_words, slot_in, slot_or, joined_or, read_slots}
 use Rattle.fam_rules.specs.Place.{line_bytes}
 use Rattle.fam_rules.specs.Reports.{Survey, no_survey, survey_slot, survey_slots}
-use Rattle.fam_commands.specs.Table.{fed, fed_super, fed_gate, fed_slots}
+use Rattle.fam_commands.specs.Table.{fed, fed_super, fed_gate, fed_slots, fed_head, fed_from}
 use Rattle.fam_commands.proofs.ListPlaces.{range_stays, index_stays}
+use Rattle.fam_format.specs.Line.{line_words}
+use Rattle.std.proofs.lemmas.Bool.{le-ltb}
 
 -- Superblock, header and gate.
 
@@ -27,7 +28,7 @@ super_stays words more lines long =
     ∙ ap (λ (l : List ℕ). super_of (slice_index (slice_range words 0 1) 0) (slice_range words 1 9 ++ l) (line_bytes * lines)) (range_stays words more 9 17 (omega arith) (omega arith))
 
 -- nor of the header
-pub header_stays : (words more : List ℕ) → 25 ≤ length words → fed (words ++ more) log_line ≡ fed words log_line
+pub header_stays : (words more : List ℕ) → 25 ≤ length words → fed_head (words ++ more) log_line ≡ fed_head words log_line
 header_stays words more long = range_stays words more 17 25 (omega arith) (omega arith)
 
 -- nor of the gate
@@ -36,22 +37,19 @@ gate_stays words more long = ap (λ (l : List ℕ). slice_index l 0) (range_stay
 
 -- Slots.
 
--- a line far enough behind the gate is none of those before it
-far_line : (words : List ℕ) (line from : ℕ) → gate_line < line → 26 + 8 * (line - 32776) ≡ from → fed words line ≡ slice_range words from (from + 8)
-far_line words line from far is =
-    let a : (line == 0) ≡ false = grind (arith, nat_tests) in
-    let b : (line == 1) ≡ false = grind (arith, nat_tests) in
-    let c : (line == 2) ≡ false = grind (arith, nat_tests) in
-    let d : (line == log_line) ≡ false = grind (arith, nat_tests) in
-    let e : (line == gate_line) ≡ false = grind (arith, nat_tests) in
-    rw (a, b, c, d, e) (ap (λ (n : ℕ). slice_range words n (n + 8)) is)
+-- a line of the slots is none of those before them
+far_line : (p : Params) (words : List ℕ) (line from : ℕ) → slot_line p 0 0 ≤ line → fed_from p 0 line ≡ from → fed p 0 words line ≡ slice_range words from (from + line_words)
+far_line p words line from far is =
+    let behind : nat_lt line (slot_line p 0 0) ≡ false = le-ltb line (slot_line p 0 0) far in
+    ap (λ (b : Bool). if b then fed_head words line else slice_range words (fed_from p 0 line) (fed_from p 0 line + line_words)) behind
+    ∙ ap (λ (n : ℕ). slice_range words n (n + line_words)) is
 
 -- the words of a line of a slot
-pub slot_line_fed : (words : List ℕ) (p : Params) (i j : ℕ) → fed words (slot_line p i j) ≡ slice_range words (26 + (64 * i + 8 * j)) (26 + (64 * i + 8 * j) + 8)
-slot_line_fed words p i j = far_line words (slot_line p i j) (26 + (64 * i + 8 * j)) (omega arith) (omega arith)
+pub slot_line_fed : (words : List ℕ) (p : Params) (i j : ℕ) → fed p 0 words (slot_line p i j) ≡ slice_range words (26 + (64 * i + 8 * j)) (26 + (64 * i + 8 * j) + 8)
+slot_line_fed words p i j = far_line p words (slot_line p i j) (26 + (64 * i + 8 * j)) (omega arith) (omega arith)
 
 -- a word of a slot, by its place among the loaded words
-pub slot_word_fed : (words : List ℕ) (p : Params) (i k : ℕ) → k < 64 → slot_word (fed words) p i k ≡ slice_index words (26 + 64 * i + k)
+pub slot_word_fed : (words : List ℕ) (p : Params) (i k : ℕ) → k < 64 → slot_word (fed p 0 words) p i k ≡ slice_index words (26 + 64 * i + k)
 slot_word_fed words p i k below =
     ap (λ (l : List ℕ). slice_index l (k % 8)) (slot_line_fed words p i (k / 8))
     ∙ get_or-take (26 + (64 * i + 8 * (k / 8)) + 8 - (26 + (64 * i + 8 * (k / 8)))) (drop (26 + (64 * i + 8 * (k / 8))) words) (k % 8) 0 (omega arith)
@@ -62,24 +60,24 @@ length-slot : (line : Lines) (p : Params) (i : ℕ) → length (slot_words line 
 unfolding slot_words
 length-slot line p i = length-map-range_with_len (slot_word line p i) 0 64
 
-get-slot : (words : List ℕ) (p : Params) (i k d : ℕ) → k < 64 → get_or (slot_words (fed words) p i) k d ≡ slice_index words (26 + 64 * i + k)
+get-slot : (words : List ℕ) (p : Params) (i k d : ℕ) → k < 64 → get_or (slot_words (fed p 0 words) p i) k d ≡ slice_index words (26 + 64 * i + k)
 unfolding slot_words
-get-slot words p i k d below = get_or-map-range_with_len (slot_word (fed words) p i) 0 64 k k d below (omega arith) ∙ slot_word_fed words p i k below
+get-slot words p i k d below = get_or-map-range_with_len (slot_word (fed p 0 words) p i) 0 64 k k d below (omega arith) ∙ slot_word_fed words p i k below
 
 -- the words of the slot that was loaded last
-pub slot_held : (words : List ℕ) (p : Params) (i : ℕ) → length words ≡ 26 + 64 * i + 64 → slot_words (fed words) p i ≡ drop (26 + 64 * i) words
+pub slot_held : (words : List ℕ) (p : Params) (i : ℕ) → length words ≡ 26 + 64 * i + 64 → slot_words (fed p 0 words) p i ≡ drop (26 + 64 * i) words
 slot_held words p i long =
-    same_lists (slot_words (fed words) p i) (drop (26 + 64 * i) words) (length-slot (fed words) p i ∙ omega (arith, length-drop (26 + 64 * i) words))
+    same_lists (slot_words (fed p 0 words) p i) (drop (26 + 64 * i) words) (length-slot (fed p 0 words) p i ∙ omega (arith, length-drop (26 + 64 * i) words))
     (λ k d below.
-    let small : k < 64 = omega (arith, length-slot (fed words) p i) in
+    let small : k < 64 = omega (arith, length-slot (fed p 0 words) p i) in
     get-slot words p i k d small ∙ get_or_default words (26 + 64 * i + k) 0 d (omega arith) ∙ sym (get_or-drop (26 + 64 * i) words k d))
 
 -- the words of a slot stay
-pub slot_stays : (words more : List ℕ) (p : Params) (i : ℕ) → 26 + 64 * i + 64 ≤ length words → slot_words (fed (words ++ more)) p i ≡ slot_words (fed words) p i
+pub slot_stays : (words more : List ℕ) (p : Params) (i : ℕ) → 26 + 64 * i + 64 ≤ length words → slot_words (fed p 0 (words ++ more)) p i ≡ slot_words (fed p 0 words) p i
 slot_stays words more p i long =
-    same_lists (slot_words (fed (words ++ more)) p i) (slot_words (fed words) p i) (length-slot (fed (words ++ more)) p i ∙ sym (length-slot (fed words) p i))
+    same_lists (slot_words (fed p 0 (words ++ more)) p i) (slot_words (fed p 0 words) p i) (length-slot (fed p 0 (words ++ more)) p i ∙ sym (length-slot (fed p 0 words) p i))
     (λ k d below.
-    let small : k < 64 = omega (arith, length-slot (fed (words ++ more)) p i) in
+    let small : k < 64 = omega (arith, length-slot (fed p 0 (words ++ more)) p i) in
     get-slot (words ++ more) p i k d small ∙ index_stays words more (26 + 64 * i + k) (omega arith) ∙ sym (get-slot words p i k d small))
 
 -- Slots that are read.
@@ -97,8 +95,8 @@ read_same a b p (suc n) from list same =
     (λ e. read_same a b p n (from + 1) (list ++ e ∷ []) (λ i below. same i (omega arith)))
 
 -- what the slots say stays
-pub slots_stay : (words more : List ℕ) (p : Params) (n : ℕ) → 26 + 64 * n ≤ length words → fed_slots (words ++ more) p n ≡ fed_slots words p n
-slots_stay words more p n long = read_same (fed (words ++ more)) (fed words) p n 0 [] (λ i below. slot_stays words more p i (omega arith))
+pub slots_stay : (words more : List ℕ) (p : Params) (n : ℕ) → 26 + 64 * n ≤ length words → fed_slots (words ++ more) p 0 n ≡ fed_slots words p 0 n
+slots_stay words more p n long = read_same (fed p 0 (words ++ more)) (fed p 0 words) p (n - 0) 0 [] (λ i below. slot_stays words more p i (omega arith))
 
 survey_same : (a b : Lines) (p : Params) (gate n from : ℕ) (s : Survey) → ((i : ℕ) → i < from + n → slot_words a p i ≡ slot_words b p i) → survey_slots a p gate from n s ≡ survey_slots b p gate from n s
 survey_same a b p gate zero from s same = refl
@@ -107,8 +105,8 @@ survey_same a b p gate (suc n) from s same =
     ∙ survey_same a b p gate n (from + 1) (survey_slot p gate from (slot_words b p from) s) (λ i below. same i (omega arith))
 
 -- so does what a check of the whole file system finds in them
-pub survey_stays : (words more : List ℕ) (p : Params) (gate n : ℕ) → 26 + 64 * n ≤ length words → survey_slots (fed (words ++ more)) p gate 0 n no_survey ≡ survey_slots (fed words) p gate 0 n no_survey
-survey_stays words more p gate n long = survey_same (fed (words ++ more)) (fed words) p gate n 0 no_survey (λ i below. slot_stays words more p i (omega arith))
+pub survey_stays : (words more : List ℕ) (p : Params) (gate n : ℕ) → 26 + 64 * n ≤ length words → survey_slots (fed p 0 (words ++ more)) p gate 0 n no_survey ≡ survey_slots (fed p 0 words) p gate 0 n no_survey
+survey_stays words more p gate n long = survey_same (fed p 0 (words ++ more)) (fed p 0 words) p gate n 0 no_survey (λ i below. slot_stays words more p i (omega arith))
 
 -- One slot more.
 
@@ -132,12 +130,12 @@ read_more line p (suc n) from list =
     (λ e. read_more line p n (from + 1) (list ++ e ∷ []) ∙ ap (λ (i : ℕ). slot_after line p i (read_slots line p (from + 1) n (list ++ e ∷ []))) (let z : (from + 1) + n ≡ from + suc n = omega arith in z))
 
 -- slot i is read behind those before it
-pub slots_more : (words : List ℕ) (p : Params) (i : ℕ) (list : List Entry) → fed_slots words p i ≡ Sound p list → fed_slots words p (i + 1) ≡ slot_or p list i (slot_in (fed words) p i) (λ e. Sound p (list ++ e ∷ []))
+pub slots_more : (words : List ℕ) (p : Params) (i : ℕ) (list : List Entry) → fed_slots words p 0 i ≡ Sound p list → fed_slots words p 0 (i + 1) ≡ slot_or p list i (slot_in (fed p 0 words) p i) (λ e. Sound p (list ++ e ∷ []))
 slots_more words p i list is =
-    ap (λ (n : ℕ). read_slots (fed words) p 0 n []) (let z : i + 1 ≡ suc i = omega arith in z)
-    ∙ read_more (fed words) p i 0 []
-    ∙ ap (λ (n : ℕ). slot_after (fed words) p n (read_slots (fed words) p 0 i [])) (let z : 0 + i ≡ i = omega arith in z)
-    ∙ ap (slot_after (fed words) p i) is
+    ap (λ (n : ℕ). read_slots (fed p 0 words) p 0 n []) (let z : i + 1 - 0 ≡ suc (i - 0) = omega arith in z)
+    ∙ read_more (fed p 0 words) p (i - 0) 0 []
+    ∙ ap (λ (n : ℕ). slot_after (fed p 0 words) p n (read_slots (fed p 0 words) p 0 (i - 0) [])) (let z : 0 + (i - 0) ≡ i = omega arith in z)
+    ∙ ap (slot_after (fed p 0 words) p i) is
 
 survey_last : (line : Lines) (p : Params) (gate n from : ℕ) (s : Survey) → survey_slots line p gate from (suc n) s ≡ survey_slot p gate (from + n) (slot_words line p (from + n)) (survey_slots line p gate from n s)
 survey_last line p gate zero from s = ap (λ (i : ℕ). survey_slot p gate i (slot_words line p i) s) (let z : from ≡ from + 0 = omega arith in z)
@@ -146,8 +144,8 @@ survey_last line p gate (suc n) from s =
     ∙ ap (λ (i : ℕ). survey_slot p gate i (slot_words line p i) (survey_slots line p gate (from + 1) n (survey_slot p gate from (slot_words line p from) s))) (let z : (from + 1) + n ≡ from + suc n = omega arith in z)
 
 -- one slot more is surveyed
-pub survey_more : (words : List ℕ) (p : Params) (gate i : ℕ) → survey_slots (fed words) p gate 0 (i + 1) no_survey ≡ survey_slot p gate i (slot_words (fed words) p i) (survey_slots (fed words) p gate 0 i no_survey)
+pub survey_more : (words : List ℕ) (p : Params) (gate i : ℕ) → survey_slots (fed p 0 words) p gate 0 (i + 1) no_survey ≡ survey_slot p gate i (slot_words (fed p 0 words) p i) (survey_slots (fed p 0 words) p gate 0 i no_survey)
 survey_more words p gate i =
-    ap (λ (n : ℕ). survey_slots (fed words) p gate 0 n no_survey) (let z : i + 1 ≡ suc i = omega arith in z)
-    ∙ survey_last (fed words) p gate i 0 no_survey
-    ∙ ap (λ (n : ℕ). survey_slot p gate n (slot_words (fed words) p n) (survey_slots (fed words) p gate 0 i no_survey)) (let z : 0 + i ≡ i = omega arith in z)
+    ap (λ (n : ℕ). survey_slots (fed p 0 words) p gate 0 n no_survey) (let z : i + 1 ≡ suc i = omega arith in z)
+    ∙ survey_last (fed p 0 words) p gate i 0 no_survey
+    ∙ ap (λ (n : ℕ). survey_slot p gate n (slot_words (fed p 0 words) p n) (survey_slots (fed p 0 words) p gate 0 i no_survey)) (let z : 0 + i ≡ i = omega arith in z)

@@ -16,38 +16,39 @@ use Rattle.fam_rules.specs.Written.{lines_of}
 use Rattle.fam_commands.specs.Task.{no_params, size_of, wanted_lines}
 use Rattle.fam_commands.specs.Turns.{host_refusal}
 use Rattle.fam_commands.specs.Table.{fed_gate, fed_slots, entries_in, params_or}
-use Rattle.fam_commands.specs.Counts.{decided_steps, line_steps, refused_steps, wish_lines, file_lines, told_entries}
+use Rattle.fam_commands.specs.Counts.{decided_steps, line_steps, refused_steps, wish_lines, file_lines, told_entries, append_steps}
 use Rattle.fam_commands.proofs.EndCounts.{refused_late, decided_size}
 use Rattle.fam_commands.proofs.SlotRows.{ReadsLog, read_of}
 use Rattle.fam_commands.proofs.Ties.{HasSlots}
+use Rattle.fam_format.specs.Layout.{first_format}
 
 -- the decision, by the gate
-pub decided_at : (n gate made : ℕ) → n ≡ gate → made ≡ 32 + 73 * gate → made ≡ decided_steps n
+pub decided_at : (n gate made : ℕ) → n ≡ gate → made ≡ 32 + 73 * gate → made ≡ decided_steps first_format 0 n
 decided_at n gate made is at_made = omega arith
 
 -- no line of a file
-pub without_lines : (n d k made : ℕ) → made ≡ decided_steps n → d ≡ k → k ≡ 0 → made ≡ decided_steps n + line_steps * d
+pub without_lines : (n d k made : ℕ) → made ≡ decided_steps first_format 0 n → d ≡ k → k ≡ 0 → made ≡ decided_steps first_format 0 n + line_steps * d
 without_lines n d k made at_made is none = omega arith
 
 -- all lines of a file
-pub with_lines : (n gate d k made : ℕ) → n ≡ gate → d ≡ k → made ≡ 32 + 73 * gate + 9 * k → made ≡ decided_steps n + line_steps * d
+pub with_lines : (n gate d k made : ℕ) → n ≡ gate → d ≡ k → made ≡ 32 + 73 * gate + 9 * k → made ≡ decided_steps first_format 0 n + line_steps * d
 with_lines n gate d k made at_gate is at_made = omega arith
 
 -- up to the line that holds a byte
-pub up_to_line : (n gate j b made : ℕ) → n ≡ gate → b < 64 → made ≡ 32 + 73 * gate + (9 * j + 9) → made ≡ decided_steps n + line_steps * ((64 * j + b) / 64 + 1)
+pub up_to_line : (n gate j b made : ℕ) → n ≡ gate → b < 64 → made ≡ 32 + 73 * gate + (9 * j + 9) → made ≡ decided_steps first_format 0 n + line_steps * ((64 * j + b) / 64 + 1)
 up_to_line n gate j b made at_gate inside at_made = omega arith
 
 -- the whole append
-pub appended_at : (n gate d k made : ℕ) → n ≡ gate → d ≡ k → made ≡ 105 + 73 * gate + 9 * k → made + 1 ≡ decided_steps n + line_steps * d + line_steps * 8 + 2
+pub appended_at : (n gate d k made : ℕ) → n ≡ gate → d ≡ k → made ≡ 105 + 73 * gate + 9 * k → made + 1 ≡ decided_steps first_format 0 n + append_steps first_format d
 appended_at n gate d k made at_gate is at_made = omega arith
 
 -- The entries that the words tell.
 
 -- the words tell the task's entries
-pub told_are : (cmd : Cmd) (me : List ℕ) (lines : ℕ) (p : Params) (gate : ℕ) (entries : List Entry) (survey : Survey) (words : List ℕ) → ReadsLog cmd → HasSlots cmd me lines p gate entries survey words gate → told_entries words lines ≡ entries
+pub told_are : (cmd : Cmd) (me : List ℕ) (lines : ℕ) (p : Params) (gate : ℕ) (entries : List Entry) (survey : Survey) (words : List ℕ) → ReadsLog cmd → HasSlots cmd me lines p gate entries survey words gate → told_entries 0 words lines ≡ entries
 told_are cmd me lines p gate entries survey words reads h =
-    ap (λ (q : Params). entries_in (fed_slots words q (fed_gate words))) (ap (params_or no_params) h.gated.log.head.super)
-    ∙ ap (λ (n : ℕ). entries_in (fed_slots words p n)) h.gated.gate_is
+    ap (λ (q : Params). entries_in (fed_slots words q 0 (fed_gate words))) (ap (params_or no_params) h.gated.log.head.super)
+    ∙ ap (λ (n : ℕ). entries_in (fed_slots words p 0 n)) h.gated.gate_is
     ∙ ap entries_in (read_of cmd p gate entries survey words gate reads h.known).sound
 
 -- the entry at a path
@@ -65,12 +66,12 @@ read_file_lines path offset count entries told e is lookups found = ap (wanted_l
 -- What is decided.
 
 module _ (p : Params) (me : List ℕ) (list : List Entry) where
-  refused_by : (n : ℕ) (r : Refused) (o : Option Wish) → host_refusal o p me ≡ None → option_map (decide_wish p me list) o ≡ Some (Err r) → refused_steps n r ≡ decided_steps n
+  refused_by : (n : ℕ) (r : Refused) (o : Option Wish) → host_refusal o p me ≡ None → option_map (decide_wish p me list) o ≡ Some (Err r) → refused_steps first_format 0 n r ≡ decided_steps first_format 0 n
   refused_by n r None host is = absurd cc
-  refused_by n r (Some w) host is = refused_late p me list w n host r cc
+  refused_by n r (Some w) host is = refused_late p me list w first_format 0 n host r cc
 
   -- a refusal that isn't the host's comes with the decision
-  pub refused_at : (n : ℕ) (r : Refused) (cmd : Cmd) → host_refusal (wish_of cmd) p me ≡ None → decide p me list cmd ≡ Some (Err r) → refused_steps n r ≡ decided_steps n
+  pub refused_at : (n : ℕ) (r : Refused) (cmd : Cmd) → host_refusal (wish_of cmd) p me ≡ None → decide p me list cmd ≡ Some (Err r) → refused_steps first_format 0 n r ≡ decided_steps first_format 0 n
   refused_at n r cmd host is = refused_by n r (wish_of cmd) host is
 
   lines_by_wish : (e : Entry) (o : Option Wish) → option_map (decide_wish p me list) o ≡ Some (Ok e) → wish_lines o ≡ lines_of e.size

@@ -21,7 +21,7 @@ use Rattle.fam_commands.specs.declared.place.Part.TheVariants.{File}
 use Rattle.fam_commands.specs.declared.place.Place.TheVariants as at
 use Rattle.fam_commands.specs.Task.{Task, size_of, wanted_lines}
 use Rattle.fam_commands.specs.Turns.{Goes, Ends, line_difference, compare_turn, loaded_bytes, file_turn, line_turn}
-use Rattle.fam_commands.specs.Table.{Note, Quiet, Answer, fed_gate, fed_files, fits_content, answer_or, early_note, line_note}
+use Rattle.fam_commands.specs.Table.{Note, Quiet, Answer, fed_gate, fed_files, fits_content, answer_or, early_note, line_note, words_before}
 use Rattle.fam_commands.proofs.RowLemmas.{if_below, if_past}
 use Rattle.fam_commands.proofs.FileRows.{told_file, told_at}
 use Rattle.fam_commands.proofs.DecideSteps.{verify_lines_are, count_of_files}
@@ -31,6 +31,7 @@ use Rattle.fam_commands.specs.Counts.{file_lines, told_entries}
 use Rattle.fam_commands.proofs.FileCounts.{with_lines, up_to_line, told_are, verify_file_lines, read_file_lines}
 use Rattle.fam_commands.proofs.Outcomes.{Outcome, outcome_as, goes_on, ends, by_less, in_part}
 use Rattle.fam_commands.proofs.Ties.{AreRead, TaskSlots, IsChosen, IsSame, FileKnown, InPart, line_end}
+use Rattle.fam_base.specs.declared.entry.Params.{Params}
 
 -- What is asked of the words.
 
@@ -40,11 +41,11 @@ verified_is path (content.Seed seed) m bytes fits = refl
 verified_is path content.Zero m bytes fits = refl
 
 -- a question about the file at a path
-asked : (cmd : Cmd) (path : List ℕ) (words : List ℕ) (entries : List Entry) (e : Entry) (question : ℕ → List ℕ → Reply) → find (λ x. path_eq x.path path) entries ≡ Some e → e.kind ≡ kind.File → of_file (length (fed_files words cmd entries)) (file_at (fed_files words cmd entries) path) (question (length (fed_files words cmd entries))) ≡ question (length entries) (told_file cmd words entries e).bytes
-asked cmd path words entries e question found file =
-    ap (λ (f : Option asks.File). of_file (length (fed_files words cmd entries)) f (question (length (fed_files words cmd entries)))) (told_at cmd words entries path ∙ ap (option_map (told_file cmd words entries)) found)
-    ∙ ap (λ (n : ℕ). of_kind n e.kind (question n (told_file cmd words entries e).bytes)) (count_of_files cmd words entries)
-    ∙ ap (λ (k : Kind). of_kind (length entries) k (question (length entries) (told_file cmd words entries e).bytes)) file
+asked : (cmd : Cmd) (path : List ℕ) (words : List ℕ) (p : Params) (entries : List Entry) (e : Entry) (question : ℕ → List ℕ → Reply) → find (λ x. path_eq x.path path) entries ≡ Some e → e.kind ≡ kind.File → of_file (length (fed_files words p 0 cmd entries)) (file_at (fed_files words p 0 cmd entries) path) (question (length (fed_files words p 0 cmd entries))) ≡ question (length entries) (told_file cmd words p entries e).bytes
+asked cmd path words p entries e question found file =
+    ap (λ (f : Option asks.File). of_file (length (fed_files words p 0 cmd entries)) f (question (length (fed_files words p 0 cmd entries)))) (told_at cmd words p entries path ∙ ap (option_map (told_file cmd words p entries)) found)
+    ∙ ap (λ (n : ℕ). of_kind n e.kind (question n (told_file cmd words p entries e).bytes)) (count_of_files cmd words p entries)
+    ∙ ap (λ (k : Kind). of_kind (length entries) k (question (length entries) (told_file cmd words p entries e).bytes)) file
 
 -- The note of a line, by the answer to the question.
 
@@ -52,8 +53,8 @@ asked cmd path words entries e question found file =
 abbrev note_by : ℕ → ℕ → Reply → Note
 note_by count j answer = if nat_lt (j + 1) count then early_note (64 * (j + 1)) (Some answer) else Answer answer
 
-note_is : (cmd : Cmd) (words : List ℕ) (entries : List Entry) (count j : ℕ) (answer : Reply) → ask (fed_files words cmd entries) cmd ≡ Some answer → line_note cmd words entries count j ≡ note_by count j answer
-note_is cmd words entries count j answer is = ap (λ (a : Option Reply). if nat_lt (j + 1) count then early_note (64 * (j + 1)) a else answer_or a) is
+note_is : (cmd : Cmd) (words : List ℕ) (p : Params) (entries : List Entry) (count j : ℕ) (answer : Reply) → ask (fed_files words p 0 cmd entries) cmd ≡ Some answer → line_note cmd words p 0 entries count j ≡ note_by count j answer
+note_is cmd words p entries count j answer is = ap (λ (a : Option Reply). if nat_lt (j + 1) count then early_note (64 * (j + 1)) a else answer_or a) is
 
 -- a difference in this line is noted, whether the line is the last one or not
 difference_noted : (count j m o found wanted : ℕ) → o < 64 * (j + 1) → note_by count j (reply.Differs m o found wanted) ≡ Answer (reply.Differs m o found wanted)
@@ -91,11 +92,11 @@ module _ (t : Task) (path : List ℕ) (against : Content) (e : Entry) (words : L
   m = length t.entries
 
   module _ (h : TaskSlots now words t.gate) (read : AreRead t.params t.entries words t.gate) (chosen : IsChosen cmd path t.entries (Some e) e) (same : IsSame against e (drop first words) j) (within : j < wanted_lines cmd e.size) (long : length words ≡ first + (8 * j + 8)) (is : made ≡ 32 + 73 * t.gate + (9 * j + 9)) where
-    ask_is : ask (fed_files words cmd t.entries) cmd ≡ Some (compared m all against)
+    ask_is : ask (fed_files words t.params 0 cmd t.entries) cmd ≡ Some (compared m all against)
     ask_is =
         ap Some
-        (asked cmd path words t.entries e (λ n bytes. verified n bytes against) chosen.found chosen.file
-        ∙ ap (λ (n : ℕ). verified m (bytes_by (drop (26 + 64 * n) words) 0 e.size) against) read.count
+        (asked cmd path words t.params t.entries e (λ n bytes. verified n bytes against) chosen.found chosen.file
+        ∙ ap (λ (n : ℕ). verified m (bytes_by (drop n words) 0 e.size) against) (let count = read.count in let z : words_before t.params 0 m ≡ first = omega arith in z)
         ∙ verified_is path against m all (ap (fits_content cmd) (length-bytes (drop first words) 0 e.size) ∙ chosen.fits))
 
     found_in_line : (b : ℕ) → IsSearched (line_differs against e words first j) 0 (min 64 (e.size - 64 * j)) (Some b) → Outcome now (compare_turn now against j (Some b)) (note_by (wanted_lines cmd e.size) j (compared m all against)) words made
@@ -115,21 +116,21 @@ module _ (t : Task) (path : List ℕ) (against : Content) (e : Entry) (words : L
         (λ less.
         outcome_as now _ (Goes (record now { words = []; place = at.Drop File (j + 1) })) _ Quiet words made refl
         (quiet_before m all against (64 * (j + 1)) (first_difference all against) (λ o at_o. late_difference against e words first (j + 1) o more at_o))
-        (goes_on now (record now { words = []; place = at.Drop File (j + 1) }) words made refl refl refl
+        (goes_on now (record now { words = []; place = at.Drop File (j + 1) }) words made refl refl refl refl
         (in_part File now [] (at.Drop File (j + 1)) words (j + 1) 0 0 made (h, (e, chosen, more, omega arith)) less (omega arith) (sym (drop_all (first + 8 * (j + 1)) words (omega arith))) (omega arith))))
         (λ past.
         ends now (reply.Same m) _ words made
         (ap (λ (r : Option ℕ). Answer (compared_at m all against r)) (no_difference against e words first (j + 1) more (omega (arith, verify_lines_are path against e.size))))
-        (with_lines (fed_gate words) t.gate (file_lines cmd (told_entries words t.lines)) (wanted_lines cmd e.size) made h.gated.gate_is
-        (verify_file_lines path against t.entries (told_entries words t.lines) e (told_are cmd t.me t.lines t.params t.gate t.entries t.survey words tt h) read.lookups chosen.found) (omega arith)))
+        (with_lines (fed_gate words) t.gate (file_lines cmd (told_entries 0 words t.lines)) (wanted_lines cmd e.size) made h.gated.gate_is
+        (verify_file_lines path against t.entries (told_entries 0 words t.lines) e (told_are cmd t.me t.lines t.params t.gate t.entries t.survey words tt h) read.lookups chosen.found) (omega arith)))
 
     by_line : (r : Option ℕ) → IsSearched (line_differs against e words first j) 0 (min 64 (e.size - 64 * j)) r → Outcome now (compare_turn now against j r) (note_by (wanted_lines cmd e.size) j (compared m all against)) words made
     by_line (Some b) found = found_in_line b found
     by_line None none = none_in_line none
 
-    verify_line : Outcome now (file_turn cmd now j) (line_note cmd words t.entries (wanted_lines cmd e.size) j) words made
+    verify_line : Outcome now (file_turn cmd now j) (line_note cmd words t.params 0 t.entries (wanted_lines cmd e.size) j) words made
     verify_line =
-        outcome_as now _ (file_turn cmd now j) _ (note_by (wanted_lines cmd e.size) j (compared m all against)) words made refl (note_is cmd words t.entries (wanted_lines cmd e.size) j (compared m all against) ask_is)
+        outcome_as now _ (file_turn cmd now j) _ (note_by (wanted_lines cmd e.size) j (compared m all against)) words made refl (note_is cmd words t.params t.entries (wanted_lines cmd e.size) j (compared m all against) ask_is)
         (by_line (line_difference now against j) (searched (line_differs against e words first j) (min 64 (e.size - 64 * j)) 0))
 
 -- A line that is read.
@@ -148,40 +149,40 @@ module _ (t : Task) (path : List ℕ) (offset count : ℕ) (e : Entry) (words : 
   abbrev wanted : List ℕ
   wanted = bytes_from offset count (bytes_by (drop start words) (64 * (offset / 64)) e.size)
 
-  read_line : TaskSlots here words t.gate → AreRead t.params t.entries words t.gate → IsChosen ask_cmd path t.entries (Some e) e → j < wanted_lines ask_cmd e.size → length words ≡ start + (8 * j + 8) → made ≡ 32 + 73 * t.gate + (9 * j + 9) → Outcome here (file_turn ask_cmd here j) (line_note ask_cmd words t.entries (wanted_lines ask_cmd e.size) j) words made
+  read_line : TaskSlots here words t.gate → AreRead t.params t.entries words t.gate → IsChosen ask_cmd path t.entries (Some e) e → j < wanted_lines ask_cmd e.size → length words ≡ start + (8 * j + 8) → made ≡ 32 + 73 * t.gate + (9 * j + 9) → Outcome here (file_turn ask_cmd here j) (line_note ask_cmd words t.params 0 t.entries (wanted_lines ask_cmd e.size) j) words made
   read_line h read chosen within long is =
       outcome_as here _ (file_turn ask_cmd here j) _ (note_by (wanted_lines ask_cmd e.size) j (reply.Bytes (length t.entries) wanted)) words made refl
-      (note_is ask_cmd words t.entries (wanted_lines ask_cmd e.size) j (reply.Bytes (length t.entries) wanted)
-      (ap Some (asked ask_cmd path words t.entries e (λ n bytes. reply.Bytes n (bytes_from offset count bytes)) chosen.found chosen.file
-      ∙ ap (λ (n : ℕ). reply.Bytes (length t.entries) (bytes_from offset count (bytes_by (drop (26 + 64 * n) words) (64 * (offset / 64)) e.size))) read.count)))
+      (note_is ask_cmd words t.params t.entries (wanted_lines ask_cmd e.size) j (reply.Bytes (length t.entries) wanted)
+      (ap Some (asked ask_cmd path words t.params t.entries e (λ n bytes. reply.Bytes n (bytes_from offset count bytes)) chosen.found chosen.file
+      ∙ ap (λ (n : ℕ). reply.Bytes (length t.entries) (bytes_from offset count (bytes_by (drop n words) (64 * (offset / 64)) e.size))) (let read_count = read.count in let z : words_before t.params 0 (length t.entries) ≡ start = omega arith in z))))
       (by_less here (j + 1) (wanted_lines ask_cmd e.size) (Goes (record here { place = at.Drop File (j + 1) })) (Ends (reply.Bytes (length t.entries) (loaded_bytes here offset))) Quiet (Answer (reply.Bytes (length t.entries) wanted)) words made
       (λ less.
-      goes_on here (record here { place = at.Drop File (j + 1) }) words made refl refl refl
+      goes_on here (record here { place = at.Drop File (j + 1) }) words made refl refl refl refl
       (in_part File here (drop (start + 0) words) (at.Drop File (j + 1)) words (j + 1) 0 0 made (h, (e, chosen)) less (omega arith) refl (omega arith)))
       (λ past.
       ends here (reply.Bytes (length t.entries) (loaded_bytes here offset)) _ words made
       (ap (λ (b : List ℕ). Answer (reply.Bytes (length t.entries) b))
       (wanted_bytes (drop start words) offset count e.size
       ∙ ap (λ (n : ℕ). map (λ i. byte_in (drop n words) (offset % 64 + i)) (range_with_len 0 (min e.size (offset + count) - offset))) (let z : start ≡ start + 0 = omega arith in z)))
-      (with_lines (fed_gate words) t.gate (file_lines ask_cmd (told_entries words t.lines)) (wanted_lines ask_cmd e.size) made h.gated.gate_is
-      (read_file_lines path offset count t.entries (told_entries words t.lines) e (told_are ask_cmd t.me t.lines t.params t.gate t.entries t.survey words tt h) read.lookups chosen.found) (omega arith))))
+      (with_lines (fed_gate words) t.gate (file_lines ask_cmd (told_entries 0 words t.lines)) (wanted_lines ask_cmd e.size) made h.gated.gate_is
+      (read_file_lines path offset count t.entries (told_entries 0 words t.lines) e (told_are ask_cmd t.me t.lines t.params t.gate t.entries t.survey words tt h) read.lookups chosen.found) (omega arith))))
 
 -- Either.
 
-file_as : (cmd : Cmd) (t : Task) (words : List ℕ) (j made : ℕ) → InPart File (record t { cmd = cmd }) words j 8 9 made → Outcome (record t { cmd = cmd }) (file_turn cmd (record t { cmd = cmd }) j) (line_note cmd words t.entries (wanted_lines cmd (size_of t.entry)) j) words made
+file_as : (cmd : Cmd) (t : Task) (words : List ℕ) (j made : ℕ) → InPart File (record t { cmd = cmd }) words j 8 9 made → Outcome (record t { cmd = cmd }) (file_turn cmd (record t { cmd = cmd }) j) (line_note cmd words t.params 0 t.entries (wanted_lines cmd (size_of t.entry)) j) words made
 file_as (Verify path against) t words j made h =
     let known : FileKnown (Verify path against) t.gate t.entries t.entry words j = h.known.1 in
     let is : t.entry ≡ Some known.0 = known.1.is in
     let chosen : IsChosen (Verify path against) path t.entries (Some known.0) known.0 = record { is = refl; found = known.1.found; file = known.1.file; fits = known.1.fits; some = known.1.some } in
-    subst (λ (o : Option Entry). Outcome (record t { cmd = Verify path against; entry = o }) (file_turn (Verify path against) (record t { cmd = Verify path against; entry = o }) j) (line_note (Verify path against) words t.entries (wanted_lines (Verify path against) (size_of o)) j) words made) (sym is)
-    (subst (λ (w : List ℕ). Outcome (record t { cmd = Verify path against; entry = Some known.0; words = w }) (file_turn (Verify path against) (record t { cmd = Verify path against; entry = Some known.0; words = w }) j) (line_note (Verify path against) words t.entries (wanted_lines (Verify path against) known.0.size) j) words made) (sym h.held)
+    subst (λ (o : Option Entry). Outcome (record t { cmd = Verify path against; entry = o }) (file_turn (Verify path against) (record t { cmd = Verify path against; entry = o }) j) (line_note (Verify path against) words t.params 0 t.entries (wanted_lines (Verify path against) (size_of o)) j) words made) (sym is)
+    (subst (λ (w : List ℕ). Outcome (record t { cmd = Verify path against; entry = Some known.0; words = w }) (file_turn (Verify path against) (record t { cmd = Verify path against; entry = Some known.0; words = w }) j) (line_note (Verify path against) words t.params 0 t.entries (wanted_lines (Verify path against) known.0.size) j) words made) (sym h.held)
     (verify_line t path against known.0 words j made h.known.0 h.known.0.known chosen known.2 (subst (λ (o : Option Entry). j < wanted_lines (Verify path against) (size_of o)) is h.within) h.long h.made_is))
 file_as (Read path offset count) t words j made h =
     let known : FileKnown (Read path offset count) t.gate t.entries t.entry words j = h.known.1 in
     let is : t.entry ≡ Some known.0 = known.1.is in
     let chosen : IsChosen (Read path offset count) path t.entries (Some known.0) known.0 = record { is = refl; found = known.1.found; file = known.1.file; fits = known.1.fits; some = known.1.some } in
-    subst (λ (o : Option Entry). Outcome (record t { cmd = Read path offset count; entry = o }) (file_turn (Read path offset count) (record t { cmd = Read path offset count; entry = o }) j) (line_note (Read path offset count) words t.entries (wanted_lines (Read path offset count) (size_of o)) j) words made) (sym is)
-    (subst (λ (w : List ℕ). Outcome (record t { cmd = Read path offset count; entry = Some known.0; words = w }) (file_turn (Read path offset count) (record t { cmd = Read path offset count; entry = Some known.0; words = w }) j) (line_note (Read path offset count) words t.entries (wanted_lines (Read path offset count) known.0.size) j) words made) (sym h.held)
+    subst (λ (o : Option Entry). Outcome (record t { cmd = Read path offset count; entry = o }) (file_turn (Read path offset count) (record t { cmd = Read path offset count; entry = o }) j) (line_note (Read path offset count) words t.params 0 t.entries (wanted_lines (Read path offset count) (size_of o)) j) words made) (sym is)
+    (subst (λ (w : List ℕ). Outcome (record t { cmd = Read path offset count; entry = Some known.0; words = w }) (file_turn (Read path offset count) (record t { cmd = Read path offset count; entry = Some known.0; words = w }) j) (line_note (Read path offset count) words t.params 0 t.entries (wanted_lines (Read path offset count) known.0.size) j) words made) (sym h.held)
     (read_line t path offset count known.0 words j made h.known.0 h.known.0.known chosen (subst (λ (o : Option Entry). j < wanted_lines (Read path offset count) (size_of o)) is h.within) h.long h.made_is))
 file_as other t words j made h = absurd h.known.1
 

@@ -14,7 +14,7 @@ use Rattle.fam_commands.specs.declared.place.Part.TheVariants.{Superblock, Heade
 use Rattle.fam_commands.specs.declared.place.Place.TheVariants as at
 use Rattle.fam_commands.specs.Task.{Task, no_params, op_at}
 use Rattle.fam_machine.specs.Operations.{line_no, load_ops}
-use Rattle.fam_commands.specs.Table.{Note, Quiet, Mark, Row, rows, fed, fed_super, fed_gate, magic_note, super_note, header_note, gate_note, body_rows, params_or, table}
+use Rattle.fam_commands.specs.Table.{Note, Quiet, Mark, Row, rows, fed_super, fed_gate, magic_note, super_note, header_note, gate_note, body_rows, params_or, table, fed_head}
 use Rattle.fam_commands.proofs.ListPlaces.{get-append_left, get-append_right}
 use Rattle.fam_commands.proofs.RowLemmas.{row, row_before, row_last, drop_at, word_at, if_below, if_past}
 use Rattle.fam_commands.proofs.TieStays.{has_super_stays}
@@ -90,7 +90,7 @@ module _ (cmd : Cmd) (me : List ℕ) (lines : ℕ) (words : List ℕ) where
   super_piece = rows (load_ops 1 8 ++ load_ops 2 8) (super_note cmd me words lines (fed_super words lines))
 
   abbrev pub header_piece : List Row
-  header_piece = rows (load_ops log_line 8) (header_note cmd words lines (log_fault (fed words log_line) told))
+  header_piece = rows (load_ops log_line 8) (header_note cmd words lines (log_fault (fed_head words log_line) told))
 
   abbrev pub mark_piece : List Row
   mark_piece = rows (Invalidate (line_no gate_line) ∷ []) Mark
@@ -100,30 +100,30 @@ module _ (cmd : Cmd) (me : List ℕ) (lines : ℕ) (words : List ℕ) where
 
   -- and what comes behind them
   abbrev pub body : List Row
-  body = body_rows cmd me lines words told
+  body = body_rows 0 cmd me lines words told
 
   -- the rows of the magic
-  pub magic_rows : (k : ℕ) → k < 2 → slice_get (table cmd me lines words) k ≡ slice_get magic_piece k
+  pub magic_rows : (k : ℕ) → k < 2 → slice_get (table 0 cmd me lines words) k ≡ slice_get magic_piece k
   magic_rows k below = in_first magic_piece super_piece header_piece mark_piece gate_piece body k below
 
   -- of the superblock
-  pub super_rows : (k m : ℕ) → k < 18 → m ≡ 2 + k → slice_get (table cmd me lines words) m ≡ slice_get super_piece k
+  pub super_rows : (k m : ℕ) → k < 18 → m ≡ 2 + k → slice_get (table 0 cmd me lines words) m ≡ slice_get super_piece k
   super_rows k m below is = in_second magic_piece super_piece header_piece mark_piece gate_piece body 2 k m refl below is
 
   -- of the header
-  pub header_rows : (k m : ℕ) → k < 9 → m ≡ 20 + k → slice_get (table cmd me lines words) m ≡ slice_get header_piece k
+  pub header_rows : (k m : ℕ) → k < 9 → m ≡ 20 + k → slice_get (table 0 cmd me lines words) m ≡ slice_get header_piece k
   header_rows k m below is = in_third magic_piece super_piece header_piece mark_piece gate_piece body 20 k m refl below is
 
   -- of the mark
-  pub mark_rows : slice_get (table cmd me lines words) 29 ≡ slice_get mark_piece 0
+  pub mark_rows : slice_get (table 0 cmd me lines words) 29 ≡ slice_get mark_piece 0
   mark_rows = in_fourth magic_piece super_piece header_piece mark_piece gate_piece body 29 0 29 refl (omega arith) refl
 
   -- and of the gate
-  pub gate_rows : slice_get (table cmd me lines words) 30 ≡ slice_get gate_piece 0
+  pub gate_rows : slice_get (table 0 cmd me lines words) 30 ≡ slice_get gate_piece 0
   gate_rows = in_fifth magic_piece super_piece header_piece mark_piece gate_piece body 30 0 30 refl (omega arith) refl
 
   -- what stands behind the head
-  pub behind_head : (k m : ℕ) → m ≡ 31 + k → slice_get (table cmd me lines words) m ≡ slice_get body k
+  pub behind_head : (k m : ℕ) → m ≡ 31 + k → slice_get (table 0 cmd me lines words) m ≡ slice_get body k
   behind_head k m is = behind_five magic_piece super_piece header_piece mark_piece gate_piece body 31 k m refl is
 
 -- The row of each place of the head, also with more words.
@@ -142,11 +142,11 @@ module _ (t : Task) (words more : List ℕ) where
   now = words ++ more
 
   abbrev whole : List Row
-  whole = table t.cmd t.me t.lines now
+  whole = table 0 t.cmd t.me t.lines now
 
   -- the table has this operation and note at this place
   abbrev pub Here : ℕ → Op → Note → Type 0
-  Here made op note = HasRow (table t.cmd t.me t.lines (words ++ more)) made op note
+  Here made op note = HasRow (table 0 t.cmd t.me t.lines (words ++ more)) made op note
 
   -- line 0 is dropped
   pub drop_magic_row : (made : ℕ) → made ≡ 0 → Here made (op_at t at.DropMagic) Quiet
@@ -200,7 +200,7 @@ module _ (t : Task) (words more : List ℕ) where
             ∙ ap (λ (n : Note). Some (row (op_at t (at.Word Header j k)) n)) (sym (if_below k 7 Quiet (line_end Header t now j) less))
         | inr seven ↦
             row_last (load_ops log_line 8) _ (9 * j + (1 + k)) _ (let z : 9 * j + (1 + k) + 1 ≡ 9 = omega arith in z) word
-            ∙ ap (λ (p : Params). Some (row (op_at t (at.Word Header j k)) (header_note t.cmd now t.lines (log_fault (fed now log_line) p)))) (told_is t.cmd t.me t.lines t.params now (has_super_stays t.cmd t.me t.lines t.params words more h))
+            ∙ ap (λ (p : Params). Some (row (op_at t (at.Word Header j k)) (header_note t.cmd now t.lines (log_fault (fed_head now log_line) p)))) (told_is t.cmd t.me t.lines t.params now (has_super_stays t.cmd t.me t.lines t.params words more h))
             ∙ ap (λ (n : Note). Some (row (op_at t (at.Word Header j k)) n)) (sym (if_past k 7 Quiet (line_end Header t now j) seven))
       ]
     where

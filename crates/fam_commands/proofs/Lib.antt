@@ -21,3 +21,4 @@ pub mod Standing
 pub mod EndCounts
 pub mod FileCounts
 pub mod BeforeWrites
+pub mod SoloRuns

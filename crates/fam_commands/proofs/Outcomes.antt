@@ -22,7 +22,7 @@ use Rattle.fam_commands.proofs.Ties.{PartKnown, InPart, TaskSlots, TieAt, Tied, 
 -- what comes of a turn: its note is the table's, and the task is tied again or has ended in time
 pub record Outcome (t : Task) (turn : Turn) (note : Note) (words : List ℕ) (made : ℕ) : Type 0 where
   pub noted : note ≡ note_of turn
-  pub tied : TurnTied t.cmd t.me t.lines turn words made
+  pub tied : TurnTied t.cmd t.me t.lines t.first_slot turn words made
 
 -- by other spellings of the turn and the note
 pub outcome_as : (t : Task) (turn other : Turn) (note noted : Note) (words : List ℕ) (made : ℕ) → turn ≡ other → note ≡ noted → Outcome t other noted words made → Outcome t turn note words made
@@ -30,15 +30,15 @@ outcome_as t turn other note noted words made turn_is note_is o =
     subst (λ (x : Turn). Outcome t x note words made) (sym turn_is) (subst (λ (n : Note). Outcome t other n words made) (sym note_is) o)
 
 -- a task of the same command that stands
-pub still_tied : (t next : Task) (words : List ℕ) (made : ℕ) → next.cmd ≡ t.cmd → next.me ≡ t.me → next.lines ≡ t.lines → TieAt next.place next words made → Tied t.cmd t.me t.lines next words made
-still_tied t next words made cmd me lines tie = record { cmd_is = cmd; me_is = me; lines_is = lines; tie = tie }
+pub still_tied : (t next : Task) (words : List ℕ) (made : ℕ) → next.cmd ≡ t.cmd → next.me ≡ t.me → next.lines ≡ t.lines → next.first_slot ≡ t.first_slot → TieAt next.place next words made → Tied t.cmd t.me t.lines t.first_slot next words made
+still_tied t next words made cmd me lines first tie = record { cmd_is = cmd; me_is = me; lines_is = lines; first_is = first; tie = tie }
 
 -- a turn that goes on
-pub goes_on : (t next : Task) (words : List ℕ) (made : ℕ) → next.cmd ≡ t.cmd → next.me ≡ t.me → next.lines ≡ t.lines → TieAt next.place next words made → Outcome t (Goes next) Quiet words made
-goes_on t next words made cmd me lines tie = record { noted = refl; tied = still_tied t next words made cmd me lines tie }
+pub goes_on : (t next : Task) (words : List ℕ) (made : ℕ) → next.cmd ≡ t.cmd → next.me ≡ t.me → next.lines ≡ t.lines → next.first_slot ≡ t.first_slot → TieAt next.place next words made → Outcome t (Goes next) Quiet words made
+goes_on t next words made cmd me lines first tie = record { noted = refl; tied = still_tied t next words made cmd me lines first tie }
 
 -- a turn that ends
-pub ends : (t : Task) (reply : Reply) (note : Note) (words : List ℕ) (made : ℕ) → note ≡ Answer reply → made ≡ steps_of t.cmd t.lines words reply → Outcome t (Ends reply) note words made
+pub ends : (t : Task) (reply : Reply) (note : Note) (words : List ℕ) (made : ℕ) → note ≡ Answer reply → made ≡ steps_of 0 t.cmd t.lines words reply → Outcome t (Ends reply) note words made
 ends t reply note words made is count = record { noted = is; tied = count }
 
 -- by a test of two numbers
@@ -59,12 +59,12 @@ in_part part t held place words j k ops made known within long is at_made = reco
 -- the next line of a part comes
 pub next_line : (part : Part) (t : Task) (words : List ℕ) (j made : ℕ) → PartKnown part t words (j + 1) → j + 1 < part_count t part → length words ≡ part_words t part + (8 * j + 8) → t.words ≡ drop (part_words t part + done_with part t.cmd (j + 1)) words → made ≡ part_made t part + (9 * j + 9) → Outcome t (Goes (record t { place = at.Drop part (j + 1) })) Quiet words made
 next_line part t words j made known within long held is =
-    goes_on t (record t { place = at.Drop part (j + 1) }) words made refl refl refl (in_part part t t.words (at.Drop part (j + 1)) words (j + 1) 0 0 made known within (omega arith) held (omega arith))
+    goes_on t (record t { place = at.Drop part (j + 1) }) words made refl refl refl refl (in_part part t t.words (at.Drop part (j + 1)) words (j + 1) 0 0 made known within (omega arith) held (omega arith))
 
 -- the loads of a line begin
 pub first_word : (part : Part) (t : Task) (words : List ℕ) (j made : ℕ) → InPart part t words j 0 0 made → Outcome t (Goes (record t { place = at.Word part j 0 })) Quiet words (made + 1)
 first_word part t words j made h =
-    goes_on t (record t { place = at.Word part j 0 }) words (made + 1) refl refl refl
+    goes_on t (record t { place = at.Word part j 0 }) words (made + 1) refl refl refl refl
     (in_part part t t.words (at.Word part j 0) words j 0 (1 + 0) (made + 1) h.known h.within h.long h.held (let e = h.made_is in omega arith), omega arith)
 
 done_below : (part : Part) (cmd : Cmd) (j : ℕ) → done_with part cmd j ≤ 8 * j
@@ -88,7 +88,7 @@ word_outcome part t words word j k made h small last =
     by_less t k 7 (Goes (record t { words = t.words ++ word ∷ []; place = at.Word part j (k + 1) })) (line_turn (with_word t word) part j) Quiet (line_end part t (words ++ word ∷ []) j) (words ++ word ∷ []) (made + 1)
     (λ less.
     let g = word_held part t words word j k (1 + k) made h in
-    goes_on t (record t { words = t.words ++ word ∷ []; place = at.Word part j (k + 1) }) (words ++ word ∷ []) (made + 1) refl refl refl
+    goes_on t (record t { words = t.words ++ word ∷ []; place = at.Word part j (k + 1) }) (words ++ word ∷ []) (made + 1) refl refl refl refl
     (in_part part (with_word t word) (t.words ++ word ∷ []) (at.Word part j (k + 1)) (words ++ word ∷ []) j (k + 1) (1 + (k + 1)) (made + 1) g.known g.within g.long g.held (let e = g.made_is in omega arith), omega arith))
     (λ past.
     let seven : k ≡ 7 = omega arith in

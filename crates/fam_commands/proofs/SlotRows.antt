@@ -1,9 +1,9 @@
 -- The rows of the slots, and of the decision behind them.
-use Rattle.std.proofs.Common.{ℕ, suc, ◌≡◌, ◌<◌, ◌≤◌, ◌+◌, ◌*◌, ◌⊎◌, inl, inr, List, [], ◌∷◌, ◌++◌, length, Some, refl, sym, ◌∙◌, ap, arith}
+use Rattle.std.proofs.Common.{ℕ, suc, ◌≡◌, ◌<◌, ◌≤◌, ◌+◌, ◌*◌, ◌⊎◌, inl, inr, List, [], ◌∷◌, ◌++◌, length, Some, refl, sym, ◌∙◌, ap, arith, ◌-◌}
 use Rattle.std.specs.Prelude.{slice_get}
 use Rattle.std.proofs.lemmas.Bool.{cases_lt}
 use Rattle.fam_base.specs.declared.cmd.Cmd.{Cmd}
-use Rattle.fam_base.specs.declared.cmd.Cmd.TheVariants.{Fsck}
+use Rattle.fam_base.specs.declared.cmd.Cmd.TheVariants.{Fsck, Logplay, Mkdir, Creat, Cp, Verify, Read, Check}
 use Rattle.fam_base.specs.declared.entry.Params.{Params}
 use Rattle.fam_base.specs.declared.entry.Entry.{Entry}
 use Rattle.fam_format.specs.Layout.{slot_line}
@@ -25,7 +25,13 @@ use Rattle.fam_commands.proofs.Ties.{AreRead, SlotsKnown, TaskSlots, note_at}
 -- a command that isn't a check of the whole file system
 abbrev pub ReadsLog : Cmd → Type 0
 ReadsLog Fsck = ⊥
-ReadsLog cmd = Unit {0}
+ReadsLog Logplay = Unit {0}
+ReadsLog (Mkdir path attr) = Unit {0}
+ReadsLog (Creat path size attr stripe fill) = Unit {0}
+ReadsLog (Cp path attr stripe bytes) = Unit {0}
+ReadsLog (Verify path against) = Unit {0}
+ReadsLog (Read path offset count) = Unit {0}
+ReadsLog (Check listing) = Unit {0}
 
 -- what is known of the slots that it read
 pub read_of : (cmd : Cmd) (p : Params) (gate : ℕ) (entries : List Entry) (survey : Survey) (words : List ℕ) (i : ℕ) → ReadsLog cmd → SlotsKnown cmd p gate entries survey words i → AreRead p entries words i
@@ -50,8 +56,8 @@ below_gate t reads = below_gate_as t.cmd t reads
 
 -- The rows.
 
-slot_width : (cmd : Cmd) (words : List ℕ) (p : Params) (i : ℕ) → length (rows (slot_ops p i) (slot_note cmd words p i)) ≡ 73
-slot_width cmd words p i = length-rows (slot_ops p i) (slot_note cmd words p i)
+slot_width : (cmd : Cmd) (words : List ℕ) (p : Params) (i : ℕ) → length (rows (slot_ops p i) (slot_note cmd words p 0 i)) ≡ 73
+slot_width cmd words p i = length-rows (slot_ops p i) (slot_note cmd words p 0 i)
 
 module _ (t : Task) (words more : List ℕ) where
   -- the words with those to come, their entries, and the rows behind the slots
@@ -59,24 +65,24 @@ module _ (t : Task) (words more : List ℕ) where
   now = words ++ more
 
   abbrev entries : List Entry
-  entries = entries_in (fed_slots now t.params (fed_gate now))
+  entries = entries_in (fed_slots now t.params 0 (fed_gate now))
 
   abbrev behind : List Row
-  behind = record { op = Digest; note = decision_note t.cmd t.me now t.lines t.params entries } ∷ last_rows t.cmd t.me now t.params entries
+  behind = record { op = Digest; note = decision_note t.cmd t.me now t.lines t.params 0 entries } ∷ last_rows t.cmd t.me now t.params 0 entries
 
   -- row k behind the head, where the gate is known
-  body_at : (i k m : ℕ) → TaskSlots t words i → m ≡ 31 + k → slice_get (table t.cmd t.me t.lines now) m ≡ slice_get (slots_rows t.cmd now t.params (slots_read t) ++ behind) k
+  body_at : (i k m : ℕ) → TaskSlots t words i → m ≡ 31 + k → slice_get (table 0 t.cmd t.me t.lines now) m ≡ slice_get (slots_rows t.cmd now t.params 0 (slots_read t) ++ behind) k
   body_at i k m h is =
       let known = has_slots_stay t.cmd t.me t.lines t.params t.gate t.entries t.survey words more i h in
       behind_head t.cmd t.me t.lines now k m is
-      ∙ ap (λ (p : Params). slice_get (body_rows t.cmd t.me t.lines now p) k) (told_is t.cmd t.me t.lines t.params now known.gated.log.head)
-      ∙ ap (λ (n : ℕ). slice_get (slots_rows t.cmd now t.params n ++ behind) k) (ap (slots_of_cmd t.cmd t.params) known.gated.gate_is ∙ slots_are t)
+      ∙ ap (λ (p : Params). slice_get (body_rows 0 t.cmd t.me t.lines now p) k) (told_is t.cmd t.me t.lines t.params now known.gated.log.head)
+      ∙ ap (λ (n : ℕ). slice_get (slots_rows t.cmd now t.params 0 n ++ behind) k) (ap (slots_of_cmd t.cmd t.params) known.gated.gate_is ∙ slots_are t)
 
   -- row r of slot i
-  slot_at : (i r m : ℕ) → TaskSlots t words i → i < slots_read t → r < 73 → m ≡ 31 + 73 * i + r → slice_get (table t.cmd t.me t.lines now) m ≡ slice_get (rows (slot_ops t.params i) (slot_note t.cmd now t.params i)) r
+  slot_at : (i r m : ℕ) → TaskSlots t words i → i < slots_read t → r < 73 → m ≡ 31 + 73 * i + r → slice_get (table 0 t.cmd t.me t.lines now) m ≡ slice_get (rows (slot_ops t.params i) (slot_note t.cmd now t.params 0 i)) r
   slot_at i r m h below small is =
       body_at i (73 * i + r) m h (omega arith)
-      ∙ piece_at (λ i. rows (slot_ops t.params i) (slot_note t.cmd now t.params i)) 73 (slot_width t.cmd now t.params) (slots_read t) i r (73 * i + r) behind below small refl
+      ∙ piece_at (λ i. rows (slot_ops t.params i) (slot_note t.cmd now t.params 0 i)) 73 (slot_width t.cmd now t.params) (slots_read t - 0) i r (73 * i + r) behind (omega arith) small refl
 
   -- a line of a slot is dropped
   pub slot_drop_row : (i j made : ℕ) → TaskSlots t words i → i < slots_read t → j < 8 → made ≡ 31 + 73 * i + (9 * j + 0) → Here t words more made (op_at t (at.Drop (Slot i) j)) Quiet
@@ -105,20 +111,20 @@ module _ (t : Task) (words more : List ℕ) where
   pub decide_row : (made : ℕ) → TaskSlots t words (slots_read t) → made ≡ 31 + 73 * slots_read t → Here t words more made (op_at t at.Decide) (note_at at.Decide t now)
   decide_row made h is =
       body_at (slots_read t) (73 * slots_read t) made h is
-      ∙ after_pieces (λ i. rows (slot_ops t.params i) (slot_note t.cmd now t.params i)) 73 (slot_width t.cmd now t.params) (slots_read t) 0 (73 * slots_read t) behind (omega arith)
+      ∙ after_pieces (λ i. rows (slot_ops t.params i) (slot_note t.cmd now t.params 0 i)) 73 (slot_width t.cmd now t.params) (slots_read t - 0) 0 (73 * slots_read t) behind (omega arith)
 
   -- the entries that longer words tell
   pub entries_are : (i : ℕ) → ReadsLog t.cmd → i ≡ t.gate → TaskSlots t words i → entries ≡ t.entries
   entries_are i reads is h =
       let known = has_slots_stay t.cmd t.me t.lines t.params t.gate t.entries t.survey words more i h in
       let all = read_of t.cmd t.params t.gate t.entries t.survey now i reads known.known in
-      ap (λ (n : ℕ). entries_in (fed_slots now t.params n)) (known.gated.gate_is ∙ sym is) ∙ ap entries_in all.sound
+      ap (λ (n : ℕ). entries_in (fed_slots now t.params 0 n)) (known.gated.gate_is ∙ sym is) ∙ ap entries_in all.sound
 
   -- row k behind the decision
-  pub tail_at : (k m : ℕ) → ReadsLog t.cmd → TaskSlots t words t.gate → m ≡ 32 + 73 * t.gate + k → slice_get (table t.cmd t.me t.lines now) m ≡ slice_get (last_rows t.cmd t.me now t.params t.entries) k
+  pub tail_at : (k m : ℕ) → ReadsLog t.cmd → TaskSlots t words t.gate → m ≡ 32 + 73 * t.gate + k → slice_get (table 0 t.cmd t.me t.lines now) m ≡ slice_get (last_rows t.cmd t.me now t.params 0 t.entries) k
   tail_at k m reads h is =
       let count = below_gate t reads in
       body_at t.gate (73 * slots_read t + (1 + k)) m h (omega arith)
-      ∙ after_pieces (λ i. rows (slot_ops t.params i) (slot_note t.cmd now t.params i)) 73 (slot_width t.cmd now t.params) (slots_read t) (1 + k) (73 * slots_read t + (1 + k)) behind refl
+      ∙ after_pieces (λ i. rows (slot_ops t.params i) (slot_note t.cmd now t.params 0 i)) 73 (slot_width t.cmd now t.params) (slots_read t - 0) (1 + k) (73 * slots_read t + (1 + k)) behind (omega arith)
       ∙ ap (λ (i : ℕ). slice_get behind i) (let z : 1 + k ≡ suc k = omega arith in z)
-      ∙ ap (λ (es : List Entry). slice_get (last_rows t.cmd t.me now t.params es) k) (entries_are t.gate reads refl h)
+      ∙ ap (λ (es : List Entry). slice_get (last_rows t.cmd t.me now t.params 0 es) k) (entries_are t.gate reads refl h)

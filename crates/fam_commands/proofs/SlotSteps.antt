@@ -72,17 +72,17 @@ slot_line_step t words i j made h =
           (next_line (Slot i) t words j made h.known below h.long h.held h.made_is)
       | inr past ↦
           outcome_as t _ (Goes (record t { place = at.Check i })) Quiet Quiet words made (if_past (j + 1) 8 (Goes (record t { place = at.Drop (Slot i) (j + 1) })) _ past) refl
-          (goes_on t (record t { place = at.Check i }) words made refl refl refl (h.known.0, h.known.1, omega arith, h.held ∙ ap (λ (n : ℕ). drop n words) (let z : 26 + 64 * i + 0 ≡ 26 + 64 * i = omega arith in z), omega arith))
+          (goes_on t (record t { place = at.Check i }) words made refl refl refl refl (h.known.0, h.known.1, omega arith, h.held ∙ ap (λ (n : ℕ). drop n words) (let z : 26 + 64 * i + 0 ≡ 26 + 64 * i = omega arith in z), omega arith))
     ]
 
 -- The Digest behind them.
 
 -- where the command reads the slots below the gate alone
 module _ (t : Task) (words : List ℕ) (i made : ℕ) (h : TaskSlots t words i) (below : i < slots_read t) (long : length words ≡ 26 + 64 * i + 64) (at_made : made ≡ 31 + 73 * (i + 1)) (read : AreRead t.params t.entries words i) (again : (list : List Entry) → AreRead t.params list words (i + 1) → SlotsKnown t.cmd t.params t.gate list t.survey words (i + 1)) where
-  join_by : (e : Entry) (f : Option Reason) → join_fault t.params t.entries e ≡ f → fed_slots words t.params (i + 1) ≡ joined_or i f (Sound t.params (t.entries ++ e ∷ [])) → Outcome t (join_turn t i e f) (reading_note (joined_or i f (Sound t.params (t.entries ++ e ∷ [])))) words made
-  join_by e (Some reason) is told = ends t (reply.BadSlot i reason) _ words made refl at_made
+  join_by : (e : Entry) (f : Option Reason) → join_fault t.params t.entries e ≡ f → fed_slots words t.params 0 (i + 1) ≡ joined_or i f (Sound t.params (t.entries ++ e ∷ [])) → Outcome t (join_turn t i e f) (reading_note (joined_or i f (Sound t.params (t.entries ++ e ∷ [])))) words made
+  join_by e (Some reason) is told = ends t (reply.BadSlot i reason) _ words made refl (omega arith)
   join_by e None is told =
-      goes_on t (record t { entries = t.entries ++ e ∷ []; words = []; place = slot_or_decide t (i + 1) }) words made refl refl refl
+      goes_on t (record t { entries = t.entries ++ e ∷ []; words = []; place = slot_or_decide t (i + 1) }) words made refl refl refl refl
       (slot_or_decide_tie (record t { entries = t.entries ++ e ∷ []; words = [] }) (slot_or_decide t (i + 1)) words (i + 1) made
       (record {
         gated = h.gated;
@@ -94,30 +94,30 @@ module _ (t : Task) (words : List ℕ) (i made : ℕ) (h : TaskSlots t words i) 
         long = omega arith;
       }) (omega arith) refl (omega arith) at_made)
 
-  slot_by : (r : Result Entry Reason) → fed_slots words t.params (i + 1) ≡ slot_or t.params t.entries i r (λ e. Sound t.params (t.entries ++ e ∷ [])) → Outcome t (slot_turn t i r) (reading_note (slot_or t.params t.entries i r (λ e. Sound t.params (t.entries ++ e ∷ [])))) words made
-  slot_by (Err reason) told = ends t (reply.BadSlot i reason) _ words made refl at_made
+  slot_by : (r : Result Entry Reason) → fed_slots words t.params 0 (i + 1) ≡ slot_or t.params t.entries i r (λ e. Sound t.params (t.entries ++ e ∷ [])) → Outcome t (slot_turn t i r) (reading_note (slot_or t.params t.entries i r (λ e. Sound t.params (t.entries ++ e ∷ [])))) words made
+  slot_by (Err reason) told = ends t (reply.BadSlot i reason) _ words made refl (omega arith)
   slot_by (Ok e) told = join_by e (join_fault t.params t.entries e) refl told
 
   -- the words of a slot are looked at
-  pub slot_outcome : t.words ≡ drop (26 + 64 * i) words → Outcome t (slot_turn t i (entry_of t.params t.words i)) (reading_note (fed_slots words t.params (i + 1))) words made
+  pub slot_outcome : t.words ≡ drop (26 + 64 * i) words → Outcome t (slot_turn t i (entry_of t.params t.words i)) (reading_note (fed_slots words t.params 0 (i + 1))) words made
   slot_outcome held =
       let told = slots_more words t.params i t.entries read.sound in
-      let same : t.words ≡ slot_words (fed words) t.params i = held ∙ sym (slot_held words t.params i long) in
-      outcome_as t _ (slot_turn t i (slot_in (fed words) t.params i)) _ _ words made (ap (λ (w : List ℕ). slot_turn t i (entry_of t.params w i)) same) (ap reading_note told)
-      (slot_by (slot_in (fed words) t.params i) told)
+      let same : t.words ≡ slot_words (fed t.params 0 words) t.params i = held ∙ sym (slot_held words t.params i long) in
+      outcome_as t _ (slot_turn t i (slot_in (fed t.params 0 words) t.params i)) _ _ words made (ap (λ (w : List ℕ). slot_turn t i (entry_of t.params w i)) same) (ap reading_note told)
+      (slot_by (slot_in (fed t.params 0 words) t.params i) told)
 
-check_as : (cmd : Cmd) (t : Task) (words : List ℕ) (i made : ℕ) → TieAt (at.Check i) (record t { cmd = cmd }) words made → Outcome (record t { cmd = cmd }) (check_turn cmd (record t { cmd = cmd }) i) (slot_note cmd words t.params i) words (made + 1)
+check_as : (cmd : Cmd) (t : Task) (words : List ℕ) (i made : ℕ) → TieAt (at.Check i) (record t { cmd = cmd }) words made → Outcome (record t { cmd = cmd }) (check_turn cmd (record t { cmd = cmd }) i) (slot_note cmd words t.params 0 i) words (made + 1)
 check_as Fsck t words i made (h, below, long, held, is) =
-    let same : t.words ≡ slot_words (fed words) t.params i = held ∙ sym (slot_held words t.params i long) in
-    goes_on (record t { cmd = Fsck }) (record t { cmd = Fsck; survey = survey_slot t.params t.gate i t.words t.survey; words = []; place = slot_or_decide (record t { cmd = Fsck }) (i + 1) }) words (made + 1) refl refl refl
+    let same : t.words ≡ slot_words (fed t.params 0 words) t.params i = held ∙ sym (slot_held words t.params i long) in
+    goes_on (record t { cmd = Fsck }) (record t { cmd = Fsck; survey = survey_slot t.params t.gate i t.words t.survey; words = []; place = slot_or_decide (record t { cmd = Fsck }) (i + 1) }) words (made + 1) refl refl refl refl
     (slot_or_decide_tie (record t { cmd = Fsck; survey = survey_slot t.params t.gate i t.words t.survey; words = [] }) (slot_or_decide (record t { cmd = Fsck }) (i + 1)) words (i + 1) (made + 1)
     (record {
       gated = h.gated;
-      known = ap (λ (w : List ℕ). survey_slot t.params t.gate i w t.survey) same ∙ ap (survey_slot t.params t.gate i (slot_words (fed words) t.params i)) h.known ∙ sym (survey_more words t.params t.gate i);
+      known = ap (λ (w : List ℕ). survey_slot t.params t.gate i w t.survey) same ∙ ap (survey_slot t.params t.gate i (slot_words (fed t.params 0 words) t.params i)) h.known ∙ sym (survey_more words t.params t.gate i);
       long = omega arith;
     }) (omega arith) refl (omega arith) (omega arith))
 check_as cmd t words i made (h, below, long, held, is) = slot_outcome (record t { cmd = cmd }) words i (made + 1) h below long (omega arith) h.known (λ list read. read) held
 
 -- so for every command
-pub check_step : (t : Task) (words : List ℕ) (i made : ℕ) → TieAt (at.Check i) t words made → Outcome t (check_turn t.cmd t i) (slot_note t.cmd words t.params i) words (made + 1)
+pub check_step : (t : Task) (words : List ℕ) (i made : ℕ) → TieAt (at.Check i) t words made → Outcome t (check_turn t.cmd t i) (slot_note t.cmd words t.params 0 i) words (made + 1)
 check_step t words i made h = check_as t.cmd t words i made h

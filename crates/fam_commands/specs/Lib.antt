@@ -5,3 +5,4 @@ pub mod Stands
 pub mod Counts
 pub mod Solo
 pub mod Appends
+pub mod SoloOps

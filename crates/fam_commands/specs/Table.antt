@@ -14,6 +14,7 @@ use Rattle.fam_base.specs.declared.entry.Kind.TheVariants as kind
 use Rattle.fam_format.specs.declared.faults.SuperFault.{SuperFault}
 use Rattle.fam_format.specs.declared.faults.LogFault.{LogFault}
 use Rattle.fam_format.specs.Layout.{geometry, log_line, gate_line, slot_line}
+use Rattle.fam_format.specs.Line.{line_bytes, line_words}
 use Rattle.fam_format.specs.Super.{magic_fault}
 use Rattle.fam_format.specs.Log.{log_fault, gate_fault}
 use Rattle.fam_format.specs.Slot.{spelling}
@@ -22,7 +23,6 @@ use Rattle.fam_rules.specs.declared.answers.Refused.{Refused}
 use Rattle.fam_rules.specs.Asks.{File, file_at, ask}
 use Rattle.fam_rules.specs.Content.{byte_in, content_line}
 use Rattle.fam_rules.specs.Decide.{Wish, wish_of, master_refusal, decide}
-use Rattle.fam_rules.specs.Place.{line_bytes}
 use Rattle.fam_rules.specs.Reply as reply
 use Rattle.fam_rules.specs.Reply.{Reply}
 use Rattle.fam_rules.specs.Reports.{report_of}
@@ -55,7 +55,7 @@ rows (op ∷ next ∷ more) note = record { op = op; note = Quiet } ∷ rows (ne
 
 -- the lines of a slot, and then the Digest
 abbrev pub slot_ops : Params → ℕ → List Op
-slot_ops p i = flat_map (λ j. load_ops (slot_line p i j) 8) (range_with_len 0 (geometry p).lines) ++ Digest ∷ []
+slot_ops p i = flat_map (λ j. load_ops (slot_line p i j) line_words) (range_with_len 0 (geometry p).lines) ++ Digest ∷ []
 
 -- the lines of a new file: each is stored and sent
 abbrev pub data_ops : Entry → Content → List Op
@@ -75,31 +75,43 @@ append_ops p seq e fill =
 
 -- how many words are loaded before the first slot: the magic, lines 1 and 2, the header and the gate
 abbrev pub head_words : ℕ
-head_words = 26
+head_words = 1 + 3 * line_words + 1
 
--- the words of one slot
-abbrev pub slot_words : ℕ
-slot_words = 64
+-- how many words are loaded before slot n, of a command that reads slots from `first` on
+abbrev pub words_before : Params → ℕ → ℕ → ℕ
+words_before p first n = head_words + (geometry p).words * (n - first)
 
--- the loaded words as lines of memory: what a reading may look at
-abbrev pub fed : List ℕ → Lines
-fed words line =
+-- the loaded words as lines of memory: superblock, header and gate
+abbrev pub fed_head : List ℕ → Lines
+fed_head words line =
     if line == 0 then slice_range words 0 1
-    else if line == 1 then slice_range words 1 9
-    else if line == 2 then slice_range words 9 17
-    else if line == log_line then slice_range words 17 25
-    else if line == gate_line then slice_range words 25 26
-    else slice_range words (head_words + 8 * (line - (gate_line + 7))) (head_words + 8 * (line - (gate_line + 7)) + 8)
+    else if line == 1 then slice_range words 1 (1 + line_words)
+    else if line == 2 then slice_range words (1 + line_words) (1 + 2 * line_words)
+    else if line == log_line then slice_range words (1 + 2 * line_words) (1 + 3 * line_words)
+    else if line == gate_line then slice_range words (1 + 3 * line_words) head_words
+    else []
 
--- what they say of superblock, gate and the first so many slots
+-- where the words of a line begin, of the slots from `first` on
+abbrev pub fed_from : Params → ℕ → ℕ → ℕ
+fed_from p first line = head_words + line_words * (line - slot_line p first 0)
+
+-- these, and the slots from `first` on: what a reading may look at
+abbrev pub fed : Params → ℕ → List ℕ → Lines
+fed p first words line =
+    if nat_lt line (slot_line p first 0) then fed_head words line
+    else slice_range words (fed_from p first line) (fed_from p first line + line_words)
+
+-- what they say of the superblock
 abbrev pub fed_super : List ℕ → ℕ → Result Params SuperFault
-fed_super words lines = super_in (fed words) (line_bytes * lines)
+fed_super words lines = super_in (fed_head words) (line_bytes * lines)
 
+-- of the gate
 abbrev pub fed_gate : List ℕ → ℕ
-fed_gate words = gate_in (fed words)
+fed_gate words = gate_in (fed_head words)
 
-abbrev pub fed_slots : List ℕ → Params → ℕ → Reading
-fed_slots words p n = read_slots (fed words) p 0 n []
+-- and of the slots from `first` on, up to slot n
+abbrev pub fed_slots : List ℕ → Params → ℕ → ℕ → Reading
+fed_slots words p first n = read_slots (fed p first words) p first (n - first) []
 
 -- the entries of a sound reading
 abbrev pub entries_in : Reading → List Entry
@@ -113,14 +125,15 @@ abbrev pub fed_file : List ℕ → ℕ → Entry → File
 fed_file words start e = record { entry = e; bytes = map (λ o. byte_in words (o - start)) (range_with_len 0 e.size) }
 
 -- the entries with these bytes
-abbrev pub fed_files : List ℕ → Cmd → List Entry → List File
-fed_files words cmd entries = map (fed_file (drop (head_words + slot_words * length entries) words) (line_bytes * first_line cmd)) entries
+abbrev pub fed_files : List ℕ → Params → ℕ → Cmd → List Entry → List File
+fed_files words p first cmd entries =
+    map (fed_file (drop (words_before p first (length entries)) words) (line_bytes * first_line cmd)) entries
 
 -- What is noted.
 
 -- a reply on a damaged image: a check of the whole file system reports
 abbrev pub fault_reply : Cmd → List ℕ → ℕ → Reply → Reply
-fault_reply Fsck words lines other = reply.Reports (report_of (fed words) (line_bytes * lines))
+fault_reply Fsck words lines other = reply.Reports (report_of (fed_head words) (line_bytes * lines))
 fault_reply Logplay words lines other = other
 fault_reply (Mkdir path attr) words lines other = other
 fault_reply (Creat path size attr stripe fill) words lines other = other
@@ -171,15 +184,15 @@ reading_note (BadSlot i reason) = Answer (reply.BadSlot i reason)
 reading_note (Sound p entries) = Quiet
 
 -- with the Digest of slot i: a check of the whole file system goes on
-abbrev pub slot_note : Cmd → List ℕ → Params → ℕ → Note
-slot_note Fsck words p i = Quiet
-slot_note Logplay words p i = reading_note (fed_slots words p (i + 1))
-slot_note (Mkdir path attr) words p i = reading_note (fed_slots words p (i + 1))
-slot_note (Creat path size attr stripe fill) words p i = reading_note (fed_slots words p (i + 1))
-slot_note (Cp path attr stripe bytes) words p i = reading_note (fed_slots words p (i + 1))
-slot_note (Verify path against) words p i = reading_note (fed_slots words p (i + 1))
-slot_note (Read path offset count) words p i = reading_note (fed_slots words p (i + 1))
-slot_note (Check listing) words p i = reading_note (fed_slots words p (i + 1))
+abbrev pub slot_note : Cmd → List ℕ → Params → ℕ → ℕ → Note
+slot_note Fsck words p first i = Quiet
+slot_note Logplay words p first i = reading_note (fed_slots words p first (i + 1))
+slot_note (Mkdir path attr) words p first i = reading_note (fed_slots words p first (i + 1))
+slot_note (Creat path size attr stripe fill) words p first i = reading_note (fed_slots words p first (i + 1))
+slot_note (Cp path attr stripe bytes) words p first i = reading_note (fed_slots words p first (i + 1))
+slot_note (Verify path against) words p first i = reading_note (fed_slots words p first (i + 1))
+slot_note (Read path offset count) words p first i = reading_note (fed_slots words p first (i + 1))
+slot_note (Check listing) words p first i = reading_note (fed_slots words p first (i + 1))
 
 -- an answer, where there is one
 abbrev pub answer_or : Option Reply → Note
@@ -230,21 +243,22 @@ wanted_file (Check listing) files = None
 wanted_file Fsck files = None
 
 -- of a command that asks: quiet where lines of a file are to be read, or the answer
-abbrev pub asked_note : Cmd → List ℕ → List Entry → Note
-asked_note cmd words entries =
-    if reads_file cmd (wanted_file cmd (fed_files words cmd entries)) then Quiet else answer_or (ask (fed_files words cmd entries) cmd)
+abbrev pub asked_note : Cmd → List ℕ → Params → ℕ → List Entry → Note
+asked_note cmd words p first entries =
+    if reads_file cmd (wanted_file cmd (fed_files words p first cmd entries)) then Quiet
+    else answer_or (ask (fed_files words p first cmd entries) cmd)
 
 -- with the Digest behind the slots
-abbrev pub decision_note : Cmd → List ℕ → List ℕ → ℕ → Params → List Entry → Note
-decision_note Fsck me words lines p entries = Answer (reply.Reports (report_of (fed words) (line_bytes * lines)))
-decision_note (Mkdir path attr) me words lines p entries = append_note (length entries) (decide p me entries (Mkdir path attr))
-decision_note (Creat path size attr stripe fill) me words lines p entries =
+abbrev pub decision_note : Cmd → List ℕ → List ℕ → ℕ → Params → ℕ → List Entry → Note
+decision_note Fsck me words lines p first entries = Answer (reply.Reports (report_of (fed p first words) (line_bytes * lines)))
+decision_note (Mkdir path attr) me words lines p first entries = append_note (length entries) (decide p me entries (Mkdir path attr))
+decision_note (Creat path size attr stripe fill) me words lines p first entries =
     append_note (length entries) (decide p me entries (Creat path size attr stripe fill))
-decision_note (Cp path attr stripe bytes) me words lines p entries = append_note (length entries) (decide p me entries (Cp path attr stripe bytes))
-decision_note Logplay me words lines p entries = asked_note Logplay words entries
-decision_note (Verify path against) me words lines p entries = asked_note (Verify path against) words entries
-decision_note (Read path offset count) me words lines p entries = asked_note (Read path offset count) words entries
-decision_note (Check listing) me words lines p entries = asked_note (Check listing) words entries
+decision_note (Cp path attr stripe bytes) me words lines p first entries = append_note (length entries) (decide p me entries (Cp path attr stripe bytes))
+decision_note Logplay me words lines p first entries = asked_note Logplay words p first entries
+decision_note (Verify path against) me words lines p first entries = asked_note (Verify path against) words p first entries
+decision_note (Read path offset count) me words lines p first entries = asked_note (Read path offset count) words p first entries
+decision_note (Check listing) me words lines p first entries = asked_note (Check listing) words p first entries
 
 -- an answer, where it is a difference in the first so many bytes
 abbrev pub early_reply_note : ℕ → Reply → Note
@@ -268,26 +282,27 @@ early_note end None = Quiet
 early_note end (Some given) = early_reply_note end given
 
 -- with the last load of line j of the file
-abbrev pub line_note : Cmd → List ℕ → List Entry → ℕ → ℕ → Note
-line_note cmd words entries count j =
-    if nat_lt (j + 1) count then early_note (line_bytes * (j + 1)) (ask (fed_files words cmd entries) cmd)
-    else answer_or (ask (fed_files words cmd entries) cmd)
+abbrev pub line_note : Cmd → List ℕ → Params → ℕ → List Entry → ℕ → ℕ → Note
+line_note cmd words p first entries count j =
+    if nat_lt (j + 1) count then early_note (line_bytes * (j + 1)) (ask (fed_files words p first cmd entries) cmd)
+    else answer_or (ask (fed_files words p first cmd entries) cmd)
 
 -- The table.
 
 -- superblock, header and gate
 abbrev pub head_rows : Cmd → List ℕ → ℕ → List ℕ → Params → List Row
 head_rows cmd me lines words p =
-    rows (load_ops 0 1) (magic_note cmd words lines (magic_fault (slice_index words 0))) ++ rows (load_ops 1 8 ++ load_ops 2 8) (super_note cmd me words lines (fed_super words lines)) ++ rows (load_ops log_line 8) (header_note cmd words lines (log_fault (fed words log_line) p)) ++ rows (Invalidate (line_no gate_line) ∷ []) Mark ++ rows (Load (line_no gate_line) 0 ∷ []) (gate_note cmd words lines (gate_fault (fed_gate words) p))
+    rows (load_ops 0 1) (magic_note cmd words lines (magic_fault (slice_index words 0))) ++ rows (load_ops 1 line_words ++ load_ops 2 line_words) (super_note cmd me words lines (fed_super words lines)) ++ rows (load_ops log_line line_words) (header_note cmd words lines (log_fault (fed_head words log_line) p)) ++ rows (Invalidate (line_no gate_line) ∷ []) Mark ++ rows (Load (line_no gate_line) 0 ∷ []) (gate_note cmd words lines (gate_fault (fed_gate words) p))
 
--- the slots
-abbrev pub slots_rows : Cmd → List ℕ → Params → ℕ → List Row
-slots_rows cmd words p n = flat_map (λ i. rows (slot_ops p i) (slot_note cmd words p i)) (range_with_len 0 n)
+-- the slots from `first` on, up to slot n
+abbrev pub slots_rows : Cmd → List ℕ → Params → ℕ → ℕ → List Row
+slots_rows cmd words p first n =
+    flat_map (λ i. rows (slot_ops p i) (slot_note cmd words p first i)) (range_with_len first (n - first))
 
 -- the lines of a file that hold wanted bytes
-abbrev pub file_rows : Cmd → List ℕ → List Entry → Entry → List Row
-file_rows cmd words entries e =
-    flat_map (λ j. rows (load_ops (file_line e (first_line cmd + j)) 8) (line_note cmd words entries (wanted_lines cmd e.size) j)) (range_with_len 0 (wanted_lines cmd e.size))
+abbrev pub file_rows : Cmd → List ℕ → Params → ℕ → List Entry → Entry → List Row
+file_rows cmd words p first entries e =
+    flat_map (λ j. rows (load_ops (file_line e (first_line cmd + j)) line_words) (line_note cmd words p first entries (wanted_lines cmd e.size) j)) (range_with_len 0 (wanted_lines cmd e.size))
 
 -- an append
 abbrev pub append_rows : Cmd → Params → ℕ → Option (Result Entry Refused) → List Row
@@ -296,29 +311,29 @@ append_rows cmd p seq (Some (Err refused)) = []
 append_rows cmd p seq (Some (Ok e)) = rows (append_ops p seq e (content_of cmd)) (Answer (reply.Appended seq))
 
 -- the file that is read
-abbrev pub wanted_rows : Cmd → List ℕ → List Entry → Option File → List Row
-wanted_rows cmd words entries None = []
-wanted_rows cmd words entries (Some f) = file_rows cmd words entries f.entry
+abbrev pub wanted_rows : Cmd → List ℕ → Params → ℕ → List Entry → Option File → List Row
+wanted_rows cmd words p first entries None = []
+wanted_rows cmd words p first entries (Some f) = file_rows cmd words p first entries f.entry
 
 -- of a command that asks: the file, where lines of it are to be read
-abbrev pub asked_rows : Cmd → List ℕ → List Entry → List Row
-asked_rows cmd words entries =
-    if reads_file cmd (wanted_file cmd (fed_files words cmd entries)) then wanted_rows cmd words entries (wanted_file cmd (fed_files words cmd entries)) else []
+abbrev pub asked_rows : Cmd → List ℕ → Params → ℕ → List Entry → List Row
+asked_rows cmd words p first entries =
+    if reads_file cmd (wanted_file cmd (fed_files words p first cmd entries)) then wanted_rows cmd words p first entries (wanted_file cmd (fed_files words p first cmd entries)) else []
 
 -- what comes behind the decision
-abbrev pub last_rows : Cmd → List ℕ → List ℕ → Params → List Entry → List Row
-last_rows (Mkdir path attr) me words p entries = append_rows (Mkdir path attr) p (length entries) (decide p me entries (Mkdir path attr))
-last_rows (Creat path size attr stripe fill) me words p entries =
+abbrev pub last_rows : Cmd → List ℕ → List ℕ → Params → ℕ → List Entry → List Row
+last_rows (Mkdir path attr) me words p first entries = append_rows (Mkdir path attr) p (length entries) (decide p me entries (Mkdir path attr))
+last_rows (Creat path size attr stripe fill) me words p first entries =
     append_rows (Creat path size attr stripe fill) p (length entries) (decide p me entries (Creat path size attr stripe fill))
-last_rows (Cp path attr stripe bytes) me words p entries =
+last_rows (Cp path attr stripe bytes) me words p first entries =
     append_rows (Cp path attr stripe bytes) p (length entries) (decide p me entries (Cp path attr stripe bytes))
-last_rows Logplay me words p entries = asked_rows Logplay words entries
-last_rows (Verify path against) me words p entries = asked_rows (Verify path against) words entries
-last_rows (Read path offset count) me words p entries = asked_rows (Read path offset count) words entries
-last_rows (Check listing) me words p entries = asked_rows (Check listing) words entries
-last_rows Fsck me words p entries = []
+last_rows Logplay me words p first entries = asked_rows Logplay words p first entries
+last_rows (Verify path against) me words p first entries = asked_rows (Verify path against) words p first entries
+last_rows (Read path offset count) me words p first entries = asked_rows (Read path offset count) words p first entries
+last_rows (Check listing) me words p first entries = asked_rows (Check listing) words p first entries
+last_rows Fsck me words p first entries = []
 
--- how many slots a command reads
+-- the number behind the last slot that a command reads
 abbrev pub slots_of_cmd : Cmd → Params → ℕ → ℕ
 slots_of_cmd Fsck p gate = p.slots
 slots_of_cmd Logplay p gate = gate
@@ -330,18 +345,18 @@ slots_of_cmd (Read path offset count) p gate = gate
 slots_of_cmd (Check listing) p gate = gate
 
 -- the rows behind the gate, by the parameters
-abbrev pub body_rows : Cmd → List ℕ → ℕ → List ℕ → Params → List Row
-body_rows cmd me lines words p =
-    let entries = entries_in (fed_slots words p (fed_gate words)) in
-    slots_rows cmd words p (slots_of_cmd cmd p (fed_gate words)) ++ record { op = Digest; note = decision_note cmd me words lines p entries } ∷ last_rows cmd me words p entries
+abbrev pub body_rows : ℕ → Cmd → List ℕ → ℕ → List ℕ → Params → List Row
+body_rows first cmd me lines words p =
+    let entries = entries_in (fed_slots words p first (fed_gate words)) in
+    slots_rows cmd words p first (slots_of_cmd cmd p (fed_gate words)) ++ record { op = Digest; note = decision_note cmd me words lines p first entries } ∷ last_rows cmd me words p first entries
 
 -- the parameters that the words tell, or none
 abbrev pub params_or : Params → Result Params SuperFault → Params
 params_or default (Ok p) = p
 params_or default (Err fault) = default
 
--- the whole table of a command, after these words
-abbrev pub table : Cmd → List ℕ → ℕ → List ℕ → List Row
-table cmd me lines words =
+-- the whole table of a command that reads slots from `first` on, after these words
+abbrev pub table : ℕ → Cmd → List ℕ → ℕ → List ℕ → List Row
+table first cmd me lines words =
     let p = params_or no_params (fed_super words lines) in
-    head_rows cmd me lines words p ++ body_rows cmd me lines words p
+    head_rows cmd me lines words p ++ body_rows first cmd me lines words p

@@ -6,10 +6,10 @@ use Rattle.fam_base.specs.declared.cmd.Cmd.TheVariants.{Logplay, Mkdir, Creat, C
 use Rattle.fam_base.specs.declared.entry.Params.{Params}
 use Rattle.fam_base.specs.declared.entry.Entry.{Entry}
 use Rattle.fam_format.specs.Layout.{geometry, log_line, gate_line, slot_line}
+use Rattle.fam_format.specs.Line.{line_bytes, line_words}
 use Rattle.fam_format.specs.Words.{uuid_bytes}
 use Rattle.fam_rules.specs.Content.{content_line}
 pub use Rattle.fam_rules.specs.Alone.{content_of}
-use Rattle.fam_rules.specs.Place.{line_bytes}
 use Rattle.fam_rules.specs.Reports.{Survey, no_survey}
 use Rattle.fam_rules.specs.Written.{lines_of, file_line}
 use Rattle.fam_machine.specs.declared.op.Op.{Op}
@@ -29,6 +29,8 @@ pub record Task : Type 0 where
   pub place : Place
   -- what the superblock says, once it has been read
   pub params : Params
+  -- the first slot that it reads
+  pub first_slot : ℕ
   -- the gate, once it has been loaded
   pub gate : ℕ
   -- the entries of the slots that were read, in order
@@ -45,6 +47,10 @@ abbrev pub no_params : Params
 no_params =
     record { log_length = 0; slots = 0; unit = 0; device = 0; fs = replicate uuid_bytes 0; master = replicate uuid_bytes 0 }
 
+-- the slot from which on a command reads the log: a host keeps nothing of what earlier commands read
+abbrev pub start_slot : ℕ
+start_slot = 0
+
 -- a command before its first operation
 abbrev pub starting : Cmd → List ℕ → ℕ → Task
 starting cmd me lines = record {
@@ -53,6 +59,7 @@ starting cmd me lines = record {
   lines = lines;
   place = at.DropMagic;
   params = no_params;
+  first_slot = start_slot;
   gate = 0;
   entries = [];
   words = [];
@@ -134,7 +141,7 @@ op_at t (at.Check i) = Digest
 op_at t at.Decide = Digest
 op_at t (at.StoreData j k) = Store (line_no (line_of t.entry j)) k (slice_index (data_words t j) k)
 op_at t (at.SendData j) = Invalidate (line_no (line_of t.entry j))
-op_at t (at.StoreSlot j k) = Store (line_no (slot_line t.params t.gate j)) k (slice_index t.words (8 * j + k))
+op_at t (at.StoreSlot j k) = Store (line_no (slot_line t.params t.gate j)) k (slice_index t.words (line_words * j + k))
 op_at t (at.SendSlot j) = WriteBack (line_no (slot_line t.params t.gate j))
 op_at t at.StoreGate = Store (line_no gate_line) 0 (t.gate + 1)
 op_at t at.SendGate = WriteBack (line_no gate_line)

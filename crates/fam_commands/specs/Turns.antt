@@ -14,6 +14,7 @@ use Rattle.fam_format.specs.declared.faults.SuperFault.{SuperFault}
 use Rattle.fam_format.specs.declared.faults.LogFault.{LogFault}
 use Rattle.fam_format.specs.declared.faults.Reason.{Reason}
 use Rattle.fam_format.specs.Layout.{geometry}
+use Rattle.fam_format.specs.Line.{line_bytes, last_word}
 use Rattle.fam_format.specs.Super.{magic_fault, super_body_of}
 use Rattle.fam_format.specs.Log.{log_fault, gate_fault}
 use Rattle.fam_format.specs.Slot.{spelling, entry_of}
@@ -22,7 +23,6 @@ use Rattle.fam_rules.specs.declared.answers.Refused.{Refused}
 use Rattle.fam_rules.specs.Checks.{checked}
 use Rattle.fam_rules.specs.Content.{byte_in, content_byte}
 use Rattle.fam_rules.specs.Decide.{Wish, wish_of, master_refusal, decide_wish}
-use Rattle.fam_rules.specs.Place.{line_bytes}
 use Rattle.fam_rules.specs.Reply.{Reply, Appended, NotAppended, Played, Same, Differs, Length, Bytes, NotFound, IsDirectory, Checks, Reports, NoSuperblock, BadHeader, BadSlot}
 use Rattle.fam_rules.specs.Reports.{survey_slot, report_by, super_report, log_report}
 use Rattle.fam_rules.specs.Written.{lines_of}
@@ -95,7 +95,7 @@ header_turn t None = Goes (record t { place = at.DropGate; words = [] })
 
 -- Gate and slots.
 
--- how many slots the command reads: those below the gate, or all
+-- the number behind the last slot that the command reads: the gate's, or that of all slots
 abbrev pub slots_read : Task → ℕ
 slots_read t = slots_by t.cmd
   where
@@ -118,9 +118,9 @@ abbrev pub finds_or_goes : Option Wish → ℕ → Task → Turn
 finds_or_goes None n t = Goes t
 finds_or_goes (Some w) n t = Finds n t
 
--- the gate that was loaded
+-- the gate that was loaded: the first slot comes next, where the command reads one
 abbrev pub with_gate : Task → ℕ → Task
-with_gate t n = record t { gate = n; place = slot_or_decide (record t { gate = n }) 0 }
+with_gate t n = record t { gate = n; place = slot_or_decide (record t { gate = n }) t.first_slot }
 
 -- the gate is within the slots, or the answer
 abbrev pub gate_turn : Task → ℕ → Option LogFault → Turn
@@ -254,13 +254,13 @@ with_word t word = record t { words = t.words ++ word ∷ [] }
 
 -- word k of line j of a part was loaded
 abbrev pub word_turn : Task → Part → ℕ → ℕ → Turn
-word_turn t part j k = if nat_lt k 7 then Goes (record t { place = at.Word part j (k + 1) }) else line_turn t part j
+word_turn t part j k = if nat_lt k last_word then Goes (record t { place = at.Word part j (k + 1) }) else line_turn t part j
 
 -- Lines that are written.
 
 -- the next word of the line, or its sending
 abbrev pub store_or_send : ℕ → Place → Place → Place
-store_or_send k store send = if nat_lt k 7 then store else send
+store_or_send k store send = if nat_lt k last_word then store else send
 
 -- the next line of the file, or the slot's first one
 abbrev pub data_or_slot : Task → ℕ → Place

@@ -7,7 +7,7 @@ pub enum Part {
     Superblock,
     /// Line 0 of the log.
     Header,
-    /// The eight lines of a slot.
+    /// The lines of a slot.
     Slot(u64),
     /// The lines of a file, or those of them that hold a wanted byte.
     File,

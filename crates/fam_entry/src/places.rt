@@ -1,7 +1,6 @@
 //! Where a slot and the log's header have their words, and the numbers that stand there for kinds and limits.
 
-/// The words of a slot, its checksum included.
-pub const SLOT_WORDS: usize = 64;
+pub use fam_format::SLOT_WORDS;
 
 /// The slot's own number.
 pub(crate) const SEQ_WORD: usize = 0;

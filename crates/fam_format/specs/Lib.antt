@@ -1,3 +1,4 @@
+pub mod Line
 pub mod Layout
 pub mod Words
 pub mod Stop

@@ -9,6 +9,7 @@ use Rattle.fam_format.specs.declared.faults.SuperFault.{SuperFault}
 use Rattle.fam_format.specs.declared.faults.LogFault.{LogFault}
 use Rattle.fam_format.specs.declared.faults.Reason.{Reason}
 use Rattle.fam_format.specs.Layout.{geometry, log_line, gate_line, slot_line}
+use Rattle.fam_format.specs.Line.{line_bytes, line_words}
 use Rattle.fam_format.specs.Super.{super_of}
 use Rattle.fam_format.specs.Log.{log_fault, gate_fault}
 use Rattle.fam_format.specs.Slot.{entry_of}
@@ -31,7 +32,7 @@ super_in line have = super_of (slice_index (line 0) 0) (line 1 ++ line 2) have
 
 -- word k of slot i
 abbrev pub slot_word : Lines → Params → ℕ → ℕ → ℕ
-slot_word line p i k = slice_index (line (slot_line p i (k / 8))) (k % 8)
+slot_word line p i k = slice_index (line (slot_line p i (k / line_words))) (k % line_words)
 
 -- the words of slot i
 unfoldable pub slot_words : Lines → Params → ℕ → List ℕ
@@ -81,4 +82,4 @@ reading_of line have = read_super line (super_in line have)
 
 -- of an image of at least 32,770 lines
 abbrev pub reading : Image → Reading
-reading image = reading_of (line_at image) (64 * length image)
+reading image = reading_of (line_at image) (line_bytes * length image)

@@ -16,7 +16,8 @@ pub use entry_laws::{
 };
 pub use faults::{LogFault, LogField, Reason, SuperFault, SuperField};
 pub use layout::{
-    GATE_LINE, LEAST_LINES, LINE_BYTES, LOG_LINE, LOG_OFFSET, SLOT_BYTES, SLOT_LINES,
+    GATE_LINE, LAST_WORD, LEAST_LINES, LINE_BYTES, LINE_WORDS, LOG_LINE, LOG_OFFSET, SLOT_BYTES,
+    SLOT_LINES, SLOT_WORDS,
 };
 pub use reading_laws::{
     a_sound_image_holds_its_entries, an_entry_joins, one_entry_more, the_first_bad_slot_is_named,

@@ -14,10 +14,11 @@ use Rattle.fam_format.specs.Reading as read
 use Rattle.fam_format.specs.Reading.{Lines, Reading, gate_in, joined_or, read_below, read_log, read_slots, read_super, reading, reading_of, slot_in, slot_or, super_in}
 use Rattle.fam_format.specs.Tree.{join_fault}
 use Rattle.fam_rules.specs.Asks.{File}
-use Rattle.fam_rules.specs.Reply.{Reply, Appended, NotAppended, Played, Same, Differs, Length, Bytes, NotFound, IsDirectory, Checks, Reports, NoSuperblock, BadHeader, BadSlot}
+use Rattle.fam_rules.specs.Reply.{Reply}
 use Rattle.fam_journal.specs.Laws.{IsOwn}
+use Rattle.fam_journal.proofs.ReplyCases.{replied_by}
 use Rattle.fam_journal.specs.Notes.{Answer, Replied, MediaFault, Note, Host, Made, Start, Mark, Found, Writes, Answered, Stop, Halt, Refused}
-use Rattle.fam_journal.specs.Past.{Damage, FewLines, State, Bad, Sound, Past, acknowledges, ended, finds, first_past, first_state, past_after, past_behind, past_of, pends, replied, shows, shows_count, reported_count, state_after, state_read, with_pending}
+use Rattle.fam_journal.specs.Past.{Damage, FewLines, State, Bad, Sound, Past, acknowledges, ended, finds, first_past, first_state, past_after, past_behind, past_of, pends, replied, shows, state_after, state_read, with_pending}
 
 -- no sound state is bad
 no_bad : {p : Params} {history : List File} {pending : Option File} {i : Image} {d : Damage} {g : ℕ} → Sound p history pending ≡ Bad i d g → ⊥
@@ -48,25 +49,8 @@ module _ (i : Image) (d : Damage) (g : ℕ) where
   was_pending f (Bad image own gate) e = e
   was_pending f (Sound p history pending) e = absurd (no_bad e)
 
-  was_counted : (m : Option ℕ) (s : State) → shows_count m s ≡ Bad i d g → s ≡ Bad i d g
-  was_counted None s e = e
-  was_counted (Some m) s e = was_shown m s e
-
   was_replied : (given : Reply) (s : State) → replied given s ≡ Bad i d g → s ≡ Bad i d g
-  was_replied (Appended seq) s e = was_acknowledged seq s e
-  was_replied (NotAppended why) s e = e
-  was_replied (Played m tree) s e = was_shown m s e
-  was_replied (Same m) s e = was_shown m s e
-  was_replied (Differs m offset found wanted) s e = was_shown m s e
-  was_replied (Length m size wanted) s e = was_shown m s e
-  was_replied (Bytes m bytes) s e = was_shown m s e
-  was_replied (NotFound m) s e = was_shown m s e
-  was_replied (IsDirectory m) s e = was_shown m s e
-  was_replied (Checks m checked) s e = was_shown m s e
-  was_replied (Reports report) s e = was_counted (reported_count report.log) s e
-  was_replied (NoSuperblock fault) s e = e
-  was_replied (BadHeader fault) s e = e
-  was_replied (BadSlot seq reason) s e = e
+  was_replied = replied_by (λ f. (s : State) → f s ≡ Bad i d g → s ≡ Bad i d g) (λ s e. e) was_shown was_acknowledged
 
   was_ended : (answer : Answer) (s : State) → ended answer s ≡ Bad i d g → s ≡ Bad i d g
   was_ended (Replied given) s e = was_replied given s e

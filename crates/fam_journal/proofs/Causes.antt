@@ -1,6 +1,6 @@
 -- Statuses have their causes: which counts rose.
 use Rattle.std.proofs.Common.{◌≡◌, ◌⊎◌, inl, inr, ℕ, ◌≤◌, Bool, true, false, List, [], ◌∷◌, ◌++◌, Option, Some, None, refl, sym, ◌∙◌, subst, arith}
-use Rattle.std.specs.Prelude.{if◌then◌else◌, option_map}
+use Rattle.std.specs.Prelude.{⊤, if◌then◌else◌, option_map}
 use Rattle.fam_media.specs.Outside.{IsPartlyPut, with_piece}
 use Rattle.fam_rules.specs.Reply as reply
 use Rattle.fam_rules.specs.Reply.{Reply}
@@ -14,74 +14,123 @@ use Rattle.fam_journal.specs.Follows.{Faulted, Short, SourceEnd}
 use Rattle.fam_journal.specs.Notes.{Answer, Replied, MediaFault, Note, Host, Made, Start, Mark, Found, Writes, Answered, Stop, Halt, Refused}
 use Rattle.fam_journal.specs.Programs.{BadLine, Command, CommandRuns, Early, EndsEarly, Grammar, IsEarly, LongScript, Makes, MakesParents, NoCommand, NoRoom, NoScript, OfScript, OneShot, Prints, Runs, Script, ScriptCaused, ScriptFails, Single, Storm, Storms, TopEnds, done_status, early_status, script_status, shot_status, storm_status}
 use Rattle.fam_journal.specs.Runs.{EndsBroken, HasRisen, IsCaused, Outside, SourceCaused}
-use Rattle.fam_journal.specs.Statuses.{answer_status, cause_status, good_status, last_status, last_stops, note_status, parents_status, reply_status, sound_status}
+use Rattle.fam_journal.specs.Statuses.{answer_status, cause_status, good_status, is_good, last_status, last_stops, note_status, parents_status, reply_status, sound_status}
+
+-- What is said of a command, alone: a status of its own, or that memory failed.
+
+-- the statuses that no fault has: done, refused or damaged
+abbrev IsOrdinary : Status → Type 0
+IsOrdinary status.Done = ⊤
+IsOrdinary status.Refused = ⊤
+IsOrdinary status.Damaged = ⊤
+IsOrdinary status.Usage = ⊥
+IsOrdinary status.BadScript = ⊥
+IsOrdinary status.MediaFault = ⊥
+IsOrdinary status.SourceFault = ⊥
+IsOrdinary status.SinkFault = ⊥
+IsOrdinary status.OutOfMemory = ⊥
+
+-- such a status; or a media fault, and then so many faults are told as are counted here
+abbrev IsTold : Status → ℕ → Type 0
+IsTold s faults = IsOrdinary s ⊎ ((s ≡ status.MediaFault) × (1 ≤ faults))
+
+-- what has the status of a media fault tells one
+told_fault : (s : Status) (faults : ℕ) → IsTold s faults → s ≡ status.MediaFault → 1 ≤ faults
+told_fault s faults (inl x) e = absurd (subst IsOrdinary e x)
+told_fault s faults (inr x) e = x.1
+
+-- and nothing of this kind has the status of a source that failed
+told_source : (s : Status) (faults : ℕ) → IsTold s faults → s ≡ status.SourceFault → ⊥
+told_source s faults (inl x) e = subst IsOrdinary e x
+told_source s faults (inr x) e = absurd (let other : status.MediaFault ≡ status.SourceFault = sym x.0 ∙ e in cc)
+
+sound_told : (t : Bool) → IsOrdinary (sound_status t)
+sound_told true = tt
+sound_told false = tt
+
+reply_told : (given : Reply) → IsOrdinary (reply_status given)
+reply_told (reply.Appended seq) = tt
+reply_told (reply.NotAppended why) = tt
+reply_told (reply.Played m tree) = tt
+reply_told (reply.Same m) = tt
+reply_told (reply.Differs m offset found wanted) = tt
+reply_told (reply.Length m size wanted) = tt
+reply_told (reply.Bytes m bytes) = tt
+reply_told (reply.NotFound m) = tt
+reply_told (reply.IsDirectory m) = tt
+reply_told (reply.Checks m checked) = sound_told _
+reply_told (reply.Reports report) = sound_told _
+reply_told (reply.NoSuperblock fault) = tt
+reply_told (reply.BadHeader fault) = tt
+reply_told (reply.BadSlot seq reason) = tt
+
+answer_told : (host : ℕ) (answer : Answer) → IsTold (answer_status answer) (note_faults (Answered host answer))
+answer_told host (Replied given) = inl (reply_told given)
+answer_told host (MediaFault at) = inr (refl, omega arith)
+
+cause_told : (name : List ℕ) (cause : Refusal) → IsTold (cause_status cause) (note_faults (Refused name cause))
+cause_told name why.NoHost = inl tt
+cause_told name (why.SameHost host) = inl tt
+cause_told name why.TooManyHosts = inl tt
+cause_told name (why.BadGeometry unit log) = inl tt
+cause_told name (why.TooSmall need have) = inl tt
+cause_told name (why.ImageSmall lines) = inl tt
+cause_told name (why.Busy host) = inl tt
+cause_told name (why.Dirty host) = inl tt
+cause_told name (why.HasSuper uuid) = inl tt
+cause_told name why.Idle = inl tt
+cause_told name (why.NoLine at lines) = inl tt
+cause_told name (why.NoFile file) = inl tt
+cause_told name (why.CopyLimit sum) = inl tt
+cause_told name (why.BadListing at) = inl tt
+cause_told name (why.MediaFault at) = inr (refl, omega arith)
+
+note_told : (note : Note) → IsTold (note_status note) (note_faults note)
+note_told (Host name uuid) = inl tt
+note_told (Made host p) = inl tt
+note_told (Start host cmd) = inl tt
+note_told (Mark host) = inl tt
+note_told (Found host n) = inl tt
+note_told (Writes host seq entry) = inl tt
+note_told (Answered host answer) = answer_told host answer
+note_told (Stop host) = inl tt
+note_told (Halt host) = inl tt
+note_told (Refused name cause) = cause_told name cause
+
+-- more faults are told where more is said
+told_more : (s : Status) (a b : ℕ) → a ≤ b → IsTold s a → IsTold s b
+told_more s a b more (inl x) = inl x
+told_more s a b more (inr x) = inr (x.0, let some = x.1 in omega (arith, more, some))
+
+-- a journal whose last note alone has the status of a media fault tells one
+last_told : (journal : List Note) → IsTold (last_status journal) (faults_of journal)
+last_told [] = inl tt
+last_told (note ∷ []) = told_more (note_status note) (note_faults note) (faults_of (note ∷ [])) (omega arith) (note_told note)
+last_told (note ∷ next ∷ notes) = told_more (last_status (next ∷ notes)) (faults_of (next ∷ notes)) (faults_of (note ∷ next ∷ notes)) (omega arith) (last_told (next ∷ notes))
+
+parents_told : (journal : List Note) → IsTold (parents_status journal) (faults_of journal)
+parents_told journal = go (last_stops journal)
+  where
+    go : (t : Bool) → IsTold (if t then last_status journal else status.Done) (faults_of journal)
+    go true = last_told journal
+    go false = inl tt
+
+done_told : (shot : OneShot) (journal : List Note) → IsTold (done_status shot journal) (faults_of journal)
+done_told (Makes fs unit log force) journal = last_told journal
+done_told (Runs what) journal = last_told journal
+done_told (MakesParents path attr) journal = parents_told journal
+
+good_told : (t : Bool) (faults : ℕ) → IsTold (good_status t) faults
+good_told true faults = inl tt
+good_told false faults = inl tt
 
 -- Memory's faults.
-
-never_sound : (t : Bool) → sound_status t ≡ status.MediaFault → ⊥
-never_sound true e = absurd cc
-never_sound false e = absurd cc
-
-never_reply : (given : Reply) → reply_status given ≡ status.MediaFault → ⊥
-never_reply (reply.Appended seq) e = absurd cc
-never_reply (reply.NotAppended why) e = absurd cc
-never_reply (reply.Played m tree) e = absurd cc
-never_reply (reply.Same m) e = absurd cc
-never_reply (reply.Differs m offset found wanted) e = absurd cc
-never_reply (reply.Length m size wanted) e = absurd cc
-never_reply (reply.Bytes m bytes) e = absurd cc
-never_reply (reply.NotFound m) e = absurd cc
-never_reply (reply.IsDirectory m) e = absurd cc
-never_reply (reply.Checks m checked) e = never_sound _ e
-never_reply (reply.Reports report) e = never_sound _ e
-never_reply (reply.NoSuperblock fault) e = absurd cc
-never_reply (reply.BadHeader fault) e = absurd cc
-never_reply (reply.BadSlot seq reason) e = absurd cc
-
-by_answer : (host : ℕ) (answer : Answer) → answer_status answer ≡ status.MediaFault → note_faults (Answered host answer) ≡ 1
-by_answer host (Replied given) e = absurd (never_reply given e)
-by_answer host (MediaFault at) e = refl
-
-by_cause : (name : List ℕ) (cause : Refusal) → cause_status cause ≡ status.MediaFault → note_faults (Refused name cause) ≡ 1
-by_cause name why.NoHost e = absurd cc
-by_cause name (why.SameHost host) e = absurd cc
-by_cause name why.TooManyHosts e = absurd cc
-by_cause name (why.BadGeometry unit log) e = absurd cc
-by_cause name (why.TooSmall need have) e = absurd cc
-by_cause name (why.ImageSmall lines) e = absurd cc
-by_cause name (why.Busy host) e = absurd cc
-by_cause name (why.Dirty host) e = absurd cc
-by_cause name (why.HasSuper uuid) e = absurd cc
-by_cause name why.Idle e = absurd cc
-by_cause name (why.NoLine at lines) e = absurd cc
-by_cause name (why.NoFile file) e = absurd cc
-by_cause name (why.CopyLimit sum) e = absurd cc
-by_cause name (why.BadListing at) e = absurd cc
-by_cause name (why.MediaFault at) e = refl
-
-by_note : (note : Note) → note_status note ≡ status.MediaFault → note_faults note ≡ 1
-by_note (Host name uuid) e = absurd cc
-by_note (Made host p) e = absurd cc
-by_note (Start host cmd) e = absurd cc
-by_note (Mark host) e = absurd cc
-by_note (Found host n) e = absurd cc
-by_note (Writes host seq entry) e = absurd cc
-by_note (Answered host answer) e = by_answer host answer e
-by_note (Stop host) e = absurd cc
-by_note (Halt host) e = absurd cc
-by_note (Refused name cause) e = by_cause name cause e
-
--- a journal whose last note alone has that status tells a fault
-by_last : (journal : List Note) → last_status journal ≡ status.MediaFault → 1 ≤ faults_of journal
-by_last [] e = absurd cc
-by_last (note ∷ []) e = let one = by_note note e in omega (arith, one)
-by_last (note ∷ next ∷ notes) e = let more = by_last (next ∷ notes) e in omega (arith, more)
 
 faults_behind : (front rest : List Note) → faults_of rest ≤ faults_of (front ++ rest)
 faults_behind [] rest = omega arith
 faults_behind (note ∷ front) rest = let more = faults_behind front rest in omega (arith, more)
 
--- and so does one behind which a mkfs was cut
+-- a journal behind which a mkfs was cut tells a fault
 pub broken_faults : (events : List Event) (journal : List Note) → EndsBroken events journal → 1 ≤ faults_of journal
 broken_faults events journal b = subst (λ (z : List Note). 1 ≤ faults_of z) (sym b.is) (faults_behind b.front (Refused b.name (why.MediaFault b.line) ∷ []))
 
@@ -89,33 +138,17 @@ broken_faults events journal b = subst (λ (z : List Note). 1 ≤ faults_of z) (
 pub risen : (before now : ℕ) (journal : List Note) → HasCounted before now journal → 1 ≤ faults_of journal → HasRisen before now
 risen before now journal counted some = grind (arith, counted, some)
 
-parents_fault : (journal : List Note) → parents_status journal ≡ status.MediaFault → last_status journal ≡ status.MediaFault
-parents_fault journal e = go (last_stops journal) e
-  where
-    go : (t : Bool) → (if t then last_status journal else status.Done) ≡ status.MediaFault → last_status journal ≡ status.MediaFault
-    go true e = e
-    go false e = absurd cc
-
-done_fault : (shot : OneShot) (journal : List Note) → done_status shot journal ≡ status.MediaFault → 1 ≤ faults_of journal
-done_fault (Makes fs unit log force) journal e = by_last journal e
-done_fault (Runs what) journal e = by_last journal e
-done_fault (MakesParents path attr) journal e = by_last journal (parents_fault journal e)
-
 module _ (out : Outside) (events : List Event) (journal : List Note) where
   shot_fault : (shot : OneShot) (ending : Ending) → IsCaused ending events journal out → shot_status shot ending journal ≡ status.MediaFault → 1 ≤ faults_of journal
-  shot_fault shot AllDone caused e = done_fault shot journal e
+  shot_fault shot AllDone caused e = told_fault (done_status shot journal) (faults_of journal) (done_told shot journal) e
   shot_fault shot MkfsFails caused e = broken_faults events journal caused
   shot_fault shot (SourceFails end) caused e = absurd cc
   shot_fault shot NoMemory caused e = absurd cc
   shot_fault shot NoMemoryBroken caused e = absurd cc
   shot_fault shot SinkFails caused e = absurd cc
 
-  never_good : (t : Bool) → good_status t ≡ status.MediaFault → ⊥
-  never_good true e = absurd cc
-  never_good false e = absurd cc
-
   script_fault : (ending : Ending) → IsCaused ending events journal out → script_status ending journal ≡ status.MediaFault → 1 ≤ faults_of journal
-  script_fault AllDone caused e = absurd (never_good _ e)
+  script_fault AllDone caused e = told_fault (good_status (is_good journal)) (faults_of journal) (good_told (is_good journal) (faults_of journal)) e
   script_fault MkfsFails caused e = broken_faults events journal caused
   script_fault (SourceFails end) caused e = absurd cc
   script_fault NoMemory caused e = absurd cc
@@ -139,83 +172,9 @@ by_end : (out : Outside) (end : SourceEnd) → SourceCaused end out → SourceRo
 by_end out Faulted x = inl x
 by_end out (Short size got) x = inr x.0
 
-sound_source : (t : Bool) → sound_status t ≡ status.SourceFault → ⊥
-sound_source true e = absurd cc
-sound_source false e = absurd cc
-
-reply_source : (given : Reply) → reply_status given ≡ status.SourceFault → ⊥
-reply_source (reply.Appended seq) e = absurd cc
-reply_source (reply.NotAppended why) e = absurd cc
-reply_source (reply.Played m tree) e = absurd cc
-reply_source (reply.Same m) e = absurd cc
-reply_source (reply.Differs m offset found wanted) e = absurd cc
-reply_source (reply.Length m size wanted) e = absurd cc
-reply_source (reply.Bytes m bytes) e = absurd cc
-reply_source (reply.NotFound m) e = absurd cc
-reply_source (reply.IsDirectory m) e = absurd cc
-reply_source (reply.Checks m checked) e = sound_source _ e
-reply_source (reply.Reports report) e = sound_source _ e
-reply_source (reply.NoSuperblock fault) e = absurd cc
-reply_source (reply.BadHeader fault) e = absurd cc
-reply_source (reply.BadSlot seq reason) e = absurd cc
-
-cause_source : (cause : Refusal) → cause_status cause ≡ status.SourceFault → ⊥
-cause_source why.NoHost e = absurd cc
-cause_source (why.SameHost host) e = absurd cc
-cause_source why.TooManyHosts e = absurd cc
-cause_source (why.BadGeometry unit log) e = absurd cc
-cause_source (why.TooSmall need have) e = absurd cc
-cause_source (why.ImageSmall lines) e = absurd cc
-cause_source (why.Busy host) e = absurd cc
-cause_source (why.Dirty host) e = absurd cc
-cause_source (why.HasSuper uuid) e = absurd cc
-cause_source why.Idle e = absurd cc
-cause_source (why.NoLine at lines) e = absurd cc
-cause_source (why.NoFile file) e = absurd cc
-cause_source (why.CopyLimit sum) e = absurd cc
-cause_source (why.BadListing at) e = absurd cc
-cause_source (why.MediaFault at) e = absurd cc
-
-answer_source : (answer : Answer) → answer_status answer ≡ status.SourceFault → ⊥
-answer_source (Replied given) e = reply_source given e
-answer_source (MediaFault at) e = absurd cc
-
-note_source : (note : Note) → note_status note ≡ status.SourceFault → ⊥
-note_source (Host name uuid) e = absurd cc
-note_source (Made host p) e = absurd cc
-note_source (Start host cmd) e = absurd cc
-note_source (Mark host) e = absurd cc
-note_source (Found host n) e = absurd cc
-note_source (Writes host seq entry) e = absurd cc
-note_source (Answered host answer) e = answer_source answer e
-note_source (Stop host) e = absurd cc
-note_source (Halt host) e = absurd cc
-note_source (Refused name cause) e = cause_source cause e
-
-last_source : (journal : List Note) → last_status journal ≡ status.SourceFault → ⊥
-last_source [] e = absurd cc
-last_source (note ∷ []) e = note_source note e
-last_source (note ∷ next ∷ notes) e = last_source (next ∷ notes) e
-
-parents_source : (journal : List Note) → parents_status journal ≡ status.SourceFault → ⊥
-parents_source journal e = go (last_stops journal) e
-  where
-    go : (t : Bool) → (if t then last_status journal else status.Done) ≡ status.SourceFault → ⊥
-    go true e = last_source journal e
-    go false e = absurd cc
-
-done_source : (shot : OneShot) (journal : List Note) → done_status shot journal ≡ status.SourceFault → ⊥
-done_source (Makes fs unit log force) journal e = last_source journal e
-done_source (Runs what) journal e = last_source journal e
-done_source (MakesParents path attr) journal e = parents_source journal e
-
-good_source : (t : Bool) → good_status t ≡ status.SourceFault → ⊥
-good_source true e = absurd cc
-good_source false e = absurd cc
-
 module _ (out : Outside) (events : List Event) (journal : List Note) where
   shot_source : (shot : OneShot) (ending : Ending) → IsCaused ending events journal out → shot_status shot ending journal ≡ status.SourceFault → SourceRose out
-  shot_source shot AllDone caused e = absurd (done_source shot journal e)
+  shot_source shot AllDone caused e = absurd (told_source (done_status shot journal) (faults_of journal) (done_told shot journal) e)
   shot_source shot MkfsFails caused e = absurd cc
   shot_source shot (SourceFails end) caused e = by_end out end caused
   shot_source shot NoMemory caused e = absurd cc
@@ -223,7 +182,7 @@ module _ (out : Outside) (events : List Event) (journal : List Note) where
   shot_source shot SinkFails caused e = absurd cc
 
   script_source : (ending : Ending) → IsCaused ending events journal out → script_status ending journal ≡ status.SourceFault → SourceRose out
-  script_source AllDone caused e = absurd (good_source _ e)
+  script_source AllDone caused e = absurd (told_source (good_status (is_good journal)) (faults_of journal) (good_told (is_good journal) (faults_of journal)) e)
   script_source MkfsFails caused e = absurd cc
   script_source (SourceFails end) caused e = by_end out end caused
   script_source NoMemory caused e = absurd cc

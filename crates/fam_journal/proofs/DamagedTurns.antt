@@ -1,5 +1,5 @@
 -- On a damaged image: what a turn may say is legal, and settles nothing.
-use Rattle.std.proofs.Common.{◌≡◌, ◌≢◌, ℕ, ◌*◌, List, length, Option, Some, None, refl, ap, sym, ◌∙◌, subst}
+use Rattle.std.proofs.Common.{◌≡◌, ◌≢◌, ℕ, ◌*◌, List, length, Option, Some, refl, ap, sym, ◌∙◌, subst}
 use Rattle.std.specs.Prelude.{slice_get, Ok}
 use Rattle.std.proofs.lemmas.Option.{same_Some}
 use Rattle.fam_base.specs.declared.entry.Entry.{Entry}
@@ -16,6 +16,7 @@ use Rattle.fam_rules.specs.Reply as reply
 use Rattle.fam_rules.specs.Reply.{Reply}
 use Rattle.fam_protocol.specs.Bad.{MayReplyBad, MaySayBad, fault_of}
 use Rattle.fam_protocol.specs.Steps.{turn_settles}
+use Rattle.fam_journal.proofs.ReplyCases.{replied_by}
 use Rattle.fam_journal.specs.Kept.{settled_bad, settled_of}
 use Rattle.fam_journal.specs.Legal.{DamageAllowed, FoundAllowed, LegalBehind, OfHost, ReplyAllowed, ReportAllowed, master_of, master_read}
 use Rattle.fam_journal.specs.Machines.{notes_of}
@@ -25,25 +26,8 @@ use Rattle.fam_journal.proofs.BadStates.{not_super}
 
 -- Nothing is settled.
 
-counted_bad : (i : Image) (d : Damage) (g : ℕ) (m : Option ℕ) → shows_count m (Bad i d g) ≡ Bad i d g
-counted_bad i d g None = refl
-counted_bad i d g (Some m) = refl
-
-replied_bad : (i : Image) (d : Damage) (g : ℕ) (given : Reply) → replied given (Bad i d g) ≡ Bad i d g
-replied_bad i d g (reply.Appended seq) = refl
-replied_bad i d g (reply.NotAppended why) = refl
-replied_bad i d g (reply.Played m tree) = refl
-replied_bad i d g (reply.Same m) = refl
-replied_bad i d g (reply.Differs m offset found wanted) = refl
-replied_bad i d g (reply.Length m size wanted) = refl
-replied_bad i d g (reply.Bytes m bytes) = refl
-replied_bad i d g (reply.NotFound m) = refl
-replied_bad i d g (reply.IsDirectory m) = refl
-replied_bad i d g (reply.Checks m checked) = refl
-replied_bad i d g (reply.Reports report) = counted_bad i d g (reported_count report.log)
-replied_bad i d g (reply.NoSuperblock fault) = refl
-replied_bad i d g (reply.BadHeader fault) = refl
-replied_bad i d g (reply.BadSlot seq reason) = refl
+pub replied_bad : (i : Image) (d : Damage) (g : ℕ) (given : Reply) → replied given (Bad i d g) ≡ Bad i d g
+replied_bad i d g = replied_by (λ f. f (Bad i d g) ≡ Bad i d g) refl (λ m. refl) (λ seq. refl)
 
 turn_keeps_bad : (image : Lines) (turn : Turn) (d : Damage) → turn_settles turn (settled_bad image d) ≡ settled_bad image d
 turn_keeps_bad image turn (FewLines lines) = refl

@@ -8,7 +8,7 @@ use Rattle.fam_machine.specs.Operations.{Machine, given, operated, given_by}
 use Rattle.fam_commands.specs.Stands.{StandsFor, goes, note_of, starts, task_after, turn_given, with_given}
 use Rattle.fam_commands.specs.Task.{Task, op_of}
 use Rattle.fam_commands.specs.Turns.{Turn, Goes, Marks, Finds, Writes, Ends}
-use Rattle.fam_commands.proofs.Standing.{next_note, next_operation}
+use Rattle.fam_commands.proofs.Standing.{note_from_start, operation_from_start}
 use Rattle.fam_machine.proofs.OneOperation.{operated_length, same_given}
 use Rattle.fam_journal.specs.Calls.{busy_at, is_busy_host}
 use Rattle.fam_journal.specs.Complete.{CanEnd}
@@ -55,14 +55,14 @@ module _ (h : ℕ) where
     note_is : machine.next_note at.s (length state.memory) (given (op_of t) m) ≡ Some (note_of turn)
     note_is =
         ap (machine.next_note at.s (length state.memory)) (sym (same_given (op_of t) m))
-        ∙ next_note at.s.cmd at.s.me (length state.memory) t at.s.words at.s.made at.standing word
+        ∙ note_from_start at.s.cmd at.s.me (length state.memory) t at.s.words at.s.made at.standing word
 
     row : operation Passes h state ≡ Some (record { notes = notes_of h (note_of turn); left = left turn })
     unfolding operation
     row =
         ap (machine.host_done Passes h state) at.host_is
         ∙ ap (machine.task_done Passes h state at.host) at.s_is
-        ∙ ap (machine.op_done Passes h state at.host at.s) (next_operation at.s.cmd at.s.me (length state.memory) t at.s.words at.s.made at.standing)
+        ∙ ap (machine.op_done Passes h state at.host at.s) (operation_from_start at.s.cmd at.s.me (length state.memory) t at.s.words at.s.made at.standing)
         ∙ ap (served h state at.host at.s (op_of t)) note_is
 
     busy : busy_at h state ≡ true

@@ -206,7 +206,7 @@ cut_notes c old new notes x = by_number (number_of (name_of c) old) x.1
   where
     at_host : (c : Call) (h : ℕ) (host : HostState) → CutsAt c h host old notes new → (who : List ℕ) × (cause : Refusal) × (notes ≡ Refused who cause ∷ [])
     at_host (call.Declares name uuid) h host y = absurd y
-    at_host (call.Makes name fs unit log force) h host y = (name, why.MediaFault (record { 0 = y.line }), y.notes_are)
+    at_host (call.Makes name fs unit log force) h host y = (name, why.MediaFault y.line, y.notes_are)
     at_host (call.Begins name cmd) h host y = absurd y
     at_host (call.Steps name) h host y = absurd y
     at_host (call.Finishes name) h host y = absurd y

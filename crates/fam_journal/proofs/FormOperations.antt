@@ -19,7 +19,7 @@ use Rattle.fam_commands.specs.Stands.{StandsFor, note_of, task_after, turn_given
 use Rattle.fam_commands.specs.Task.{Task, op_of}
 use Rattle.fam_commands.specs.Turns.{Turn, Goes, Marks, Finds, Writes, Ends}
 use Rattle.fam_machine.proofs.OneOperation.{operated_length, same_given}
-use Rattle.fam_commands.proofs.Standing.{next_note, next_operation}
+use Rattle.fam_commands.proofs.Standing.{note_from_start, operation_from_start}
 use Rattle.fam_commands.specs.Appends.{HasWish}
 use Rattle.fam_rules.specs.Reply.{Reply}
 use Rattle.fam_base.specs.declared.cmd.Cmd.{Cmd}
@@ -191,13 +191,13 @@ module _ (lines : ℕ) (m : Machines) (hosts : List HostForm) (formed : AreForme
     word = unwrap_or (given (op_of t) own) 0
 
     op_is : next_op s (length m.memory) ≡ Some (op_of t)
-    op_is = ap (next_op s) formed.lines_are ∙ next_operation s.cmd s.me lines t s.words s.made stands
+    op_is = ap (next_op s) formed.lines_are ∙ operation_from_start s.cmd s.me lines t s.words s.made stands
 
     note_is : machine.next_note s (length m.memory) (given (op_of t) own) ≡ Some (note_of (turn_given t word))
     note_is =
         ap (λ (n : ℕ). machine.next_note s n (given (op_of t) own)) formed.lines_are
         ∙ ap (machine.next_note s lines) (sym (same_given (op_of t) own))
-        ∙ next_note s.cmd s.me lines t s.words s.made stands word
+        ∙ note_from_start s.cmd s.me lines t s.words s.made stands word
 
     served_form : (d : Done) → served h m host s (op_of t) (Some (note_of (turn_given t word))) ≡ Some d → Operated lines h 1 hosts d.notes d.left
     served_form d done =

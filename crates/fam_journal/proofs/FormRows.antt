@@ -252,7 +252,7 @@ module _ (lines : ℕ) (m : Machines) (hosts : List HostForm) (formed : AreForme
 
       cut_host : (h : ℕ) (o : Option HostState) → OnHost o (λ host. CutsAt makes h host m notes new) → FaultForm name notes
       cut_host h None x = absurd x
-      cut_host h (Some host) x = (x.line, x.notes_are)
+      cut_host h (Some host) x = (x.line.0, x.notes_are)
 
       cut_number : (o : Option ℕ) → AtNumber o m (λ h host. CutsAt makes h host m notes new) → FaultForm name notes
       cut_number None x = absurd x

@@ -6,8 +6,11 @@ use Rattle.std.proofs.lemmas.List.{take-append-drop, take-take, take-append-le}
 use Rattle.fam_base.specs.declared.entry.Entry.{Entry}
 use Rattle.fam_base.specs.declared.entry.Params.{Params}
 use Rattle.fam_base.specs.Image.{Image}
-use Rattle.fam_rules.specs.Asks.{File}
+use Rattle.fam_rules.specs.Asks.{File, entries_of}
+use Rattle.fam_protocol.proofs.History.{entries_count}
 use Rattle.fam_rules.specs.Reply.{Reply, Appended, NotAppended, Played, Same, Differs, Length, Bytes, NotFound, IsDirectory, Checks, Reports, NoSuperblock, BadHeader, BadSlot}
+use Rattle.fam_journal.proofs.DamagedTurns.{replied_bad}
+use Rattle.fam_journal.proofs.ReplyCases.{replied_by}
 use Rattle.fam_journal.specs.Laws.{IsFree, IsFront, NoneMade, TwoAnswers, entries_at, first_entries, history_at, second_entries}
 use Rattle.fam_journal.specs.Ends.{is_made_note}
 use Rattle.fam_journal.specs.Legal.{Legal, OfHost, ReplyAllowed, WritesAllowed}
@@ -60,25 +63,8 @@ module _ (m : ℕ) where
   pends_keeps f (Bad image damage gate) within = keeps_same m (Bad image damage gate) within
   pends_keeps f (Sound p history pending) within = record { within = within; same = refl }
 
-  count_keeps : (o : Option ℕ) (s : State) → m ≤ length (history_at s) → Keeps m s (shows_count o s)
-  count_keeps None s within = keeps_same m s within
-  count_keeps (Some n) s within = shows_keeps n s within
-
   reply_keeps : (given : Reply) (s : State) → m ≤ length (history_at s) → Keeps m s (replied given s)
-  reply_keeps (Appended seq) s within = acknowledges_keeps seq s within
-  reply_keeps (NotAppended why) s within = keeps_same m s within
-  reply_keeps (Played n tree) s within = shows_keeps n s within
-  reply_keeps (Same n) s within = shows_keeps n s within
-  reply_keeps (Differs n offset found wanted) s within = shows_keeps n s within
-  reply_keeps (Length n size wanted) s within = shows_keeps n s within
-  reply_keeps (Bytes n bytes) s within = shows_keeps n s within
-  reply_keeps (NotFound n) s within = shows_keeps n s within
-  reply_keeps (IsDirectory n) s within = shows_keeps n s within
-  reply_keeps (Checks n checked) s within = shows_keeps n s within
-  reply_keeps (Reports report) s within = count_keeps (reported_count report.log) s within
-  reply_keeps (NoSuperblock fault) s within = keeps_same m s within
-  reply_keeps (BadHeader fault) s within = keeps_same m s within
-  reply_keeps (BadSlot seq reason) s within = keeps_same m s within
+  reply_keeps = replied_by (λ f. (s : State) → m ≤ length (history_at s) → Keeps m s (f s)) (λ s within. keeps_same m s within) shows_keeps acknowledges_keeps
 
   answer_keeps : (answer : Answer) (s : State) → m ≤ length (history_at s) → Keeps m s (ended answer s)
   answer_keeps (Replied given) s within = reply_keeps given s within
@@ -106,10 +92,6 @@ module _ (m : ℕ) where
 -- A bad state stays without entries.
 
 module _ where
-  count_bad : (o : Option ℕ) (i : Image) (d : Rattle.fam_journal.specs.Past.Damage) (g : ℕ) → shows_count o (Bad i d g) ≡ Bad i d g
-  count_bad None i d g = refl
-  count_bad (Some n) i d g = refl
-
   note_bad : (x : Past) (i : Image) (d : Rattle.fam_journal.specs.Past.Damage) (g : ℕ) (note : Note) → is_made_note note ≡ false → x.state ≡ Bad i d g → state_after x note ≡ Bad i d g
   note_bad x i d g (Host name uuid) other is = is
   note_bad x i d g (Made h p) other is = absurd cc
@@ -117,20 +99,7 @@ module _ where
   note_bad x i d g (Mark h) other is = is
   note_bad x i d g (Found h n) other is = ap (finds n) is
   note_bad x i d g (Writes h seq e) other is = ap (pends _) is
-  note_bad x i d g (Answered h (Replied (Reports report))) other is = ap (shows_count (reported_count report.log)) is ∙ count_bad (reported_count report.log) i d g
-  note_bad x i d g (Answered h (Replied (Appended seq))) other is = ap (acknowledges seq) is
-  note_bad x i d g (Answered h (Replied (NotAppended why))) other is = is
-  note_bad x i d g (Answered h (Replied (Played n tree))) other is = ap (shows n) is
-  note_bad x i d g (Answered h (Replied (Same n))) other is = ap (shows n) is
-  note_bad x i d g (Answered h (Replied (Differs n offset found wanted))) other is = ap (shows n) is
-  note_bad x i d g (Answered h (Replied (Length n size wanted))) other is = ap (shows n) is
-  note_bad x i d g (Answered h (Replied (Bytes n bytes))) other is = ap (shows n) is
-  note_bad x i d g (Answered h (Replied (NotFound n))) other is = ap (shows n) is
-  note_bad x i d g (Answered h (Replied (IsDirectory n))) other is = ap (shows n) is
-  note_bad x i d g (Answered h (Replied (Checks n checked))) other is = ap (shows n) is
-  note_bad x i d g (Answered h (Replied (NoSuperblock fault))) other is = is
-  note_bad x i d g (Answered h (Replied (BadHeader fault))) other is = is
-  note_bad x i d g (Answered h (Replied (BadSlot seq reason))) other is = is
+  note_bad x i d g (Answered h (Replied given)) other is = ap (replied given) is ∙ replied_bad i d g given
   note_bad x i d g (Answered h (MediaFault at)) other is = is
   note_bad x i d g (Stop h) other is = is
   note_bad x i d g (Halt h) other is = is
@@ -154,7 +123,9 @@ module _ (p : Params) (history : List File) (pending : Option File) where
   bound told (IsDirectory n) m a is = subst (λ k. k ≤ length (with_pending history pending)) (Rattle.std.proofs.lemmas.Option.same_Some n m is) a.bounds.high
   bound told (Checks n checked) m a is = subst (λ k. k ≤ length (with_pending history pending)) (Rattle.std.proofs.lemmas.Option.same_Some n m is) a.bounds.high
   bound told (Reports report) m a is =
-      subst (λ k. k ≤ length (with_pending history pending)) (Rattle.std.proofs.lemmas.Option.same_Some a.m m (sym (ap reported_count a.log) ∙ is)) a.bounds.high
+      let count : length (entries_of (take a.m (with_pending history pending))) ≡ a.m = entries_count a.m (with_pending history pending) a.bounds.high in
+      let read : length (entries_of (take a.m (with_pending history pending))) ≡ m = Rattle.std.proofs.lemmas.Option.same_Some _ m (sym (ap reported_count a.is.log) ∙ is) in
+      omega (arith, count, read, a.bounds.high)
   bound told (Appended seq) m a is = absurd cc
   bound told (NotAppended why) m a is = absurd cc
   bound told (NoSuperblock fault) m a is = absurd cc

@@ -255,8 +255,8 @@ unfolding SlotsHalt
 gate_halts t = halting (record t { place = at.Gate }) (λ word. by_fault word (gate_fault word t.params))
   where
     by_wish : (word : ℕ) (o : Option Wish) → HaltsTurn (finds_or_goes o word (with_gate (record t { place = at.Gate }) word))
-    by_wish word None = slots_halt (slots_read (record t { gate = word })) 0 (record t { gate = word }) (omega arith)
-    by_wish word (Some w) = slots_halt (slots_read (record t { gate = word })) 0 (record t { gate = word }) (omega arith)
+    by_wish word None = slots_halt (slots_read (record t { gate = word })) t.first_slot (record t { gate = word }) (omega arith)
+    by_wish word (Some w) = slots_halt (slots_read (record t { gate = word })) t.first_slot (record t { gate = word }) (omega arith)
 
     by_fault : (word : ℕ) (o : Option LogFault) → HaltsTurn (gate_turn (record t { place = at.Gate }) word o)
     by_fault word (Some fault) = tt

@@ -18,7 +18,7 @@ use Rattle.fam_machine.specs.declared.op.Op.{Op}
 use Rattle.fam_commands.specs.Stands.{StandsFor, note_of, turn_given}
 use Rattle.fam_commands.specs.Task.{Task, op_of}
 use Rattle.fam_machine.proofs.DirtyLemmas.{none_dirty}
-use Rattle.fam_commands.proofs.Standing.{next_operation, standing_tied}
+use Rattle.fam_commands.proofs.Standing.{operation_from_start, standing_tied}
 use Rattle.fam_rules.specs.Place.{line_bytes}
 use Rattle.fam_machine.proofs.MkfsOps.{early_free}
 use Rattle.fam_journal.specs.declared.refusal.Refusal.{Refusal}
@@ -175,7 +175,7 @@ module _ (start : Image) (state : Machines) (journal : List Note) (kept : Kept s
       failed_kept : (through : ℕ) (x : Done) → operation (Fails through) h state ≡ Some x → Kept start x.left (journal ++ x.notes)
       unfolding operation
       failed_kept through x is =
-          let op : next_op s (length state.memory) ≡ Some (op_of t) = ap (next_op s) held.lines ∙ next_operation s.cmd s.me (length start) t s.words s.made standing in
+          let op : next_op s (length state.memory) ≡ Some (op_of t) = ap (next_op s) held.lines ∙ operation_from_start s.cmd s.me (length start) t s.words s.made standing in
           cut_kept (failed through (op_of t) (machine_of state d.host)) x
           (sym (ap (host_done (Fails through) h state) d.host_is ∙ ap (task_done (Fails through) h state d.host) s_is ∙ ap (op_done (Fails through) h state d.host s) op) ∙ is)
           (λ failure e. (

@@ -1,11 +1,13 @@
 pub mod Members
 pub mod Begin
 pub mod Settles
+pub mod ReplyCases
 pub mod SoundTurns
 pub mod BadStates
 pub mod DamagedTurns
 pub mod Journals
 pub mod TaskTurns
+pub mod TaskRows
 pub mod Views
 pub mod Stepped
 pub mod Hosts

@@ -1,14 +1,11 @@
 -- An operation that memory served, as a world's own task has it, is the row of a step.
-use Rattle.std.proofs.Common.{◌≡◌, ℕ, ◌+◌, Bool, true, List, length, Option, Some, None, refl, ap, sym, ◌∙◌, subst}
+use Rattle.std.proofs.Common.{◌≡◌, ℕ, Bool, true, List, length, Option, Some, None, refl, ap, sym, ◌∙◌, subst}
 use Rattle.std.specs.Prelude.{slice_get, unwrap_or, is_some, not}
 use Rattle.fam_machine.specs.Caches.{Cache}
 use Rattle.fam_machine.specs.Operations.{Machine, given, operated}
-use Rattle.fam_commands.specs.Stands.{StandsFor, note_of, task_after, turn_given, with_given}
-use Rattle.fam_commands.specs.Table as row
+use Rattle.fam_commands.specs.Stands.{StandsFor, note_of, task_after, turn_given}
 use Rattle.fam_commands.specs.Task.{Task, op_of}
-use Rattle.fam_commands.specs.Turns.{Turn, Goes, Marks, Finds, Writes, Ends}
-use Rattle.fam_commands.proofs.Standing.{next_note, next_operation}
-use Rattle.fam_machine.proofs.OneOperation.{same_given}
+use Rattle.fam_commands.specs.Turns.{Turn}
 use Rattle.fam_journal.specs.declared.refusal.Refusal.{Refusal}
 use Rattle.fam_journal.specs.declared.refusal.Refusal.TheVariants as why
 use Rattle.fam_journal.specs.Calls as call
@@ -22,7 +19,7 @@ use Rattle.fam_journal.specs.WorldAlone.{number_in}
 use Rattle.fam_journal.proofs.Hosts.{stands_changed}
 use Rattle.fam_journal.proofs.Shown.{number_shown}
 use Rattle.fam_journal.proofs.Stepped.{find_host, find_task}
-use Rattle.fam_journal.proofs.TaskTurns.{next_stands}
+use Rattle.fam_journal.proofs.TaskRows.{row_served, task_stands}
 
 module _ (state : Machines) (world : WorldView) (stands : WorldStands (length state.memory) state world) (name : List ℕ) (h : ℕ) (number : number_in name world ≡ Some h) (view : HostView) (view_is : slice_get world.hosts h ≡ Some view) (t : Task) (runs : view.task ≡ Some t) where
   abbrev lines : ℕ
@@ -50,42 +47,6 @@ module _ (state : Machines) (world : WorldView) (stands : WorldStands (length st
     machine_is : machine_of state host ≡ m
     machine_is = ap (λ (c : Cache). record { image = state.memory; cache = c }) mine.cache
 
-    note_is : machine.next_note s lines (given (op_of t) m) ≡ Some (note_of turn)
-    note_is = ap (machine.next_note s lines) (sym (same_given (op_of t) m)) ∙ next_note s.cmd s.me lines t s.words s.made standing word
-
-    abbrev served_with : (z : Machine) (o : Option row.Note) → Option Done
-    served_with z None = None
-    served_with z (Some note) = Some (record { notes = notes_of h note; left = with_machine h (operated (op_of t) z) (machine.task_after note (task_on s (given (op_of t) z))) state })
-
-    served_is : (o : Option row.Note) → served h state host s (op_of t) o ≡ served_with (machine_of state host) o
-    served_is None = refl
-    served_is (Some note) = refl
-
-    row_done : operation Passes h state ≡ Some (record { notes = notes; left = left })
-    unfolding operation
-    row_done =
-        ap (machine.host_done Passes h state) host_is
-        ∙ ap (machine.task_done Passes h state host) s_is
-        ∙ ap (machine.op_done Passes h state host s) (next_operation s.cmd s.me lines t s.words s.made standing)
-        ∙ served_is (machine.next_note s lines (given (op_of t) (machine_of state host)))
-        ∙ ap (λ (z : Machine). served_with z (machine.next_note s lines (given (op_of t) z))) machine_is
-        ∙ ap (served_with m) note_is
-
-    task_stands : (z : Turn) → turn ≡ z → TaskStands lines (machine.task_after (note_of z) (task_on s (given (op_of t) m))) (task_after z)
-    task_stands z e = go z e
-      where
-        next : (n : Task) → task_after turn ≡ Some n → StandsFor s.cmd s.me lines n (with_given s.words (given (op_of t) m)) (s.made + 1)
-        next n goes =
-            subst (λ (o : Option ℕ). StandsFor s.cmd s.me lines n (with_given s.words o) (s.made + 1)) (same_given (op_of t) m)
-            (next_stands s.cmd s.me lines t s.words s.made word standing turn refl n goes)
-
-        go : (z : Turn) → turn ≡ z → TaskStands lines (machine.task_after (note_of z) (task_on s (given (op_of t) m))) (task_after z)
-        go (Goes n) e = next n (ap task_after e)
-        go (Marks n) e = next n (ap task_after e)
-        go (Finds count n) e = next n (ap task_after e)
-        go (Writes seq entry n) e = next n (ap task_after e)
-        go (Ends given) e = tt
-
     number_is : number_of name state ≡ Some h
     number_is = number_shown lines state world name stands ∙ number
 
@@ -99,7 +60,7 @@ module _ (state : Machines) (world : WorldView) (stands : WorldStands (length st
     acts : Acts (call.Steps name) state notes left
     acts =
         subst (λ (o : Option ℕ). AtNumber o state (λ h host. ActsAt (call.Steps name) h host state notes left)) (sym number_is)
-        (subst (λ (o : Option HostState). OnHost o (λ host. ActsAt (call.Steps name) h host state notes left)) (sym host_is) record { outcome = Passes; is = row_done })
+        (subst (λ (o : Option HostState). OnHost o (λ host. ActsAt (call.Steps name) h host state notes left)) (sym host_is) record { outcome = Passes; is = row_served state h host host_is s s_is lines refl t standing m machine_is turn refl })
 
     stepped : IsStepped name h view t state world
     stepped = record {
@@ -107,7 +68,7 @@ module _ (state : Machines) (world : WorldView) (stands : WorldStands (length st
       row = subst (λ (o : Option Refusal). ByRefusal name o notes state left (Acts (call.Steps name) state notes left)) (sym free) acts;
       memory = refl;
       stands = stands_changed h view world.hosts view_is (λ v. record v { cache = after.cache; task = task_after turn }) lines state.hosts host host_is (λ z. record z { cache = after.cache; task = machine.task_after (note_of turn) (task_on s (given (op_of t) m)) })
-          record { name = mine.name; uuid = mine.uuid; cache = refl; task = task_stands turn refl } stands;
+          record { name = mine.name; uuid = mine.uuid; cache = refl; task = task_stands state h host host_is s s_is lines refl t standing m machine_is turn refl } stands;
     }
 
   pub own_step : IsStepped name h view t state world

@@ -84,6 +84,19 @@ module _ (start : Image) (state : Machines) (world : WorldView) (held : Agrees s
   abbrev settled : Settled
   settled = settled_of x.state
 
+  -- where a change of the host keeps its cache, the protocol sees the same
+  cache_kept : (change : HostView → HostView) → ((l : ℕ) → copy_at (Some (change d.view)) l ≡ copy_at (Some d.view) l) → (image : Image) → seen_of image (changed_at h change world.hosts) ≡ seen_of image world.hosts
+  cache_kept change keeps image = ap (λ (copy : ℕ → ℕ → Cell). record { memory = line_at image; copy = copy }) (fun_ext (λ k. fun_ext (λ l. copies k l)))
+    where
+      copies : (k l : ℕ) → copy_at (slice_get (changed_at h change world.hosts) k) l ≡ copy_at (slice_get world.hosts k) l
+      copies k l =
+          elim (cases_eq k h) [
+            | inl e ↦
+                subst (λ (n : ℕ). copy_at (slice_get (changed_at h change world.hosts) n) l ≡ copy_at (slice_get world.hosts n) l) (sym e)
+                (ap (λ (o : Option HostView). copy_at o l) (changed_at_member h change world.hosts d.view d.view_is) ∙ keeps l ∙ ap (λ (o : Option HostView). copy_at o l) (sym d.view_is))
+            | inr ne ↦ ap (λ (o : Option HostView). copy_at o l) (changed_other h k change world.hosts ne)
+          ]
+
   -- A command begins.
 
   module _ (cmd : Cmd) (command : IsCommand cmd) (enough : least_lines ≤ length start) where
@@ -103,16 +116,7 @@ module _ (start : Image) (state : Machines) (world : WorldView) (held : Agrees s
     begun_told_else k ne = changed_other h k (λ (z : HostPast). record z { cmd = Some cmd; floor = None; wrote = None }) x.hosts ne
 
     begun_seen : seen_of state.memory (changed_at h begins world.hosts) ≡ seen_of state.memory world.hosts
-    begun_seen = ap (λ (copy : ℕ → ℕ → Cell). record { memory = line_at state.memory; copy = copy }) (fun_ext (λ k. fun_ext (λ l. copies k l)))
-      where
-        copies : (k l : ℕ) → copy_at (slice_get (changed_at h begins world.hosts) k) l ≡ copy_at (slice_get world.hosts k) l
-        copies k l =
-            elim (cases_eq k h) [
-              | inl e ↦
-                  subst (λ (n : ℕ). copy_at (slice_get (changed_at h begins world.hosts) n) l ≡ copy_at (slice_get world.hosts n) l) (sym e)
-                  (ap (λ (o : Option HostView). copy_at o l) (changed_at_member h begins world.hosts d.view d.view_is) ∙ ap (λ (o : Option HostView). copy_at o l) (sym d.view_is))
-              | inr ne ↦ ap (λ (o : Option HostView). copy_at o l) (changed_other h k begins world.hosts ne)
-            ]
+    begun_seen = cache_kept begins (λ l. refl) state.memory
 
     pub begun_held : Agrees start (with_task h (Some (task_begun cmd d.host.uuid)) state) (record { hosts = changed_at h begins world.hosts; journal = world.journal ++ Start h cmd ∷ [] }) state.memory
     begun_held =
@@ -143,16 +147,7 @@ module _ (start : Image) (state : Machines) (world : WorldView) (held : Agrees s
   drops v = record v { task = None }
 
   pub dropped_seen : (image : Image) → seen_of image (changed_at h drops world.hosts) ≡ seen_of image world.hosts
-  dropped_seen image = ap (λ (copy : ℕ → ℕ → Cell). record { memory = line_at image; copy = copy }) (fun_ext (λ k. fun_ext (λ l. copies k l)))
-    where
-      copies : (k l : ℕ) → copy_at (slice_get (changed_at h drops world.hosts) k) l ≡ copy_at (slice_get world.hosts k) l
-      copies k l =
-          elim (cases_eq k h) [
-            | inl e ↦
-                subst (λ (n : ℕ). copy_at (slice_get (changed_at h drops world.hosts) n) l ≡ copy_at (slice_get world.hosts n) l) (sym e)
-                (ap (λ (o : Option HostView). copy_at o l) (changed_at_member h drops world.hosts d.view d.view_is) ∙ ap (λ (o : Option HostView). copy_at o l) (sym d.view_is))
-            | inr ne ↦ ap (λ (o : Option HostView). copy_at o l) (changed_other h k drops world.hosts ne)
-          ]
+  dropped_seen = cache_kept drops (λ l. refl)
 
   pub drops_stops : Stops h (hosts_of world.hosts x.hosts) (hosts_of (changed_at h drops world.hosts) x.hosts)
   drops_stops = record {

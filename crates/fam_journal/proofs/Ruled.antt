@@ -37,7 +37,14 @@ Fits cmd (reply.Reports report) = cmd ≡ Fsck
 Fits cmd (reply.NoSuperblock fault) = cmd ≡ Fsck → ⊥
 Fits cmd (reply.BadHeader fault) = cmd ≡ Fsck → ⊥
 Fits cmd (reply.BadSlot i reason) = cmd ≡ Fsck → ⊥
-Fits cmd other = ⊤
+Fits cmd (reply.Played m tree) = ⊤
+Fits cmd (reply.Same m) = ⊤
+Fits cmd (reply.Differs m offset found wanted) = ⊤
+Fits cmd (reply.Length m size wanted) = ⊤
+Fits cmd (reply.Bytes m bytes) = ⊤
+Fits cmd (reply.NotFound m) = ⊤
+Fits cmd (reply.IsDirectory m) = ⊤
+Fits cmd (reply.Checks m checked) = ⊤
 
 abbrev pub FitsTurn : Cmd → Turn → Type 0
 FitsTurn cmd (Goes t) = ⊤

@@ -1,5 +1,5 @@
 -- On a sound file system: what a turn may say is legal, and what it settles is what the journal settles.
-use Rattle.std.proofs.Common.{◌≡◌, ℕ, ◌+◌, ◌≤◌, ◌⊎◌, inl, inr, List, [], ◌∷◌, ◌++◌, length, Option, Some, None, refl, ap, sym, ◌∙◌, subst, arith}
+use Rattle.std.proofs.Common.{take, ◌≡◌, ℕ, ◌+◌, ◌≤◌, ◌⊎◌, inl, inr, List, [], ◌∷◌, ◌++◌, length, Option, Some, None, refl, ap, sym, ◌∙◌, subst, arith}
 use Rattle.std.specs.Prelude.{⊤, max, slice_get, option_map, Result, Ok, Err}
 use Rattle.fam_base.specs.declared.cmd.Cmd.{Cmd}
 use Rattle.fam_base.specs.declared.entry.Entry.{Entry}
@@ -13,6 +13,7 @@ use Rattle.fam_rules.specs.declared.answers.Refused.TheVariants as refused
 use Rattle.fam_rules.specs.declared.answers.LogState.{LogState}
 use Rattle.fam_rules.specs.declared.answers.Report.{Report}
 use Rattle.fam_rules.specs.Asks.{File, entries_of}
+use Rattle.fam_protocol.proofs.History.{entries_count}
 use Rattle.fam_rules.specs.Content.{fill}
 use Rattle.fam_rules.specs.Decide.{decide}
 use Rattle.fam_rules.specs.Reply.{Reply, Appended, NotAppended, Played, Same, Differs, Length, Bytes, NotFound, IsDirectory, Checks, Reports, NoSuperblock, BadHeader, BadSlot}
@@ -52,8 +53,9 @@ module _ (p : Params) (history : List File) (pending : Option File) (start : Ima
   reply_settles (IsDirectory m) a = shows_settles p history m pending a.high
   reply_settles (Checks m checked) a = shows_settles p history m pending a.high
   reply_settles (Reports report) a =
-      subst (λ (x : LogState). settled_of (shows_count (reported_count x) (Sound p history pending)) ≡ Known p all (max (length history) (read_by_log x))) (sym a.log)
-      (shows_settles p history a.m pending a.high)
+      let high : length (entries_of (take a.m all)) ≤ length all = omega (arith, a.high, entries_count a.m all a.high) in
+      subst (λ (x : LogState). settled_of (shows_count (reported_count x) (Sound p history pending)) ≡ Known p all (max (length history) (read_by_log x))) (sym a.is.log)
+      (shows_settles p history (length (entries_of (take a.m all))) pending high)
   reply_settles (NoSuperblock fault) a = absurd a
   reply_settles (BadHeader fault) a = absurd a
   reply_settles (BadSlot seq reason) a = absurd a
@@ -124,19 +126,7 @@ module _ (p : Params) (history : List File) (pending : Option File) (start : Ima
   asked given a = record { bounds = bounds_of (shown_by given) told.floor refl a.low a.high; cmd = t.cmd; told = cmd_is; is = a.is }
 
   reported : (report : Report) → IsReported p told.floor all report → IsReportOf p told all report
-  reported report a = record {
-    m = a.m;
-    bounds = bounds_of a.m told.floor refl a.low a.high;
-    superblock = a.superblock;
-    log = a.log;
-    files = a.files;
-    directories = a.directories;
-    used = a.used;
-    free = a.free;
-    overlap = a.overlap;
-    bad = a.bad;
-    past = a.past;
-  }
+  reported report a = record { m = a.m; bounds = bounds_of a.m told.floor refl a.low a.high; is = a.is }
 
   reply_allowed : (given : Reply) → MayReply given sys (run_of t told) all (length history) → ReplyAllowed given told (Sound p history pending)
   reply_allowed (Appended seq) a =

@@ -1,5 +1,5 @@
 -- One operation of a task that memory served: it is a row of the machine, and the world is held again.
-use Rattle.std.proofs.Common.{◌≡◌, ◌≢◌, ℕ, ◌+◌, ◌*◌, ◌≤◌, List, ◌++◌, length, Option, Some, None, inl, inr, refl, ap, ap₂, sym, ◌∙◌, subst}
+use Rattle.std.proofs.Common.{◌≡◌, ◌≢◌, ℕ, ◌*◌, ◌≤◌, List, ◌++◌, length, Option, Some, None, inl, inr, refl, ap, ap₂, sym, ◌∙◌, subst}
 use Rattle.std.specs.Prelude.{slice_get, unwrap_or}
 use Rattle.std.proofs.lemmas.Bool.{cases_eq}
 use Rattle.std.proofs.lemmas.Option.{same_Some}
@@ -7,16 +7,14 @@ use Rattle.fam_base.specs.declared.cmd.Cmd.{Cmd}
 use Rattle.fam_base.specs.Image.{Image, line_at}
 use Rattle.fam_machine.specs.Caches.{Cache}
 use Rattle.fam_machine.specs.Operations.{Machine, given, operated, IsInside}
-use Rattle.fam_commands.specs.Stands.{StandsFor, note_of, task_after, turn_given, with_given}
-use Rattle.fam_commands.specs.Table as row
+use Rattle.fam_commands.specs.Stands.{StandsFor, note_of, task_after, turn_given}
 use Rattle.fam_commands.specs.Task.{Task, op_of}
 use Rattle.fam_commands.specs.Turns.{Turn, Goes, Marks, Finds, Writes, Ends}
-use Rattle.fam_commands.proofs.Standing.{next_note, next_operation}
 use Rattle.fam_protocol.specs.After.{Run}
 use Rattle.fam_protocol.specs.Seen.{Seen}
 use Rattle.fam_protocol.specs.Steps.{StepHolds, Steps, TurnSays, run_after, settled_count, turn_settles}
 use Rattle.fam_protocol.specs.Way.{Hosts, Settled, Small, Damaged, Known, Stage, Way}
-use Rattle.fam_machine.proofs.OneOperation.{operated_length, operated_normal, same_given}
+use Rattle.fam_machine.proofs.OneOperation.{operated_length, operated_normal}
 use Rattle.fam_protocol.proofs.Steps.{way_stepped}
 use Rattle.fam_rules.specs.Asks.{File}
 use Rattle.fam_rules.specs.Place.{line_bytes}
@@ -41,7 +39,8 @@ use Rattle.fam_journal.proofs.DamagedTurns.{bad_settles, damaged_legal}
 use Rattle.fam_journal.proofs.Journals.{legal_both, past_both}
 use Rattle.fam_journal.proofs.Members.{changed_at_member, changed_other}
 use Rattle.fam_journal.proofs.SoundTurns.{KeepsCommand, sound_legal, sound_settles}
-use Rattle.fam_journal.proofs.TaskTurns.{next_command, next_stands, run_same, settled_same, task_told, told_here, told_name, told_other, told_uuid}
+use Rattle.fam_journal.proofs.TaskRows.{row_served, task_stands}
+use Rattle.fam_journal.proofs.TaskTurns.{next_command, run_same, settled_same, task_told, told_here, told_name, told_other, told_uuid}
 use Rattle.fam_protocol.proofs.HostActs.{operates_by}
 use Rattle.fam_journal.proofs.Views.{acts_at}
 
@@ -137,34 +136,8 @@ module _ (start : Image) (state : Machines) (world : WorldView) (held : Agrees s
     machine_is : machine_of state host ≡ m
     machine_is = ap (λ (c : Cache). record { image = state.memory; cache = c }) host_stands.cache
 
-    op_is : next_op s (length state.memory) ≡ Some (op_of t)
-    op_is = ap (next_op s) lines_are ∙ next_operation s.cmd s.me (length start) t s.words s.made standing
-
-    note_is : machine.next_note s (length state.memory) (given (op_of t) m) ≡ Some (note_of turn)
-    note_is =
-        ap (λ (n : ℕ). machine.next_note s n (given (op_of t) m)) lines_are
-        ∙ ap (machine.next_note s (length start)) (sym (same_given (op_of t) m))
-        ∙ next_note s.cmd s.me (length start) t s.words s.made standing word
-        ∙ ap (λ (z : Turn). Some (note_of z)) is
-
-    -- what the machine does, with its parts apart
-    abbrev served_with : (z : Machine) (o : Option row.Note) → Option Done
-    served_with z None = None
-    served_with z (Some note) = Some (record { notes = notes_of h note; left = with_machine h (operated (op_of t) z) (machine.task_after note (task_on s (given (op_of t) z))) state })
-
-    served_is : (o : Option row.Note) → served h state host s (op_of t) o ≡ served_with (machine_of state host) o
-    served_is None = refl
-    served_is (Some note) = refl
-
     pub row_done : operation Passes h state ≡ Some (record { notes = notes; left = next_state })
-    unfolding operation
-    row_done =
-        ap (machine.host_done Passes h state) host_is
-        ∙ ap (machine.task_done Passes h state host) s_is
-        ∙ ap (machine.op_done Passes h state host s) op_is
-        ∙ served_is (machine.next_note s (length state.memory) (given (op_of t) (machine_of state host)))
-        ∙ ap (λ (z : Machine). served_with z (machine.next_note s (length state.memory) (given (op_of t) z))) machine_is
-        ∙ ap (served_with m) note_is
+    row_done = row_served state h host host_is s s_is (length start) lines_are t standing m machine_is turn is
 
     -- What the protocol says.
 
@@ -228,21 +201,6 @@ module _ (start : Image) (state : Machines) (world : WorldView) (held : Agrees s
     abbrev host_on : HostState → HostState
     host_on z = record z { cache = after.cache; task = machine.task_after (note_of turn) (task_on s (given (op_of t) m)) }
 
-    task_on_stands : (z : Turn) → turn ≡ z → TaskStands (length start) (machine.task_after (note_of z) (task_on s (given (op_of t) m))) (task_after z)
-    task_on_stands z e = go z e
-      where
-        next : (n : Task) → task_after turn ≡ Some n → StandsFor s.cmd s.me (length start) n (with_given s.words (given (op_of t) m)) (s.made + 1)
-        next n goes =
-            subst (λ (o : Option ℕ). StandsFor s.cmd s.me (length start) n (with_given s.words o) (s.made + 1)) (same_given (op_of t) m)
-            (next_stands s.cmd s.me (length start) t s.words s.made word standing turn is n goes)
-
-        go : (z : Turn) → turn ≡ z → TaskStands (length start) (machine.task_after (note_of z) (task_on s (given (op_of t) m))) (task_after z)
-        go (Goes n) e = next n (ap task_after e)
-        go (Marks n) e = next n (ap task_after e)
-        go (Finds count n) e = next n (ap task_after e)
-        go (Writes seq entry n) e = next n (ap task_after e)
-        go (Ends given) e = tt
-
     stands_on : (k : ℕ) → StandsAt (length start) (slice_get next_state.hosts k) (slice_get views k)
     stands_on k =
         elim (cases_eq k h) [
@@ -254,7 +212,7 @@ module _ (start : Image) (state : Machines) (world : WorldView) (held : Agrees s
         mine =
             subst (λ (o : Option HostState). StandsAt (length start) o (slice_get views h)) (sym (changed_at_member h host_on state.hosts host host_is))
             (subst (λ (o : Option HostView). StandsAt (length start) (Some (host_on host)) o) (sym (changed_at_member h changed world.hosts view view_is))
-            record { name = host_stands.name; uuid = host_stands.uuid; cache = refl; task = task_on_stands turn refl })
+            record { name = host_stands.name; uuid = host_stands.uuid; cache = refl; task = task_stands state h host host_is s s_is (length start) lines_are t standing m machine_is turn is })
 
         other : k ≢ h → StandsAt (length start) (slice_get next_state.hosts k) (slice_get views k)
         other ne =

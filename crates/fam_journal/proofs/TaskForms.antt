@@ -248,7 +248,7 @@ module _ (t : Task) where
   gate_form n None = by_wish (wish_of t.cmd) refl
     where
       next : (o : Option Wish) → wish_of t.cmd ≡ o → stage_of (with_gate t n) ≡ reading_stage o n
-      next o is = slot_stage (record t { gate = n }) (with_gate t n) 0 ∙ ap (λ (z : Option Wish). reading_stage z n) is
+      next o is = slot_stage (record t { gate = n }) (with_gate t n) t.first_slot ∙ ap (λ (z : Option Wish). reading_stage z n) is
 
       by_wish : (o : Option Wish) → wish_of t.cmd ≡ o → TurnForm t.me t.cmd Marked (finds_or_goes o n (with_gate t n))
       by_wish None is = record { cmd_is = refl; me_is = refl; stage_is = next None is }

@@ -7,6 +7,7 @@ use Rattle.fam_base.specs.declared.entry.Params.{Params}
 use Rattle.fam_base.specs.PathOrder.{path_eq}
 use Rattle.fam_format.specs.Layout.{least_lines}
 use Rattle.fam_format.specs.Stop.{or_else}
+use Rattle.fam_base.specs.declared.line.LineNo.{LineNo}
 use Rattle.fam_machine.specs.Caches.{dirty_count}
 use Rattle.fam_machine.specs.Operations.{Machine, operated_all}
 use Rattle.fam_rules.specs.Place.{line_bytes}
@@ -199,10 +200,10 @@ pub record Meets (h : ℕ) (p : Params) (force : Bool) (name : List ℕ) (host :
 
 -- memory failed in one of the operations that are due
 pub record MakesCut (h : ℕ) (p : Params) (force : Bool) (name : List ℕ) (host : HostState) (old : Machines) (notes : List Note) (new : Machines) : Type 0 where
-  pub line : ℕ
+  pub line : LineNo
   pub left : Machine
   pub cuts : Cuts (due_ops force p (machine_of old host)) (machine_of old host) line left
-  pub notes_are : notes ≡ Refused name (why.MediaFault (record { 0 = line })) ∷ []
+  pub notes_are : notes ≡ Refused name (why.MediaFault line) ∷ []
   pub left_is : new ≡ with_machine h left host.task old
 
 -- a cache moved; or memory failed in it

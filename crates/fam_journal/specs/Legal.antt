@@ -1,23 +1,21 @@
 -- Which notes the history before them allows: one row for each note and for each answer. docs/MODEL.md, "The journal".
-use Rattle.std.specs.Prelude.{ℕ, ⊤, ◌≡◌, ◌≢◌, ◌⊎◌, ◌+◌, ◌-◌, ◌*◌, ◌≤◌, List, [], ◌∷◌, length, take, count_by, slice_get, Option, Some, None, option_map, Result, Ok, Err}
+use Rattle.std.specs.Prelude.{ℕ, ⊤, ◌≡◌, ◌≢◌, ◌⊎◌, ◌+◌, ◌*◌, ◌≤◌, List, [], ◌∷◌, length, take, slice_get, Option, Some, None, option_map, Result, Ok, Err}
 use Rattle.fam_base.specs.declared.cmd.Cmd.{Cmd}
 use Rattle.fam_base.specs.declared.entry.Entry.{Entry}
 use Rattle.fam_base.specs.declared.entry.Params.{Params}
 use Rattle.fam_base.specs.Image.{Image, line_at}
 use Rattle.fam_format.specs.declared.faults.SuperFault.{SuperFault}
-use Rattle.fam_format.specs.Layout.{device_units}
 use Rattle.fam_format.specs.Reading.{super_in}
 use Rattle.fam_rules.specs.declared.answers.Refused.{Refused as Cause}
 use Rattle.fam_rules.specs.declared.answers.Refused.TheVariants as cause
 use Rattle.fam_rules.specs.declared.answers.Report.{Report}
-use Rattle.fam_rules.specs.declared.answers.SuperState.TheVariants as superblock
-use Rattle.fam_rules.specs.declared.answers.LogState.TheVariants as log
 use Rattle.fam_rules.specs.Asks.{File, ask, entries_of}
 use Rattle.fam_rules.specs.Decide.{decide}
 use Rattle.fam_rules.specs.Place.{line_bytes}
 use Rattle.fam_rules.specs.Reply as reply
 use Rattle.fam_rules.specs.Reply.{Reply}
-use Rattle.fam_rules.specs.Reports.{is_file, is_directory, report_of, used_count}
+use Rattle.fam_rules.specs.ReportLaws.{IsSoundReport}
+use Rattle.fam_rules.specs.Reports.{report_of}
 use Rattle.fam_journal.specs.Notes.{Answer, Replied, MediaFault, Note, Host, Made, Start, Mark, Found, Writes, Answered, Stop, Halt, Refused}
 use Rattle.fam_journal.specs.Past.{Damage, FewLines, NoSuperblock, BadHeader, BadSlot, State, Bad, Sound, HostPast, Past, acknowledges, first_past, past_after, with_pending}
 
@@ -121,15 +119,7 @@ AskAllowed m given host (Bad image damage gate) = ⊥
 pub record IsReportOf (p : Params) (host : HostPast) (all : List File) (report : Report) : Type 0 where
   pub m : ℕ
   pub bounds : InBounds host m all
-  pub superblock : report.superblock ≡ superblock.Sound
-  pub log : report.log ≡ log.Sound m p.slots
-  pub files : report.files ≡ count_by (λ e. is_file e.kind) (entries_of (take m all))
-  pub directories : report.directories ≡ count_by (λ e. is_directory e.kind) (entries_of (take m all))
-  pub used : report.used ≡ used_count p (entries_of (take m all))
-  pub free : report.free ≡ device_units p - used_count p (entries_of (take m all))
-  pub overlap : report.overlap ≡ None
-  pub bad : report.bad ≡ None
-  pub past : report.past ≤ p.slots - m
+  pub is : IsSoundReport p (entries_of (take m all)) report
 
 abbrev pub ReportAllowed : Report → HostPast → State → Type 0
 ReportAllowed report host (Sound p history pending) = IsReportOf p host (with_pending history pending) report

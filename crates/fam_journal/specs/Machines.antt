@@ -9,6 +9,7 @@ use Rattle.fam_machine.specs.Operations.{Failure, Machine, failed, given, operat
 use Rattle.fam_commands.specs.Stands.{with_given}
 use Rattle.fam_commands.specs.Table as row
 use Rattle.fam_commands.specs.Table.{Row, table}
+use Rattle.fam_commands.specs.Task.{start_slot}
 use Rattle.fam_journal.specs.Members.{changed_at}
 use Rattle.fam_journal.specs.Notes.{Note, Mark, Found, Writes, Answered, Replied, MediaFault}
 
@@ -70,11 +71,11 @@ pub record Done : Type 0 where
 
 -- the operation that comes next, on an image of so many lines
 abbrev pub next_op : TaskState → ℕ → Option Op
-next_op t lines = option_map (λ (r : Row). r.op) (slice_get (table t.cmd t.me lines t.words) t.made)
+next_op t lines = option_map (λ (r : Row). r.op) (slice_get (table start_slot t.cmd t.me lines t.words) t.made)
 
 -- what comes with it: the table is made of the words that the loads gave, this one's with them
 abbrev pub next_note : TaskState → ℕ → Option ℕ → Option row.Note
-next_note t lines word = option_map (λ (r : Row). r.note) (slice_get (table t.cmd t.me lines (with_given t.words word)) t.made)
+next_note t lines word = option_map (λ (r : Row). r.note) (slice_get (table start_slot t.cmd t.me lines (with_given t.words word)) t.made)
 
 -- the task, one operation on
 abbrev pub task_on : TaskState → Option ℕ → TaskState

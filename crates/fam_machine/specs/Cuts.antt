@@ -1,15 +1,39 @@
--- A list of operations, in one of which memory fails.
-use Rattle.std.specs.Prelude.{ℕ, ◌≡◌, ◌<◌, List, ◌∷◌, ◌++◌, Some}
+-- Operations on a host's machine, of which one fails, and what a media shows of the machine that is left.
+use Rattle.std.specs.Prelude.{ℕ, ◌≡◌, ◌<◌, List, ◌∷◌, ◌++◌, Option, Some}
+use Rattle.fam_base.specs.Image.{Image}
+use Rattle.fam_base.specs.declared.line.LineNo.{LineNo}
 use Rattle.fam_machine.specs.declared.op.Op.{Op}
+use Rattle.fam_machine.specs.Caches.{Cache}
 use Rattle.fam_machine.specs.Operations.{Machine, failed, operated_all, line_no}
 
--- of the operations the first ones were done, and in the next one, at this line, memory failed: of the words that it
--- sends, where it sends, a mask of a line's eight words says which came through. This machine is left
-pub record Cuts (ops : List Op) (m : Machine) (line : ℕ) (left : Machine) : Type 0 where
+-- a modelled image and a cache are this machine's
+pub record IsMachine (m : Machine) (shown : Option Image) (held : Cache) : Type 0 where
+  pub image : shown ≡ Some m.image
+  pub cache : held ≡ m.cache
+
+-- memory failed in the operation on this machine, at this line: of the words that it sends, where it sends, a mask of a
+-- line's eight words says which came through. This machine is left
+pub record Fails (op : Op) (m : Machine) (line : LineNo) (left : Machine) : Type 0 where
+  pub through : ℕ
+  pub fits : through < 256
+  pub is : failed through op m ≡ Some (record { line = line; left = left })
+
+-- of the operations the first ones were done, and the next one failed at this line. This machine is left
+pub record Cuts (ops : List Op) (m : Machine) (line : LineNo) (left : Machine) : Type 0 where
   pub done : List Op
   pub op : Op
   pub rest : List Op
   pub split : ops ≡ done ++ op ∷ rest
-  pub through : ℕ
-  pub fits : through < 256
-  pub fails : failed through op (operated_all done m) ≡ Some (record { line = line_no line; left = left })
+  pub fails : Fails op (operated_all done m) line left
+
+-- the operation failed at this line, and a modelled image and a cache are what is left
+pub record HasFailed (op : Op) (m : Machine) (line : LineNo) (shown : Option Image) (held : Cache) : Type 0 where
+  pub left : Machine
+  pub fails : Fails op m line left
+  pub is : IsMachine left shown held
+
+-- so did one of these operations
+pub record HasCut (ops : List Op) (m : Machine) (line : LineNo) (shown : Option Image) (held : Cache) : Type 0 where
+  pub left : Machine
+  pub cuts : Cuts ops m line left
+  pub is : IsMachine left shown held

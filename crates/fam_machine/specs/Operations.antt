@@ -30,6 +30,14 @@ IsInside (WriteBack line) image = line.0 < length image
 IsInside (Invalidate line) image = line.0 < length image
 IsInside Digest image = ⊤
 
+-- the operation's line is one of so many, and its word one of a line's eight
+abbrev pub IsWithin : ℕ → Op → Type 0
+IsWithin lines (Load line word) = (line.0 < lines) × (word < 8)
+IsWithin lines (Store line word value) = (line.0 < lines) × (word < 8)
+IsWithin lines (WriteBack line) = line.0 < lines
+IsWithin lines (Invalidate line) = line.0 < lines
+IsWithin lines Digest = ⊤
+
 -- memory, and the cache of the host that operates on it
 pub record Machine : Type 0 where
   pub image : Image

@@ -1,5 +1,3 @@
-pub mod Rows
-pub mod Steps
 pub mod WholeLines
 pub mod SuperLines
 pub mod SuperPuts

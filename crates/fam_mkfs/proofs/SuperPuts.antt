@@ -10,38 +10,39 @@ use Rattle.fam_format.specs.Super.{magic_line, super_words}
 use Rattle.fam_rules.specs.Written.{Put, zero_line}
 use Rattle.fam_machine.specs.declared.op.Op.{Op}
 use Rattle.fam_machine.specs.Mkfs.{put_ops, write_ops}
-use Rattle.fam_mkfs.specs.Runs.{Seen, Passes, Breaks}
-use Rattle.fam_mkfs.proofs.Rows.{passes_both, breaks_first, breaks_second}
+use Rattle.fam_base.specs.declared.line.LineNo.{LineNo}
+use Rattle.fam_cache.specs.Runs.{CacheOver, AreDone, AreCut}
+use Rattle.fam_cache.proofs.Runs.{done_both, cut_first, cut_second}
 
 -- Six rows of operations, joined.
 module _ (a b c d e f : List Op) where
   abbrev pub six : List Op
   six = a ++ (b ++ (c ++ (d ++ (e ++ f))))
 
-  pub six_pass : (s t u v w x y : Seen) → Passes a s t → Passes b t u → Passes c u v → Passes d v w → Passes e w x → Passes f x y → Passes six s y
-  six_pass s t u v w x y pa pb pc pd pe pf =
-      passes_both a _ s t y pa (passes_both b _ t u y pb (passes_both c _ u v y pc (passes_both d _ v w y pd (passes_both e f w x y pe pf))))
+  pub six_done : (s t u v w x y : CacheOver) → AreDone a s t → AreDone b t u → AreDone c u v → AreDone d v w → AreDone e w x → AreDone f x y → AreDone six s y
+  six_done s t u v w x y pa pb pc pd pe pf =
+      done_both a _ s t y pa (done_both b _ t u y pb (done_both c _ u v y pc (done_both d _ v w y pd (done_both e f w x y pe pf))))
 
-  pub break_1 : (line : ℕ) (s t : Seen) → Breaks a line s t → Breaks six line s t
-  break_1 line s t broken = breaks_first a _ line s t broken
+  pub cut_1 : (line : LineNo) (s t : CacheOver) → AreCut a line s t → AreCut six line s t
+  cut_1 line s t cut = cut_first a _ line s t cut
 
-  pub break_2 : (line : ℕ) (s t u : Seen) → Passes a s t → Breaks b line t u → Breaks six line s u
-  break_2 line s t u pa broken = breaks_second a _ line s t u pa (breaks_first b _ line t u broken)
+  pub cut_2 : (line : LineNo) (s t u : CacheOver) → AreDone a s t → AreCut b line t u → AreCut six line s u
+  cut_2 line s t u pa cut = cut_second a _ line s t u pa (cut_first b _ line t u cut)
 
-  pub break_3 : (line : ℕ) (s t u v : Seen) → Passes a s t → Passes b t u → Breaks c line u v → Breaks six line s v
-  break_3 line s t u v pa pb broken = breaks_second a _ line s t v pa (breaks_second b _ line t u v pb (breaks_first c _ line u v broken))
+  pub cut_3 : (line : LineNo) (s t u v : CacheOver) → AreDone a s t → AreDone b t u → AreCut c line u v → AreCut six line s v
+  cut_3 line s t u v pa pb cut = cut_second a _ line s t v pa (cut_second b _ line t u v pb (cut_first c _ line u v cut))
 
-  pub break_4 : (line : ℕ) (s t u v w : Seen) → Passes a s t → Passes b t u → Passes c u v → Breaks d line v w → Breaks six line s w
-  break_4 line s t u v w pa pb pc broken =
-      breaks_second a _ line s t w pa (breaks_second b _ line t u w pb (breaks_second c _ line u v w pc (breaks_first d _ line v w broken)))
+  pub cut_4 : (line : LineNo) (s t u v w : CacheOver) → AreDone a s t → AreDone b t u → AreDone c u v → AreCut d line v w → AreCut six line s w
+  cut_4 line s t u v w pa pb pc cut =
+      cut_second a _ line s t w pa (cut_second b _ line t u w pb (cut_second c _ line u v w pc (cut_first d _ line v w cut)))
 
-  pub break_5 : (line : ℕ) (s t u v w x : Seen) → Passes a s t → Passes b t u → Passes c u v → Passes d v w → Breaks e line w x → Breaks six line s x
-  break_5 line s t u v w x pa pb pc pd broken =
-      breaks_second a _ line s t x pa (breaks_second b _ line t u x pb (breaks_second c _ line u v x pc (breaks_second d _ line v w x pd (breaks_first e f line w x broken))))
+  pub cut_5 : (line : LineNo) (s t u v w x : CacheOver) → AreDone a s t → AreDone b t u → AreDone c u v → AreDone d v w → AreCut e line w x → AreCut six line s x
+  cut_5 line s t u v w x pa pb pc pd cut =
+      cut_second a _ line s t x pa (cut_second b _ line t u x pb (cut_second c _ line u v x pc (cut_second d _ line v w x pd (cut_first e f line w x cut))))
 
-  pub break_6 : (line : ℕ) (s t u v w x y : Seen) → Passes a s t → Passes b t u → Passes c u v → Passes d v w → Passes e w x → Breaks f line x y → Breaks six line s y
-  break_6 line s t u v w x y pa pb pc pd pe broken =
-      breaks_second a _ line s t y pa (breaks_second b _ line t u y pb (breaks_second c _ line u v y pc (breaks_second d _ line v w y pd (breaks_second e f line w x y pe broken))))
+  pub cut_6 : (line : LineNo) (s t u v w x y : CacheOver) → AreDone a s t → AreDone b t u → AreDone c u v → AreDone d v w → AreDone e w x → AreCut f line x y → AreCut six line s y
+  cut_6 line s t u v w x y pa pb pc pd pe cut =
+      cut_second a _ line s t y pa (cut_second b _ line t u y pb (cut_second c _ line u v y pc (cut_second d _ line v w y pd (cut_second e f line w x y pe cut))))
 
 -- lines 0, 1 and 2 and the header are those of these parameters
 pub record Spelled (p : Params) (lines : List (List ℕ)) (header : List ℕ) : Type 0 where

@@ -1,69 +1,124 @@
 -- A whole line, by its operations.
-use Rattle.std.proofs.Common.{ℕ, ◌≡◌, ◌+◌, ◌<◌, List, [], ◌∷◌, ◌++◌, length, map, get_or, Some, Result, sym, ap, subst, ◌∙◌, arith, IsErr, IsErrAnd, IfErr, Ok, Err}
+use Prim.Native.Nat.{zero, suc}
+use Rattle.std.proofs.Common.{ℕ, ◌≡◌, ◌≢◌, ◌+◌, ◌-◌, ◌<◌, ◌≤◌, Option, Some, set, get_or-set_other, get_or-set_same, below_more, List, [], ◌∷◌, ◌++◌, length, map, get_or, Result, append_assoc, refl, sym, ap, subst, ◌∙◌, arith, IsErr, IsErrAnd, IfErr, Ok, Err}
 use Rattle.std.specs.List.{range_with_len}
 use Rattle.std.proofs.lemmas.List.FromFn.{map-range_with_len_more}
 use Rattle.std.proofs.lemmas.Bool.{false≢true}
-use Rattle.fam_base.specs.Image.{eight, line_at}
+use Rattle.fam_base.specs.Image.{Image, eight}
 use Rattle.fam_machine.specs.declared.cell.Cell.{Cell}
-use Rattle.fam_machine.specs.declared.cell.Cell.TheVariants.{Absent, Clean}
+use Rattle.fam_machine.specs.Caches.{Cache, cell_at, cell_changed}
+use Rattle.fam_machine.specs.OneLine.{IsHeld, brought, words_of}
+use Rattle.fam_cache.specs.Effects.{FromMemory}
+use Rattle.fam_cache.proofs.Performed.{held_loaded}
+use Rattle.std.proofs.lemmas.Option.{same_Some}
+use Rattle.fam_base.specs.declared.line.LineNo.{LineNo}
+use Rattle.fam_cache.specs.Runs.{AreCut, AreDone, CacheOver}
+use Rattle.fam_cache.proofs.Runs.{cut_as, cut_first, cut_second, done_both}
 use Rattle.fam_machine.specs.declared.op.Op.{Op}
 use Rattle.fam_machine.specs.declared.op.Op.TheVariants.{Load, Store, Invalidate}
-use Rattle.fam_machine.specs.Caches.{with_cell}
-use Rattle.fam_machine.specs.OneLine.{brought}
-use Rattle.fam_machine.specs.Operations.{Machine, machine, operated, operated_all, load_ops, store_ops, line_no}
-use Rattle.fam_machine.proofs.CacheLemmas.{cell_at-with_cell_same, with_cell_twice}
-use Rattle.fam_machine.proofs.LinePuts.{line_loaded}
-use Rattle.fam_mkfs.specs.declared.lines.FailedAt.{FailedAt}
+use Rattle.fam_machine.specs.Operations.{load_ops, store_ops, line_no}
 use Rattle.fam_machine.specs.Mkfs.{put_ops}
-use Rattle.fam_mkfs.specs.Runs.{Seen, Passes, Breaks}
-use Rattle.fam_mkfs.proofs.Rows.{passes_both, breaks_first, breaks_second}
+use Rattle.fam_mkfs.specs.declared.lines.FailedAt.{FailedAt}
 
 -- an error that is handed on says what it said
-pub err_breaks : {T : Type 0} (ops : List Op) (s t : Seen) (at : FailedAt) (r : Result T FailedAt) → IsErr r × IsErrAnd r (λ x. x ≡ at) → Breaks ops at.0.0 s t → IfErr r (λ x. Breaks ops x.0.0 s t)
-err_breaks ops s t at (Ok x) is b = absurd (false≢true is.0)
-err_breaks ops s t at (Err x) is b = subst (λ (x : FailedAt). Breaks ops x.0.0 s t) (sym is.1) b
+pub cut_on : {T : Type 0} (ops : List Op) (s t : CacheOver) (at : FailedAt) (r : Result T FailedAt) → IsErr r × IsErrAnd r (λ x. x ≡ at) → AreCut ops at.0 s t → IfErr r (λ x. AreCut ops x.0 s t)
+cut_on ops s t at (Ok x) is cut = absurd (false≢true is.0)
+cut_on ops s t at (Err x) is cut = subst (λ (x : FailedAt). AreCut ops x.0 s t) (sym is.1) cut
 
--- the loads behind the first one change nothing
-all_loads : (line : ℕ) (m : Machine) → operated_all (load_ops line 8) m ≡ operated_all (Invalidate (line_no line) ∷ Load (line_no line) 0 ∷ []) m
-all_loads line m =
-    let image = (operated (Invalidate (line_no line)) m).image in
-    line_loaded line m
-    ∙ sym (ap (machine image)
-    (ap (λ (cell : Cell). with_cell line (brought (line_at image line) cell) (with_cell line Absent m.cache)) (cell_at-with_cell_same line Absent m.cache)
-    ∙ with_cell_twice line Absent (Clean (line_at image line)) m.cache))
+-- eight operations: those before one of them, it, and those behind it
+split : (f : ℕ → Op) (k : ℕ) → k < 8 → map f (range_with_len 0 k) ++ ((f k ∷ []) ++ map f (range_with_len (k + 1) (7 - k))) ≡ map f (range_with_len 0 8)
+split f zero below = refl
+split f (suc zero) below = refl
+split f (suc (suc zero)) below = refl
+split f (suc (suc (suc zero))) below = refl
+split f (suc (suc (suc (suc zero)))) below = refl
+split f (suc (suc (suc (suc (suc zero))))) below = refl
+split f (suc (suc (suc (suc (suc (suc zero)))))) below = refl
+split f (suc (suc (suc (suc (suc (suc (suc zero))))))) below = refl
+split f (suc (suc (suc (suc (suc (suc (suc (suc k)))))))) below = absurd (omega arith)
 
-pub line_read : (line : ℕ) (s t u : Seen) → Passes (Invalidate (line_no line) ∷ []) s t → Passes (Load (line_no line) 0 ∷ []) t u → Passes (load_ops line 8) s u
-line_read line s t u p q =
-    let both = passes_both (Invalidate (line_no line) ∷ []) (Load (line_no line) 0 ∷ []) s t u p q in
-    record {
-      image = λ image is. both.image image is ∙ ap (λ (m : Machine). Some m.image) (sym (all_loads line (machine image s.lines)));
-      lines = λ image is. both.lines image is ∙ ap (λ (m : Machine). m.cache) (sym (all_loads line (machine image s.lines)));
-    }
+-- one word more
+more : (ops : List Op) (f : ℕ → Op) (k : ℕ) (s t u : CacheOver) → AreDone (ops ++ map f (range_with_len 0 k)) s t → AreDone (f k ∷ []) t u → AreDone (ops ++ map f (range_with_len 0 (k + 1))) s u
+more ops f k s t u p q =
+    subst (λ (o : List Op). AreDone o s u) (append_assoc ops (map f (range_with_len 0 k)) (f k ∷ []) ∙ ap (λ (o : List Op). ops ++ o) (sym (map-range_with_len_more f 0 k k (omega arith))))
+    (done_both (ops ++ map f (range_with_len 0 k)) (f k ∷ []) s t u p q)
 
--- one more word is stored
-pub store_more : (line : ℕ) (words : List ℕ) (k : ℕ) (s t u : Seen) → Passes (map (λ k. Store (line_no line) k (get_or words k 0)) (range_with_len 0 k)) s t → Passes (Store (line_no line) k (get_or words k 0) ∷ []) t u → Passes (map (λ k. Store (line_no line) k (get_or words k 0)) (range_with_len 0 (k + 1))) s u
-store_more line words k s t u p q =
-    subst (λ (ops : List Op). Passes ops s u) (sym (map-range_with_len_more (λ (k : ℕ). Store (line_no line) k (get_or words k 0)) 0 k k (omega arith)))
-    (passes_both _ (Store (line_no line) k (get_or words k 0) ∷ []) s t u p q)
+-- the next word fails
+fails_at : (ops : List Op) (f : ℕ → Op) (k : ℕ) (line : LineNo) (s t u : CacheOver) → k < 8 → AreDone (ops ++ map f (range_with_len 0 k)) s t → AreCut (f k ∷ []) line t u → AreCut (ops ++ map f (range_with_len 0 8)) line s u
+fails_at ops f k line s t u below p q =
+    let rest = map f (range_with_len (k + 1) (7 - k)) in
+    cut_as _ (ops ++ map f (range_with_len 0 8)) line s u
+    (append_assoc ops (map f (range_with_len 0 k)) ((f k ∷ []) ++ rest) ∙ ap (λ (o : List Op). ops ++ o) (split f k below))
+    (cut_second (ops ++ map f (range_with_len 0 k)) ((f k ∷ []) ++ rest) line s t u p (cut_first (f k ∷ []) rest line t u q))
 
--- all of them
-all_stored : (line : ℕ) (words : List ℕ) (k : ℕ) (s t : Seen) → k ≡ 8 → Passes (map (λ k. Store (line_no line) k (get_or words k 0)) (range_with_len 0 k)) s t → Passes (store_ops line words) s t
-all_stored line words k s t is p = subst (λ (k : ℕ). Passes (map (λ k. Store (line_no line) k (get_or words k 0)) (range_with_len 0 k)) s t) is p
+-- A line is dropped and read.
 
--- A line is put: the first store fails, or the send, or all is done.
-pub put_broken_first : (line : ℕ) (words : List ℕ) (at : ℕ) (s t : Seen) → Breaks (Store (line_no line) 0 (get_or words 0 0) ∷ []) at s t → Breaks (put_ops (line, words)) at s t
+pub load_more : (line k : ℕ) (s t u : CacheOver) → AreDone (load_ops line k) s t → AreDone (Load (line_no line) k ∷ []) t u → AreDone (load_ops line (k + 1)) s u
+load_more line k s t u p q = more (Invalidate (line_no line) ∷ []) (λ k. Load (line_no line) k) k s t u p q
+
+pub load_cut : (line k : ℕ) (at : LineNo) (s t u : CacheOver) → k < 8 → AreDone (load_ops line k) s t → AreCut (Load (line_no line) k ∷ []) at t u → AreCut (load_ops line 8) at s u
+load_cut line k at s t u below p q = fails_at (Invalidate (line_no line) ∷ []) (λ k. Load (line_no line) k) k at s t u below p q
+
+pub drop_cut : (line : ℕ) (at : LineNo) (s t : CacheOver) → AreCut (Invalidate (line_no line) ∷ []) at s t → AreCut (load_ops line 8) at s t
+drop_cut line at s t cut = cut_first (Invalidate (line_no line) ∷ []) (map (λ k. Load (line_no line) k) (range_with_len 0 8)) at s t cut
+
+pub all_loaded : (line k : ℕ) (s t : CacheOver) → k ≡ 8 → AreDone (load_ops line k) s t → AreDone (load_ops line 8) s t
+all_loaded line k s t is p = subst (λ (k : ℕ). AreDone (load_ops line k) s t) is p
+
+-- A line is stored, sent and dropped.
+
+-- the stores of its first so many words
+abbrev pub stores : ℕ → List ℕ → ℕ → List Op
+stores line words count = map (λ k. Store (line_no line) k (get_or words k 0)) (range_with_len 0 count)
+
+pub store_more : (line : ℕ) (words : List ℕ) (k : ℕ) (s t u : CacheOver) → AreDone (stores line words k) s t → AreDone (Store (line_no line) k (get_or words k 0) ∷ []) t u → AreDone (stores line words (k + 1)) s u
+store_more line words k s t u p q = more [] (λ k. Store (line_no line) k (get_or words k 0)) k s t u p q
+
+pub store_cut : (line : ℕ) (words : List ℕ) (k : ℕ) (at : LineNo) (s t u : CacheOver) → k < 8 → AreDone (stores line words k) s t → AreCut (Store (line_no line) k (get_or words k 0) ∷ []) at t u → AreCut (put_ops (line, words)) at s u
 unfolding put_ops
-put_broken_first line words at s t broken =
-    breaks_first (Store (line_no line) 0 (get_or words 0 0) ∷ []) (map (λ k. Store (line_no line) k (get_or words k 0)) (1 ∷ 2 ∷ 3 ∷ 4 ∷ 5 ∷ 6 ∷ 7 ∷ []) ++ Invalidate (line_no line) ∷ []) at s t broken
+store_cut line words k at s t u below p q =
+    cut_first (store_ops line words) (Invalidate (line_no line) ∷ []) at s u (fails_at [] (λ k. Store (line_no line) k (get_or words k 0)) k at s t u below p q)
 
-pub put_broken_last : (line : ℕ) (words : List ℕ) (k at : ℕ) (s t u : Seen) → k ≡ 8 → Passes (map (λ k. Store (line_no line) k (get_or words k 0)) (range_with_len 0 k)) s t → Breaks (Invalidate (line_no line) ∷ []) at t u → Breaks (put_ops (line, words)) at s u
-unfolding put_ops
-put_broken_last line words k at s t u is p broken =
-    breaks_second (store_ops line words) (Invalidate (line_no line) ∷ []) at s t u (all_stored line words k s t is p) broken
+all_stored : (line : ℕ) (words : List ℕ) (k : ℕ) (s t : CacheOver) → k ≡ 8 → AreDone (stores line words k) s t → AreDone (store_ops line words) s t
+all_stored line words k s t is p = subst (λ (k : ℕ). AreDone (stores line words k) s t) is p
 
-pub put_passed : (line : ℕ) (words : List ℕ) (k : ℕ) (s t u : Seen) → k ≡ 8 → Passes (map (λ k. Store (line_no line) k (get_or words k 0)) (range_with_len 0 k)) s t → Passes (Invalidate (line_no line) ∷ []) t u → Passes (put_ops (line, words)) s u
+pub send_cut : (line : ℕ) (words : List ℕ) (k : ℕ) (at : LineNo) (s t u : CacheOver) → k ≡ 8 → AreDone (stores line words k) s t → AreCut (Invalidate (line_no line) ∷ []) at t u → AreCut (put_ops (line, words)) at s u
 unfolding put_ops
-put_passed line words k s t u is p q = passes_both (store_ops line words) (Invalidate (line_no line) ∷ []) s t u (all_stored line words k s t is p) q
+send_cut line words k at s t u is p cut = cut_second (store_ops line words) (Invalidate (line_no line) ∷ []) at s t u (all_stored line words k s t is p) cut
+
+pub put_done : (line : ℕ) (words : List ℕ) (k : ℕ) (s t u : CacheOver) → k ≡ 8 → AreDone (stores line words k) s t → AreDone (Invalidate (line_no line) ∷ []) t u → AreDone (put_ops (line, words)) s u
+unfolding put_ops
+put_done line words k s t u is p q = done_both (store_ops line words) (Invalidate (line_no line) ∷ []) s t u (all_stored line words k s t is p) q
+
+-- What the loops keep.
+
+-- an operation at one line asks for no other
+pub line_differs : (line : LineNo) (other : ℕ) → other ≢ line.0 → Some line ≢ Some (line_no other)
+line_differs line other differs same = differs (let one : line ≡ line_no other = same_Some line (line_no other) same in sym (ap (λ (l : LineNo). l.0) one))
+
+-- only the first word takes a place
+pub spare_kept : (word first old new : ℕ) (Held : Type 0) → (0 < word → Held) → (Held → old ≤ new) → old ≤ new + 1 → (word ≡ 0 → first ≤ old) → first ≤ old + 1 → first ≤ new + 1
+spare_kept zero first old new Held held held_spare spare begun before = omega (arith, begun refl)
+spare_kept (suc word) first old new Held held held_spare spare begun before = omega (arith, held_spare (held (omega arith)))
+
+-- and none where the line was held before
+pub held_spare_kept : (word first old new : ℕ) (Held : Type 0) → (0 < word → Held) → (word ≡ 0 → Held) → (Held → old ≤ new) → first ≤ old → first ≤ new
+held_spare_kept zero first old new Held held begun held_spare before = omega (arith, held_spare (begun refl))
+held_spare_kept (suc word) first old new Held held begun held_spare before = omega (arith, held_spare (held (omega arith)))
+
+same_copy : (word : ℕ) (told : Option Image) (line : ℕ) (old new : Cache) → 0 < word → (0 < word → IsHeld (cell_at old line)) → FromMemory told line (λ memory. new ≡ cell_changed line (brought memory) old) → cell_at new line ≡ cell_at old line
+same_copy word told line old new some held from = ap (λ (cache : Cache). cell_at cache line) (held_loaded told line old new (held some) from)
+
+-- one word more was loaded from the line's copy
+pub words_more : (words : List ℕ) (k value : ℕ) (told : Option Image) (line : ℕ) (old new : Cache) → length words ≡ 8 → k < 8 → ((j : ℕ) → j < k → get_or words j 0 ≡ get_or (words_of (cell_at old line)) j 0) → (0 < k → IsHeld (cell_at old line)) → FromMemory told line (λ memory. new ≡ cell_changed line (brought memory) old) → value ≡ get_or (words_of (cell_at new line)) k 0
+    → (j : ℕ) → j < k + 1 → get_or (set words k value) j 0 ≡ get_or (words_of (cell_at new line)) j 0
+words_more words k value told line old new wide below before held from read =
+    below_more (λ j. get_or (set words k value) j 0 ≡ get_or (words_of (cell_at new line)) j 0) k
+    (λ j less.
+    let other : j ≢ k = omega arith in
+    let copy : cell_at new line ≡ cell_at old line = same_copy k told line old new (omega arith) held from in
+    get_or-set_other words k j value 0 other ∙ before j less ∙ ap (λ (c : Cell). get_or (words_of c) j 0) (sym copy))
+    (let lt : k < length words = omega arith in get_or-set_same words k value 0 lt ∙ read)
 
 -- the eight words of a list by their places
 pub eight_words : (xs ys : List ℕ) → length xs ≡ 8 → ((k : ℕ) → k < 8 → get_or xs k 0 ≡ get_or ys k 0) → xs ≡ eight ys

@@ -11,7 +11,8 @@ ghost use Rattle.fam_machine.specs.Mkfs as spec;
 ghost use Rattle.fam_mkfs.specs.Ends.{Ends};
 ghost use Rattle.fam_mkfs.specs.Parts.{HeldLines, IsElsewhere, Stands};
 ghost use Rattle.fam_mkfs.specs.Refusals as refusals;
-ghost use Rattle.fam_mkfs.specs.Runs.{Breaks, Leaves, Passes, seen};
+ghost use Rattle.fam_media.specs.Causes.{IsSteady, Rose};
+ghost use Rattle.fam_cache.specs.Runs.{AreCut, AreDone, over};
 
 use crate::lines::{FailedAt, read_line, write_line};
 use fam_base::{Line, LineNo, OutOfMemory, Params};
@@ -84,10 +85,10 @@ fn read_super_lines<M: Media>(cache: &mut HostCache, media: &mut M) -> Result<[L
     requires within { 2 < M.size media.old }
     requires room { 3 ≤ cache.old.spare }
 
-    ensures passes { OnOk result (Passes spec.read_ops
-        (seen (M.image media.old) cache.old.lines) (seen (M.image media.new) cache.new.lines)) }
-    ensures breaks { IfErr result (λ at. Breaks spec.read_ops at.0.0
-        (seen (M.image media.old) cache.old.lines) (seen (M.image media.new) cache.new.lines)) }
+    ensures done { OnOk result (AreDone spec.read_ops
+        (over (M.image media.old) cache.old.lines) (over (M.image media.new) cache.new.lines)) }
+    ensures cut { IfErr result (λ at. AreCut spec.read_ops at.0
+        (over (M.image media.old) cache.old.lines) (over (M.image media.new) cache.new.lines)) }
     ensures found { IfOk result (λ lines. (image : Image) → M.image media.old ≡ Some image
         → (have : ℕ) → super_in (line_at lines) have
         ≡ super_in (line_at (operated_all spec.read_ops (machine image cache.old.lines)).image) have) }
@@ -95,8 +96,9 @@ fn read_super_lines<M: Media>(cache: &mut HostCache, media: &mut M) -> Result<[L
     ensures others { (line : ℕ) → IsElsewhere line
         → cell_at cache.new.lines line ≡ cell_at cache.old.lines line }
     ensures spare { OnOk result (cache.old.spare ≤ cache.new.spare + 3) }
-    ensures leaves { Leaves (M.size media.old) (M.size media.new)
-        (M.faults media.old) (M.faults media.new) result }
+    ensures within { IfErr result (λ at. at.0.0 < M.size media.old) }
+    ensures rose { OnErr result (Rose (M.faults media.old) (M.faults media.new)) }
+    ensures steady { IsSteady M.size M.faults media.old media.new }
 {
     let magic = read_line(cache, media, LineNo(0))?;
     let first = read_line(cache, media, LineNo(1))?;
@@ -128,14 +130,15 @@ fn write_super<M: Media>(
     requires held { HeldLines cache.old.lines }
     requires room { 3 ≤ cache.old.spare }
 
-    ensures passes { OnOk result (Passes (spec.write_ops params.now)
-        (seen (M.image media.old) cache.old.lines) (seen (M.image media.new) cache.new.lines)) }
-    ensures breaks { IfErr result (λ at. Breaks (spec.write_ops params.now) at.0.0
-        (seen (M.image media.old) cache.old.lines) (seen (M.image media.new) cache.new.lines)) }
+    ensures done { OnOk result (AreDone (spec.write_ops params.now)
+        (over (M.image media.old) cache.old.lines) (over (M.image media.new) cache.new.lines)) }
+    ensures cut { IfErr result (λ at. AreCut (spec.write_ops params.now) at.0
+        (over (M.image media.old) cache.old.lines) (over (M.image media.new) cache.new.lines)) }
     ensures others { (line : ℕ) → IsElsewhere line
         → cell_at cache.new.lines line ≡ cell_at cache.old.lines line }
-    ensures leaves { Leaves (M.size media.old) (M.size media.new)
-        (M.faults media.old) (M.faults media.new) result }
+    ensures within { IfErr result (λ at. at.0.0 < M.size media.old) }
+    ensures rose { OnErr result (Rose (M.faults media.old) (M.faults media.new)) }
+    ensures steady { IsSteady M.size M.faults media.old media.new }
 {
     let [magic, first, second] = Super::spell(params);
     let header = spell_log(params);
@@ -154,12 +157,11 @@ fn make<M: Media>(cache: &mut HostCache, media: &mut M, params: &Params, force: 
     requires room { 6 ≤ cache.old.spare }
 
     ensures ends { Ends params.now force (M.size media.old)
-        (seen (M.image media.old) cache.old.lines) (seen (M.image media.new) cache.new.lines)
+        (over (M.image media.old) cache.old.lines) (over (M.image media.new) cache.new.lines)
         (M.faults media.old) (M.faults media.new) result }
     ensures others { (line : ℕ) → IsElsewhere line
         → cell_at cache.new.lines line ≡ cell_at cache.old.lines line }
-    ensures size { M.size media.new ≡ M.size media.old }
-    ensures later { M.faults media.old ≤ M.faults media.new }
+    ensures steady { IsSteady M.size M.faults media.old media.new }
 {
     let lines = match read_super_lines(cache, media) {
         Ok(lines) => lines,
@@ -199,7 +201,7 @@ pub fn mkfs<M: Media>(
 
     ensures ends { refusals.refusal unit log (line_bytes * M.size media.old) ≡ None → IfOk result
         (Ends (spec.asked unit log fs me (M.size media.old)) force (M.size media.old)
-        (seen (M.image media.old) cache.old.lines) (seen (M.image media.new) cache.new.lines)
+        (over (M.image media.old) cache.old.lines) (over (M.image media.new) cache.new.lines)
         (M.faults media.old) (M.faults media.new)) }
 
     // The cache has of every other line what it had, also where nothing is told.
@@ -210,8 +212,7 @@ pub fn mkfs<M: Media>(
     ensures undone { OnErr result (media.new ≡ media.old) }
     ensures kept { OnErr result (cache.new ≡ cache.old) }
 
-    ensures size { M.size media.new ≡ M.size media.old }
-    ensures later { M.faults media.old ≤ M.faults media.new }
+    ensures steady { IsSteady M.size M.faults media.old media.new }
 {
     let params = asked(unit, log, fs, me, media.lines());
     if let Some(end) = refusal(unit, log, params.device) {

@@ -11,8 +11,11 @@ ghost use Rattle.fam_plain.specs.Says.{Says};
 
 use crate::join::join_fault;
 use fam_base::{Entry, Line, OutOfMemory, Params};
-use fam_entry::{SLOT_WORDS, read_entry, read_log};
-use fam_format::{GATE_LINE, LOG_LINE, LogFault, LogField, Reason, SLOT_LINES, SuperFault};
+use fam_entry::{read_entry, read_log};
+use fam_format::{
+    GATE_LINE, LINE_BYTES, LINE_WORDS, LOG_LINE, LogFault, LogField, Reason, SLOT_LINES,
+    SLOT_WORDS, SuperFault,
+};
 use fam_super::read_super;
 use std::alloc::Global;
 
@@ -39,18 +42,19 @@ fn line_of(image: &[Line], at: u64) -> Line
             line[0], line[1], line[2], line[3], line[4], line[5], line[6], line[7],
         ]
     } else {
-        [0; 8]
+        [0; LINE_WORDS]
     }
 }
 
 /// Word `k` of slot `i`.
-fn slot_word(image: &[Line], i: u64, k: u64) -> u64
+fn slot_word(image: &[Line], i: u64, k: usize) -> u64
     requires slot { i < 2 ^ 32 }
     requires word { k < SLOT_WORDS }
     ensures { (p : Params) → result ≡ format.slot_word (line_at image.now) p i k }
 {
-    let line = line_of(image, LOG_LINE + SLOT_LINES + SLOT_LINES * i + k / 8);
-    line[(k % 8) as usize]
+    let first = LOG_LINE + SLOT_LINES + SLOT_LINES * i;
+    let line = line_of(image, first + (k / LINE_WORDS) as u64);
+    line[k % LINE_WORDS]
 }
 
 /// The words of slot `i`.
@@ -60,7 +64,7 @@ fn slot_words(image: &[Line], i: u64) -> [u64; SLOT_WORDS]
 {
     let mut words = [0; SLOT_WORDS];
     for k in 0..SLOT_WORDS {
-        words[k] = slot_word(image, i, k as u64);
+        words[k] = slot_word(image, i, k);
     }
     words
 }
@@ -150,11 +154,11 @@ fn read_header(alloc: Global, image: &[Line], params: &Params) -> Result<Reading
 #[tactic(auto, unfolding(fam_format::specs::Reading::reading_of))]
 pub fn plain_reading(alloc: Global, image: &[Line]) -> Result<Reading, OutOfMemory>
     requires enough { layout.least_lines ≤ length image.now }
-    requires fits { 64 * length image.now ≤ layout.device_limit }
+    requires fits { LINE_BYTES * length image.now ≤ layout.device_limit }
     ensures { IfOk result (λ r. Says r (format.reading image.now)) }
 {
     let lines = [line_of(image, 0), line_of(image, 1), line_of(image, 2)];
-    match read_super(&lines, 64 * image.len() as u64) {
+    match read_super(&lines, LINE_BYTES * image.len() as u64) {
         Ok(params) => read_header(alloc, image, &params),
         Err(fault) => Ok(Reading::NoSuperblock(fault)),
     }

@@ -74,7 +74,7 @@ module _ (image : Lines) (have : ℕ) (t : Task) (place : Place) (words : List �
 
   -- nor that no slot is read
   pub none_moved : NoSlot t → NoSlot moved
-  none_moved n = record { entries = n.entries; survey = n.survey }
+  none_moved n = record { first = n.first; entries = n.entries; survey = n.survey }
 
   count_moved : slots_read moved ≡ slots_read t
   count_moved = slots_alike moved t refl refl refl
@@ -120,7 +120,7 @@ module _ (image : Lines) (have : ℕ) (uuid : ℕ → Option (List ℕ)) (host :
       goes master = record {
         me = me;
         lines = lines;
-        place = ((record { entries = none.entries; survey = none.survey }, record { super = super; master = master }), omega arith, is_loaded image next Header tt 0 0 refl);
+        place = ((record { first = none.first; entries = none.entries; survey = none.survey }, record { super = super; master = master }), omega arith, is_loaded image next Header tt 0 0 refl);
       }
 
       test : (b : Bool) → path_eq t.me p.master ≡ b → Turned (host_turn t p (cond b None (Some (NotMaster t.me p.master))))
@@ -197,8 +197,13 @@ module _ (image : Lines) (have : ℕ) (uuid : ℕ → Option (List ℕ)) (host :
             remains = remains;
           }
 
+          placed : AtBadPlace (with_gate t word).place image have host (with_gate t word) s
+          placed =
+              subst (λ (i : ℕ). AtBadPlace (slot_or_decide (record t { gate = word }) i) image have host (with_gate t word) s) (sym none.first)
+              (next_slot (record t { gate = word }) (with_gate t word) 0 (slots_alike (record t { gate = word }) (with_gate t word) refl refl refl) slots (omega arith) words)
+
           holds : BadTaskHolds image have uuid host (with_gate t word) s
-          holds = record { me = me; lines = lines; place = next_slot (record t { gate = word }) (with_gate t word) 0 (slots_alike (record t { gate = word }) (with_gate t word) refl refl refl) slots (omega arith) words }
+          holds = record { me = me; lines = lines; place = placed }
 
           bad_slot : (w : Wish) → wish_of t.cmd ≡ Some w → FindsBad image have word
           bad_slot w wish =

@@ -113,7 +113,7 @@ module _ (old new : Hosts) (lines : ℕ) (s : Seen) (copy : ℕ → ℕ → Cell
       record { me = uuids h ∙ was.me; lines = was.lines; place = bad_place_kept image (line_bytes * lines) h r.task s copy carried.same r.task.place was.place }
   bad_task image tasks h r (inr begun) =
       subst (λ (q : Run). BadTaskHolds image (line_bytes * lines) new.uuid h q.task (with_copies s copy)) (sym begun.is)
-      record { me = uuids h ∙ begun.declared; lines = refl; place = record { entries = refl; survey = refl } }
+      record { me = uuids h ∙ begun.declared; lines = refl; place = record { first = refl; entries = refl; survey = refl } }
 
   damaged_same : (image : Lines) → IsDamaged image lines old s → IsDamaged image lines new (with_copies s copy)
   damaged_same image is = record {
@@ -135,7 +135,7 @@ module _ (old new : Hosts) (lines : ℕ) (s : Seen) (copy : ℕ → ℕ → Cell
       }
   good_task sys all settled hosts have tasks h r (inr begun) =
       subst (λ (q : Run). TaskHolds (with_hosts sys new.uuid sys.master) h q.floor q.task (with_copies s copy) all settled) (sym begun.is)
-      record { command = begun.command; me = uuids h ∙ begun.declared; lines = have; place = record { entries = refl; survey = refl } }
+      record { command = begun.command; me = uuids h ∙ begun.declared; lines = have; place = record { first = refl; entries = refl; survey = refl } }
 
   known_same : (p : Params) (all : List File) (settled : ℕ) → IsKnown p all settled lines old s → IsKnown p all settled lines new (with_copies s copy)
   known_same p all settled is =

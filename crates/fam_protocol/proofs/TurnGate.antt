@@ -70,8 +70,9 @@ module _ (sys : System) (host : ℕ) (floor : Option ℕ) (named : Option Named)
   at_first word t all' settled' none words head gate =
       let u : Task = record t { gate = word } in
       let t' : Task = with_gate t word in
-      at_next sys host floor s all' settled' t' 0 (slots_read u) (sym (slots_moved u t'.place t'.words)) (record { params = head.params; master = head.master }) gate (omega arith)
-      (read_none t'.cmd t' all' none.entries none.survey) words
+      subst (λ (i : ℕ). AtPlace (cond (nat_lt i (slots_read u)) (at.Drop (Slot i) 0) at.Decide) sys host floor t' s all' settled') (sym none.first)
+      (at_next sys host floor s all' settled' t' 0 (slots_read u) (sym (slots_moved u t'.place t'.words)) (record { params = head.params; master = head.master }) gate (omega arith)
+      (read_none t'.cmd t' all' none.entries none.survey) words)
 
   gate_goes : (t : Task) (word : ℕ) → IsTask sys host t → wish_of t.cmd ≡ None → Given at.Gate sys host floor word t s all settled → After (Goes (with_gate t word)) sys host floor named t s all settled
   gate_goes t word is asks g =

@@ -1,5 +1,5 @@
 -- The turns of a check of the whole file system.
-use Rattle.std.proofs.Common.{ℕ, suc, refl, [], ◌∷◌, ◌++◌, ◌+◌, ◌-◌, ◌≤◌, ◌<◌, ◌≡◌, List, length, map, take, Bool, true, false, cond, sym, ◌∙◌, ap, subst, arith, min, nat_lt}
+use Rattle.std.proofs.Common.{ℕ, suc, refl, [], ◌∷◌, ◌++◌, ◌+◌, ◌-◌, ◌≤◌, ◌<◌, ◌≡◌, List, length, map, take, Bool, true, false, cond, sym, ◌∙◌, ap, ap₂, subst, arith, min, nat_lt}
 use Rattle.std.specs.Prelude.{slice_get, Option, Some, None, Result, Ok, Err, count_by}
 use Rattle.std.specs.List.{enumerate_from}
 use Rattle.std.proofs.lemmas.Bool.Decides.{nat_tests}
@@ -124,22 +124,25 @@ module _ (sys : System) (host : ℕ) (floor : Option ℕ) (named : Option Named)
       let entries : found_entries t.survey ≡ entries_of (take t.gate all) = ap (map (λ (f : ℕ × Entry). f.1)) found ∙ ap (map (λ (f : ℕ × Entry). f.1)) (sym (numbered_is 0 (entries_of (take t.gate all)))) ∙ map-numbered 0 (entries_of (take t.gate all)) in
       let used : used_count t.params (found_entries t.survey) ≡ used_count sys.params (entries_of (take t.gate all)) =
       ap (λ (p : Params). used_count p (found_entries t.survey)) g.0.params ∙ ap (used_count sys.params) entries in
+      let count : length (entries_of (take t.gate all)) ≡ t.gate = entries_count t.gate all fits in
       record {
         m = t.gate;
         low = g.1.gate.low;
         high = fits;
-        superblock = refl;
-        log = ap (log.Sound t.gate) slots;
-        files = ap (count_by (λ (e : Entry). is_file e.kind)) entries;
-        directories = ap (count_by (λ (e : Entry). is_directory e.kind)) entries;
-        used = used;
-        free = ap (λ (n : ℕ). device_units t.params - n) used ∙ ap (λ (p : Params). device_units p - used_count sys.params (entries_of (take t.gate all))) g.0.params;
-        overlap =
-            ap (overlap_of t.params.unit) found
-            ∙ ap (λ (p : Params). overlap_of p.unit (enumerate_from 0 (entries_of (take t.gate all)))) g.0.params
-            ∙ history_apart sys.params (take t.gate all) (history_front sys.params t.gate all core.history);
-        bad = read.bad;
-        past = omega (arith, read.past);
+        is = record {
+          superblock = refl;
+          log = ap₂ log.Sound (sym count) slots;
+          files = ap (count_by (λ (e : Entry). is_file e.kind)) entries;
+          directories = ap (count_by (λ (e : Entry). is_directory e.kind)) entries;
+          used = used;
+          free = ap (λ (n : ℕ). device_units t.params - n) used ∙ ap (λ (p : Params). device_units p - used_count sys.params (entries_of (take t.gate all))) g.0.params;
+          overlap =
+              ap (overlap_of t.params.unit) found
+              ∙ ap (λ (p : Params). overlap_of p.unit (enumerate_from 0 (entries_of (take t.gate all)))) g.0.params
+              ∙ history_apart sys.params (take t.gate all) (history_front sys.params t.gate all core.history);
+          bad = read.bad;
+          past = omega (arith, read.past, count, slots);
+        };
       }
 
   -- the turn of the report

@@ -1,8 +1,8 @@
 -- What a turn of a task says about the history, what it may say, and what holds after it. docs/MODEL.md, "The protocol".
-use Rattle.std.specs.Prelude.{ℕ, ⊤, ◌≡◌, ◌≢◌, ◌⊎◌, ◌+◌, ◌-◌, ◌≤◌, max, List, [], ◌∷◌, ◌++◌, length, take, count_by, slice_get, Option, Some, None, Ok, Err}
+use Rattle.std.specs.Prelude.{ℕ, ⊤, ◌≡◌, ◌≢◌, ◌⊎◌, ◌+◌, ◌≤◌, max, List, [], ◌∷◌, ◌++◌, length, take, slice_get, Option, Some, None, Ok, Err}
 use Rattle.fam_base.specs.declared.entry.Params.{Params}
 use Rattle.fam_base.specs.declared.entry.Entry.{Entry}
-use Rattle.fam_format.specs.Layout.{device_units, gate_line}
+use Rattle.fam_format.specs.Layout.{gate_line}
 use Rattle.fam_commands.specs.declared.place.Part.{Part}
 use Rattle.fam_commands.specs.declared.place.Part.TheVariants.{Superblock, Header, Slot, File as FileLines}
 use Rattle.fam_commands.specs.declared.place.Place.{Place}
@@ -12,14 +12,13 @@ use Rattle.fam_commands.specs.Turns.{Turn, Goes, Marks, Finds, Writes, Ends}
 use Rattle.fam_rules.specs.declared.answers.Refused.{Refused}
 use Rattle.fam_rules.specs.declared.answers.Refused.TheVariants as refused
 use Rattle.fam_rules.specs.declared.answers.Report.{Report}
-use Rattle.fam_rules.specs.declared.answers.SuperState.TheVariants as superblock
 use Rattle.fam_rules.specs.declared.answers.LogState.{LogState}
 use Rattle.fam_rules.specs.declared.answers.LogState.TheVariants as log
 use Rattle.fam_rules.specs.Asks.{File, entries_of, ask}
 use Rattle.fam_rules.specs.Content.{fill}
 use Rattle.fam_rules.specs.Decide.{decide}
 use Rattle.fam_rules.specs.Reply.{Reply, Appended, NotAppended, Played, Same, Differs, Length, Bytes, NotFound, IsDirectory, Checks, Reports, NoSuperblock, BadHeader, BadSlot}
-use Rattle.fam_rules.specs.Reports.{is_file, is_directory, used_count}
+use Rattle.fam_rules.specs.ReportLaws.{IsSoundReport}
 use Rattle.fam_protocol.specs.Seen.{Seen}
 use Rattle.fam_protocol.specs.Lines.{IsAtLeast, gate_of}
 use Rattle.fam_protocol.specs.Core.{System, Core, top_of}
@@ -156,15 +155,7 @@ pub record IsReported (p : Params) (floor : Option ℕ) (all : List File) (repor
   pub m : ℕ
   pub low : IsAtLeast floor m
   pub high : m ≤ length all
-  pub superblock : report.superblock ≡ superblock.Sound
-  pub log : report.log ≡ log.Sound m p.slots
-  pub files : report.files ≡ count_by (λ e. is_file e.kind) (entries_of (take m all))
-  pub directories : report.directories ≡ count_by (λ e. is_directory e.kind) (entries_of (take m all))
-  pub used : report.used ≡ used_count p (entries_of (take m all))
-  pub free : report.free ≡ device_units p - used_count p (entries_of (take m all))
-  pub overlap : report.overlap ≡ None
-  pub bad : report.bad ≡ None
-  pub past : report.past ≤ p.slots - m
+  pub is : IsSoundReport p (entries_of (take m all)) report
 
 -- a refusal on the whole history, with nothing pending
 pub record IsRefused (p : Params) (t : Task) (all : List File) (settled : ℕ) (r : Refused) : Type 0 where

@@ -28,6 +28,7 @@ use Rattle.fam_protocol.specs.Seen.{Seen}
 use Rattle.fam_protocol.specs.Lines.{Fresh}
 use Rattle.fam_protocol.specs.Core.{IsWide}
 use Rattle.fam_protocol.specs.Tasks.{NoSlot, HasLoaded, part_words}
+use Rattle.fam_format.specs.Line.{line_words}
 
 -- memory is the image that was there, which reads as no sound file system, and no cache has anything to send
 pub record Still (image : Lines) (have : ℕ) (s : Seen) : Type 0 where
@@ -82,7 +83,7 @@ AtBadPlace at.DropMagic image have host t s = NoSlot t
 AtBadPlace at.Magic image have host t s = NoSlot t × Fresh (s.memory 0) (s.copy host 0)
 AtBadPlace (at.Drop part j) image have host t s = OnBadPart part image have t × (j < part_count t part) × HasLoaded image t part j 0
 AtBadPlace (at.Word part j k) image have host t s =
-    OnBadPart part image have t × (j < part_count t part) × (k < 8) × Fresh (s.memory (part_line t part j)) (s.copy host (part_line t part j)) × HasLoaded image t part j k
+    OnBadPart part image have t × (j < part_count t part) × (k < line_words) × Fresh (s.memory (part_line t part j)) (s.copy host (part_line t part j)) × HasLoaded image t part j k
 AtBadPlace at.DropGate image have host t s = NoSlot t × (t.words ≡ []) × ReadsHeader image have t
 AtBadPlace at.Gate image have host t s =
     NoSlot t × (t.words ≡ []) × ReadsHeader image have t × Fresh (s.memory gate_line) (s.copy host gate_line)

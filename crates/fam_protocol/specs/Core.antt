@@ -17,6 +17,7 @@ use Rattle.fam_rules.specs.Place.{line_bytes}
 use Rattle.fam_rules.specs.Written.{file_line}
 use Rattle.fam_protocol.specs.Seen.{Seen}
 use Rattle.fam_protocol.specs.Lines.{gate_of, top}
+use Rattle.fam_format.specs.Line.{line_words}
 
 -- the file system, on an image of so many bytes, and which of the declared hosts is its master
 pub record System : Type 0 where
@@ -70,8 +71,8 @@ top_of sys s = top (s.memory gate_line) (masters_copy sys.master s gate_line)
 
 -- lines have eight words, in memory and in caches
 pub record IsWide (s : Seen) : Type 0 where
-  pub memory : (l : ℕ) → length (s.memory l) ≡ 8
-  pub copies : (h l : ℕ) → length (current (s.memory l) (s.copy h l)) ≡ 8
+  pub memory : (l : ℕ) → length (s.memory l) ≡ line_words
+  pub copies : (h l : ℕ) → length (current (s.memory l) (s.copy h l)) ≡ line_words
 
 -- superblock and header stand in memory, and no cache has anything to send over them
 pub record HasHead (sys : System) (s : Seen) : Type 0 where

@@ -16,6 +16,7 @@ use Rattle.fam_protocol.specs.Seen.{Seen}
 use Rattle.fam_protocol.specs.Core.{IsHeadLine}
 use Rattle.fam_protocol.specs.Tasks.{IsCommand}
 use Rattle.fam_protocol.specs.Way.{Hosts}
+use Rattle.fam_format.specs.Line.{line_words}
 
 -- a host is declared, with a UUID that no other declared host has. Its cache is empty, as that of each host that
 -- isn't declared
@@ -45,8 +46,8 @@ pub record Stops (host : ℕ) (old new : Hosts) : Type 0 where
 -- which the maker has no copy. Any other line of memory and of the maker's cache may be otherwise than before
 pub record Formats (maker : ℕ) (p : Params) (old new : Seen) : Type 0 where
   pub magic : new.memory 0 ≡ magic_line
-  pub first : new.memory 1 ≡ slice_range (super_words p) 0 8
-  pub second : new.memory 2 ≡ slice_range (super_words p) 8 16
+  pub first : new.memory 1 ≡ slice_range (super_words p) 0 line_words
+  pub second : new.memory 2 ≡ slice_range (super_words p) line_words (2 * line_words)
   pub header : new.memory log_line ≡ log_words p
   pub gate : new.memory gate_line ≡ zero_line
   pub head : (l : ℕ) → IsHeadLine l → new.copy maker l ≡ Absent

@@ -7,18 +7,18 @@ use Rattle.fam_base.specs.declared.cmd.Content.{Content}
 use Rattle.fam_base.specs.declared.cmd.Content.TheVariants as content
 use Rattle.fam_base.specs.declared.entry.Kind.TheVariants as kind
 use Rattle.fam_format.specs.Layout.{geometry, gate_line, slot_line}
+use Rattle.fam_format.specs.Line.{line_bytes, line_words}
 use Rattle.fam_format.specs.Slot.{spelling}
 use Rattle.fam_commands.specs.declared.place.Part.{Part}
 use Rattle.fam_commands.specs.declared.place.Part.TheVariants.{Superblock, Header, Slot, File as FileLines}
 use Rattle.fam_commands.specs.declared.place.Place.{Place}
 use Rattle.fam_commands.specs.declared.place.Place.TheVariants as at
-use Rattle.fam_commands.specs.Task.{Task, content_of, data_words, line_of, part_count, part_line, size_of}
+use Rattle.fam_commands.specs.Task.{Task, content_of, data_words, line_of, part_count, part_line, size_of, start_slot}
 use Rattle.fam_commands.specs.Turns.{slots_read}
 use Rattle.fam_rules.specs.Asks.{File, entries_of, file_at}
 use Rattle.fam_rules.specs.Content.{HoldsBytes, content_byte, fill}
 use Rattle.fam_rules.specs.Decide.{Wish, wish_of}
 use Rattle.fam_rules.specs.DecideLaws.{IsSoundWish}
-use Rattle.fam_rules.specs.Place.{line_bytes}
 use Rattle.fam_rules.specs.Reports.{Survey, no_survey}
 use Rattle.fam_rules.specs.Written.{slot_part}
 use Rattle.fam_protocol.specs.Seen.{Seen}
@@ -37,7 +37,7 @@ pub record IsCommand (cmd : Cmd) : Type 0 where
 -- the words of a part's lines, as memory has them
 abbrev pub part_words : (ℕ → List ℕ) → Task → Part → List ℕ
 part_words memory t part =
-    map (λ n. slice_index (memory (part_line t part (n / 8))) (n % 8)) (range_with_len 0 (8 * part_count t part))
+    map (λ n. slice_index (memory (part_line t part (n / line_words))) (n % line_words)) (range_with_len 0 (line_words * part_count t part))
 
 -- the first word that is kept when line j is read: a file that is compared is looked at line by line
 abbrev pub kept_from : Cmd → Part → ℕ → ℕ
@@ -54,12 +54,12 @@ kept_from (Verify path against) part j = compared_from part j
     compared_from Superblock j = 0
     compared_from Header j = 0
     compared_from (Slot i) j = 0
-    compared_from FileLines j = 8 * j
+    compared_from FileLines j = line_words * j
 
 -- the task has the words of the lines before line j, as far as they are kept, and the first k of line j
 abbrev pub HasLoaded : (ℕ → List ℕ) → Task → Part → ℕ → ℕ → Type 0
 HasLoaded memory t part j k =
-    t.words ≡ take (8 * j + k - kept_from t.cmd part j) (drop (kept_from t.cmd part j) (part_words memory t part))
+    t.words ≡ take (line_words * j + k - kept_from t.cmd part j) (drop (kept_from t.cmd part j) (part_words memory t part))
 
 -- lines that no writer may touch while they are read: all but the slots past the gate
 abbrev pub IsSure : Task → Part → Type 0
@@ -73,8 +73,9 @@ abbrev pub IsReading : ℕ → Task → Part → ℕ → ℕ → Seen → Type 0
 IsReading host t part j k s =
     IsSure t part → Fresh (s.memory (part_line t part j)) (s.copy host (part_line t part j)) × HasLoaded s.memory t part j k
 
--- no slot is read
+-- no slot is read: the task is to read from the start on
 pub record NoSlot (t : Task) : Type 0 where
+  pub first : t.first_slot ≡ start_slot
   pub entries : t.entries ≡ []
   pub survey : t.survey ≡ no_survey
 
@@ -258,17 +259,17 @@ AtPlace at.Magic sys host floor t s all settled = NoSlot t × Fresh (s.memory 0)
 AtPlace (at.Drop part j) sys host floor t s all settled =
     OnPart part j sys host floor t s all settled × (j < part_count t part) × (IsSure t part → HasLoaded s.memory t part j 0)
 AtPlace (at.Word part j k) sys host floor t s all settled =
-    OnPart part j sys host floor t s all settled × (j < part_count t part) × (k < 8) × IsReading host t part j k s
+    OnPart part j sys host floor t s all settled × (j < part_count t part) × (k < line_words) × IsReading host t part j k s
 AtPlace at.DropGate sys host floor t s all settled = NoSlot t × (t.words ≡ []) × KnowsHead sys host t
 AtPlace at.Gate sys host floor t s all settled =
     NoSlot t × (t.words ≡ []) × KnowsHead sys host t × IsAtGate sys host floor s settled
 AtPlace (at.Check i) sys host floor t s all settled =
     KnowsHead sys host t × IsAtSlot i host floor t s all settled × (i < t.gate → t.words ≡ part_words s.memory t (Slot i))
 AtPlace at.Decide sys host floor t s all settled = KnowsHead sys host t × HasReadAll host floor t s all settled
-AtPlace (at.StoreData j k) sys host floor t s all settled = (k < 8) × StoresData j k sys host t s all settled
-AtPlace (at.SendData j) sys host floor t s all settled = StoresData j 8 sys host t s all settled
-AtPlace (at.StoreSlot j k) sys host floor t s all settled = (k < 8) × StoresSlot j k sys host t s all settled
-AtPlace (at.SendSlot j) sys host floor t s all settled = StoresSlot j 8 sys host t s all settled
+AtPlace (at.StoreData j k) sys host floor t s all settled = (k < line_words) × StoresData j k sys host t s all settled
+AtPlace (at.SendData j) sys host floor t s all settled = StoresData j line_words sys host t s all settled
+AtPlace (at.StoreSlot j k) sys host floor t s all settled = (k < line_words) × StoresSlot j k sys host t s all settled
+AtPlace (at.SendSlot j) sys host floor t s all settled = StoresSlot j line_words sys host t s all settled
 AtPlace at.StoreGate sys host floor t s all settled = MayPublish sys host t s all settled
 AtPlace at.SendGate sys host floor t s all settled = HasPublished sys host t s all
 

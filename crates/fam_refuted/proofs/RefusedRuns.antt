@@ -91,7 +91,10 @@ made_by Digest x = x
 
 abbrev pub word_by : Op → Here → ℕ
 word_by (Load line k) x = slice_index (current x.words x.cell) k
-word_by other x = 0
+word_by (Store line k value) x = 0
+word_by (WriteBack line) x = 0
+word_by (Invalidate line) x = 0
+word_by Digest x = 0
 
 -- what a step leaves: a line that moves by itself is fetched, where it is absent
 abbrev pub left : Step → Here → Here

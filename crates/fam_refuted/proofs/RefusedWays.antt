@@ -99,6 +99,7 @@ module _ (c : Scene) where
     lines = length c.image;
     place = at.Decide;
     params = c.params;
+    first_slot = 0;
     gate = next c;
     entries = c.entries;
     words = [];

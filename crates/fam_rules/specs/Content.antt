@@ -6,6 +6,7 @@ use Rattle.rand_xoshiro.specs.Xoshiro256.{of_seed, next_state, plus_plus}
 use Rattle.fam_base.specs.declared.cmd.Content.{Content}
 use Rattle.fam_base.specs.declared.cmd.Content.TheVariants.{Zero, Seed, Bytes}
 use Rattle.fam_base.specs.Image.{byte_of}
+use Rattle.fam_format.specs.Line.{line_words}
 use Rattle.fam_format.specs.Words.{word_of_bytes}
 
 -- the state of Xoshiro256++ after so many words: first that of `seed_from_u64`, which reads the 32 bytes that
@@ -37,7 +38,7 @@ fill content size = map (content_byte content) (range_with_len 0 size)
 
 -- line j of a file with these bytes: its words 8 j to 8 j + 7, in which zeros stand behind the last byte
 abbrev pub file_words : List ℕ → ℕ → List ℕ
-file_words bytes j = map (λ w. word_of_bytes bytes (8 * j + w)) (range_with_len 0 8)
+file_words bytes j = map (λ w. word_of_bytes bytes (line_words * j + w)) (range_with_len 0 line_words)
 
 -- line j of a file of this content and size
 abbrev pub content_line : Content → ℕ → ℕ → List ℕ

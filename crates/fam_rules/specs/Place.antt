@@ -7,14 +7,11 @@ use Rattle.fam_base.specs.declared.entry.MapKind.{MapKind}
 use Rattle.fam_base.specs.declared.entry.MapKind.TheVariants.{Empty, Simple, Striped}
 use Rattle.fam_base.specs.declared.extents.Extent.{Extent}
 use Rattle.fam_base.specs.ExtentLists.{no_extent}
+pub use Rattle.fam_format.specs.Line.{line_bytes}
 use Rattle.fam_format.specs.Params.{SoundParams}
 use Rattle.fam_format.specs.Slot.{Proper}
 use Rattle.fam_format.specs.Units.{units_in, list_units, is_used}
 use Rattle.fam_format.specs.ReadingLaws.{AreFree}
-
--- the bytes of a line
-abbrev pub line_bytes : ℕ
-line_bytes = 64
 
 -- the device's bytes of extents laid end to end
 abbrev pub bytes_of_extents : List Extent → List ℕ

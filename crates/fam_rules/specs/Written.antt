@@ -6,6 +6,7 @@ use Rattle.fam_base.specs.declared.entry.Params.{Params}
 use Rattle.fam_base.specs.declared.entry.Entry.{Entry}
 use Rattle.fam_base.specs.Image.{Image, line_at, with_line}
 use Rattle.fam_format.specs.Layout.{geometry, log_line, gate_line, slot_line}
+use Rattle.fam_format.specs.Line.{line_words}
 use Rattle.fam_format.specs.Super.{magic_line, super_words}
 use Rattle.fam_format.specs.Log.{log_words}
 use Rattle.fam_format.specs.Slot.{spelling}
@@ -38,7 +39,7 @@ file_puts e bytes = map (λ j. (file_line e j, file_words bytes j)) (range_with_
 
 -- line j of the words of a slot
 abbrev pub slot_part : List ℕ → ℕ → List ℕ
-slot_part words j = slice_range words (8 * j) (8 * j + 8)
+slot_part words j = slice_range words (line_words * j) (line_words * j + line_words)
 
 -- the lines of slot `seq` with an entry
 abbrev pub slot_puts : Params → ℕ → Entry → List Put
@@ -61,7 +62,7 @@ zero_line = 0 ∷ 0 ∷ 0 ∷ 0 ∷ 0 ∷ 0 ∷ 0 ∷ 0 ∷ []
 -- the lines that making a file system writes, in this order: line 0 is cleared first and has the magic last
 abbrev pub format_puts : Params → List Put
 format_puts p =
-    (0, zero_line) ∷ (gate_line, zero_line) ∷ (log_line, log_words p) ∷ (1, slice_range (super_words p) 0 8) ∷ (2, slice_range (super_words p) 8 16) ∷ (0, magic_line) ∷ []
+    (0, zero_line) ∷ (gate_line, zero_line) ∷ (log_line, log_words p) ∷ (1, slice_range (super_words p) 0 line_words) ∷ (2, slice_range (super_words p) line_words (2 * line_words)) ∷ (0, magic_line) ∷ []
 
 -- a file system is made: superblock, header and a gate of 0. All else is as before
 unfoldable pub formatted : Image → Params → Image

@@ -4,6 +4,7 @@ use Rattle.fam_base.specs.declared.entry.Params.{Params}
 use Rattle.fam_base.specs.declared.entry.Entry.{Entry}
 use Rattle.fam_base.specs.Image.{Image, line_at}
 use Rattle.fam_format.specs.Layout.{geometry, log_line, gate_line, slot_line}
+use Rattle.fam_format.specs.Line.{line_words}
 use Rattle.fam_format.specs.Log.{log_words}
 use Rattle.fam_format.specs.Params.{SoundParams}
 use Rattle.fam_format.specs.Slot.{Proper, spelling}
@@ -17,8 +18,8 @@ use Rattle.fam_rules.specs.Written.{file_line, slot_part, zero_line}
 pub record IsFormatted (p : Params) (before after : Image) : Type 0 where
   pub count : length after ≡ length before
   pub magic : line_at after 0 ≡ magic_line
-  pub super_front : line_at after 1 ≡ slice_range (super_words p) 0 8
-  pub super_rest : line_at after 2 ≡ slice_range (super_words p) 8 16
+  pub super_front : line_at after 1 ≡ slice_range (super_words p) 0 line_words
+  pub super_rest : line_at after 2 ≡ slice_range (super_words p) line_words (2 * line_words)
   pub header : line_at after log_line ≡ log_words p
   pub gate : line_at after gate_line ≡ zero_line
   pub others : (l : ℕ) → l ≢ 0 → l ≢ 1 → l ≢ 2 → l ≢ log_line → l ≢ gate_line → line_at after l ≡ line_at before l

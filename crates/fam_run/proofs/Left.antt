@@ -30,21 +30,24 @@ use Rattle.fam_rules.specs.Reports.{is_file}
 use Rattle.fam_tasks.specs.Sound.{IsServed, IsLine, IsSoundAt}
 use Rattle.fam_tasks.specs.Tells.{file_at, tells_file}
 use Rattle.fam_run.specs.Run.{IsPlain}
+use Rattle.fam_commands.specs.Counts.{line_steps, append_steps, slot_steps}
+use Rattle.fam_format.specs.Layout.{geometry}
+use Rattle.fam_format.specs.Line.{line_words}
 
 -- how many operations may still come behind the loads of superblock and header, at most: the log has no more slots
 -- than the image has lines
 abbrev pub behind_head : Task → ℕ
-behind_head t = 73 * t.lines + 77
+behind_head t = slot_steps (geometry t.params) * t.lines + append_steps (geometry t.params) 0 + 3
 
 -- of the slots from i on, and an append
 abbrev pub from_slot : Task → ℕ → ℕ
-from_slot t i = 73 * (t.gate - i) + 76
+from_slot t i = slot_steps (geometry t.params) * (t.gate - i) + append_steps (geometry t.params) 0 + 2
 
 -- with line j of a part still to be read from its word k on
 abbrev pub reading : Part → ℕ → ℕ → Task → ℕ
-reading part.Superblock j k t = behind_head t + 9 * (2 - j) + (8 - k) + 9
-reading part.Header j k t = behind_head t + (8 - k)
-reading (part.Slot i) j k t = from_slot t (i + 1) + 9 * (7 - j) + (8 - k)
+reading part.Superblock j k t = behind_head t + line_steps * (2 - j) + (line_words - k) + line_steps
+reading part.Header j k t = behind_head t + (line_words - k)
+reading (part.Slot i) j k t = from_slot t (i + 1) + line_steps * ((geometry t.params).lines - 1 - j) + (line_words - k)
 reading part.File j k t = 0
 
 -- at a place
@@ -54,13 +57,13 @@ left_at at.Magic t = behind_head t + 37
 left_at (at.Drop part j) t = reading part j 0 t + 1
 left_at (at.Word part j k) t = reading part j k t
 left_at at.DropGate t = behind_head t
-left_at at.Gate t = 73 * t.lines + 76
+left_at at.Gate t = slot_steps (geometry t.params) * t.lines + append_steps (geometry t.params) 0 + 2
 left_at (at.Check i) t = from_slot t (i + 1)
-left_at at.Decide t = 75
+left_at at.Decide t = append_steps (geometry t.params) 0 + 1
 left_at (at.StoreData j k) t = 0
 left_at (at.SendData j) t = 0
-left_at (at.StoreSlot j k) t = 9 * (7 - j) + (8 - k) + 3
-left_at (at.SendSlot j) t = 9 * (7 - j) + 3
+left_at (at.StoreSlot j k) t = line_steps * ((geometry t.params).lines - 1 - j) + (line_words - k) + 3
+left_at (at.SendSlot j) t = line_steps * ((geometry t.params).lines - 1 - j) + 3
 left_at at.StoreGate t = 2
 left_at at.SendGate t = 1
 
@@ -175,7 +178,7 @@ gate_keeps : (t : Task) (m : ℕ) (fault : Option LogFault) → Keeps (left_at a
 gate_keeps t m (Some fault) = tt
 gate_keeps t m None =
     finds_keeps (left_at at.Gate t) t m (with_gate t m) (wish_of t.cmd)
-    (record { lines = refl; falls = slot_falls (with_gate t m) 0 (left_at at.Gate t) _ (λ h. omega (arith, h)) (omega arith); plain = λ h. h })
+    (record { lines = refl; falls = slot_falls (with_gate t m) t.first_slot (left_at at.Gate t) _ (λ h. omega (arith, h)) (omega arith); plain = λ h. h })
 
 directory_of : (kind : Kind) → is_file kind ≡ false → kind ≡ Directory
 directory_of File plain_slot = absurd cc

@@ -1,5 +1,5 @@
 -- A command that runs alone, by one operation.
-use Rattle.std.proofs.Common.{ℕ, ◌≡◌, ◌+◌, Bool, true, false, List, [], length, Option, Some, None, refl, sym, ap, subst, ◌∙◌, arith}
+use Rattle.std.proofs.Common.{ℕ, ◌≡◌, ◌+◌, inl, inr, Bool, true, false, List, [], length, Option, Some, None, refl, sym, ap, subst, ◌∙◌, arith}
 use Rattle.std.specs.Prelude.{unwrap_or}
 use Rattle.std.proofs.lemmas.List.Elements.{All-nil}
 use Rattle.std.proofs.lemmas.Option.{same_Some}
@@ -12,7 +12,9 @@ use Rattle.fam_rules.specs.Reply.{Reply}
 use Rattle.fam_machine.specs.declared.op.Op.{Op}
 use Rattle.fam_machine.specs.declared.op.Op.TheVariants.{Load, Store, WriteBack, Invalidate, Digest}
 use Rattle.fam_machine.specs.Caches.{Cache}
-use Rattle.fam_machine.specs.Operations.{Machine, given, operated, IsInside, given_by}
+use Rattle.fam_machine.specs.Operations.{Machine, given, machine, operated, IsInside, IsWithin}
+use Rattle.fam_machine.specs.Cuts.{HasFailed}
+use Rattle.fam_cache.specs.Operations.{word_of}
 use Rattle.fam_commands.specs.Solo.{Came, starts, goes, turn_on}
 use Rattle.fam_commands.specs.Stands.{task_after, with_given}
 use Rattle.fam_commands.specs.Task.{Task, op_of, starting}
@@ -23,32 +25,28 @@ use Rattle.fam_tasks.specs.declared.answer.Answer.{Answer}
 use Rattle.fam_tasks.specs.declared.answer.Answer.TheVariants as answer
 use Rattle.fam_tasks.specs.declared.answer.Turn.{Turn}
 use Rattle.fam_tasks.specs.declared.answer.Turn.TheVariants.{Go, Note, Done}
-use Rattle.fam_tasks.specs.Sound.{IsSound, IsWithin}
+use Rattle.fam_tasks.specs.Sound.{IsSound}
 use Rattle.fam_tasks.specs.Tells.{Replies, TellsUnless, meets_file}
-use Rattle.fam_run.specs.declared.operation.Outcome.{Outcome}
-use Rattle.fam_run.specs.declared.operation.Outcome.TheVariants.{Turned, Failed}
-use Rattle.fam_run.specs.Operation.{Did, HasTurned, HasFailed, IsNoFault, IsOfMemory, KeepsLines, OnFault, OnTurn, ended}
-use Rattle.fam_run.specs.declared.reading.Reading.{Reading}
-use Rattle.fam_run.specs.declared.reading.Reading.TheVariants as reading
-use Rattle.fam_run.specs.Reading.{Around, HasOperated, OnOutcome}
+use Rattle.fam_run.specs.Operation.{GoesOn, HasTurned, IsNoFault, KeepsLines, ended}
+use Rattle.fam_run.specs.Step.{Around, HasOperated, IsDone}
 use Rattle.fam_run.specs.Run.{HasEnded, HasLeft, HasStopped, IsPlain, Ran, Reached, Running, fault_of}
 use Rattle.fam_run.proofs.Left.{Kept, kept, left}
 
 -- The task goes on.
 
 -- the definition's turn goes on as the call's does
-record GoesOn (file : Bool) (wanted : turns.Turn) (new : Task) : Type 0 where
+record Continues (file : Bool) (wanted : turns.Turn) (new : Task) : Type 0 where
   no_file : file ≡ false
   next : task_after wanted ≡ Some new
 
-no_reply : (turn : Turn) (reply : Reply) → ended (Turned turn) ≡ None → Replies turn reply → ⊥
+no_reply : (turn : Turn) (reply : Reply) → ended turn ≡ None → Replies turn reply → ⊥
 no_reply Go reply on replies = replies
 no_reply (Note note) reply on replies = replies
 no_reply (Done given) reply on replies = absurd cc
 
-goes_on : (file : Bool) (wanted : turns.Turn) (turn : Turn) (new : Task) → ended (Turned turn) ≡ None → TellsUnless file wanted turn new → GoesOn file wanted new
+goes_on : (file : Bool) (wanted : turns.Turn) (turn : Turn) (new : Task) → ended turn ≡ None → TellsUnless file wanted turn new → Continues file wanted new
 goes_on true wanted turn new on tells =
-    let ends : ended (Turned turn) ≡ Some answer.NotYet = ap (λ (t : Turn). ended (Turned t)) tells in
+    let ends : ended turn ≡ Some answer.NotYet = ap ended tells in
     absurd (cc (on, ends))
 goes_on false (Goes t) turn new on tells = record { no_file = refl; next = ap Some (sym tells.1) }
 goes_on false (Marks t) turn new on tells = record { no_file = refl; next = ap Some (sym tells.1) }
@@ -57,15 +55,14 @@ goes_on false (Writes seq e t) turn new on tells = record { no_file = refl; next
 goes_on false (Ends reply) turn new on tells = absurd (no_reply turn reply on tells)
 
 -- a task that goes on comes nearer to its end
-pub kept_on : (held : Cache) (task new : Task) (outcome : Outcome) → ended outcome ≡ None → IsSound task → OnTurn task held outcome new → Kept (left task) task new
-kept_on held task new (Failed line) on sound went = absurd cc
-kept_on held task new (Turned turn) on sound went =
-    let so : GoesOn (meets_file task) (turn_of task (given_by (op_of task) went.word)) new =
-    goes_on (meets_file task) (turn_of task (given_by (op_of task) went.word)) turn new on went.tells in
-    kept task new (unwrap_or (given_by (op_of task) went.word) 0) sound.served sound.stands so.no_file so.next
+pub kept_on : (held : Cache) (task new : Task) (turn : Turn) → ended turn ≡ None → IsSound task → GoesOn task held turn new → Kept (left task) task new
+kept_on held task new turn on sound went =
+    let so : Continues (meets_file task) (turn_of task (word_of (op_of task) held)) new =
+    goes_on (meets_file task) (turn_of task (word_of (op_of task) held)) turn new on went in
+    kept task new (unwrap_or (word_of (op_of task) held) 0) sound.served sound.stands so.no_file so.next
 
-pub lines_kept : (held : Cache) (task new : Task) (outcome : Outcome) → IsSound task → OnTurn task held outcome new → KeepsLines outcome task new
-lines_kept held task new outcome sound went on = (kept_on held task new outcome on sound went).lines
+pub lines_kept : (held : Cache) (task new : Task) (turn : Turn) → IsSound task → GoesOn task held turn new → KeepsLines turn task new
+lines_kept held task new turn sound went on = (kept_on held task new turn on sound went).lines
 
 -- the line of the operation, in an image of as many lines
 inside_by : (op : Op) (lines : ℕ) (image : Image) → length image ≡ lines → IsWithin lines op → IsInside op image
@@ -77,24 +74,20 @@ inside_by Digest lines image count within = tt
 
 -- The machine that the command stands on.
 
-machine_of : Image → Cache → Machine
-machine_of image cache = record { image = image; cache = cache }
-
-pub running_on : (cmd : Cmd) (me : List ℕ) (image : Image) (cache : Cache) (task new : Task) (held after : Cache) (told now : Option Image) (outcome : Outcome) → ended outcome ≡ None → IsSound task → OnTurn task after outcome new → IsWithin task.lines (op_of task) → IfTold told (λ (i : Image). length i ≡ task.lines) → IfTold told (λ (i : Image). Did task (record { image = i; cache = held }) outcome new now after) → Running cmd me image cache task held told → Running cmd me image cache new after now
-running_on cmd me image cache task new held after told now (Failed line) on sound went within count did run = absurd cc
-running_on cmd me image cache task new held after told now (Turned turn) on sound went within count did run =
-    let m : Machine = record { image = run.now; cache = held } in
+pub running_on : (cmd : Cmd) (me : List ℕ) (image : Image) (cache : Cache) (task new : Task) (held after : Cache) (told now : Option Image) (turn : Turn) → ended turn ≡ None → IsSound task → GoesOn task after turn new → IsWithin task.lines (op_of task) → IfTold told (λ (i : Image). length i ≡ task.lines) → IfTold told (λ (i : Image). HasTurned task (machine i held) turn new now after) → Running cmd me image cache task held told → Running cmd me image cache new after now
+running_on cmd me image cache task new held after told now turn on sound went within count did run =
+    let m : Machine = machine run.now held in
     let done : HasTurned task m turn new now after = did run.now run.told_is in
-    let so : GoesOn (meets_file task) (turn_on task m) new = goes_on (meets_file task) (turn_on task m) turn new on done.tells in
+    let so : Continues (meets_file task) (turn_on task m) new = goes_on (meets_file task) (turn_on task m) turn new on done.tells in
     let inside : IsInside (op_of task) run.now = inside_by (op_of task) task.lines run.now (count run.now run.told_is) within in
     record {
       words = with_given run.words (given (op_of task) m);
       made = run.made + 1;
       now = (operated (op_of task) m).image;
-      came = subst (λ (c : Cache). Came cmd me image cache new (with_given run.words (given (op_of task) m)) (run.made + 1) (record { image = (operated (op_of task) m).image; cache = c })) (sym done.cache)
+      came = subst (λ (c : Cache). Came cmd me image cache new (with_given run.words (given (op_of task) m)) (run.made + 1) (machine (operated (op_of task) m).image c)) (sym done.is.cache)
           (goes run.came inside so.next);
-      plain = (kept_on after task new (Turned turn) on sound went).plain run.plain;
-      told_is = done.image;
+      plain = (kept_on after task new turn on sound went).plain run.plain;
+      told_is = done.is.image;
     }
 
 abbrev reached : (cmd : Cmd) (me : List ℕ) (image : Image) (cache : Cache) (task : Task) (held : Cache) (told : Option Image) → Running cmd me image cache task held told → Reached cmd me image cache
@@ -102,69 +95,83 @@ reached cmd me image cache task held told run = record { task = task; words = ru
 
 -- The command ends.
 
-no_fault : (given : Answer) → IsNoFault (Turned (Done given)) → fault_of given ≡ None
+no_fault : (given : Answer) → IsNoFault (Done given) → fault_of given ≡ None
 no_fault (answer.Ok seq) own = refl
 no_fault (answer.Played m tree) own = refl
+no_fault (answer.Same m) own = refl
+no_fault (answer.Bytes m bytes) own = refl
+no_fault (answer.Checked m checked) own = refl
+no_fault (answer.Report report) own = refl
 no_fault (answer.NoSuper word) own = refl
 no_fault (answer.BadSuper field found wanted) own = refl
 no_fault (answer.BadLog field found wanted) own = refl
 no_fault (answer.BadEntry seq reason) own = refl
 no_fault (answer.NotMaster me master) own = refl
+no_fault answer.BadStripe own = refl
 no_fault (answer.Exists kind) own = refl
 no_fault answer.NoParent own = refl
 no_fault answer.ParentIsFile own = refl
 no_fault (answer.LogFull slots) own = refl
+no_fault (answer.NoSpace units) own = refl
+no_fault (answer.NotFound m) own = refl
+no_fault (answer.IsDirectory m) own = refl
+no_fault (answer.Differs m offset found wanted) own = refl
+no_fault (answer.Length m size wanted) own = refl
 no_fault (answer.MediaFault line) own = absurd (own line refl)
 no_fault answer.NotYet own = refl
 
-done_left : (cmd : Cmd) (me : List ℕ) (image : Image) (cache : Cache) (task new : Task) (held after : Cache) (told now : Option Image) (given : Answer) → IsWithin task.lines (op_of task) → IfTold told (λ (i : Image). length i ≡ task.lines) → IfTold told (λ (i : Image). HasTurned task (record { image = i; cache = held }) (Done given) new now after) → Running cmd me image cache task held told → HasLeft cmd me image cache given now after
+done_left : (cmd : Cmd) (me : List ℕ) (image : Image) (cache : Cache) (task new : Task) (held after : Cache) (told now : Option Image) (given : Answer) → IsWithin task.lines (op_of task) → IfTold told (λ (i : Image). length i ≡ task.lines) → IfTold told (λ (i : Image). HasTurned task (machine i held) (Done given) new now after) → Running cmd me image cache task held told → HasLeft cmd me image cache given now after
 done_left cmd me image cache task new held after told now given within count did run =
-    let done : HasTurned task (record { image = run.now; cache = held }) (Done given) new now after = did run.now run.told_is in
+    let done : HasTurned task (machine run.now held) (Done given) new now after = did run.now run.told_is in
     record {
       ended = record {
         reached = reached cmd me image cache task held told run;
         inside = inside_by (op_of task) task.lines run.now (count run.now run.told_is) within;
-        left = done.image;
+        left = done.is.image;
         after = new;
         reply = done.tells;
       };
-      keeps = done.cache;
+      keeps = done.is.cache;
     }
 
-done_ran : (cmd : Cmd) (me : List ℕ) (image : Image) (cache : Cache) (task new : Task) (held after : Cache) (told now : Option Image) (given : Answer) → IsNoFault (Turned (Done given)) → IsWithin task.lines (op_of task) → IfTold told (λ (i : Image). length i ≡ task.lines) → IfTold told (λ (i : Image). HasTurned task (record { image = i; cache = held }) (Done given) new now after) → Running cmd me image cache task held told → Ran cmd me image cache given now
+done_ran : (cmd : Cmd) (me : List ℕ) (image : Image) (cache : Cache) (task new : Task) (held after : Cache) (told now : Option Image) (given : Answer) → IsNoFault (Done given) → IsWithin task.lines (op_of task) → IfTold told (λ (i : Image). length i ≡ task.lines) → IfTold told (λ (i : Image). HasTurned task (machine i held) (Done given) new now after) → Running cmd me image cache task held told → Ran cmd me image cache given now
 done_ran cmd me image cache task new held after told now given own within count did run =
     let ends : HasEnded cmd me image cache given now = (done_left cmd me image cache task new held after told now given within count did run).ended in
     rw (no_fault given own) ends
 
-failed_ran : (cmd : Cmd) (me : List ℕ) (image : Image) (cache : Cache) (task new : Task) (held after : Cache) (told now : Option Image) (line : LineNo) → IfTold told (λ (i : Image). HasFailed task (record { image = i; cache = held }) line new now after) → Running cmd me image cache task held told → Ran cmd me image cache (answer.MediaFault line) now
-failed_ran cmd me image cache task new held after told now line did run =
-    let broke : HasFailed task (record { image = run.now; cache = held }) line new now after = did run.now run.told_is in
-    record {
-      reached = reached cmd me image cache task held told run;
-      through = broke.through;
-      fits = broke.fits;
-      failure = broke.failure;
-      fails = broke.fails;
-      line = broke.line;
-      left = broke.image;
-    }
+failed_ran : (cmd : Cmd) (me : List ℕ) (image : Image) (cache : Cache) (task : Task) (held after : Cache) (told now : Option Image) (line : LineNo) → IfTold told (λ (i : Image). HasFailed (op_of task) (machine i held) line now after) → Running cmd me image cache task held told → Ran cmd me image cache (answer.MediaFault line) now
+failed_ran cmd me image cache task held after told now line did run =
+    let broke : HasFailed (op_of task) (machine run.now held) line now after = did run.now run.told_is in
+    record { reached = reached cmd me image cache task held told run; state = broke.left; fails = broke.fails; left = broke.is.image }
 
-pub answered : (cmd : Cmd) (me : List ℕ) (image : Image) (cache : Cache) (task new : Task) (held after : Cache) (told now : Option Image) (outcome : Outcome) (given : Answer) → ended outcome ≡ Some given → IsNoFault outcome → IsWithin task.lines (op_of task) → IfTold told (λ (i : Image). length i ≡ task.lines) → IfTold told (λ (i : Image). Did task (record { image = i; cache = held }) outcome new now after) → Running cmd me image cache task held told → Ran cmd me image cache given now
-answered cmd me image cache task new held after told now (Turned Go) given ends own within count did run = absurd cc
-answered cmd me image cache task new held after told now (Turned (Note note)) given ends own within count did run = absurd cc
-answered cmd me image cache task new held after told now (Turned (Done a)) given ends own within count did run =
+turn_ran : (cmd : Cmd) (me : List ℕ) (image : Image) (cache : Cache) (task new : Task) (held after : Cache) (told now : Option Image) (turn : Turn) (given : Answer) → ended turn ≡ Some given → IsNoFault turn → IsWithin task.lines (op_of task) → IfTold told (λ (i : Image). length i ≡ task.lines) → IfTold told (λ (i : Image). HasTurned task (machine i held) turn new now after) → Running cmd me image cache task held told → Ran cmd me image cache given now
+turn_ran cmd me image cache task new held after told now Go given ends own within count did run = absurd cc
+turn_ran cmd me image cache task new held after told now (Note note) given ends own within count did run = absurd cc
+turn_ran cmd me image cache task new held after told now (Done a) given ends own within count did run =
     subst (λ (x : Answer). Ran cmd me image cache x now) (same_Some a given ends) (done_ran cmd me image cache task new held after told now a own within count did run)
-answered cmd me image cache task new held after told now (Failed line) given ends own within count did run =
-    subst (λ (x : Answer). Ran cmd me image cache x now) (same_Some (answer.MediaFault line) given ends) (failed_ran cmd me image cache task new held after told now line did run)
+
+-- the command ends by an operation that was done, or in which memory failed
+pub answered : (cmd : Cmd) (me : List ℕ) (image : Image) (cache : Cache) (a : Around) (given : Answer) → HasOperated a (Some given) → IsWithin a.task.lines (op_of a.task) → IfTold a.told (λ (i : Image). length i ≡ a.task.lines) → Running cmd me image cache a.task a.old a.told → Ran cmd me image cache given a.left
+answered cmd me image cache a given (inl done) within count run = turn_ran cmd me image cache a.task a.next a.old a.new a.told a.left done.turn given done.ends done.own within count done.turned run
+answered cmd me image cache a given (inr fault) within count run =
+    subst (λ (x : Answer). Ran cmd me image cache x a.left) (sym (same_Some given (answer.MediaFault fault.line) fault.answers)) (failed_ran cmd me image cache a.task a.old a.new a.told a.left fault.line fault.failed run)
+
+turn_left : (cmd : Cmd) (me : List ℕ) (image : Image) (cache : Cache) (task new : Task) (held after : Cache) (told now : Option Image) (turn : Turn) (given : Answer) → ended turn ≡ Some given → IsWithin task.lines (op_of task) → IfTold told (λ (i : Image). length i ≡ task.lines) → IfTold told (λ (i : Image). HasTurned task (machine i held) turn new now after) → Running cmd me image cache task held told → HasLeft cmd me image cache given now after
+turn_left cmd me image cache task new held after told now Go given ends within count did run = absurd cc
+turn_left cmd me image cache task new held after told now (Note note) given ends within count did run = absurd cc
+turn_left cmd me image cache task new held after told now (Done a) given ends within count did run =
+    subst (λ (x : Answer). HasLeft cmd me image cache x now after) (same_Some a given ends) (done_left cmd me image cache task new held after told now a within count did run)
 
 -- without a fault, with what is left of the cache
-pub left_behind : (cmd : Cmd) (me : List ℕ) (image : Image) (cache : Cache) (task new : Task) (held after : Cache) (told now : Option Image) (outcome : Outcome) (given : Answer) → ended outcome ≡ Some given → fault_of given ≡ None → IsWithin task.lines (op_of task) → IfTold told (λ (i : Image). length i ≡ task.lines) → IfTold told (λ (i : Image). Did task (record { image = i; cache = held }) outcome new now after) → Running cmd me image cache task held told → HasLeft cmd me image cache given now after
-left_behind cmd me image cache task new held after told now (Turned Go) given ends none within count did run = absurd cc
-left_behind cmd me image cache task new held after told now (Turned (Note note)) given ends none within count did run = absurd cc
-left_behind cmd me image cache task new held after told now (Turned (Done a)) given ends none within count did run =
-    subst (λ (x : Answer). HasLeft cmd me image cache x now after) (same_Some a given ends) (done_left cmd me image cache task new held after told now a within count did run)
-left_behind cmd me image cache task new held after told now (Failed line) given ends none within count did run =
-    absurd (let fault : fault_of given ≡ Some line = sym (ap fault_of (same_Some (answer.MediaFault line) given ends)) in cc)
+pub left_behind : (cmd : Cmd) (me : List ℕ) (image : Image) (cache : Cache) (a : Around) (given : Answer) → HasOperated a (Some given) → fault_of given ≡ None → IsWithin a.task.lines (op_of a.task) → IfTold a.told (λ (i : Image). length i ≡ a.task.lines) → Running cmd me image cache a.task a.old a.told → HasLeft cmd me image cache given a.left a.new
+left_behind cmd me image cache a given (inl done) none within count run = turn_left cmd me image cache a.task a.next a.old a.new a.told a.left done.turn given done.ends within count done.turned run
+left_behind cmd me image cache a given (inr fault) none within count run =
+    absurd (let named : fault_of given ≡ Some fault.line = ap fault_of (same_Some given (answer.MediaFault fault.line) fault.answers) in cc)
+
+-- the operation was done where the command goes on
+pub done_on : (a : Around) → HasOperated a None → IsDone a None
+done_on a (inl done) = done
+done_on a (inr fault) = absurd (let no : None ≡ Some (answer.MediaFault fault.line) = fault.answers in cc)
 
 pub stopped : (cmd : Cmd) (me : List ℕ) (image : Image) (cache : Cache) (task : Task) (held : Cache) (told now : Option Image) → now ≡ told → Running cmd me image cache task held told → HasStopped cmd me image cache now
 stopped cmd me image cache task held told now same run = record { reached = reached cmd me image cache task held told run; left = same ∙ run.told_is }
@@ -180,19 +187,3 @@ not_begun cmd me image cache task lines held told start count same is = record {
   plain = subst IsPlain (sym start) (All-nil (λ (e : Entry). e.kind ≡ Directory));
   told_is = is;
 }
-
--- A task that reads.
-
-pub read_goes : (a : Around) (r : Reading) → r ≡ reading.On → OnOutcome r (λ outcome. IfTold a.told (λ image. Did a.task (record { image = image; cache = a.old }) outcome a.next a.left a.new)) → OnOutcome r (λ outcome. OnTurn a.task a.new outcome a.next)
-    → OnOutcome r (λ outcome. OnFault outcome a.before a.now) → OnOutcome r (IsOfMemory a.size) → HasOperated a None
-read_goes a reading.On is did turns failed line = record { outcome = Turned Go; ends = refl; did = did; turns = turns; own = λ at e. cc; failed = failed; line = line }
-read_goes a (reading.Failed at) is did turns failed line = absurd cc
-read_goes a reading.Due is did turns failed line = absurd cc
-
-pub read_fails : (a : Around) (r : Reading) (at : LineNo) → r ≡ reading.Failed at → OnOutcome r (λ outcome. IfTold a.told (λ image. Did a.task (record { image = image; cache = a.old }) outcome a.next a.left a.new)) → OnOutcome r (λ outcome. OnTurn a.task a.new outcome a.next)
-    → OnOutcome r (λ outcome. OnFault outcome a.before a.now) → OnOutcome r (IsOfMemory a.size) → HasOperated a (Some (answer.MediaFault at))
-read_fails a reading.On at is did turns failed line = absurd cc
-read_fails a (reading.Failed l) at is did turns failed line =
-    let same : l ≡ at = cc in
-    record { outcome = Failed l; ends = ap (λ (l : LineNo). Some (answer.MediaFault l)) same; did = did; turns = turns; own = tt; failed = failed; line = line }
-read_fails a reading.Due at is did turns failed line = absurd cc

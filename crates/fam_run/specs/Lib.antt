@@ -1,4 +1,4 @@
 pub mod Operation
-pub mod Reading
+pub mod Step
 pub mod Run
 pub mod Files

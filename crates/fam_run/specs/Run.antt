@@ -1,15 +1,15 @@
 -- What a command that runs alone, from a host's cache, has done when it ends.
-use Rattle.std.specs.Prelude.{ℕ, ◌≡◌, ◌<◌, List, All, Option, Some, None}
+use Rattle.std.specs.Prelude.{ℕ, ◌≡◌, List, All, Option, Some, None}
 use Rattle.fam_base.specs.Image.{Image}
 use Rattle.fam_base.specs.declared.line.LineNo.{LineNo}
 use Rattle.fam_base.specs.declared.cmd.Cmd.{Cmd}
 use Rattle.fam_base.specs.declared.entry.Entry.{Entry}
 use Rattle.fam_base.specs.declared.entry.Kind.TheVariants.{Directory}
 use Rattle.fam_machine.specs.Caches.{Cache}
-use Rattle.fam_machine.specs.Operations.{Failure, Machine, operated, failed, IsInside}
+use Rattle.fam_machine.specs.Cuts.{Fails}
+use Rattle.fam_machine.specs.Operations.{Machine, operated, IsInside}
 use Rattle.fam_commands.specs.Solo.{Came, turn_on}
 use Rattle.fam_commands.specs.Task.{Task, op_of}
-use Rattle.fam_media.specs.Outside.{masks}
 use Rattle.fam_tasks.specs.declared.answer.Answer.{Answer}
 use Rattle.fam_tasks.specs.declared.answer.Answer.TheVariants as answer
 use Rattle.fam_tasks.specs.declared.answer.Turn.TheVariants.{Done}
@@ -23,15 +23,25 @@ IsPlain task = All (λ (e : Entry). e.kind ≡ Directory) task.entries
 abbrev pub fault_of : Answer → Option LineNo
 fault_of (answer.Ok seq) = None
 fault_of (answer.Played m tree) = None
+fault_of (answer.Same m) = None
+fault_of (answer.Bytes m bytes) = None
+fault_of (answer.Checked m checked) = None
+fault_of (answer.Report report) = None
 fault_of (answer.NoSuper word) = None
 fault_of (answer.BadSuper field found wanted) = None
 fault_of (answer.BadLog field found wanted) = None
 fault_of (answer.BadEntry seq reason) = None
 fault_of (answer.NotMaster me master) = None
+fault_of answer.BadStripe = None
 fault_of (answer.Exists kind) = None
 fault_of answer.NoParent = None
 fault_of answer.ParentIsFile = None
 fault_of (answer.LogFull slots) = None
+fault_of (answer.NoSpace units) = None
+fault_of (answer.NotFound m) = None
+fault_of (answer.IsDirectory m) = None
+fault_of (answer.Differs m offset found wanted) = None
+fault_of (answer.Length m size wanted) = None
 fault_of (answer.MediaFault line) = Some line
 fault_of answer.NotYet = None
 
@@ -70,12 +80,9 @@ pub record HasLeft (cmd : Cmd) (me : List ℕ) (image : Image) (cache : Cache) (
 -- memory failed in the operation that came next, at this line, and some words of a send came through
 pub record HasBroken (cmd : Cmd) (me : List ℕ) (image : Image) (cache : Cache) (at : LineNo) (told : Option Image) : Type 0 where
   pub reached : Reached cmd me image cache
-  pub through : ℕ
-  pub fits : through < masks
-  pub failure : Failure
-  pub fails : failed through (op_of reached.task) reached.machine ≡ Some failure
-  pub line : failure.line ≡ at
-  pub left : told ≡ Some failure.left.image
+  pub state : Machine
+  pub fails : Fails (op_of reached.task) reached.machine at state
+  pub left : told ≡ Some state.image
 
 -- no memory was left for the operation that came next
 pub record HasStopped (cmd : Cmd) (me : List ℕ) (image : Image) (cache : Cache) (told : Option Image) : Type 0 where

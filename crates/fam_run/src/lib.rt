@@ -8,7 +8,7 @@ mod operation;
 mod reading;
 mod solo;
 
-pub use operation::{Outcome, operate};
+pub use operation::operate;
 pub use solo::run;
 
 #[cfg(test)]

@@ -5,37 +5,37 @@ ghost use Rattle.std.specs.FinMap as map;
 ghost use Rattle.fam_base.specs.Image.{Image};
 ghost use Rattle.fam_base.specs.declared.cmd.Cmd.{Cmd};
 ghost use Rattle.fam_format.specs.Layout.{least_lines};
-ghost use Rattle.fam_media.specs.Causes.{Rose};
+ghost use Rattle.fam_media.specs.Causes.{IsSteady, Rose};
 ghost use Rattle.fam_media.specs.Outside.{IfTold};
 ghost use Rattle.fam_base.specs.Commands.{mode_limit};
 ghost use Rattle.fam_rules.specs.DecideLaws.{IsAttr};
 ghost use Rattle.fam_protocol.specs.Tasks.{IsCommand};
-ghost use Rattle.fam_tasks.specs.Sound.{IsServed, IsWithin};
+ghost use Rattle.fam_machine.specs.Operations.{IsWithin};
+ghost use Rattle.fam_tasks.specs.Sound.{IsServed};
 ghost use Rattle.fam_run.specs.Files.{IsDue, meets_a_file};
 ghost use Rattle.fam_run.specs.Operation.{ended};
-ghost use Rattle.fam_run.specs.Reading.{HasOperated};
+ghost use Rattle.fam_run.specs.Step.{HasOperated};
 ghost use Rattle.fam_machine.specs.Caches.{Cache};
 ghost use Rattle.fam_commands.specs.Task.{op_of};
 ghost use Rattle.fam_run.specs.Run.{HasLeft, HasStopped, Ran, Running, fault_of};
 
-use crate::operation::{Outcome, operate};
-use crate::reading::{Reading, read_next};
+use crate::operation::operate;
+use crate::reading::read_next;
 use fam_base::{Attr, Cmd, OutOfMemory};
-use fam_cache::HostCache;
+use fam_cache::{HostCache, OperationFault};
 use fam_media::Media;
 use fam_tasks::{Answer, Task, Turn};
 use std::alloc::Global;
 use uuid::Uuid;
 
-/// The answer, where the command ends with this outcome.
-fn answer_of(outcome: Outcome) -> Option<Answer>
-    ensures { result ≡ ended outcome }
+/// The answer, where the command ends with this turn.
+fn answer_of(turn: Turn) -> Option<Answer>
+    ensures { result ≡ ended turn }
 {
-    match outcome {
-        Outcome::Turned(Turn::Go) => None,
-        Outcome::Turned(Turn::Note(_)) => None,
-        Outcome::Turned(Turn::Done(answer)) => Some(answer),
-        Outcome::Failed(line) => Some(Answer::MediaFault(line)),
+    match turn {
+        Turn::Go => None,
+        Turn::Note(_) => None,
+        Turn::Done(answer) => Some(answer),
     }
 }
 
@@ -62,13 +62,17 @@ fn go_on<M: Media>(
     ensures within { IsWithin task.old.lines (op_of task.old) }
     ensures undone { OnErr result (media.new ≡ media.old) }
 
-    ensures size { M.size media.new ≡ M.size media.old }
-    ensures later { M.faults media.old ≤ M.faults media.new }
+    ensures steady { IsSteady M.size M.faults media.old media.new }
 {
-    match read_next(cache, task, media)? {
-        Reading::On => Ok(None),
-        Reading::Failed(line) => Ok(Some(Answer::MediaFault(line))),
-        Reading::Due => Ok(answer_of(operate(cache, task, media)?)),
+    match read_next(cache, task, media) {
+        Ok(true) => Ok(None),
+        Ok(false) => match operate(cache, task, media) {
+            Ok(turn) => Ok(answer_of(turn)),
+            Err(OperationFault::MediaFault(line)) => Ok(Some(Answer::MediaFault(line))),
+            Err(OperationFault::OutOfMemory) => Err(OutOfMemory),
+        },
+        Err(OperationFault::MediaFault(line)) => Ok(Some(Answer::MediaFault(line))),
+        Err(OperationFault::OutOfMemory) => Err(OutOfMemory),
     }
 }
 
@@ -94,8 +98,7 @@ fn finish<M: Media>(
         OnSome (fault_of answer) (Rose (M.faults media.old) (M.faults media.new))) }
     ensures line { IfOk result (λ answer. IfSome (fault_of answer) (λ line. line.0 < M.size media.old)) }
 
-    ensures size { M.size media.new ≡ M.size media.old }
-    ensures later { M.faults media.old ≤ M.faults media.new }
+    ensures steady { IsSteady M.size M.faults media.old media.new }
 {
     'operations: loop {
         task.is_sound();
@@ -153,8 +156,7 @@ pub fn run<M: Media>(
         OnSome (fault_of answer) (Rose (M.faults media.old) (M.faults media.new))) }
     ensures line { IfOk result (λ answer. IfSome (fault_of answer) (λ line. line.0 < M.size media.old)) }
 
-    ensures size { M.size media.new ≡ M.size media.old }
-    ensures later { M.faults media.old ≤ M.faults media.new }
+    ensures steady { IsSteady M.size M.faults media.old media.new }
 {
     is_command(&cmd);
     let mut cache = HostCache::new(alloc);

@@ -5,7 +5,7 @@ mod images;
 
 use super::*;
 use fam_base::{Cmd, Entry, Kind, LineNo, Mask};
-use fam_cache::HostCache;
+use fam_cache::{HostCache, OperationFault};
 use fam_format::{GATE_LINE, LOG_LINE};
 use fam_media::{Media, MemMedia};
 use fam_tasks::{Answer, Task, Turn};
@@ -110,13 +110,14 @@ fn an_operation_that_failed_is_tried_again(rt: HostRuntime) -> Result<(), Fail> 
     if media.lines() != LINES {
         panic!(rt; "another size");
     }
-    let Outcome::Turned(Turn::Go) = operate(&mut cache, &mut task, &mut media)? else {
+    let Ok(Turn::Go) = operate(&mut cache, &mut task, &mut media) else {
         panic!(rt; "line 0 is not dropped");
     };
-    let Outcome::Failed(LineNo(0)) = operate(&mut cache, &mut task, &mut media)? else {
+    let Err(OperationFault::MediaFault(LineNo(0))) = operate(&mut cache, &mut task, &mut media)
+    else {
         panic!(rt; "line 0 is loaded");
     };
-    let Outcome::Turned(Turn::Go) = operate(&mut cache, &mut task, &mut media)? else {
+    let Ok(Turn::Go) = operate(&mut cache, &mut task, &mut media) else {
         panic!(rt; "line 0 is not loaded");
     };
     Ok(())

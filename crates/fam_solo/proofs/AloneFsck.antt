@@ -101,7 +101,7 @@ module _ (me : List ℕ) (image : Image) (cache : Cache) (normal : map eight ima
 
   came_holds : (t : Task) (words : List ℕ) (made : ℕ) (m : Machine) → Came Fsck me image cache t words made m → Holds t m
   unfolding Holds
-  came_holds t words made m starts = record { me = refl; lines = refl; place = record { entries = refl; survey = refl } }
+  came_holds t words made m starts = record { me = refl; lines = refl; place = record { first = refl; entries = refl; survey = refl } }
   came_holds next _ _ _ (goes {t = t} {words = words} {made = made} {m = m} came inside is) =
       by_turn (turn_on t m) next (operated (op_of t) m) (turned t words made m came (came_holds t words made m came)).task is
 

@@ -48,7 +48,17 @@ abbrev pub loads_from : Place → Task → Option ℕ
 loads_from at.Magic t = Some 0
 loads_from (at.Word part j k) t = Some (part_line t part j)
 loads_from at.Gate t = Some gate_line
-loads_from other t = None
+loads_from at.DropMagic t = None
+loads_from (at.Drop part j) t = None
+loads_from at.DropGate t = None
+loads_from (at.Check i) t = None
+loads_from at.Decide t = None
+loads_from (at.StoreData j k) t = None
+loads_from (at.SendData j) t = None
+loads_from (at.StoreSlot j k) t = None
+loads_from (at.SendSlot j) t = None
+loads_from at.StoreGate t = None
+loads_from at.SendGate t = None
 
 abbrev pub reads_at : Place → Task → Option ℕ
 reads_at at.DropMagic t = Some 0
@@ -57,7 +67,14 @@ reads_at (at.Drop part j) t = Some (part_line t part j)
 reads_at (at.Word part j k) t = Some (part_line t part j)
 reads_at at.DropGate t = Some gate_line
 reads_at at.Gate t = Some gate_line
-reads_at other t = None
+reads_at (at.Check i) t = None
+reads_at at.Decide t = None
+reads_at (at.StoreData j k) t = None
+reads_at (at.SendData j) t = None
+reads_at (at.StoreSlot j k) t = None
+reads_at (at.SendSlot j) t = None
+reads_at at.StoreGate t = None
+reads_at at.SendGate t = None
 
 -- the next load, if it is one, is of the line at hand
 abbrev pub LoadsNext : Option ℕ → Task → Type 0
@@ -110,8 +127,8 @@ module _ (o : Option ℕ) where
   gate_loads t n None = by_wish (wish_of t.cmd)
     where
       by_wish : (w : Option Wish) → Loads o (finds_or_goes w n (with_gate t n))
-      by_wish None = slot_next (record t { gate = n }) (with_gate t n) 0 refl
-      by_wish (Some w) = slot_next (record t { gate = n }) (with_gate t n) 0 refl
+      by_wish None = slot_next (record t { gate = n }) (with_gate t n) t.first_slot refl
+      by_wish (Some w) = slot_next (record t { gate = n }) (with_gate t n) t.first_slot refl
 
   join_loads : (t : Task) (i : ℕ) (e : Entry) (f : Option Reason) → Loads o (join_turn t i e f)
   join_loads t i e (Some reason) = tt

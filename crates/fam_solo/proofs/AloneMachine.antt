@@ -1,6 +1,6 @@
 -- The machine of a command that runs alone: what its operations leave, and what its task stands for.
 use Rattle.std.proofs.Common.{ℕ, ◌≡◌, ◌+◌, Bool, true, false, List, length, map, Option, Some, None, inl, inr, refl, sym, ◌∙◌, ap, subst}
-use Rattle.std.specs.Prelude.{⊤, [], nat_lt, if◌then◌else◌, unwrap_or, option_map}
+use Rattle.std.specs.Prelude.{⊤, nat_lt, if◌then◌else◌, unwrap_or, option_map}
 use Rattle.std.proofs.lemmas.Bool.{cases_eq}
 use Rattle.fam_format.specs.Layout.{gate_line, geometry}
 use Rattle.fam_rules.specs.Written.{lines_of}
@@ -55,16 +55,19 @@ module _ (cmd : Cmd) (me : List ℕ) (image : Image) (cache : Cache) where
 
   -- the operations are as many as the answer says
   pub came_steps : (t : Task) (words : List ℕ) (made : ℕ) (m : Machine) (reply : Reply) → Came cmd me image cache t words made m → turn_on t m ≡ Ends reply
-      → made + 1 ≡ steps_of cmd (length image) (with_given words (given (op_of t) m)) reply
+      → made + 1 ≡ steps_of t.first_slot cmd (length image) (with_given words (given (op_of t) m)) reply
   came_steps t words made m reply came ends =
       steps_at_end cmd me (length image) t words made (came_stands t words made m came) (word_of t m) reply (same_turn t m ∙ ends)
-      ∙ ap (λ (o : Option ℕ). steps_of cmd (length image) (with_given words o) reply) (same_given (op_of t) m)
+      ∙ ap (λ (o : Option ℕ). steps_of t.first_slot cmd (length image) (with_given words o) reply) (same_given (op_of t) m)
 
   pub came_cmd : (t : Task) (words : List ℕ) (made : ℕ) (m : Machine) → Came cmd me image cache t words made m → t.cmd ≡ cmd
   came_cmd t words made m came = (standing_tied cmd me (length image) t words made (came_stands t words made m came)).cmd_is
 
   pub came_me : (t : Task) (words : List ℕ) (made : ℕ) (m : Machine) → Came cmd me image cache t words made m → t.me ≡ me
   came_me t words made m came = (standing_tied cmd me (length image) t words made (came_stands t words made m came)).me_is
+
+  pub came_first : (t : Task) (words : List ℕ) (made : ℕ) (m : Machine) → Came cmd me image cache t words made m → t.first_slot ≡ 0
+  came_first t words made m came = (standing_tied cmd me (length image) t words made (came_stands t words made m came)).first_is
 
 -- The form of the image.
 

@@ -43,7 +43,7 @@ use Rattle.fam_protocol.specs.Steps.{TurnSays}
 use Rattle.fam_protocol.specs.Tasks.{AtPlace, IsCommand, KnowsGate}
 use Rattle.fam_protocol.specs.Way.{Damaged, Known}
 use Rattle.fam_solo.proofs.AloneBad.{OnBad, on_bad}
-use Rattle.fam_solo.proofs.AloneMachine.{came_cmd, came_looks, came_me, word_of}
+use Rattle.fam_solo.proofs.AloneMachine.{came_cmd, came_first, came_looks, came_me, word_of}
 use Rattle.fam_solo.proofs.AloneReply.{no_stranger}
 use Rattle.fam_solo.proofs.AloneSlots.{ChecksAt, EndsRead, HasTold, IsAllRead, ReadAt, SaysRead, turn_reads}
 use Rattle.fam_solo.proofs.AloneSound.{OnSound, OnWrites, on_way}
@@ -151,7 +151,19 @@ module _ (cmd : Cmd) (me : List ℕ) (image : Image) (cache : Cache) (enough : l
 
   abbrev pub CheckedAt : Place → Task → Type 0
   CheckedAt (at.Check i) t = AtCheck i t
-  CheckedAt place t = ⊤
+  CheckedAt at.DropMagic t = ⊤
+  CheckedAt at.Magic t = ⊤
+  CheckedAt (at.Drop part j) t = ⊤
+  CheckedAt (at.Word part j k) t = ⊤
+  CheckedAt at.DropGate t = ⊤
+  CheckedAt at.Gate t = ⊤
+  CheckedAt at.Decide t = ⊤
+  CheckedAt (at.StoreData j k) t = ⊤
+  CheckedAt (at.SendData j) t = ⊤
+  CheckedAt (at.StoreSlot j k) t = ⊤
+  CheckedAt (at.SendSlot j) t = ⊤
+  CheckedAt at.StoreGate t = ⊤
+  CheckedAt at.SendGate t = ⊤
 
   plays_on : (t : Task) → t.cmd ≡ cmd → Plays t.cmd
   plays_on t cmd_is = subst Plays (sym cmd_is) (other_command cmd other)
@@ -278,7 +290,7 @@ module _ (cmd : Cmd) (me : List ℕ) (image : Image) (cache : Cache) (enough : l
   says_read : (t : Task) (words : List ℕ) (made : ℕ) (m : Machine) → Came cmd me image cache t words made m → ReadAt (line_at image) (line_bytes * length image) t.place t.gate t.entries
       → SaysRead (line_at image) (line_bytes * length image) t.place t.gate t.entries (turn_on t m)
   says_read t words made m came at_place =
-      turn_reads (line_at image) (line_bytes * length image) t.place t (word_of t m) (plays_on t (came_cmd cmd me image cache t words made m came)) refl at_place (checks_at t.place t (checked t words made m came))
+      turn_reads (line_at image) (line_bytes * length image) t.place t (word_of t m) (plays_on t (came_cmd cmd me image cache t words made m came)) (came_first cmd me image cache t words made m came) refl at_place (checks_at t.place t (checked t words made m came))
 
   read_at : (t : Task) (words : List ℕ) (made : ℕ) (m : Machine) → Came cmd me image cache t words made m → ReadAt (line_at image) (line_bytes * length image) t.place t.gate t.entries
   read_at t words made m starts = refl

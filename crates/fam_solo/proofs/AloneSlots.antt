@@ -31,7 +31,7 @@ use Rattle.fam_rules.specs.declared.answers.Refused.{Refused}
 use Rattle.fam_rules.specs.declared.answers.Refused.TheVariants as refused
 use Rattle.fam_rules.specs.Decide.{Wish, decide_wish, wish_of}
 use Rattle.fam_rules.specs.Place.{line_bytes}
-use Rattle.fam_rules.specs.Reply.{Reply, NotAppended, Reports, NoSuperblock, BadHeader, BadSlot}
+use Rattle.fam_rules.specs.Reply.{Reply, NotAppended, Reports, NoSuperblock, BadHeader, BadSlot, Appended, Played, Same, Differs, Length, Bytes, NotFound, IsDirectory, Checks}
 use Rattle.fam_rules.specs.Written.{lines_of}
 use Rattle.fam_protocol.proofs.Apart.{with_last}
 use Rattle.fam_protocol.proofs.BadEnds.{Plays}
@@ -95,8 +95,22 @@ module _ (line : Lines) (have : ℕ) where
   EndsRead p gate entries (BadHeader fault) = ⊤
   EndsRead p gate entries (Reports report) = ⊤
   EndsRead p gate entries (NotAppended (refused.NotMaster host master)) = ⊤
+  EndsRead p gate entries (NotAppended refused.BadStripe) = IsAllRead p × HasTold gate entries
+  EndsRead p gate entries (NotAppended (refused.Exists kind)) = IsAllRead p × HasTold gate entries
+  EndsRead p gate entries (NotAppended refused.NoParent) = IsAllRead p × HasTold gate entries
+  EndsRead p gate entries (NotAppended refused.ParentIsFile) = IsAllRead p × HasTold gate entries
+  EndsRead p gate entries (NotAppended (refused.LogFull slots)) = IsAllRead p × HasTold gate entries
+  EndsRead p gate entries (NotAppended (refused.NoSpace units)) = IsAllRead p × HasTold gate entries
   EndsRead p gate entries (BadSlot i reason) = (p ≡ at.Check i) × HasTold i entries
-  EndsRead p gate entries other = IsAllRead p × HasTold gate entries
+  EndsRead p gate entries (Appended seq) = IsAllRead p × HasTold gate entries
+  EndsRead p gate entries (Played m tree) = IsAllRead p × HasTold gate entries
+  EndsRead p gate entries (Same m) = IsAllRead p × HasTold gate entries
+  EndsRead p gate entries (Differs m offset found wanted) = IsAllRead p × HasTold gate entries
+  EndsRead p gate entries (Length m size wanted) = IsAllRead p × HasTold gate entries
+  EndsRead p gate entries (Bytes m bytes) = IsAllRead p × HasTold gate entries
+  EndsRead p gate entries (NotFound m) = IsAllRead p × HasTold gate entries
+  EndsRead p gate entries (IsDirectory m) = IsAllRead p × HasTold gate entries
+  EndsRead p gate entries (Checks m checked) = IsAllRead p × HasTold gate entries
 
   abbrev pub SaysRead : Place → ℕ → List Entry → Turn → Type 0
   SaysRead p gate entries (Goes next) = ReadAt next.place next.gate next.entries
@@ -108,7 +122,19 @@ module _ (line : Lines) (have : ℕ) where
   -- the words of a slot that is looked at are the image's
   abbrev pub ChecksAt : Place → Task → Type 0
   ChecksAt (at.Check i) t = (p : Params) → super_in line have ≡ Ok p → entry_of t.params t.words i ≡ slot_in line p i
-  ChecksAt other t = ⊤
+  ChecksAt at.DropMagic t = ⊤
+  ChecksAt at.Magic t = ⊤
+  ChecksAt (at.Drop part j) t = ⊤
+  ChecksAt (at.Word part j k) t = ⊤
+  ChecksAt at.DropGate t = ⊤
+  ChecksAt at.Gate t = ⊤
+  ChecksAt at.Decide t = ⊤
+  ChecksAt (at.StoreData j k) t = ⊤
+  ChecksAt (at.SendData j) t = ⊤
+  ChecksAt (at.StoreSlot j k) t = ⊤
+  ChecksAt (at.SendSlot j) t = ⊤
+  ChecksAt at.StoreGate t = ⊤
+  ChecksAt at.SendGate t = ⊤
 
   -- Lists.
 
@@ -183,13 +209,18 @@ module _ (line : Lines) (have : ℕ) where
           let all : i ≡ t.gate = omega (arith, ltb-false i (slots_read t) is, count, fits) in
           subst (λ (n : ℕ). HasTold n entries) all told
 
-  gate_reads : (p : Place) (t : Task) → Plays t.cmd → (n : ℕ) (o : Option LogFault) → t.entries ≡ [] → SaysRead p t.gate t.entries (gate_turn t n o)
-  gate_reads p t plays n (Some fault) none = log_ends p t plays fault
-  gate_reads p t plays n None none = by_wish (wish_of t.cmd)
+  gate_reads : (p : Place) (t : Task) → Plays t.cmd → t.first_slot ≡ 0 → (n : ℕ) (o : Option LogFault) → t.entries ≡ [] → SaysRead p t.gate t.entries (gate_turn t n o)
+  gate_reads p t plays first n (Some fault) none = log_ends p t plays fault
+  gate_reads p t plays first n None none = by_wish (wish_of t.cmd)
     where
+      reads_first : ReadAt (with_gate t n).place n t.entries
+      reads_first =
+          subst (λ (i : ℕ). ReadAt (slot_or_decide (record t { gate = n }) i) n t.entries) (sym first)
+          (slot_reads (record t { gate = n }) 0 t.entries plays (told_none t.entries none) (omega arith))
+
       by_wish : (o : Option Wish) → SaysRead p t.gate t.entries (finds_or_goes o n (with_gate t n))
-      by_wish None = slot_reads (record t { gate = n }) 0 t.entries plays (told_none t.entries none) (omega arith)
-      by_wish (Some w) = slot_reads (record t { gate = n }) 0 t.entries plays (told_none t.entries none) (omega arith)
+      by_wish None = reads_first
+      by_wish (Some w) = reads_first
 
   module _ (t : Task) (plays : Plays t.cmd) (i : ℕ) (told : HasTold i t.entries) (below : i < t.gate) where
     join_reads : (e : Entry) (o : Option Reason) → ((p : Params) → super_in line have ≡ Ok p → slot_in line p i ≡ Ok e) → SaysRead (at.Check i) t.gate t.entries (join_turn t i e o)
@@ -285,21 +316,21 @@ module _ (line : Lines) (have : ℕ) where
 
   -- All places.
 
-  pub turn_reads : (p : Place) (t : Task) (word : ℕ) → Plays t.cmd → t.place ≡ p → ReadAt p t.gate t.entries → ChecksAt p t → SaysRead p t.gate t.entries (turn_at p t word)
-  turn_reads at.DropMagic t word plays is a checks = a
-  turn_reads at.Magic t word plays is a checks = magic_reads at.Magic t plays (magic_fault word) a
-  turn_reads (at.Drop part j) t word plays is a checks = a
-  turn_reads (at.Word part j k) t word plays is a checks =
+  pub turn_reads : (p : Place) (t : Task) (word : ℕ) → Plays t.cmd → t.first_slot ≡ 0 → t.place ≡ p → ReadAt p t.gate t.entries → ChecksAt p t → SaysRead p t.gate t.entries (turn_at p t word)
+  turn_reads at.DropMagic t word plays first is a checks = a
+  turn_reads at.Magic t word plays first is a checks = magic_reads at.Magic t plays (magic_fault word) a
+  turn_reads (at.Drop part j) t word plays first is a checks = a
+  turn_reads (at.Word part j k) t word plays first is a checks =
       word_reads (with_word t word) part j k plays a (subst (λ (p : Place). ReadAt p t.gate t.entries) (sym is) a)
-  turn_reads at.DropGate t word plays is a checks = a
-  turn_reads at.Gate t word plays is a checks = gate_reads at.Gate t plays word (gate_fault word t.params) a
-  turn_reads (at.Check i) t word plays is a checks =
+  turn_reads at.DropGate t word plays first is a checks = a
+  turn_reads at.Gate t word plays first is a checks = gate_reads at.Gate t plays first word (gate_fault word t.params) a
+  turn_reads (at.Check i) t word plays first is a checks =
       subst (SaysRead (at.Check i) t.gate t.entries) (sym (plays.check t i))
       (slot_says t plays i a.0 a.1 (entry_of t.params t.words i) (λ p super. sym (checks p super)))
-  turn_reads at.Decide t word plays is a checks = decide_reads at.Decide t tt a (subst (λ (p : Place). ReadAt p t.gate t.entries) (sym is) a) t.cmd
-  turn_reads (at.StoreData j k) t word plays is a checks = data_stored (nat_lt k 7) j k t.gate t.entries a
-  turn_reads (at.SendData j) t word plays is a checks = data_sent (nat_lt (j + 1) (lines_of (size_of t.entry))) j t.gate t.entries a
-  turn_reads (at.StoreSlot j k) t word plays is a checks = slot_stored (nat_lt k 7) j k t.gate t.entries a
-  turn_reads (at.SendSlot j) t word plays is a checks = slot_sent (nat_lt (j + 1) (geometry t.params).lines) j t.gate t.entries a
-  turn_reads at.StoreGate t word plays is a checks = a
-  turn_reads at.SendGate t word plays is a checks = (tt, a)
+  turn_reads at.Decide t word plays first is a checks = decide_reads at.Decide t tt a (subst (λ (p : Place). ReadAt p t.gate t.entries) (sym is) a) t.cmd
+  turn_reads (at.StoreData j k) t word plays first is a checks = data_stored (nat_lt k 7) j k t.gate t.entries a
+  turn_reads (at.SendData j) t word plays first is a checks = data_sent (nat_lt (j + 1) (lines_of (size_of t.entry))) j t.gate t.entries a
+  turn_reads (at.StoreSlot j k) t word plays first is a checks = slot_stored (nat_lt k 7) j k t.gate t.entries a
+  turn_reads (at.SendSlot j) t word plays first is a checks = slot_sent (nat_lt (j + 1) (geometry t.params).lines) j t.gate t.entries a
+  turn_reads at.StoreGate t word plays first is a checks = a
+  turn_reads at.SendGate t word plays first is a checks = (tt, a)

@@ -25,6 +25,7 @@ use Rattle.fam_rules.specs.declared.answers.Refused.{Refused}
 use Rattle.fam_rules.specs.declared.answers.Refused.TheVariants as refused
 use Rattle.fam_rules.specs.Alone.{content_of, held_file}
 use Rattle.fam_rules.specs.Asks.{File, ask, entries_of}
+use Rattle.fam_protocol.proofs.History.{entries_count}
 use Rattle.fam_rules.specs.Content.{fill}
 use Rattle.fam_rules.specs.Decide.{Wish, decide, decide_wish, wish_of}
 use Rattle.fam_rules.specs.DecideLaws.{MayAppend}
@@ -300,7 +301,10 @@ module _ (cmd : Cmd) (me : List ℕ) (image : Image) (cache : Cache) (enough : l
       → EndsAt pl cmd given → shown_by given ≤ length entries
   shown_within (Appended seq) pl uuid master floor t may ends = absurd ends
   shown_within (NotAppended refused) pl uuid master floor t may ends = omega arith
-  shown_within (Reports report) pl uuid master floor t may ends = let shown : read_by_log report.log ≡ may.m = ap read_by_log may.log in omega (arith, shown, may.high, held)
+  shown_within (Reports report) pl uuid master floor t may ends =
+      let all : List File = map (held_file (line_at image)) entries in
+      let shown : read_by_log report.log ≡ length (entries_of (take may.m all)) = ap read_by_log may.is.log in
+      omega (arith, shown, entries_count may.m all may.high, may.high, held)
   shown_within (NoSuperblock fault) pl uuid master floor t may ends = omega arith
   shown_within (BadHeader fault) pl uuid master floor t may ends = omega arith
   shown_within (BadSlot i reason) pl uuid master floor t may ends = omega arith

@@ -71,7 +71,14 @@ GateAt (at.StoreSlot j k) cmd image p n e m = Current image m gate_line
 GateAt (at.SendSlot j) cmd image p n e m = Current image m gate_line
 GateAt at.StoreGate cmd image p n e m = Current image m gate_line
 GateAt at.SendGate cmd image p n e m = HasLines cmd p n e m × (cell_at m.cache gate_line ≡ Dirty (slice_set (line_at image gate_line) 0 (n + 1)))
-GateAt other cmd image p n e m = ⊥
+GateAt at.DropMagic cmd image p n e m = ⊥
+GateAt at.Magic cmd image p n e m = ⊥
+GateAt (at.Drop part j) cmd image p n e m = ⊥
+GateAt (at.Word part j k) cmd image p n e m = ⊥
+GateAt at.DropGate cmd image p n e m = ⊥
+GateAt at.Gate cmd image p n e m = ⊥
+GateAt (at.Check i) cmd image p n e m = ⊥
+GateAt at.Decide cmd image p n e m = ⊥
 
 -- the command appends entry n
 pub record Writing (cmd : Cmd) (image : Image) (p : Params) (n : ℕ) (e : Entry) (t : Task) (m : Machine) : Type 0 where

@@ -105,5 +105,5 @@ pub fn the_operations_of_a_command_alone_are_counted()
         Came cmd me image cache t words made m → StandsFor cmd me (length image) t words made }
     ensures count { (image : Image) (me : List ℕ) (cmd : Cmd) (cache : Cache) (t : Task) (words : List ℕ)
         (made : ℕ) (m : Machine) (reply : Reply) → Came cmd me image cache t words made m → turn_on t m ≡ Ends reply
-        → made + 1 ≡ steps_of cmd (length image) (with_given words (given (op_of t) m)) reply }
+        → made + 1 ≡ steps_of t.first_slot cmd (length image) (with_given words (given (op_of t) m)) reply }
 {}

@@ -5,7 +5,7 @@ use Rattle.fam_base.specs.Image.{eight}
 use Rattle.fam_format.specs.Super.{magic, super_of, super_body_of}
 use Rattle.fam_super.proofs.Lines.{eight_is}
 
--- eight words that were copied
+-- words of a line that were copied
 pub eight_of : (line part words : List ℕ) (first : ℕ) → line ≡ part → part ≡ slice_range words first (first + 8) → line ≡ slice_range words first (first + 8)
 eight_of line part words first a b = a ∙ b
 

@@ -11,6 +11,7 @@ task_of t = record {
   lines = t.lines;
   place = t.place;
   params = t.params;
+  first_slot = t.first_slot;
   gate = t.gate;
   entries = t.history;
   words = t.buffer;

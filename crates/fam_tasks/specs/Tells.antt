@@ -2,6 +2,7 @@
 use Rattle.std.specs.Prelude.{◌≡◌, ◌||◌, nat_lt, Bool, true, false, Some, Result, Ok, Err}
 use Rattle.fam_base.specs.declared.entry.Entry.{Entry}
 use Rattle.fam_format.specs.declared.faults.Reason.{Reason}
+use Rattle.fam_format.specs.Line.{last_word}
 use Rattle.fam_format.specs.Slot.{entry_of}
 use Rattle.fam_rules.specs.Reply.{Reply}
 use Rattle.fam_rules.specs.Reports.{is_file}
@@ -52,7 +53,7 @@ is_slot part.File = false
 -- a place at which the next operation leads on among the lines that are read, whatever it gives
 abbrev pub is_reading : Place → Bool
 is_reading (at.Drop part j) = true
-is_reading (at.Word part j k) = nat_lt k 7 || is_slot part
+is_reading (at.Word part j k) = nat_lt k last_word || is_slot part
 is_reading at.DropMagic = false
 is_reading at.Magic = false
 is_reading at.DropGate = false

@@ -4,9 +4,10 @@ ghost use Rattle.std.specs.Prelude.{◌≡◌, Some};
 ghost use Rattle.fam_rules.specs.Reply.{BadHeader, NoSuperblock, NotAppended};
 ghost use Rattle.fam_tasks.specs.Answers.{reply_of, IsOfDirectory};
 
+use crate::byte_text::ByteText;
 use fam_base::{Entry, Kind, LineNo};
 use fam_format::{LogFault, LogField, Reason, SuperFault, SuperField};
-use fam_rules::Refused;
+use fam_rules::{Checked, Refused, Report};
 use fam_tree::Tree;
 use uuid::Uuid;
 
@@ -42,6 +43,22 @@ pub enum Answer {
         m: u64,
         tree: Tree,
     },
+    /// The file has the bytes that it is compared with.
+    Same {
+        m: u64,
+    },
+    /// Bytes of the file.
+    Bytes {
+        m: u64,
+        bytes: ByteText,
+    },
+    /// How the tree differs from a listing.
+    Checked {
+        m: u64,
+        checked: Checked,
+    },
+    /// What a check of the file system finds.
+    Report(Report),
     /// Word 0 of line 0 is this one, and no superblock's.
     NoSuper(u64),
     /// The first field of the superblock that fails its test.
@@ -66,6 +83,8 @@ pub enum Answer {
         me: Uuid,
         master: Uuid,
     },
+    /// The chunk is no positive multiple of the unit, or the counts of strips or of buckets are out of range.
+    BadStripe,
     /// Something stands at the path: a file or a directory.
     Exists(Kind),
     /// The path's parent is neither the root nor in the tree.
@@ -74,6 +93,29 @@ pub enum Answer {
     ParentIsFile,
     /// The log has room for so many entries, and holds them.
     LogFull(u64),
+    /// There is no room for so many units in a row; for strips, too few buckets have room for one strip of so many units.
+    NoSpace(u64),
+    /// Nothing stands at the path.
+    NotFound {
+        m: u64,
+    },
+    /// A directory stands at the path. It has no bytes.
+    IsDirectory {
+        m: u64,
+    },
+    /// At this offset, the first that differs, the file has the byte `found`, and what it is compared with has `wanted`.
+    Differs {
+        m: u64,
+        offset: u64,
+        found: u8,
+        wanted: u8,
+    },
+    /// The file has `size` bytes, and what it is compared with has `wanted`.
+    Length {
+        m: u64,
+        size: u64,
+        wanted: u64,
+    },
     /// Memory failed at this line. A task doesn't know of it, and never answers so itself.
     MediaFault(LineNo),
     /// The log holds a file, which a task can't read yet.

@@ -3,11 +3,8 @@
 ghost use Rattle.std.specs.Prelude.{◌≡◌, ◌+◌, ◌<◌, ◌≤◌, [], ◌∷◌, ◌++◌, length, slice_index, slice_range};
 
 use fam_base::Line;
-use fam_entry::SLOT_WORDS;
+use fam_format::{LINE_WORDS, SLOT_WORDS};
 use std::marker::Model;
-
-/// Words of a line.
-const LINE_WORDS: usize = 8;
 
 /// At most the words of one slot. A contract sees a list.
 #[derive(Drop)]
@@ -18,12 +15,13 @@ pub(crate) struct Buffer {
 
 impl Model for Buffer {
     ghost use Rattle.std.specs.Prelude.{ℕ, ◌≤◌, List, take};
+    ghost use Rattle.fam_format.specs.Layout.{first_format};
 
     ghost Value = { List ℕ };
 
     ghost view = { λ b. take b.len b.words };
 
-    ghost invariant = { λ b. b.len ≤ 64 };
+    ghost invariant = { λ b. b.len ≤ first_format.words };
 }
 
 impl Buffer {
@@ -50,7 +48,7 @@ impl Buffer {
 
     /// Adds a word.
     pub(crate) fn push(&mut self, word: u64)
-        requires { length self.old < 64 }
+        requires { length self.old < SLOT_WORDS }
         ensures { self.new ≡ self.old ++ word ∷ [] }
     {
         self.words[self.len] = word;
@@ -67,7 +65,7 @@ impl Buffer {
     /// The words in their order.
     fn as_slice(&self) -> &[u64]
         ensures same { result.now ≡ self.now }
-        ensures few { length self.now ≤ 64 }
+        ensures few { length self.now ≤ SLOT_WORDS }
     {
         &self.words[..self.len]
     }
@@ -80,11 +78,11 @@ impl Buffer {
         self.as_slice()[i]
     }
 
-    /// Eight words from word `first` on.
+    /// The words of a line, from word `first` on.
     #[tactic(auto, using(crate::proofs::Lines::eight_of))]
     pub(crate) fn line(&self, first: usize) -> Line
-        requires { first + 8 ≤ length self.now }
-        ensures { result ≡ slice_range self.now first (first + 8) }
+        requires { first + LINE_WORDS ≤ length self.now }
+        ensures { result ≡ slice_range self.now first (first + LINE_WORDS) }
     {
         let words = self.as_slice();
         let mut line = [0; LINE_WORDS];
@@ -94,7 +92,7 @@ impl Buffer {
 
     /// All words of a slot.
     pub(crate) fn whole(&self) -> &[u64; SLOT_WORDS]
-        requires { length self.now ≡ 64 }
+        requires { length self.now ≡ SLOT_WORDS }
         ensures { result.now ≡ self.now }
     {
         &self.words

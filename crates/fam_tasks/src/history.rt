@@ -135,15 +135,10 @@ impl History {
         ensures first { Tells result (parent_refusal (replay self.now) (parent_of path.now)) }
         ensures refusal { IfErr result IsOfDirectory }
     {
-        let Some(parent) = path.parent() else {
-            return Ok(());
-        };
-        match self.tree.get(&parent) {
+        match self.tree.parent_kind(path) {
             None => Err(Refused::NoParent),
-            Some(entry) => match entry.kind {
-                Kind::File => Err(Refused::ParentIsFile),
-                Kind::Directory => Ok(()),
-            },
+            Some(Kind::File) => Err(Refused::ParentIsFile),
+            Some(Kind::Directory) => Ok(()),
         }
     }
 

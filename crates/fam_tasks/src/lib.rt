@@ -8,6 +8,7 @@
 
 mod answer;
 mod buffer;
+mod byte_text;
 mod history;
 mod parts;
 mod task;
@@ -15,5 +16,6 @@ mod task;
 mod tests;
 
 pub use answer::{Answer, TaskNote, Turn};
+pub use byte_text::ByteText;
 pub use fam_machine::Op;
 pub use task::Task;

@@ -1,6 +1,6 @@
 //! What the words of a part tell, once they were loaded.
 
-ghost use Rattle.std.specs.Prelude.{◌≡◌, ◌+◌, ◌^◌, ◌≤◌, ◌<◌, IfOk, Some, None, length};
+ghost use Rattle.std.specs.Prelude.{◌≡◌, ◌+◌, ◌*◌, ◌^◌, ◌≤◌, ◌<◌, IfOk, Some, None, length};
 ghost use Rattle.std.specs.Bool.{OnTrue, OnFalse};
 ghost use Rattle.fam_format.specs.Layout.{device_limit, slot_line};
 ghost use Rattle.fam_format.specs.Log.{log_fault};
@@ -17,7 +17,7 @@ ghost use Rattle.fam_tasks.specs.Sound.{IsServed};
 use crate::buffer::Buffer;
 use fam_base::{Cmd, Entry, LineNo, Params};
 use fam_entry::{LogFault, Reason, read_entry, read_log};
-use fam_format::{LOG_LINE, SLOT_LINES, SuperFault};
+use fam_format::{LINE_WORDS, LOG_LINE, SLOT_LINES, SLOT_WORDS, SuperFault};
 use fam_super::{MAGIC, read_super};
 use uuid::Uuid;
 
@@ -32,19 +32,23 @@ pub(crate) fn line_of_slot(params: &Params, i: u64, j: u64) -> LineNo
 
 /// The parameters that lines 1 and 2 tell, or the first fault. `have` is the image's bytes.
 pub(crate) fn read_body(words: &Buffer, have: u64) -> Result<Params, SuperFault>
-    requires count { length words.now ≡ 16 }
+    requires count { length words.now ≡ 2 * LINE_WORDS }
     requires have { have ≤ device_limit }
     ensures value { result ≡ super_body_of words.now have }
     ensures sound { IfOk result (λ p. SoundParams p) }
     ensures device { IfOk result (λ p. p.device ≤ have) }
 {
-    let lines = [[MAGIC, 0, 0, 0, 0, 0, 0, 0], words.line(0), words.line(8)];
+    let lines = [
+        [MAGIC, 0, 0, 0, 0, 0, 0, 0],
+        words.line(0),
+        words.line(LINE_WORDS),
+    ];
     read_super(&lines, have)
 }
 
 /// Whether the words of log line 0 are the header for these parameters.
 pub(crate) fn read_header(words: &Buffer, params: &Params) -> Result<(), LogFault>
-    requires { length words.now ≡ 8 }
+    requires { length words.now ≡ LINE_WORDS }
     ensures { Tells result (log_fault words.now params.now) }
 {
     read_log(&words.line(0), params)
@@ -53,7 +57,7 @@ pub(crate) fn read_header(words: &Buffer, params: &Params) -> Result<(), LogFaul
 /// The entry of slot `i`, or the first reason against its words.
 pub(crate) fn read_slot(words: &Buffer, i: u64, params: &Params) -> Result<Entry, Reason>
     requires sound { SoundParams params.now }
-    requires count { length words.now ≡ 64 }
+    requires count { length words.now ≡ SLOT_WORDS }
     ensures value { result ≡ entry_of params.now words.now i }
     ensures bare { IfOk result (λ e. IsBareDirectory e) }
 {

@@ -10,7 +10,8 @@ ghost use Rattle.fam_commands.specs.Task.{op_of, starting};
 ghost use Rattle.fam_commands.specs.Turns.{turn_of};
 ghost use Rattle.fam_tasks.specs.declared.answer.Answer.TheVariants.{MediaFault};
 ghost use Rattle.fam_tasks.specs.declared.answer.Turn.TheVariants.{Done, Go};
-ghost use Rattle.fam_tasks.specs.Sound.{most_lines, IsLine, IsServed, IsSound, IsSoundAt, IsWithin};
+ghost use Rattle.fam_tasks.specs.Sound.{most_lines, IsLine, IsServed, IsSound, IsSoundAt};
+ghost use Rattle.fam_machine.specs.Operations.{IsWithin};
 ghost use Rattle.fam_tasks.specs.Tells.{Tells, TellsUnless, is_digest, is_reading, meets_file};
 
 mod digests;
@@ -23,17 +24,14 @@ use crate::history::History;
 use crate::parts::line_of_slot;
 use fam_base::{Cmd, Entry, LineNo, OutOfMemory, Params};
 use fam_commands::{Part, Place};
-use fam_format::{GATE_LINE, LOG_LINE};
+use fam_format::{GATE_LINE, LAST_WORD, LOG_LINE, SLOT_LINES};
 use fam_machine::Op;
 use std::alloc::Global;
 use std::marker::Model;
 use uuid::Uuid;
 
-/// The last word of a line.
-const LAST_WORD: u8 = 7;
-
 /// The last line of a slot.
-const LAST_LINE: u64 = 7;
+const LAST_LINE: u64 = SLOT_LINES - 1;
 
 /// A command on its way over the cache of a host.
 #[derive(Drop)]
@@ -44,6 +42,7 @@ pub struct Task {
     lines: u64,
     place: Place,
     params: Params,
+    first_slot: u64,
     gate: u64,
     history: History,
     buffer: Buffer,
@@ -110,6 +109,7 @@ impl Task {
                 fs: none,
                 master: none,
             },
+            first_slot: 0,
             gate: 0,
             history: History::new(alloc),
             buffer: Buffer::new(),

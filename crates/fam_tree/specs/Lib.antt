@@ -4,3 +4,4 @@ pub mod NextExtent
 pub mod Faults
 pub mod Keyed
 pub mod Iter
+pub mod Parents

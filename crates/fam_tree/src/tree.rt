@@ -12,6 +12,7 @@ ghost use Rattle.fam_tree.specs.Faults.{reason_of};
 ghost use Rattle.fam_tree.specs.Boxed.{entries_in};
 ghost use Rattle.fam_tree.specs.Iter.{tree_iter_rest};
 ghost use Rattle.fam_tree.specs.Keyed.{AreKeyed, IsKeyed, paths_of};
+ghost use Rattle.fam_tree.specs.Parents as parents;
 
 use crate::fault::ApplyFault;
 use fam_base::{Entry, Kind, OutOfMemory, Path};
@@ -141,18 +142,28 @@ impl Tree {
         }
     }
 
+    /// The kind of a path's parent, and `None` where the parent isn't in the tree. The root is a directory.
+    pub fn parent_kind(&self, path: &Path) -> Option<Kind>
+        ensures { result ≡ parents.parent_kind self.now (parent_of path.now) }
+    {
+        let Some(parent) = path.parent() else {
+            return Some(Kind::Directory);
+        };
+        match self.entry_at(&parent) {
+            Some(entry) => Some(entry.kind),
+            None => None,
+        }
+    }
+
     /// Why the parent of an entry has no entry below it.
     fn parent_fault(&self, entry: &Entry) -> Option<ApplyFault>
         ensures none { result ≡ None → root_fault self.now (parent_of entry.now.path) ≡ None }
         ensures fault { IfSome result (λ e. (reason_of e ≡ root_fault self.now (parent_of entry.now.path))) }
     {
-        let parent = entry.path.parent()?;
-        match self.entry_at(&parent) {
+        match self.parent_kind(&entry.path) {
             None => Some(ApplyFault::NoParent),
-            Some(parent) => match parent.kind {
-                Kind::File => Some(ApplyFault::ParentIsFile),
-                Kind::Directory => None,
-            },
+            Some(Kind::File) => Some(ApplyFault::ParentIsFile),
+            Some(Kind::Directory) => None,
         }
     }
 

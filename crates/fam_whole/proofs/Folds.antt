@@ -1,17 +1,18 @@
 -- Folds over journals in two parts; and which notes change nothing while nothing is pending.
-use Rattle.std.proofs.Common.{◌≡◌, ℕ, ◌+◌, Bool, true, false, List, [], ◌∷◌, ◌++◌, length, Option, Some, None, refl, ap, sym, ◌∙◌}
+use Rattle.std.proofs.Common.{◌≡◌, ℕ, ◌+◌, Bool, true, false, List, [], ◌∷◌, ◌++◌, length, Some, None, refl, ap, sym, ◌∙◌}
 use Rattle.std.specs.Prelude.{◌==◌, nat_lt, if◌then◌else◌}
 use Rattle.std.proofs.lemmas.List.{append_assoc}
 use Rattle.fam_base.specs.Image.{Image}
 use Rattle.fam_format.specs.Layout.{least_lines}
 use Rattle.fam_format.specs.Reading as read
 use Rattle.fam_format.specs.Reading.{Lines, Reading, reading}
-use Rattle.fam_rules.specs.Reply.{Reply, Appended, NotAppended, Played, Same, Differs, Length, Bytes, NotFound, IsDirectory, Checks, Reports, NoSuperblock, BadHeader, BadSlot}
+use Rattle.fam_rules.specs.Reply.{Reply}
 use Rattle.fam_commands.specs.Solo.{noted}
 use Rattle.fam_commands.specs.Table as row
 use Rattle.fam_journal.specs.Machines.{notes_of}
 use Rattle.fam_journal.specs.Notes.{Note}
-use Rattle.fam_journal.specs.Past.{FewLines, Past, State, Bad, Sound, acknowledges, finds, first_state, past_after, past_behind, replied, reported_count, shows, shows_count, state_read}
+use Rattle.fam_journal.specs.Past.{FewLines, Past, State, Bad, Sound, acknowledges, finds, first_state, past_after, past_behind, replied, shows, state_read}
+use Rattle.fam_journal.proofs.ReplyCases.{replied_by}
 use Rattle.fam_whole.specs.Whole.{AreWholeNotes, IsSure, image_after, image_behind}
 
 pub image_both : (x : Past) (image : Image) (a b : List Note) → image_behind x image (a ++ b) ≡ image_behind (past_behind x a) (image_behind x image a) b
@@ -61,25 +62,8 @@ acknowledges_sure seq (Bad own damage gate) sure = refl
 acknowledges_sure seq (Sound p history None) sure = either (seq == length history) (Sound p history None) (Sound p history None) refl
 acknowledges_sure seq (Sound p history (Some f)) sure = absurd cc
 
-count_sure : (o : Option ℕ) (s : State) → IsSure s → shows_count o s ≡ s
-count_sure None s sure = refl
-count_sure (Some m) s sure = shows_sure m s sure
-
 pub replied_sure : (given : Reply) (s : State) → IsSure s → replied given s ≡ s
-replied_sure (Appended seq) s sure = acknowledges_sure seq s sure
-replied_sure (NotAppended why) s sure = refl
-replied_sure (Played n tree) s sure = shows_sure n s sure
-replied_sure (Same n) s sure = shows_sure n s sure
-replied_sure (Differs n offset found wanted) s sure = shows_sure n s sure
-replied_sure (Length n size wanted) s sure = shows_sure n s sure
-replied_sure (Bytes n bytes) s sure = shows_sure n s sure
-replied_sure (NotFound n) s sure = shows_sure n s sure
-replied_sure (IsDirectory n) s sure = shows_sure n s sure
-replied_sure (Checks n checked) s sure = shows_sure n s sure
-replied_sure (Reports report) s sure = count_sure (reported_count report.log) s sure
-replied_sure (NoSuperblock fault) s sure = refl
-replied_sure (BadHeader fault) s sure = refl
-replied_sure (BadSlot seq reason) s sure = refl
+replied_sure = replied_by (λ f. (s : State) → IsSure s → f s ≡ s) (λ s sure. refl) shows_sure acknowledges_sure
 
 -- an image says of nothing that it is pending
 read_sure : (image : Image) (r : Reading) → IsSure (state_read image r)

@@ -13,11 +13,10 @@ use Rattle.fam_machine.specs.Operations.{Machine, given, operated, IsInside}
 use Rattle.fam_commands.specs.Solo.{Came, goes, notes_up_to, noted, starts, turn_on}
 use Rattle.fam_commands.specs.Stands.{StandsFor, note_of, task_after, with_given}
 use Rattle.fam_commands.specs.Table.{Row, table}
-use Rattle.fam_commands.specs.Task.{Task, op_of, starting}
+use Rattle.fam_commands.specs.Task.{Task, op_of, starting, start_slot}
 use Rattle.fam_commands.specs.Turns.{Turn, Goes, Marks, Finds, Writes, Ends}
-use Rattle.fam_commands.proofs.Standing.{next_note, next_operation, standing_tied}
-use Rattle.fam_machine.proofs.OneOperation.{same_given}
-use Rattle.fam_solo.proofs.AloneMachine.{came_length, came_stands, same_turn, word_of}
+use Rattle.fam_commands.proofs.Standing.{operation_from_start, standing_tied}
+use Rattle.fam_solo.proofs.AloneMachine.{came_length, came_stands, same_turn}
 use Rattle.fam_rules.specs.Alone.{content_of}
 use Rattle.fam_rules.specs.Asks.{File, entries_of}
 use Rattle.fam_rules.specs.Content.{fill}
@@ -38,6 +37,7 @@ use Rattle.fam_journal.proofs.Journals.{legal_rest, past_both}
 use Rattle.fam_journal.proofs.Members.{changed_at_member}
 use Rattle.fam_journal.proofs.MkfsRows.{changed_twice}
 use Rattle.fam_journal.proofs.Rows.{Declared, declared}
+use Rattle.fam_journal.proofs.TaskRows.{row_served}
 use Rattle.fam_journal.proofs.Unique.{clean_front, clean_rest, passes}
 use Rattle.fam_whole.specs.Whole.{AreWholeNotes, IsSure, image_behind}
 use Rattle.fam_whole.proofs.Folds.{all_noted, finds_sure, image_both, noted_both, noted_one, whole_both}
@@ -87,22 +87,9 @@ module _ (start : Image) (h : ℕ) (base : Machines) (host : HostState) (host_is
     standing : StandsFor cmd me (length image) t words made
     standing = came_stands cmd me image host.cache t words made m came
 
-    op_is : next_op s (length m.image) ≡ Some (op_of t)
-    op_is = ap (next_op s) count ∙ next_operation cmd me (length image) t words made standing
-
-    note_is : machine.next_note s (length m.image) (given (op_of t) m) ≡ Some (note_of turn)
-    note_is =
-        ap (λ (n : ℕ). machine.next_note s n (given (op_of t) m)) count
-        ∙ ap (machine.next_note s (length image)) (sym (same_given (op_of t) m))
-        ∙ next_note cmd me (length image) t words made standing (word_of t m)
-        ∙ ap (λ (z : Turn). Some (note_of z)) (same_turn t m)
-
     row_is : operation Passes h (at m (Some s)) ≡ Some (record { notes = notes_of h (note_of turn); left = at after (machine.task_after (note_of turn) (task_on s (given (op_of t) m))) })
-    unfolding operation
     row_is =
-        ap (machine.host_done Passes h (at m (Some s))) (host_at m (Some s))
-        ∙ ap (machine.op_done Passes h (at m (Some s)) (record host { cache = m.cache; task = Some s }) s) op_is
-        ∙ ap (served h (at m (Some s)) (record host { cache = m.cache; task = Some s }) s (op_of t)) note_is
+        row_served (at m (Some s)) h (record host { cache = m.cache; task = Some s }) (host_at m (Some s)) s refl (length image) count t standing m refl turn (same_turn t m)
         ∙ ap (λ (z : Machines). Some (record { notes = notes_of h (note_of turn); left = z })) (twice m after (Some s) (machine.task_after (note_of turn) (task_on s (given (op_of t) m))))
 
     -- What the journal and the protocol say of the task.
@@ -133,9 +120,9 @@ module _ (start : Image) (h : ℕ) (base : Machines) (host : HostState) (host_is
             let told_task : TaskTold z d.told = subst (λ (o : Option Task). IfRuns o d.told) runs d.host_told.task in
             let ops : op_of z ≡ op_of t =
             same_Some (op_of z) (op_of t)
-            (sym (next_operation cmd me (length start) z words made other)
-            ∙ ap (λ (n : ℕ). option_map (λ (r : Row). r.op) (slice_get (table cmd me n words) made)) (sym lines)
-            ∙ next_operation cmd me (length image) t words made standing) in
+            (sym (operation_from_start cmd me (length start) z words made other)
+            ∙ ap (λ (n : ℕ). option_map (λ (r : Row). r.op) (slice_get (table start_slot cmd me n words) made)) (sym lines)
+            ∙ operation_from_start cmd me (length image) t words made standing) in
             record {
               told = d.told;
               told_is = d.told_is;

@@ -107,16 +107,14 @@ module _ (me fs : List ℕ) (is_uuid : IsUuid fs) (image : Image) (enough : need
 
     cut : MakesCut 0 p true (codes "m") host state (fault ∷ []) left
     cut = record {
-      line = 0;
+      line = line_no 0;
       left = behind;
       cuts = record {
         done = Invalidate (line_no 0) ∷ [];
         op = Load (line_no 0) 0;
         rest = drop 2 (mkfs_ops p);
         split = first_two p;
-        through = 0;
-        fits = omega arith;
-        fails = ap (not_brought (line_no 0) behind) (cell_at-with_cell_same 0 Absent host.cache);
+        fails = record { through = 0; fits = omega arith; is = ap (not_brought (line_no 0) behind) (cell_at-with_cell_same 0 Absent host.cache) };
       };
       notes_are = refl;
       left_is = refl;

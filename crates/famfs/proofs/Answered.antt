@@ -1,6 +1,6 @@
 -- What a command on the log says, by its run.
 use Rattle.std.proofs.Common.{◌≡◌, ℕ, ◌<◌, ◌≤◌, Bool, true, false, List, [], length, Option, Some, None, inl, inr, refl, sym, ap, subst, ◌∙◌, arith}
-use Rattle.std.specs.Prelude.{nat_lt, IfSome, OnSome}
+use Rattle.std.specs.Prelude.{nat_lt, IfSome, OnSome, OnErr, Result, Ok, Err}
 use Rattle.std.proofs.lemmas.Bool.Decides.{nat_tests}
 use Rattle.std.proofs.lemmas.List.Elements.{All-nil}
 use Rattle.std.specs.FinMap as finmap
@@ -18,7 +18,10 @@ use Rattle.fam_run.specs.Files.{IsDue, meets_a_file}
 use Rattle.fam_run.specs.Run.{HasBroken, HasEnded, HasStopped, Ran, fault_of}
 use Rattle.fam_tasks.specs.declared.answer.Answer.{Answer}
 use Rattle.fam_tasks.specs.declared.answer.Answer.TheVariants as answer
+use Rattle.famfs.specs.declared.said.Said.{Said}
 use Rattle.famfs.specs.declared.said.Said.TheVariants as said
+use Rattle.famfs.specs.declared.status.Status.TheVariants.{MediaFault}
+use Rattle.famfs.specs.Said.{answer_status, said_status}
 use Rattle.famfs.specs.Due.{IsTaskStopped, TaskDue}
 use Rattle.famfs.specs.Ends.{Leaves, Passage}
 use Rattle.famfs.specs.Says.{AnswerSays, IsDone, TaskSays}
@@ -68,6 +71,16 @@ module _ (media : Passage) (me : List ℕ) (c : Cmd) (count : IfTold media.image
   says_answer answer.NoParent enough ran due rose line = ended _ enough ran (due refl)
   says_answer answer.ParentIsFile enough ran due rose line = ended _ enough ran (due refl)
   says_answer (answer.LogFull slots) enough ran due rose line = ended _ enough ran (due refl)
+  says_answer (answer.Same m) enough ran due rose line = ended _ enough ran (due refl)
+  says_answer (answer.Bytes m bytes) enough ran due rose line = ended _ enough ran (due refl)
+  says_answer (answer.Checked m checked) enough ran due rose line = ended _ enough ran (due refl)
+  says_answer (answer.Report report) enough ran due rose line = ended _ enough ran (due refl)
+  says_answer (answer.NoSpace units) enough ran due rose line = ended _ enough ran (due refl)
+  says_answer (answer.NotFound m) enough ran due rose line = ended _ enough ran (due refl)
+  says_answer (answer.IsDirectory m) enough ran due rose line = ended _ enough ran (due refl)
+  says_answer (answer.Differs m offset found wanted) enough ran due rose line = ended _ enough ran (due refl)
+  says_answer (answer.Length m size wanted) enough ran due rose line = ended _ enough ran (due refl)
+  says_answer answer.BadStripe enough ran due rose line = ended _ enough ran (due refl)
   says_answer answer.NotYet enough ran due rose line = ended _ enough ran (due refl)
   says_answer (answer.MediaFault at) enough ran due rose line = record {
     rose = rose;
@@ -75,11 +88,11 @@ module _ (media : Passage) (me : List ℕ) (c : Cmd) (count : IfTold media.image
     leaves = λ image is.
         let b : HasBroken c me image finmap.empty at media.image_now = ran image is in
         let lines : length image ≡ media.size = count image is in (
-          b.failure.left.image,
+          b.state.image,
           b.left,
           record {
             enough = omega (arith, lines, enough);
-            broken = record { reached = b.reached; through = b.through; fits = b.fits; failure = b.failure; fails = b.fails; line = b.line; left = refl };
+            broken = record { reached = b.reached; state = b.state; fails = b.fails; left = refl };
           },
         );
   }
@@ -105,3 +118,49 @@ pub says_stopped : (media : Passage) (me : List ℕ) (c : Cmd) → IfTold media.
 says_stopped media me c stopped image is =
     let h = stopped image is in
     (h.reached.machine.image, h.left, inl (record { reached = h.reached; left = refl }))
+
+module _ (media : Passage) (me : List ℕ) (c : Cmd) where
+  -- what was done stops there too
+  stopped_too : (shown : Said) → Leaves media (IsDone me c shown) → Leaves media (λ image left. IsTaskStopped image me c left)
+  stopped_too shown leaves image is = let x = leaves image is in (x.0, x.1, x.2.stopped)
+
+  -- an answer that memory gave
+  answer_stopped : (a : Answer) → (answer_status a ≡ MediaFault → ⊥) → AnswerSays media me c a → Leaves media (λ image left. IsTaskStopped image me c left)
+  answer_stopped (answer.MediaFault line) other says = absurd (other refl)
+  answer_stopped (answer.Ok seq) other says = stopped_too _ says
+  answer_stopped (answer.Played m tree) other says = stopped_too _ says
+  answer_stopped (answer.Same m) other says = stopped_too _ says
+  answer_stopped (answer.Bytes m bytes) other says = stopped_too _ says
+  answer_stopped (answer.Checked m checked) other says = stopped_too _ says
+  answer_stopped (answer.Report report) other says = stopped_too _ says
+  answer_stopped (answer.NoSuper word) other says = stopped_too _ says
+  answer_stopped (answer.BadSuper field found wanted) other says = stopped_too _ says
+  answer_stopped (answer.BadLog field found wanted) other says = stopped_too _ says
+  answer_stopped (answer.BadEntry seq reason) other says = stopped_too _ says
+  answer_stopped (answer.NotMaster host master) other says = stopped_too _ says
+  answer_stopped (answer.Exists kind) other says = stopped_too _ says
+  answer_stopped (answer.LogFull slots) other says = stopped_too _ says
+  answer_stopped (answer.NoSpace units) other says = stopped_too _ says
+  answer_stopped (answer.NotFound m) other says = stopped_too _ says
+  answer_stopped (answer.IsDirectory m) other says = stopped_too _ says
+  answer_stopped (answer.Differs m offset found wanted) other says = stopped_too _ says
+  answer_stopped (answer.Length m size wanted) other says = stopped_too _ says
+  answer_stopped answer.BadStripe other says = stopped_too _ says
+  answer_stopped answer.NoParent other says = stopped_too _ says
+  answer_stopped answer.ParentIsFile other says = stopped_too _ says
+  answer_stopped answer.NotYet other says = stopped_too _ says
+
+  -- what is said of a command on the log, unless memory failed
+  pub said_stopped : (shown : Said) → (said_status shown ≡ MediaFault → ⊥) → TaskSays media me c shown → Leaves media (λ image left. IsTaskStopped image me c left)
+  said_stopped (said.Small lines) other says = stopped_too _ says
+  said_stopped (said.Answered a) other says = answer_stopped a other says
+  said_stopped (said.Made p) other says = absurd says
+  said_stopped (said.HasSuper fs) other says = absurd says
+  said_stopped (said.BadGeometry unit log) other says = absurd says
+  said_stopped (said.TooSmall need have) other says = absurd says
+  said_stopped (said.Failed line) other says = absurd says
+
+-- what holds of a call that fails, and what follows
+pub on_err_more : {X E : Type 0} (r : Result X E) {P Q : Type 0} → (P → Q) → OnErr r P → OnErr r Q
+on_err_more (Ok x) follows is = tt
+on_err_more (Err e) follows is = follows is

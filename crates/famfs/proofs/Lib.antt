@@ -1,4 +1,3 @@
-pub mod Digits
 pub mod Shows
 pub mod Endings
 pub mod Answered

@@ -19,7 +19,7 @@ use Rattle.fam_mkfs.specs.Refusals.{end_of, refusal}
 use Rattle.fam_machine.specs.Mkfs.{EarlyRefusal, asked, due_ops, early_refusal, found, goes_on}
 use Rattle.fam_machine.specs.Mkfs as early
 use Rattle.fam_machine.specs.Cuts.{Cuts}
-use Rattle.fam_mkfs.specs.Runs.{Seen, seen}
+use Rattle.fam_cache.specs.Runs.{CacheOver, over}
 use Rattle.fam_rules.specs.Place.{line_bytes}
 use Rattle.fam_rules.specs.Written.{formatted}
 use Rattle.famfs.specs.declared.said.Said.{Said}
@@ -73,45 +73,45 @@ module _ (media : Passage) (me : List ℕ) (unit log : ℕ) (fs : List ℕ) (cou
     reads_image : (image : Image) → media.image ≡ Some image → found (asked unit log fs me (length image)) (fresh image) ≡ super_in (line_at image) (line_bytes * length image)
     reads_image image is = ap (λ (i : Image). super_in (line_at i) (line_bytes * length image)) (read_image image finmap.empty (normal image is) clean_empty)
 
-    made : IsMade (asked unit log fs me media.size) false (seen media.image finmap.empty) (seen media.image_now now) → Leaves media (λ image left. IsMkfsDue image me unit log fs (said.Made (asked unit log fs me media.size)) left)
+    made : IsMade (asked unit log fs me media.size) false (over media.image finmap.empty) (over media.image_now now) → Leaves media (λ image left. IsMkfsDue image me unit log fs (said.Made (asked unit log fs me media.size)) left)
     made h image is =
         let p = asked unit log fs me (length image) in
         let same : asked unit log fs me media.size ≡ p = ap (asked unit log fs me) (sym (count image is)) in
         let free : goes_on false (found p (fresh image)) ≡ true = subst (λ (q : Params). goes_on false (found q (fresh image)) ≡ true) same (h.free image is) in (
           formatted image p,
-          h.passes.image image is ∙ ap Some (clean_formats image finmap.empty (normal image is) clean_empty (asked unit log fs me media.size) ∙ ap (formatted image) same),
+          (h.done.is image is).image ∙ ap Some (clean_formats image finmap.empty (normal image is) clean_empty (asked unit log fs me media.size) ∙ ap (formatted image) same),
           allowed_due _ p image _ _ (none_at image is) (free_due _ p image _ _ (ap (goes_on false) (sym (reads_image image is)) ∙ free) (ap said.Made same) refl),
         )
 
-    held : (id : List ℕ) → IsFound (asked unit log fs me media.size) false id (seen media.image finmap.empty) (seen media.image_now now) → Leaves media (λ image left. IsMkfsDue image me unit log fs (said.HasSuper id) left)
+    held : (id : List ℕ) → IsFound (asked unit log fs me media.size) false id (over media.image finmap.empty) (over media.image_now now) → Leaves media (λ image left. IsMkfsDue image me unit log fs (said.HasSuper id) left)
     held id h image is =
         let p = asked unit log fs me (length image) in
         let same : asked unit log fs me media.size ≡ p = ap (asked unit log fs me) (sym (count image is)) in
         let n = h.names image is in
         let reads : super_in (line_at image) (line_bytes * length image) ≡ Ok n.other = sym (reads_image image is) ∙ ap (λ (q : Params). found q (fresh image)) (sym same) ∙ n.reads in (
           image,
-          h.passes.image image is ∙ ap Some (read_image image finmap.empty (normal image is) clean_empty),
+          (h.done.is image is).image ∙ ap Some (read_image image finmap.empty (normal image is) clean_empty),
           allowed_due _ p image image _ (none_at image is) (held_due _ n.other p image image _ reads (ap said.HasSuper n.named) refl),
         )
 
-    cut : (line : LineNo) → IsCut (asked unit log fs me media.size) false media.size line.0 (seen media.image finmap.empty) (seen media.image_now now) media.faults media.faults_now → IsCutShort media line (λ image left. IsMkfsBroken image me unit log fs line left)
+    cut : (line : LineNo) → IsCut (asked unit log fs me media.size) false media.size line (over media.image finmap.empty) (over media.image_now now) media.faults media.faults_now → IsCutShort media line (λ image left. IsMkfsBroken image me unit log fs line left)
     cut line h = record {
       rose = h.rose;
       within = h.within;
       leaves = λ image is.
-          let f = h.fails image is in (
+          let f = h.cut image is in (
             f.left.image,
-            f.told,
+            f.is.image,
             record {
               allowed = none_at image is;
               state = f.left;
-              cuts = subst (λ (n : ℕ). Cuts (due_ops false (asked unit log fs me n) (fresh image)) (fresh image) line.0 f.left) (sym (count image is)) f.cuts;
+              cuts = subst (λ (n : ℕ). Cuts (due_ops false (asked unit log fs me n) (fresh image)) (fresh image) line f.left) (sym (count image is)) f.cuts;
               left_is = refl;
             },
           );
     }
 
-    taken : (e : MkfsEnd) → Ends (asked unit log fs me media.size) false media.size (seen media.image finmap.empty) (seen media.image_now now) media.faults media.faults_now e → MkfsSays media me unit log fs (said_of_end e)
+    taken : (e : MkfsEnd) → Ends (asked unit log fs me media.size) false media.size (over media.image finmap.empty) (over media.image_now now) media.faults media.faults_now e → MkfsSays media me unit log fs (said_of_end e)
     taken (end.Made p) (same, h) = (same, subst (λ (p : Params). Leaves media (λ image left. IsMkfsDue image me unit log fs (said.Made p) left)) (sym same) (made h))
     taken (end.HasSuper id) h = held id h
     taken (end.Failed line) h = cut line h
@@ -133,17 +133,17 @@ module _ (media : Passage) (me : List ℕ) (unit log : ℕ) (fs : List ℕ) (cou
   pub made_says : (e : MkfsEnd) (lines now : Cache) → lines ≡ finmap.empty
       → ((r : MkfsEnd) → refusal unit log (line_bytes * media.size) ≡ Some r → e ≡ r)
       → ((r : MkfsEnd) → refusal unit log (line_bytes * media.size) ≡ Some r → media.image_now ≡ media.image)
-      → (refusal unit log (line_bytes * media.size) ≡ None → Ends (asked unit log fs me media.size) false media.size (seen media.image lines) (seen media.image_now now) media.faults media.faults_now e)
+      → (refusal unit log (line_bytes * media.size) ≡ None → Ends (asked unit log fs me media.size) false media.size (over media.image lines) (over media.image_now now) media.faults media.faults_now e)
       → MkfsSays media me unit log fs (said_of_end e)
   made_says e lines now empty refuses untouched ends = go (refusal unit log (line_bytes * media.size)) refl
     where
       go : (o : Option MkfsEnd) → refusal unit log (line_bytes * media.size) ≡ o → MkfsSays media me unit log fs (said_of_end e)
-      go None is = taken now is e (subst (λ (c : Cache). Ends (asked unit log fs me media.size) false media.size (seen media.image c) (seen media.image_now now) media.faults media.faults_now e) empty (ends is))
+      go None is = taken now is e (subst (λ (c : Cache). Ends (asked unit log fs me media.size) false media.size (over media.image c) (over media.image_now now) media.faults media.faults_now e) empty (ends is))
       go (Some r) is = subst (λ (e : MkfsEnd). MkfsSays media me unit log fs (said_of_end e)) (sym (refuses r is)) (refused_says r (is_refusal unit log _ r is) (refused r is (untouched r is)))
 
 -- what is refused at once is said at once, and no other end
 pub made_early : (unit log lines : ℕ) (p : Params) (e : MkfsEnd) → ((r : MkfsEnd) → refusal unit log (line_bytes * lines) ≡ Some r → e ≡ r)
-    → (size faults faults_now : ℕ) (s t : Seen) → (refusal unit log (line_bytes * lines) ≡ None → Ends p false size s t faults faults_now e) → refused_said unit log lines ≡ early_of (said_of_end e)
+    → (size faults faults_now : ℕ) (s t : CacheOver) → (refusal unit log (line_bytes * lines) ≡ None → Ends p false size s t faults faults_now e) → refused_said unit log lines ≡ early_of (said_of_end e)
 made_early unit log lines p e refuses size faults faults_now s t ends = go (refusal unit log (line_bytes * lines)) refl
   where
     of_refusal : (r : MkfsEnd) → IsRefusal r → Some (said_of_end r) ≡ early_of (said_of_end r)

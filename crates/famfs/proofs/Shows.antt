@@ -1,24 +1,24 @@
 -- What is said is what may be shown.
-use Rattle.std.proofs.Common.{◌≡◌, ℕ, List, Option, None, refl, sym, ap, subst, ◌∙◌}
+use Rattle.std.proofs.Common.{◌≡◌, ℕ, Bool, true, false, List, Option, None, refl, sym, ap, subst, ◌∙◌}
 use Rattle.std.specs.Prelude.{IfOk, OnErr, Result, Ok, Err}
 use Rattle.fam_base.specs.declared.cmd.Cmd.{Cmd}
-use Rattle.fam_base.specs.declared.cmd.Cmd.TheVariants as cmd
 use Rattle.fam_base.specs.declared.line.LineNo.{LineNo}
 use Rattle.fam_base.specs.Image.{Image}
 use Rattle.fam_machine.specs.Mkfs.{asked}
 use Rattle.fam_tasks.specs.declared.answer.Answer.{Answer}
 use Rattle.fam_tasks.specs.declared.answer.Answer.TheVariants as answer
 use Rattle.famfs.specs.declared.command.Command.{Command}
-use Rattle.famfs.specs.declared.command.Command.TheVariants.{Logplay, Mkfs, Mkdir}
+use Rattle.famfs.specs.declared.command.Command.TheVariants.{Log, Mkfs}
 use Rattle.famfs.specs.declared.said.Said.{Said}
 use Rattle.famfs.specs.declared.said.Said.TheVariants as said
 use Rattle.famfs.specs.declared.status.Status.{Status}
 use Rattle.famfs.specs.declared.top.Shown.{Shown}
 use Rattle.famfs.specs.declared.status.Status.TheVariants.{Done, Refused, MediaFault, Damaged, NotYet}
-use Rattle.famfs.specs.Commands.{mkdir_cmd}
 use Rattle.famfs.specs.Due.{Call, IsBroken, IsDue, IsMkfsBroken, IsMkfsDue, IsOfCommand, IsOfMkfs, IsOfTask, IsStopped, IsTaskBroken, IsTaskDue, IsTaskStopped, early_of, early_said, fault_said, fs_or, refused_said, small_said}
 use Rattle.famfs.specs.Ends.{CommandShows, IsShown, Leaves, Passage, ShowsFault, ShowsWant}
-use Rattle.famfs.specs.Said.{answer_status, said_status, said_text}
+use Rattle.fam_journal.specs.Statuses.{is_checked_equal}
+use Rattle.fam_journal.specs.Texts.{is_sound_report}
+use Rattle.famfs.specs.Said.{answer_status, said_status, said_text, sound_status}
 use Rattle.famfs.specs.Says.{AnswerSays, IsCutShort, IsDone, MkfsSays, ShowsSaid, TaskSays}
 use Rattle.fam_journal.specs.Programs.{memory_line}
 
@@ -67,6 +67,13 @@ module _ (media : Passage) (call : Call) (c : Cmd) where
     at_status : (want : Status) (status : Status) (text : List ℕ) → status ≡ want → CommandShows media call want text → CommandShows media call status text
     at_status want status text is shows = subst (λ (x : Status). CommandShows media call x text) (sym is) shows
 
+    -- what was looked at is sound, or damaged
+    sound_shows : (sound : Bool) (shown : Said) (status : Status) (text : List ℕ) → status ≡ sound_status sound → sound_status sound ≡ said_status shown → text ≡ said_text shown
+        → IsOfTask shown → small_said media.size ≡ early_of shown → Leaves media (IsDone call.me c shown) → CommandShows media call status text
+    unfolding TaskRows
+    sound_shows true shown status text s is t o e l = at_status Done status text s (done shown Done text is t o e l)
+    sound_shows false shown status text s is t o e l = at_status Damaged status text s (done shown Damaged text is t o e l)
+
     answer_shows : (a : Answer) (status : Status) (text : List ℕ) → status ≡ answer_status a → text ≡ said_text (said.Answered a) → small_said media.size ≡ None → AnswerSays media call.me c a → CommandShows media call status text
     unfolding TaskRows
     answer_shows (answer.Ok seq) status text s t e l = at_status Done status text s (done (said.Answered (answer.Ok seq)) Done text refl t tt e l)
@@ -81,6 +88,16 @@ module _ (media : Passage) (call : Call) (c : Cmd) where
     answer_shows answer.ParentIsFile status text s t e l = at_status Refused status text s (done (said.Answered answer.ParentIsFile) Refused text refl t tt e l)
     answer_shows (answer.LogFull slots) status text s t e l = at_status Refused status text s (done (said.Answered (answer.LogFull slots)) Refused text refl t tt e l)
     answer_shows (answer.MediaFault line) status text s t e cut = at_status MediaFault status text s (shows_fault media call _ _ _ _ _ rows line text t e cut)
+    answer_shows (answer.Same m) status text s t e l = at_status Done status text s (done (said.Answered (answer.Same m)) Done text refl t tt e l)
+    answer_shows (answer.Bytes m bytes) status text s t e l = at_status Done status text s (done (said.Answered (answer.Bytes m bytes)) Done text refl t tt e l)
+    answer_shows (answer.NoSpace units) status text s t e l = at_status Refused status text s (done (said.Answered (answer.NoSpace units)) Refused text refl t tt e l)
+    answer_shows (answer.NotFound m) status text s t e l = at_status Refused status text s (done (said.Answered (answer.NotFound m)) Refused text refl t tt e l)
+    answer_shows (answer.IsDirectory m) status text s t e l = at_status Refused status text s (done (said.Answered (answer.IsDirectory m)) Refused text refl t tt e l)
+    answer_shows (answer.Differs m offset found wanted) status text s t e l = at_status Damaged status text s (done (said.Answered (answer.Differs m offset found wanted)) Damaged text refl t tt e l)
+    answer_shows (answer.Length m size wanted) status text s t e l = at_status Damaged status text s (done (said.Answered (answer.Length m size wanted)) Damaged text refl t tt e l)
+    answer_shows answer.BadStripe status text s t e l = at_status Refused status text s (done (said.Answered answer.BadStripe) Refused text refl t tt e l)
+    answer_shows (answer.Checked m checked) status text s t e l = sound_shows (is_checked_equal checked) (said.Answered (answer.Checked m checked)) status text s refl t tt e l
+    answer_shows (answer.Report report) status text s t e l = sound_shows (is_sound_report report) (said.Answered (answer.Report report)) status text s refl t tt e l
     answer_shows answer.NotYet status text s t e l = at_status NotYet status text s (done (said.Answered answer.NotYet) NotYet text refl t tt e l)
 
     said_shows : (shown : Said) (status : Status) (text : List ℕ) → status ≡ said_status shown → text ≡ said_text shown → small_said media.size ≡ early_of shown → TaskSays media call.me c shown → CommandShows media call status text
@@ -96,24 +113,17 @@ module _ (media : Passage) (call : Call) (c : Cmd) where
     task_shows status text s = said_shows s.shown status text s.status_is s.text_is s.early_is s.says_it
 
 module _ (media : Passage) (me random : List ℕ) where
-  logplay_rows : TaskRows media (record { command = Logplay; me = me; random = random }) cmd.Logplay
-  unfolding TaskRows
-  logplay_rows = record { to_due = λ shown image left d. d; to_broken = λ line image left b. b; fault_is = λ line. refl; own_is = λ shown o. o; early_is = refl; fault_late = λ line. refl }
-
-  pub logplay_shows : (status : Status) (text : List ℕ) → ShowsSaid (small_said media.size) (TaskSays media me cmd.Logplay) status text → CommandShows media (record { command = Logplay; me = me; random = random }) status text
-  logplay_shows = task_shows media (record { command = Logplay; me = me; random = random }) cmd.Logplay logplay_rows
-
-  module _ (path : List ℕ) where
-    mkdir_rows : TaskRows media (record { command = Mkdir path; me = me; random = random }) (mkdir_cmd path)
+  module _ (c : Cmd) where
+    log_rows : TaskRows media (record { command = Log c; me = me; random = random }) c
     unfolding TaskRows
-    mkdir_rows = record { to_due = λ shown image left d. d; to_broken = λ line image left b. b; fault_is = λ line. refl; own_is = λ shown o. o; early_is = refl; fault_late = λ line. refl }
+    log_rows = record { to_due = λ shown image left d. d; to_broken = λ line image left b. b; fault_is = λ line. refl; own_is = λ shown o. o; early_is = refl; fault_late = λ line. refl }
 
-    pub mkdir_shows : (status : Status) (text : List ℕ) → ShowsSaid (small_said media.size) (TaskSays media me (mkdir_cmd path)) status text → CommandShows media (record { command = Mkdir path; me = me; random = random }) status text
-    mkdir_shows = task_shows media (record { command = Mkdir path; me = me; random = random }) (mkdir_cmd path) mkdir_rows
+    pub log_shows : (status : Status) (text : List ℕ) → ShowsSaid (small_said media.size) (TaskSays media me c) status text → CommandShows media (record { command = Log c; me = me; random = random }) status text
+    log_shows = task_shows media (record { command = Log c; me = me; random = random }) c log_rows
 
-    pub mkdir_want : Leaves media (λ image left. IsTaskStopped image me (mkdir_cmd path) left) → ShowsWant media (record { command = Mkdir path; me = me; random = random }) memory_line
+    pub log_want : Leaves media (λ image left. IsTaskStopped image me c left) → ShowsWant media (record { command = Log c; me = me; random = random }) memory_line
     unfolding TaskRows
-    mkdir_want = shows_want media (record { command = Mkdir path; me = me; random = random }) _ _ _ _ _ mkdir_rows _ (λ image left d. d)
+    log_want = shows_want media (record { command = Log c; me = me; random = random }) _ _ _ _ _ log_rows _ (λ image left d. d)
 
   -- Making a file system.
 

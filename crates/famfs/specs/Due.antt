@@ -3,7 +3,6 @@
 use Rattle.std.specs.Prelude.{ℕ, ⊤, ◌≡◌, ◌⊎◌, ◌*◌, ◌≤◌, Bool, true, false, nat_lt, List, length, Option, Some, None, option_map, if◌then◌else◌, Result, Ok, Err}
 use Rattle.std.specs.FinMap as finmap
 use Rattle.fam_base.specs.declared.cmd.Cmd.{Cmd}
-use Rattle.fam_base.specs.declared.cmd.Cmd.TheVariants as cmd
 use Rattle.fam_base.specs.declared.line.LineNo.{LineNo}
 use Rattle.fam_base.specs.declared.entry.Params.{Params}
 use Rattle.fam_base.specs.Image.{Image, line_at}
@@ -25,10 +24,9 @@ use Rattle.fam_run.specs.Run.{HasBroken, HasEnded, HasStopped}
 use Rattle.fam_tasks.specs.declared.answer.Answer.{Answer}
 use Rattle.fam_tasks.specs.declared.answer.Answer.TheVariants as answer
 use Rattle.famfs.specs.declared.command.Command.{Command}
-use Rattle.famfs.specs.declared.command.Command.TheVariants.{Logplay, Mkfs, Mkdir}
+use Rattle.famfs.specs.declared.command.Command.TheVariants.{Log, Mkfs}
 use Rattle.famfs.specs.declared.said.Said.{Said}
 use Rattle.famfs.specs.declared.said.Said.TheVariants as said
-use Rattle.famfs.specs.Commands.{mkdir_cmd}
 use Rattle.famfs.specs.Fresh.{version4_of}
 
 -- a command, the UUID of its host, and sixteen random bytes
@@ -94,7 +92,7 @@ IsMkfsDue image me unit log fs shown left = MkfsDue (refusal unit log (line_byte
 pub record IsMkfsBroken (image : Image) (me : List ℕ) (unit log : ℕ) (fs : List ℕ) (line : LineNo) (left : Image) : Type 0 where
   pub allowed : refusal unit log (line_bytes * length image) ≡ None
   pub state : Machine
-  pub cuts : Cuts (due_ops false (asked unit log fs me (length image)) (fresh image)) (fresh image) line.0 state
+  pub cuts : Cuts (due_ops false (asked unit log fs me (length image)) (fresh image)) (fresh image) line state
   pub left_is : left ≡ state.image
 
 -- What is said at once, whatever the image holds.
@@ -121,26 +119,22 @@ early_of (said.Failed line) = None
 
 -- what is due at once on an image of so many lines
 abbrev pub early_said : Command → ℕ → Option Said
-early_said Logplay lines = small_said lines
-early_said (Mkdir path) lines = small_said lines
+early_said (Log c) lines = small_said lines
 early_said (Mkfs unit log fs) lines = refused_said unit log lines
 
 -- what is due: it is shown, and left
 abbrev pub IsDue : Call → Command → Image → Said → Image → Type 0
-IsDue call Logplay image shown left = IsTaskDue image call.me cmd.Logplay shown left
-IsDue call (Mkdir path) image shown left = IsTaskDue image call.me (mkdir_cmd path) shown left
+IsDue call (Log c) image shown left = IsTaskDue image call.me c shown left
 IsDue call (Mkfs unit log fs) image shown left = IsMkfsDue image call.me unit log (fs_or call.random fs) shown left
 
 -- what memory's failure at a line leaves
 abbrev pub IsBroken : Call → Command → Image → LineNo → Image → Type 0
-IsBroken call Logplay image line left = IsTaskBroken image call.me cmd.Logplay line left
-IsBroken call (Mkdir path) image line left = IsTaskBroken image call.me (mkdir_cmd path) line left
+IsBroken call (Log c) image line left = IsTaskBroken image call.me c line left
 IsBroken call (Mkfs unit log fs) image line left = IsMkfsBroken image call.me unit log (fs_or call.random fs) line left
 
 -- what running out of memory leaves: of a command on the log what its operations left; of mkfs the image as it was
 abbrev pub IsStopped : Call → Command → Image → Image → Type 0
-IsStopped call Logplay image left = IsTaskStopped image call.me cmd.Logplay left
-IsStopped call (Mkdir path) image left = IsTaskStopped image call.me (mkdir_cmd path) left
+IsStopped call (Log c) image left = IsTaskStopped image call.me c left
 IsStopped call (Mkfs unit log fs) image left = left ≡ image
 
 -- what a command on the log says, whatever the image holds: that it is too small, or an answer
@@ -165,12 +159,10 @@ IsOfMkfs p (said.Failed line) = ⊤
 
 -- by the command, on an image of so many lines
 abbrev pub IsOfCommand : Call → Command → ℕ → Said → Type 0
-IsOfCommand call Logplay lines shown = IsOfTask shown
-IsOfCommand call (Mkdir path) lines shown = IsOfTask shown
+IsOfCommand call (Log c) lines shown = IsOfTask shown
 IsOfCommand call (Mkfs unit log fs) lines shown = IsOfMkfs (asked unit log (fs_or call.random fs) call.me lines) shown
 
 -- the line that says where memory failed: mkfs is refused so, other commands answer so
 abbrev pub fault_said : Command → LineNo → Said
-fault_said Logplay line = said.Answered (answer.MediaFault line)
-fault_said (Mkdir path) line = said.Answered (answer.MediaFault line)
+fault_said (Log c) line = said.Answered (answer.MediaFault line)
 fault_said (Mkfs unit log fs) line = said.Failed line

@@ -1,5 +1,4 @@
 pub mod Numbers
-pub mod Sizes
 pub mod Fresh
 pub mod Words
 pub mod Said

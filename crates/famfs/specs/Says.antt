@@ -39,6 +39,16 @@ AnswerSays media me c (answer.Exists kind) = Leaves media (IsDone me c (said.Ans
 AnswerSays media me c answer.NoParent = Leaves media (IsDone me c (said.Answered answer.NoParent))
 AnswerSays media me c answer.ParentIsFile = Leaves media (IsDone me c (said.Answered answer.ParentIsFile))
 AnswerSays media me c (answer.LogFull slots) = Leaves media (IsDone me c (said.Answered (answer.LogFull slots)))
+AnswerSays media me c (answer.Same m) = Leaves media (IsDone me c (said.Answered (answer.Same m)))
+AnswerSays media me c (answer.Bytes m bytes) = Leaves media (IsDone me c (said.Answered (answer.Bytes m bytes)))
+AnswerSays media me c (answer.Checked m checked) = Leaves media (IsDone me c (said.Answered (answer.Checked m checked)))
+AnswerSays media me c (answer.Report report) = Leaves media (IsDone me c (said.Answered (answer.Report report)))
+AnswerSays media me c (answer.NoSpace units) = Leaves media (IsDone me c (said.Answered (answer.NoSpace units)))
+AnswerSays media me c (answer.NotFound m) = Leaves media (IsDone me c (said.Answered (answer.NotFound m)))
+AnswerSays media me c (answer.IsDirectory m) = Leaves media (IsDone me c (said.Answered (answer.IsDirectory m)))
+AnswerSays media me c (answer.Differs m offset found wanted) = Leaves media (IsDone me c (said.Answered (answer.Differs m offset found wanted)))
+AnswerSays media me c (answer.Length m size wanted) = Leaves media (IsDone me c (said.Answered (answer.Length m size wanted)))
+AnswerSays media me c answer.BadStripe = Leaves media (IsDone me c (said.Answered answer.BadStripe))
 AnswerSays media me c answer.NotYet = Leaves media (IsDone me c (said.Answered answer.NotYet))
 
 -- what a command on the log says: its answer, or that the image is too small

@@ -4,8 +4,10 @@ use Rattle.std.specs.Str.{bytes_eq}
 use Rattle.fam_base.specs.Paths.{is_path}
 use Rattle.uuid.specs.Text.{parsed}
 use Rattle.famfs.specs.declared.command.Command.{Command}
-use Rattle.famfs.specs.declared.command.Command.TheVariants.{Logplay, Mkfs, Mkdir}
-use Rattle.famfs.specs.Sizes.{size_of_text}
+use Rattle.famfs.specs.declared.command.Command.TheVariants.{Log, Mkfs}
+use Rattle.fam_base.specs.declared.cmd.Cmd.TheVariants as cmd
+use Rattle.famfs.specs.Commands.{mkdir_cmd}
+use Rattle.fam_grammar.specs.Numbers.{size_of_text}
 
 -- a word that begins with a dash, which names no image
 abbrev pub has_dash : List ℕ → Bool
@@ -99,12 +101,12 @@ mkfs_of words = mkfs_log (size_or default_unit (value_of unit_word words)) (word
 -- one word, which is a path and no option
 unfoldable pub mkdir_of : List (List ℕ) → Option Command
 mkdir_of [] = None
-mkdir_of (path ∷ []) = if is_option path then None else if is_path path then Some (Mkdir path) else None
+mkdir_of (path ∷ []) = if is_option path then None else if is_path path then Some (Log (mkdir_cmd path)) else None
 mkdir_of (path ∷ another ∷ rest) = None
 
 -- no words
 abbrev pub logplay_of : List (List ℕ) → Option Command
-logplay_of [] = Some Logplay
+logplay_of [] = Some (Log cmd.Logplay)
 logplay_of (another ∷ rest) = None
 
 -- the command of this name, by the words behind the image

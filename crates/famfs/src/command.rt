@@ -1,10 +1,11 @@
 //! The commands that words name. `specs/Words.antt` has the rules.
 
-ghost use Rattle.std.specs.Prelude.{◌≡◌, map, string_bytes, option_map};
+ghost use Rattle.std.specs.Prelude.{◌≡◌, map, string_bytes, option_map, IfSome};
+ghost use Rattle.famfs.specs.Commands.{IsServedCommand};
 ghost use Rattle.famfs.specs.Words as spec;
 
-use crate::sizes::size;
-use fam_base::Path;
+use fam_base::{Attr, Cmd, Path};
+use fam_grammar::size;
 use uuid::Uuid;
 
 /// The bytes of an allocation unit where no word says more.
@@ -14,10 +15,10 @@ const DEFAULT_UNIT: u64 = 2_097_152;
 const DEFAULT_LOG: u64 = 8_388_608;
 
 /// A command on an image.
-#[derive(Clone, Copy, PartialEq, Eq)]
+#[derive(Drop)]
 pub(crate) enum Command {
-    /// Replays the log, and lists its tree.
-    Logplay,
+    /// A command on the log.
+    Log(Cmd),
     /// Makes a file system with units of `unit` bytes and a log of `log` bytes, and with a fresh UUID where `fs` is
     /// `None`.
     Mkfs {
@@ -25,11 +26,14 @@ pub(crate) enum Command {
         log: u64,
         fs: Option<Uuid>,
     },
-    /// Makes a directory.
-    Mkdir {
-        path: Path,
-    },
 }
+
+/// Mode 0755, and the first user and group.
+const DIRECTORY: Attr = Attr {
+    mode: 0o755,
+    uid: 0,
+    gid: 0,
+};
 
 /// Whether a word begins with a dash.
 pub(crate) fn has_dash(word: &str) -> bool
@@ -113,7 +117,8 @@ fn uuid_or_fresh(value: Option<&str>) -> Option<Option<Uuid>>
 #[tactic(auto, unfolding(crate::specs::Words::mkfs_of))]
 /// What mkfs is to make, by the words behind the image.
 fn mkfs(from: &[String]) -> Option<Command>
-    ensures { result ≡ spec.mkfs_of (map string_bytes from.now) }
+    ensures command { result ≡ spec.mkfs_of (map string_bytes from.now) }
+    ensures served { IfSome result IsServedCommand }
 {
     let unit = cut_option("-u", from);
     let log = cut_option("-l", unit.rest);
@@ -131,7 +136,8 @@ fn mkfs(from: &[String]) -> Option<Command>
 #[tactic(auto, unfolding(crate::specs::Words::mkdir_of))]
 /// What mkdir is to make, by the words behind the image.
 fn mkdir(from: &[String]) -> Option<Command>
-    ensures { result ≡ spec.mkdir_of (map string_bytes from.now) }
+    ensures command { result ≡ spec.mkdir_of (map string_bytes from.now) }
+    ensures served { IfSome result IsServedCommand }
 {
     match from {
         [word] => {
@@ -140,7 +146,10 @@ fn mkdir(from: &[String]) -> Option<Command>
                 return None;
             }
             match Path::read(word.as_bytes()) {
-                Ok(path) => Some(Command::Mkdir { path }),
+                Ok(path) => Some(Command::Log(Cmd::Mkdir {
+                    path,
+                    attr: DIRECTORY,
+                })),
                 Err(_) => None,
             }
         }
@@ -150,11 +159,12 @@ fn mkdir(from: &[String]) -> Option<Command>
 
 /// The command of this name, by the words behind the image.
 pub(crate) fn named_command(name: &str, from: &[String]) -> Option<Command>
-    ensures { result ≡ spec.named_command name.now (map string_bytes from.now) }
+    ensures command { result ≡ spec.named_command name.now (map string_bytes from.now) }
+    ensures served { IfSome result IsServedCommand }
 {
     if name == "logplay" {
         return if from.is_empty() {
-            Some(Command::Logplay)
+            Some(Command::Log(Cmd::Logplay))
         } else {
             None
         };

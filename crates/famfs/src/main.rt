@@ -6,7 +6,6 @@ mod command;
 mod file_media;
 mod fresh;
 mod said;
-mod sizes;
 mod status;
 mod std_sink;
 mod texts;

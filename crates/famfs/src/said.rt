@@ -4,16 +4,14 @@
 ghost use Rattle.std.specs.Prelude.{◌≡◌, ◌≢◌, ◌≤◌, [], IfOk, OnErr, string_bytes, vec_capacity};
 ghost use Rattle.famfs.specs.declared.status.Status.TheVariants.{MediaFault};
 ghost use Rattle.famfs.specs.Said as spec;
+ghost use Rattle.fam_journal.specs.Statuses.{is_checked_equal};
 ghost use Rattle.fam_journal.specs.Texts as text;
-ghost use Rattle.fam_rules.specs.declared.answers.Refused.TheVariants as refused;
 
 use crate::status::Status;
-use crate::texts::{
-    FAILURE_BYTES, entry_line, failure_line, kind, line, line_of, log_line, played_lines,
-    super_line,
-};
-use fam_base::{Kind, LineNo, OutOfMemory, Params};
-use fam_format::{LogFault, SuperFault};
+use crate::texts::{FAILURE_BYTES, failure_line, line, line_of};
+use fam_base::{LineNo, OutOfMemory, Params};
+use fam_rules::Checked;
+use fam_script::{answer_text, is_sound};
 use fam_tasks::Answer;
 use std::alloc::{AllocError, Global};
 use uuid::Uuid;
@@ -37,6 +35,20 @@ pub(crate) enum Said {
     Failed(LineNo),
 }
 
+/// Nothing is missing, extra or changed.
+fn is_equal(checked: &Checked) -> bool
+    ensures { result ≡ is_checked_equal checked.now }
+{
+    checked.missing == 0 && checked.extra == 0 && checked.changed == 0
+}
+
+/// The status of what was looked at.
+fn sound_status(sound: bool) -> Status
+    ensures { result ≡ spec.sound_status sound }
+{
+    if sound { Status::Done } else { Status::Damaged }
+}
+
 /// The status of an answer.
 fn answer_status(answer: &Answer) -> Status
     ensures { result ≡ spec.answer_status answer.now }
@@ -44,15 +56,25 @@ fn answer_status(answer: &Answer) -> Status
     match answer {
         Answer::Ok(_) => Status::Done,
         Answer::Played { .. } => Status::Done,
+        Answer::Same { .. } => Status::Done,
+        Answer::Bytes { .. } => Status::Done,
+        Answer::Checked { checked, .. } => sound_status(is_equal(checked)),
+        Answer::Report(report) => sound_status(is_sound(report)),
         Answer::NoSuper(_) => Status::Damaged,
         Answer::BadSuper { .. } => Status::Damaged,
         Answer::BadLog { .. } => Status::Damaged,
         Answer::BadEntry { .. } => Status::Damaged,
         Answer::NotMaster { .. } => Status::Refused,
+        Answer::BadStripe => Status::Refused,
         Answer::Exists(_) => Status::Refused,
         Answer::NoParent => Status::Refused,
         Answer::ParentIsFile => Status::Refused,
         Answer::LogFull(_) => Status::Refused,
+        Answer::NoSpace(_) => Status::Refused,
+        Answer::NotFound { .. } => Status::Refused,
+        Answer::IsDirectory { .. } => Status::Refused,
+        Answer::Differs { .. } => Status::Damaged,
+        Answer::Length { .. } => Status::Damaged,
         Answer::MediaFault(_) => Status::MediaFault,
         Answer::NotYet => Status::NotYet,
     }
@@ -89,21 +111,6 @@ fn made_text(alloc: Global, params: &Params) -> Result<String, AllocError>
     format!(in alloc; "made {fs}{sizes}")
 }
 
-/// The line that names this host and the one that appends to the log.
-fn not_master_line(alloc: Global, me: Uuid, master: Uuid) -> Result<Vec<u8>, OutOfMemory>
-    ensures { IfOk result (λ bytes. bytes.items ≡ text.line (text.cause_text (refused.NotMaster me master))) }
-{
-    line_of(alloc, format!(in alloc; "not master {me} {master}"))
-}
-
-/// The line that names what stands at the path.
-fn exists_line(alloc: Global, there: Kind) -> Result<Vec<u8>, OutOfMemory>
-    ensures { IfOk result (λ bytes. bytes.items ≡ text.line (text.cause_text (refused.Exists there))) }
-{
-    let name = kind(there);
-    line_of(alloc, format!(in alloc; "exists {name}"))
-}
-
 /// The text of an answer: its line, and the listing behind it. Where memory failed it takes the room that was made for
 /// it.
 fn answered_lines(alloc: Global, room: Vec<u8>, answer: &Answer) -> Result<Vec<u8>, OutOfMemory>
@@ -114,39 +121,27 @@ fn answered_lines(alloc: Global, room: Vec<u8>, answer: &Answer) -> Result<Vec<u
     ensures failure { OnErr result (spec.answer_status answer.now ≢ MediaFault) }
 {
     match answer {
-        Answer::Ok(seq) => line_of(alloc, format!(in alloc; "ok {seq}")),
-        Answer::Played { m, tree } => played_lines(alloc, *m, tree),
-        Answer::NoSuper(word) => super_line(alloc, SuperFault::NoSuper(*word)),
-        Answer::BadSuper {
-            field,
-            found,
-            wanted,
-        } => super_line(
-            alloc,
-            SuperFault::BadSuper {
-                field: *field,
-                found: *found,
-                wanted: *wanted,
-            },
-        ),
-        Answer::BadLog {
-            field,
-            found,
-            wanted,
-        } => log_line(
-            alloc,
-            LogFault::BadLog {
-                field: *field,
-                found: *found,
-                wanted: *wanted,
-            },
-        ),
-        Answer::BadEntry { seq, reason } => entry_line(alloc, *seq, *reason),
-        Answer::NotMaster { me, master } => not_master_line(alloc, *me, *master),
-        Answer::Exists(there) => exists_line(alloc, *there),
-        Answer::NoParent => line(alloc, "no parent"),
-        Answer::ParentIsFile => line(alloc, "parent is a file"),
-        Answer::LogFull(slots) => line_of(alloc, format!(in alloc; "log full {slots}")),
+        Answer::Ok(_) => answer_text(alloc, answer),
+        Answer::Played { .. } => answer_text(alloc, answer),
+        Answer::Same { .. } => answer_text(alloc, answer),
+        Answer::Bytes { .. } => answer_text(alloc, answer),
+        Answer::Checked { .. } => answer_text(alloc, answer),
+        Answer::Report(_) => answer_text(alloc, answer),
+        Answer::NoSuper(_) => answer_text(alloc, answer),
+        Answer::BadSuper { .. } => answer_text(alloc, answer),
+        Answer::BadLog { .. } => answer_text(alloc, answer),
+        Answer::BadEntry { .. } => answer_text(alloc, answer),
+        Answer::NotMaster { .. } => answer_text(alloc, answer),
+        Answer::BadStripe => answer_text(alloc, answer),
+        Answer::Exists(_) => answer_text(alloc, answer),
+        Answer::NoParent => answer_text(alloc, answer),
+        Answer::ParentIsFile => answer_text(alloc, answer),
+        Answer::LogFull(_) => answer_text(alloc, answer),
+        Answer::NoSpace(_) => answer_text(alloc, answer),
+        Answer::NotFound { .. } => answer_text(alloc, answer),
+        Answer::IsDirectory { .. } => answer_text(alloc, answer),
+        Answer::Differs { .. } => answer_text(alloc, answer),
+        Answer::Length { .. } => answer_text(alloc, answer),
         Answer::MediaFault(at) => Ok(failure_line(room, "media fault", at.0)),
         Answer::NotYet => line(alloc, "not yet"),
     }

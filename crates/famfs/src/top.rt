@@ -1,8 +1,9 @@
 //! The top call: it does all that the program does, over any media, shelf and sink.
 
 ghost use Rattle.std.specs.Prelude.{◌≡◌, ◌≢◌, ◌≤◌, [], IfOk, OnErr, ℕ, map, string_bytes, vec_capacity};
+ghost use Rattle.fam_media.specs.Causes.{IsSteady};
 ghost use Rattle.fam_tasks.specs.Sound.{IsServed};
-ghost use Rattle.famfs.specs.Commands.{mkdir_cmd};
+ghost use Rattle.famfs.specs.Commands.{IsServedCommand};
 ghost use Rattle.famfs.specs.Due as due;
 ghost use Rattle.famfs.specs.Due.{IsTaskStopped};
 ghost use Rattle.famfs.specs.Ends.{CommandShows, Ends, Leaves, PutAs, ShowsWant, passed};
@@ -18,7 +19,7 @@ use crate::said::{Said, said_lines, said_status};
 use crate::status::Status;
 use crate::texts::{FAILURE_BYTES, MEMORY, USAGE, failure_room};
 use crate::words::command;
-use fam_base::{Attr, Cmd, OutOfMemory, Path};
+use fam_base::{Cmd, OutOfMemory};
 use fam_cache::HostCache;
 use fam_format::LEAST_LINES;
 use fam_media::{Media, Shelf, Sink};
@@ -26,13 +27,6 @@ use fam_mkfs::{MkfsEnd, asked, mkfs};
 use fam_run::run;
 use std::alloc::Global;
 use uuid::Uuid;
-
-/// Mode 0755, and the first user and group.
-const DIRECTORY: Attr = Attr {
-    mode: 0o755,
-    uid: 0,
-    gid: 0,
-};
 
 /// A text to be shown, and the status with which the call ends then.
 #[derive(Drop)]
@@ -63,8 +57,7 @@ fn answered<M: Media>(alloc: Global, cmd: Cmd, me: Uuid, media: &mut M) -> Resul
     ensures says { IfOk result (TaskSays (passed M.image M.size M.faults media.old media.new) me cmd) }
     ensures early { IfOk result (λ said. due.small_said (M.size media.old) ≡ due.early_of said) }
     ensures want { OnErr result (Leaves (passed M.image M.size M.faults media.old media.new) (λ image left. IsTaskStopped image me cmd left)) }
-    ensures size { M.size media.new ≡ M.size media.old }
-    ensures later { M.faults media.old ≤ M.faults media.new }
+    ensures steady { IsSteady M.size M.faults media.old media.new }
 {
     let lines = media.lines();
     if lines < LEAST_LINES {
@@ -99,8 +92,7 @@ fn task_shown<M: Media>(
         (TaskSays (passed M.image M.size M.faults media.old media.new) me cmd)
         shown.status shown.text.items) }
     ensures want { OnErr result (Leaves (passed M.image M.size M.faults media.old media.new) (λ image left. IsTaskStopped image me cmd left)) }
-    ensures size { M.size media.new ≡ M.size media.old }
-    ensures later { M.faults media.old ≤ M.faults media.new }
+    ensures steady { IsSteady M.size M.faults media.old media.new }
 {
     let room = failure_room(alloc)?;
     let said = answered(alloc, cmd, me, media)?;
@@ -119,8 +111,7 @@ fn make<M: Media>(
     ensures says { IfOk result (MkfsSays (passed M.image M.size M.faults media.old media.new) me unit log fs) }
     ensures early { IfOk result (λ said. due.refused_said unit log (M.size media.old) ≡ due.early_of said) }
     ensures want { OnErr result (M.image media.new ≡ M.image media.old) }
-    ensures size { M.size media.new ≡ M.size media.old }
-    ensures later { M.faults media.old ≤ M.faults media.new }
+    ensures steady { IsSteady M.size M.faults media.old media.new }
 {
     let mut cache = HostCache::new(alloc);
     let end = mkfs(&mut cache, media, unit, log, fs, me, false)?;
@@ -141,8 +132,7 @@ fn make_shown<M: Media>(
         (MkfsSays (passed M.image M.size M.faults media.old media.new) me unit log fs)
         shown.status shown.text.items) }
     ensures want { OnErr result (Leaves (passed M.image M.size M.faults media.old media.new) (λ image left. left ≡ image)) }
-    ensures size { M.size media.new ≡ M.size media.old }
-    ensures later { M.faults media.old ≤ M.faults media.new }
+    ensures steady { IsSteady M.size M.faults media.old media.new }
 {
     let made = Said::Made(asked(unit, log, fs, me, media.lines()));
     let done = show(alloc, failure_room(alloc)?, &made)?;
@@ -150,16 +140,6 @@ fn make_shown<M: Media>(
     match make(alloc, unit, log, fs, me, media)? {
         Said::Made(_) => Ok(done),
         said => show(alloc, room, &said),
-    }
-}
-
-/// The task of `mkdir`.
-fn mkdir(path: Path) -> Cmd
-    ensures { result ≡ mkdir_cmd path }
-{
-    Cmd::Mkdir {
-        path,
-        attr: DIRECTORY,
     }
 }
 
@@ -181,16 +161,16 @@ fn command_shown<M: Media>(
     random: [u8; 16],
     media: &mut M,
 ) -> Result<Shown, OutOfMemory>
+    requires served { IsServedCommand command }
+
     ensures shows { IfOk result (λ shown. CommandShows (passed M.image M.size M.faults media.old media.new)
         (record { command = command; me = me; random = random }) shown.status shown.text.items) }
     ensures want { OnErr result (ShowsWant (passed M.image M.size M.faults media.old media.new)
         (record { command = command; me = me; random = random }) memory_line) }
-    ensures size { M.size media.new ≡ M.size media.old }
-    ensures later { M.faults media.old ≤ M.faults media.new }
+    ensures steady { IsSteady M.size M.faults media.old media.new }
 {
     match command {
-        Command::Logplay => task_shown(alloc, Cmd::Logplay, me, media),
-        Command::Mkdir { path } => task_shown(alloc, mkdir(path), me, media),
+        Command::Log(cmd) => task_shown(alloc, cmd, me, media),
         Command::Mkfs { unit, log, fs } => {
             make_shown(alloc, unit, log, fs_or(random, fs), me, media)
         }
@@ -231,8 +211,7 @@ pub fn famfs<M: Media, S: Shelf, K: Sink>(
       put_before = K.bytes out.old;
       put_now = K.bytes out.new;
     }) result }
-    ensures size { M.size media.new ≡ M.size media.old }
-    ensures later { M.faults media.old ≤ M.faults media.new }
+    ensures steady { IsSteady M.size M.faults media.old media.new }
     ensures sink { K.faults out.old ≤ K.faults out.new }
     ensures shelf { shelf.new ≡ shelf.old }
 {

@@ -1,6 +1,7 @@
 //! The words of a call.
 
 ghost use Rattle.std.specs.Prelude.{◌≡◌, map, string_bytes, IfOk, IfSome, MatchOption, Some, None, option_map};
+ghost use Rattle.famfs.specs.Commands.{IsServedCommand};
 ghost use Rattle.famfs.specs.Words.{command_of, image_word};
 
 use crate::command::{Command, has_dash, named_command};
@@ -10,7 +11,8 @@ use std::alloc::Global;
 #[tactic(auto, unfolding(crate::specs::Words::command_of))]
 /// The command that words name, and `None` exactly where they are none. The second word is its image.
 pub(crate) fn command(words: &Vec<String>) -> Option<Command>
-    ensures { result ≡ command_of (map string_bytes words.now.items) }
+    ensures command { result ≡ command_of (map string_bytes words.now.items) }
+    ensures served { IfSome result IsServedCommand }
 {
     match words.as_slice() {
         [name, image, rest @ ..] => {

@@ -10,12 +10,12 @@ ghost use Rattle.fam_tasks.specs.declared.answer.TaskNote.TheVariants.{Mark};
 ghost use Rattle.fam_tasks.specs.declared.answer.Turn.TheVariants.{Go, Note};
 ghost use Rattle.fam_tasks.specs.Tells.{Tells, is_reading};
 
-use super::{LAST_LINE, LAST_WORD, Task, done, slot_or_decide};
+use super::{LAST_LINE, Task, done, slot_or_decide};
 use crate::answer::{Answer, TaskNote, Turn, log_answer, super_answer};
 use crate::parts::{is_refused, read_body, read_header};
 use fam_base::Cmd;
 use fam_commands::{Part, Place};
-use fam_format::{LINE_BYTES, LogField};
+use fam_format::{LAST_WORD, LINE_BYTES, LogField};
 use fam_super::MAGIC;
 
 impl Task {
@@ -91,7 +91,7 @@ impl Task {
 
     /// The last word of line 1 or 2 was loaded.
     fn load_superblock(&mut self, line: u64, word: u64) -> Turn
-        requires { self.old.place ≡ at.Word part.Superblock line 7 }
+        requires { self.old.place ≡ at.Word part.Superblock line LAST_WORD }
         ensures { Tells (turns.line_turn (turns.with_word self.old word) part.Superblock line)
             result self.new }
     {
@@ -126,7 +126,7 @@ impl Task {
 
     /// The last word of the header was loaded.
     fn load_header(&mut self, word: u64) -> Turn
-        requires { self.old.place ≡ at.Word part.Header 0 7 }
+        requires { self.old.place ≡ at.Word part.Header 0 LAST_WORD }
         ensures { Tells (turns.line_turn (turns.with_word self.old word) part.Header 0)
             result self.new }
     {
@@ -144,7 +144,7 @@ impl Task {
     /// The last word of a line of a slot was loaded.
     #[inline(always)]
     pub(super) fn load_slot(&mut self, slot: u64, line: u64, word: u64)
-        requires { self.old.place ≡ at.Word (part.Slot slot) line 7 }
+        requires { self.old.place ≡ at.Word (part.Slot slot) line LAST_WORD }
         ensures { Tells (turns.line_turn (turns.with_word self.old word) (part.Slot slot) line)
             Go self.new }
     {
@@ -185,7 +185,7 @@ impl Task {
             return done(&mut self.place, answer);
         }
         self.gate = gate;
-        self.place = slot_or_decide(0, gate);
+        self.place = slot_or_decide(self.first_slot, gate);
         match self.cmd {
             Cmd::Mkdir { .. } => Turn::Note(TaskNote::Found(gate)),
             _ => Turn::Go,

@@ -4,14 +4,14 @@ ghost use Rattle.std.specs.Prelude.{◌≡◌, None};
 ghost use Rattle.fam_commands.specs.declared.place.Place.TheVariants as at;
 ghost use Rattle.fam_commands.specs.Task.{op_of};
 ghost use Rattle.fam_commands.specs.Turns.{turn_of};
-ghost use Rattle.fam_tasks.specs.Sound.{IsWithin};
+ghost use Rattle.fam_machine.specs.Operations.{IsWithin};
 ghost use Rattle.fam_tasks.specs.Tells.{Tells};
 
-use super::{LAST_LINE, LAST_WORD, Task};
+use super::{LAST_LINE, Task};
 use crate::answer::Turn;
 use crate::parts::line_of_slot;
 use fam_commands::Place;
-use fam_format::SLOT_LINES;
+use fam_format::{LAST_WORD, LINE_WORDS};
 use fam_machine::Op;
 
 impl Task {
@@ -21,7 +21,7 @@ impl Task {
         ensures op { result ≡ op_of self.now }
         ensures within { IsWithin self.now.lines result }
     {
-        let value = self.buffer.at((SLOT_LINES * line) as usize + word as usize);
+        let value = self.buffer.at(LINE_WORDS * line as usize + word as usize);
         Op::Store(line_of_slot(&self.params, self.gate, line), word, value)
     }
 

@@ -4,7 +4,7 @@ use super::images::{FS, words};
 use crate::command::Command;
 use crate::fresh::version4;
 use crate::words::{command, image_of};
-use fam_base::Path;
+use fam_base::{Attr, Cmd, Path};
 use std::alloc::Global;
 use std::test::Fail;
 use uuid::Uuid;
@@ -16,7 +16,37 @@ fn names(alloc: Global, text: &str, want: Option<Command>) -> Result<bool, Fail>
         Some(name) => name.text() == "img",
         None => want.is_none(),
     };
-    Ok(image && command(&words) == want)
+    Ok(image && is_same(&command(&words), &want))
+}
+
+/// Whether two commands are equal, of those that words name.
+fn is_same(one: &Option<Command>, other: &Option<Command>) -> bool {
+    match (one, other) {
+        (None, None) => true,
+        (Some(Command::Log(Cmd::Logplay)), Some(Command::Log(Cmd::Logplay))) => true,
+        (
+            Some(Command::Log(Cmd::Mkdir { path, attr })),
+            Some(
+                Command::Log(
+                    Cmd::Mkdir {
+                        path: other_path,
+                        attr: other_attr,
+                    },
+                ),
+            ),
+        ) => path == other_path && attr == other_attr,
+        (
+            Some(Command::Mkfs { unit, log, fs }),
+            Some(
+                Command::Mkfs {
+                    unit: other_unit,
+                    log: other_log,
+                    fs: other_fs,
+                },
+            ),
+        ) => unit == other_unit && log == other_log && fs == other_fs,
+        _ => false,
+    }
 }
 
 /// mkfs with a fresh UUID.
@@ -103,11 +133,6 @@ fn a_size_has_nothing_else(rt: HostRuntime) -> Result<(), Fail> {
 #[test]
 fn a_uuid_has_each_form_of_its_crate(rt: HostRuntime) -> Result<(), Fail> {
     let alloc = rt.alloc();
-    let want = Some(Command::Mkfs {
-        unit: 2_097_152,
-        log: 8_388_608,
-        fs: Some(Uuid::from_bytes([0, 1, 2, 3, 4, 5, 6, 7, 8, 9, 10, 11, 12, 13, 14, 15])),
-    });
     for text in [
         "mkfs img --uuid 00010203-0405-0607-0809-0a0b0c0d0e0f",
         "mkfs img --uuid 00010203-0405-0607-0809-0A0B0C0D0E0F",
@@ -116,6 +141,11 @@ fn a_uuid_has_each_form_of_its_crate(rt: HostRuntime) -> Result<(), Fail> {
         "mkfs img --uuid urn:uuid:00010203-0405-0607-0809-0a0b0c0d0e0f",
         "mkfs img --uuid URN:UUID:00010203-0405-0607-0809-0a0b0c0d0e0f",
     ] {
+        let want = Some(Command::Mkfs {
+            unit: 2_097_152,
+            log: 8_388_608,
+            fs: Some(Uuid::from_bytes([0, 1, 2, 3, 4, 5, 6, 7, 8, 9, 10, 11, 12, 13, 14, 15])),
+        });
         assert!(rt; names(alloc, text, want)?, "{text}");
     }
     Ok(())
@@ -147,8 +177,13 @@ fn a_path_is_one_word_and_no_option(rt: HostRuntime) -> Result<(), Fail> {
         ("mkdir img \\x41", "\\x41"),
     ] {
         let path = Path::read(path.as_bytes())?;
+        let attr = Attr {
+            mode: 0o755,
+            uid: 0,
+            gid: 0,
+        };
         assert!(rt;
-            names(alloc, text, Some(Command::Mkdir { path }))?,
+            names(alloc, text, Some(Command::Log(Cmd::Mkdir { path, attr })))?,
             "{text}"
         );
     }
@@ -179,7 +214,7 @@ fn a_mkdir_has_no_other_words(rt: HostRuntime) -> Result<(), Fail> {
 #[test]
 fn other_words_are_no_command(rt: HostRuntime) -> Result<(), Fail> {
     let alloc = rt.alloc();
-    assert!(rt; names(alloc, "logplay img", Some(Command::Logplay))?);
+    assert!(rt; names(alloc, "logplay img", Some(Command::Log(Cmd::Logplay)))?);
     for text in [
         "",
         "logplay",

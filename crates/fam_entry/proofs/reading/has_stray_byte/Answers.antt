@@ -1,7 +1,5 @@
-use Rattle.std.proofs.Common.{◌≡◌, ◌==◌, ◌&&◌, ◌+◌, ◌-◌, ◌*◌, ◌^◌, ◌%◌, ℕ, Bool, true, false, not, nat_le, List, slice_index, refl, ap, arith, below_more, rules, sym, ◌∙◌}
-use Rattle.std.proofs.Math.Nat.{zero-div}
-use Rattle.fam_base.specs.Image.{byte_of}
-use Rattle.fam_format.specs.Slot.{is_stray_byte, path_word}
+use Rattle.std.proofs.Common.{◌≡◌, slice_index, arith, below_more, rules, sym, ◌∙◌}
+use Rattle.fam_format.specs.Slot.{is_stray_byte}
 use Rattle.fam_format.proofs.Stops.{any_false}
 use Rattle.fam_entry.proofs.Ranges.{any_first}
 use Rattle.fam_entry.proofs.Strays.{no_stray}

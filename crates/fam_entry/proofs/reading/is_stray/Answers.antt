@@ -1,4 +1,4 @@
-use Rattle.std.proofs.Common.{◌≡◌, ℕ, slice_index, rules, sym}
+use Rattle.std.proofs.Common.{◌≡◌, slice_index, rules, sym}
 use Rattle.fam_entry.proofs.Strays.{zero_is_none}
 use Rattle.fam_entry.proofs.reading.is_stray.Goals as goal
 

@@ -1,36 +1,39 @@
-use Rattle.std.proofs.Common.{◌∷◌, [], arith, ap, ◌∙◌}
-use Rattle.fam_machine.specs.declared.op.Op.TheVariants.{Load, Invalidate}
-use Rattle.fam_machine.specs.Caches.{Cache, cell_at}
-use Rattle.fam_machine.specs.Operations.{load_ops, line_no}
-use Rattle.fam_mkfs.proofs.Rows.{breaks_first, breaks_second}
-use Rattle.fam_mkfs.proofs.WholeLines.{err_breaks, line_read, eight_words}
+use Rattle.std.proofs.Common.{arith, rules, ◌≡◌, ◌∙◌, get_or}
+use Rattle.fam_machine.specs.Caches.{cell_at}
+use Rattle.fam_machine.specs.OneLine.{words_of}
+use Rattle.fam_machine.specs.Operations.{load_ops}
+use Rattle.std.proofs.lemmas.List.{length-set}
+use Rattle.fam_mkfs.proofs.WholeLines.{cut_on, drop_cut, eight_words, load_cut, load_more, line_differs, spare_kept, words_more}
+use Rattle.fam_cache.proofs.Performed.{held_after_load}
 use Rattle.fam_mkfs.proofs.lines.read_line.Goals as goal
 
-pub returns-in_err-drop_line-clause-breaks : goal.returns-in_err-drop_line-clause-breaks
-returns-in_err-drop_line-clause-breaks g c =
-    let l = c.args.line.0 in
-    err_breaks (load_ops l 8) _ _ c.in_err-drop_line.field-0.0 c.from_residual.result c.from_residual.ensures
-    (breaks_first (Invalidate (line_no l) ∷ []) (Load (line_no l) 0 ∷ Load (line_no l) 1 ∷ Load (line_no l) 2 ∷ Load (line_no l) 3 ∷ Load (line_no l) 4 ∷ Load (line_no l) 5 ∷ Load (line_no l) 6 ∷ Load (line_no l) 7 ∷ []) _ _ _ c.in_err-drop_line.ensures.breaks)
+pub returns-in_err-operate-clause-cut : goal.returns-in_err-operate-clause-cut
+returns-in_err-operate-clause-cut g c =
+    cut_on (load_ops c.args.line.0 8) _ _ c.in_err-operate.field-0.0 c.from_residual.result c.from_residual.ensures
+    (drop_cut c.args.line.0 _ _ _ c.in_err-operate.ensures.cut)
 
-pub returns-in_err-first-clause-breaks : goal.returns-in_err-first-clause-breaks
-returns-in_err-first-clause-breaks g c =
-    let l = c.args.line.0 in
-    err_breaks (load_ops l 8) _ _ c.in_err-first.field-0.0 c.from_residual-in_err-first.result c.from_residual-in_err-first.ensures
-    (breaks_first (Invalidate (line_no l) ∷ Load (line_no l) 0 ∷ []) (Load (line_no l) 1 ∷ Load (line_no l) 2 ∷ Load (line_no l) 3 ∷ Load (line_no l) 4 ∷ Load (line_no l) 5 ∷ Load (line_no l) 6 ∷ Load (line_no l) 7 ∷ []) _ _ _
-    (breaks_second (Invalidate (line_no l) ∷ []) (Load (line_no l) 0 ∷ []) _ _ _ _ c.in_ok-drop_line.ensures.passes c.in_err-first.ensures.breaks))
+pub returns-in_err-loaded-clause-cut : goal.returns-in_err-loaded-clause-cut
+returns-in_err-loaded-clause-cut g c =
+    cut_on (load_ops c.args.line.0 8) _ _ c.in_err-loaded.field-0.0 c.from_residual-in_err-loaded.result c.from_residual-in_err-loaded.ensures
+    (load_cut c.args.line.0 c.loop-word.word _ _ _ _ c.loop-word-test.true c.loop-word.invariant.done c.in_err-loaded.ensures.cut)
 
-pub returns-clause-passes : goal.returns-clause-passes
-returns-clause-passes g c =
+pub loop-word-preserved : goal.loop-word-preserved
+loop-word-preserved g c =
     let v = c.loop-word.invariant in
-    rw (v.1, v.2) (line_read c.args.line.0 _ _ _ c.in_ok-drop_line.ensures.passes c.in_ok-first.ensures.passes)
+    let e = c.in_ok-loaded.ensures in
+    let read : c.unwrap_or.result ≡ get_or (words_of (cell_at c.operate-in-loop-word.new.cache.lines c.args.line.0)) c.loop-word.word 0 = search rules in
+    record {
+      wide = length-set c.loop-word.words c.loop-word.word c.unwrap_or.result ∙ v.wide;
+      done = load_more c.args.line.0 c.loop-word.word _ _ _ v.done e.done;
+      words = words_more c.loop-word.words c.loop-word.word c.unwrap_or.result _ c.args.line.0 _ _ v.wide c.loop-word-test.true v.words v.held e.cache read;
+      held = λ some. held_after_load _ c.args.line.0 _ _ e.cache;
+      others = λ other differs. e.others other (line_differs c.args.line other differs) ∙ v.others other differs;
+      first = λ none. absurd (omega arith);
+      spare = spare_kept c.loop-word.word _ _ _ _ v.held e.held_spare e.spare v.first v.spare;
+      steady = record { size = e.steady.size ∙ v.steady.size; later = omega (arith, e.steady.later, v.steady.later) };
+    }
 
 pub returns-clause-words : goal.returns-clause-words
 returns-clause-words g c =
     let v = c.loop-word.invariant in
-    eight_words c.loop-word.words _ v.0 (λ k below. v.4 k (omega arith))
-
-pub returns-clause-others : goal.returns-clause-others
-returns-clause-others g c other differs =
-    ap (λ (cache : Cache). cell_at cache other) c.loop-word.invariant.1
-    ∙ c.in_ok-first.ensures.others other differs
-    ∙ c.in_ok-drop_line.ensures.others other differs
+    eight_words c.loop-word.words _ v.wide (λ k below. v.words k (omega arith))

@@ -1,35 +1,37 @@
-use Rattle.std.proofs.Common.{arith, ◌∙◌}
+use Rattle.std.proofs.Common.{arith, ap, sym, subst, ◌∙◌}
+use Rattle.fam_cache.specs.States.{CacheState}
+use Rattle.fam_machine.specs.Caches.{cell_at}
+use Rattle.fam_machine.specs.OneLine.{IsHeld}
 use Rattle.fam_machine.specs.Mkfs.{put_ops}
-use Rattle.fam_mkfs.proofs.WholeLines.{err_breaks, put_broken_first, put_broken_last, put_passed, store_more}
+use Rattle.fam_mkfs.proofs.WholeLines.{cut_on, put_done, send_cut, store_cut, store_more, held_spare_kept, line_differs, spare_kept}
+use Rattle.fam_cache.proofs.Performed.{held_after_store}
 use Rattle.fam_mkfs.proofs.lines.write_line.Goals as goal
 
-pub returns-in_err-bring_to_store-clause-breaks : goal.returns-in_err-bring_to_store-clause-breaks
-returns-in_err-bring_to_store-clause-breaks g c =
-    err_breaks (put_ops (c.args.line.0, c.args.words.now)) _ _ c.in_err-bring_to_store.field-0.0 c.from_residual.result c.from_residual.ensures
-    (put_broken_first c.args.line.0 c.args.words.now _ _ _ c.in_err-bring_to_store.ensures.breaks)
+pub returns-in_err-operate-clause-cut : goal.returns-in_err-operate-clause-cut
+returns-in_err-operate-clause-cut g c =
+    cut_on (put_ops (c.args.line.0, c.args.words.now)) _ _ c.in_err-operate.field-0.0 c.from_residual.result c.from_residual.ensures
+    (store_cut c.args.line.0 c.args.words.now c.loop-word.word _ _ _ _ c.loop-word-test.true c.loop-word.invariant.done c.in_err-operate.ensures.cut)
 
 pub loop-word-preserved : goal.loop-word-preserved
 loop-word-preserved g c =
     let v = c.loop-word.invariant in
-    let e = c.store_held.ensures in (
-      store_more c.args.line.0 c.args.words.now c.loop-word.word _ _ _ v.0 e.passes,
-      e.held,
-      λ other differs. e.others other differs ∙ v.2 other differs,
-      omega (arith, e.spare, v.3),
-      e.same ∙ v.4,
-    )
+    let e = c.in_ok-operate.ensures in
+    record {
+      done = store_more c.args.line.0 c.args.words.now c.loop-word.word _ _ _ v.done e.done;
+      held = λ some. held_after_store _ c.args.line.0 _ _ _ _ e.cache;
+      others = λ other differs. e.others other (line_differs c.args.line other differs) ∙ v.others other differs;
+      first = λ none. absurd (omega arith);
+      spare = spare_kept c.loop-word.word c.args.cache.now.spare c.loop-word.cache.spare c.operate.new.cache.spare (IsHeld (cell_at c.loop-word.cache.lines c.args.line.0)) v.held e.held_spare e.spare (λ none. omega (arith, ap (λ (s : CacheState). s.spare) (v.first none))) v.spare;
+      held_spare = λ held. held_spare_kept c.loop-word.word c.args.cache.now.spare c.loop-word.cache.spare c.operate.new.cache.spare (IsHeld (cell_at c.loop-word.cache.lines c.args.line.0)) v.held
+          (λ none. subst (λ (s : CacheState). IsHeld (cell_at s.lines c.args.line.0)) (sym (v.first none)) held) e.held_spare (v.held_spare held);
+      steady = record { size = e.steady.size ∙ v.steady.size; later = omega (arith, e.steady.later, v.steady.later) };
+    }
 
-pub returns-in_err-drop_line-clause-breaks : goal.returns-in_err-drop_line-clause-breaks
-returns-in_err-drop_line-clause-breaks g c =
-    err_breaks (put_ops (c.args.line.0, c.args.words.now)) _ _ c.in_err-drop_line.field-0.0 c.from_residual-in_err-drop_line.result c.from_residual-in_err-drop_line.ensures
-    (put_broken_last c.args.line.0 c.args.words.now c.loop-word.word _ _ _ _ (omega arith) c.loop-word.invariant.0 c.in_err-drop_line.ensures.breaks)
+pub returns-in_err-operate-2-clause-cut : goal.returns-in_err-operate-2-clause-cut
+returns-in_err-operate-2-clause-cut g c =
+    cut_on (put_ops (c.args.line.0, c.args.words.now)) _ _ c.in_err-operate-2.field-0.0 c.from_residual-in_err-operate-2.result c.from_residual-in_err-operate-2.ensures
+    (send_cut c.args.line.0 c.args.words.now c.loop-word.word _ _ _ _ (omega arith) c.loop-word.invariant.done c.in_err-operate-2.ensures.cut)
 
-pub returns-clause-passes : goal.returns-clause-passes
-returns-clause-passes g c =
-    put_passed c.args.line.0 c.args.words.now c.loop-word.word _ _ _ (omega arith) c.loop-word.invariant.0 c.in_ok-drop_line.ensures.passes
-
-pub returns-clause-others : goal.returns-clause-others
-returns-clause-others g c other differs =
-    c.in_ok-drop_line.ensures.others other differs
-    ∙ c.loop-word.invariant.2 other differs
-    ∙ c.in_ok-bring_to_store.ensures.others other differs
+pub returns-clause-done : goal.returns-clause-done
+returns-clause-done g c =
+    put_done c.args.line.0 c.args.words.now c.loop-word.word _ _ _ (omega arith) c.loop-word.invariant.done c.in_ok-operate-2.ensures.done

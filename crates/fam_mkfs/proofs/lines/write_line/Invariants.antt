@@ -1,16 +1,18 @@
-use Rattle.std.proofs.Common.{◌≡◌, ◌≢◌, ℕ, ◌≤◌, map, get_or}
-use Rattle.std.specs.List.{range_with_len}
+use Rattle.std.proofs.Common.{◌≡◌, ◌≢◌, ◌+◌, ℕ, ◌<◌, ◌≤◌}
 use Rattle.fam_machine.specs.Caches.{cell_at}
 use Rattle.fam_machine.specs.OneLine.{IsHeld}
-use Rattle.fam_machine.specs.Operations.{line_no}
-use Rattle.fam_machine.specs.declared.op.Op.TheVariants.{Store}
-use Rattle.fam_mkfs.specs.Runs.{Passes, seen}
+use Rattle.fam_media.specs.Causes.{IsSteady}
+use Rattle.fam_cache.specs.Runs.{AreDone, over}
+use Rattle.fam_mkfs.proofs.WholeLines.{stores}
 use Rattle.fam_mkfs.proofs.lines.write_line.Given as goal
 
 abbrev pub invariant-loop-word : goal.invariant-loop-word
-invariant-loop-word g l =
-    Passes (map (λ k. Store (line_no l.line.0) k (get_or l.words k 0)) (range_with_len 0 l.word)) (seen (g.M.Media.image l.fn.media) l.fn.cache.lines) (seen (g.M.Media.image l.media) l.cache.lines)
-    × IsHeld (cell_at l.cache.lines l.line.0)
-    × ((other : ℕ) → other ≢ l.line.0 → cell_at l.cache.lines other ≡ cell_at l.initial.cache.lines other)
-    × (l.initial.cache.spare ≤ l.cache.spare)
-    × (l.media ≡ l.initial.media)
+invariant-loop-word g l = record {
+  done : AreDone (stores l.line.0 l.words l.word) (over (g.M.Media.image l.fn.media) l.fn.cache.lines) (over (g.M.Media.image l.media) l.cache.lines);
+  held : 0 < l.word → IsHeld (cell_at l.cache.lines l.line.0);
+  others : (other : ℕ) → other ≢ l.line.0 → cell_at l.cache.lines other ≡ cell_at l.fn.cache.lines other;
+  first : l.word ≡ 0 → l.cache ≡ l.fn.cache;
+  spare : l.fn.cache.spare ≤ l.cache.spare + 1;
+  held_spare : IsHeld (cell_at l.fn.cache.lines l.line.0) → l.fn.cache.spare ≤ l.cache.spare;
+  steady : IsSteady g.M.Media.size g.M.Media.faults l.fn.media l.media;
+}

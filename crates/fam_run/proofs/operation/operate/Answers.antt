@@ -1,34 +1,24 @@
-use Rattle.std.proofs.Common.{rules, ◌∙◌}
-use Rattle.fam_run.proofs.Operations.{load_failed, loaded, store_failed, write_back_failed, invalidate_failed}
+use Rattle.std.proofs.Common.{◌≡◌, false, sym, ◌∙◌, ap}
+use Rattle.fam_commands.specs.Task.{op_of}
+use Rattle.fam_tasks.specs.Tells.{is_digest}
+use Rattle.fam_run.specs.Operation.{GoesOn}
+use Rattle.fam_run.proofs.Operations.{goes_by_word, no_digest, turned}
 use Rattle.fam_run.proofs.Running.{lines_kept}
-use Rattle.fam_run.specs.declared.operation.Outcome.TheVariants.{Turned}
 use Rattle.fam_run.proofs.operation.operate.Goals as goal
 
--- src/operation.rt:30:1
-pub returns-in-Ok-clause-told : goal.returns-in-Ok-clause-told
-returns-in-Ok-clause-told g c = λ image is.
-    loaded c.args.task.now c.feed.new.self (record { image = image; cache = c.args.cache.now.lines }) c.in-Load.line c.in-Load.word c.in-Ok.value c.feed.result _ _ (search rules) (rw is at c.in-Ok.ensures.cache) (search rules) (c.load.ensures.image ∙ is) c.feed.ensures.turn
+pub returns-in_ok-word-in_default-clause-turned : goal.returns-in_ok-word-in_default-clause-turned
+returns-in_ok-word-in_default-clause-turned g c =
+    let other : is_digest (op_of c.args.task.now) ≡ false = ap is_digest (sym c.next.ensures.op) ∙ no_digest c.next.result c.in_default.not-Digest in
+    turned c.args.task.now c.feed.new.self c.next.result c.in_ok-word-in_default.word c.feed.result _ _ _ _ c.next.ensures.op other c.in_ok-word-in_default.ensures.operated c.in_ok-word-in_default.ensures.given c.feed.ensures.turn
 
--- src/operation.rt:30:1
-pub returns-in-Err-clause-told : goal.returns-in-Err-clause-told
-returns-in-Err-clause-told g c = λ image is.
-    write_back_failed c.args.task.now (record { image = image; cache = c.args.cache.now.lines }) c.in-WriteBack.line _ _ (search rules) (c.in-Err.ensures.torn image is) (search rules)
+pub returns-in_ok-word-in_default-clause-goes : goal.returns-in_ok-word-in_default-clause-goes
+returns-in_ok-word-in_default-clause-goes g c =
+    let other : is_digest (op_of c.args.task.now) ≡ false = ap is_digest (sym c.next.ensures.op) ∙ no_digest c.next.result c.in_default.not-Digest in
+    goes_by_word c.args.task.now c.feed.new.self c.next.result c.in_ok-word-in_default.word c.feed.result _ c.next.ensures.op other c.in_ok-word-in_default.ensures.word c.feed.ensures.turn
 
--- src/operation.rt:30:1
-pub returns-in-Err-invalidate-clause-told : goal.returns-in-Err-invalidate-clause-told
-returns-in-Err-invalidate-clause-told g c = λ image is.
-    invalidate_failed c.args.task.now (record { image = image; cache = c.args.cache.now.lines }) c.in-Invalidate.line _ _ (search rules) (c.in-Err-invalidate.ensures.torn image is) (search rules)
-
--- src/operation.rt:29:1
-pub returns-in-Ok-clause-keeps : goal.returns-in-Ok-clause-keeps
-returns-in-Ok-clause-keeps g c = lines_kept c.load.new.self.lines c.args.task.now c.feed.new.self (Turned c.feed.result) c.is_sound.ensures (search rules)
-
--- src/operation.rt:29:1
-pub returns-in-Err-Failed-clause-told : goal.returns-in-Err-Failed-clause-told
-returns-in-Err-Failed-clause-told g c = λ image is.
-    load_failed c.args.task.now (record { image = image; cache = c.args.cache.now.lines }) c.in-Load.line c.in-Load.word _ _ (search rules) (λ held. search rules) (search rules) (search rules)
-
--- src/operation.rt:29:1
-pub returns-in-Err-Failed-store-clause-told : goal.returns-in-Err-Failed-store-clause-told
-returns-in-Err-Failed-store-clause-told g c = λ image is.
-    store_failed c.args.task.now (record { image = image; cache = c.args.cache.now.lines }) c.in-Store.line c.in-Store.word c.in-Store.value _ _ (search rules) (λ held. search rules) (search rules) (search rules)
+pub returns-in_ok-word-in_default-clause-keeps : goal.returns-in_ok-word-in_default-clause-keeps
+returns-in_ok-word-in_default-clause-keeps g c =
+    let other : is_digest (op_of c.args.task.now) ≡ false = ap is_digest (sym c.next.ensures.op) ∙ no_digest c.next.result c.in_default.not-Digest in
+    let goes : GoesOn c.args.task.now c.perform.new.self.lines c.feed.result c.feed.new.self =
+    goes_by_word c.args.task.now c.feed.new.self c.next.result c.in_ok-word-in_default.word c.feed.result _ c.next.ensures.op other c.in_ok-word-in_default.ensures.word c.feed.ensures.turn in
+    lines_kept c.perform.new.self.lines c.args.task.now c.feed.new.self c.feed.result c.is_sound.ensures goes

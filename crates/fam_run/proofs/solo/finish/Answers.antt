@@ -1,11 +1,11 @@
-use Rattle.std.proofs.Common.{rules, ◌≡◌, ℕ, List, None, sym, ap, ◌∙◌}
+use Rattle.std.proofs.Common.{rules, ◌≡◌, ℕ, List, None, sym, ap, subst, ◌∙◌}
 use Rattle.fam_base.specs.Image.{Image}
 use Rattle.fam_base.specs.declared.cmd.Cmd.{Cmd}
-use Rattle.fam_run.specs.Operation.{ended}
+use Rattle.fam_run.specs.Step.{HasOperated}
 use Rattle.fam_machine.specs.Caches.{Cache}
 use Rattle.fam_run.specs.Run.{HasStopped, Running}
 use Rattle.fam_run.proofs.Left.{Kept, left}
-use Rattle.fam_run.proofs.Running.{answered, kept_on, left_behind, running_on, stopped}
+use Rattle.fam_run.proofs.Running.{answered, done_on, kept_on, left_behind, running_on, stopped}
 use Rattle.fam_run.proofs.solo.finish.Goals as goal
 
 -- src/solo.rt:55:41
@@ -15,45 +15,37 @@ returns-in_err-answer-clause-stopped g c =
     λ cmd me image from run. stopped cmd me image from c.operations.task c.operations.cache.lines (g.M.Media.image c.operations.media) (g.M.Media.image c.go_on.new.media) (ap g.M.Media.image c.in_err-answer.ensures.undone) (c.operations.invariant.running cmd me image from run) in
     search (rules, all)
 
--- src/solo.rt:56:13
 pub returns-in-Some-clause-ran : goal.returns-in-Some-clause-ran
 returns-in-Some-clause-ran g c = λ cmd me image from run.
-    let o = c.in_ok-answer.ensures.operated in
-    answered cmd me image from c.operations.task c.go_on.new.task c.operations.cache.lines c.go_on.new.cache.lines (g.M.Media.image c.operations.media) (g.M.Media.image c.go_on.new.media) o.outcome c.in-Some.answer (o.ends ∙ c.in-Some.is) o.own c.go_on.ensures.within
+    answered cmd me image from _ c.in-Some.answer (subst (HasOperated _) c.in-Some.is c.in_ok-answer.ensures.operated) c.go_on.ensures.within
     (λ i is. g.met.M.Media.told c.operations.media i is ∙ sym c.operations.invariant.lines)
-    o.did (c.operations.invariant.running cmd me image from run)
+    (c.operations.invariant.running cmd me image from run)
 
--- src/solo.rt:56:13
 pub returns-in-Some-clause-left : goal.returns-in-Some-clause-left
 returns-in-Some-clause-left g c = λ none cmd me image from run.
-    let o = c.in_ok-answer.ensures.operated in
-    left_behind cmd me image from c.operations.task c.go_on.new.task c.operations.cache.lines c.go_on.new.cache.lines (g.M.Media.image c.operations.media) (g.M.Media.image c.go_on.new.media) o.outcome c.in-Some.answer (o.ends ∙ c.in-Some.is) none c.go_on.ensures.within
+    left_behind cmd me image from _ c.in-Some.answer (subst (HasOperated _) c.in-Some.is c.in_ok-answer.ensures.operated) none c.go_on.ensures.within
     (λ i is. g.met.M.Media.told c.operations.media i is ∙ sym c.operations.invariant.lines)
-    o.did (c.operations.invariant.running cmd me image from run)
+    (c.operations.invariant.running cmd me image from run)
 
--- src/solo.rt:53:5
 pub operations-smaller : goal.operations-smaller
 operations-smaller g c =
-    let o = c.in_ok-answer.ensures.operated in
     let none : c.in_ok-answer.field-0 ≡ None = search rules in
+    let o = done_on _ (subst (HasOperated _) none c.in_ok-answer.ensures.operated) in
     let kept : Kept (left c.operations.task) c.operations.task c.go_on.new.task =
-    kept_on c.go_on.new.cache.lines c.operations.task c.go_on.new.task o.outcome (o.ends ∙ none) c.is_sound.ensures o.turns in
+    kept_on c.go_on.new.cache.lines c.operations.task c.go_on.new.task o.turn o.ends c.is_sound.ensures o.goes in
     kept.falls c.is_sound-in-operations.ensures.stands
 
--- src/solo.rt:53:5
 pub operations-preserved : goal.operations-preserved
 operations-preserved g c =
-    let o = c.in_ok-answer.ensures.operated in
     let none : c.in_ok-answer.field-0 ≡ None = search rules in
-    let on : ended o.outcome ≡ None = o.ends ∙ none in
+    let o = done_on _ (subst (HasOperated _) none c.in_ok-answer.ensures.operated) in
     let kept : Kept (left c.operations.task) c.operations.task c.go_on.new.task =
-    kept_on c.go_on.new.cache.lines c.operations.task c.go_on.new.task o.outcome on c.is_sound.ensures o.turns in
+    kept_on c.go_on.new.cache.lines c.operations.task c.go_on.new.task o.turn o.ends c.is_sound.ensures o.goes in
     record {
-      lines = kept.lines ∙ c.operations.invariant.lines ∙ sym c.go_on.ensures.size;
-      size = c.go_on.ensures.size ∙ c.operations.invariant.size;
-      later = search rules;
+      lines = kept.lines ∙ c.operations.invariant.lines ∙ sym c.go_on.ensures.steady.size;
+      steady = record { size = c.go_on.ensures.steady.size ∙ c.operations.invariant.steady.size; later = search rules };
       running = λ cmd me image from run.
-          running_on cmd me image from c.operations.task c.go_on.new.task c.operations.cache.lines c.go_on.new.cache.lines (g.M.Media.image c.operations.media) (g.M.Media.image c.go_on.new.media) o.outcome on c.is_sound.ensures o.turns c.go_on.ensures.within
+          running_on cmd me image from c.operations.task c.go_on.new.task c.operations.cache.lines c.go_on.new.cache.lines (g.M.Media.image c.operations.media) (g.M.Media.image c.go_on.new.media) o.turn o.ends c.is_sound.ensures o.goes c.go_on.ensures.within
           (λ i is. g.met.M.Media.told c.operations.media i is ∙ sym c.operations.invariant.lines)
-          o.did (c.operations.invariant.running cmd me image from run);
+          o.turned (c.operations.invariant.running cmd me image from run);
     }

@@ -19,7 +19,7 @@ returns-in-Ok-clause-ends g c =
       put_before = g.K.Sink.bytes c.args.out.now;
       put_now = g.K.Sink.bytes c.put.new.out;
     } in
-    put_ends m c.in-Ok.shown.status c.put.result c.as_slice.result.now (shows_by m (Some c.in-Some.command) c.in-Ok.shown.status c.in-Ok.shown.text.items c.as_slice.result.now (sym c.command.ensures ∙ c.in-Some.is) c.as_slice.ensures.value c.in-Ok.ensures.shows) c.put.ensures
+    put_ends m c.in-Ok.shown.status c.put.result c.as_slice.result.now (shows_by m (Some c.in-Some.command) c.in-Ok.shown.status c.in-Ok.shown.text.items c.as_slice.result.now (sym c.command.ensures.command ∙ c.in-Some.is) c.as_slice.ensures.value c.in-Ok.ensures.shows) c.put.ensures
 
 -- src/top.rt:300:1
 pub returns-in-Err-clause-ends : goal.returns-in-Err-clause-ends
@@ -34,7 +34,7 @@ returns-in-Err-clause-ends g c =
       put_before = g.K.Sink.bytes c.args.out.now;
       put_now = g.K.Sink.bytes c.put-in-Err.new.out;
     } in
-    put_ends m OutOfMemory c.put-in-Err.result c.as_bytes.result.now (shows_by m (Some c.in-Some.command) OutOfMemory memory_line c.as_bytes.result.now (sym c.command.ensures ∙ c.in-Some.is) c.as_bytes.ensures.value c.in-Err.ensures.want) c.put-in-Err.ensures
+    put_ends m OutOfMemory c.put-in-Err.result c.as_bytes.result.now (shows_by m (Some c.in-Some.command) OutOfMemory memory_line c.as_bytes.result.now (sym c.command.ensures.command ∙ c.in-Some.is) c.as_bytes.ensures.value c.in-Err.ensures.want) c.put-in-Err.ensures
 
 -- src/top.rt:300:1
 pub returns-in-None-clause-ends : goal.returns-in-None-clause-ends
@@ -49,4 +49,4 @@ returns-in-None-clause-ends g c =
       put_before = g.K.Sink.bytes c.args.out.now;
       put_now = g.K.Sink.bytes c.put-in-None.new.out;
     } in
-    put_ends m Usage c.put-in-None.result c.as_bytes-in-None.result.now (shows_by m None Usage usage_line c.as_bytes-in-None.result.now (sym c.command.ensures ∙ c.in-None.is) c.as_bytes-in-None.ensures.value (refl, refl)) c.put-in-None.ensures
+    put_ends m Usage c.put-in-None.result c.as_bytes-in-None.result.now (shows_by m None Usage usage_line c.as_bytes-in-None.result.now (sym c.command.ensures.command ∙ c.in-None.is) c.as_bytes-in-None.ensures.value (refl, refl)) c.put-in-None.ensures

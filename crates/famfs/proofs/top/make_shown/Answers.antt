@@ -12,6 +12,5 @@ returns g c =
     record {
       shows = shows_what c.show-in_default.result _ (MkfsSays media c.args.me c.args.unit c.args.log c.args.fs) c.in_ok-said.said c.in_ok-said.ensures.says c.in_ok-said.ensures.early c.show-in_default.ensures.status c.show-in_default.ensures.text;
       want = on_err_weaker c.show-in_default.result (λ sound. mkfs_wants media c.args.me c.args.unit c.args.log c.args.fs c.in_ok-said.said c.in_default.not-Made sound c.in_ok-said.ensures.says) c.show-in_default.ensures.failure;
-      size = c.make.ensures.size;
-      later = c.make.ensures.later;
+      steady = c.make.ensures.steady;
     }

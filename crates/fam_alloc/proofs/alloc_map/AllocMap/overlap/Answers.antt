@@ -1,0 +1,14 @@
+use Rattle.std.proofs.Common.{sym, ◌∙◌}
+use Rattle.fam_alloc.proofs.ViewLemmas.{lie_within, overlap_of_view}
+use Rattle.fam_alloc.proofs.alloc_map.AllocMap.overlap.Goals as goal
+
+pub first_overlap-requires-clause-within : goal.first_overlap-requires-clause-within
+first_overlap-requires-clause-within c =
+    let own = c.self.inside in
+    lie_within own.words.items own.units c.args.unit c.args.self.now c.args.extents.now c.self.view_is c.requires.unit c.requires.within
+
+pub returns : goal.returns
+returns c =
+    let own = c.self.inside in
+    c.first_overlap.ensures
+    ∙ sym (overlap_of_view own.words.items own.units c.args.unit c.args.self.now c.args.extents.now c.self.view_is c.requires.unit c.requires.within)

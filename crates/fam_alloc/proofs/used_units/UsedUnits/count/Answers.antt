@@ -1,0 +1,12 @@
+use Rattle.std.proofs.Common.{ap, ◌∙◌, arith}
+use Rattle.fam_alloc.specs.Taken.{taken_units}
+use Rattle.fam_alloc.proofs.ViewLemmas.{units_of_view, counted_le}
+use Rattle.fam_alloc.proofs.used_units.UsedUnits.count.Goals as goal
+
+pub returns : goal.returns
+returns c =
+    let own = c.self.inside in
+    record {
+      count = c.count_used.ensures ∙ ap taken_units c.self.view_is;
+      within = omega (arith, ap taken_units c.self.view_is, counted_le own.words.items own.units, units_of_view own.words.items own.units c.args.self.now c.self.view_is);
+    }

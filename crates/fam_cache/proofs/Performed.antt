@@ -1,0 +1,109 @@
+-- One operation on a cache, as the machine says it.
+use Rattle.std.proofs.Common.{◌≡◌, ◌≢◌, ℕ, List, Option, Some, refl, sym, ap, subst, ◌∙◌, arith}
+use Rattle.std.specs.Prelude.{option_map, slice_index}
+use Rattle.fam_base.specs.declared.line.LineNo.{LineNo}
+use Rattle.fam_base.specs.Image.{Image, line_at}
+use Rattle.fam_machine.specs.declared.cell.Cell.{Cell}
+use Rattle.fam_machine.specs.declared.cell.Cell.TheVariants.{Absent, Clean, Dirty}
+use Rattle.fam_machine.specs.declared.op.Op.{Op}
+use Rattle.fam_machine.specs.declared.op.Op.TheVariants.{Load, Store, WriteBack, Invalidate, Digest}
+use Rattle.fam_machine.specs.Caches.{Cache, cell_at, cell_changed, with_cell}
+use Rattle.fam_machine.specs.Cuts.{HasFailed}
+use Rattle.fam_machine.specs.OneLine.{IsHeld, brought, cleaned, current, failed_send, stored, words_of}
+use Rattle.fam_machine.specs.Operations.{Machine, failed, given, line_no, machine, not_brought, not_sent, op_line, torn_at}
+use Rattle.fam_cache.specs.Operations.{LeavesCache}
+use Rattle.fam_machine.proofs.CacheLemmas.{cell_at-with_cell_same, cell_at-with_cell_other, with_cell_own}
+use Rattle.fam_media.specs.Outside.{IfTold}
+use Rattle.fam_cache.specs.Effects.{FailsTo, FromMemory}
+use Rattle.fam_cache.proofs.MemoryLemmas.{held_still}
+use Rattle.fam_cache.proofs.StoreLemmas.{brought_words}
+
+-- a load gives the word that the machine gives
+pub load_gives : (op : Op) (line : LineNo) (k value : ℕ) (told : Option Image) (old new : Cache) → op ≡ Load line k → value ≡ slice_index (words_of (cell_at new line.0)) k → FromMemory told line.0 (λ memory. new ≡ cell_changed line.0 (brought memory) old) → IfTold told (λ image. Some value ≡ given op (machine image old))
+load_gives op line k value told old new is reads from image told_is =
+    let cell : Cell = cell_at old line.0 in
+    let words : words_of (cell_at new line.0) ≡ current (line_at image line.0) cell =
+    ap (λ (cache : Cache). words_of (cell_at cache line.0)) from.is
+    ∙ ap words_of (cell_at-with_cell_same line.0 (brought from.memory cell) old)
+    ∙ brought_words from.memory cell
+    ∙ ap (λ (memory : List ℕ). current memory cell) (from.told_is image told_is) in
+    ap Some (reads ∙ ap (λ (ws : List ℕ). slice_index ws k) words) ∙ ap (λ (o : Op). given o (machine image old)) (sym is)
+
+-- a line that can't be brought is absent, and everything stays
+not_held : (line : LineNo) (m : Machine) (cell : Cell) → (IsHeld cell → ⊥) → not_brought line m cell ≡ Some (record { line = line; left = m })
+not_held line m Absent never = refl
+not_held line m (Clean words) never = absurd (never refl)
+not_held line m (Dirty words) never = absurd (never refl)
+
+bring_fails : (op : Op) (line at : LineNo) (told now : Option Image) (old new : Cache) → at ≡ line → ((image : Image) → (through : ℕ) → failed through op (machine image old) ≡ not_brought line (machine image old) (cell_at old line.0)) → (IsHeld (cell_at old line.0) → ⊥) → now ≡ told → new ≡ old → IfTold told (λ image. HasFailed op (machine image old) at now new)
+bring_fails op line at told now old new here brings never same kept image is = record {
+  left = machine image old;
+  fails = record {
+    through = 0;
+    fits = omega arith;
+    is = brings image 0
+        ∙ not_held line (machine image old) (cell_at old line.0) never
+        ∙ ap (λ (l : LineNo). Some (record { line = l; left = machine image old })) (sym here);
+  };
+  is = record { image = same ∙ is; cache = kept };
+}
+
+-- a load that would bring a line fails
+pub load_failed : (op : Op) (line : LineNo) (k : ℕ) (told now : Option Image) (old new : Cache) → op ≡ Load line k → (IsHeld (cell_at old line.0) → ⊥) → now ≡ told → new ≡ old → IfTold told (λ image. HasFailed op (machine image old) line now new)
+load_failed op line k told now old new is = bring_fails op line line told now old new refl (λ image through. ap (λ (o : Op). failed through o (machine image old)) is)
+
+-- and so does a store
+pub store_failed : (op : Op) (line : LineNo) (k value : ℕ) (told now : Option Image) (old new : Cache) → op ≡ Store line k value → (IsHeld (cell_at old line.0) → ⊥) → now ≡ told → new ≡ old → IfTold told (λ image. HasFailed op (machine image old) line now new)
+store_failed op line k value told now old new is = bring_fails op line line told now old new refl (λ image through. ap (λ (o : Op). failed through o (machine image old)) is)
+
+-- a send fails
+send_failed : (op : Op) (line : LineNo) (told now : Option Image) (old new : Cache) → ((image : Image) → (through : ℕ) → failed through op (machine image old) ≡ not_sent through line (machine image old)) → IfTold told (λ image. FailsTo line.0 (λ through memory. failed_send through memory (cell_at old line.0)) image now) → new ≡ old → IfTold told (λ image. HasFailed op (machine image old) line now new)
+send_failed op line told now old new sends torn kept image is =
+    let t = torn image is in
+    record {
+      left = (torn_at line (machine image old) t.words).left;
+      fails = record {
+        through = t.through;
+        fits = t.fits;
+        is = sends image t.through ∙ ap (option_map (torn_at line (machine image old))) t.left;
+      };
+      is = record { image = t.written; cache = kept };
+    }
+
+pub write_back_failed : (op : Op) (line : LineNo) (told now : Option Image) (old new : Cache) → op ≡ WriteBack line → IfTold told (λ image. FailsTo line.0 (λ through memory. failed_send through memory (cell_at old line.0)) image now) → new ≡ old → IfTold told (λ image. HasFailed op (machine image old) line now new)
+write_back_failed op line told now old new is = send_failed op line told now old new (λ image through. ap (λ (o : Op). failed through o (machine image old)) is)
+
+pub invalidate_failed : (op : Op) (line : LineNo) (told now : Option Image) (old new : Cache) → op ≡ Invalidate line → IfTold told (λ image. FailsTo line.0 (λ through memory. failed_send through memory (cell_at old line.0)) image now) → new ≡ old → IfTold told (λ image. HasFailed op (machine image old) line now new)
+invalidate_failed op line told now old new is = send_failed op line told now old new (λ image through. ap (λ (o : Op). failed through o (machine image old)) is)
+
+-- What an operation leaves of the cache.
+
+brought_held : (memory : List ℕ) (cell : Cell) → IsHeld (brought memory cell)
+brought_held memory Absent = refl
+brought_held memory (Clean words) = refl
+brought_held memory (Dirty words) = refl
+
+-- the line is held after a load, and after a store
+pub held_after_load : (told : Option Image) (line : ℕ) (old new : Cache) → FromMemory told line (λ memory. new ≡ cell_changed line (brought memory) old) → IsHeld (cell_at new line)
+held_after_load told line old new from =
+    subst IsHeld (sym (ap (λ (cache : Cache). cell_at cache line) from.is ∙ cell_at-with_cell_same line (brought from.memory (cell_at old line)) old)) (brought_held from.memory (cell_at old line))
+
+pub held_after_store : (told : Option Image) (line word value : ℕ) (old new : Cache) → FromMemory told line (λ memory. new ≡ cell_changed line (stored word value memory) old) → IsHeld (cell_at new line)
+held_after_store told line word value old new from =
+    subst IsHeld (sym (ap (λ (cache : Cache). cell_at cache line) from.is ∙ cell_at-with_cell_same line (stored word value from.memory (cell_at old line)) old)) refl
+
+-- a load of a line that is held leaves the cache
+pub held_loaded : (told : Option Image) (line : ℕ) (old new : Cache) → IsHeld (cell_at old line) → FromMemory told line (λ memory. new ≡ cell_changed line (brought memory) old) → new ≡ old
+held_loaded told line old new held from =
+    from.is ∙ ap (λ (cell : Cell). with_cell line cell old) (held_still (cell_at old line) held from.memory) ∙ with_cell_own line old
+
+one_changed : (line : ℕ) (cell : Cell) (old new : Cache) → new ≡ with_cell line cell old → (other : ℕ) → other ≢ line → cell_at new other ≡ cell_at old other
+one_changed line cell old new is other differs = ap (λ (cache : Cache). cell_at cache other) is ∙ cell_at-with_cell_other line cell old other differs
+
+-- every line that the operation doesn't ask for is as before
+pub others_left : (op : Op) (told : Option Image) (old new : Cache) → LeavesCache op told old new → (other : ℕ) → op_line op ≢ Some (line_no other) → cell_at new other ≡ cell_at old other
+others_left (Load line k) told old new from other differs = one_changed line.0 (brought from.memory (cell_at old line.0)) old new from.is other (λ e. differs (ap (λ (l : ℕ). Some (line_no l)) (sym e)))
+others_left (Store line k value) told old new from other differs = one_changed line.0 (stored k value from.memory (cell_at old line.0)) old new from.is other (λ e. differs (ap (λ (l : ℕ). Some (line_no l)) (sym e)))
+others_left (WriteBack line) told old new is other differs = one_changed line.0 (cleaned (cell_at old line.0)) old new is other (λ e. differs (ap (λ (l : ℕ). Some (line_no l)) (sym e)))
+others_left (Invalidate line) told old new is other differs = one_changed line.0 Absent old new is other (λ e. differs (ap (λ (l : ℕ). Some (line_no l)) (sym e)))
+others_left Digest told old new is other differs = ap (λ (cache : Cache). cell_at cache other) is

@@ -1,0 +1,42 @@
+-- What one operation of the machine's table does on a host's cache over any media, whose image may be modelled or not.
+use Rattle.std.specs.Prelude.{ℕ, ◌≡◌, ⊤, Option, Some, None, slice_index}
+use Rattle.fam_base.specs.Image.{Image}
+use Rattle.fam_machine.specs.declared.cell.Cell.TheVariants.{Absent}
+use Rattle.fam_machine.specs.declared.op.Op.{Op}
+use Rattle.fam_machine.specs.declared.op.Op.TheVariants.{Load, Store, WriteBack, Invalidate, Digest}
+use Rattle.fam_machine.specs.Caches.{Cache, cell_at, cell_changed, with_cell}
+use Rattle.fam_machine.specs.OneLine.{IsDirty, IsHeld, brought, cleaned, stored, words_of}
+use Rattle.fam_cache.specs.Effects.{FromMemory}
+
+-- the operation brings no line: a load or a store of a line that the cache holds, or none of these
+abbrev pub BringsNone : Op → Cache → Type 0
+BringsNone (Load line k) cache = IsHeld (cell_at cache line.0)
+BringsNone (Store line k value) cache = IsHeld (cell_at cache line.0)
+BringsNone (WriteBack line) cache = ⊤
+BringsNone (Invalidate line) cache = ⊤
+BringsNone Digest cache = ⊤
+
+-- the operation asks nothing of the media: it neither brings a line nor sends one
+abbrev pub AsksNothing : Op → Cache → Type 0
+AsksNothing (Load line k) cache = IsHeld (cell_at cache line.0)
+AsksNothing (Store line k value) cache = IsHeld (cell_at cache line.0)
+AsksNothing (WriteBack line) cache = ¬ (IsDirty (cell_at cache line.0))
+AsksNothing (Invalidate line) cache = ¬ (IsDirty (cell_at cache line.0))
+AsksNothing Digest cache = ⊤
+
+-- the word that an operation gives: a load that of the copy that the host has then, the others none
+abbrev pub word_of : Op → Cache → Option ℕ
+word_of (Load line k) held = Some (slice_index (words_of (cell_at held line.0)) k)
+word_of (Store line k value) held = None
+word_of (WriteBack line) held = None
+word_of (Invalidate line) held = None
+word_of Digest held = None
+
+-- what an operation leaves of the cache: of its line what the machine's table has, for the words that memory has there,
+-- and every other line as it was
+abbrev pub LeavesCache : Op → Option Image → Cache → Cache → Type 0
+LeavesCache (Load line k) told old new = FromMemory told line.0 (λ memory. new ≡ cell_changed line.0 (brought memory) old)
+LeavesCache (Store line k value) told old new = FromMemory told line.0 (λ memory. new ≡ cell_changed line.0 (stored k value memory) old)
+LeavesCache (WriteBack line) told old new = new ≡ cell_changed line.0 cleaned old
+LeavesCache (Invalidate line) told old new = new ≡ with_cell line.0 Absent old
+LeavesCache Digest told old new = new ≡ old

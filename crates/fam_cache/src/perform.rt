@@ -1,0 +1,84 @@
+//! One operation of the machine's table, on a host's cache and the shared memory.
+
+ghost use Rattle.std.specs.Prelude.{◌≡◌, ◌+◌, ◌<◌, ◌≤◌, IsOk, IfErr, IfOk, OnErr, OnOk, IsErrOf, Some};
+ghost use Rattle.fam_machine.specs.Cuts.{HasFailed, IsMachine};
+ghost use Rattle.fam_machine.specs.Operations.{IsWithin, given, machine, op_line, operated};
+ghost use Rattle.fam_media.specs.Causes.{IsSteady, Rose};
+ghost use Rattle.fam_media.specs.Outside.{IfTold};
+ghost use Rattle.fam_cache.specs.Faults.{IfMediaFault};
+ghost use Rattle.fam_cache.specs.Operations.{AsksNothing, BringsNone, LeavesCache, word_of};
+
+use crate::cache::HostCache;
+use crate::fault::{CacheFault, OperationFault};
+use fam_machine::Op;
+use fam_media::Media;
+
+impl HostCache {
+    /// Does an operation, and gives the word of a load. A Digest does nothing.
+    ///
+    /// `MediaFault` names the operation's line. `OutOfMemory` comes where an absent line is to be brought and there is no
+    /// room for it, and then nothing was done.
+    #[inline(always)]
+    pub fn perform<M: Media>(
+        &mut self,
+        media: &mut M,
+        op: Op,
+    ) -> Result<Option<u64>, OperationFault>
+        requires within { IsWithin (M.size media.old) op }
+
+        // Where the image is modelled, it, the cache and the word are those of the machine.
+        ensures operated { OnOk result (IfTold (M.image media.old) (λ image.
+            IsMachine (operated op (machine image self.old.lines)) (M.image media.new) self.new.lines)) }
+        ensures given { IfOk result (λ word. IfTold (M.image media.old) (λ image.
+            word ≡ given op (machine image self.old.lines))) }
+        ensures failed { IfErr result (λ fault. IfMediaFault fault (λ line. IfTold (M.image media.old) (λ image.
+            HasFailed op (machine image self.old.lines) line (M.image media.new) self.new.lines))) }
+
+        // On any media the cache is what the table makes of the operation's line, and the word is that of the copy.
+        ensures cache { OnOk result (LeavesCache op (M.image media.old) self.old.lines self.new.lines) }
+        ensures word { IfOk result (λ word. word ≡ word_of op self.new.lines) }
+        ensures err { OnErr result (self.new.lines ≡ self.old.lines) }
+        ensures line { IfErr result (λ fault. IfMediaFault fault (λ line. op_line op ≡ Some line)) }
+        ensures inside { IfErr result (λ fault. IfMediaFault fault (λ line. line.0 < M.size media.old)) }
+        ensures rose { IfErr result (λ fault. IfMediaFault fault (λ line.
+            Rose (M.faults media.old) (M.faults media.new))) }
+
+        // An operation that brings no line and sends none asks nothing of memory.
+        ensures ok { AsksNothing op self.old.lines → IsOk result }
+        ensures same { AsksNothing op self.old.lines → media.new ≡ media.old }
+
+        ensures room { IsErrOf result OperationFault.OutOfMemory → self.old.spare ≡ 0 }
+        ensures absent { IsErrOf result OperationFault.OutOfMemory → ¬ (BringsNone op self.old.lines) }
+        ensures undone { IsErrOf result OperationFault.OutOfMemory → media.new ≡ media.old }
+        ensures unchanged { IsErrOf result OperationFault.OutOfMemory → self.new ≡ self.old }
+
+        ensures steady { IsSteady M.size M.faults media.old media.new }
+
+        // Only a line that was brought takes a place.
+        ensures spare { self.old.spare ≤ self.new.spare + 1 }
+        ensures held_spare { BringsNone op self.old.lines → self.old.spare ≤ self.new.spare }
+        ensures err_spare { OnErr result (self.old.spare ≤ self.new.spare) }
+    {
+        match op {
+            Op::Load(line, word) => match self.load(media, line, word) {
+                Ok(word) => Ok(Some(word)),
+                Err(CacheFault::Failed) => Err(OperationFault::MediaFault(line)),
+                Err(CacheFault::OutOfMemory) => Err(OperationFault::OutOfMemory),
+            },
+            Op::Store(line, word, value) => match self.store(media, line, word, value) {
+                Ok(()) => Ok(None),
+                Err(CacheFault::Failed) => Err(OperationFault::MediaFault(line)),
+                Err(CacheFault::OutOfMemory) => Err(OperationFault::OutOfMemory),
+            },
+            Op::WriteBack(line) => match self.write_back(media, line) {
+                Ok(()) => Ok(None),
+                Err(_) => Err(OperationFault::MediaFault(line)),
+            },
+            Op::Invalidate(line) => match self.invalidate(media, line) {
+                Ok(()) => Ok(None),
+                Err(_) => Err(OperationFault::MediaFault(line)),
+            },
+            Op::Digest => Ok(None),
+        }
+    }
+}

@@ -1,0 +1,4 @@
+pub mod Pairs
+pub mod Taken
+pub mod Surveys
+pub mod Slots

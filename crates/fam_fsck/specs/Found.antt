@@ -1,0 +1,61 @@
+-- Entries that read, and what a survey says of them.
+use Rattle.std.specs.Prelude.{ℕ, Bool, true, false, List, [], ◌∷◌, ◌++◌, map, filter, Option, Some, None}
+use Rattle.std.specs.FinMap as finmap
+use Rattle.fam_base.specs.declared.entry.Entry.{Entry}
+use Rattle.fam_base.specs.declared.entry.Params.{Params}
+use Rattle.fam_alloc.specs.Taken.{LieWithin}
+use Rattle.fam_format.specs.Tree.{Tree, with_entry}
+use Rattle.fam_format.specs.declared.faults.Reason.{Reason}
+use Rattle.fam_fsck.specs.declared.found.Found.{Found}
+
+-- the entry with its number
+abbrev pub pair_of : Found → ℕ × Entry
+pair_of f = (f.number, f.entry)
+
+-- all of them, as a survey lists them
+abbrev pub pairs_of : List Found → List (ℕ × Entry)
+pairs_of list = map pair_of list
+
+-- those that applied
+abbrev pub applied_of : List Found → List Entry
+applied_of list = map (λ f. f.entry) (filter (λ f. f.applies) list)
+
+-- its extents end within so many units
+abbrev pub LiesWithin : ℕ → ℕ → Found → Type 0
+LiesWithin unit units f = LieWithin unit units f.entry.extents
+
+-- an entry applies where nothing is against it
+abbrev pub applies_where : Option Reason → Bool
+applies_where None = true
+applies_where (Some reason) = false
+
+-- the tree after an entry that applies, or doesn't
+abbrev pub tree_after : Option Reason → Tree → Entry → Tree
+tree_after None tree e = with_entry tree e
+tree_after (Some reason) tree e = tree
+
+-- the entry as it was found
+abbrev pub found_as : ℕ → Entry → Option Reason → Found
+found_as number e fault = record { number = number; entry = e; applies = applies_where fault }
+
+-- the tree before it
+abbrev pub tree_before : Option Reason → Tree → List ℕ → Tree
+tree_before None tree path = finmap.remove tree path
+tree_before (Some reason) tree path = tree
+
+-- the entries that were found
+abbrev pub entries_of : List Found → List Entry
+entries_of found = map (λ f. f.1) (pairs_of found)
+
+-- entries of a file system
+pub record Finds : Type 0 where
+  pub params : Params
+  pub found : List Found
+
+-- none yet
+abbrev pub first_finds : Params → Finds
+first_finds p = record { params = p; found = [] }
+
+-- one more
+abbrev pub with_found : Finds → Found → Finds
+with_found s f = record s { found = s.found ++ f ∷ [] }

@@ -1,0 +1,143 @@
+//! The report over all slots.
+
+ghost use Rattle.std.specs.Prelude.{◌≡◌, ◌<◌, ◌≤◌, IfOk, OnOk, OnErr};
+ghost use Rattle.fam_format.specs.Params.{SoundParams};
+ghost use Rattle.fam_format.specs.Slot.{Proper};
+ghost use Rattle.fam_rules.specs.Reports.{below_gate, past_gate, report_by};
+ghost use Rattle.fam_fsck.specs.Scan.{bad_after, first_scan, with_slot, with_survey};
+
+use crate::findings::Findings;
+use fam_base::{Entry, OutOfMemory, Params};
+use fam_entry::{SLOT_WORDS, read_entry};
+use fam_format::Reason;
+use fam_rules::{LogState, Report, SuperState};
+use std::alloc::Global;
+use std::marker::Model;
+
+/// A look at the slots of a log, one by one from slot 0.
+#[derive(Drop)]
+pub struct Fsck {
+    findings: Findings,
+    gate: u64,
+    added: u64,
+    bad: Option<(u64, Reason)>,
+    past: u64,
+}
+
+impl Model for Fsck {
+    ghost use Rattle.fam_fsck.specs.Scan.{HangsTogether, Scan, survey_of};
+
+    ghost Value = { Scan };
+
+    ghost view = { λ f. record {
+      params = f.findings.params;
+      gate = f.gate;
+      added = f.added;
+      survey = survey_of f.findings.found f.bad f.past;
+    } };
+
+    ghost invariant = { λ f. HangsTogether f.findings.params f.added f.past };
+}
+
+/// The first bad entry, after entry `number` with this against it, or nothing.
+fn first_bad(
+    bad: Option<(u64, Reason)>,
+    number: u64,
+    fault: Option<Reason>,
+) -> Option<(u64, Reason)>
+    ensures { result ≡ bad_after bad number fault }
+{
+    match fault {
+        None => bad,
+        Some(reason) => match bad {
+            None => Some((number, reason)),
+            Some(first) => Some(first),
+        },
+    }
+}
+
+impl Fsck {
+    /// No slot yet, of a file system whose superblock and log are sound, with this gate.
+    pub fn new(alloc: Global, params: &Params, gate: u64) -> Result<Fsck, OutOfMemory>
+        requires { SoundParams params.now }
+        ensures { IfOk result (λ f. f ≡ first_scan params.now gate) }
+    {
+        let findings = Findings::new(alloc, params)?;
+        Ok(Fsck {
+            findings,
+            gate,
+            added: 0,
+            bad: None,
+            past: 0,
+        })
+    }
+
+    /// What a slot below the gate reads as.
+    fn add_below(&mut self, read: Result<Entry, Reason>) -> Result<(), OutOfMemory>
+        requires fewer { self.old.added < self.old.params.slots }
+        requires proper { IfOk read (λ e. Proper self.old.params e) }
+        ensures slot { OnOk result
+            (self.new ≡ with_survey self.old (below_gate self.old.survey self.old.added read)) }
+        ensures err { OnErr result (self.new ≡ self.old) }
+    {
+        match read {
+            Ok(entry) => {
+                let fault = self.findings.add(self.added, &entry)?;
+                self.bad = first_bad(self.bad, self.added, fault);
+                self.added += 1;
+                Ok(())
+            }
+            Err(reason) => {
+                self.bad = first_bad(self.bad, self.added, Some(reason));
+                self.added += 1;
+                Ok(())
+            }
+        }
+    }
+
+    /// What a slot at or past the gate reads as.
+    fn add_past(&mut self, read: Result<Entry, Reason>)
+        requires fewer { self.old.added < self.old.params.slots }
+        ensures { self.new ≡ with_survey self.old (past_gate self.old.survey read) }
+    {
+        self.added += 1;
+        if read.is_ok() {
+            self.past += 1;
+        }
+    }
+
+    /// Adds the words of the next slot. After an Err everything is as before.
+    pub fn add(&mut self, words: &[u64; SLOT_WORDS]) -> Result<(), OutOfMemory>
+        requires { self.old.added < self.old.params.slots }
+        ensures slot { OnOk result (self.new ≡ with_slot self.old words.now) }
+        ensures err { OnErr result (self.new ≡ self.old) }
+    {
+        let read = read_entry(words, self.added, self.findings.params());
+        if self.added < self.gate {
+            return self.add_below(read);
+        }
+        self.add_past(read);
+        Ok(())
+    }
+
+    /// The report over the slots that were added.
+    pub fn report(&self) -> Report
+        ensures { result ≡ report_by self.now.params self.now.gate self.now.survey }
+    {
+        let used = self.findings.used();
+        Report {
+            superblock: SuperState::Sound,
+            log: LogState::Sound {
+                entries: self.gate,
+                slots: self.findings.params().slots,
+            },
+            files: self.findings.files(),
+            directories: self.findings.directories(),
+            used,
+            free: self.findings.units() - used,
+            overlap: self.findings.overlap(),
+            bad: self.bad,
+            past: self.past,
+        }
+    }
+}

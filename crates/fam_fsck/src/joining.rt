@@ -1,0 +1,90 @@
+//! How an entry that reads is found, and joins the tree where it applies.
+
+ghost use Rattle.std.specs.Prelude.{◌≡◌, [], ◌∷◌, ◌++◌, Some, IfOk, OnErr};
+ghost use Rattle.fam_format.specs.Tree.{tree_fault};
+ghost use Rattle.fam_tree.specs.Faults.{reason_of};
+ghost use Rattle.fam_fsck.specs.Found.{applies_where, found_as, tree_after, tree_before};
+
+use crate::found::Found;
+use fam_base::{Entry, OutOfMemory, Path};
+use fam_format::Reason;
+use fam_tree::{ApplyFault, Tree};
+
+/// Why an entry doesn't join, if memory didn't run out.
+fn reason_against(fault: ApplyFault) -> Result<Reason, OutOfMemory>
+    ensures { IfOk result (λ reason. reason_of fault ≡ Some reason) }
+{
+    match fault {
+        ApplyFault::Exists(kind) => Ok(Reason::Exists(kind)),
+        ApplyFault::NoParent => Ok(Reason::NoParent),
+        ApplyFault::ParentIsFile => Ok(Reason::ParentIsFile),
+        ApplyFault::OutOfMemory => Err(OutOfMemory),
+    }
+}
+
+/// Adds an entry to the tree where it applies, and says why it doesn't.
+fn apply(tree: &mut Tree, entry: &Entry) -> Result<Option<Reason>, OutOfMemory>
+    ensures fault { IfOk result (λ fault. fault ≡ tree_fault tree.old entry.now) }
+    ensures after { IfOk result (λ fault. tree.new ≡ tree_after fault tree.old entry.now) }
+    ensures err { OnErr result (tree.new ≡ tree.old) }
+{
+    match tree.apply(entry) {
+        Ok(()) => Ok(None),
+        Err(fault) => match reason_against(fault) {
+            Ok(reason) => Ok(Some(reason)),
+            Err(full) => Err(full),
+        },
+    }
+}
+
+/// Takes back what `apply` did.
+fn take_back(tree: &mut Tree, fault: &Option<Reason>, path: &Path)
+    ensures { tree.new ≡ tree_before fault.now tree.old path.now }
+{
+    match fault {
+        None => tree.take_back(path),
+        Some(_) => {}
+    }
+}
+
+/// The entry as it is found.
+pub fn found_entry(number: u64, entry: &Entry, fault: &Option<Reason>) -> Found
+    ensures { result ≡ found_as number entry.now fault.now }
+{
+    match fault {
+        None => Found {
+            number,
+            entry: *entry,
+            applies: true,
+        },
+        Some(_) => Found {
+            number,
+            entry: *entry,
+            applies: false,
+        },
+    }
+}
+
+/// Finds an entry, which joins the tree where it applies, and says why it doesn't.
+pub fn join(
+    tree: &mut Tree,
+    found: &mut Vec<Found>,
+    number: u64,
+    entry: &Entry,
+) -> Result<Option<Reason>, OutOfMemory>
+    ensures fault { IfOk result (λ fault. fault ≡ tree_fault tree.old entry.now) }
+    ensures after { IfOk result (λ fault. tree.new ≡ tree_after fault tree.old entry.now) }
+    ensures found { IfOk result (λ fault.
+        found.new.items ≡ found.old.items ++ found_as number entry.now fault ∷ []) }
+    ensures err_tree { OnErr result (tree.new ≡ tree.old) }
+    ensures err_found { OnErr result (found.new.items ≡ found.old.items) }
+{
+    let fault = apply(tree, entry)?;
+    match found.push(found_entry(number, entry, &fault)) {
+        Ok(()) => Ok(fault),
+        Err(_) => {
+            take_back(tree, &fault, &entry.path);
+            Err(OutOfMemory)
+        }
+    }
+}

@@ -1,0 +1,14 @@
+//! What is wrong with a file system: a report over the words of all slots of its log.
+//!
+//! `specs/Scan.antt` says what a contract sees of a `Fsck`. The report is the one of fam_rules, `specs/Reports.antt`.
+#![tactic(auto)]
+
+mod findings;
+mod found;
+mod fsck;
+mod joining;
+
+pub use fsck::Fsck;
+
+#[cfg(test)]
+mod tests;

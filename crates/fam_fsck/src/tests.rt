@@ -1,0 +1,192 @@
+//! Reports of small logs, with ample memory.
+
+ghost use Rattle.std.specs.Prelude.{◌<◌};
+ghost use Rattle.fam_format.specs.Params.{SoundParams};
+
+use crate::Fsck;
+use fam_base::{BadPath, Entry, Extent, Extents, Kind, MapKind, OutOfMemory, Params, Path};
+use fam_entry::{SLOT_WORDS, spell};
+use fam_format::Reason;
+use fam_rules::{LogState, Report, SuperState};
+use std::alloc::Global;
+use std::test::Fail;
+use uuid::Uuid;
+
+/// A device of 4 MiB, 1,024 units, with a log of 64 KiB: the first 528 units are superblock and log.
+fn params() -> Params
+    ensures { SoundParams result }
+{
+    let fs = Uuid::from_bytes([
+        0x11, 0x11, 0x11, 0x11, 0x11, 0x11, 0x41, 0x11, 0x81, 0x11, 0x11, 0x11, 0x11, 0x11, 0x11,
+        0x11,
+    ]);
+    Params {
+        log_length: 65_536,
+        slots: 127,
+        unit: 4_096,
+        device: 4_194_304,
+        fs,
+        master: fs,
+    }
+}
+
+/// The words of a directory of the root, mode 755.
+fn directory(path: &[u8], number: u64) -> Result<[u64; SLOT_WORDS], BadPath> {
+    Ok(spell(
+        &Entry {
+            kind: Kind::Directory,
+            path: Path::read(path)?,
+            size: 0,
+            mode: 0o755,
+            uid: 0,
+            gid: 0,
+            map: MapKind::Empty,
+            extents: Extents::new(),
+        },
+        number,
+    ))
+}
+
+/// The words of a file whose two extents are one unit each.
+fn file(path: &[u8], first: u64, second: u64, number: u64) -> Result<[u64; SLOT_WORDS], BadPath>
+    requires first { first < 1024 }
+    requires second { second < 1024 }
+{
+    let mut extents = Extents::new();
+    for unit in [first, second] {
+        let _room = extents.push(Extent {
+            offset: unit * 4_096,
+            length: 4_096,
+        });
+    }
+    Ok(spell(
+        &Entry {
+            kind: Kind::File,
+            path: Path::read(path)?,
+            size: 8_192,
+            mode: 0o644,
+            uid: 0,
+            gid: 0,
+            map: MapKind::Simple,
+            extents,
+        },
+        number,
+    ))
+}
+
+/// The report of a log that begins with these slots, and whose others are zero.
+fn reported(alloc: Global, slots: &[[u64; SLOT_WORDS]], gate: u64) -> Result<Report, OutOfMemory> {
+    let params = params();
+    let zeros = [0; SLOT_WORDS];
+    let mut fsck = Fsck::new(alloc, &params, gate)?;
+    for i in 0..params.slots {
+        if (i as usize) < slots.len() {
+            fsck.add(&slots[i as usize])?;
+        } else {
+            fsck.add(&zeros)?;
+        }
+    }
+    Ok(fsck.report())
+}
+
+/// A report of three published entries that is sound but for what a test says.
+fn sound() -> Report {
+    Report {
+        superblock: SuperState::Sound,
+        log: LogState::Sound {
+            entries: 3,
+            slots: 127,
+        },
+        files: 0,
+        directories: 3,
+        used: 528,
+        free: 496,
+        overlap: None,
+        bad: None,
+        past: 0,
+    }
+}
+
+#[test]
+fn three_directories_are_sound(rt: HostRuntime) -> Result<(), Fail> {
+    let slots = [
+        directory(b"a", 0)?,
+        directory(b"b", 1)?,
+        directory(b"c", 2)?,
+    ];
+    assert_eq!(rt; reported(rt.alloc(), &slots, 3)?, sound());
+    Ok(())
+}
+
+#[test]
+fn a_slot_at_the_gate_is_past_it(rt: HostRuntime) -> Result<(), Fail> {
+    let slots = [
+        directory(b"a", 0)?,
+        directory(b"b", 1)?,
+        directory(b"c", 2)?,
+    ];
+    let log = LogState::Sound {
+        entries: 2,
+        slots: 127,
+    };
+    assert_eq!(rt;
+        reported(rt.alloc(), &slots, 2)?,
+        Report {
+            log,
+            directories: 2,
+            past: 1,
+            ..sound()
+        }
+    );
+    Ok(())
+}
+
+#[test]
+fn an_entry_that_stands_already_is_bad_and_counts(rt: HostRuntime) -> Result<(), Fail> {
+    let slots = [
+        directory(b"a", 0)?,
+        directory(b"a", 1)?,
+        directory(b"b/c", 2)?,
+    ];
+    let bad = Some((1, Reason::Exists(Kind::Directory)));
+    assert_eq!(rt; reported(rt.alloc(), &slots, 3)?, Report { bad, ..sound() });
+    Ok(())
+}
+
+#[test]
+fn the_pair_of_the_first_entry_that_overlaps_is_told(rt: HostRuntime) -> Result<(), Fail> {
+    let slots = [
+        file(b"a", 600, 601, 0)?,
+        file(b"b", 601, 602, 1)?,
+        file(b"c", 600, 603, 2)?,
+    ];
+    let report = Report {
+        files: 3,
+        directories: 0,
+        used: 532,
+        free: 492,
+        overlap: Some((0, 1)),
+        ..sound()
+    };
+    assert_eq!(rt; reported(rt.alloc(), &slots, 3)?, report);
+    Ok(())
+}
+
+#[test]
+fn an_entry_overlaps_with_itself(rt: HostRuntime) -> Result<(), Fail> {
+    let slots = [
+        file(b"a", 600, 601, 0)?,
+        file(b"b", 700, 700, 1)?,
+        file(b"c", 600, 603, 2)?,
+    ];
+    let report = Report {
+        files: 3,
+        directories: 0,
+        used: 532,
+        free: 492,
+        overlap: Some((1, 1)),
+        ..sound()
+    };
+    assert_eq!(rt; reported(rt.alloc(), &slots, 3)?, report);
+    Ok(())
+}

@@ -1,0 +1,7 @@
+pub mod Digits
+pub mod WordLemmas
+pub mod SpellingLemmas
+pub mod Joined
+pub mod Respelled
+pub mod StripeWords
+pub mod PrintedLaw

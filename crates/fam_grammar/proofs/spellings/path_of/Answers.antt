@@ -1,0 +1,42 @@
+use Rattle.std.proofs.Common.{◌≡◌, ◌<◌, ◌≤◌, ◌+◌, ◌++◌, ◌∷◌, [], ℕ, List, Option, Some, None, Bool, true, false, cond, true≢false, take, drop, length, refl, sym, ap, subst, ◌∙◌, arith, rules}
+use Rattle.std.specs.Prelude.{option_map, position, IsTrue, ◌==◌}
+use Rattle.std.specs.Str.{IsUtf8, is_utf8}
+use Rattle.uuid.specs.Text.{parsed}
+use Rattle.std.proofs.lemmas.Str.{is_utf8-from_IsUtf8}
+use Rattle.std.proofs.lemmas.Bool.Decides.{nat_tests}
+use Rattle.std.proofs.lemmas.List.{take_all, take_rest, take_more_set, length-set, length-take-le}
+use Rattle.fam_base.specs.Paths.{is_path}
+use Rattle.fam_grammar.specs.Spellings.{unescaped, at_comma, uuid_of}
+use Rattle.fam_grammar.proofs.SpellingLemmas.{behind, false_of, true_of, not_utf8, no_name_of_nothing, name_of_utf8, no_name_of_others, no_path, no_file, is_the_path, is_no_path, is_the_file, is_no_file, too_long, read_on, read_all, read_none}
+use Rattle.fam_grammar.proofs.spellings.path_of.Goals as goal
+
+pub returns-in_err-byte : goal.returns-in_err-byte
+returns-in_err-byte c =
+    c.from_residual.ensures ∙ no_path c.args.word.now (read_none c.args.word.now (take c.loop-rest.count c.loop-rest.field) (unescaped c.loop-rest.rest.now) c.loop-rest.invariant.0 c.in_err-byte.ensures.cases)
+
+pub returns-then-count-eq-PATH_LIMIT : goal.returns-then-count-eq-PATH_LIMIT
+returns-then-count-eq-PATH_LIMIT c =
+    too_long c.args.word.now (take c.loop-rest.count c.loop-rest.field) c.in_ok-byte.byte (unescaped c.in_ok-byte.more.now)
+    (omega (arith, length-take-le c.loop-rest.count c.loop-rest.field c.loop-rest.invariant.1, c.if-count-eq-PATH_LIMIT.true))
+    (c.loop-rest.invariant.0 ∙ ap (behind (take c.loop-rest.count c.loop-rest.field)) c.in_ok-byte.ensures.cases)
+
+pub loop-rest-preserved : goal.loop-rest-preserved
+loop-rest-preserved c =
+    let within : c.loop-rest.count < length c.loop-rest.field = omega (arith, c.loop-rest.invariant.1, c.loop-rest.invariant.2, c.if-count-eq-PATH_LIMIT.false) in (
+      read_on c.args.word.now (take c.loop-rest.count c.loop-rest.field) c.in_ok-byte.byte (unescaped c.loop-rest.rest.now) (unescaped c.in_ok-byte.more.now) c.loop-rest.invariant.0 c.in_ok-byte.ensures.cases
+          ∙ ap (λ (l : List ℕ). behind l (unescaped c.in_ok-byte.more.now)) (sym (take_more_set c.loop-rest.field c.loop-rest.count c.in_ok-byte.byte within)),
+      omega (arith, within, length-set c.loop-rest.field c.loop-rest.count c.in_ok-byte.byte),
+      length-set c.loop-rest.field c.loop-rest.count c.in_ok-byte.byte ∙ c.loop-rest.invariant.2,
+    )
+
+pub returns-in-Ok : goal.returns-in-Ok
+returns-in-Ok c =
+    let front : List ℕ = take c.loop-rest.count c.loop-rest.field in
+    let whole = read_all c.args.word.now front c.loop-rest.rest.now c.loop-rest.invariant.0 (search rules) in
+    ap (λ (l : List ℕ). Some l) c.in-Ok.ensures.same ∙ is_the_path c.args.word.now front whole (c.in-Ok.ensures.ok.0 refl)
+
+pub returns-in-Err : goal.returns-in-Err
+returns-in-Err c =
+    let front : List ℕ = take c.loop-rest.count c.loop-rest.field in
+    let whole = read_all c.args.word.now front c.loop-rest.rest.now c.loop-rest.invariant.0 (search rules) in
+    is_no_path c.args.word.now front whole (false_of (is_path front) (λ is. true≢false (sym (c.in-Err.ensures.ok.1 is))))

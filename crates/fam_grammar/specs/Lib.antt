@@ -1,0 +1,10 @@
+pub mod Words
+pub mod Numbers
+pub mod Spellings
+pub mod Keywords
+pub mod Reading
+pub mod Cursor
+pub mod Options
+pub mod Lines
+pub mod Scripts
+pub mod Printed

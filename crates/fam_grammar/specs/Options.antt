@@ -1,0 +1,93 @@
+-- Options: words behind the others of a line, in any order, each at most once.
+use Rattle.std.specs.Prelude.{ℕ, Bool, true, false, if◌then◌else◌, List, [], ◌∷◌, codes, Option, Some, None, option_map, option_and_then}
+use Rattle.std.specs.Str.{bytes_eq}
+use Rattle.fam_base.specs.declared.cmd.Stripe.{Stripe}
+use Rattle.fam_grammar.specs.declared.options.FileOption.{FileOption}
+use Rattle.fam_grammar.specs.declared.options.FileOption.TheVariants as file
+use Rattle.fam_grammar.specs.declared.options.FileOptions.{FileOptions}
+use Rattle.fam_grammar.specs.declared.options.MkfsOption.{MkfsOption}
+use Rattle.fam_grammar.specs.declared.options.MkfsOption.TheVariants as mkfs
+use Rattle.fam_grammar.specs.declared.options.MkfsOptions.{MkfsOptions}
+use Rattle.fam_grammar.specs.declared.options.Takes.{Takes}
+use Rattle.fam_grammar.specs.Numbers.{number_of_text, size_of_text}
+use Rattle.fam_grammar.specs.Reading.{Reading, Reads, Misfit}
+use Rattle.fam_grammar.specs.Spellings.{id_of, mode_of, stripe_of, value_behind}
+use Rattle.fam_grammar.specs.Words.{Word}
+
+-- a word with this key and a value that is spelled so; or else another word
+abbrev pub keyed : {A : Type 0} → Option (List ℕ) → (List ℕ → Option A) → Option A → Option A
+keyed None spelling other = other
+keyed (Some value) spelling other = spelling value
+
+-- An option's place is free, and it is taken.
+abbrev pub once : {A B : Type 0} → Option A → B → Option B
+once None taken = Some taken
+once (Some old) taken = None
+
+-- where a line takes such an option
+abbrev pub where_taken : {A : Type 0} → Bool → Option A → Option A
+where_taken true option = option
+where_taken false option = None
+
+-- Of mkdir, creat and cp.
+
+-- an option's word
+unfoldable pub file_option_of : List ℕ → Option FileOption
+file_option_of word =
+    keyed (value_behind (codes "mode=") word) (λ v. option_map file.Mode (mode_of v))
+    (keyed (value_behind (codes "uid=") word) (λ v. option_map file.Uid (id_of v))
+    (keyed (value_behind (codes "gid=") word) (λ v. option_map file.Gid (id_of v))
+    (keyed (value_behind (codes "seed=") word) (λ v. option_map file.Seed (number_of_text v))
+    (keyed (value_behind (codes "stripe=") word) (λ v. option_map file.Stripe (stripe_of v)) None))))
+
+-- one more option, of a line that takes these
+abbrev pub with_file_option : Takes → FileOptions → FileOption → Option FileOptions
+with_file_option takes given (file.Mode mode) = once given.mode (record given { mode = Some mode })
+with_file_option takes given (file.Uid uid) = once given.uid (record given { uid = Some uid })
+with_file_option takes given (file.Gid gid) = once given.gid (record given { gid = Some gid })
+with_file_option takes given (file.Seed seed) = where_taken takes.seed (once given.seed (record given { seed = Some seed }))
+with_file_option takes given (file.Stripe stripe) = where_taken takes.stripe (once given.stripe (record given { stripe = Some stripe }))
+
+-- one more word
+abbrev pub with_file_word : Takes → FileOptions → List ℕ → Option FileOptions
+with_file_word takes given word = option_and_then (with_file_option takes given) (file_option_of word)
+
+-- all words that are left
+abbrev pub file_options : Takes → FileOptions → List Word → Reading FileOptions
+file_options takes given [] = Reads given []
+file_options takes given (word ∷ words) =
+    elim (with_file_word takes given word.text) as (λ _. Reading FileOptions) [
+      | None ↦ Misfit word.column
+      | Some more ↦ file_options takes more words
+    ]
+
+-- no option is given
+abbrev pub no_file_options : FileOptions
+no_file_options = record { mode = None; uid = None; gid = None; seed = None; stripe = None }
+
+-- Of mkfs.
+
+unfoldable pub mkfs_option_of : List ℕ → Option MkfsOption
+mkfs_option_of word =
+    keyed (value_behind (codes "unit=") word) (λ v. option_map mkfs.Unit (size_of_text v))
+    (keyed (value_behind (codes "log=") word) (λ v. option_map mkfs.Log (size_of_text v))
+    (if bytes_eq word (codes "force") then Some mkfs.Force else None))
+
+abbrev pub with_mkfs_option : MkfsOptions → MkfsOption → Option MkfsOptions
+with_mkfs_option given (mkfs.Unit unit) = once given.unit (record given { unit = Some unit })
+with_mkfs_option given (mkfs.Log log) = once given.log (record given { log = Some log })
+with_mkfs_option given mkfs.Force = if given.force then None else Some (record given { force = true })
+
+abbrev pub with_mkfs_word : MkfsOptions → List ℕ → Option MkfsOptions
+with_mkfs_word given word = option_and_then (with_mkfs_option given) (mkfs_option_of word)
+
+abbrev pub mkfs_options : MkfsOptions → List Word → Reading MkfsOptions
+mkfs_options given [] = Reads given []
+mkfs_options given (word ∷ words) =
+    elim (with_mkfs_word given word.text) as (λ _. Reading MkfsOptions) [
+      | None ↦ Misfit word.column
+      | Some more ↦ mkfs_options more words
+    ]
+
+abbrev pub no_mkfs_options : MkfsOptions
+no_mkfs_options = record { unit = None; log = None; force = false }

@@ -1,0 +1,23 @@
+//! Lines of scripts, read as events. `specs/Lines.antt` is the grammar: what each event and each command has for words.
+//! `specs/Words.antt` cuts a line into words, `specs/Spellings.antt` and `Numbers.antt` spell single words, `specs/Options.antt`
+//! has the options, and `specs/Scripts.antt` the line and the script as a whole.
+#![tactic(auto)]
+
+mod commands;
+mod cursor;
+mod events;
+mod fault;
+mod keywords;
+mod laws;
+mod numbers;
+mod options;
+mod script;
+mod spellings;
+#[cfg(test)]
+mod tests;
+mod words;
+
+pub use fault::LineFault;
+pub use laws::a_printed_command_reads_as_itself;
+pub use numbers::size;
+pub use script::read_line;

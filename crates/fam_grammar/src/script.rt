@@ -1,0 +1,62 @@
+//! A line of a script as an event. `specs/Scripts.antt` has the line and the script as a whole.
+
+ghost use Rattle.std.specs.Prelude.{◌≡◌, ◌≤◌, ◌<◌, ◌^◌, ◌==◌, length, slice_index, Ok, IfOk, IfErr};
+ghost use Rattle.fam_grammar.specs.Cursor.{words_left, IsShort};
+ghost use Rattle.fam_grammar.specs.Scripts.{line_reads, IsBadLine};
+ghost use Rattle.fam_grammar.specs.Words.{without_return};
+
+use crate::events::event;
+use crate::fault::LineFault;
+use crate::words::{Line, Words};
+use fam_journal::Event;
+use std::alloc::Global;
+
+/// The line without the carriage return at its end.
+fn without_return(line: &[u8]) -> &[u8]
+    ensures value { result.now ≡ without_return line.now }
+    ensures shorter { length result.now ≤ length line.now }
+{
+    match line {
+        [front @ .., b'\r'] => front,
+        _ => line,
+    }
+}
+
+/// Whether a word begins a comment.
+fn is_comment(word: &[u8]) -> bool
+    ensures { result ≡ (slice_index word.now 0 == 35) }
+{
+    match word.first() {
+        Some(first) => *first == b'#',
+        None => false,
+    }
+}
+
+/// The event of a line of a script, given without its line feed; `None` for a line without words, or whose first word
+/// begins with `#`. `number` is the line's, counted from 1; a bad line is named by it. Only the name of a file takes
+/// memory.
+#[tactic(auto, unfolding(crate::specs::Scripts::line_reads))]
+pub fn read_line(alloc: Global, bytes: &[u8], number: u64) -> Result<Option<Event>, LineFault>
+    requires short { length bytes.now < 2 ^ 63 }
+
+    ensures value { IfOk result (λ event. line_reads bytes.now ≡ Ok event) }
+    ensures bad { IfErr result (IsBadLine number (line_reads bytes.now)) }
+{
+    let text = without_return(bytes);
+    let line = Line {
+        number,
+        end: text.len() as u64 + 1,
+    };
+    let mut words = Words {
+        column: 1,
+        bytes: text,
+    };
+    let mut ahead = words;
+    let Some(first) = ahead.next() else {
+        return Ok(None);
+    };
+    if is_comment(first.text) {
+        return Ok(None);
+    }
+    Ok(Some(event(alloc, &mut words, line)?))
+}

@@ -1,0 +1,20 @@
+//! The entries of a log, and what a host appends behind them.
+//!
+//! A contract sees a `Plan` as the parameters of the file system and the list of the entries that were added, in order
+//! (`specs/State.antt`). Each entry of the list joins those before it, by the rules of `fam_format`. What a command
+//! appends is `decide` of `fam_rules` over that list.
+#![tactic(auto)]
+
+mod decide;
+mod fault;
+mod laws;
+mod plan;
+mod room;
+mod wish;
+
+pub use fault::AddFault;
+pub use laws::{a_decided_entry_may_be_added, no_unit_stands_twice};
+pub use plan::Plan;
+
+#[cfg(test)]
+mod tests;

@@ -1,0 +1,201 @@
+//! The entries of a log with their tree and their units.
+
+ghost use Rattle.std.specs.Prelude.{◌≡◌, ◌<◌, ◌≤◌, ◌||◌, ◌++◌, ◌∷◌, [], ℕ, None, IfOk, OnOk, IfErr, OnErr, length, option_map, slice_get};
+ghost use Rattle.fam_format.specs.Params.{SoundParams};
+ghost use Rattle.fam_format.specs.Slot.{Proper};
+ghost use Rattle.fam_format.specs.Stop.{or_else};
+ghost use Rattle.fam_format.specs.Tree.{replay, join_fault, overlap_fault};
+ghost use Rattle.fam_format.specs.Units.{units_in, list_units, first_overlap};
+ghost use Rattle.fam_rules.specs.Place.{IsOnce};
+ghost use Rattle.fam_alloc.specs.Taken.{is_taken, holds, LieWithin};
+ghost use Rattle.fam_tree.specs.Faults as tree;
+ghost use Rattle.fam_plan.specs.Faults.{reason_of};
+ghost use Rattle.fam_plan.specs.State.{IsHistory};
+
+use crate::fault::AddFault;
+use fam_alloc::{AllocMap, TakeFault};
+use fam_base::{Entry, OutOfMemory, Params};
+use fam_format::LOG_OFFSET;
+use fam_tree::{ApplyFault, Tree};
+use std::alloc::Global;
+use std::marker::Model;
+
+/// The entries of a log in their order, their tree and the units that they use. A contract sees the parameters of the
+/// file system and the list of entries, in which each entry joins those before it.
+#[derive(Drop)]
+pub struct Plan {
+    pub(crate) params: Params,
+    pub(crate) entries: Vec<Entry>,
+    pub(crate) tree: Tree,
+    pub(crate) used: AllocMap,
+}
+
+impl Model for Plan {
+    ghost use Rattle.fam_plan.specs.State.{PlanState, state_code, IsPlan};
+
+    ghost Value = { PlanState };
+
+    ghost coded = { state_code };
+
+    ghost view = { λ p. record { params = p.params; entries = p.entries.items } };
+
+    ghost invariant = { λ p. IsPlan (record { params = p.params; entries = p.entries.items }) p.tree p.used };
+}
+
+/// The overlap that keeps an entry from joining, and out of memory where there is none.
+fn overlap_or_memory(used: &AllocMap, entry: &Entry, unit: u64) -> AddFault
+    requires unit { 0 < unit }
+    requires within { LieWithin unit (length used.now) entry.now.extents }
+    ensures { reason_of result
+        ≡ overlap_fault (first_overlap (is_taken used.now) (units_in unit entry.now.extents)) }
+{
+    match used.overlap(&entry.extents, unit) {
+        Some(taken) => AddFault::Overlap(taken),
+        None => AddFault::OutOfMemory,
+    }
+}
+
+/// The first fault against an entry, by what its tree said.
+fn first_fault(fault: ApplyFault, used: &AllocMap, entry: &Entry, unit: u64) -> AddFault
+    requires unit { 0 < unit }
+    requires within { LieWithin unit (length used.now) entry.now.extents }
+    ensures { reason_of result ≡ or_else (tree.reason_of fault)
+        (overlap_fault (first_overlap (is_taken used.now) (units_in unit entry.now.extents))) }
+{
+    match fault {
+        ApplyFault::Exists(kind) => AddFault::Exists(kind),
+        ApplyFault::NoParent => AddFault::NoParent,
+        ApplyFault::ParentIsFile => AddFault::ParentIsFile,
+        ApplyFault::OutOfMemory => overlap_or_memory(used, entry, unit),
+    }
+}
+
+/// Takes the units of an entry.
+fn take_units(used: &mut AllocMap, entry: &Entry, unit: u64) -> Result<(), AddFault>
+    requires unit { 0 < unit }
+    requires within { LieWithin unit (length used.old) entry.now.extents }
+    ensures fits { OnOk result
+        (overlap_fault (first_overlap (is_taken used.old) (units_in unit entry.now.extents)) ≡ None) }
+    ensures taken { OnOk result ((u : ℕ) →
+        is_taken used.new u ≡ (is_taken used.old u || holds (units_in unit entry.now.extents) u)) }
+    ensures cause { IfErr result (λ fault. reason_of fault
+        ≡ overlap_fault (first_overlap (is_taken used.old) (units_in unit entry.now.extents))) }
+    ensures err { OnErr result (used.new ≡ used.old) }
+    ensures units { length used.new ≡ length used.old }
+{
+    match used.take(&entry.extents, unit) {
+        Ok(()) => Ok(()),
+        Err(TakeFault::Overlap(taken)) => Err(AddFault::Overlap(taken)),
+        Err(TakeFault::OutOfMemory) => Err(AddFault::OutOfMemory),
+    }
+}
+
+/// Puts an entry behind a list and takes its units, or does neither.
+fn append(
+    entries: &mut Vec<Entry>,
+    used: &mut AllocMap,
+    entry: &Entry,
+    unit: u64,
+) -> Result<(), AddFault>
+    requires unit { 0 < unit }
+    requires within { LieWithin unit (length used.old) entry.now.extents }
+    ensures added { OnOk result (entries.new.items ≡ entries.old.items ++ entry.now ∷ []) }
+    ensures fits { OnOk result
+        (overlap_fault (first_overlap (is_taken used.old) (units_in unit entry.now.extents)) ≡ None) }
+    ensures taken { OnOk result ((u : ℕ) →
+        is_taken used.new u ≡ (is_taken used.old u || holds (units_in unit entry.now.extents) u)) }
+    ensures cause { IfErr result (λ fault. reason_of fault
+        ≡ overlap_fault (first_overlap (is_taken used.old) (units_in unit entry.now.extents))) }
+    ensures list { OnErr result (entries.new.items ≡ entries.old.items) }
+    ensures map { OnErr result (used.new ≡ used.old) }
+    ensures units { length used.new ≡ length used.old }
+{
+    if entries.push(*entry).is_err() {
+        return Err(overlap_or_memory(used, entry, unit));
+    }
+    match take_units(used, entry, unit) {
+        Ok(()) => Ok(()),
+        Err(fault) => {
+            let _ = entries.pop();
+            Err(fault)
+        }
+    }
+}
+
+impl Plan {
+    /// No entries, on a device whose superblock and log are used.
+    pub fn new(alloc: Global, params: &Params) -> Result<Plan, OutOfMemory>
+        requires { SoundParams params.now }
+        ensures params { IfOk result (λ plan. plan.params ≡ params.now) }
+        ensures empty { IfOk result (λ plan. plan.entries ≡ []) }
+    {
+        let units = params.device / params.unit;
+        let head = (LOG_OFFSET + params.log_length) / params.unit;
+        let used = AllocMap::new(alloc, units, head)?;
+        Ok(Plan {
+            params: *params,
+            entries: Vec::new(alloc),
+            tree: Tree::new(alloc),
+            used,
+        })
+    }
+
+    /// Adds a proper entry behind the others, where it joins them and a slot is left for it. A fault leaves the plan as
+    /// it was.
+    pub fn add(&mut self, entry: &Entry) -> Result<(), AddFault>
+        requires proper { Proper self.old.params entry.now }
+        requires left { length self.old.entries < self.old.params.slots }
+
+        ensures joins { OnOk result (join_fault self.old.params self.old.entries entry.now ≡ None) }
+        ensures added { OnOk result (self.new.entries ≡ self.old.entries ++ entry.now ∷ []) }
+
+        // Every fault but out of memory comes exactly where it is the first against the entry.
+        ensures cause { IfErr result (λ fault. reason_of fault
+            ≡ join_fault self.old.params self.old.entries entry.now) }
+        ensures same { OnErr result (self.new ≡ self.old) }
+
+        ensures params { self.new.params ≡ self.old.params }
+        ensures once { IsOnce (list_units self.new.params.unit self.new.entries) }
+    {
+        match self.tree.apply(entry) {
+            Ok(()) => {}
+            Err(fault) => return Err(first_fault(fault, &self.used, entry, self.params.unit)),
+        }
+        match append(&mut self.entries, &mut self.used, entry, self.params.unit) {
+            Ok(()) => Ok(()),
+            Err(fault) => {
+                self.tree.take_back(&entry.path);
+                Err(fault)
+            }
+        }
+    }
+
+    /// What stands at each path.
+    pub fn tree(&self) -> &Tree
+        ensures { result.now ≡ replay self.now.entries }
+    {
+        &self.tree
+    }
+
+    /// How many entries were added.
+    pub fn count(&self) -> u64
+        ensures count { result ≡ length self.now.entries }
+        ensures few { length self.now.entries ≤ self.now.params.slots }
+    {
+        self.entries.len() as u64
+    }
+
+    /// Entry `i`, from 0, in the order in which they were added.
+    pub fn at(&self, i: u64) -> Option<&Entry>
+        ensures { option_map (λ entry. entry.now) result ≡ slice_get self.now.entries i }
+    {
+        self.entries.get(i as usize)
+    }
+
+    /// In every plan the parameters are sound, and each entry is proper and joins those before it.
+    pub fn each_entry_joins(&self)
+        ensures { IsHistory self.now }
+    {
+        let _ = &self.params;
+    }
+}

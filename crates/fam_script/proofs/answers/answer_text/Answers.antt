@@ -1,0 +1,30 @@
+use Rattle.std.proofs.Common.{◌≡◌, ◌++◌, ◌∙◌, List, ℕ, refl, sym, ap}
+use Rattle.std.proofs.lemmas.List.{append_assoc}
+use Rattle.std.proofs.lemmas.Result.{IfOk-weaker}
+use Rattle.fam_journal.specs.Texts as text
+use Rattle.fam_script.proofs.TextLemmas.{mode_digits, OnOk-more}
+use Rattle.fam_script.proofs.answers.answer_text.Goals as goal
+
+pub returns-in-Ok : goal.returns-in-Ok
+returns-in-Ok c = rw c.in-Ok.is (c.line_of.ensures _ c.format.ensures.ok)
+
+pub returns-in-Same : goal.returns-in-Same
+returns-in-Same c = rw c.in-Same.is (c.line_of-in-Same.ensures _ c.format-in-Same.ensures.ok)
+
+pub returns-in-NotFound : goal.returns-in-NotFound
+returns-in-NotFound c = rw c.in-NotFound.is (c.line_of-in-NotFound.ensures _ c.format-in-NotFound.ensures.ok)
+
+pub returns-in-IsDirectory : goal.returns-in-IsDirectory
+returns-in-IsDirectory c = rw c.in-IsDirectory.is (c.line_of-in-IsDirectory.ensures _ c.format-in-IsDirectory.ensures.ok)
+
+pub returns-in-Length : goal.returns-in-Length
+returns-in-Length c = rw c.in-Length.is (c.line_of-in-Length.ensures _ c.length_text.ensures)
+
+pub returns-in-MediaFault : goal.returns-in-MediaFault
+returns-in-MediaFault c = rw c.in-MediaFault.is (c.line_of-in-MediaFault.ensures _ c.format-in-MediaFault.ensures.ok)
+
+pub returns-in-LogFull : goal.returns-in-LogFull
+returns-in-LogFull c = rw c.in-LogFull.is (c.line_of-in-LogFull.ensures _ c.format-in-LogFull.ensures.ok)
+
+pub returns-in-NoSpace : goal.returns-in-NoSpace
+returns-in-NoSpace c = rw c.in-NoSpace.is (c.line_of-in-NoSpace.ensures _ c.format-in-NoSpace.ensures.ok)

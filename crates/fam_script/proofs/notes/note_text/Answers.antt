@@ -1,0 +1,15 @@
+use Rattle.std.proofs.Common.{◌≡◌, ◌++◌, ◌∙◌, List, ℕ, refl, sym, ap}
+use Rattle.std.proofs.lemmas.List.{append_assoc}
+use Rattle.std.proofs.lemmas.Result.{IfOk-weaker}
+use Rattle.fam_journal.specs.Texts as text
+use Rattle.fam_script.proofs.TextLemmas.{mode_digits, OnOk-more}
+use Rattle.fam_script.proofs.notes.note_text.Goals as goal
+
+pub returns-in-Host : goal.returns-in-Host
+returns-in-Host c = rw c.in-Host.is (c.line_of.ensures _ c.format.ensures.ok)
+
+pub returns-in-Made : goal.returns-in-Made
+returns-in-Made c = rw c.in-Made.is (c.line_of-in-Made.ensures _ c.made_text.ensures)
+
+pub returns-in-Found : goal.returns-in-Found
+returns-in-Found c = rw c.in-Found.is (c.line_of-in-Found.ensures _ c.format-in-Found.ensures.ok)

@@ -1,0 +1,9 @@
+use Rattle.std.proofs.Common.{◌≡◌, ◌++◌, ◌∙◌, List, ℕ, refl, sym, ap}
+use Rattle.std.proofs.lemmas.List.{append_assoc}
+use Rattle.std.proofs.lemmas.Result.{IfOk-weaker}
+use Rattle.fam_journal.specs.Texts as text
+use Rattle.fam_script.proofs.TextLemmas.{mode_digits, OnOk-more}
+use Rattle.fam_script.proofs.notes.writes_line.Goals as goal
+
+pub returns : goal.returns
+returns c = IfOk-weaker c.line_with.result _ _ (λ s e. e ∙ simp (c.as_str.ensures.value, c.in-Ok.ensures.ok, c.as_slice.ensures.value, c.in_ok-entry.ensures, append_assoc) refl) c.line_with.ensures

@@ -1,0 +1,47 @@
+//! Bytes in hexadecimal.
+
+ghost use Rattle.std.specs.Prelude.{◌≡◌, ◌<◌, ◌/◌, ◌%◌, ◌++◌, [], ◌∷◌, IfOk, OnOk};
+ghost use Rattle.std.specs.List.{flat_map};
+ghost use Rattle.fam_base.specs.Escapes.{hex_digit};
+ghost use Rattle.fam_journal.specs.Texts.{byte_text, bytes_text};
+
+use crate::lines::put;
+use fam_base::OutOfMemory;
+use std::alloc::Global;
+
+fn hex_digit(n: u8) -> u8
+    requires { n < 16 }
+    ensures { result ≡ hex_digit n }
+{
+    if n < 10 { b'0' + n } else { b'a' + (n - 10) }
+}
+
+/// The two digits of a byte.
+pub(crate) fn byte_digits(byte: u8) -> [u8; 2]
+    ensures { result ≡ byte_text byte }
+{
+    [hex_digit(byte / 16), hex_digit(byte % 16)]
+}
+
+/// Adds two digits for each byte.
+fn put_digits(bytes: &[u8], into: &mut Vec<u8>) -> Result<(), OutOfMemory>
+    ensures { OnOk result (into.new.items ≡ into.old.items ++ flat_map byte_text bytes.now) }
+{
+    for byte in bytes {
+        put(&byte_digits(*byte), into)?;
+    }
+    Ok(())
+}
+
+/// Two digits for each byte, or `-` for none.
+pub(crate) fn bytes_text(alloc: Global, bytes: &[u8]) -> Result<Vec<u8>, OutOfMemory>
+    ensures { IfOk result (λ text. text.items ≡ bytes_text bytes.now) }
+{
+    let mut text = Vec::new(alloc);
+    if bytes.is_empty() {
+        put(b"-", &mut text)?;
+    } else {
+        put_digits(bytes, &mut text)?;
+    }
+    Ok(text)
+}

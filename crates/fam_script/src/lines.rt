@@ -1,0 +1,86 @@
+//! Lines of text, and names in them.
+
+ghost use Rattle.std.specs.Prelude.{◌≡◌, ◌++◌, [], ◌∷◌, ℕ, List, IfOk, OnOk, string_bytes};
+ghost use Rattle.fam_base.specs.Escapes.{escaped};
+ghost use Rattle.fam_journal.specs.Texts as text;
+
+use fam_base::{OutOfMemory, escape};
+use std::alloc::{AllocError, Global};
+
+/// Adds bytes to a text.
+pub(crate) fn put(bytes: &[u8], into: &mut Vec<u8>) -> Result<(), OutOfMemory>
+    ensures { OnOk result (into.new.items ≡ into.old.items ++ bytes.now) }
+{
+    match into.extend_from_slice(bytes) {
+        Ok(()) => Ok(()),
+        Err(_) => Err(OutOfMemory),
+    }
+}
+
+/// A text as a line.
+pub(crate) fn line(alloc: Global, words: &str) -> Result<Vec<u8>, OutOfMemory>
+    ensures { IfOk result (λ bytes. bytes.items ≡ text.line words.now) }
+{
+    let mut bytes = Vec::new(alloc);
+    put(words.as_bytes(), &mut bytes)?;
+    put(b"\n", &mut bytes)?;
+    Ok(bytes)
+}
+
+/// The line of a text that may have found no memory.
+pub(crate) fn line_of(
+    alloc: Global,
+    made: Result<String, AllocError>,
+) -> Result<Vec<u8>, OutOfMemory>
+    ensures { (want : List ℕ) → IfOk made (λ s. string_bytes s ≡ want) →
+        IfOk result (λ bytes. bytes.items ≡ text.line want) }
+{
+    match made {
+        Ok(text) => line(alloc, text.as_str()),
+        Err(_) => Err(OutOfMemory),
+    }
+}
+
+/// The line of a text with bytes in it, which are printed as they are.
+pub(crate) fn line_with(alloc: Global, front: &str, bytes: &[u8]) -> Result<Vec<u8>, OutOfMemory>
+    ensures { IfOk result (λ made. made.items ≡ text.line (front.now ++ bytes.now)) }
+{
+    let mut text = Vec::new(alloc);
+    put(front.as_bytes(), &mut text)?;
+    put(bytes, &mut text)?;
+    put(b"\n", &mut text)?;
+    Ok(text)
+}
+
+/// The line of a text with a name in it, of a path or a file, which is printed with escapes.
+pub(crate) fn line_with_name(
+    alloc: Global,
+    front: &str,
+    name: &[u8],
+    back: &str,
+) -> Result<Vec<u8>, OutOfMemory>
+    ensures { IfOk result (λ made. made.items ≡ text.line (front.now ++ escaped name.now ++ back.now)) }
+{
+    let mut text = Vec::new(alloc);
+    put(front.as_bytes(), &mut text)?;
+    escape(name, &mut text)?;
+    put(back.as_bytes(), &mut text)?;
+    put(b"\n", &mut text)?;
+    Ok(text)
+}
+
+/// The line of a text with a name at its end, behind a space.
+pub(crate) fn line_with_last_name(
+    alloc: Global,
+    front: &str,
+    name: &[u8],
+) -> Result<Vec<u8>, OutOfMemory>
+    ensures { IfOk result (λ made. made.items ≡ text.line (front.now ++ text.name_text name.now)) }
+{
+    let mut text = Vec::new(alloc);
+    put(front.as_bytes(), &mut text)?;
+    put(b" ", &mut text)?;
+    escape(name, &mut text)?;
+    put(b"\n", &mut text)?;
+    Ok(text)
+}

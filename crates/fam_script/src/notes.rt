@@ -1,0 +1,91 @@
+//! Notes in print. fam_journal's `specs/Texts.antt` has their lines.
+
+ghost use Rattle.std.specs.Prelude.{◌≡◌, ◌++◌, IfOk, length, codes, string_bytes};
+ghost use Rattle.fam_tree.specs.Lines.{entry_line};
+ghost use Rattle.fam_journal.specs.Texts as text;
+ghost use Rattle.fam_notes.specs.Notes.{note_of, NamesHosts};
+ghost use Rattle.fam_script.specs.Prints.{PrintsNote, PrintsText, IsNameOf};
+
+use crate::answers::answer_text;
+use crate::commands::start_line;
+use crate::lines::{line, line_of, line_with, put};
+use crate::refusals::{host_name, refusal_line};
+use fam_base::{Entry, HostName, OutOfMemory, Params};
+use fam_notes::Note;
+use fam_tree::print_entry;
+use std::alloc::{AllocError, Global};
+
+/// A file system that was made: its UUID, and its sizes.
+fn made_text(alloc: Global, params: &Params) -> Result<String, AllocError>
+    ensures { IfOk result (λ s. string_bytes s ≡ text.made_text params.now) }
+{
+    let fs = params.fs;
+    let unit = params.unit;
+    let log = params.log_length;
+    let device = params.device;
+    format!(in alloc; "made {fs} unit {unit} log {log} device {device}")
+}
+
+/// The line of an entry that goes on to be appended.
+fn writes_line(alloc: Global, seq: u64, entry: &Entry) -> Result<Vec<u8>, OutOfMemory>
+    ensures { IfOk result (λ bytes. bytes.items ≡ text.line (codes "writes" ++ text.number seq ++ codes " " ++ entry_line entry.now)) }
+{
+    let Ok(front) = format!(in alloc; "writes {seq} ") else {
+        return Err(OutOfMemory);
+    };
+    let entry = print_entry(alloc, entry)?;
+    line_with(alloc, front.as_str(), entry.as_slice())
+}
+
+/// The text of a note without its host's name, with its line feeds.
+fn note_text(alloc: Global, note: &Note, names: &[HostName]) -> Result<Vec<u8>, OutOfMemory>
+    requires { NamesHosts (length names.now) note.now }
+    ensures { IfOk result (λ bytes. PrintsText names.now (note_of note.now) bytes.items) }
+{
+    match note {
+        Note::Host { uuid, .. } => line_of(alloc, format!(in alloc; "host {uuid}")),
+        Note::Made { params, .. } => line_of(alloc, made_text(alloc, params)),
+        Note::Start { cmd, .. } => start_line(alloc, cmd),
+        Note::Mark { .. } => line(alloc, "mark"),
+        Note::Found { n, .. } => line_of(alloc, format!(in alloc; "found {n}")),
+        Note::Writes { seq, entry, .. } => writes_line(alloc, *seq, entry),
+        Note::Answered { answer, .. } => answer_text(alloc, answer),
+        Note::Stop { .. } => line(alloc, "stop"),
+        Note::Halt { .. } => line(alloc, "halt"),
+        Note::Refused { cause, .. } => refusal_line(alloc, cause, names),
+    }
+}
+
+/// The name of a note's host.
+fn note_name<'a>(note: &'a Note, names: &'a [HostName]) -> &'a [u8]
+    requires { NamesHosts (length names.now) note.now }
+    ensures { IsNameOf names.now (note_of note.now) result.now }
+{
+    match note {
+        Note::Host { name, .. } => name.bytes(),
+        Note::Made { host, .. } => host_name(names, *host),
+        Note::Start { host, .. } => host_name(names, *host),
+        Note::Mark { host } => host_name(names, *host),
+        Note::Found { host, .. } => host_name(names, *host),
+        Note::Writes { host, .. } => host_name(names, *host),
+        Note::Answered { host, .. } => host_name(names, *host),
+        Note::Stop { host } => host_name(names, *host),
+        Note::Halt { host } => host_name(names, *host),
+        Note::Refused { name, .. } => name.bytes(),
+    }
+}
+
+/// A note in print: the name of its host, its text, and the further lines of a listing or a report, each with a line
+/// feed. `names` are those of the hosts declared so far, in their order; a note that declares a host, and a refusal,
+/// bring their own.
+pub fn print_note(alloc: Global, note: &Note, names: &[HostName]) -> Result<Vec<u8>, OutOfMemory>
+    requires named { NamesHosts (length names.now) note.now }
+    ensures value { IfOk result (λ bytes. PrintsNote names.now (note_of note.now) bytes.items) }
+{
+    let rest = note_text(alloc, note, names)?;
+    let mut text = Vec::new(alloc);
+    put(note_name(note, names), &mut text)?;
+    put(b" ", &mut text)?;
+    put(rest.as_slice(), &mut text)?;
+    Ok(text)
+}

@@ -1,0 +1,66 @@
+//! The texts of refusals. fam_journal's `specs/Texts.antt` has their forms.
+
+ghost use Rattle.std.specs.Prelude.{◌≡◌, ◌<◌, ◌++◌, IfOk, codes, length};
+ghost use Rattle.fam_journal.specs.Names.{NamesCause};
+ghost use Rattle.fam_journal.specs.Texts as text;
+
+use crate::lines::{line, line_of, line_with, line_with_name};
+use fam_base::{HostName, OutOfMemory};
+use fam_journal::{HostId, Refusal};
+use std::alloc::Global;
+
+/// The name of a declared host.
+pub(crate) fn host_name(names: &[HostName], host: HostId) -> &[u8]
+    requires { host.0 < length names.now }
+    ensures { result.now ≡ text.host_name names.now host.0 }
+{
+    names[host.0 as usize].bytes()
+}
+
+/// The line of a refusal.
+pub(crate) fn refusal_line(
+    alloc: Global,
+    cause: &Refusal,
+    names: &[HostName],
+) -> Result<Vec<u8>, OutOfMemory>
+    requires { NamesCause (length names.now) cause.now }
+    ensures { IfOk result (λ bytes. bytes.items ≡ text.line (codes "refused " ++ text.refusal_text names.now cause.now)) }
+{
+    match cause {
+        Refusal::NoHost => line(alloc, "refused no host"),
+        Refusal::SameHost(host) => {
+            line_with(alloc, "refused same host ", host_name(names, *host))
+        }
+        Refusal::TooManyHosts => line(alloc, "refused too many hosts"),
+        Refusal::BadGeometry { unit, log } => {
+            line_of(
+                alloc,
+                format!(in alloc; "refused bad geometry {unit} {log}"),
+            )
+        }
+        Refusal::TooSmall { need, have } => {
+            line_of(alloc, format!(in alloc; "refused too small {need} {have}"))
+        }
+        Refusal::ImageSmall(lines) => {
+            line_of(alloc, format!(in alloc; "refused image too small {lines}"))
+        }
+        Refusal::Busy(host) => line_with(alloc, "refused busy ", host_name(names, *host)),
+        Refusal::Dirty(host) => line_with(alloc, "refused dirty ", host_name(names, *host)),
+        Refusal::HasSuper(uuid) => {
+            line_of(alloc, format!(in alloc; "refused has superblock {uuid}"))
+        }
+        Refusal::Idle => line(alloc, "refused idle"),
+        Refusal::NoLine { line, lines } => {
+            line_of(alloc, format!(in alloc; "refused no line {line} {lines}"))
+        }
+        Refusal::NoFile(name) => {
+            line_with_name(alloc, "refused no file ", name.text().as_bytes(), "")
+        }
+        Refusal::CopyLimit(sum) => { line_of(alloc, format!(in alloc; "refused copy limit {sum}")) }
+        Refusal::BadListing(at) => { line_of(alloc, format!(in alloc; "refused bad listing {at}")) }
+        Refusal::MediaFault(at) => {
+            let at = at.0;
+            line_of(alloc, format!(in alloc; "refused media fault {at}"))
+        }
+    }
+}

@@ -1,4 +1,0 @@
-use Rattle.famfs.proofs.said.exists_line.Goals as goal
-
-pub returns : goal.returns
-returns c = rw (← c.kind-name.ensures) (c.line_of.ensures _ c.format.ensures.ok)
