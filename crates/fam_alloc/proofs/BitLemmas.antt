@@ -5,7 +5,7 @@ use Rattle.std.proofs.lemmas.Bool.{cases_lt}
 use Rattle.std.proofs.lemmas.Bool.Decides.{nat_tests}
 use Rattle.std.proofs.lemmas.Nat.{shr-shr, shr_split, pow_pos, mod_below, one_shl}
 use Rattle.std.proofs.lemmas.Nat.Bits.{bit_at_and, bit_at_or, bit_at_not, bit_at-lt, bit_at_ones, bit_at_ones_above, bit_at-trailing_zeros, bit_at_above}
-use Rattle.fam_alloc.specs.Next.{has_bit, is_within, IsNext}
+use Rattle.fam_alloc.specs.Next.{has_bit, is_between, IsNext}
 
 -- tests of a digit that is 0 or 1
 test_other : (a b : ℕ) → a < 2 → b ≡ 1 - a → eqb b 1 ≡ not (eqb a 1)
@@ -42,7 +42,7 @@ pub has_bit_all : (n i : ℕ) → 64 ≤ n → i < 64 → has_bit (2 ^ 64 - 1) i
 has_bit_all n i large below = has_bit_ones 64 i ∙ grind (arith, nat_tests)
 
 -- units within a span of a word
-pub within_word : (a b from to first i : ℕ) → a ≡ to - first → b ≡ from - first → (ltb i a && not (ltb i b)) ≡ is_within from to (first + i)
+pub within_word : (a b from to first i : ℕ) → a ≡ to - first → b ≡ from - first → (ltb i a && not (ltb i b)) ≡ is_between from to (first + i)
 within_word a b from to first i p q = grind (arith, nat_tests)
 
 -- a word without bits from `from` on

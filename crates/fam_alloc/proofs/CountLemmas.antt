@@ -1,6 +1,6 @@
 -- How many units of a run pass a test.
 use Rattle.std.proofs.Common.{◌≡◌, ℕ, zero, suc, Bool, true, false, ◌+◌, ◌-◌, ◌<◌, ◌≤◌, List, cond, ap, ◌∙◌, arith}
-use Rattle.fam_alloc.specs.Next.{is_used, IsNext}
+use Rattle.fam_alloc.specs.Next.{is_bit_set, IsNext}
 use Rattle.fam_alloc.specs.Taken.{taken_units, units_of_words}
 use Rattle.fam_alloc.proofs.MapLemmas.{passing, passing-suc}
 
@@ -43,6 +43,6 @@ run_goes_on f unit units start end below first second =
     grind (arith, first.low, first.high, first.here, second.low, second.high, second.here)
 
 -- the count of the list
-pub counted_units : (words : List ℕ) (units count : ℕ) → count ≡ passing (is_used words) units → count ≡ taken_units (units_of_words words units)
+pub counted_units : (words : List ℕ) (units count : ℕ) → count ≡ passing (is_bit_set words) units → count ≡ taken_units (units_of_words words units)
 unfolding units_of_words
 counted_units words units count h = h

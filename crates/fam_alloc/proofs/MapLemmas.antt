@@ -11,25 +11,25 @@ use Rattle.std.proofs.lemmas.Nat.Bits.{bit_at-zero}
 use Rattle.fam_base.specs.declared.extents.Extent.{Extent}
 use Rattle.fam_format.specs.Units.{units_in, first_overlap}
 use Rattle.fam_rules.proofs.RoomSame.{map_range_same}
-use Rattle.fam_alloc.specs.Next.{has_bit, is_used}
+use Rattle.fam_alloc.specs.Next.{has_bit, is_bit_set}
 use Rattle.fam_alloc.specs.Taken.{is_taken, holds, LieWithin, units_of_words}
 use Rattle.fam_alloc.proofs.OverlapLemmas.{holds-append, holds-range, or_false, turned, quotients}
 
 pub length-units_of_words : (words : List ℕ) (units : ℕ) → length (units_of_words words units) ≡ units
 unfolding units_of_words
-length-units_of_words words units = length-map-range_with_len (is_used words) 0 units
+length-units_of_words words units = length-map-range_with_len (is_bit_set words) 0 units
 
 -- a unit of the device
-pub taken_below : (words : List ℕ) (units u : ℕ) → u < units → is_taken (units_of_words words units) u ≡ is_used words u
+pub taken_below : (words : List ℕ) (units u : ℕ) → u < units → is_taken (units_of_words words units) u ≡ is_bit_set words u
 unfolding units_of_words
-taken_below words units u below = get_or-map-range_with_len (is_used words) 0 units u u false below (omega arith)
+taken_below words units u below = get_or-map-range_with_len (is_bit_set words) 0 units u u false below (omega arith)
 
 -- none past its end
 pub taken_past : (words : List ℕ) (units u : ℕ) → units ≤ u → is_taken (units_of_words words units) u ≡ false
 taken_past words units u past = get_or_past (units_of_words words units) u false (omega (arith, length-units_of_words words units))
 
 -- a bitmap of zeros has no used unit
-pub zeros_free : (n u : ℕ) → is_used (replicate n 0) u ≡ false
+pub zeros_free : (n u : ℕ) → is_bit_set (replicate n 0) u ≡ false
 zeros_free n u = ap (λ (w : ℕ). has_bit w (u % 64)) zero_at ∙ ap (λ (d : ℕ). let one : ℕ = 1 in d == one) (bit_at-zero (u % 64))
   where
     zero_at : ◌≡◌ {A = ℕ} (get_or (replicate n 0) (u / 64) 0) 0
@@ -110,8 +110,8 @@ pub units_below : (unit units : ℕ) (extents : List Extent) → 0 < unit → Li
 units_below unit units [] some h u e = absurd (false≢true e)
 units_below unit units (x ∷ xs) some h u e =
     elim (or_cases (holds (range_with_len (x.offset / unit) (x.length / unit)) u) (holds (units_in unit xs) u) (sym (holds-append (range_with_len (x.offset / unit) (x.length / unit)) (units_in unit xs) u) ∙ e)) [
-      | inl front ↦
-          let within = and_parts (leb (x.offset / unit) u) (ltb u (x.offset / unit + x.length / unit)) (sym (holds-range (x.offset / unit) (x.length / unit) u) ∙ front) in
+      | inl prefix ↦
+          let within = and_parts (leb (x.offset / unit) u) (ltb u (x.offset / unit + x.length / unit)) (sym (holds-range (x.offset / unit) (x.length / unit) u) ∙ prefix) in
           omega (arith, ltb-true u (x.offset / unit + x.length / unit) within.1, quotients x.offset x.length unit units some (h 0 x (omega arith)))
       | inr behind ↦ units_below unit units xs some (λ k d below. h (suc k) d (omega arith)) u behind
     ]

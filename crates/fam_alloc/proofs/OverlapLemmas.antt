@@ -10,7 +10,7 @@ use Rattle.std.proofs.Math.Nat.{mul-le-mul_left}
 use Rattle.fam_base.specs.declared.extents.Extent.{Extent}
 use Rattle.fam_base.specs.ExtentLists.{no_extent}
 use Rattle.fam_format.specs.Units.{units_in, first_overlap}
-use Rattle.fam_alloc.specs.Next.{is_within, IsNext}
+use Rattle.fam_alloc.specs.Next.{is_between, IsNext}
 use Rattle.fam_alloc.specs.Taken.{LieWithin, holds}
 
 or_assoc : (x y z : Bool) → (x || (y || z)) ≡ ((x || y) || z)
@@ -41,11 +41,11 @@ pub run_ends : (unit units : ℕ) (extents : List Extent) (i : ℕ) → 0 < unit
 run_ends unit units extents i some h = quotients _ _ unit units some (extent_ends unit units extents i h)
 
 -- a unit of a run of units
-pub holds-range : (a n u : ℕ) → holds (range_with_len a n) u ≡ is_within a (a + n) u
+pub holds-range : (a n u : ℕ) → holds (range_with_len a n) u ≡ is_between a (a + n) u
 holds-range a zero u = grind (arith, nat_tests)
 holds-range a (suc n) u = ap (λ (b : Bool). (a == u) || b) (holds-range (a + 1) n u) ∙ one_more a n u
   where
-    one_more : (a n u : ℕ) → ((a == u) || is_within (a + 1) (a + 1 + n) u) ≡ is_within a (a + suc n) u
+    one_more : (a n u : ℕ) → ((a == u) || is_between (a + 1) (a + 1 + n) u) ≡ is_between a (a + suc n) u
     one_more a n u = grind (arith, nat_tests)
 
 pub holds-append : (us vs : List ℕ) (u : ℕ) → holds (us ++ vs) u ≡ (holds us u || holds vs u)
@@ -70,9 +70,9 @@ pub units_rest : (unit : ℕ) (extents : List Extent) (i : ℕ) → i < length e
 units_rest unit extents i below = ap (units_in unit) (drop_more extents i no_extent below)
 
 -- the units of a run and of the extents before it
-pub holds_more : (unit : ℕ) (extents : List Extent) (i start end : ℕ) → i < length extents → start ≡ (get_or extents i no_extent).offset / unit → end ≡ start + (get_or extents i no_extent).length / unit → (u : ℕ) → (holds (units_in unit (take i extents)) u || is_within start end u) ≡ holds (units_in unit (take (i + 1) extents)) u
+pub holds_more : (unit : ℕ) (extents : List Extent) (i start end : ℕ) → i < length extents → start ≡ (get_or extents i no_extent).offset / unit → end ≡ start + (get_or extents i no_extent).length / unit → (u : ℕ) → (holds (units_in unit (take i extents)) u || is_between start end u) ≡ holds (units_in unit (take (i + 1) extents)) u
 holds_more unit extents i start end below s e u =
-    let within : is_within start end u ≡ holds (units_at unit extents i) u = rw (e, s) (sym (holds-range _ _ u)) in
+    let within : is_between start end u ≡ holds (units_at unit extents i) u = rw (e, s) (sym (holds-range _ _ u)) in
     ap (λ (b : Bool). holds (units_in unit (take i extents)) u || b) within
     ∙ sym (holds-append (units_in unit (take i extents)) (units_at unit extents i) u)
     ∙ ap (λ (us : List ℕ). holds us u) (sym (units_more unit extents i below))
@@ -133,19 +133,19 @@ passed_at used unit extents i start end first below s e h clear =
     let n : ℕ = (get_or extents i no_extent).length / unit in
     let a : ℕ = (get_or extents i no_extent).offset / unit in
     let rest : List ℕ = units_in unit (drop (i + 1) extents) in
-    let front : ℕ → Bool = λ u. used u || holds (units_in unit (take i extents)) u in
-    overlap_same (λ u. used u || holds (units_in unit (take (i + 1) extents)) u) (λ u. front u || holds (units_at unit extents i) u) rest
+    let prefix : ℕ → Bool = λ u. used u || holds (units_in unit (take i extents)) u in
+    overlap_same (λ u. used u || holds (units_in unit (take (i + 1) extents)) u) (λ u. prefix u || holds (units_at unit extents i) u) rest
     (λ u. ap (λ (us : List ℕ). used u || holds us u) (units_more unit extents i below)
     ∙ ap (λ (b : Bool). used u || b) (holds-append (units_in unit (take i extents)) (units_at unit extents i) u)
     ∙ or_assoc (used u) (holds (units_in unit (take i extents)) u) (holds (units_at unit extents i) u))
-    ∙ sym (overlap_passed front a n rest (λ u above under. h.before u (omega arith) (omega arith)))
-    ∙ ap (first_overlap front) (sym (units_rest unit extents i below))
+    ∙ sym (overlap_passed prefix a n rest (λ u above under. h.before u (omega arith) (omega arith)))
+    ∙ ap (first_overlap prefix) (sym (units_rest unit extents i below))
 
 -- marks of one extent more
-pub marked_more : (old : ℕ → Bool) (now : Bool) (unit : ℕ) (extents : List Extent) (i start end u : ℕ) → i < length extents → start ≡ (get_or extents i no_extent).offset / unit → end ≡ start + (get_or extents i no_extent).length / unit → now ≡ (old u || holds (units_in unit (take i extents)) u) → (now || is_within start end u) ≡ (old u || holds (units_in unit (take (i + 1) extents)) u)
+pub marked_more : (old : ℕ → Bool) (now : Bool) (unit : ℕ) (extents : List Extent) (i start end u : ℕ) → i < length extents → start ≡ (get_or extents i no_extent).offset / unit → end ≡ start + (get_or extents i no_extent).length / unit → now ≡ (old u || holds (units_in unit (take i extents)) u) → (now || is_between start end u) ≡ (old u || holds (units_in unit (take (i + 1) extents)) u)
 marked_more old now unit extents i start end u below s e h =
-    ap (λ (b : Bool). b || is_within start end u) h
-    ∙ sym (or_assoc (old u) (holds (units_in unit (take i extents)) u) (is_within start end u))
+    ap (λ (b : Bool). b || is_between start end u) h
+    ∙ sym (or_assoc (old u) (holds (units_in unit (take i extents)) u) (is_between start end u))
     ∙ ap (λ (b : Bool). old u || b) (holds_more unit extents i start end below s e u)
 
 -- the count of one extent more

@@ -30,8 +30,8 @@ enough_given : (used : ℕ → Bool) (width k n buckets seq turns : ℕ) (starts
 enough_given used width k n buckets seq turns starts within is count =
     let os : List (Option ℕ) = offers used width k buckets seq in
     let rest : List ℕ = given (drop turns os) in
-    let front : take turns os ≡ offers_of used width k buckets seq turns = take-map-range_with_len (offer used width k buckets seq) 0 buckets turns within in
-    let whole : given os ≡ starts ++ rest = ap given (sym (take-append-drop turns os)) ∙ given-append (take turns os) (drop turns os) ∙ ap (λ (xs : List (Option ℕ)). given xs ++ rest) front ∙ ap (λ (xs : List ℕ). xs ++ rest) (sym is) in
+    let prefix : take turns os ≡ offers_of used width k buckets seq turns = take-map-range_with_len (offer used width k buckets seq) 0 buckets turns within in
+    let whole : given os ≡ starts ++ rest = ap given (sym (take-append-drop turns os)) ∙ given-append (take turns os) (drop turns os) ∙ ap (λ (xs : List (Option ℕ)). given xs ++ rest) prefix ∙ ap (λ (xs : List ℕ). xs ++ rest) (sym is) in
     let long : n ≤ length (given os) = omega (arith, ap (λ (xs : List ℕ). length xs) whole ∙ length-append starts rest) in
     ap Some (sym (ap (λ (xs : List ℕ). take n xs) whole ∙ take_at starts rest n count))
     ∙ sym (cond-true (leb n (length (given os))) (Some (take n (given os))) None (le-leb n (length (given os)) long))

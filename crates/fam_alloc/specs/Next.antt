@@ -6,12 +6,12 @@ abbrev pub has_bit : ℕ → ℕ → Bool
 has_bit word i = word / 2 ^ i % 2 == 1
 
 -- bit u of a bitmap
-abbrev pub is_used : List ℕ → ℕ → Bool
-is_used words u = has_bit (slice_index words (u / 64)) (u % 64)
+abbrev pub is_bit_set : List ℕ → ℕ → Bool
+is_bit_set words u = has_bit (slice_index words (u / 64)) (u % 64)
 
 -- u is from `from` on and below `to`
-abbrev pub is_within : ℕ → ℕ → ℕ → Bool
-is_within from to u = nat_le from u && nat_lt u to
+abbrev pub is_between : ℕ → ℕ → ℕ → Bool
+is_between from to u = nat_le from u && nat_lt u to
 
 -- the first number from `from` on at which the test gives `state`, or `to` where there is none before it
 pub record IsNext (test : ℕ → Bool) (state : Bool) (from to next : ℕ) : Type 0 where

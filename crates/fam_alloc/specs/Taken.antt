@@ -3,7 +3,7 @@ use Rattle.std.specs.Prelude.{ℕ, Bool, false, ◌≡◌, ◌==◌, ◌+◌, �
 use Rattle.std.specs.List.{All, list_any, range_with_len}
 use Rattle.fam_base.specs.declared.extents.Extent.{Extent}
 use Rattle.fam_alloc.specs.declared.bits.TheConstants.{MOST_UNITS}
-use Rattle.fam_alloc.specs.Next.{is_used}
+use Rattle.fam_alloc.specs.Next.{is_bit_set}
 
 -- unit u is used. No unit past the last one is
 abbrev pub is_taken : List Bool → ℕ → Bool
@@ -23,7 +23,7 @@ LieWithin unit units extents = All (λ x. x.offset + x.length ≤ units * unit) 
 
 -- a bitmap of so many units as such a list
 unfoldable pub units_of_words : List ℕ → ℕ → List Bool
-units_of_words words units = map (is_used words) (range_with_len 0 units)
+units_of_words words units = map (is_bit_set words) (range_with_len 0 units)
 
 -- how the fields of an `AllocMap` hang together
 pub record IsMap (words : List ℕ) (room units used : ℕ) : Type 0 where

@@ -1,7 +1,7 @@
 //! A bitmap of units: bit `u % 64` of word `u / 64` is unit `u`.
 
 ghost use Rattle.std.specs.Prelude.{◌≡◌, ℕ, true, not, ◌+◌, ◌*◌, ◌<◌, ◌≤◌, ◌&&◌, ◌||◌, nat_lt, replicate, vec_len, IfOk};
-ghost use Rattle.fam_alloc.specs.Next.{has_bit, is_used, is_within, IsNext};
+ghost use Rattle.fam_alloc.specs.Next.{has_bit, is_bit_set, is_between, IsNext};
 
 use fam_base::OutOfMemory;
 use std::alloc::Global;
@@ -55,7 +55,7 @@ pub fn next(words: &Vec<u64>, used: bool, from: u64, to: u64) -> u64
     requires order { from ≤ to }
     requires within { to ≤ 64 * vec_len words.now }
     requires few { to ≤ MOST_UNITS }
-    ensures { IsNext (is_used words.now.items) used from to result }
+    ensures { IsNext (is_bit_set words.now.items) used from to result }
 {
     let mut unit = from;
     while unit < to {
@@ -83,7 +83,7 @@ fn low_ones(count: u64) -> u64
 /// The bits of a word that stand for units from `from` on and below `to`.
 fn span(word: u64, from: u64, to: u64) -> u64
     requires { 64 * word ≤ MOST_UNITS }
-    ensures { (i : ℕ) → i < 64 → has_bit result i ≡ is_within from to (64 * word + i) }
+    ensures { (i : ℕ) → i < 64 → has_bit result i ≡ is_between from to (64 * word + i) }
 {
     let first = 64 * word;
     low_ones(to.saturating_sub(first)) & flipped(low_ones(from.saturating_sub(first)))
@@ -95,7 +95,7 @@ pub fn mark(words: &mut Vec<u64>, from: u64, to: u64)
     requires within { to ≤ 64 * vec_len words.old }
     requires few { to ≤ MOST_UNITS }
     ensures marked { (u : ℕ) →
-        is_used words.new.items u ≡ (is_used words.old.items u || is_within from to u) }
+        is_bit_set words.new.items u ≡ (is_bit_set words.old.items u || is_between from to u) }
     ensures len { vec_len words.new ≡ vec_len words.old }
 {
     for word in from / 64..to.div_ceil(64) {

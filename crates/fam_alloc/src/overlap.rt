@@ -5,7 +5,7 @@ ghost use Rattle.std.specs.List.{list_any};
 ghost use Rattle.fam_base.specs.ExtentLists.{no_extent};
 ghost use Rattle.fam_format.specs.Units.{units_in, first_overlap};
 ghost use Rattle.fam_rules.specs.Reports.{is_overlap};
-ghost use Rattle.fam_alloc.specs.Next.{is_used, is_within, IsNext};
+ghost use Rattle.fam_alloc.specs.Next.{is_bit_set, is_between, IsNext};
 ghost use Rattle.fam_alloc.specs.Taken.{LieWithin, holds};
 
 use crate::bits::{MOST_UNITS, mark, next};
@@ -51,7 +51,7 @@ fn run_at(extents: &Extents, unit: u64, units: u64, i: u64) -> Run
 /// The first unit from `from` on and below `to` that stands in the run, or `to`.
 fn first_in(run: Run, from: u64, to: u64) -> u64
     requires { from ≤ to }
-    ensures { IsNext (is_within run.start run.end) true from to result }
+    ensures { IsNext (is_between run.start run.end) true from to result }
 {
     let first = from.max(run.start);
     if first < to.min(run.end) { first } else { to }
@@ -89,7 +89,7 @@ fn first_taken(
     requires count { count ≤ length extents.now }
     requires order { run.start ≤ run.end }
     requires end { run.end ≤ units }
-    ensures { IsNext (λ u. is_used words.now.items u || holds (units_in unit (take count extents.now)) u)
+    ensures { IsNext (λ u. is_bit_set words.now.items u || holds (units_in unit (take count extents.now)) u)
         true run.start run.end result }
 {
     let end = next(words, true, run.start, run.end);
@@ -106,7 +106,7 @@ pub fn first_overlap(words: &Vec<u64>, extents: &Extents, unit: u64, units: u64)
     requires within { LieWithin unit units extents.now }
     requires few { units ≤ MOST_UNITS }
     requires covered { units ≤ 64 * vec_len words.now }
-    ensures { result ≡ first_overlap (is_used words.now.items) (units_in unit extents.now) }
+    ensures { result ≡ first_overlap (is_bit_set words.now.items) (units_in unit extents.now) }
 {
     for i in 0..extents.len() {
         let run = run_at(extents, unit, units, i);
@@ -125,8 +125,8 @@ pub fn mark_all(words: &mut Vec<u64>, extents: &Extents, unit: u64, units: u64) 
     requires few { units ≤ MOST_UNITS }
     requires covered { units ≤ 64 * vec_len words.old }
     ensures count { result ≡ length (units_in unit extents.now) }
-    ensures marked { (u : ℕ) → is_used words.new.items u
-        ≡ (is_used words.old.items u || holds (units_in unit extents.now) u) }
+    ensures marked { (u : ℕ) → is_bit_set words.new.items u
+        ≡ (is_bit_set words.old.items u || holds (units_in unit extents.now) u) }
     ensures len { vec_len words.new ≡ vec_len words.old }
 {
     let mut count = 0;
@@ -146,13 +146,13 @@ pub fn mark_free(words: &mut Vec<u64>, extents: &Extents, unit: u64, units: u64)
     requires covered { units ≤ 64 * vec_len words.old }
 
     ensures count { IfOk result (λ count. count ≡ length (units_in unit extents.now)) }
-    ensures marked { OnOk result ((u : ℕ) → is_used words.new.items u
-        ≡ (is_used words.old.items u || holds (units_in unit extents.now) u)) }
+    ensures marked { OnOk result ((u : ℕ) → is_bit_set words.new.items u
+        ≡ (is_bit_set words.old.items u || holds (units_in unit extents.now) u)) }
     ensures fits { OnOk result
-        (first_overlap (is_used words.old.items) (units_in unit extents.now) ≡ None) }
+        (first_overlap (is_bit_set words.old.items) (units_in unit extents.now) ≡ None) }
 
     ensures overlap { IfErr result (λ taken.
-        first_overlap (is_used words.old.items) (units_in unit extents.now) ≡ Some taken) }
+        first_overlap (is_bit_set words.old.items) (units_in unit extents.now) ≡ Some taken) }
     ensures err { OnErr result (words.new.items ≡ words.old.items) }
 
     ensures len { vec_len words.new ≡ vec_len words.old }

@@ -2,7 +2,7 @@
 
 ghost use Rattle.std.specs.Prelude.{◌≡◌, ◌+◌, ◌*◌, ◌/◌, ◌<◌, ◌≤◌, length, vec_len};
 ghost use Rattle.fam_rules.specs.Room.{room, offer, strips};
-ghost use Rattle.fam_alloc.specs.Next.{is_used};
+ghost use Rattle.fam_alloc.specs.Next.{is_bit_set};
 
 use crate::bits::{MOST_UNITS, next};
 use crate::starts::Starts;
@@ -14,7 +14,7 @@ pub fn lowest_run(words: &Vec<u64>, from: u64, to: u64, count: u64) -> Option<u6
     requires within { to ≤ 64 * vec_len words.now }
     requires few { to ≤ MOST_UNITS }
     requires some { 0 < count }
-    ensures { result ≡ room (is_used words.now.items) from to count }
+    ensures { result ≡ room (is_bit_set words.now.items) from to count }
 {
     let mut start = next(words, false, from, to);
     while start < to {
@@ -41,7 +41,7 @@ fn offer(
     requires few { units ≤ MOST_UNITS }
     requires buckets { nbuckets ≤ 64 }
     requires some { 0 < count }
-    ensures { result ≡ offer (is_used words.now.items) (units / nbuckets) count nbuckets seq turn }
+    ensures { result ≡ offer (is_bit_set words.now.items) (units / nbuckets) count nbuckets seq turn }
 {
     let width = units / nbuckets;
     let bucket = (seq % nbuckets + turn) % nbuckets;
@@ -63,7 +63,7 @@ pub fn first_strips(
     requires some { 0 < count }
     requires strip { 0 < nstrips }
     requires strips { nstrips ≤ 16 }
-    ensures { result ≡ strips (is_used words.now.items) units count nstrips nbuckets seq }
+    ensures { result ≡ strips (is_bit_set words.now.items) units count nstrips nbuckets seq }
 {
     let mut starts = Starts::new();
     for turn in 0..nbuckets {

@@ -57,29 +57,29 @@ module _ (byte : ℕ) where
   coded_form : is_plain byte ≡ false → escaped_byte byte ≡ 0x5c ∷ 0x78 ∷ hex_digit (byte / 16) ∷ hex_digit (byte % 16) ∷ []
   coded_form plain = ap (λ (p : Bool). cond p (byte ∷ []) (0x5c ∷ 0x78 ∷ hex_digit (byte / 16) ∷ hex_digit (byte % 16) ∷ [])) plain
 
-  plain_front : (rest : List ℕ) → is_plain byte ≡ true → escaped_byte byte ++ rest ≡ byte ∷ rest
-  plain_front rest plain = ap (λ (l : List ℕ). l ++ rest) (plain_form plain)
+  plain_prefix : (rest : List ℕ) → is_plain byte ≡ true → escaped_byte byte ++ rest ≡ byte ∷ rest
+  plain_prefix rest plain = ap (λ (l : List ℕ). l ++ rest) (plain_form plain)
 
-  coded_front : (rest : List ℕ) → is_plain byte ≡ false → escaped_byte byte ++ rest ≡ 0x5c ∷ 0x78 ∷ hex_digit (byte / 16) ∷ hex_digit (byte % 16) ∷ rest
-  coded_front rest plain = ap (λ (l : List ℕ). l ++ rest) (coded_form plain)
+  coded_prefix : (rest : List ℕ) → is_plain byte ≡ false → escaped_byte byte ++ rest ≡ 0x5c ∷ 0x78 ∷ hex_digit (byte / 16) ∷ hex_digit (byte % 16) ∷ rest
+  coded_prefix rest plain = ap (λ (l : List ℕ). l ++ rest) (coded_form plain)
 
 -- what follows from one printed form of two names
-pub record SameFront (a b : ℕ) (x y : List ℕ) : Type 0 where
+pub record SamePrefix (a b : ℕ) (x y : List ℕ) : Type 0 where
   pub byte : a ≡ b
   pub rest : x ≡ y
 
 -- a byte and what follows it are read back
-same_front : (a b : ℕ) (x y : List ℕ) → a < 256 → b < 256 → escaped_byte a ++ x ≡ escaped_byte b ++ y → SameFront a b x y
-same_front a b x y below_a below_b same =
+same_prefix : (a b : ℕ) (x y : List ℕ) → a < 256 → b < 256 → escaped_byte a ++ x ≡ escaped_byte b ++ y → SamePrefix a b x y
+same_prefix a b x y below_a below_b same =
     elim (cases_Bool (is_plain a)) [
       | inl plain_a ↦ elim (cases_Bool (is_plain b)) [
-        | inl plain_b ↦ (let e = sym (plain_front a x plain_a) ∙ same ∙ plain_front b y plain_b in record { byte = cc; rest = cc })
-        | inr coded_b ↦ (let e = sym (plain_front a x plain_a) ∙ same ∙ coded_front b y coded_b in absurd (no_backslash a plain_a (cc)))
+        | inl plain_b ↦ (let e = sym (plain_prefix a x plain_a) ∙ same ∙ plain_prefix b y plain_b in record { byte = cc; rest = cc })
+        | inr coded_b ↦ (let e = sym (plain_prefix a x plain_a) ∙ same ∙ coded_prefix b y coded_b in absurd (no_backslash a plain_a (cc)))
       ]
       | inr coded_a ↦ elim (cases_Bool (is_plain b)) [
-        | inl plain_b ↦ (let e = sym (coded_front a x coded_a) ∙ same ∙ plain_front b y plain_b in absurd (no_backslash b plain_b (cc)))
+        | inl plain_b ↦ (let e = sym (coded_prefix a x coded_a) ∙ same ∙ plain_prefix b y plain_b in absurd (no_backslash b plain_b (cc)))
         | inr coded_b ↦ (
-            let e = sym (coded_front a x coded_a) ∙ same ∙ coded_front b y coded_b in
+            let e = sym (coded_prefix a x coded_a) ∙ same ∙ coded_prefix b y coded_b in
             let high : a / 16 ≡ b / 16 = same_digit _ _ (high_digit a below_a) (high_digit b below_b) (cc) in
             let low : a % 16 ≡ b % 16 = same_digit _ _ (low_digit a) (low_digit b) (cc) in
             record { byte = same_halves a b high low; rest = cc })
@@ -87,23 +87,23 @@ same_front a b x y below_a below_b same =
     ]
 
 -- something is printed for each byte
-some_front : (byte : ℕ) (rest : List ℕ) → 0 < length (escaped_byte byte ++ rest)
-some_front byte rest =
+some_prefix : (byte : ℕ) (rest : List ℕ) → 0 < length (escaped_byte byte ++ rest)
+some_prefix byte rest =
     elim (cases_Bool (is_plain byte)) [
-      | inl plain ↦ rw (plain_front byte rest plain) (omega arith)
-      | inr code ↦ rw (coded_front byte rest code) (omega arith)
+      | inl plain ↦ rw (plain_prefix byte rest plain) (omega arith)
+      | inr code ↦ rw (coded_prefix byte rest code) (omega arith)
     ]
 
 -- no two names have one printed form
 pub escaped_once : (a b : List ℕ) → AreBytes a → AreBytes b → escaped a ≡ escaped b → a ≡ b
 unfolding escaped
 escaped_once [] [] below_a below_b same = refl
-escaped_once [] (y ∷ b) below_a below_b same = absurd (omega (arith, some_front y (flat_map escaped_byte b), ap length same))
-escaped_once (x ∷ a) [] below_a below_b same = absurd (omega (arith, some_front x (flat_map escaped_byte a), ap length same))
+escaped_once [] (y ∷ b) below_a below_b same = absurd (omega (arith, some_prefix y (flat_map escaped_byte b), ap length same))
+escaped_once (x ∷ a) [] below_a below_b same = absurd (omega (arith, some_prefix x (flat_map escaped_byte a), ap length same))
 escaped_once (x ∷ a) (y ∷ b) below_a below_b same =
-    let front = same_front x y (flat_map escaped_byte a) (flat_map escaped_byte b) (below_a 0 0 (omega arith)) (below_b 0 0 (omega arith)) same in
-    let rest : a ≡ b = escaped_once a b (λ k d h. below_a (suc k) d (omega arith)) (λ k d h. below_b (suc k) d (omega arith)) front.rest in
-    cc (front.byte, rest)
+    let prefix = same_prefix x y (flat_map escaped_byte a) (flat_map escaped_byte b) (below_a 0 0 (omega arith)) (below_b 0 0 (omega arith)) same in
+    let rest : a ≡ b = escaped_once a b (λ k d h. below_a (suc k) d (omega arith)) (λ k d h. below_b (suc k) d (omega arith)) prefix.rest in
+    cc (prefix.byte, rest)
 
 -- ---- what is printed can be seen
 

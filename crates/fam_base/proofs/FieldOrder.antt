@@ -58,13 +58,13 @@ spelled (x ∷ xs) (y ∷ ys) n m same bx by_ =
     ∙ ap (λ (r : Ordering). ordering_then r (path_cmp xs ys)) (digit n m x y (bx 0) (by_ 0))
     ∙ then_then (nat_cmp n m) (nat_cmp x y) (path_cmp xs ys)
 
--- fronts of one length decide first
-pub fronts : (xs ys rs ss : List ℕ) → length xs ≡ length ys → path_cmp (xs ++ rs) (ys ++ ss) ≡ ordering_then (path_cmp xs ys) (path_cmp rs ss)
-fronts [] [] rs ss same = refl
-fronts [] (y ∷ ys) rs ss same = absurd cc
-fronts (x ∷ xs) [] rs ss same = absurd cc
-fronts (x ∷ xs) (y ∷ ys) rs ss same =
-    ap (ordering_then (nat_cmp x y)) (fronts xs ys rs ss (omega (arith, same))) ∙ sym (then_then (nat_cmp x y) (path_cmp xs ys) (path_cmp rs ss))
+-- prefixes of one length decide first
+pub prefixes : (xs ys rs ss : List ℕ) → length xs ≡ length ys → path_cmp (xs ++ rs) (ys ++ ss) ≡ ordering_then (path_cmp xs ys) (path_cmp rs ss)
+prefixes [] [] rs ss same = refl
+prefixes [] (y ∷ ys) rs ss same = absurd cc
+prefixes (x ∷ xs) [] rs ss same = absurd cc
+prefixes (x ∷ xs) (y ∷ ys) rs ss same =
+    ap (ordering_then (nat_cmp x y)) (prefixes xs ys rs ss (omega (arith, same))) ∙ sym (then_then (nat_cmp x y) (path_cmp xs ys) (path_cmp rs ss))
 
 drop_bytes : (n : ℕ) (xs : List ℕ) → AreBytes xs → AreBytes (drop n xs)
 drop_bytes n xs b i = subst (λ (x : ℕ). x < 256) (sym (get_or-drop n xs i 0)) (b (n + i))
@@ -85,15 +85,15 @@ range_count xs i count below =
 -- eight bytes at a place decide, and then those behind them
 pub eight_first : (a b : List ℕ) (i : ℕ) → length a ≡ 168 → length b ≡ 168 → i < 21 → AreBytes a → AreBytes b → path_cmp (drop (8 * i) a) (drop (8 * i) b) ≡ ordering_then (nat_cmp (big 0 (slice_range a (8 * i) (8 * i + 8))) (big 0 (slice_range b (8 * i) (8 * i + 8)))) (path_cmp (drop (8 * (i + 1)) a) (drop (8 * (i + 1)) b))
 eight_first a b i la lb below ba bb =
-    let front = slice_range a (8 * i) (8 * i + 8) in
+    let prefix = slice_range a (8 * i) (8 * i + 8) in
     let other = slice_range b (8 * i) (8 * i + 8) in
     let next : 8 * i + 8 ≡ 8 * (i + 1) = omega arith in
-    let split_a : drop (8 * i) a ≡ front ++ drop (8 * (i + 1)) a = drop_split a (8 * i) (8 * i + 8) (omega arith) ∙ ap (λ (n : ℕ). front ++ drop n a) next in
+    let split_a : drop (8 * i) a ≡ prefix ++ drop (8 * (i + 1)) a = drop_split a (8 * i) (8 * i + 8) (omega arith) ∙ ap (λ (n : ℕ). prefix ++ drop n a) next in
     let split_b : drop (8 * i) b ≡ other ++ drop (8 * (i + 1)) b = drop_split b (8 * i) (8 * i + 8) (omega arith) ∙ ap (λ (n : ℕ). other ++ drop n b) next in
-    let same : length front ≡ length other = range_count a i la below ∙ sym (range_count b i lb below) in
+    let same : length prefix ≡ length other = range_count a i la below ∙ sym (range_count b i lb below) in
     ap₂ path_cmp split_a split_b
-    ∙ fronts front other (drop (8 * (i + 1)) a) (drop (8 * (i + 1)) b) same
-    ∙ ap (λ (r : Ordering). ordering_then r (path_cmp (drop (8 * (i + 1)) a) (drop (8 * (i + 1)) b))) (sym (spelled front other 0 0 same (range_bytes (8 * i) (8 * i + 8) a ba) (range_bytes (8 * i) (8 * i + 8) b bb)))
+    ∙ prefixes prefix other (drop (8 * (i + 1)) a) (drop (8 * (i + 1)) b) same
+    ∙ ap (λ (r : Ordering). ordering_then r (path_cmp (drop (8 * (i + 1)) a) (drop (8 * (i + 1)) b))) (sym (spelled prefix other 0 0 same (range_bytes (8 * i) (8 * i + 8) a ba) (range_bytes (8 * i) (8 * i + 8) b bb)))
 
 -- two words that are one go on
 pub goes_on : (a b : List ℕ) (i x y : ℕ) → length a ≡ 168 → length b ≡ 168 → i < 21 → AreBytes a → AreBytes b → x ≡ big 0 (slice_range a (8 * i) (8 * i + 8)) → y ≡ big 0 (slice_range b (8 * i) (8 * i + 8)) → x ≡ y → path_cmp (drop (8 * i) a) (drop (8 * i) b) ≡ path_cmp (drop (8 * (i + 1)) a) (drop (8 * (i + 1)) b)

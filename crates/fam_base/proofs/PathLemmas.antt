@@ -58,8 +58,8 @@ name_some [] h = cc
 name_some (b ∷ bytes) h = omega arith
 
 -- the bytes before a slash of a path are a path
-pub front_is_path : (bytes : List ℕ) (i : ℕ) → is_path bytes ≡ true → i < length bytes → get_or bytes i 0 ≡ 47 → is_path (take i bytes) ≡ true
-front_is_path bytes i path below slash =
+pub prefix_is_path : (bytes : List ℕ) (i : ℕ) → is_path bytes ≡ true → i < length bytes → get_or bytes i 0 ≡ 47 → is_path (take i bytes) ≡ true
+prefix_is_path bytes i path below slash =
     let p = parts_of_path bytes path in
     let e : take i bytes ++ 47 ∷ drop (i + 1) bytes ≡ bytes = cut_at bytes i below slash in
     let nul : (has_no_nul (take i bytes) && has_no_nul (47 ∷ drop (i + 1) bytes)) ≡ true = sym (list_all-append (λ b. nat_lt 0 b && nat_lt b 256) (take i bytes) (47 ∷ drop (i + 1) bytes)) ∙ ap has_no_nul e ∙ p.no_nul in
@@ -169,8 +169,8 @@ parent_is_path bytes parent path is_parent =
     elim (seek_back bytes (length bytes) (omega arith) (λ k from within slash. omega arith)) [
       | inl last ↦ (
           let e = sym (parent_at bytes last.0 last.1.within last.1.slash last.1.after) ∙ is_parent in
-          let front : take last.0 bytes ≡ parent = cc in
-          subst (λ (l : List ℕ). is_path l ≡ true) front (front_is_path bytes last.0 path last.1.within last.1.slash))
+          let prefix : take last.0 bytes ≡ parent = cc in
+          subst (λ (l : List ℕ). is_path l ≡ true) prefix (prefix_is_path bytes last.0 path last.1.within last.1.slash))
       | inr none ↦ (let e = sym (no_parent bytes none) ∙ is_parent in cc)
     ]
 
@@ -182,18 +182,18 @@ no_slash_at name none k within slash = false≢true (sym none ∙ list_any_at is
 pub parent_of_name : (name : List ℕ) → list_any is_slash name ≡ false → parent_of name ≡ None
 parent_of_name name none = no_parent name (no_slash_at name none)
 
-after_front : (front name : List ℕ) (k : ℕ) → length front + 1 ≤ k → get_or (front ++ 47 ∷ name) k 0 ≡ get_or name (k - length front - 1) 0
-after_front front name k from =
-    let e : k - length front ≡ suc (k - length front - 1) = omega arith in
-    get_or-append_right front (47 ∷ name) (length front) k 0 refl (omega arith) ∙ ap (λ (j : ℕ). get_or (47 ∷ name) j 0) e
+after_prefix : (prefix name : List ℕ) (k : ℕ) → length prefix + 1 ≤ k → get_or (prefix ++ 47 ∷ name) k 0 ≡ get_or name (k - length prefix - 1) 0
+after_prefix prefix name k from =
+    let e : k - length prefix ≡ suc (k - length prefix - 1) = omega arith in
+    get_or-append_right prefix (47 ∷ name) (length prefix) k 0 refl (omega arith) ∙ ap (λ (j : ℕ). get_or (47 ∷ name) j 0) e
 
--- the parent of `front/name` is `front`
-pub parent_of_front : (front name : List ℕ) → list_any is_slash name ≡ false → parent_of (front ++ 47 ∷ name) ≡ Some front
-parent_of_front front name none =
-    let long = length-append front (47 ∷ name) in
-    parent_at (front ++ 47 ∷ name) (length front) (omega arith) (get_or_at front 47 name 0 (length front) refl)
-    (λ k from within slash. no_slash_at name none (k - length front - 1) (omega arith) (sym (after_front front name k from) ∙ slash))
-    ∙ ap Some (take-append_seam front (47 ∷ name))
+-- the parent of `prefix/name` is `prefix`
+pub parent_of_prefix : (prefix name : List ℕ) → list_any is_slash name ≡ false → parent_of (prefix ++ 47 ∷ name) ≡ Some prefix
+parent_of_prefix prefix name none =
+    let long = length-append prefix (47 ∷ name) in
+    parent_at (prefix ++ 47 ∷ name) (length prefix) (omega arith) (get_or_at prefix 47 name 0 (length prefix) refl)
+    (λ k from within slash. no_slash_at name none (k - length prefix - 1) (omega arith) (sym (after_prefix prefix name k from) ∙ slash))
+    ∙ ap Some (take-append_seam prefix (47 ∷ name))
 
 -- a path has no zero
 pub no_zero : (xs : List ℕ) → has_no_nul xs ≡ true → HasNoZero xs

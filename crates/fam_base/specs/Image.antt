@@ -42,7 +42,7 @@ masked mask new old = map (masked_word mask new old) (range_with_len 0 8)
 abbrev pub with_masked : ℕ → List ℕ → ℕ → Image → Image
 with_masked line words mask image = slice_set image line (masked mask words (line_at image line))
 
--- an image that is told has eight words in each line
+-- an image that is modelled has eight words in each line
 abbrev pub IsNormal : Option Image → Type 0
 IsNormal None = ⊤
 IsNormal (Some image) = map eight image ≡ image

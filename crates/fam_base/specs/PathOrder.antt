@@ -4,7 +4,7 @@ use Rattle.std.specs.Ordering.{nat_cmp}
 use Rattle.std.specs.Cmp.Lexicographic.{slice_cmp, pointwise}
 use Rattle.std.specs.declared.cmp.Ordering.{Ordering}
 
--- byte by byte; a front comes before what goes on
+-- byte by byte; a prefix comes before what goes on
 abbrev pub path_cmp : List ℕ → List ℕ → Ordering
 path_cmp x y = slice_cmp nat_cmp x y
 

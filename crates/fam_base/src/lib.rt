@@ -31,6 +31,6 @@ pub use image::{line_is_written, mask_of_none_or_all, writes_keep_the_form};
 pub use line::{Line, LineNo, Mask, OutOfMemory};
 pub use mask::masked_line;
 pub use name_text::NameText;
-pub use path::{BadPath, PATH_LIMIT, Path, parent_is_the_front};
+pub use path::{BadPath, PATH_LIMIT, Path, parent_is_the_prefix};
 pub use shared::{SharedBytes, SharedEntries};
 pub use units::{strip_units, strips_are_small, units_hold_the_size, units_of};

@@ -131,10 +131,10 @@ impl Path {
     }
 }
 
-/// The parent of `front/name` is `front`, a name alone has none, and a path's parent is a path.
-pub fn parent_is_the_front()
-    ensures front { (front name : List ℕ) → list_any is_slash name ≡ false
-        → parent_of (front ++ slash ∷ name) ≡ Some front }
+/// The parent of `prefix/name` is `prefix`, a name alone has none, and a path's parent is a path.
+pub fn parent_is_the_prefix()
+    ensures prefix { (prefix name : List ℕ) → list_any is_slash name ≡ false
+        → parent_of (prefix ++ slash ∷ name) ≡ Some prefix }
     ensures root { (name : List ℕ) → list_any is_slash name ≡ false → parent_of name ≡ None }
     ensures path { (bytes parent : List ℕ) → is_path bytes ≡ true → parent_of bytes ≡ Some parent
         → is_path parent ≡ true }

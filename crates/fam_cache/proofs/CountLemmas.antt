@@ -50,9 +50,9 @@ less_of Equal h = absurd cc
 less_of Greater h = absurd cc
 
 -- a line below all others is put at the front
-put_front : (k : ℕ) (v : CachedLine) (rest : Lines) → below_all nat_cmp k rest ≡ true → put nat_cmp k v rest ≡ (k, v) ∷ rest
-put_front k v [] h = refl
-put_front k v (e ∷ rest) h =
+put_prefix : (k : ℕ) (v : CachedLine) (rest : Lines) → below_all nat_cmp k rest ≡ true → put nat_cmp k v rest ≡ (k, v) ∷ rest
+put_prefix k v [] h = refl
+put_prefix k v (e ∷ rest) h =
     ap (λ (o : Ordering). by_order o ((k, v) ∷ e ∷ rest) ((e.0, v) ∷ rest) (e ∷ put nat_cmp k v rest))
     (less_of _ (and_parts (is_lt (nat_cmp k e.0)) (below_all nat_cmp k rest) h).0)
 
@@ -69,9 +69,9 @@ unfolding lines_behind
 entries_with k Absent es sorted below same =
     ap finite.entries (ap (λ (c : Cell). with_cell k c (cache_of es)) (sym (cell_gap es k sorted 0 (first_gap k es below))) ∙ with_cell_own k (cache_of es)) ∙ same
 entries_with k (Clean words) es sorted below same =
-    entries-insert nat_cmp_total (cache_of es) k _ ∙ ap (put nat_cmp k (record { words = eight words; mark = clean })) same ∙ put_front k _ (lines_of es) (below_lines k es below)
+    entries-insert nat_cmp_total (cache_of es) k _ ∙ ap (put nat_cmp k (record { words = eight words; mark = clean })) same ∙ put_prefix k _ (lines_of es) (below_lines k es below)
 entries_with k (Dirty words) es sorted below same =
-    entries-insert nat_cmp_total (cache_of es) k _ ∙ ap (put nat_cmp k (record { words = eight words; mark = dirty })) same ∙ put_front k _ (lines_of es) (below_lines k es below)
+    entries-insert nat_cmp_total (cache_of es) k _ ∙ ap (put nat_cmp k (record { words = eight words; mark = dirty })) same ∙ put_prefix k _ (lines_of es) (below_lines k es below)
 
 none_of : (lines : Lines) → length lines ≡ 0 → lines ≡ []
 none_of [] is = refl

@@ -11,7 +11,7 @@ use Rattle.fam_machine.specs.declared.cell.Cell.TheVariants.{Absent, Clean, Dirt
 use Rattle.fam_machine.specs.Caches.{cell_at, with_cell}
 use Rattle.fam_machine.proofs.CacheLemmas.{greater, equal, same_key, other_key, cell_at-empty, cell_at-with_cell_same, cell_at-with_cell_other, same_cells, with_cell_own}
 use Rattle.fam_machine.proofs.WideLines.{eight_whole}
-use Rattle.fam_cache.specs.Places.{Places, normal, cache_of, no_place, number_at, copy_at, Before, StandsAt, IsGap, is_absent, EndsAbsent}
+use Rattle.fam_cache.specs.Places.{Places, normal, cache_of, no_place, number_at, copy_in_place, Before, IsPlaceOf, IsGap, is_absent, EndsAbsent}
 use Rattle.fam_base.specs.Image.{eight}
 use Rattle.std.proofs.lemmas.List.{get_or_default, length-set}
 use Rattle.fam_cache.proofs.InOrder.{rises}
@@ -47,7 +47,7 @@ cache_of_put es k v =
       | inr other ↦ ap (λ (b : Bool). found (cond b (Some v) (find nat_cmp q es))) (other_key q k other) ∙ sym (cell_found es q) ∙ sym (cell_at-with_cell_other k (normal v) (cache_of es) q other)
     ])
 
-find_present : (es : Places) (i k : ℕ) → i < length es → Before es i k → number_at es i ≡ k → find nat_cmp k es ≡ Some (copy_at es i)
+find_present : (es : Places) (i k : ℕ) → i < length es → Before es i k → number_at es i ≡ k → find nat_cmp k es ≡ Some (copy_in_place es i)
 find_present [] i k within before is = absurd (omega arith)
 find_present (e ∷ es) zero k within before is = rw (equal k e.0 (sym is)) refl
 find_present (e ∷ es) (suc i) k within before is =
@@ -72,7 +72,7 @@ gap_differs es i k sorted gap j below is =
 
 module _ (es : Places) (k : ℕ) (sorted : is_sorted nat_cmp es ≡ true) where
   -- the copy of a line that has a place
-  pub cell_placed : (i : ℕ) → StandsAt es i k → cell_at (cache_of es) k ≡ normal (copy_at es i)
+  pub cell_placed : (i : ℕ) → IsPlaceOf es i k → cell_at (cache_of es) k ≡ normal (copy_in_place es i)
   unfolding found
   cell_placed i at = cell_found es k ∙ ap found (find_present es i k at.within at.before at.is)
 
@@ -95,9 +95,9 @@ absent_alone e is =
     ap (λ (c : Cell). with_cell e.0 c map.empty) (absent_copy e.1 is ∙ sym (cell_at-empty e.0)) ∙ with_cell_own e.0 map.empty
 
 -- an absent place at the end stands for nothing
-cache_of_front : (es : Places) (e : ℕ × Cell) → is_absent e.1 ≡ true → cache_of (es ++ e ∷ []) ≡ cache_of es
-cache_of_front [] e is = absent_alone e is
-cache_of_front (x ∷ es) e is = ap (with_cell x.0 (normal x.1)) (cache_of_front es e is)
+cache_of_prefix : (es : Places) (e : ℕ × Cell) → is_absent e.1 ≡ true → cache_of (es ++ e ∷ []) ≡ cache_of es
+cache_of_prefix [] e is = absent_alone e is
+cache_of_prefix (x ∷ es) e is = ap (with_cell x.0 (normal x.1)) (cache_of_prefix es e is)
 
 below_take : (x i : ℕ) (es : Places) → below_all nat_cmp x es ≡ true → below_all nat_cmp x (take i es) ≡ true
 below_take x zero es h = refl
@@ -117,14 +117,14 @@ sorted_take (suc i) (e ∷ es) h =
 -- ---- what the code reads and writes
 
 -- what was read in a line's place is its copy
-pub cell_read : (es : Places) (k i : ℕ) (x : ℕ × Cell) → is_sorted nat_cmp es ≡ true → StandsAt es i k → x ≡ get_or es i x → cell_at (cache_of es) k ≡ normal x.1
+pub cell_read : (es : Places) (k i : ℕ) (x : ℕ × Cell) → is_sorted nat_cmp es ≡ true → IsPlaceOf es i k → x ≡ get_or es i x → cell_at (cache_of es) k ≡ normal x.1
 cell_read es k i x sorted at read =
     cell_placed es k sorted i at ∙ sym (ap (λ (e : ℕ × Cell). normal e.1) (read ∙ get_or_default es i x no_place at.within))
 
 -- an absent place that was taken from the end
 pub given_up : (es new : Places) (last : Option (ℕ × Cell)) (n : ℕ) → EndsAbsent es → n ≡ length es → es ≡ new ++ option_to_list last → last ≡ Some (get_or es (n - 1) no_place) → cache_of new ≡ cache_of es
 given_up es new last n ends count items is =
-    sym (ap cache_of (items ∙ ap (λ (o : Option (ℕ × Cell)). new ++ option_to_list o) (is ∙ ap (λ (k : ℕ). Some (get_or es (k - 1) no_place)) count)) ∙ cache_of_front new _ ends.absent)
+    sym (ap cache_of (items ∙ ap (λ (o : Option (ℕ × Cell)). new ++ option_to_list o) (is ∙ ap (λ (k : ℕ). Some (get_or es (k - 1) no_place)) count)) ∙ cache_of_prefix new _ ends.absent)
 
 -- a word of a line's eight
 pub eight_index : (words : List ℕ) (k : ℕ) → k < 8 → get_or (eight words) k 0 ≡ get_or words k 0

@@ -9,7 +9,7 @@ use Rattle.std.specs.FinMap.Entries.{below_all, is_sorted-put}
 use Rattle.fam_machine.specs.declared.cell.Cell.{Cell}
 use Rattle.fam_machine.proofs.CacheLemmas.{less, greater, equal}
 use Rattle.fam_machine.proofs.DirtyLemmas.{true_of}
-use Rattle.fam_cache.specs.Places.{Places, number_at, Before, StandsAt, IsGap}
+use Rattle.fam_cache.specs.Places.{Places, number_at, Before, IsPlaceOf, IsGap}
 
 pub truth : (b : Bool) → b ≡ true → T b
 truth b h = subst (λ (x : Bool). T x) (sym h) tt
@@ -50,7 +50,7 @@ module _ (es : Places) (sorted : is_sorted nat_cmp es ≡ true) where
       ]
 
   -- a place with the line's number is the line's
-  pub stands_here : (at line : ℕ) → (at < length es) × (number_at es at ≡ line) → StandsAt es at line
+  pub stands_here : (at line : ℕ) → (at < length es) × (number_at es at ≡ line) → IsPlaceOf es at line
   stands_here at line here = record {
     within = here.0;
     before = λ j below. omega (arith, rises es sorted j at below here.0, here.1);
@@ -89,11 +89,11 @@ module _ (es : Places) (i k : ℕ) (v : Cell) where
   pub put_gap : IsGap es i k → insert es i (k, v) ≡ put nat_cmp k v es
   put_gap gap = sym (put_absent es i k v gap.within gap.before gap.after)
 
-  pub put_at : StandsAt es i k → set es i (k, v) ≡ put nat_cmp k v es
+  pub put_at : IsPlaceOf es i k → set es i (k, v) ≡ put nat_cmp k v es
   put_at at = sym (put_present es i k v at.within at.before at.is)
 
   pub sorted_insert : is_sorted nat_cmp es ≡ true → IsGap es i k → is_sorted nat_cmp (insert es i (k, v)) ≡ true
   sorted_insert sorted gap = ap (is_sorted nat_cmp) (put_gap gap) ∙ sorted_put es k v sorted
 
-  pub sorted_set : is_sorted nat_cmp es ≡ true → StandsAt es i k → is_sorted nat_cmp (set es i (k, v)) ≡ true
+  pub sorted_set : is_sorted nat_cmp es ≡ true → IsPlaceOf es i k → is_sorted nat_cmp (set es i (k, v)) ≡ true
   sorted_set sorted at = ap (is_sorted nat_cmp) (put_at at) ∙ sorted_put es k v sorted

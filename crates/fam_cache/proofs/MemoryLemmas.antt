@@ -8,26 +8,26 @@ use Rattle.fam_machine.specs.declared.cell.Cell.TheVariants.{Absent, Clean, Dirt
 use Rattle.fam_machine.specs.Caches.{Cache, cell_at, cell_changed, line_changed, with_cell}
 use Rattle.fam_machine.proofs.CacheLemmas.{with_cell_own}
 use Rattle.fam_machine.specs.OneLine.{IsHeld, IsDirty, brought, fetched, leaked, failed_send, failed_leak}
-use Rattle.fam_media.specs.Outside.{IfTold, IsTorn}
+use Rattle.fam_media.specs.Outside.{IfModelled, IsTorn}
 use Rattle.fam_cache.specs.Effects.{FromMemory, FailsTo}
 use Rattle.fam_cache.specs.Places.{normal}
 
--- an image that is told is the one
-told_is_one : (a b : Image) (P : Image → Type 0) → P a → Some a ≡ Some b → P b
-told_is_one a b P p is = subst P (ap (λ (o : Option Image). unwrap_or o []) is) p
+-- an image that is modelled is the one
+modelled_is_one : (a b : Image) (P : Image → Type 0) → P a → Some a ≡ Some b → P b
+modelled_is_one a b P p is = subst P (ap (λ (o : Option Image). unwrap_or o []) is) p
 
 -- what holds of any words of memory
-pub from_any : (told : Option Image) (line : ℕ) (P : List ℕ → Type 0) → ((memory : List ℕ) → P memory) → FromMemory told line P
+pub from_any : (modelled : Option Image) (line : ℕ) (P : List ℕ → Type 0) → ((memory : List ℕ) → P memory) → FromMemory modelled line P
 from_any None line P all = record {
   memory = eight [];
   whole = refl;
-  told_is = λ content is. absurd cc;
+  modelled_is = λ content is. absurd cc;
   is = all (eight []);
 }
 from_any (Some image) line P all = record {
   memory = line_at image line;
   whole = refl;
-  told_is = λ content is. told_is_one image content (λ (i : Image). line_at image line ≡ line_at i line) refl is;
+  modelled_is = λ content is. modelled_is_one image content (λ (i : Image). line_at image line ≡ line_at i line) refl is;
   is = all (line_at image line);
 }
 
@@ -42,8 +42,8 @@ dirty_stays (Clean words) mask is memory = absurd cc
 dirty_stays (Dirty words) mask is memory = refl
 
 -- a held line is not brought
-pub held_kept : (told : Option Image) (line : ℕ) (copy : Cell) → IsHeld (normal copy) → FromMemory told line (λ memory. normal copy ≡ brought memory (normal copy))
-held_kept told line copy is = from_any told line (λ memory. normal copy ≡ brought memory (normal copy)) (held_stays copy is)
+pub held_kept : (modelled : Option Image) (line : ℕ) (copy : Cell) → IsHeld (normal copy) → FromMemory modelled line (λ memory. normal copy ≡ brought memory (normal copy))
+held_kept modelled line copy is = from_any modelled line (λ memory. normal copy ≡ brought memory (normal copy)) (held_stays copy is)
 
 -- a copy that is held stays where it would be brought
 pub held_still : (cell : Cell) → IsHeld cell → (memory : List ℕ) → brought memory cell ≡ cell
@@ -52,26 +52,26 @@ held_still (Clean words) is memory = refl
 held_still (Dirty words) is memory = refl
 
 -- to bring a held line changes nothing
-pub held_same : (told : Option Image) (line : ℕ) (cache : Cache) → IsHeld (cell_at cache line) → FromMemory told line (λ memory. cache ≡ cell_changed line (brought memory) cache)
-held_same told line cache is =
-    from_any told line (λ memory. cache ≡ cell_changed line (brought memory) cache)
+pub held_same : (modelled : Option Image) (line : ℕ) (cache : Cache) → IsHeld (cell_at cache line) → FromMemory modelled line (λ memory. cache ≡ cell_changed line (brought memory) cache)
+held_same modelled line cache is =
+    from_any modelled line (λ memory. cache ≡ cell_changed line (brought memory) cache)
     (λ memory. sym (ap (λ (cell : Cell). with_cell line cell cache) (held_still (cell_at cache line) is memory) ∙ with_cell_own line cache))
 
 -- a dirty line is not refreshed
-pub dirty_kept : (told : Option Image) (line mask : ℕ) (copy : Cell) → IsDirty (normal copy) → FromMemory told line (λ memory. normal copy ≡ fetched mask memory (normal copy))
-dirty_kept told line mask copy is = from_any told line (λ memory. normal copy ≡ fetched mask memory (normal copy)) (dirty_stays copy mask is)
+pub dirty_kept : (modelled : Option Image) (line mask : ℕ) (copy : Cell) → IsDirty (normal copy) → FromMemory modelled line (λ memory. normal copy ≡ fetched mask memory (normal copy))
+dirty_kept modelled line mask copy is = from_any modelled line (λ memory. normal copy ≡ fetched mask memory (normal copy)) (dirty_stays copy mask is)
 
 eight_masked_words : (mask : ℕ) (new old : List ℕ) → eight (masked mask new old) ≡ masked mask (eight new) (eight old)
 unfolding masked
 eight_masked_words mask new old = refl
 
 -- the masked words of a clean line are refreshed from what was read
-pub refreshed : (told : Option Image) (line mask : ℕ) (words read new : List ℕ) (copy : Cell) → IfTold told (λ lines. eight read ≡ line_at lines line) → new ≡ masked mask read words → copy ≡ Clean words →
-    FromMemory told line (λ memory. Clean (eight new) ≡ fetched mask memory (normal copy))
-refreshed told line mask words read new copy is_read new_is copy_is = record {
+pub refreshed : (modelled : Option Image) (line mask : ℕ) (words read new : List ℕ) (copy : Cell) → IfModelled modelled (λ lines. eight read ≡ line_at lines line) → new ≡ masked mask read words → copy ≡ Clean words →
+    FromMemory modelled line (λ memory. Clean (eight new) ≡ fetched mask memory (normal copy))
+refreshed modelled line mask words read new copy is_read new_is copy_is = record {
   memory = eight read;
   whole = refl;
-  told_is = is_read;
+  modelled_is = is_read;
   is = ap (λ (w : List ℕ). Clean w) (ap eight new_is ∙ eight_masked_words mask read words) ∙ sym (ap (λ (c : Cell). fetched mask (eight read) (normal c)) copy_is);
 }
 
@@ -80,14 +80,14 @@ leak_words : (image : Image) (line mask : ℕ) (words read new : List ℕ) → e
 unfolding masked
 leak_words image line mask words read new is_read new_is = new_is ∙ ap (masked mask (eight words)) is_read
 
-leaked_line : (told : Option Image) (line mask : ℕ) (words read new : List ℕ) → IfTold told (λ lines. eight read ≡ line_at lines line) → new ≡ masked mask words read →
-    option_map (with_line line new) told ≡ option_map (line_changed line (λ memory. leaked mask memory (normal (Dirty words)))) told
+leaked_line : (modelled : Option Image) (line mask : ℕ) (words read new : List ℕ) → IfModelled modelled (λ lines. eight read ≡ line_at lines line) → new ≡ masked mask words read →
+    option_map (with_line line new) modelled ≡ option_map (line_changed line (λ memory. leaked mask memory (normal (Dirty words)))) modelled
 leaked_line None line mask words read new is_read new_is = refl
 leaked_line (Some image) line mask words read new is_read new_is =
     ap (λ (w : List ℕ). Some (with_line line w image)) (leak_words image line mask words read new (is_read image refl) new_is)
 
 -- a leak that was written
-pub leaked_image : (old between after : Option Image) (line mask : ℕ) (words read new : List ℕ) (copy : Cell) → between ≡ old → IfTold old (λ lines. eight read ≡ line_at lines line) → new ≡ masked mask words read → copy ≡ Dirty words →
+pub leaked_image : (old between after : Option Image) (line mask : ℕ) (words read new : List ℕ) (copy : Cell) → between ≡ old → IfModelled old (λ lines. eight read ≡ line_at lines line) → new ≡ masked mask words read → copy ≡ Dirty words →
     after ≡ option_map (with_line line new) between → after ≡ option_map (line_changed line (λ memory. leaked mask memory (normal copy))) old
 leaked_image old between after line mask words read new copy same is_read new_is copy_is written =
     written ∙ ap (option_map (with_line line new)) same ∙ leaked_line old line mask words read new is_read new_is
@@ -99,7 +99,7 @@ torn_line image line through words = refl
 
 -- a send that failed
 pub torn_send : (old after : Option Image) (line : ℕ) (words : List ℕ) (copy : Cell) → copy ≡ Dirty words → IsTorn old after line words →
-    IfTold old (λ image. FailsTo line (λ through memory. failed_send through memory (normal copy)) image after)
+    IfModelled old (λ image. FailsTo line (λ through memory. failed_send through memory (normal copy)) image after)
 torn_send old after line words copy copy_is torn image is = record {
   through = torn.mask;
   fits = torn.fits;
@@ -115,8 +115,8 @@ torn_leak_line image line through mask words new new_is =
     ∙ ap (λ (w : List ℕ). with_line line (masked through w (line_at image line)) image) (ap eight new_is ∙ eight_masked_words mask (eight words) (line_at image line))
 
 -- a leak whose write failed
-pub torn_leak : (old between after : Option Image) (line mask : ℕ) (words read new : List ℕ) (copy : Cell) → between ≡ old → IfTold old (λ lines. eight read ≡ line_at lines line) → new ≡ masked mask words read → copy ≡ Dirty words →
-    IsTorn between after line new → IfTold old (λ image. FailsTo line (λ through memory. failed_leak mask through memory (normal copy)) image after)
+pub torn_leak : (old between after : Option Image) (line mask : ℕ) (words read new : List ℕ) (copy : Cell) → between ≡ old → IfModelled old (λ lines. eight read ≡ line_at lines line) → new ≡ masked mask words read → copy ≡ Dirty words →
+    IsTorn between after line new → IfModelled old (λ image. FailsTo line (λ through memory. failed_leak mask through memory (normal copy)) image after)
 torn_leak old between after line mask words read new copy same is_read new_is copy_is torn image is = record {
   through = torn.mask;
   fits = torn.fits;
@@ -131,12 +131,12 @@ no_words : (image : Image) (line : ℕ) (new : List ℕ) → masked 0 new (line_
 unfolding masked
 no_words image line new = refl
 
-normal_told : (old : Option Image) (image : Image) → IsNormal old → old ≡ Some image → IsNormal (Some image)
-normal_told old image known is = subst IsNormal is known
+normal_modelled : (old : Option Image) (image : Image) → IsNormal old → old ≡ Some image → IsNormal (Some image)
+normal_modelled old image known is = subst IsNormal is known
 
 -- a leak whose read failed
 pub unread_leak : (old after : Option Image) (line mask : ℕ) (words : List ℕ) (copy : Cell) → IsNormal old → copy ≡ Dirty words → after ≡ old →
-    IfTold old (λ image. FailsTo line (λ through memory. failed_leak mask through memory (normal copy)) image after)
+    IfModelled old (λ image. FailsTo line (λ through memory. failed_leak mask through memory (normal copy)) image after)
 unread_leak old after line mask words copy known copy_is same image is = record {
   through = 0;
   fits = lit< tt;
@@ -144,5 +144,5 @@ unread_leak old after line mask words copy known copy_is same image is = record 
   left = ap (λ (c : Cell). failed_leak mask 0 (line_at image line) (normal c)) copy_is;
   written =
       same ∙ is
-      ∙ sym (ap (λ (w : List ℕ). Some (with_line line w image)) (no_words image line _) ∙ ap (λ (i : Image). Some i) (with_line-line_at image (normal_told old image known is) line));
+      ∙ sym (ap (λ (w : List ℕ). Some (with_line line w image)) (no_words image line _) ∙ ap (λ (i : Image). Some i) (with_line-line_at image (normal_modelled old image known is) line));
 }

@@ -13,20 +13,20 @@ use Rattle.fam_machine.specs.OneLine.{IsHeld, brought, cleaned, current, failed_
 use Rattle.fam_machine.specs.Operations.{Machine, failed, given, line_no, machine, not_brought, not_sent, op_line, torn_at}
 use Rattle.fam_cache.specs.Operations.{LeavesCache}
 use Rattle.fam_machine.proofs.CacheLemmas.{cell_at-with_cell_same, cell_at-with_cell_other, with_cell_own}
-use Rattle.fam_media.specs.Outside.{IfTold}
+use Rattle.fam_media.specs.Outside.{IfModelled}
 use Rattle.fam_cache.specs.Effects.{FailsTo, FromMemory}
 use Rattle.fam_cache.proofs.MemoryLemmas.{held_still}
 use Rattle.fam_cache.proofs.StoreLemmas.{brought_words}
 
 -- a load gives the word that the machine gives
-pub load_gives : (op : Op) (line : LineNo) (k value : ℕ) (told : Option Image) (old new : Cache) → op ≡ Load line k → value ≡ slice_index (words_of (cell_at new line.0)) k → FromMemory told line.0 (λ memory. new ≡ cell_changed line.0 (brought memory) old) → IfTold told (λ image. Some value ≡ given op (machine image old))
-load_gives op line k value told old new is reads from image told_is =
+pub load_gives : (op : Op) (line : LineNo) (k value : ℕ) (modelled : Option Image) (old new : Cache) → op ≡ Load line k → value ≡ slice_index (words_of (cell_at new line.0)) k → FromMemory modelled line.0 (λ memory. new ≡ cell_changed line.0 (brought memory) old) → IfModelled modelled (λ image. Some value ≡ given op (machine image old))
+load_gives op line k value modelled old new is reads from image modelled_is =
     let cell : Cell = cell_at old line.0 in
     let words : words_of (cell_at new line.0) ≡ current (line_at image line.0) cell =
     ap (λ (cache : Cache). words_of (cell_at cache line.0)) from.is
     ∙ ap words_of (cell_at-with_cell_same line.0 (brought from.memory cell) old)
     ∙ brought_words from.memory cell
-    ∙ ap (λ (memory : List ℕ). current memory cell) (from.told_is image told_is) in
+    ∙ ap (λ (memory : List ℕ). current memory cell) (from.modelled_is image modelled_is) in
     ap Some (reads ∙ ap (λ (ws : List ℕ). slice_index ws k) words) ∙ ap (λ (o : Op). given o (machine image old)) (sym is)
 
 -- a line that can't be brought is absent, and everything stays
@@ -35,8 +35,8 @@ not_held line m Absent never = refl
 not_held line m (Clean words) never = absurd (never refl)
 not_held line m (Dirty words) never = absurd (never refl)
 
-bring_fails : (op : Op) (line at : LineNo) (told now : Option Image) (old new : Cache) → at ≡ line → ((image : Image) → (through : ℕ) → failed through op (machine image old) ≡ not_brought line (machine image old) (cell_at old line.0)) → (IsHeld (cell_at old line.0) → ⊥) → now ≡ told → new ≡ old → IfTold told (λ image. HasFailed op (machine image old) at now new)
-bring_fails op line at told now old new here brings never same kept image is = record {
+bring_fails : (op : Op) (line at : LineNo) (modelled now : Option Image) (old new : Cache) → at ≡ line → ((image : Image) → (through : ℕ) → failed through op (machine image old) ≡ not_brought line (machine image old) (cell_at old line.0)) → (IsHeld (cell_at old line.0) → ⊥) → now ≡ modelled → new ≡ old → IfModelled modelled (λ image. HasFailed op (machine image old) at now new)
+bring_fails op line at modelled now old new here brings never same kept image is = record {
   left = machine image old;
   fails = record {
     through = 0;
@@ -49,16 +49,16 @@ bring_fails op line at told now old new here brings never same kept image is = r
 }
 
 -- a load that would bring a line fails
-pub load_failed : (op : Op) (line : LineNo) (k : ℕ) (told now : Option Image) (old new : Cache) → op ≡ Load line k → (IsHeld (cell_at old line.0) → ⊥) → now ≡ told → new ≡ old → IfTold told (λ image. HasFailed op (machine image old) line now new)
-load_failed op line k told now old new is = bring_fails op line line told now old new refl (λ image through. ap (λ (o : Op). failed through o (machine image old)) is)
+pub load_failed : (op : Op) (line : LineNo) (k : ℕ) (modelled now : Option Image) (old new : Cache) → op ≡ Load line k → (IsHeld (cell_at old line.0) → ⊥) → now ≡ modelled → new ≡ old → IfModelled modelled (λ image. HasFailed op (machine image old) line now new)
+load_failed op line k modelled now old new is = bring_fails op line line modelled now old new refl (λ image through. ap (λ (o : Op). failed through o (machine image old)) is)
 
 -- and so does a store
-pub store_failed : (op : Op) (line : LineNo) (k value : ℕ) (told now : Option Image) (old new : Cache) → op ≡ Store line k value → (IsHeld (cell_at old line.0) → ⊥) → now ≡ told → new ≡ old → IfTold told (λ image. HasFailed op (machine image old) line now new)
-store_failed op line k value told now old new is = bring_fails op line line told now old new refl (λ image through. ap (λ (o : Op). failed through o (machine image old)) is)
+pub store_failed : (op : Op) (line : LineNo) (k value : ℕ) (modelled now : Option Image) (old new : Cache) → op ≡ Store line k value → (IsHeld (cell_at old line.0) → ⊥) → now ≡ modelled → new ≡ old → IfModelled modelled (λ image. HasFailed op (machine image old) line now new)
+store_failed op line k value modelled now old new is = bring_fails op line line modelled now old new refl (λ image through. ap (λ (o : Op). failed through o (machine image old)) is)
 
 -- a send fails
-send_failed : (op : Op) (line : LineNo) (told now : Option Image) (old new : Cache) → ((image : Image) → (through : ℕ) → failed through op (machine image old) ≡ not_sent through line (machine image old)) → IfTold told (λ image. FailsTo line.0 (λ through memory. failed_send through memory (cell_at old line.0)) image now) → new ≡ old → IfTold told (λ image. HasFailed op (machine image old) line now new)
-send_failed op line told now old new sends torn kept image is =
+send_failed : (op : Op) (line : LineNo) (modelled now : Option Image) (old new : Cache) → ((image : Image) → (through : ℕ) → failed through op (machine image old) ≡ not_sent through line (machine image old)) → IfModelled modelled (λ image. FailsTo line.0 (λ through memory. failed_send through memory (cell_at old line.0)) image now) → new ≡ old → IfModelled modelled (λ image. HasFailed op (machine image old) line now new)
+send_failed op line modelled now old new sends torn kept image is =
     let t = torn image is in
     record {
       left = (torn_at line (machine image old) t.words).left;
@@ -70,11 +70,11 @@ send_failed op line told now old new sends torn kept image is =
       is = record { image = t.written; cache = kept };
     }
 
-pub write_back_failed : (op : Op) (line : LineNo) (told now : Option Image) (old new : Cache) → op ≡ WriteBack line → IfTold told (λ image. FailsTo line.0 (λ through memory. failed_send through memory (cell_at old line.0)) image now) → new ≡ old → IfTold told (λ image. HasFailed op (machine image old) line now new)
-write_back_failed op line told now old new is = send_failed op line told now old new (λ image through. ap (λ (o : Op). failed through o (machine image old)) is)
+pub write_back_failed : (op : Op) (line : LineNo) (modelled now : Option Image) (old new : Cache) → op ≡ WriteBack line → IfModelled modelled (λ image. FailsTo line.0 (λ through memory. failed_send through memory (cell_at old line.0)) image now) → new ≡ old → IfModelled modelled (λ image. HasFailed op (machine image old) line now new)
+write_back_failed op line modelled now old new is = send_failed op line modelled now old new (λ image through. ap (λ (o : Op). failed through o (machine image old)) is)
 
-pub invalidate_failed : (op : Op) (line : LineNo) (told now : Option Image) (old new : Cache) → op ≡ Invalidate line → IfTold told (λ image. FailsTo line.0 (λ through memory. failed_send through memory (cell_at old line.0)) image now) → new ≡ old → IfTold told (λ image. HasFailed op (machine image old) line now new)
-invalidate_failed op line told now old new is = send_failed op line told now old new (λ image through. ap (λ (o : Op). failed through o (machine image old)) is)
+pub invalidate_failed : (op : Op) (line : LineNo) (modelled now : Option Image) (old new : Cache) → op ≡ Invalidate line → IfModelled modelled (λ image. FailsTo line.0 (λ through memory. failed_send through memory (cell_at old line.0)) image now) → new ≡ old → IfModelled modelled (λ image. HasFailed op (machine image old) line now new)
+invalidate_failed op line modelled now old new is = send_failed op line modelled now old new (λ image through. ap (λ (o : Op). failed through o (machine image old)) is)
 
 -- What an operation leaves of the cache.
 
@@ -84,26 +84,26 @@ brought_held memory (Clean words) = refl
 brought_held memory (Dirty words) = refl
 
 -- the line is held after a load, and after a store
-pub held_after_load : (told : Option Image) (line : ℕ) (old new : Cache) → FromMemory told line (λ memory. new ≡ cell_changed line (brought memory) old) → IsHeld (cell_at new line)
-held_after_load told line old new from =
+pub held_after_load : (modelled : Option Image) (line : ℕ) (old new : Cache) → FromMemory modelled line (λ memory. new ≡ cell_changed line (brought memory) old) → IsHeld (cell_at new line)
+held_after_load modelled line old new from =
     subst IsHeld (sym (ap (λ (cache : Cache). cell_at cache line) from.is ∙ cell_at-with_cell_same line (brought from.memory (cell_at old line)) old)) (brought_held from.memory (cell_at old line))
 
-pub held_after_store : (told : Option Image) (line word value : ℕ) (old new : Cache) → FromMemory told line (λ memory. new ≡ cell_changed line (stored word value memory) old) → IsHeld (cell_at new line)
-held_after_store told line word value old new from =
+pub held_after_store : (modelled : Option Image) (line word value : ℕ) (old new : Cache) → FromMemory modelled line (λ memory. new ≡ cell_changed line (stored word value memory) old) → IsHeld (cell_at new line)
+held_after_store modelled line word value old new from =
     subst IsHeld (sym (ap (λ (cache : Cache). cell_at cache line) from.is ∙ cell_at-with_cell_same line (stored word value from.memory (cell_at old line)) old)) refl
 
 -- a load of a line that is held leaves the cache
-pub held_loaded : (told : Option Image) (line : ℕ) (old new : Cache) → IsHeld (cell_at old line) → FromMemory told line (λ memory. new ≡ cell_changed line (brought memory) old) → new ≡ old
-held_loaded told line old new held from =
+pub held_loaded : (modelled : Option Image) (line : ℕ) (old new : Cache) → IsHeld (cell_at old line) → FromMemory modelled line (λ memory. new ≡ cell_changed line (brought memory) old) → new ≡ old
+held_loaded modelled line old new held from =
     from.is ∙ ap (λ (cell : Cell). with_cell line cell old) (held_still (cell_at old line) held from.memory) ∙ with_cell_own line old
 
 one_changed : (line : ℕ) (cell : Cell) (old new : Cache) → new ≡ with_cell line cell old → (other : ℕ) → other ≢ line → cell_at new other ≡ cell_at old other
 one_changed line cell old new is other differs = ap (λ (cache : Cache). cell_at cache other) is ∙ cell_at-with_cell_other line cell old other differs
 
 -- every line that the operation doesn't ask for is as before
-pub others_left : (op : Op) (told : Option Image) (old new : Cache) → LeavesCache op told old new → (other : ℕ) → op_line op ≢ Some (line_no other) → cell_at new other ≡ cell_at old other
-others_left (Load line k) told old new from other differs = one_changed line.0 (brought from.memory (cell_at old line.0)) old new from.is other (λ e. differs (ap (λ (l : ℕ). Some (line_no l)) (sym e)))
-others_left (Store line k value) told old new from other differs = one_changed line.0 (stored k value from.memory (cell_at old line.0)) old new from.is other (λ e. differs (ap (λ (l : ℕ). Some (line_no l)) (sym e)))
-others_left (WriteBack line) told old new is other differs = one_changed line.0 (cleaned (cell_at old line.0)) old new is other (λ e. differs (ap (λ (l : ℕ). Some (line_no l)) (sym e)))
-others_left (Invalidate line) told old new is other differs = one_changed line.0 Absent old new is other (λ e. differs (ap (λ (l : ℕ). Some (line_no l)) (sym e)))
-others_left Digest told old new is other differs = ap (λ (cache : Cache). cell_at cache other) is
+pub others_left : (op : Op) (modelled : Option Image) (old new : Cache) → LeavesCache op modelled old new → (other : ℕ) → op_line op ≢ Some (line_no other) → cell_at new other ≡ cell_at old other
+others_left (Load line k) modelled old new from other differs = one_changed line.0 (brought from.memory (cell_at old line.0)) old new from.is other (λ e. differs (ap (λ (l : ℕ). Some (line_no l)) (sym e)))
+others_left (Store line k value) modelled old new from other differs = one_changed line.0 (stored k value from.memory (cell_at old line.0)) old new from.is other (λ e. differs (ap (λ (l : ℕ). Some (line_no l)) (sym e)))
+others_left (WriteBack line) modelled old new is other differs = one_changed line.0 (cleaned (cell_at old line.0)) old new is other (λ e. differs (ap (λ (l : ℕ). Some (line_no l)) (sym e)))
+others_left (Invalidate line) modelled old new is other differs = one_changed line.0 Absent old new is other (λ e. differs (ap (λ (l : ℕ). Some (line_no l)) (sym e)))
+others_left Digest modelled old new is other differs = ap (λ (cache : Cache). cell_at cache other) is

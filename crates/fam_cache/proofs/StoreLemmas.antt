@@ -31,12 +31,12 @@ module _ (line word value : ℕ) (before between after : Cache) where
       ∙ with_cell_twice line (brought memory cell) (Dirty (set (current memory cell) word value)) before
 
   -- the word was set in the line that was brought
-  pub stored_after : (told : Option Image) → FromMemory told line (λ memory. between ≡ cell_changed line (brought memory) before) →
+  pub stored_after : (modelled : Option Image) → FromMemory modelled line (λ memory. between ≡ cell_changed line (brought memory) before) →
       after ≡ with_cell line (Dirty (set (words_of (cell_at between line)) word value)) between →
-      FromMemory told line (λ memory. after ≡ cell_changed line (stored word value memory) before)
-  stored_after told from is = record {
+      FromMemory modelled line (λ memory. after ≡ cell_changed line (stored word value memory) before)
+  stored_after modelled from is = record {
     memory = from.memory;
     whole = from.whole;
-    told_is = from.told_is;
+    modelled_is = from.modelled_is;
     is = is ∙ stored_cell from.memory from.is;
   }

@@ -35,8 +35,8 @@ word_of Digest held = None
 -- what an operation leaves of the cache: of its line what the machine's table has, for the words that memory has there,
 -- and every other line as it was
 abbrev pub LeavesCache : Op → Option Image → Cache → Cache → Type 0
-LeavesCache (Load line k) told old new = FromMemory told line.0 (λ memory. new ≡ cell_changed line.0 (brought memory) old)
-LeavesCache (Store line k value) told old new = FromMemory told line.0 (λ memory. new ≡ cell_changed line.0 (stored k value memory) old)
-LeavesCache (WriteBack line) told old new = new ≡ cell_changed line.0 cleaned old
-LeavesCache (Invalidate line) told old new = new ≡ with_cell line.0 Absent old
-LeavesCache Digest told old new = new ≡ old
+LeavesCache (Load line k) modelled old new = FromMemory modelled line.0 (λ memory. new ≡ cell_changed line.0 (brought memory) old)
+LeavesCache (Store line k value) modelled old new = FromMemory modelled line.0 (λ memory. new ≡ cell_changed line.0 (stored k value memory) old)
+LeavesCache (WriteBack line) modelled old new = new ≡ cell_changed line.0 cleaned old
+LeavesCache (Invalidate line) modelled old new = new ≡ with_cell line.0 Absent old
+LeavesCache Digest modelled old new = new ≡ old

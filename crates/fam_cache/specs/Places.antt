@@ -32,15 +32,15 @@ abbrev pub number_at : Places → ℕ → ℕ
 number_at places at = (slice_index_or places at no_place).0
 
 -- the copy in the place that stands there
-abbrev pub copy_at : Places → ℕ → Cell
-copy_at places at = (slice_index_or places at no_place).1
+abbrev pub copy_in_place : Places → ℕ → Cell
+copy_in_place places at = (slice_index_or places at no_place).1
 
 -- the lines before a place come before this one
 abbrev pub Before : Places → ℕ → ℕ → Type 0
 Before places at line = (j : ℕ) → j < at → number_at places j < line
 
 -- the line's place stands there
-pub record StandsAt (places : Places) (at line : ℕ) : Type 0 where
+pub record IsPlaceOf (places : Places) (at line : ℕ) : Type 0 where
   pub within : at < length places
   pub before : Before places at line
   pub is : number_at places at ≡ line
@@ -53,7 +53,7 @@ pub record IsGap (places : Places) (at line : ℕ) : Type 0 where
 
 -- where the line belongs
 abbrev pub IsSpot : Places → Spot → ℕ → Type 0
-IsSpot places (Place at) line = StandsAt places at line
+IsSpot places (Place at) line = IsPlaceOf places at line
 IsSpot places (Gap at) line = IsGap places at line
 
 -- a spot that needs room
@@ -70,4 +70,4 @@ is_absent (Dirty words) = false
 -- the last place is absent
 pub record EndsAbsent (places : Places) : Type 0 where
   pub some : 0 < length places
-  pub absent : is_absent (copy_at places (length places - 1)) ≡ true
+  pub absent : is_absent (copy_in_place places (length places - 1)) ≡ true

@@ -9,9 +9,9 @@ ghost use Rattle.fam_machine.specs.declared.cell.Cell.{Cell};
 ghost use Rattle.fam_machine.specs.Caches.{cell_at, cell_changed, dirty_count, line_changed, with_cell};
 ghost use Rattle.fam_machine.specs.OneLine.{IsDirty, IsHeld, brought, cleaned, failed_leak, failed_send, fetched, leaked, sent, stored, words_of};
 ghost use Rattle.fam_media.specs.Causes.{HasCause, IsSteady, Rose};
-ghost use Rattle.fam_media.specs.Outside.{IfTold};
+ghost use Rattle.fam_media.specs.Outside.{IfModelled};
 ghost use Rattle.fam_cache.specs.Effects.{FailsTo, FromMemory};
-ghost use Rattle.fam_cache.specs.Places.{StandsAt, cache_of};
+ghost use Rattle.fam_cache.specs.Places.{IsPlaceOf, cache_of};
 
 use crate::copies::{bring_copy, fetch_copy, leak_copy, send_copy};
 use crate::fault::CacheFault;
@@ -37,7 +37,7 @@ fn bring<M: Media>(
 
     ensures cache { OnOk result (FromMemory (M.image media.old) line.0
         (λ memory. cache_of places.new.items ≡ cell_changed line.0 (brought memory) (cache_of places.old.items))) }
-    ensures stands { IfOk result (λ at. StandsAt places.new.items at line.0) }
+    ensures stands { IfOk result (λ at. IsPlaceOf places.new.items at line.0) }
     ensures held { OnOk result (IsHeld (cell_at (cache_of places.new.items) line.0)) }
     ensures err { OnErr result (cache_of places.new.items ≡ cache_of places.old.items) }
 
@@ -132,7 +132,7 @@ fn write_line<M: Media>(
         (line_changed line.0 (λ memory. sent memory (cell_at (cache_of places.old.items) line.0)))
         (M.image media.old)) }
     ensures err { OnErr result (cache_of places.new.items ≡ cache_of places.old.items) }
-    ensures torn { OnErr result (IfTold (M.image media.old) (λ image. FailsTo line.0
+    ensures torn { OnErr result (IfModelled (M.image media.old) (λ image. FailsTo line.0
         (λ through memory. failed_send through memory (cell_at (cache_of places.old.items) line.0))
         image (M.image media.new))) }
 
@@ -171,7 +171,7 @@ fn drop_line<M: Media>(
         (line_changed line.0 (λ memory. sent memory (cell_at (cache_of places.old.items) line.0)))
         (M.image media.old)) }
     ensures err { OnErr result (cache_of places.new.items ≡ cache_of places.old.items) }
-    ensures torn { OnErr result (IfTold (M.image media.old) (λ image. FailsTo line.0
+    ensures torn { OnErr result (IfModelled (M.image media.old) (λ image. FailsTo line.0
         (λ through memory. failed_send through memory (cell_at (cache_of places.old.items) line.0))
         image (M.image media.new))) }
 
@@ -208,7 +208,7 @@ fn leak_line<M: Media>(
     ensures memory { OnOk result (M.image media.new ≡ option_map
         (line_changed line.0 (λ memory. leaked mask.0 memory (cell_at (cache_of places.now.items) line.0)))
         (M.image media.old)) }
-    ensures torn { OnErr result (IfTold (M.image media.old) (λ image. FailsTo line.0
+    ensures torn { OnErr result (IfModelled (M.image media.old) (λ image. FailsTo line.0
         (λ through memory. failed_leak mask.0 through memory (cell_at (cache_of places.now.items) line.0))
         image (M.image media.new))) }
 
@@ -412,7 +412,7 @@ impl HostCache {
 
         // A send that fails leaves each word of this line old or new, and the host keeps its copy.
         ensures err { OnErr result (self.new.lines ≡ self.old.lines) }
-        ensures torn { OnErr result (IfTold (M.image media.old) (λ image. FailsTo line.0
+        ensures torn { OnErr result (IfModelled (M.image media.old) (λ image. FailsTo line.0
             (λ through memory. failed_send through memory (cell_at self.old.lines line.0))
             image (M.image media.new))) }
 
@@ -439,7 +439,7 @@ impl HostCache {
 
         // A send that fails leaves each word of this line old or new, and the host keeps its copy.
         ensures err { OnErr result (self.new.lines ≡ self.old.lines) }
-        ensures torn { OnErr result (IfTold (M.image media.old) (λ image. FailsTo line.0
+        ensures torn { OnErr result (IfModelled (M.image media.old) (λ image. FailsTo line.0
             (λ through memory. failed_send through memory (cell_at self.old.lines line.0))
             image (M.image media.new))) }
 
@@ -466,7 +466,7 @@ impl HostCache {
 
         // A send that fails leaves each word of this line old or new, and the host keeps its copy.
         ensures err { OnErr result (self.new.lines ≡ self.old.lines) }
-        ensures torn { OnErr result (IfTold (M.image media.old) (λ image. FailsTo line.0
+        ensures torn { OnErr result (IfModelled (M.image media.old) (λ image. FailsTo line.0
             (λ through memory. failed_send through memory (cell_at self.old.lines line.0))
             image (M.image media.new))) }
 
@@ -491,7 +491,7 @@ impl HostCache {
             (M.image media.old)) }
 
         // A send that fails leaves each of the masked words old or new, and every other word as it was.
-        ensures torn { OnErr result (IfTold (M.image media.old) (λ image. FailsTo line.0
+        ensures torn { OnErr result (IfModelled (M.image media.old) (λ image. FailsTo line.0
             (λ through memory. failed_leak mask.0 through memory (cell_at self.old.lines line.0))
             image (M.image media.new))) }
 

@@ -5,7 +5,7 @@ ghost use Rattle.std.specs.Option.{option_map};
 ghost use Rattle.fam_machine.specs.Caches.{line_changed};
 ghost use Rattle.fam_machine.specs.OneLine.{IsDirty, IsHeld, brought, failed_leak, failed_send, fetched, leaked, sent};
 ghost use Rattle.fam_media.specs.Causes.{HasCause};
-ghost use Rattle.fam_media.specs.Outside.{IfTold};
+ghost use Rattle.fam_media.specs.Outside.{IfModelled};
 ghost use Rattle.fam_cache.specs.Effects.{FailsTo, FromMemory};
 ghost use Rattle.fam_cache.specs.Places.{normal};
 
@@ -65,7 +65,7 @@ pub(crate) fn send_copy<M: Media>(copy: Cell, media: &mut M, line: LineNo) -> Re
     requires within { line.0 < M.size media.old }
     ensures memory { OnOk result (M.image media.new
         ≡ option_map (line_changed line.0 (λ memory. sent memory (normal copy))) (M.image media.old)) }
-    ensures torn { OnErr result (IfTold (M.image media.old) (λ image. FailsTo line.0
+    ensures torn { OnErr result (IfModelled (M.image media.old) (λ image. FailsTo line.0
         (λ through memory. failed_send through memory (normal copy)) image (M.image media.new))) }
     ensures idle { ¬ (IsDirty (normal copy)) → IsOk result }
     ensures same { ¬ (IsDirty (normal copy)) → media.new ≡ media.old }
@@ -89,7 +89,7 @@ pub(crate) fn leak_copy<M: Media>(
     requires within { line.0 < M.size media.old }
     ensures memory { OnOk result (M.image media.new
         ≡ option_map (line_changed line.0 (λ memory. leaked mask.0 memory (normal copy))) (M.image media.old)) }
-    ensures torn { OnErr result (IfTold (M.image media.old) (λ image. FailsTo line.0
+    ensures torn { OnErr result (IfModelled (M.image media.old) (λ image. FailsTo line.0
         (λ through memory. failed_leak mask.0 through memory (normal copy)) image (M.image media.new))) }
     ensures idle { ¬ (IsDirty (normal copy)) → IsOk result }
     ensures same { ¬ (IsDirty (normal copy)) → media.new ≡ media.old }

@@ -4,7 +4,7 @@ ghost use Rattle.std.specs.Prelude.{◌≡◌, ◌+◌, ◌<◌, ◌≤◌, IsOk
 ghost use Rattle.fam_machine.specs.Cuts.{HasFailed, IsMachine};
 ghost use Rattle.fam_machine.specs.Operations.{IsWithin, given, machine, op_line, operated};
 ghost use Rattle.fam_media.specs.Causes.{IsSteady, Rose};
-ghost use Rattle.fam_media.specs.Outside.{IfTold};
+ghost use Rattle.fam_media.specs.Outside.{IfModelled};
 ghost use Rattle.fam_cache.specs.Faults.{IfMediaFault};
 ghost use Rattle.fam_cache.specs.Operations.{AsksNothing, BringsNone, LeavesCache, word_of};
 
@@ -27,11 +27,11 @@ impl HostCache {
         requires within { IsWithin (M.size media.old) op }
 
         // Where the image is modelled, it, the cache and the word are those of the machine.
-        ensures operated { OnOk result (IfTold (M.image media.old) (λ image.
+        ensures operated { OnOk result (IfModelled (M.image media.old) (λ image.
             IsMachine (operated op (machine image self.old.lines)) (M.image media.new) self.new.lines)) }
-        ensures given { IfOk result (λ word. IfTold (M.image media.old) (λ image.
+        ensures given { IfOk result (λ word. IfModelled (M.image media.old) (λ image.
             word ≡ given op (machine image self.old.lines))) }
-        ensures failed { IfErr result (λ fault. IfMediaFault fault (λ line. IfTold (M.image media.old) (λ image.
+        ensures failed { IfErr result (λ fault. IfMediaFault fault (λ line. IfModelled (M.image media.old) (λ image.
             HasFailed op (machine image self.old.lines) line (M.image media.new) self.new.lines))) }
 
         // On any media the cache is what the table makes of the operation's line, and the word is that of the copy.

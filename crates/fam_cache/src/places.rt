@@ -10,7 +10,7 @@ ghost use Rattle.fam_base.specs.Image.{eight};
 ghost use Rattle.fam_machine.specs.Caches.{cell_at, dirty_count, with_cell};
 ghost use Rattle.fam_machine.specs.OneLine.{IsHeld, cleaned, is_dirty, words_of};
 ghost use Rattle.fam_machine.specs.declared.cell.Cell.{Cell};
-ghost use Rattle.fam_cache.specs.Places.{Before, IsSpot, StandsAt, EndsAbsent, cache_of, is_gap, normal, number_at};
+ghost use Rattle.fam_cache.specs.Places.{Before, IsSpot, IsPlaceOf, EndsAbsent, cache_of, is_gap, normal, number_at};
 
 use fam_base::{Line, OutOfMemory};
 use fam_machine::Cell;
@@ -157,10 +157,10 @@ pub(crate) fn make_room(places: &mut Vec<(u64, Cell)>, spot: Spot) -> Result<(),
 /// Puts a copy into the place of a line.
 pub(crate) fn set_copy(places: &mut Vec<(u64, Cell)>, at: usize, line: u64, copy: Cell)
     requires sorted { IsTrue (is_sorted nat_cmp places.old.items) }
-    requires stands { StandsAt places.old.items at line }
+    requires stands { IsPlaceOf places.old.items at line }
     ensures cache { cache_of places.new.items ≡ with_cell line (normal copy) (cache_of places.old.items) }
     ensures sorted { IsTrue (is_sorted nat_cmp places.new.items) }
-    ensures stands { StandsAt places.new.items at line }
+    ensures stands { IsPlaceOf places.new.items at line }
     ensures len { vec_len places.new ≡ vec_len places.old }
     ensures capacity { vec_capacity places.new ≡ vec_capacity places.old }
 {
@@ -174,7 +174,7 @@ pub(crate) fn put_copy(places: &mut Vec<(u64, Cell)>, spot: Spot, line: u64, cop
     requires room { is_gap spot ≡ true → vec_len places.old < vec_capacity places.old }
     ensures cache { cache_of places.new.items ≡ with_cell line (normal copy) (cache_of places.old.items) }
     ensures sorted { IsTrue (is_sorted nat_cmp places.new.items) }
-    ensures stands { StandsAt places.new.items result line }
+    ensures stands { IsPlaceOf places.new.items result line }
     ensures one { vec_len places.new ≤ vec_len places.old + 1 }
     ensures none { is_gap spot ≡ false → vec_len places.new ≡ vec_len places.old }
     ensures capacity { vec_capacity places.old ≤ vec_capacity places.new }
@@ -307,7 +307,7 @@ pub(crate) fn held_word(places: &Vec<(u64, Cell)>, last: usize, line: u64, word:
 /// A word of the copy in a place.
 pub(crate) fn word_at(places: &Vec<(u64, Cell)>, at: usize, line: u64, word: u8) -> u64
     requires sorted { IsTrue (is_sorted nat_cmp places.now.items) }
-    requires stands { StandsAt places.now.items at line }
+    requires stands { IsPlaceOf places.now.items at line }
     requires held { IsHeld (cell_at (cache_of places.now.items) line) }
     requires word { word < 8 }
     ensures { result ≡ slice_index (words_of (cell_at (cache_of places.now.items) line)) word }
@@ -331,7 +331,7 @@ fn with_word(words: &Line, word: u8, value: u64) -> Line
 /// Sets a word of the copy in a place, which is dirty then.
 pub(crate) fn set_word(places: &mut Vec<(u64, Cell)>, at: usize, line: u64, word: u8, value: u64)
     requires sorted { IsTrue (is_sorted nat_cmp places.old.items) }
-    requires stands { StandsAt places.old.items at line }
+    requires stands { IsPlaceOf places.old.items at line }
     requires held { IsHeld (cell_at (cache_of places.old.items) line) }
     requires word { word < 8 }
     ensures cache { cache_of places.new.items ≡ with_cell line

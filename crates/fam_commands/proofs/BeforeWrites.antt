@@ -17,12 +17,12 @@ use Rattle.fam_format.specs.Log.{gate_fault, log_fault}
 use Rattle.fam_format.specs.Slot.{entry_of}
 use Rattle.fam_format.specs.Super.{magic_fault, super_body_of}
 use Rattle.fam_format.specs.Tree.{join_fault, replay}
-use Rattle.fam_commands.specs.declared.place.Part.{Part}
-use Rattle.fam_commands.specs.declared.place.Part.TheVariants.{Superblock, Header, Slot, File}
-use Rattle.fam_commands.specs.declared.place.Place.{Place}
-use Rattle.fam_commands.specs.declared.place.Place.TheVariants as at
+use Rattle.fam_commands.specs.declared.phase.Part.{Part}
+use Rattle.fam_commands.specs.declared.phase.Part.TheVariants.{Superblock, Header, Slot, File}
+use Rattle.fam_commands.specs.declared.phase.Phase.{Phase}
+use Rattle.fam_commands.specs.declared.phase.Phase.TheVariants as at
 use Rattle.fam_commands.specs.Task.{Task, part_count, wanted_end}
-use Rattle.fam_commands.specs.Turns.{Turn, Goes, Marks, Finds, Writes, Ends, super_end, log_end, magic_turn, host_refusal, host_turn, super_turn, header_turn, slot_or_decide, slots_read, finds_or_goes, with_gate, gate_turn, join_turn, slot_turn, check_turn, first_store, append_turn, verify_lines, verify_turn, bytes_turn, kind_turn, found_turn, wish_turn, decide_turn, line_or, line_difference, compare_turn, file_turn, line_turn, with_word, word_turn, turn_at}
+use Rattle.fam_commands.specs.Turns.{Turn, Goes, Marks, Finds, Writes, Ends, super_fault_reply, log_fault_reply, magic_turn, host_refusal, host_turn, super_turn, header_turn, slot_or_decide, slots_read, finds_or_goes, gate_loaded, gate_turn, join_turn, slot_turn, check_turn, first_store, append_turn, verify_lines, verify_turn, bytes_turn, kind_turn, found_turn, wish_turn, decide_turn, line_or, line_difference, compare_turn, file_turn, line_turn, with_word, word_turn, turn_at}
 use Rattle.fam_rules.specs.declared.answers.Refused.{Refused}
 use Rattle.fam_rules.specs.Decide.{Wish, decide_wish, master_refusal, wish_of}
 use Rattle.fam_rules.specs.Place.{line_bytes}
@@ -30,7 +30,7 @@ use Rattle.fam_rules.specs.Reply.{Reply, Appended, NotAppended, Reports, NoSuper
 use Rattle.fam_commands.specs.Appends.{IsBeforeWrites, HasWish}
 
 -- the superblock is read there
-abbrev pub IsBehindSuper : Place → Type 0
+abbrev pub IsBehindSuper : Phase → Type 0
 IsBehindSuper at.DropMagic = ⊥
 IsBehindSuper at.Magic = ⊥
 IsBehindSuper (at.Drop Superblock j) = ⊥
@@ -57,10 +57,10 @@ pub record Begins (cmd : Cmd) (seq : ℕ) (e : Entry) (next : Task) : Type 0 whe
   pub wish : HasWish cmd
   pub gate : next.gate ≡ seq
   pub entry : next.entry ≡ Some e
-  pub place : next.place ≡ first_store e.size
+  pub phase : next.phase ≡ first_store e.size
 
 -- who gives such an answer, and where
-abbrev pub EndsAt : Place → Cmd → Reply → Type 0
+abbrev pub EndsAt : Phase → Cmd → Reply → Type 0
 EndsAt p cmd (Appended seq) = ⊥
 EndsAt p cmd (NotAppended refused) = HasWish cmd
 EndsAt p cmd (Reports report) = cmd ≡ Fsck
@@ -76,35 +76,35 @@ EndsAt p cmd (NotFound m) = ⊤
 EndsAt p cmd (IsDirectory m) = ⊤
 EndsAt p cmd (Checks m checked) = ⊤
 
-abbrev pub SaysAt : Place → Cmd → Turn → Type 0
-SaysAt p cmd (Goes next) = IsBeforeWrites next.place
-SaysAt p cmd (Marks next) = IsBeforeWrites next.place
-SaysAt p cmd (Finds n next) = IsBeforeWrites next.place
+abbrev pub SaysAt : Phase → Cmd → Turn → Type 0
+SaysAt p cmd (Goes next) = IsBeforeWrites next.phase
+SaysAt p cmd (Marks next) = IsBeforeWrites next.phase
+SaysAt p cmd (Finds n next) = IsBeforeWrites next.phase
 SaysAt p cmd (Writes seq e next) = Begins cmd seq e next
 SaysAt p cmd (Ends reply) = EndsAt p cmd reply
 
 -- A test either way, and answers on a damaged image.
-module _ (p : Place) (cmd : Cmd) where
+module _ (p : Phase) (cmd : Cmd) where
   either : (b : Bool) (one other : Turn) → SaysAt p cmd one → SaysAt p cmd other → SaysAt p cmd (if b then one else other)
   either true one other first second = first
   either false one other first second = second
 
-  super_ends : (fault : SuperFault) → EndsAt p cmd (super_end cmd fault)
+  super_ends : (fault : SuperFault) → EndsAt p cmd (super_fault_reply cmd fault)
   super_ends fault = by_cmd cmd
     where
-      by_cmd : (c : Cmd) → EndsAt p c (super_end c fault)
+      by_cmd : (c : Cmd) → EndsAt p c (super_fault_reply c fault)
       by_cmd Fsck = refl
       by_cmd other = λ e. absurd (cc)
 
-  log_ends : IsBehindSuper p → (fault : LogFault) → EndsAt p cmd (log_end cmd fault)
+  log_ends : IsBehindSuper p → (fault : LogFault) → EndsAt p cmd (log_fault_reply cmd fault)
   log_ends behind fault = by_cmd cmd
     where
-      by_cmd : (c : Cmd) → EndsAt p c (log_end c fault)
+      by_cmd : (c : Cmd) → EndsAt p c (log_fault_reply c fault)
       by_cmd Fsck = refl
       by_cmd other = (behind, λ e. absurd (cc))
 
 -- Superblock and header.
-module _ (p : Place) (t : Task) where
+module _ (p : Phase) (t : Task) where
   magic_says : (o : Option SuperFault) → SaysAt p t.cmd (magic_turn t o)
   magic_says (Some fault) = super_ends p t.cmd fault
   magic_says None = tt
@@ -133,12 +133,12 @@ slot_or t i = by_test (nat_lt i (slots_read t))
     by_test true = tt
     by_test false = tt
 
-module _ (p : Place) (behind : IsBehindSuper p) (t : Task) where
+module _ (p : Phase) (behind : IsBehindSuper p) (t : Task) where
   gate_says : (n : ℕ) (o : Option LogFault) → SaysAt p t.cmd (gate_turn t n o)
   gate_says n (Some fault) = log_ends p t.cmd behind fault
   gate_says n None = by_wish (wish_of t.cmd)
     where
-      by_wish : (o : Option Wish) → SaysAt p t.cmd (finds_or_goes o n (with_gate t n))
+      by_wish : (o : Option Wish) → SaysAt p t.cmd (finds_or_goes o n (gate_loaded t n))
       by_wish None = slot_or (record t { gate = n }) t.first_slot
       by_wish (Some w) = slot_or (record t { gate = n }) t.first_slot
 
@@ -158,10 +158,10 @@ module _ (p : Place) (behind : IsBehindSuper p) (t : Task) where
       by_cmd other is = slot_says (λ e. absurd (cc)) i (entry_of t.params t.words i)
 
 -- The decision, and lines of files.
-module _ (p : Place) (t : Task) where
+module _ (p : Phase) (t : Task) where
   append_says : HasWish t.cmd → (r : Result Entry Refused) → SaysAt p t.cmd (append_turn t r)
   append_says has (Err refused) = has
-  append_says has (Ok e) = record { wish = has; gate = refl; entry = refl; place = refl }
+  append_says has (Ok e) = record { wish = has; gate = refl; entry = refl; phase = refl }
 
   lines_say : (e : Entry) → SaysAt p t.cmd (verify_lines t e)
   lines_say e = either p t.cmd (e.size == 0) _ _ tt tt
@@ -199,25 +199,25 @@ module _ (p : Place) (t : Task) where
   line_says : (part : Part) (j : ℕ) (turn : Turn) → SaysAt p t.cmd turn → SaysAt p t.cmd (line_or t part j turn)
   line_says part j turn says = either p t.cmd (nat_lt (j + 1) (part_count t part)) _ _ tt says
 
-compare_says : (p : Place) (t : Task) (against : Content) (j : ℕ) (o : Option ℕ) → SaysAt p t.cmd (compare_turn t against j o)
+compare_says : (p : Phase) (t : Task) (against : Content) (j : ℕ) (o : Option ℕ) → SaysAt p t.cmd (compare_turn t against j o)
 compare_says p t against j (Some b) = tt
 compare_says p t against j None = line_says p (record t { words = [] }) File j _ tt
 
-file_says : (p : Place) (t : Task) (j : ℕ) → IsBeforeWrites t.place → (c : Cmd) → SaysAt p t.cmd (file_turn c t j)
+file_says : (p : Phase) (t : Task) (j : ℕ) → IsBeforeWrites t.phase → (c : Cmd) → SaysAt p t.cmd (file_turn c t j)
 file_says p t j before (Verify path against) = compare_says p t against j (line_difference t against j)
 file_says p t j before (Read path offset count) = line_says p t File j _ tt
 file_says p t j before other = before
 
-part_says : (t : Task) (part : Part) (j k : ℕ) → IsBeforeWrites t.place → SaysAt (at.Word part j k) t.cmd (line_turn t part j)
+part_says : (t : Task) (part : Part) (j k : ℕ) → IsBeforeWrites t.phase → SaysAt (at.Word part j k) t.cmd (line_turn t part j)
 part_says t Superblock j k before = line_says (at.Word Superblock j k) t Superblock j _ (super_says (at.Word Superblock j k) t (super_body_of t.words (line_bytes * t.lines)))
 part_says t Header j k before = header_says (at.Word Header j k) t tt (log_fault t.words t.params)
 part_says t (Slot i) j k before = line_says (at.Word (Slot i) j k) t (Slot i) j _ tt
 part_says t File j k before = file_says (at.Word File j k) t j before t.cmd
 
-word_says : (t : Task) (part : Part) (j k : ℕ) → IsBeforeWrites t.place → SaysAt (at.Word part j k) t.cmd (word_turn t part j k)
+word_says : (t : Task) (part : Part) (j k : ℕ) → IsBeforeWrites t.phase → SaysAt (at.Word part j k) t.cmd (word_turn t part j k)
 word_says t part j k before = either (at.Word part j k) t.cmd (nat_lt k 7) _ _ tt (part_says t part j k before)
 
-pub turn_says : (p : Place) (t : Task) (word : ℕ) → IsBeforeWrites p → t.place ≡ p → SaysAt p t.cmd (turn_at p t word)
+pub turn_says : (p : Phase) (t : Task) (word : ℕ) → IsBeforeWrites p → t.phase ≡ p → SaysAt p t.cmd (turn_at p t word)
 turn_says at.DropMagic t word before is = tt
 turn_says at.Magic t word before is = magic_says at.Magic t (magic_fault word)
 turn_says (at.Drop part j) t word before is = tt

@@ -8,10 +8,10 @@ use Rattle.std.proofs.lemmas.List.FromFn.{length-map-range_with_len, get_or-map-
 use Rattle.fam_base.specs.Image.{byte_of}
 use Rattle.fam_base.specs.declared.cmd.Content.{Content}
 use Rattle.fam_base.specs.declared.entry.Entry.{Entry}
-use Rattle.fam_rules.specs.Asks.{first_difference, bytes_from}
+use Rattle.fam_rules.specs.Asks.{first_difference, file_bytes_from}
 use Rattle.fam_rules.specs.Content.{byte_in, content_byte}
 use Rattle.fam_commands.proofs.Finds.{IsFirst, IsSearched, searched, first_is, none_is}
-use Rattle.fam_commands.proofs.Ties.{IsSame}
+use Rattle.fam_commands.proofs.Steps.Ties.{IsSame}
 
 -- a byte behind the first n words
 byte_behind : (words : List ℕ) (n o : ℕ) → byte_in (drop n words) o ≡ byte_of (slice_index words (n + o / 8)) (o % 8)
@@ -68,7 +68,7 @@ module _ (against : Content) (e : Entry) (words : List ℕ) (n : ℕ) where
   late j same (Some k) h o is =
       let here : k ≡ o = cc in
       elim (cases_lt k (64 * j)) [
-        | inl front ↦ absurd (false≢true (sym (agrees k (let e = h.below in omega arith) (same k front (let e = h.below in omega arith))) ∙ h.passes))
+        | inl prefix ↦ absurd (false≢true (sym (agrees k (let e = h.below in omega arith) (same k prefix (let e = h.below in omega arith))) ∙ h.passes))
         | inr past ↦ omega arith
       ]
 
@@ -91,7 +91,7 @@ module _ (against : Content) (e : Entry) (words : List ℕ) (n : ℕ) where
       let below = h.below in
       first_is_found
       ∙ first_is differs e.size (64 * j + b) (omega arith) (line_told j b (omega arith) ∙ h.passes)
-      (λ o front. elim (cases_lt o (64 * j)) [
+      (λ o prefix. elim (cases_lt o (64 * j)) [
         | inl early ↦ agrees o (omega arith) (same o early (omega arith))
         | inr past ↦
             let z : o ≡ 64 * j + (o - 64 * j) = omega arith in
@@ -102,7 +102,7 @@ module _ (against : Content) (e : Entry) (words : List ℕ) (n : ℕ) where
 
   -- a line without one agrees
   pub same_more : (j : ℕ) → IsSame against e (drop n words) j → IsSearched (line_differs j) 0 (min 64 (e.size - 64 * j)) None → IsSame against e (drop n words) (j + 1)
-  same_more j same none = λ o front inside.
+  same_more j same none = λ o prefix inside.
       elim (cases_lt o (64 * j)) [
         | inl early ↦ same o early inside
         | inr past ↦
@@ -115,9 +115,9 @@ module _ (against : Content) (e : Entry) (words : List ℕ) (n : ℕ) where
 -- A file that is read from an offset on.
 
 -- the bytes that a read gives, by the words
-pub wanted_bytes : (loaded : List ℕ) (offset count size : ℕ) → bytes_from offset count (bytes_by loaded (64 * (offset / 64)) size) ≡ map (λ i. byte_in loaded (offset % 64 + i)) (range_with_len 0 (min size (offset + count) - offset))
+pub wanted_bytes : (loaded : List ℕ) (offset count size : ℕ) → file_bytes_from offset count (bytes_by loaded (64 * (offset / 64)) size) ≡ map (λ i. byte_in loaded (offset % 64 + i)) (range_with_len 0 (min size (offset + count) - offset))
 wanted_bytes loaded offset count size =
-    same_lists (bytes_from offset count all) (map (λ i. byte_in loaded (offset % 64 + i)) (range_with_len 0 (min size (offset + count) - offset)))
+    same_lists (file_bytes_from offset count all) (map (λ i. byte_in loaded (offset % 64 + i)) (range_with_len 0 (min size (offset + count) - offset)))
     (omega (arith, length-take count (drop offset all), length-drop offset all, length-bytes loaded (64 * (offset / 64)) size, length-map-range_with_len (λ i. byte_in loaded (offset % 64 + i)) 0 (min size (offset + count) - offset)))
     (λ k d below.
     let small : k < min size (offset + count) - offset = omega (arith, length-take count (drop offset all), length-drop offset all, length-bytes loaded (64 * (offset / 64)) size) in

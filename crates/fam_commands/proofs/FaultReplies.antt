@@ -15,7 +15,7 @@ use Rattle.fam_rules.specs.Place.{line_bytes}
 use Rattle.fam_rules.specs.Reply as reply
 use Rattle.fam_rules.specs.Reply.{Reply}
 use Rattle.fam_rules.specs.Reports.{no_survey, survey_slots, super_report, log_report, report_by, report_below, report_log, report_super, report_of}
-use Rattle.fam_commands.specs.Turns.{super_end, log_end}
+use Rattle.fam_commands.specs.Turns.{super_fault_reply, log_fault_reply}
 use Rattle.fam_commands.specs.Table.{fed, fed_super, fed_gate, fault_reply, fed_head}
 
 -- The words of the head.
@@ -73,16 +73,16 @@ module _ (words : List ℕ) (lines : ℕ) where
   report_on_slots p super header within = ap (report_super (fed p 0 words)) super ∙ ap (report_log (fed p 0 words) p) header ∙ ap (report_below (fed p 0 words) p) within
 
   -- the answer where the superblock is bad
-  pub super_reply : (cmd : Cmd) (fault : SuperFault) → fed_super words lines ≡ Err fault → fault_reply cmd words lines (reply.NoSuperblock fault) ≡ super_end cmd fault
+  pub super_reply : (cmd : Cmd) (fault : SuperFault) → fed_super words lines ≡ Err fault → fault_reply cmd words lines (reply.NoSuperblock fault) ≡ super_fault_reply cmd fault
   super_reply Fsck fault is = ap reply.Reports (report_on_super fault is)
   super_reply cmd fault is = refl
 
   -- where the header is
-  pub header_reply : (cmd : Cmd) (p : Params) (fault : LogFault) → fed_super words lines ≡ Ok p → log_fault (fed_head words log_line) p ≡ Some fault → fault_reply cmd words lines (reply.BadHeader fault) ≡ log_end cmd fault
+  pub header_reply : (cmd : Cmd) (p : Params) (fault : LogFault) → fed_super words lines ≡ Ok p → log_fault (fed_head words log_line) p ≡ Some fault → fault_reply cmd words lines (reply.BadHeader fault) ≡ log_fault_reply cmd fault
   header_reply Fsck p fault super is = ap reply.Reports (report_on_header p fault super is)
   header_reply cmd p fault super is = refl
 
   -- where the gate is
-  pub gate_reply : (cmd : Cmd) (p : Params) (fault : LogFault) → fed_super words lines ≡ Ok p → log_fault (fed_head words log_line) p ≡ None → gate_fault (fed_gate words) p ≡ Some fault → fault_reply cmd words lines (reply.BadHeader fault) ≡ log_end cmd fault
+  pub gate_reply : (cmd : Cmd) (p : Params) (fault : LogFault) → fed_super words lines ≡ Ok p → log_fault (fed_head words log_line) p ≡ None → gate_fault (fed_gate words) p ≡ Some fault → fault_reply cmd words lines (reply.BadHeader fault) ≡ log_fault_reply cmd fault
   gate_reply Fsck p fault super header is = ap reply.Reports (report_on_gate p fault super header is)
   gate_reply cmd p fault super header is = refl

@@ -1,12 +1,12 @@
--- Commands that append, and the places before the first store.
+-- Commands that append, and the phases before the first store.
 use Rattle.std.specs.Prelude.{⊤, ◌≡◌, Some}
 use Rattle.fam_base.specs.declared.cmd.Cmd.{Cmd}
 use Rattle.fam_rules.specs.Decide.{Wish, wish_of}
-use Rattle.fam_commands.specs.declared.place.Place.{Place}
-use Rattle.fam_commands.specs.declared.place.Place.TheVariants as at
+use Rattle.fam_commands.specs.declared.phase.Phase.{Phase}
+use Rattle.fam_commands.specs.declared.phase.Phase.TheVariants as at
 
 -- nothing of an append is stored or sent there
-abbrev pub IsBeforeWrites : Place → Type 0
+abbrev pub IsBeforeWrites : Phase → Type 0
 IsBeforeWrites at.DropMagic = ⊤
 IsBeforeWrites at.Magic = ⊤
 IsBeforeWrites (at.Drop part j) = ⊤

@@ -23,7 +23,7 @@ use Rattle.fam_rules.specs.Decide.{Wish, wish_of}
 use Rattle.fam_rules.specs.Reply.{Reply, Appended, NotAppended, Played, Same, Differs, Length, Bytes, NotFound, IsDirectory, Checks, Reports, NoSuperblock, BadHeader, BadSlot}
 use Rattle.fam_rules.specs.Written.{lines_of}
 use Rattle.fam_commands.specs.Task.{no_params, size_of, wanted_lines}
-use Rattle.fam_commands.specs.Table.{fed_super, fed_gate, fed_slots, entries_in, params_or}
+use Rattle.fam_commands.specs.Table.{fed_super, fed_gate, fed_slots, entries_read, params_or}
 
 -- a line takes one operation for each of its words, and its invalidation or sending
 abbrev pub line_steps : ℕ
@@ -133,7 +133,7 @@ file_lines Fsck entries = 0
 -- the entries that the words tell, of a command that reads slots from `first` on
 abbrev pub told_entries : ℕ → List ℕ → ℕ → List Entry
 told_entries first words lines =
-    entries_in (fed_slots words (params_or no_params (fed_super words lines)) first (fed_gate words))
+    entries_read (fed_slots words (params_or no_params (fed_super words lines)) first (fed_gate words))
 
 -- the operations up to this answer, with the one that gives it
 abbrev pub steps_of : ℕ → Cmd → ℕ → List ℕ → Reply → ℕ

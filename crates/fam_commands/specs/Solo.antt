@@ -6,9 +6,9 @@ use Rattle.fam_base.specs.Image.{Image, line_at}
 use Rattle.fam_machine.specs.declared.op.Op.{Op}
 use Rattle.fam_machine.specs.declared.op.Op.TheVariants.{Load, Store, WriteBack, Invalidate, Digest}
 use Rattle.fam_machine.specs.Caches.{Cache}
-use Rattle.fam_machine.specs.Operations.{Machine, given, operated, IsInside}
+use Rattle.fam_machine.specs.Operations.{Machine, given, operated, IsInImage}
 use Rattle.fam_commands.specs.Stands.{note_of, task_after, with_given}
-use Rattle.fam_commands.specs.Table.{Note, Quiet, Mark, Found, Writing, Answer}
+use Rattle.fam_commands.specs.Table.{RowNote, Quiet, Mark, Found, Writing, Answer}
 use Rattle.fam_commands.specs.Task.{Task, op_of, starting}
 use Rattle.fam_commands.specs.Turns.{Turn, turn_of}
 
@@ -17,19 +17,19 @@ abbrev pub turn_on : Task → Machine → Turn
 turn_on t m = turn_of t (given (op_of t) m)
 
 -- the machine before the first operation, on an empty cache
-abbrev pub fresh : Image → Machine
-fresh image = record { image = image; cache = map.empty }
+abbrev pub with_empty_cache : Image → Machine
+with_empty_cache image = record { image = image; cache = map.empty }
 
 -- from an image and a cache, after so many operations the task stands here, its loads gave these words, and this is
 -- left of memory and cache
-pub data Came (cmd : Cmd) (me : List ℕ) (image : Image) (cache : Cache) : Task → List ℕ → ℕ → Machine → Type 0 where
-  starts : Came cmd me image cache (starting cmd me (length image)) [] 0 (record { image = image; cache = cache })
-  goes : {t next : Task} {words : List ℕ} {made : ℕ} {m : Machine} → Came cmd me image cache t words made m → IsInside (op_of t) m.image → task_after (turn_on t m) ≡ Some next → Came cmd me image cache next (with_given words (given (op_of t) m)) (made + 1) (operated (op_of t) m)
+pub data SoloRun (cmd : Cmd) (me : List ℕ) (image : Image) (cache : Cache) : Task → List ℕ → ℕ → Machine → Type 0 where
+  starts : SoloRun cmd me image cache (starting cmd me (length image)) [] 0 (record { image = image; cache = cache })
+  goes : {t next : Task} {words : List ℕ} {made : ℕ} {m : Machine} → SoloRun cmd me image cache t words made m → IsInImage (op_of t) m.image → task_after (turn_on t m) ≡ Some next → SoloRun cmd me image cache next (with_given words (given (op_of t) m)) (made + 1) (operated (op_of t) m)
 
 -- What is noted, by the operations and by the image alone.
 
 -- a note that is made, or none
-abbrev pub noted : Note → List Note
+abbrev pub noted : RowNote → List RowNote
 noted Quiet = []
 noted Mark = Mark ∷ []
 noted (Found n) = (Found n) ∷ []
@@ -37,7 +37,7 @@ noted (Writing seq e) = (Writing seq e) ∷ []
 noted (Answer given) = (Answer given) ∷ []
 
 -- the notes of a command up to where it has come
-abbrev pub notes_up_to : (cmd : Cmd) (me : List ℕ) (image : Image) (cache : Cache) (t : Task) (words : List ℕ) (made : ℕ) (m : Machine) → Came cmd me image cache t words made m → List Note
+abbrev pub notes_up_to : (cmd : Cmd) (me : List ℕ) (image : Image) (cache : Cache) (t : Task) (words : List ℕ) (made : ℕ) (m : Machine) → SoloRun cmd me image cache t words made m → List RowNote
 notes_up_to cmd me image cache t words made m starts = []
 notes_up_to cmd me image cache next _ _ _ (goes {t = t} {words = words} {made = made} {m = m} before inside is) = notes_up_to cmd me image cache t words made m before ++ noted (note_of (turn_on t m))
 
@@ -53,7 +53,7 @@ image_word image Digest = None
 pub record Stand : Type 0 where
   pub task : Task
   pub words : List ℕ
-  pub notes : List Note
+  pub notes : List RowNote
 
 -- what comes of its next operation on this image
 abbrev pub image_turn : Image → Stand → Turn

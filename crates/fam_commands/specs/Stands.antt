@@ -4,7 +4,7 @@ use Rattle.fam_base.specs.declared.cmd.Cmd.{Cmd}
 use Rattle.fam_machine.specs.Operations.{given_by}
 use Rattle.fam_commands.specs.Task.{Task, starting, op_of}
 use Rattle.fam_commands.specs.Turns.{Turn, Goes, Marks, Finds, Writes, Ends, turn_of}
-use Rattle.fam_commands.specs.Table.{Note, Quiet, Mark, Found, Writing, Answer}
+use Rattle.fam_commands.specs.Table.{RowNote, Quiet, Mark, Found, Writing, Answer}
 
 -- words with one more, where there is one
 abbrev pub with_given : List ℕ → Option ℕ → List ℕ
@@ -20,7 +20,7 @@ task_after (Writes seq e t) = Some t
 task_after (Ends reply) = None
 
 -- what a turn notes
-abbrev pub note_of : Turn → Note
+abbrev pub note_of : Turn → RowNote
 note_of (Goes t) = Quiet
 note_of (Marks t) = Mark
 note_of (Finds n t) = Found n

@@ -33,20 +33,20 @@ use Rattle.fam_machine.specs.Operations.{line_no, load_ops, store_ops}
 use Rattle.fam_commands.specs.Task.{no_params, first_line, wanted_lines, content_of}
 
 -- what comes with an operation
-pub data Note : Type 0 where
-  Quiet : Note
-  Mark : Note
-  Found : (n : ℕ) → Note
-  Writing : (seq : ℕ) (e : Entry) → Note
-  Answer : (reply : Reply) → Note
+pub data RowNote : Type 0 where
+  Quiet : RowNote
+  Mark : RowNote
+  Found : (n : ℕ) → RowNote
+  Writing : (seq : ℕ) (e : Entry) → RowNote
+  Answer : (reply : Reply) → RowNote
 
 -- a row of the table
 pub record Row : Type 0 where
   pub op : Op
-  pub note : Note
+  pub note : RowNote
 
 -- operations of which the last has a note
-abbrev pub rows : List Op → Note → List Row
+abbrev pub rows : List Op → RowNote → List Row
 rows [] note = []
 rows (op ∷ []) note = record { op = op; note = note } ∷ []
 rows (op ∷ next ∷ more) note = record { op = op; note = Quiet } ∷ rows (next ∷ more) note
@@ -114,11 +114,11 @@ abbrev pub fed_slots : List ℕ → Params → ℕ → ℕ → Reading
 fed_slots words p first n = read_slots (fed p first words) p first (n - first) []
 
 -- the entries of a sound reading
-abbrev pub entries_in : Reading → List Entry
-entries_in (NoSuperblock fault) = []
-entries_in (BadHeader fault) = []
-entries_in (BadSlot i reason) = []
-entries_in (Sound p entries) = entries
+abbrev pub entries_read : Reading → List Entry
+entries_read (NoSuperblock fault) = []
+entries_read (BadHeader fault) = []
+entries_read (BadSlot i reason) = []
+entries_read (Sound p entries) = entries
 
 -- an entry, and the bytes of its file as the words behind the slots give them, of which the first is byte `start`
 abbrev pub fed_file : List ℕ → ℕ → Entry → File
@@ -143,48 +143,48 @@ fault_reply (Read path offset count) words lines other = other
 fault_reply (Check listing) words lines other = other
 
 -- with the load of the magic
-abbrev pub magic_note : Cmd → List ℕ → ℕ → Option SuperFault → Note
+abbrev pub magic_note : Cmd → List ℕ → ℕ → Option SuperFault → RowNote
 magic_note cmd words lines (Some fault) = Answer (fault_reply cmd words lines (reply.NoSuperblock fault))
 magic_note cmd words lines None = Quiet
 
 -- a command that appends, of another host than the master
-abbrev pub master_note : Option Wish → Params → List ℕ → Note
+abbrev pub master_note : Option Wish → Params → List ℕ → RowNote
 master_note None p me = Quiet
 master_note (Some w) p me = refusal_note (master_refusal p me)
   where
-    refusal_note : Option Refused → Note
+    refusal_note : Option Refused → RowNote
     refusal_note None = Quiet
     refusal_note (Some refused) = Answer (reply.NotAppended refused)
 
 -- with the last load of the superblock
-abbrev pub super_note : Cmd → List ℕ → List ℕ → ℕ → Result Params SuperFault → Note
+abbrev pub super_note : Cmd → List ℕ → List ℕ → ℕ → Result Params SuperFault → RowNote
 super_note cmd me words lines (Err fault) = Answer (fault_reply cmd words lines (reply.NoSuperblock fault))
 super_note cmd me words lines (Ok p) = master_note (wish_of cmd) p me
 
 -- with the last load of the header
-abbrev pub header_note : Cmd → List ℕ → ℕ → Option LogFault → Note
+abbrev pub header_note : Cmd → List ℕ → ℕ → Option LogFault → RowNote
 header_note cmd words lines (Some fault) = Answer (fault_reply cmd words lines (reply.BadHeader fault))
 header_note cmd words lines None = Quiet
 
 -- a command that appends says what it found
-abbrev pub found_note : Option Wish → ℕ → Note
+abbrev pub found_note : Option Wish → ℕ → RowNote
 found_note None n = Quiet
 found_note (Some w) n = Found n
 
 -- with the load of the gate
-abbrev pub gate_note : Cmd → List ℕ → ℕ → Option LogFault → Note
+abbrev pub gate_note : Cmd → List ℕ → ℕ → Option LogFault → RowNote
 gate_note cmd words lines (Some fault) = Answer (fault_reply cmd words lines (reply.BadHeader fault))
 gate_note cmd words lines None = found_note (wish_of cmd) (fed_gate words)
 
 -- by the reading of the slots up to this one
-abbrev pub reading_note : Reading → Note
+abbrev pub reading_note : Reading → RowNote
 reading_note (NoSuperblock fault) = Quiet
 reading_note (BadHeader fault) = Quiet
 reading_note (BadSlot i reason) = Answer (reply.BadSlot i reason)
 reading_note (Sound p entries) = Quiet
 
 -- with the Digest of slot i: a check of the whole file system goes on
-abbrev pub slot_note : Cmd → List ℕ → Params → ℕ → ℕ → Note
+abbrev pub slot_note : Cmd → List ℕ → Params → ℕ → ℕ → RowNote
 slot_note Fsck words p first i = Quiet
 slot_note Logplay words p first i = reading_note (fed_slots words p first (i + 1))
 slot_note (Mkdir path attr) words p first i = reading_note (fed_slots words p first (i + 1))
@@ -195,12 +195,12 @@ slot_note (Read path offset count) words p first i = reading_note (fed_slots wor
 slot_note (Check listing) words p first i = reading_note (fed_slots words p first (i + 1))
 
 -- an answer, where there is one
-abbrev pub answer_or : Option Reply → Note
+abbrev pub answer_or : Option Reply → RowNote
 answer_or None = Quiet
 answer_or (Some given) = Answer given
 
 -- the entry that a command appends, or why none
-abbrev pub append_note : ℕ → Option (Result Entry Refused) → Note
+abbrev pub append_note : ℕ → Option (Result Entry Refused) → RowNote
 append_note seq None = Quiet
 append_note seq (Some (Err refused)) = Answer (reply.NotAppended refused)
 append_note seq (Some (Ok e)) = Writing seq e
@@ -243,13 +243,13 @@ wanted_file (Check listing) files = None
 wanted_file Fsck files = None
 
 -- of a command that asks: quiet where lines of a file are to be read, or the answer
-abbrev pub asked_note : Cmd → List ℕ → Params → ℕ → List Entry → Note
+abbrev pub asked_note : Cmd → List ℕ → Params → ℕ → List Entry → RowNote
 asked_note cmd words p first entries =
     if reads_file cmd (wanted_file cmd (fed_files words p first cmd entries)) then Quiet
     else answer_or (ask (fed_files words p first cmd entries) cmd)
 
 -- with the Digest behind the slots
-abbrev pub decision_note : Cmd → List ℕ → List ℕ → ℕ → Params → ℕ → List Entry → Note
+abbrev pub decision_note : Cmd → List ℕ → List ℕ → ℕ → Params → ℕ → List Entry → RowNote
 decision_note Fsck me words lines p first entries = Answer (reply.Reports (report_of (fed p first words) (line_bytes * lines)))
 decision_note (Mkdir path attr) me words lines p first entries = append_note (length entries) (decide p me entries (Mkdir path attr))
 decision_note (Creat path size attr stripe fill) me words lines p first entries =
@@ -261,7 +261,7 @@ decision_note (Read path offset count) me words lines p first entries = asked_no
 decision_note (Check listing) me words lines p first entries = asked_note (Check listing) words p first entries
 
 -- an answer, where it is a difference in the first so many bytes
-abbrev pub early_reply_note : ℕ → Reply → Note
+abbrev pub early_reply_note : ℕ → Reply → RowNote
 early_reply_note end (reply.Differs m offset found wanted) = if nat_lt offset end then Answer (reply.Differs m offset found wanted) else Quiet
 early_reply_note end (reply.Appended seq) = Quiet
 early_reply_note end (reply.NotAppended refused) = Quiet
@@ -277,12 +277,12 @@ early_reply_note end (reply.NoSuperblock fault) = Quiet
 early_reply_note end (reply.BadHeader fault) = Quiet
 early_reply_note end (reply.BadSlot seq reason) = Quiet
 
-abbrev pub early_note : ℕ → Option Reply → Note
+abbrev pub early_note : ℕ → Option Reply → RowNote
 early_note end None = Quiet
 early_note end (Some given) = early_reply_note end given
 
 -- with the last load of line j of the file
-abbrev pub line_note : Cmd → List ℕ → Params → ℕ → List Entry → ℕ → ℕ → Note
+abbrev pub line_note : Cmd → List ℕ → Params → ℕ → List Entry → ℕ → ℕ → RowNote
 line_note cmd words p first entries count j =
     if nat_lt (j + 1) count then early_note (line_bytes * (j + 1)) (ask (fed_files words p first cmd entries) cmd)
     else answer_or (ask (fed_files words p first cmd entries) cmd)
@@ -347,7 +347,7 @@ slots_of_cmd (Check listing) p gate = gate
 -- the rows behind the gate, by the parameters
 abbrev pub body_rows : ℕ → Cmd → List ℕ → ℕ → List ℕ → Params → List Row
 body_rows first cmd me lines words p =
-    let entries = entries_in (fed_slots words p first (fed_gate words)) in
+    let entries = entries_read (fed_slots words p first (fed_gate words)) in
     slots_rows cmd words p first (slots_of_cmd cmd p (fed_gate words)) ++ record { op = Digest; note = decision_note cmd me words lines p first entries } ∷ last_rows cmd me words p first entries
 
 -- the parameters that the words tell, or none

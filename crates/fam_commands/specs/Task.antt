@@ -9,16 +9,16 @@ use Rattle.fam_format.specs.Layout.{geometry, log_line, gate_line, slot_line}
 use Rattle.fam_format.specs.Line.{line_bytes, line_words}
 use Rattle.fam_format.specs.Words.{uuid_bytes}
 use Rattle.fam_rules.specs.Content.{content_line}
-pub use Rattle.fam_rules.specs.Alone.{content_of}
+pub use Rattle.fam_rules.specs.Solo.{content_of}
 use Rattle.fam_rules.specs.Reports.{Survey, no_survey}
 use Rattle.fam_rules.specs.Written.{lines_of, file_line}
 use Rattle.fam_machine.specs.declared.op.Op.{Op}
 use Rattle.fam_machine.specs.declared.op.Op.TheVariants.{Load, Store, WriteBack, Invalidate, Digest}
 use Rattle.fam_machine.specs.Operations.{line_no}
-use Rattle.fam_commands.specs.declared.place.Part.{Part}
-use Rattle.fam_commands.specs.declared.place.Part.TheVariants.{Superblock, Header, Slot, File}
-use Rattle.fam_commands.specs.declared.place.Place.{Place}
-use Rattle.fam_commands.specs.declared.place.Place.TheVariants as at
+use Rattle.fam_commands.specs.declared.phase.Part.{Part}
+use Rattle.fam_commands.specs.declared.phase.Part.TheVariants.{Superblock, Header, Slot, File}
+use Rattle.fam_commands.specs.declared.phase.Phase.{Phase}
+use Rattle.fam_commands.specs.declared.phase.Phase.TheVariants as at
 
 pub record Task : Type 0 where
   pub cmd : Cmd
@@ -26,7 +26,7 @@ pub record Task : Type 0 where
   pub me : List ℕ
   -- the lines of the image
   pub lines : ℕ
-  pub place : Place
+  pub phase : Phase
   -- what the superblock says, once it has been read
   pub params : Params
   -- the first slot that it reads
@@ -57,7 +57,7 @@ starting cmd me lines = record {
   cmd = cmd;
   me = me;
   lines = lines;
-  place = at.DropMagic;
+  phase = at.DropMagic;
   params = no_params;
   first_slot = start_slot;
   gate = 0;
@@ -130,7 +130,7 @@ data_words t j = content_line (content_of t.cmd) (size_of t.entry) j
 
 -- The operation that comes next.
 
-abbrev pub op_at : Task → Place → Op
+abbrev pub op_at : Task → Phase → Op
 op_at t at.DropMagic = Invalidate (line_no 0)
 op_at t at.Magic = Load (line_no 0) 0
 op_at t (at.Drop part j) = Invalidate (line_no (part_line t part j))
@@ -147,4 +147,4 @@ op_at t at.StoreGate = Store (line_no gate_line) 0 (t.gate + 1)
 op_at t at.SendGate = WriteBack (line_no gate_line)
 
 abbrev pub op_of : Task → Op
-op_of t = op_at t t.place
+op_of t = op_at t t.phase

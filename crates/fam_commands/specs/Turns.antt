@@ -26,10 +26,10 @@ use Rattle.fam_rules.specs.Decide.{Wish, wish_of, master_refusal, decide_wish}
 use Rattle.fam_rules.specs.Reply.{Reply, Appended, NotAppended, Played, Same, Differs, Length, Bytes, NotFound, IsDirectory, Checks, Reports, NoSuperblock, BadHeader, BadSlot}
 use Rattle.fam_rules.specs.Reports.{survey_slot, report_by, super_report, log_report}
 use Rattle.fam_rules.specs.Written.{lines_of}
-use Rattle.fam_commands.specs.declared.place.Part.{Part}
-use Rattle.fam_commands.specs.declared.place.Part.TheVariants.{Superblock, Header, Slot, File}
-use Rattle.fam_commands.specs.declared.place.Place.{Place}
-use Rattle.fam_commands.specs.declared.place.Place.TheVariants as at
+use Rattle.fam_commands.specs.declared.phase.Part.{Part}
+use Rattle.fam_commands.specs.declared.phase.Part.TheVariants.{Superblock, Header, Slot, File}
+use Rattle.fam_commands.specs.declared.phase.Phase.{Phase}
+use Rattle.fam_commands.specs.declared.phase.Phase.TheVariants as at
 use Rattle.fam_commands.specs.Task.{Task, size_of, wanted_end, part_count}
 
 pub data Turn : Type 0 where
@@ -46,32 +46,32 @@ pub data Turn : Type 0 where
 
 -- Answers on a damaged image: a check of the whole file system reports, others name the fault.
 
-abbrev pub super_end : Cmd → SuperFault → Reply
-super_end Fsck fault = Reports (super_report fault)
-super_end Logplay fault = NoSuperblock fault
-super_end (Mkdir path attr) fault = NoSuperblock fault
-super_end (Creat path size attr stripe fill) fault = NoSuperblock fault
-super_end (Cp path attr stripe bytes) fault = NoSuperblock fault
-super_end (Verify path against) fault = NoSuperblock fault
-super_end (Read path offset count) fault = NoSuperblock fault
-super_end (Check listing) fault = NoSuperblock fault
+abbrev pub super_fault_reply : Cmd → SuperFault → Reply
+super_fault_reply Fsck fault = Reports (super_report fault)
+super_fault_reply Logplay fault = NoSuperblock fault
+super_fault_reply (Mkdir path attr) fault = NoSuperblock fault
+super_fault_reply (Creat path size attr stripe fill) fault = NoSuperblock fault
+super_fault_reply (Cp path attr stripe bytes) fault = NoSuperblock fault
+super_fault_reply (Verify path against) fault = NoSuperblock fault
+super_fault_reply (Read path offset count) fault = NoSuperblock fault
+super_fault_reply (Check listing) fault = NoSuperblock fault
 
-abbrev pub log_end : Cmd → LogFault → Reply
-log_end Fsck fault = Reports (log_report fault)
-log_end Logplay fault = BadHeader fault
-log_end (Mkdir path attr) fault = BadHeader fault
-log_end (Creat path size attr stripe fill) fault = BadHeader fault
-log_end (Cp path attr stripe bytes) fault = BadHeader fault
-log_end (Verify path against) fault = BadHeader fault
-log_end (Read path offset count) fault = BadHeader fault
-log_end (Check listing) fault = BadHeader fault
+abbrev pub log_fault_reply : Cmd → LogFault → Reply
+log_fault_reply Fsck fault = Reports (log_report fault)
+log_fault_reply Logplay fault = BadHeader fault
+log_fault_reply (Mkdir path attr) fault = BadHeader fault
+log_fault_reply (Creat path size attr stripe fill) fault = BadHeader fault
+log_fault_reply (Cp path attr stripe bytes) fault = BadHeader fault
+log_fault_reply (Verify path against) fault = BadHeader fault
+log_fault_reply (Read path offset count) fault = BadHeader fault
+log_fault_reply (Check listing) fault = BadHeader fault
 
 -- Superblock and header.
 
 -- the magic is that of a superblock, or the answer
 abbrev pub magic_turn : Task → Option SuperFault → Turn
-magic_turn t (Some fault) = Ends (super_end t.cmd fault)
-magic_turn t None = Goes (record t { place = at.Drop Superblock 0; words = [] })
+magic_turn t (Some fault) = Ends (super_fault_reply t.cmd fault)
+magic_turn t None = Goes (record t { phase = at.Drop Superblock 0; words = [] })
 
 -- a host that appends must be the master
 abbrev pub host_refusal : Option Wish → Params → List ℕ → Option Refused
@@ -81,17 +81,17 @@ host_refusal (Some w) p me = master_refusal p me
 -- the host may go on, or the answer
 abbrev pub host_turn : Task → Params → Option Refused → Turn
 host_turn t p (Some refused) = Ends (NotAppended refused)
-host_turn t p None = Goes (record t { params = p; place = at.Drop Header 0; words = [] })
+host_turn t p None = Goes (record t { params = p; phase = at.Drop Header 0; words = [] })
 
 -- the superblock reads, or the answer
 abbrev pub super_turn : Task → Result Params SuperFault → Turn
-super_turn t (Err fault) = Ends (super_end t.cmd fault)
+super_turn t (Err fault) = Ends (super_fault_reply t.cmd fault)
 super_turn t (Ok p) = host_turn t p (host_refusal (wish_of t.cmd) p t.me)
 
 -- the header has no fault, or the answer
 abbrev pub header_turn : Task → Option LogFault → Turn
-header_turn t (Some fault) = Ends (log_end t.cmd fault)
-header_turn t None = Goes (record t { place = at.DropGate; words = [] })
+header_turn t (Some fault) = Ends (log_fault_reply t.cmd fault)
+header_turn t None = Goes (record t { phase = at.DropGate; words = [] })
 
 -- Gate and slots.
 
@@ -110,7 +110,7 @@ slots_read t = slots_by t.cmd
     slots_by (Check listing) = t.gate
 
 -- the next slot, or the decision where all are read
-abbrev pub slot_or_decide : Task → ℕ → Place
+abbrev pub slot_or_decide : Task → ℕ → Phase
 slot_or_decide t i = if nat_lt i (slots_read t) then at.Drop (Slot i) 0 else at.Decide
 
 -- a command that appends notes what it found
@@ -119,18 +119,18 @@ finds_or_goes None n t = Goes t
 finds_or_goes (Some w) n t = Finds n t
 
 -- the gate that was loaded: the first slot comes next, where the command reads one
-abbrev pub with_gate : Task → ℕ → Task
-with_gate t n = record t { gate = n; place = slot_or_decide (record t { gate = n }) t.first_slot }
+abbrev pub gate_loaded : Task → ℕ → Task
+gate_loaded t n = record t { gate = n; phase = slot_or_decide (record t { gate = n }) t.first_slot }
 
 -- the gate is within the slots, or the answer
 abbrev pub gate_turn : Task → ℕ → Option LogFault → Turn
-gate_turn t n (Some fault) = Ends (log_end t.cmd fault)
-gate_turn t n None = finds_or_goes (wish_of t.cmd) n (with_gate t n)
+gate_turn t n (Some fault) = Ends (log_fault_reply t.cmd fault)
+gate_turn t n None = finds_or_goes (wish_of t.cmd) n (gate_loaded t n)
 
 -- the entry of slot i joins those before it, or the answer
 abbrev pub join_turn : Task → ℕ → Entry → Option Reason → Turn
 join_turn t i e (Some reason) = Ends (BadSlot i reason)
-join_turn t i e None = Goes (record t { entries = t.entries ++ e ∷ []; words = []; place = slot_or_decide t (i + 1) })
+join_turn t i e None = Goes (record t { entries = t.entries ++ e ∷ []; words = []; phase = slot_or_decide t (i + 1) })
 
 -- slot i reads, or the answer
 abbrev pub slot_turn : Task → ℕ → Result Entry Reason → Turn
@@ -140,7 +140,7 @@ slot_turn t i (Ok e) = join_turn t i e (join_fault t.params t.entries e)
 -- slot i is surveyed, whatever its words are
 abbrev pub survey_turn : Task → ℕ → Turn
 survey_turn t i =
-    Goes (record t { survey = survey_slot t.params t.gate i t.words t.survey; words = []; place = slot_or_decide t (i + 1) })
+    Goes (record t { survey = survey_slot t.params t.gate i t.words t.survey; words = []; phase = slot_or_decide t (i + 1) })
 
 -- the words of slot i
 abbrev pub check_turn : Cmd → Task → ℕ → Turn
@@ -156,18 +156,18 @@ check_turn (Check listing) t i = slot_turn t i (entry_of t.params t.words i)
 -- The decision.
 
 -- the first store of an append: of the file's first line, or of the slot's
-abbrev pub first_store : ℕ → Place
+abbrev pub first_store : ℕ → Phase
 first_store size = if size == 0 then at.StoreSlot 0 0 else at.StoreData 0 0
 
 -- an entry is to be appended, or the answer
 abbrev pub append_turn : Task → Result Entry Refused → Turn
 append_turn t (Err refused) = Ends (NotAppended refused)
 append_turn t (Ok e) =
-    Writes t.gate e (record t { entry = Some e; words = spelling (geometry t.params) e t.gate; place = first_store e.size })
+    Writes t.gate e (record t { entry = Some e; words = spelling (geometry t.params) e t.gate; phase = first_store e.size })
 
 -- the lines of a file are to be read
 abbrev pub read_file : Task → Entry → Turn
-read_file t e = Goes (record t { entry = Some e; place = at.Drop File 0; words = [] })
+read_file t e = Goes (record t { entry = Some e; phase = at.Drop File 0; words = [] })
 
 -- a file of no bytes has those of every content
 abbrev pub verify_lines : Task → Entry → Turn
@@ -214,7 +214,7 @@ decide_turn (Cp path attr stripe bytes) t = wish_turn t (wish_of t.cmd)
 
 -- the next line of the part, or what comes behind its last one
 abbrev pub line_or : Task → Part → ℕ → Turn → Turn
-line_or t part j turn = if nat_lt (j + 1) (part_count t part) then Goes (record t { place = at.Drop part (j + 1) }) else turn
+line_or t part j turn = if nat_lt (j + 1) (part_count t part) then Goes (record t { phase = at.Drop part (j + 1) }) else turn
 
 -- the first byte of line j of the file that isn't the content's, by its offset in the line
 abbrev pub line_difference : Task → Content → ℕ → Option ℕ
@@ -245,7 +245,7 @@ file_turn Fsck t j = Goes t
 abbrev pub line_turn : Task → Part → ℕ → Turn
 line_turn t Superblock j = line_or t Superblock j (super_turn t (super_body_of t.words (line_bytes * t.lines)))
 line_turn t Header j = header_turn t (log_fault t.words t.params)
-line_turn t (Slot i) j = line_or t (Slot i) j (Goes (record t { place = at.Check i }))
+line_turn t (Slot i) j = line_or t (Slot i) j (Goes (record t { phase = at.Check i }))
 line_turn t File j = file_turn t.cmd t j
 
 -- the task with one word more
@@ -254,40 +254,40 @@ with_word t word = record t { words = t.words ++ word ∷ [] }
 
 -- word k of line j of a part was loaded
 abbrev pub word_turn : Task → Part → ℕ → ℕ → Turn
-word_turn t part j k = if nat_lt k last_word then Goes (record t { place = at.Word part j (k + 1) }) else line_turn t part j
+word_turn t part j k = if nat_lt k last_word then Goes (record t { phase = at.Word part j (k + 1) }) else line_turn t part j
 
 -- Lines that are written.
 
 -- the next word of the line, or its sending
-abbrev pub store_or_send : ℕ → Place → Place → Place
+abbrev pub store_or_send : ℕ → Phase → Phase → Phase
 store_or_send k store send = if nat_lt k last_word then store else send
 
 -- the next line of the file, or the slot's first one
-abbrev pub data_or_slot : Task → ℕ → Place
+abbrev pub data_or_slot : Task → ℕ → Phase
 data_or_slot t j = if nat_lt (j + 1) (lines_of (size_of t.entry)) then at.StoreData (j + 1) 0 else at.StoreSlot 0 0
 
 -- the next line of the slot, or the gate
-abbrev pub slot_or_gate : Task → ℕ → Place
+abbrev pub slot_or_gate : Task → ℕ → Phase
 slot_or_gate t j = if nat_lt (j + 1) (geometry t.params).lines then at.StoreSlot (j + 1) 0 else at.StoreGate
 
--- What comes of the operation at a place; `word` is what a load gave.
+-- What comes of the operation in a phase; `word` is what a load gave.
 
-abbrev pub turn_at : Place → Task → ℕ → Turn
-turn_at at.DropMagic t word = Goes (record t { place = at.Magic })
+abbrev pub turn_at : Phase → Task → ℕ → Turn
+turn_at at.DropMagic t word = Goes (record t { phase = at.Magic })
 turn_at at.Magic t word = magic_turn t (magic_fault word)
-turn_at (at.Drop part j) t word = Goes (record t { place = at.Word part j 0 })
+turn_at (at.Drop part j) t word = Goes (record t { phase = at.Word part j 0 })
 turn_at (at.Word part j k) t word = word_turn (with_word t word) part j k
-turn_at at.DropGate t word = Marks (record t { place = at.Gate })
+turn_at at.DropGate t word = Marks (record t { phase = at.Gate })
 turn_at at.Gate t word = gate_turn t word (gate_fault word t.params)
 turn_at (at.Check i) t word = check_turn t.cmd t i
 turn_at at.Decide t word = decide_turn t.cmd t
-turn_at (at.StoreData j k) t word = Goes (record t { place = store_or_send k (at.StoreData j (k + 1)) (at.SendData j) })
-turn_at (at.SendData j) t word = Goes (record t { place = data_or_slot t j })
-turn_at (at.StoreSlot j k) t word = Goes (record t { place = store_or_send k (at.StoreSlot j (k + 1)) (at.SendSlot j) })
-turn_at (at.SendSlot j) t word = Goes (record t { place = slot_or_gate t j })
-turn_at at.StoreGate t word = Goes (record t { place = at.SendGate })
+turn_at (at.StoreData j k) t word = Goes (record t { phase = store_or_send k (at.StoreData j (k + 1)) (at.SendData j) })
+turn_at (at.SendData j) t word = Goes (record t { phase = data_or_slot t j })
+turn_at (at.StoreSlot j k) t word = Goes (record t { phase = store_or_send k (at.StoreSlot j (k + 1)) (at.SendSlot j) })
+turn_at (at.SendSlot j) t word = Goes (record t { phase = slot_or_gate t j })
+turn_at at.StoreGate t word = Goes (record t { phase = at.SendGate })
 turn_at at.SendGate t word = Ends (Appended t.gate)
 
 -- a load gives a word, and no other operation does
 abbrev pub turn_of : Task → Option ℕ → Turn
-turn_of t word = turn_at t.place t (unwrap_or word 0)
+turn_of t word = turn_at t.phase t (unwrap_or word 0)

@@ -37,7 +37,7 @@ pub fn a_task_reads_from_the_start()
 {}
 
 /// Where a task ends, the operations that it made, with the last one, are as many as its answer says: by the gate
-/// that was loaded, the lines of the file, and where the answer comes of a fault, by the place of the fault.
+/// that was loaded, the lines of the file, and where the answer comes of a fault, by the phase of the fault.
 pub fn the_number_of_operations()
     ensures { (cmd : Cmd) (me : List ℕ) (lines : ℕ) (t : Task) (words : List ℕ) (made : ℕ) →
         StandsFor cmd me lines t words made → (word : ℕ) (reply : Reply) →

@@ -26,20 +26,20 @@ same_choice : (i n v : ℕ) → (if nat_lt i n then v else 0) ≡ (if nat_lt (su
 same_choice i n v = grind (arith, nat_tests)
 
 -- byte i of the first n bytes of a word
-pub front_byte : (n x i : ℕ) → byte_of (x % 2 ^ (8 * n)) i ≡ if nat_lt i n then byte_of x i else 0
-front_byte zero x i =
+pub prefix_byte : (n x i : ℕ) → byte_of (x % 2 ^ (8 * n)) i ≡ if nat_lt i n then byte_of x i else 0
+prefix_byte zero x i =
     let none : x % 2 ^ (8 * 0) ≡ 0 = omega arith in
     let past : (if nat_lt i 0 then byte_of x i else 0) ≡ 0 = grind (arith, nat_tests) in
     ap (λ (y : ℕ). byte_of y i) none ∙ byte_of_zero i ∙ sym past
-front_byte (suc n) x zero =
+prefix_byte (suc n) x zero =
     let here : (if nat_lt 0 (suc n) then byte_of x 0 else 0) ≡ byte_of x 0 = grind (arith, nat_tests) in
     let low : x % 2 ^ (8 * suc n) / 1 % 256 ≡ x / 1 % 256 = omega (arith, cut_split n x) in
     low ∙ sym here
-front_byte (suc n) x (suc i) =
+prefix_byte (suc n) x (suc i) =
     let above : x % 2 ^ (8 * suc n) / 256 ≡ x / 256 % 2 ^ (8 * n) = omega (arith, cut_split n x) in
     byte_above (x % 2 ^ (8 * suc n)) i
     ∙ ap (λ (y : ℕ). byte_of y i) above
-    ∙ front_byte n (x / 256) i
+    ∙ prefix_byte n (x / 256) i
     ∙ ap (λ (v : ℕ). if nat_lt i n then v else 0) (sym (byte_above x i))
     ∙ same_choice i n (byte_of x (suc i))
 

@@ -27,16 +27,16 @@ not_chosen b n v past = grind (arith, nat_tests)
 pub line_of_content : (content : Content) (size given : ℕ) (endless words : List ℕ) → length words ≡ 8 → ((w : ℕ) → get_or words w 0 < 2 ^ 64) → 64 * given < size
     → ((b : ℕ) → b < 64 → byte_in endless b ≡ content_byte content (64 * given + b))
     → ((b : ℕ) → b < 64 → byte_in words b ≡ if nat_lt b (size - 64 * given) then byte_in endless b else 0) → words ≡ content_line content size given
-line_of_content content size given endless words count fits left bytes front =
+line_of_content content size given endless words count fits left bytes prefix =
     line_by_bytes words (fill content size) given count fits (λ b small.
     elim (cases_lt b (size - 64 * given)) [
       | inl below ↦
-          front b small
+          prefix b small
           ∙ chosen b (size - 64 * given) (byte_in endless b) below
           ∙ bytes b small
           ∙ sym (byte_of_fill content size (64 * given + b) (omega arith))
       | inr past ↦
-          front b small
+          prefix b small
           ∙ not_chosen b (size - 64 * given) (byte_in endless b) past
           ∙ sym (no_byte_of_fill content size (64 * given + b) (omega arith))
     ])

@@ -32,9 +32,9 @@ byte_of_read bytes words read fits b below =
     ∙ get_or-drop (8 * (b / 8)) bytes (0 + b % 8) 0
     ∙ ap (λ (k : ℕ). get_or bytes k 0) at
 
--- the front of bytes are bytes
-front_fits : (bytes : List ℕ) (n k : ℕ) → ((i : ℕ) → get_or bytes i 0 < 256) → n ≤ length bytes → get_or (take n bytes) k 0 < 256
-front_fits bytes n k fits long =
+-- the prefix of bytes are bytes
+prefix_fits : (bytes : List ℕ) (n k : ℕ) → ((i : ℕ) → get_or bytes i 0 < 256) → n ≤ length bytes → get_or (take n bytes) k 0 < 256
+prefix_fits bytes n k fits long =
     elim (cases_lt k n) [
       | inl below ↦ omega (arith, get_or-take n bytes k 0 below, fits k)
       | inr past ↦ omega (arith, get_or_past (take n bytes) k 0 (omega (arith, length-take-le n bytes long)))
@@ -44,7 +44,7 @@ front_fits bytes n k fits long =
 pub whole_line_bytes : (bytes words : List ℕ) → 64 ≤ length bytes → length words ≡ 8 → ((i : ℕ) → get_or bytes i 0 < 256)
     → IsRead little_number 8 (take 64 bytes) words → (b : ℕ) → b < 64 → byte_in words b ≡ get_or bytes b 0
 whole_line_bytes bytes words long count fits read b below =
-    byte_of_read (take 64 bytes) words read (λ k. front_fits bytes 64 k fits long) b (omega arith) ∙ get_or-take 64 bytes b 0 below
+    byte_of_read (take 64 bytes) words read (λ k. prefix_fits bytes 64 k fits long) b (omega arith) ∙ get_or-take 64 bytes b 0 below
 
 -- zeros behind bytes are what is read past their end
 pub padded_byte : (bytes : List ℕ) (n b : ℕ) → b < n → get_or (bytes ++ drop (length bytes) (replicate n 0)) b 0 ≡ get_or bytes b 0

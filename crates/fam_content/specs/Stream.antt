@@ -12,12 +12,12 @@ generator_of (Seed seed) words = Some (stream_state seed words)
 generator_of (Bytes bytes) words = None
 
 -- the stream has given so many lines of this content, from the front: eight words of a seed's stream each
-pub record StandsFor (stream : ContentStream) (content : Content) (given : ℕ) : Type 0 where
+pub record StreamStandsFor (stream : ContentStream) (content : Content) (given : ℕ) : Type 0 where
   pub generator : stream.generator ≡ generator_of content (8 * given)
   pub count : stream.given ≡ given
 
 -- the stream was made from this content, and a file of this size has a line that it has not given
 pub record HasLineLeft (stream : ContentStream) (content : Content) (size : ℕ) : Type 0 where
   pub given : ℕ
-  pub stands : StandsFor stream content given
+  pub stands : StreamStandsFor stream content given
   pub left : 64 * given < size

@@ -6,8 +6,8 @@
 #![tactic(auto)]
 
 mod difference;
-mod front;
 mod given;
+mod prefix;
 mod stream;
 #[cfg(test)]
 mod tests;

@@ -2,10 +2,10 @@
 
 ghost use Rattle.std.specs.Prelude.{◌≡◌, ◌+◌, ◌*◌, ◌/◌, ◌%◌, ◌<◌, ℕ, slice_index};
 ghost use Rattle.fam_rules.specs.Content.{stream_state, stream_word, content_byte, content_line, byte_in};
-ghost use Rattle.fam_content.specs.Stream.{generator_of, StandsFor, HasLineLeft};
+ghost use Rattle.fam_content.specs.Stream.{generator_of, StreamStandsFor, HasLineLeft};
 
-use crate::front::first_bytes;
 use crate::given::given_line;
+use crate::prefix::first_bytes;
 use fam_base::{Content, Line};
 use rand_core::SeedableRng;
 use rand_core::utils::NextWord;
@@ -55,7 +55,7 @@ fn endless_line(generator: &mut Option<Xoshiro256PlusPlus>, content: &Content, s
 impl ContentStream {
     /// A stream before the first line of a content.
     pub fn new(content: &Content) -> ContentStream
-        ensures { StandsFor result content.now 0 }
+        ensures { StreamStandsFor result content.now 0 }
     {
         let generator = match content {
             Content::Seed(seed) => Some(Xoshiro256PlusPlus::seed_from_u64(*seed)),
@@ -71,10 +71,10 @@ impl ContentStream {
     /// made from this content, and a line must be left.
     pub fn line(&mut self, content: &Content, size: u64) -> Line
         requires { HasLineLeft self.old content.now size }
-        ensures line { (given : ℕ) → StandsFor self.old content.now given
+        ensures line { (given : ℕ) → StreamStandsFor self.old content.now given
             → result ≡ content_line content.now size given }
-        ensures stands { (given : ℕ) → StandsFor self.old content.now given
-            → StandsFor self.new content.now (given + 1) }
+        ensures stands { (given : ℕ) → StreamStandsFor self.old content.now given
+            → StreamStandsFor self.new content.now (given + 1) }
     {
         let start = 64 * self.given;
         let line = endless_line(&mut self.generator, content, start);

@@ -23,7 +23,7 @@ const FIRST_OF_0: Line = [
 ];
 
 /// A line whose first word is given, and zeros behind.
-fn front(word: u64) -> Line {
+fn prefix(word: u64) -> Line {
     [word, 0, 0, 0, 0, 0, 0, 0]
 }
 
@@ -68,14 +68,14 @@ fn files_of_seed_0(rt: HostRuntime) {
         line_of(&seed, 64, 0)[0].to_le_bytes(),
         [0xdfu8, 0x23, 0x0b, 0x49, 0x61, 0x5d, 0x17, 0x53]
     );
-    assert_eq!(rt; line_of(&seed, 3, 0), front(0x0b23df));
+    assert_eq!(rt; line_of(&seed, 3, 0), prefix(0x0b23df));
     assert_eq!(rt; line_of(&seed, 64, 0), FIRST_OF_0);
     assert_eq!(rt; line_of(&seed, 65, 0), FIRST_OF_0);
-    assert_eq!(rt; line_of(&seed, 65, 1), front(0xff));
+    assert_eq!(rt; line_of(&seed, 65, 1), prefix(0xff));
     assert_eq!(rt; line_of(&seed, 4097, 0), FIRST_OF_0);
     assert_eq!(rt; line_of(&seed, 4097, 1)[0], 0x4b7da0a02389f0ff);
     assert_eq!(rt; line_of(&seed, 4097, 63)[7], 0x92000c34681f67a1);
-    assert_eq!(rt; line_of(&seed, 4097, 64), front(0x12));
+    assert_eq!(rt; line_of(&seed, 4097, 64), prefix(0x12));
 }
 
 #[test]
@@ -85,26 +85,26 @@ fn files_of_seed_1(rt: HostRuntime) {
         line_of(&seed, 8, 0)[0].to_le_bytes(),
         [0x9bu8, 0xc2, 0x03, 0x6f, 0x7f, 0xd0, 0xc5, 0xcf]
     );
-    assert_eq!(rt; line_of(&seed, 3, 0), front(0x03c29b));
+    assert_eq!(rt; line_of(&seed, 3, 0), prefix(0x03c29b));
     assert_eq!(rt; line_of(&seed, 64, 0)[7], 0x85fea5c90363f221);
-    assert_eq!(rt; line_of(&seed, 65, 1), front(0xd0));
+    assert_eq!(rt; line_of(&seed, 65, 1), prefix(0xd0));
     assert_eq!(rt; line_of(&seed, 4097, 63)[7], 0x2b094d19e712a8ba);
-    assert_eq!(rt; line_of(&seed, 4097, 64), front(0x33));
+    assert_eq!(rt; line_of(&seed, 4097, 64), prefix(0x33));
 }
 
 #[test]
 fn files_of_zeros_and_of_given_bytes(rt: HostRuntime) -> Result<(), Fail> {
-    assert_eq!(rt; line_of(&Content::Zero, 4097, 64), front(0));
+    assert_eq!(rt; line_of(&Content::Zero, 4097, 64), prefix(0));
     let bytes = counted(rt.alloc(), 67)?;
-    assert_eq!(rt; line_of(&bytes, 3, 0), front(0x020100));
+    assert_eq!(rt; line_of(&bytes, 3, 0), prefix(0x020100));
     assert_eq!(rt; line_of(&bytes, 64, 0)[7], 0x3f3e3d3c3b3a3938);
-    assert_eq!(rt; line_of(&bytes, 65, 1), front(0x40));
+    assert_eq!(rt; line_of(&bytes, 65, 1), prefix(0x40));
     assert_eq!(rt;
         line_of(&bytes, 4097, 1),
-        front(0x424140),
+        prefix(0x424140),
         "zeros behind the bytes"
     );
-    assert_eq!(rt; line_of(&bytes, 4097, 64), front(0));
+    assert_eq!(rt; line_of(&bytes, 4097, 64), prefix(0));
     Ok(())
 }
 

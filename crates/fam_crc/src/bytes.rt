@@ -9,7 +9,7 @@ use crate::tables::after_8;
 /// `crc` 0 it is that of `bytes` alone.
 pub fn crc_more(crc: u32, bytes: &[u8]) -> u32
     ensures more { (before : List ℕ) → crc32 before ≡ crc → result ≡ crc32 (before ++ bytes.now) }
-    ensures alone { crc ≡ 0 → result ≡ crc32 bytes.now }
+    ensures solo { crc ≡ 0 → result ≡ crc32 bytes.now }
 {
     let mut register = crc ^ u32::MAX;
     for byte in bytes {

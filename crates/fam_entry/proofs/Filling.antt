@@ -13,11 +13,11 @@ pub none_past : (xs : List Extent) (i : ℕ) (o : Option Extent) → o ≡ slice
 none_past xs i o e n = sym (sym (unwrap_or-slice_get xs i no_extent) ∙ ap (λ (p : Option Extent). unwrap_or p no_extent) (sym e ∙ n))
 
 -- the first n bytes by f
-pub filled_front : (f : ℕ → ℕ) (bytes : List ℕ) (n : ℕ) → n ≤ length bytes → ((k : ℕ) → k < n → get_or bytes k 0 ≡ f k) → take n bytes ≡ map f (range_with_len 0 n)
-filled_front f bytes n fits each =
+pub filled_prefix : (f : ℕ → ℕ) (bytes : List ℕ) (n : ℕ) → n ≤ length bytes → ((k : ℕ) → k < n → get_or bytes k 0 ≡ f k) → take n bytes ≡ map f (range_with_len 0 n)
+filled_prefix f bytes n fits each =
     fill_by_all f (take n bytes) n 0 (length-take-le n bytes fits) (λ k below. get_or-take n bytes k 0 below ∙ each k below)
 
 -- the bytes that the words from one on hold
 pub filled_bytes : (first : ℕ) (words bytes : List ℕ) (len : ℕ) → len ≤ length bytes → ((k : ℕ) → k < len → get_or bytes k 0 ≡ byte_from first words k) → take len bytes ≡ bytes_from first words len
 unfolding bytes_from
-filled_bytes first words bytes len fits each = filled_front (byte_from first words) bytes len fits each
+filled_bytes first words bytes len fits each = filled_prefix (byte_from first words) bytes len fits each

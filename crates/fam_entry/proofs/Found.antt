@@ -10,7 +10,7 @@ use Rattle.fam_format.specs.Slot.{Proper, spelling, entry_of}
 use Rattle.fam_format.specs.SuperLaws.{IsWords}
 use Rattle.fam_format.specs.Log.{log_fault, log_words}
 use Rattle.fam_format.proofs.LogLawsProofs.{header_passes, header_spelled}
-use Rattle.fam_entry.specs.Tests.{Tells}
+use Rattle.fam_entry.specs.Tests.{NamesFault}
 use Rattle.fam_format.proofs.EntryLawsProofs.{read_proper, read_spelled, spelling_read}
 
 -- an answer that is the reading of a slot's words
@@ -27,10 +27,10 @@ module _ (p : Params) (words : List ℕ) (seq : ℕ) (answer : Result Entry Reas
   entry_only e proper same = is ∙ ap (λ (w : List ℕ). entry_of p w seq) same ∙ spelling_read p e seq proper
 
 -- an answer that names the first fault of a header line
-module _ (p : Params) (line : List ℕ) (answer : Result (Unit {0}) LogFault) (tells : Tells answer (log_fault line p)) where
+module _ (p : Params) (line : List ℕ) (answer : Result (Unit {0}) LogFault) (tells : NamesFault answer (log_fault line p)) where
   -- says that the line is the header where it is Ok
   pub header_found : length line ≡ 8 → OnOk answer (line ≡ log_words p)
-  header_found count = elim answer as (λ a. Tells a (log_fault line p) → OnOk a (line ≡ log_words p)) [
+  header_found count = elim answer as (λ a. NamesFault a (log_fault line p) → OnOk a (line ≡ log_words p)) [
     | Ok u ↦ λ none. header_spelled p line count none
     | Err fault ↦ λ some. tt
   ] tells
@@ -39,7 +39,7 @@ module _ (p : Params) (line : List ℕ) (answer : Result (Unit {0}) LogFault) (t
   pub header_only : line ≡ log_words p → IsOk answer
   header_only same =
       let none : log_fault line p ≡ None = ap (λ (w : List ℕ). log_fault w p) same ∙ header_passes p in
-      elim answer as (λ a. Tells a (log_fault line p) → IsOk a) [
+      elim answer as (λ a. NamesFault a (log_fault line p) → IsOk a) [
         | Ok u ↦ λ t. refl
         | Err fault ↦ λ some. cc (some, none)
       ] tells

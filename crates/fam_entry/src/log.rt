@@ -2,7 +2,7 @@
 
 ghost use Rattle.std.specs.Prelude.{◌≡◌, ◌+◌, OnOk, IsOk, length};
 ghost use Rattle.fam_format.specs.Log as header;
-ghost use Rattle.fam_entry.specs.Tests.{Tells};
+ghost use Rattle.fam_entry.specs.Tests.{NamesFault};
 
 use crate::places::HEADER_CRC_WORD;
 use fam_base::{Line, Params};
@@ -33,7 +33,7 @@ pub fn spell_log(params: &Params) -> Line
 }
 
 fn expect(field: LogField, found: u64, wanted: u64) -> Result<(), LogFault>
-    ensures { Tells result (header.field_fault field found wanted) }
+    ensures { NamesFault result (header.field_fault field found wanted) }
 {
     if found == wanted {
         return Ok(());
@@ -47,7 +47,7 @@ fn expect(field: LogField, found: u64, wanted: u64) -> Result<(), LogFault>
 
 #[tactic(auto, unfolding(fam_format::specs::Log::log_fault))]
 fn tested(line: &Line, params: &Params) -> Result<(), LogFault>
-    ensures first { Tells result (header.log_fault line.now params.now) }
+    ensures first { NamesFault result (header.log_fault line.now params.now) }
     ensures count { length line.now ≡ HEADER_CRC_WORD + 1 }
 {
     let [magic, length, slots, fs_a, fs_b, zero_a, zero_b, crc] = *line;
@@ -66,7 +66,7 @@ fn tested(line: &Line, params: &Params) -> Result<(), LogFault>
 /// Whether a line is the log's header for these parameters; if not, the first field that isn't as it should be.
 /// The gate stands in another line, and isn't looked at.
 pub fn read_log(line: &Line, params: &Params) -> Result<(), LogFault>
-    ensures first { Tells result (header.log_fault line.now params.now) }
+    ensures first { NamesFault result (header.log_fault line.now params.now) }
 
     ensures found { OnOk result (line.now ≡ header.log_words params.now) }
     ensures only { line.now ≡ header.log_words params.now → IsOk result }

@@ -8,7 +8,7 @@ ghost use Rattle.fam_format.specs.Params.{SoundParams};
 ghost use Rattle.fam_format.specs.Slot as slots;
 ghost use Rattle.fam_format.specs.SuperLaws.{IsWords};
 ghost use Rattle.fam_base.specs.declared.entry.Entry.{Entry};
-ghost use Rattle.fam_entry.specs.Tests.{Tells};
+ghost use Rattle.fam_entry.specs.Tests.{NamesFault};
 
 use crate::fields::{fields_of, path_of};
 use crate::map_rule::is_map;
@@ -22,7 +22,7 @@ use fam_base::{Entry, Params, Path};
 use fam_format::{Reason, byte_of};
 
 fn check_crc(words: &[u64; SLOT_WORDS]) -> Result<(), Reason>
-    ensures { Tells result (slots.crc_fault first_format words.now) }
+    ensures { NamesFault result (slots.crc_fault first_format words.now) }
 {
     let found = words[CRC_WORD];
     let wanted = checksum(words);
@@ -33,7 +33,7 @@ fn check_crc(words: &[u64; SLOT_WORDS]) -> Result<(), Reason>
 }
 
 fn check_seq(words: &[u64; SLOT_WORDS], wanted: u64) -> Result<(), Reason>
-    ensures { Tells result (slots.seq_fault words.now wanted) }
+    ensures { NamesFault result (slots.seq_fault words.now wanted) }
 {
     let found = words[SEQ_WORD];
     if found == wanted {
@@ -43,7 +43,7 @@ fn check_seq(words: &[u64; SLOT_WORDS], wanted: u64) -> Result<(), Reason>
 }
 
 fn check_kind(words: &[u64; SLOT_WORDS]) -> Result<(), Reason>
-    ensures { Tells result (slots.kind_fault words.now) }
+    ensures { NamesFault result (slots.kind_fault words.now) }
 {
     match words[KIND_WORD] {
         FILE_KIND | DIRECTORY_KIND => Ok(()),
@@ -52,7 +52,7 @@ fn check_kind(words: &[u64; SLOT_WORDS]) -> Result<(), Reason>
 }
 
 fn check_attributes(words: &[u64; SLOT_WORDS]) -> Result<(), Reason>
-    ensures first { Tells result (slots.attribute_fault words.now) }
+    ensures first { NamesFault result (slots.attribute_fault words.now) }
     ensures mode { OnOk result (slice_index words.now MODE_WORD < 2 ^ 32) }
     ensures uid { OnOk result (slice_index words.now UID_WORD < 2 ^ 32) }
     ensures gid { OnOk result (slice_index words.now GID_WORD < 2 ^ 32) }
@@ -160,7 +160,7 @@ fn is_stray_there(words: &[u64; SLOT_WORDS], i: usize) -> bool
 }
 
 fn check_rest(words: &[u64; SLOT_WORDS]) -> Result<(), Reason>
-    ensures { Tells result (slots.rest_fault first_format words.now) }
+    ensures { NamesFault result (slots.rest_fault first_format words.now) }
 {
     for i in EXTENTS_WORD..CRC_WORD {
         if is_stray(words, i) {

@@ -68,10 +68,10 @@ fn word_of_chunk(map: MapKind) -> u64
     }
 }
 
-#[tactic(auto, unfolding(fam_format::specs::Slot::word_at))]
+#[tactic(auto, unfolding(fam_format::specs::Slot::slot_word_at))]
 fn word_of(entry: &Entry, seq: u64, i: usize) -> u64
     requires { i < CRC_WORD }
-    ensures { result ≡ slots.word_at entry.now seq i }
+    ensures { result ≡ slots.slot_word_at entry.now seq i }
 {
     match i {
         SEQ_WORD => seq,

@@ -9,8 +9,8 @@ use Rattle.fam_base.proofs.PathLemmas.{path_bytes_fit}
 use Rattle.fam_format.specs.declared.faults.Reason.{Reason}
 use Rattle.fam_format.specs.Layout.{Geometry, geometry}
 use Rattle.fam_format.specs.Params.{SoundParams}
-use Rattle.fam_format.specs.Slot.{mode_limit, path_word, kind_word, map_word, chunk_word, word_at, spelling, slot_crc, is_map, is_map_words, Proper, path_of, fields_of, crc_fault, seq_fault, kind_fault, attribute_fault, path_fault, map_fault, rest_fault, entry_of}
-use Rattle.fam_format.specs.EntryLaws.{IsInside, FitsWords}
+use Rattle.fam_format.specs.Slot.{mode_limit, path_word, kind_word, map_word, chunk_word, slot_word_at, spelling, slot_crc, is_map, is_map_words, Proper, path_of, fields_of, crc_fault, seq_fault, kind_fault, attribute_fault, path_fault, map_fault, rest_fault, entry_of}
+use Rattle.fam_format.specs.EntryLaws.{IsInDevice, FitsWords}
 use Rattle.fam_format.proofs.Filling.{length_of_spelling, crc_of_spelling}
 use Rattle.fam_format.proofs.WordRounds.{length_of_bytes}
 use Rattle.fam_format.proofs.RoundTrip.{HasRoom, field_read, path_of_spelling, fields_read}
@@ -32,9 +32,9 @@ pub record Spells (g : Geometry) (p : Params) (e : Entry) : Type 0 where
 
 -- a spelling passes
 pub spelling_passes : (g : Geometry) (p : Params) (e : Entry) (seq : ℕ) → Spells g p e → SlotPasses g p (spelling g e seq) seq
-unfolding word_at
+unfolding slot_word_at
 spelling_passes g p e seq s =
-    let field : (k word : ℕ) → k < path_word → word_at e seq k ≡ word → get_or (spelling g e seq) k 0 ≡ word = λ k word below is. field_read g e seq k word s.room below is in
+    let field : (k word : ℕ) → k < path_word → slot_word_at e seq k ≡ word → get_or (spelling g e seq) k 0 ≡ word = λ k word below is. field_read g e seq k word s.room below is in
     record {
       first = none_if_same (get_or (spelling g e seq) (g.words - 1) 0) (slot_crc g (spelling g e seq)) _ (crc_of_spelling g e seq);
       second = none_if_same (get_or (spelling g e seq) 0 0) seq _ (field 0 seq (omega arith) refl);
@@ -63,8 +63,8 @@ proper_back p words attributes path map =
 
 -- and they are its spelling
 pub words_found : (g : Geometry) (p : Params) (words : List ℕ) (seq : ℕ) → path_word ≤ g.words - 1 → length words ≡ g.words → ((k : ℕ) → get_or words k 0 < 2 ^ 64) → SlotPasses g p words seq → words ≡ spelling g (fields_of words) seq
-words_found g p words seq front long fits h =
-    words_back g words seq front long fits
+words_found g p words seq prefix long fits h =
+    words_back g words seq prefix long fits
     (same_if_none (get_or words (g.words - 1) 0) (slot_crc g words) _ h.first)
     (same_if_none (get_or words 0 0) seq _ h.second)
     (kind_back words h.third)
@@ -91,7 +91,7 @@ pass_of_read p words seq e h =
 pub room_of_proper : (p : Params) (e : Entry) → Proper p e → HasRoom (geometry p) e
 room_of_proper p e h =
     let short : length e.path ≤ (geometry p).path_limit = h.short in
-    record { bytes = path_bytes_fit e.path h.path; path = omega arith; extents = few_extents p e h.map; front = omega arith }
+    record { bytes = path_bytes_fit e.path h.path; path = omega arith; extents = few_extents p e h.map; prefix = omega arith }
 
 -- The laws.
 
@@ -121,7 +121,7 @@ entry_of_spelling p q e f m n he hf same =
 
 -- their numbers are one too
 pub number_of_spelling : (p q : Params) (e f : Entry) (m n : ℕ) → Proper p e → Proper q f → spelling (geometry p) e m ≡ spelling (geometry q) f n → m ≡ n
-unfolding word_at
+unfolding slot_word_at
 number_of_spelling p q e f m n he hf same =
     sym (field_read (geometry p) e m 0 m (room_of_proper p e he) (omega arith) refl) ∙ ap (λ (w : List ℕ). get_or w 0 0) same ∙ field_read (geometry q) f n 0 n (room_of_proper q f hf) (omega arith) refl
 
@@ -152,9 +152,9 @@ proper_words_fit p e seq sound proper number i =
     record { number = number; mode = omega arith; uid = omega arith; gid = omega arith; count = omega arith; path = path_bytes_fit e.path proper.path }
 
 -- the extents lie inside
-pub proper_inside : (p : Params) (e : Entry) → Proper p e → All (IsInside p) e.extents
+pub proper_inside : (p : Params) (e : Entry) → Proper p e → All (IsInDevice p) e.extents
 proper_inside p e proper = all_inside p e proper.map
 
 -- and end with the device or before
 pub proper_in_device : (p : Params) (e : Entry) → Proper p e → All (λ x. x.offset + x.length ≤ p.device) e.extents
-proper_in_device p e proper = All-weaker (IsInside p) (λ x. x.offset + x.length ≤ p.device) (ends_in_device p) e.extents (all_inside p e proper.map)
+proper_in_device p e proper = All-weaker (IsInDevice p) (λ x. x.offset + x.length ≤ p.device) (ends_in_device p) e.extents (all_inside p e proper.map)

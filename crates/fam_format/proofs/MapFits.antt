@@ -21,7 +21,7 @@ use Rattle.fam_base.specs.Units.{strip_bytes}
 use Rattle.fam_format.specs.Layout.{log_end, device_units, device_limit}
 use Rattle.fam_format.specs.Params.{is_unit}
 use Rattle.fam_format.specs.Slot.{extent_limit, chunk_word, is_bare, is_placed, is_within, has_extents, adds_up, is_striped, fits_map, is_map}
-use Rattle.fam_format.specs.EntryLaws.{IsInside, ExtentFits, FitsWords}
+use Rattle.fam_format.specs.EntryLaws.{IsInDevice, ExtentFits, FitsWords}
 
 -- four tests in a row
 pub record Four (a b c d : Bool) : Type 0 where
@@ -89,7 +89,7 @@ pub few_extents : (p : Params) (e : Entry) → is_map p e ≡ true → length e.
 few_extents p e h = few_by p e (by_map p e h)
 
 -- each in whole units, at its place
-inside : (p : Params) (x : Extent) → is_placed p x ≡ true → IsInside p x
+inside : (p : Params) (x : Extent) → is_placed p x ≡ true → IsInDevice p x
 inside p x h =
     let parts = four (x.offset % p.unit == 0) (x.length % p.unit == 0) (nat_lt 0 x.length) (is_within p x) h in
     let ends = and_parts (nat_le (log_end p) x.offset) (nat_le (x.offset + x.length) (device_units p * p.unit)) parts.fourth in
@@ -102,21 +102,21 @@ inside p x h =
     }
 
 -- where all pass, all lie inside
-placed_all : (p : Params) (xs : List Extent) → list_all (is_placed p) xs ≡ true → All (IsInside p) xs
-placed_all p xs h = All-weaker (λ x. is_placed p x ≡ true) (IsInside p) (inside p) xs (AllPass-from_list_all (is_placed p) xs h)
+placed_all : (p : Params) (xs : List Extent) → list_all (is_placed p) xs ≡ true → All (IsInDevice p) xs
+placed_all p xs h = All-weaker (λ x. is_placed p x ≡ true) (IsInDevice p) (inside p) xs (AllPass-from_list_all (is_placed p) xs h)
 
 -- in each case all of them lie inside
-inside_by : (p : Params) (e : Entry) → ByMap p e → All (IsInside p) e.extents
-inside_by p e (bare size none map) = All-same (IsInside p) e.extents [] none (All-nil (IsInside p))
+inside_by : (p : Params) (e : Entry) → ByMap p e → All (IsInDevice p) e.extents
+inside_by p e (bare size none map) = All-same (IsInDevice p) e.extents [] none (All-nil (IsInDevice p))
 inside_by p e (simple has sum map) = placed_all p e.extents has.placed
 inside_by p e (striped chunk has strips map) = placed_all p e.extents has.placed
 
 -- all extents of an entry lie inside
-pub all_inside : (p : Params) (e : Entry) → is_map p e ≡ true → All (IsInside p) e.extents
+pub all_inside : (p : Params) (e : Entry) → is_map p e ≡ true → All (IsInDevice p) e.extents
 all_inside p e h = inside_by p e (by_map p e h)
 
 -- an extent ends with the device, or before
-pub ends_in_device : (p : Params) (x : Extent) → IsInside p x → x.offset + x.length ≤ p.device
+pub ends_in_device : (p : Params) (x : Extent) → IsInDevice p x → x.offset + x.length ≤ p.device
 ends_in_device p x h = omega (arith, h.before, div-mul-le_self p.device p.unit)
 
 -- The numbers of a proper entry.
@@ -160,8 +160,8 @@ unit_pos : (u : ℕ) → is_unit u ≡ true → 0 < u
 unit_pos u h = elim (cases_eq u 0) [ inl zero ↦ absurd (false≢true (sym (ap is_unit zero) ∙ h)) | inr other ↦ omega arith ]
 
 -- no extent is longer than the device
-lengths_fit : (p : Params) (xs : List Extent) → All (IsInside p) xs → All (λ x. x.length ≤ p.device) xs
-lengths_fit p xs h = All-weaker (IsInside p) (λ x. x.length ≤ p.device) (λ x i. omega (arith, ends_in_device p x i)) xs h
+lengths_fit : (p : Params) (xs : List Extent) → All (IsInDevice p) xs → All (λ x. x.length ≤ p.device) xs
+lengths_fit p xs h = All-weaker (IsInDevice p) (λ x. x.length ≤ p.device) (λ x i. omega (arith, ends_in_device p x i)) xs h
 
 -- a simple file has no more bytes than its extents
 simple_fits : (p : Params) (e : Entry) → 0 < p.unit → HasExtents p e → adds_up p e ≡ true → e.size ≤ extent_limit * p.device
@@ -205,5 +205,5 @@ fits_words p e unit limit h =
       size = both.0;
       chunk = both.1;
       count = few_extents p e h;
-      extents = All-weaker (IsInside p) ExtentFits (λ x i. record { offset = omega (arith, ends_in_device p x i); length = omega (arith, ends_in_device p x i) }) e.extents (all_inside p e h);
+      extents = All-weaker (IsInDevice p) ExtentFits (λ x i. record { offset = omega (arith, ends_in_device p x i); length = omega (arith, ends_in_device p x i) }) e.extents (all_inside p e h);
     }

@@ -13,7 +13,7 @@ use Rattle.fam_base.specs.declared.extents.Extent.{Extent}
 use Rattle.fam_base.specs.ExtentLists.{no_extent}
 use Rattle.fam_format.specs.Layout.{Geometry}
 use Rattle.fam_format.specs.Words.{word_of_bytes, bytes_from}
-use Rattle.fam_format.specs.Slot.{extents_word, path_word, extent_limit, kind_word, map_word, chunk_word, extent_word, word_at, spelling, kind_of, map_of, extent_of, extents_of, path_of, fields_of}
+use Rattle.fam_format.specs.Slot.{extents_word, path_word, extent_limit, kind_word, map_word, chunk_word, extent_word, slot_word_at, spelling, kind_of, map_of, extent_of, extents_of, path_of, fields_of}
 use Rattle.fam_format.proofs.Filling.{word_of_spelling}
 use Rattle.fam_format.proofs.WordRounds.{bytes_back}
 
@@ -26,7 +26,7 @@ pub record HasRoom (g : Geometry) (e : Entry) : Type 0 where
   -- the extents end before the path
   pub extents : length e.extents ≤ extent_limit
   -- the path begins before the checksum
-  pub front : path_word ≤ g.words - 1
+  pub prefix : path_word ≤ g.words - 1
 
 -- two lists that `==` finds equal are one
 pub same_words : (xs ys : List ℕ) → pointwise eqb xs ys ≡ true → xs ≡ ys
@@ -42,19 +42,19 @@ pub same_words_pass : (xs : List ℕ) → pointwise eqb xs xs ≡ true
 same_words_pass xs = nat_list_eq_equiv.refl xs
 
 -- the words of the path
-pub word_behind : (e : Entry) (seq i : ℕ) → path_word ≤ i → word_at e seq i ≡ word_of_bytes e.path (i - path_word)
-unfolding word_at
+pub word_behind : (e : Entry) (seq i : ℕ) → path_word ≤ i → slot_word_at e seq i ≡ word_of_bytes e.path (i - path_word)
+unfolding slot_word_at
 word_behind e seq i behind = grind (arith, nat_tests)
 
 -- the words of the extents
-pub word_between : (e : Entry) (seq i : ℕ) → extents_word ≤ i → i < path_word → word_at e seq i ≡ extent_word e.extents (i - extents_word)
-unfolding word_at
+pub word_between : (e : Entry) (seq i : ℕ) → extents_word ≤ i → i < path_word → slot_word_at e seq i ≡ extent_word e.extents (i - extents_word)
+unfolding slot_word_at
 word_between e seq i behind before = grind (arith, nat_tests)
 
 -- the words before the extents: what holds of the ten by place holds of each
 pub words_before : (f : ℕ → ℕ) (e : Entry) (seq : ℕ) → f 0 ≡ seq → f 1 ≡ kind_word e.kind → f 2 ≡ e.size → f 3 ≡ e.mode → f 4 ≡ e.uid → f 5 ≡ e.gid → f 6 ≡ length e.path → f 7 ≡ map_word e.map → f 8 ≡ chunk_word e.map → f 9 ≡ length e.extents →
-    (k : ℕ) → k < extents_word → f k ≡ word_at e seq k
-unfolding word_at
+    (k : ℕ) → k < extents_word → f k ≡ slot_word_at e seq k
+unfolding slot_word_at
 words_before f e seq a b c d p q r s t u zero below = a
 words_before f e seq a b c d p q r s t u (suc zero) below = b
 words_before f e seq a b c d p q r s t u (suc (suc zero)) below = c
@@ -68,8 +68,8 @@ words_before f e seq a b c d p q r s t u (suc (suc (suc (suc (suc (suc (suc (suc
 words_before f e seq a b c d p q r s t u (suc (suc (suc (suc (suc (suc (suc (suc (suc (suc k)))))))))) below = absurd (omega arith)
 
 -- a field's word in a spelling
-pub field_read : (g : Geometry) (e : Entry) (seq k word : ℕ) → HasRoom g e → k < path_word → word_at e seq k ≡ word → get_or (spelling g e seq) k 0 ≡ word
-field_read g e seq k word room below is = let front : path_word ≤ g.words - 1 = room.front in word_of_spelling g e seq k (omega arith) ∙ is
+pub field_read : (g : Geometry) (e : Entry) (seq k word : ℕ) → HasRoom g e → k < path_word → slot_word_at e seq k ≡ word → get_or (spelling g e seq) k 0 ≡ word
+field_read g e seq k word room below is = let prefix : path_word ≤ g.words - 1 = room.prefix in word_of_spelling g e seq k (omega arith) ∙ is
 
 -- the path is read back
 pub path_read : (g : Geometry) (e : Entry) (seq : ℕ) → HasRoom g e → bytes_from path_word (spelling g e seq) (length e.path) ≡ e.path
@@ -106,7 +106,7 @@ same_extent offset length x a b = rw (a, b) refl
 pub extent_read : (g : Geometry) (e : Entry) (seq k : ℕ) → HasRoom g e → k < length e.extents → extent_of (spelling g e seq) k ≡ get_or e.extents k no_extent
 extent_read g e seq k room below =
     let few : length e.extents ≤ extent_limit = room.extents in
-    let front : path_word ≤ g.words - 1 = room.front in
+    let prefix : path_word ≤ g.words - 1 = room.prefix in
     let first : extents_word + 2 * k - extents_word ≡ 2 * k = omega arith in
     let second : extents_word + 1 + 2 * k - extents_word ≡ 2 * k + 1 = omega arith in
     let a : get_or (spelling g e seq) (extents_word + 2 * k) 0 ≡ (get_or e.extents k no_extent).offset =
@@ -153,12 +153,12 @@ same_entry e kind path size mode uid gid map extents a b c d p q r s = rw (a, b,
 
 -- the path of a spelling's words
 pub path_of_spelling : (g : Geometry) (e : Entry) (seq : ℕ) → HasRoom g e → path_of (spelling g e seq) ≡ e.path
-unfolding word_at
+unfolding slot_word_at
 path_of_spelling g e seq room = ap (bytes_from path_word (spelling g e seq)) (field_read g e seq 6 (length e.path) room (omega arith) refl) ∙ path_read g e seq room
 
 -- the fields of a spelling tell its entry
 pub fields_read : (g : Geometry) (e : Entry) (seq : ℕ) → HasRoom g e → fields_of (spelling g e seq) ≡ e
-unfolding fields_of word_at
+unfolding fields_of slot_word_at
 fields_read g e seq room =
     let words : List ℕ = spelling g e seq in
     same_entry e _ _ _ _ _ _ _ _

@@ -15,7 +15,7 @@ use Rattle.fam_base.specs.Image.{byte_of}
 use Rattle.fam_base.specs.Paths.{is_path}
 use Rattle.fam_format.specs.declared.faults.Reason.TheVariants as reason
 use Rattle.fam_format.specs.Layout.{Geometry}
-use Rattle.fam_format.specs.Slot.{extents_word, path_word, extent_limit, mode_limit, kind_word, map_word, chunk_word, extent_word, word_at, spelling, kind_of, map_of, path_of, kind_fault, attribute_fault, path_fault, is_map_words, is_stray, rest_fault}
+use Rattle.fam_format.specs.Slot.{extents_word, path_word, extent_limit, mode_limit, kind_word, map_word, chunk_word, extent_word, slot_word_at, spelling, kind_of, map_of, path_of, kind_fault, attribute_fault, path_fault, is_map_words, is_stray, rest_fault}
 use Rattle.fam_format.proofs.Filling.{word_of_spelling}
 use Rattle.fam_format.proofs.WordRounds.{byte_of_word}
 use Rattle.fam_format.proofs.RoundTrip.{HasRoom, field_read, word_behind, word_between}
@@ -195,15 +195,15 @@ stray_behind n words i behind = let test : nat_lt i path_word ≡ false = le-ltb
 
 -- in a spelling the extents' words past the count are zero
 spelled_extent : (g : Geometry) (e : Entry) (seq i : ℕ) → HasRoom g e → extents_word ≤ i → i < path_word → extents_word + 2 * get_or (spelling g e seq) 9 0 ≤ i → get_or (spelling g e seq) i 0 ≡ 0
-unfolding word_at
+unfolding slot_word_at
 spelled_extent g e seq i room from before behind =
-    let front : path_word ≤ g.words - 1 = room.front in
+    let prefix : path_word ≤ g.words - 1 = room.prefix in
     let count : get_or (spelling g e seq) 9 0 ≡ length e.extents = field_read g e seq 9 (length e.extents) room (omega arith) refl in
     word_of_spelling g e seq i (omega arith) ∙ word_between e seq i from before ∙ extent_word_past e.extents (i - extents_word) (omega arith)
 
 -- and the path's bytes past its length are zero
 spelled_byte : (g : Geometry) (e : Entry) (seq i b : ℕ) → HasRoom g e → path_word ≤ i → i < g.words - 1 → b < 8 → get_or (spelling g e seq) 6 0 ≤ 8 * (i - path_word) + b → byte_of (get_or (spelling g e seq) i 0) b ≡ 0
-unfolding word_at
+unfolding slot_word_at
 spelled_byte g e seq i b room from below small behind =
     let count : get_or (spelling g e seq) 6 0 ≡ length e.path = field_read g e seq 6 (length e.path) room (omega arith) refl in
     ap (λ (w : ℕ). byte_of w b) (word_of_spelling g e seq i below ∙ word_behind e seq i from) ∙ byte_of_word e.path (i - path_word) b room.bytes small ∙ get_or_past e.path (8 * (i - path_word) + b) 0 (omega arith)
@@ -221,7 +221,7 @@ none_stray n g e seq i eight room from below =
 -- and the test finds none
 pub rest_passes : (g : Geometry) (e : Entry) (seq : ℕ) → HasRoom g e → rest_fault g (spelling g e seq) ≡ None
 rest_passes g e seq room =
-    let front : path_word ≤ g.words - 1 = room.front in
+    let prefix : path_word ≤ g.words - 1 = room.prefix in
     none_mapped reason.Rest (find (is_stray (spelling g e seq)) (range_with_len extents_word (g.words - 1 - extents_word)))
     (find_none (is_stray (spelling g e seq)) extents_word (g.words - 1 - extents_word) (λ i from below. none_stray 8 g e seq i refl room from (omega arith)))
 

@@ -16,7 +16,7 @@ use Rattle.fam_crc.specs.Crc.{crc32, bytes_of_words}
 use Rattle.fam_crc.proofs.Division.{crc_fits}
 use Rattle.fam_format.specs.Layout.{Geometry}
 use Rattle.fam_format.specs.Words.{word_of_bytes}
-use Rattle.fam_format.specs.Slot.{extents_word, path_word, extent_limit, kind_word, map_word, extent_word, word_at, spelling, slot_crc}
+use Rattle.fam_format.specs.Slot.{extents_word, path_word, extent_limit, kind_word, map_word, extent_word, slot_word_at, spelling, slot_crc}
 use Rattle.fam_format.specs.EntryLaws.{ExtentFits, FitsWords}
 use Rattle.fam_format.proofs.Filling.{word_of_spelling, length_of_spelling, crc_of_spelling}
 use Rattle.fam_format.proofs.WordRounds.{le_byte}
@@ -89,8 +89,8 @@ pub record OthersFit (e : Entry) (seq : ℕ) : Type 0 where
   pub path : (i : ℕ) → get_or e.path i 0 < 256
 
 -- each word before the checksum fits
-word_fits : (e : Entry) (seq k : ℕ) → FitsWords e → OthersFit e seq → word_at e seq k < 2 ^ 64
-unfolding word_at
+word_fits : (e : Entry) (seq k : ℕ) → FitsWords e → OthersFit e seq → slot_word_at e seq k < 2 ^ 64
+unfolding slot_word_at
 word_fits e seq k fits others =
     let few : length e.extents ≤ extent_limit = fits.count in
     fits_if _ (k == 0) _ _ others.number

@@ -234,7 +234,7 @@ module _ (word : ℕ) (w : List ℕ) (have : ℕ) (p : Params) (is : IsWords 16 
     master = uuid_read 7 w;
   }
 
-  -- the image has the device that is told
+  -- the image has the device that is modelled
   device_told : (params_of w).device ≤ have
   unfolding params_of
   device_told = least_none have (get_or w 4 0) _ pass.device

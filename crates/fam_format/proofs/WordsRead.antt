@@ -6,7 +6,7 @@ use Rattle.fam_base.specs.Image.{byte_of}
 use Rattle.fam_base.specs.ExtentLists.{no_extent}
 use Rattle.fam_format.specs.Layout.{Geometry}
 use Rattle.fam_format.specs.Words.{word_of_bytes}
-use Rattle.fam_format.specs.Slot.{extents_word, path_word, kind_word, kind_of, extent_word, word_at, extent_of, extents_of, path_of, fields_of, spelling, slot_crc}
+use Rattle.fam_format.specs.Slot.{extents_word, path_word, kind_word, kind_of, extent_word, slot_word_at, extent_of, extents_of, path_of, fields_of, spelling, slot_crc}
 use Rattle.fam_format.proofs.Filling.{spelling_of_words}
 use Rattle.fam_format.proofs.PathWords.{words_read}
 use Rattle.fam_format.proofs.WordRounds.{length_of_bytes}
@@ -56,7 +56,7 @@ path_word_back g words i rest fits from below =
 
 -- each word before the checksum is that of the table
 pub table_back : (g : Geometry) (words : List ℕ) (seq : ℕ) → ((k : ℕ) → get_or words k 0 < 2 ^ 64) → get_or words 0 0 ≡ seq → get_or words 1 0 ≡ kind_word (kind_of (get_or words 1 0)) → MapBack (get_or words 7 0) (get_or words 8 0) → RestIsZero g words →
-    (k : ℕ) → k < g.words - 1 → get_or words k 0 ≡ word_at (fields_of words) seq k
+    (k : ℕ) → k < g.words - 1 → get_or words k 0 ≡ slot_word_at (fields_of words) seq k
 unfolding fields_of
 table_back g words seq fits number kind map rest k below =
     elim (cases_lt k extents_word) [
@@ -70,4 +70,4 @@ table_back g words seq fits number kind map rest k below =
 -- the words are the spelling of what they tell
 pub words_back : (g : Geometry) (words : List ℕ) (seq : ℕ) → path_word ≤ g.words - 1 → length words ≡ g.words → ((k : ℕ) → get_or words k 0 < 2 ^ 64) → get_or words (g.words - 1) 0 ≡ slot_crc g words → get_or words 0 0 ≡ seq →
     get_or words 1 0 ≡ kind_word (kind_of (get_or words 1 0)) → MapBack (get_or words 7 0) (get_or words 8 0) → RestIsZero g words → words ≡ spelling g (fields_of words) seq
-words_back g words seq front long fits crc number kind map rest = spelling_of_words g (fields_of words) seq words (omega arith) long crc (table_back g words seq fits number kind map rest)
+words_back g words seq prefix long fits crc number kind map rest = spelling_of_words g (fields_of words) seq words (omega arith) long crc (table_back g words seq fits number kind map rest)

@@ -8,7 +8,7 @@ use Rattle.fam_format.specs.Layout.{log_end, device_units}
 use Rattle.fam_format.specs.Slot.{extent_limit, chunk_word}
 
 -- an extent of whole units, at least one, behind the log and before the end of the device's last whole unit
-pub record IsInside (p : Params) (x : Extent) : Type 0 where
+pub record IsInDevice (p : Params) (x : Extent) : Type 0 where
   pub offset : x.offset % p.unit ≡ 0
   pub length : x.length % p.unit ≡ 0
   pub some : 0 < x.length

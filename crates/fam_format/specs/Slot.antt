@@ -59,8 +59,8 @@ extent_word extents j =
 
 -- word i before the checksum, by the table: sequence number, kind, size, mode, uid, gid, path length, map kind,
 -- chunk, extent count, sixteen extents, path
-unfoldable pub word_at : Entry → ℕ → ℕ → ℕ
-word_at e seq i =
+unfoldable pub slot_word_at : Entry → ℕ → ℕ → ℕ
+slot_word_at e seq i =
     if i == 0 then seq
     else if i == 1 then kind_word e.kind
     else if i == 2 then e.size
@@ -76,7 +76,7 @@ word_at e seq i =
 
 -- the words before the checksum
 abbrev pub slot_body : Geometry → Entry → ℕ → List ℕ
-slot_body g e seq = map (word_at e seq) (range_with_len 0 (g.words - 1))
+slot_body g e seq = map (slot_word_at e seq) (range_with_len 0 (g.words - 1))
 
 -- the words of the slot that holds entry number seq
 unfoldable pub spelling : Geometry → Entry → ℕ → List ℕ

@@ -10,7 +10,7 @@ ghost use Rattle.fam_format.specs.Layout.{geometry};
 ghost use Rattle.fam_format.specs.Params.{SoundParams};
 ghost use Rattle.fam_format.specs.Slot.{Proper, spelling, entry_of};
 ghost use Rattle.fam_format.specs.SuperLaws.{IsWords};
-ghost use Rattle.fam_format.specs.EntryLaws.{FitsWords, IsInside};
+ghost use Rattle.fam_format.specs.EntryLaws.{FitsWords, IsInDevice};
 
 /// The words of a proper entry are read as that entry.
 pub fn a_spelling_is_read()
@@ -53,7 +53,7 @@ pub fn a_proper_entry_fits_its_words()
 
 /// The extents of a proper entry are whole units, behind the log and within the device.
 pub fn extents_lie_inside()
-    ensures units { (p : Params) (e : Entry) → Proper p e → All (IsInside p) e.extents }
+    ensures units { (p : Params) (e : Entry) → Proper p e → All (IsInDevice p) e.extents }
     ensures device { (p : Params) (e : Entry) → Proper p e
         → All (λ x. x.offset + x.length ≤ p.device) e.extents }
 {}

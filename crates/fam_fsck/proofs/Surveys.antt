@@ -11,7 +11,7 @@ use Rattle.fam_base.specs.declared.entry.Params.{Params}
 use Rattle.fam_base.specs.declared.entry.Entry.{Entry}
 use Rattle.fam_base.specs.declared.extents.Extent.{Extent}
 use Rattle.fam_format.specs.declared.faults.Reason.{Reason}
-use Rattle.fam_format.specs.EntryLaws.{IsInside}
+use Rattle.fam_format.specs.EntryLaws.{IsInDevice}
 use Rattle.fam_format.specs.Layout.{head_units, device_units}
 use Rattle.fam_format.specs.Params.{SoundParams}
 use Rattle.fam_format.specs.Slot.{Proper}
@@ -66,7 +66,7 @@ pub lies_within : (p q : Params) (e : Entry) (n : ℕ) → p ≡ q → Proper q 
 lies_within p q e n same proper units =
     let own : Proper p e = subst (λ (r : Params). Proper r e) (sym same) proper in
     subst (λ (m : ℕ). LieWithin p.unit m e.extents) (sym units)
-    (All-weaker (IsInside p) (λ (x : Extent). x.offset + x.length ≤ device_units p * p.unit) (λ x inside. inside.before) e.extents (proper_inside p e own))
+    (All-weaker (IsInDevice p) (λ (x : Extent). x.offset + x.length ≤ device_units p * p.unit) (λ x inside. inside.before) e.extents (proper_inside p e own))
 
 pub placed_more : (unit n : ℕ) (list : List Found) (f : Found) → All (LiesWithin unit n) list → LiesWithin unit n f → All (LiesWithin unit n) (list ++ f ∷ [])
 placed_more unit n list f all one = All-push (LiesWithin unit n) list f all one

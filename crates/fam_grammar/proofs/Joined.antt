@@ -3,8 +3,8 @@ use Rattle.std.proofs.Common.{◌≡◌, ℕ, suc, ◌+◌, ◌-◌, ◌<◌, �
 use Rattle.std.specs.List.{join_with_byte}
 use Rattle.std.proofs.lemmas.List.{take_at, drop_at, take_all, length-append}
 use Rattle.fam_grammar.specs.Words.{Word, is_blank, words_from}
-use Rattle.fam_grammar.specs.Cursor.{front_length, BeginsWithWord}
-use Rattle.fam_grammar.proofs.WordLemmas.{word_front}
+use Rattle.fam_grammar.specs.Cursor.{prefix_length, BeginsWithWord}
+use Rattle.fam_grammar.proofs.WordLemmas.{word_prefix}
 
 -- no byte is a blank
 abbrev pub HasNoBlank : List ℕ → Type 0
@@ -31,16 +31,16 @@ placed column [] = []
 placed column (text ∷ texts) = record { column = column; text = text } ∷ placed (column + length text + 1) texts
 
 -- up to the end
-front_whole : (bytes : List ℕ) → HasNoBlank bytes → front_length bytes ≡ length bytes
-front_whole [] none = refl
-front_whole (byte ∷ bytes) none =
-    ap (λ (t : Bool). cond t 0 (suc (front_length bytes))) none.0 ∙ ap suc (front_whole bytes none.1)
+prefix_whole : (bytes : List ℕ) → HasNoBlank bytes → prefix_length bytes ≡ length bytes
+prefix_whole [] none = refl
+prefix_whole (byte ∷ bytes) none =
+    ap (λ (t : Bool). cond t 0 (suc (prefix_length bytes))) none.0 ∙ ap suc (prefix_whole bytes none.1)
 
 -- up to the space
-front_to_space : (bytes rest : List ℕ) → HasNoBlank bytes → front_length (bytes ++ 32 ∷ rest) ≡ length bytes
-front_to_space [] rest none = refl
-front_to_space (byte ∷ bytes) rest none =
-    ap (λ (t : Bool). cond t 0 (suc (front_length (bytes ++ 32 ∷ rest)))) none.0 ∙ ap suc (front_to_space bytes rest none.1)
+prefix_to_space : (bytes rest : List ℕ) → HasNoBlank bytes → prefix_length (bytes ++ 32 ∷ rest) ≡ length bytes
+prefix_to_space [] rest none = refl
+prefix_to_space (byte ∷ bytes) rest none =
+    ap (λ (t : Bool). cond t 0 (suc (prefix_length (bytes ++ 32 ∷ rest)))) none.0 ∙ ap suc (prefix_to_space bytes rest none.1)
 
 no_blank : (text : List ℕ) → IsOneWord text → HasNoBlank text
 no_blank [] is = absurd is
@@ -54,19 +54,19 @@ begins (byte ∷ bytes) rest is = is.0
 word_and_more : (column : ℕ) (text rest : List ℕ) → IsOneWord text
     → words_from column (text ++ 32 ∷ rest) ≡ record { column = column; text = text } ∷ words_from (column + length text + 1) rest
 word_and_more column text rest is =
-    word_front column (text ++ 32 ∷ rest) (begins text (32 ∷ rest) is)
+    word_prefix column (text ++ 32 ∷ rest) (begins text (32 ∷ rest) is)
     ∙ ap (λ (n : ℕ). record { column = column; text = take n (text ++ 32 ∷ rest) } ∷ words_from (column + n) (drop n (text ++ 32 ∷ rest)))
-    (front_to_space text rest (no_blank text is))
+    (prefix_to_space text rest (no_blank text is))
     ∙ ap (λ (l : List ℕ). record { column = column; text = l } ∷ words_from (column + length text) (drop (length text) (text ++ 32 ∷ rest)))
     (take_at text (32 ∷ rest) (length text) refl)
     ∙ ap (λ (l : List ℕ). record { column = column; text = text } ∷ words_from (column + length text) l)
     (drop_at text (32 ∷ rest) (length text) refl)
 
 -- one word at the end
-word_alone : (column : ℕ) (text : List ℕ) → IsOneWord text → words_from column text ≡ record { column = column; text = text } ∷ []
-word_alone column text is =
-    word_front column text (subst BeginsWithWord (append-nil text) (begins text [] is))
-    ∙ ap (λ (n : ℕ). record { column = column; text = take n text } ∷ words_from (column + n) (drop n text)) (front_whole text (no_blank text is))
+word_solo : (column : ℕ) (text : List ℕ) → IsOneWord text → words_from column text ≡ record { column = column; text = text } ∷ []
+word_solo column text is =
+    word_prefix column text (subst BeginsWithWord (append-nil text) (begins text [] is))
+    ∙ ap (λ (n : ℕ). record { column = column; text = take n text } ∷ words_from (column + n) (drop n text)) (prefix_whole text (no_blank text is))
     ∙ ap (λ (l : List ℕ). record { column = column; text = l } ∷ words_from (column + length text) (drop (length text) text)) (take_all (length text) text (omega arith))
     ∙ ap (λ (l : List ℕ). record { column = column; text = text } ∷ words_from (column + length text) l) (ends text)
   where
@@ -77,7 +77,7 @@ word_alone column text is =
 -- all of them
 pub joined_words : (column : ℕ) (texts : List (List ℕ)) → AreWords texts → words_from column (join_with_byte 32 texts) ≡ placed column texts
 joined_words column [] are = refl
-joined_words column (text ∷ []) are = word_alone column text are.0
+joined_words column (text ∷ []) are = word_solo column text are.0
 joined_words column (text ∷ next ∷ texts) are =
     word_and_more column text (join_with_byte 32 (next ∷ texts)) are.0
     ∙ ap (λ (words : List Word). record { column = column; text = text } ∷ words) (joined_words (column + length text + 1) (next ∷ texts) are.1)

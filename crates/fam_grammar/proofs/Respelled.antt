@@ -14,7 +14,7 @@ use Rattle.fam_base.specs.Escapes.{is_plain, hex_digit, escaped_byte, escaped}
 use Rattle.fam_base.specs.Paths.{has_no_nul, is_path}
 use Rattle.fam_tree.specs.Lines.{mode_text, octal_digit}
 use Rattle.fam_grammar.specs.Numbers.{number_of_text, fitting, below}
-use Rattle.fam_grammar.specs.Spellings.{byte_of, in_front, in_front_of, is_octal, mode_of, path_of, unescaped, with_octal}
+use Rattle.fam_grammar.specs.Spellings.{byte_of, in_prefix, in_prefix_of, is_octal, mode_of, path_of, unescaped, with_octal}
 use Rattle.fam_grammar.specs.Words.{is_blank}
 use Rattle.fam_grammar.proofs.Joined.{HasNoBlank, IsOneWord, no_blank-append}
 
@@ -43,11 +43,11 @@ unfolding is_path
 path_some path is = grind (arith, nat_tests)
 
 -- a visible byte in front
-plain_front : (byte : ℕ) (text : List ℕ) → is_plain byte ≡ true → unescaped (byte ∷ text) ≡ in_front byte (unescaped text)
-plain_front byte [] is = rw is refl
-plain_front byte (a ∷ []) is = rw is refl
-plain_front byte (a ∷ b ∷ []) is = rw is refl
-plain_front byte (a ∷ b ∷ c ∷ rest) is = rw is refl
+plain_prefix : (byte : ℕ) (text : List ℕ) → is_plain byte ≡ true → unescaped (byte ∷ text) ≡ in_prefix byte (unescaped text)
+plain_prefix byte [] is = rw is refl
+plain_prefix byte (a ∷ []) is = rw is refl
+plain_prefix byte (a ∷ b ∷ []) is = rw is refl
+plain_prefix byte (a ∷ b ∷ c ∷ rest) is = rw is refl
 
 -- a digit's value
 digit_back : (n : ℕ) → n < 16 → hex_digit_value (hex_digit n) ≡ Some n
@@ -59,15 +59,15 @@ byte_back byte small =
     rw (digit_back (byte / 16) (omega arith), digit_back (byte % 16) (omega arith)) (ap (λ (n : ℕ). Some n) (omega arith))
 
 -- an escape in front
-coded_front : (byte : ℕ) (text : List ℕ) → byte < 256
-    → unescaped (0x5c ∷ 0x78 ∷ hex_digit (byte / 16) ∷ hex_digit (byte % 16) ∷ text) ≡ in_front byte (unescaped text)
-coded_front byte text small = ap (λ (o : Option ℕ). in_front_of o (unescaped text)) (byte_back byte small)
+coded_prefix : (byte : ℕ) (text : List ℕ) → byte < 256
+    → unescaped (0x5c ∷ 0x78 ∷ hex_digit (byte / 16) ∷ hex_digit (byte % 16) ∷ text) ≡ in_prefix byte (unescaped text)
+coded_prefix byte text small = ap (λ (o : Option ℕ). in_prefix_of o (unescaped text)) (byte_back byte small)
 
-one_back : (byte : ℕ) (text : List ℕ) → byte < 256 → unescaped (escaped_byte byte ++ text) ≡ in_front byte (unescaped text)
+one_back : (byte : ℕ) (text : List ℕ) → byte < 256 → unescaped (escaped_byte byte ++ text) ≡ in_prefix byte (unescaped text)
 one_back byte text small =
-    elim (is_plain byte) as (λ t. is_plain byte ≡ t → unescaped (cond t (byte ∷ []) (0x5c ∷ 0x78 ∷ hex_digit (byte / 16) ∷ hex_digit (byte % 16) ∷ []) ++ text) ≡ in_front byte (unescaped text)) [
-      | true ↦ λ is. plain_front byte text is
-      | false ↦ λ is. coded_front byte text small
+    elim (is_plain byte) as (λ t. is_plain byte ≡ t → unescaped (cond t (byte ∷ []) (0x5c ∷ 0x78 ∷ hex_digit (byte / 16) ∷ hex_digit (byte % 16) ∷ []) ++ text) ≡ in_prefix byte (unescaped text)) [
+      | true ↦ λ is. plain_prefix byte text is
+      | false ↦ λ is. coded_prefix byte text small
     ] refl
 
 -- all bytes come back
@@ -76,7 +76,7 @@ unfolding escaped
 unescaped-escaped [] small = refl
 unescaped-escaped (byte ∷ bytes) small =
     one_back byte (flat_map escaped_byte bytes) small.0
-    ∙ ap (in_front byte) (unescaped-escaped bytes small.1)
+    ∙ ap (in_prefix byte) (unescaped-escaped bytes small.1)
 
 -- escapes have no blank, and a name isn't empty
 escape_no_blank : (byte : ℕ) → byte < 256 → HasNoBlank (escaped_byte byte)

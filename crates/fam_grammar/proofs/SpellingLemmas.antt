@@ -7,7 +7,7 @@ use Rattle.std.proofs.lemmas.List.{length-append}
 use Rattle.std.specs.Str.{is_utf8, IsUtf8}
 use Rattle.std.proofs.lemmas.Str.{IsUtf8-from_is_utf8}
 use Rattle.fam_base.specs.Paths.{is_path}
-use Rattle.fam_grammar.specs.Spellings.{unescaped, in_front, passing, path_of, file_of, is_file_name}
+use Rattle.fam_grammar.specs.Spellings.{unescaped, in_prefix, passing, path_of, file_of, is_file_name}
 
 -- an option that has no value is none
 pub none_of : {A : Type 0} → (o : Option A) → (((x : A) × (o ≡ Some x)) → ⊥) → None ≡ o
@@ -16,15 +16,15 @@ none_of (Some x) empty = absurd (empty (x, refl))
 
 -- bytes in front of bytes that may be there
 abbrev pub behind : List ℕ → Option (List ℕ) → Option (List ℕ)
-behind front bytes = option_map (λ (rest : List ℕ). front ++ rest) bytes
+behind prefix bytes = option_map (λ (rest : List ℕ). prefix ++ rest) bytes
 
 -- one more byte
-pub behind-in_front : (front : List ℕ) (byte : ℕ) (bytes : Option (List ℕ)) → behind front (in_front byte bytes) ≡ behind (front ++ byte ∷ []) bytes
-behind-in_front front byte None = refl
-behind-in_front front byte (Some bytes) = ap (λ (l : List ℕ). Some l) (sym (append_assoc front (byte ∷ []) bytes))
+pub behind-in_prefix : (prefix : List ℕ) (byte : ℕ) (bytes : Option (List ℕ)) → behind prefix (in_prefix byte bytes) ≡ behind (prefix ++ byte ∷ []) bytes
+behind-in_prefix prefix byte None = refl
+behind-in_prefix prefix byte (Some bytes) = ap (λ (l : List ℕ). Some l) (sym (append_assoc prefix (byte ∷ []) bytes))
 
-pub behind-none : (front : List ℕ) → behind front None ≡ None
-behind-none front = refl
+pub behind-none : (prefix : List ℕ) → behind prefix None ≡ None
+behind-none prefix = refl
 
 -- no bytes in front
 pub behind-nil : (bytes : Option (List ℕ)) → behind [] bytes ≡ bytes
@@ -74,23 +74,23 @@ module _ (word : List ℕ) where
   is_no_file bytes is file = fails is_file_name bytes file ∙ ap (option_and_then (passing is_file_name)) (sym is)
 
   -- bytes that are too many for a path
-  pub too_long : (front : List ℕ) (byte : ℕ) (rest : Option (List ℕ)) → 168 ≤ length front → unescaped word ≡ behind front (in_front byte rest) → None ≡ path_of word
-  too_long front byte None long is = no_path is
-  too_long front byte (Some rest) long is =
-      is_no_path (front ++ byte ∷ rest) is (long_is_none _ (omega (arith, long, length-append front (byte ∷ rest))))
+  pub too_long : (prefix : List ℕ) (byte : ℕ) (rest : Option (List ℕ)) → 168 ≤ length prefix → unescaped word ≡ behind prefix (in_prefix byte rest) → None ≡ path_of word
+  too_long prefix byte None long is = no_path is
+  too_long prefix byte (Some rest) long is =
+      is_no_path (prefix ++ byte ∷ rest) is (long_is_none _ (omega (arith, long, length-append prefix (byte ∷ rest))))
 
 -- one more byte of a word is read
-pub read_on : (word front : List ℕ) (byte : ℕ) (rest more : Option (List ℕ)) → unescaped word ≡ behind front rest → rest ≡ in_front byte more → unescaped word ≡ behind (front ++ byte ∷ []) more
-read_on word front byte rest more was first = was ∙ ap (behind front) first ∙ behind-in_front front byte more
+pub read_on : (word prefix : List ℕ) (byte : ℕ) (rest more : Option (List ℕ)) → unescaped word ≡ behind prefix rest → rest ≡ in_prefix byte more → unescaped word ≡ behind (prefix ++ byte ∷ []) more
+read_on word prefix byte rest more was first = was ∙ ap (behind prefix) first ∙ behind-in_prefix prefix byte more
 
 -- all of a word is read
-pub read_all : (word front rest : List ℕ) → unescaped word ≡ behind front (unescaped rest) → length rest ≡ 0 → unescaped word ≡ Some front
-read_all word front [] was none = was ∙ ap (λ (l : List ℕ). Some l) (append-nil front)
-read_all word front (b ∷ rest) was none = absurd (omega arith)
+pub read_all : (word prefix rest : List ℕ) → unescaped word ≡ behind prefix (unescaped rest) → length rest ≡ 0 → unescaped word ≡ Some prefix
+read_all word prefix [] was none = was ∙ ap (λ (l : List ℕ). Some l) (append-nil prefix)
+read_all word prefix (b ∷ rest) was none = absurd (omega arith)
 
 -- what is left of a word isn't spelled so
-pub read_none : (word front : List ℕ) (rest : Option (List ℕ)) → unescaped word ≡ behind front rest → rest ≡ None → unescaped word ≡ None
-read_none word front rest was none = was ∙ ap (behind front) none
+pub read_none : (word prefix : List ℕ) (rest : Option (List ℕ)) → unescaped word ≡ behind prefix rest → rest ≡ None → unescaped word ≡ None
+read_none word prefix rest was none = was ∙ ap (behind prefix) none
 
 -- tests
 
@@ -116,6 +116,6 @@ no_name_of_others bytes is = elim (not (eqb (length bytes) 0)) as (λ t. (t && i
 
 -- two parts
 pub pair_of : (a b x y : List ℕ) → a ≡ x → b ≡ y → let left : List ℕ × List ℕ = (a, b) in let right : List ℕ × List ℕ = (x, y) in Some left ≡ Some right
-pair_of a b x y front back =
+pair_of a b x y prefix back =
     let pair : List ℕ → List ℕ → Option (List ℕ × List ℕ) = λ l m. Some (l, m) in
-    ap (λ (l : List ℕ). pair l b) front ∙ ap (λ (l : List ℕ). pair x l) back
+    ap (λ (l : List ℕ). pair l b) prefix ∙ ap (λ (l : List ℕ). pair x l) back

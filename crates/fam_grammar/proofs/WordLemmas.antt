@@ -3,7 +3,7 @@ use Rattle.std.proofs.Common.{◌≡◌, ℕ, suc, ◌+◌, ◌-◌, ◌<◌, �
 use Rattle.std.proofs.lemmas.List.{take_rest}
 use Rattle.std.proofs.lemmas.Bool.Decides.{nat_tests}
 use Rattle.fam_grammar.specs.Words.{Word, is_blank, short_word, with_byte, words_from}
-use Rattle.fam_grammar.specs.Cursor.{front_length, BeginsWithWord}
+use Rattle.fam_grammar.specs.Cursor.{prefix_length, BeginsWithWord}
 
 -- the first of these words begins at this column or behind it
 abbrev BeginsAt : ℕ → List Word → Type 0
@@ -57,10 +57,10 @@ blank column byte bytes is = ap (λ (t : Bool). cond t (words_from (column + 1) 
 at : (a b : ℕ) (bytes : List ℕ) → a ≡ b → words_from a bytes ≡ words_from b bytes
 at a b bytes same = ap (λ (n : ℕ). words_from n bytes) same
 
-first_is : (column byte : ℕ) (bytes : List ℕ) → is_blank byte ≡ false → FirstWord column (byte ∷ bytes) (suc (front_length bytes))
+first_is : (column byte : ℕ) (bytes : List ℕ) → is_blank byte ≡ false → FirstWord column (byte ∷ bytes) (suc (prefix_length bytes))
 first_is column byte [] is = not_blank column byte [] is ∙ refl
 first_is column byte (next ∷ bytes) is =
-    elim (is_blank next) as (λ t. is_blank next ≡ t → FirstWord column (byte ∷ next ∷ bytes) (suc (cond t 0 (suc (front_length bytes))))) [
+    elim (is_blank next) as (λ t. is_blank next ≡ t → FirstWord column (byte ∷ next ∷ bytes) (suc (cond t 0 (suc (prefix_length bytes))))) [
       | true ↦ λ ends.
           not_blank column byte (next ∷ bytes) is
           ∙ apart column byte (words_from (column + 1) (next ∷ bytes))
@@ -69,25 +69,25 @@ first_is column byte (next ∷ bytes) is =
       | false ↦ λ goes.
           not_blank column byte (next ∷ bytes) is
           ∙ ap (with_byte column byte) (first_is (column + 1) next bytes goes)
-          ∙ beside column byte (take (suc (front_length bytes)) (next ∷ bytes)) _
-          ∙ ap (λ (words : List Word). record { column = column; text = byte ∷ next ∷ take (front_length bytes) bytes } ∷ words)
-          (at (column + 1 + suc (front_length bytes)) (column + suc (suc (front_length bytes))) (drop (front_length bytes) bytes) (omega arith))
+          ∙ beside column byte (take (suc (prefix_length bytes)) (next ∷ bytes)) _
+          ∙ ap (λ (words : List Word). record { column = column; text = byte ∷ next ∷ take (prefix_length bytes) bytes } ∷ words)
+          (at (column + 1 + suc (prefix_length bytes)) (column + suc (suc (prefix_length bytes))) (drop (prefix_length bytes) bytes) (omega arith))
     ] refl
 
 -- where bytes begin with no blank
-pub first_word : (column byte : ℕ) (bytes : List ℕ) → is_blank byte ≡ false → FirstWord column (byte ∷ bytes) (front_length (byte ∷ bytes))
+pub first_word : (column byte : ℕ) (bytes : List ℕ) → is_blank byte ≡ false → FirstWord column (byte ∷ bytes) (prefix_length (byte ∷ bytes))
 first_word column byte bytes is =
-    subst (λ (n : ℕ). FirstWord column (byte ∷ bytes) n) (sym (ap (λ (t : Bool). cond t 0 (suc (front_length bytes))) is)) (first_is column byte bytes is)
+    subst (λ (n : ℕ). FirstWord column (byte ∷ bytes) n) (sym (ap (λ (t : Bool). cond t 0 (suc (prefix_length bytes))) is)) (first_is column byte bytes is)
 
 -- where bytes begin with a word
-pub word_front : (column : ℕ) (bytes : List ℕ) → BeginsWithWord bytes → FirstWord column bytes (front_length bytes)
-word_front column [] begins = absurd begins
-word_front column (byte ∷ bytes) begins = first_word column byte bytes begins
+pub word_prefix : (column : ℕ) (bytes : List ℕ) → BeginsWithWord bytes → FirstWord column bytes (prefix_length bytes)
+word_prefix column [] begins = absurd begins
+word_prefix column (byte ∷ bytes) begins = first_word column byte bytes begins
 
 -- the same as code has it, by the count of its bytes
-pub word_front_at : (column : ℕ) (bytes : List ℕ) (n : ℕ) → BeginsWithWord bytes → n ≡ front_length bytes
+pub word_prefix_at : (column : ℕ) (bytes : List ℕ) (n : ℕ) → BeginsWithWord bytes → n ≡ prefix_length bytes
     → words_from column bytes ≡ record { column = column; text = take n bytes } ∷ words_from (column + n) (take (length bytes - n) (drop n bytes))
-word_front_at column bytes n begins count =
-    word_front column bytes begins
+word_prefix_at column bytes n begins count =
+    word_prefix column bytes begins
     ∙ ap (λ (m : ℕ). record { column = column; text = take m bytes } ∷ words_from (column + m) (drop m bytes)) (sym count)
     ∙ ap (λ (l : List ℕ). record { column = column; text = take n bytes } ∷ words_from (column + n) l) (sym (take_rest bytes n))

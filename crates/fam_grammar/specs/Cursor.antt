@@ -38,9 +38,9 @@ Tells line rest (Err (BadLine number column)) said = (number ≡ line.number) ×
 Tells line rest (Err OutOfMemory) said = ⊤
 
 -- how many bytes stand in front of the first blank
-abbrev pub front_length : List ℕ → ℕ
-front_length [] = 0
-front_length (byte ∷ bytes) = if is_blank byte then 0 else suc (front_length bytes)
+abbrev pub prefix_length : List ℕ → ℕ
+prefix_length [] = 0
+prefix_length (byte ∷ bytes) = if is_blank byte then 0 else suc (prefix_length bytes)
 
 -- the first byte is there, and no blank
 abbrev pub BeginsWithWord : List ℕ → Type 0

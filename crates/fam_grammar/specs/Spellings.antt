@@ -28,27 +28,27 @@ abbrev pub byte_of : ℕ → ℕ → Option ℕ
 byte_of high low = option_and_then (λ h. option_map (λ l. 16 * h + l) (hex_digit_value low)) (hex_digit_value high)
 
 -- a byte in front of bytes, where both are there
-abbrev pub in_front : ℕ → Option (List ℕ) → Option (List ℕ)
-in_front byte bytes = option_map (λ rest. byte ∷ rest) bytes
+abbrev pub in_prefix : ℕ → Option (List ℕ) → Option (List ℕ)
+in_prefix byte bytes = option_map (λ rest. byte ∷ rest) bytes
 
 -- a backslash and an `x`
 abbrev pub is_escape : ℕ → ℕ → Bool
 is_escape a b = (a == 0x5c) && (b == 0x78)
 
-abbrev pub in_front_of : Option ℕ → Option (List ℕ) → Option (List ℕ)
-in_front_of None bytes = None
-in_front_of (Some byte) bytes = in_front byte bytes
+abbrev pub in_prefix_of : Option ℕ → Option (List ℕ) → Option (List ℕ)
+in_prefix_of None bytes = None
+in_prefix_of (Some byte) bytes = in_prefix byte bytes
 
 -- the bytes that a word stands for: a visible byte other than the backslash is itself, and `\x` with two digits of
 -- sixteen, in either case, is the byte of these digits
 abbrev pub unescaped : List ℕ → Option (List ℕ)
 unescaped [] = Some []
 unescaped (a ∷ []) = if is_plain a then Some (a ∷ []) else None
-unescaped (a ∷ b ∷ []) = if is_plain a then in_front a (unescaped (b ∷ [])) else None
-unescaped (a ∷ b ∷ c ∷ []) = if is_plain a then in_front a (unescaped (b ∷ c ∷ [])) else None
+unescaped (a ∷ b ∷ []) = if is_plain a then in_prefix a (unescaped (b ∷ [])) else None
+unescaped (a ∷ b ∷ c ∷ []) = if is_plain a then in_prefix a (unescaped (b ∷ c ∷ [])) else None
 unescaped (a ∷ b ∷ c ∷ d ∷ rest) =
-    if is_plain a then in_front a (unescaped (b ∷ c ∷ d ∷ rest))
-    else if is_escape a b then in_front_of (byte_of c d) (unescaped rest)
+    if is_plain a then in_prefix a (unescaped (b ∷ c ∷ d ∷ rest))
+    else if is_escape a b then in_prefix_of (byte_of c d) (unescaped rest)
     else None
 
 -- PATH: what the word stands for is a path

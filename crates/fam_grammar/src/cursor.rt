@@ -1,12 +1,12 @@
 //! Reading a line from the left, word by word. `specs/Cursor.antt` says what each call gives.
 
 ghost use Rattle.std.specs.Prelude.{◌≡◌, ◌≤◌, ◌+◌, ◌^◌, ◌<◌, ◌∷◌, length, ℕ, List, Option};
-ghost use Rattle.fam_grammar.specs.Cursor.{words_left, seen, BeginsWithWord, IsShort, IsNext, IsExpected, Tells, front_length};
+ghost use Rattle.fam_grammar.specs.Cursor.{words_left, seen, BeginsWithWord, IsShort, IsNext, IsExpected, Tells, prefix_length};
 ghost use Rattle.fam_grammar.specs.Reading.{fitting_word, ends_with, word_of};
 ghost use Rattle.fam_grammar.specs.Keywords.{event_word, command_word};
 ghost use Rattle.fam_grammar.specs.Numbers.{number_of_text, size_of_text};
 ghost use Rattle.fam_grammar.specs.Spellings.{count_of, file_of, mask_of, name_of, path_of, steps_of, uuid_of};
-ghost use Rattle.fam_grammar.specs.Words.{Word as Seen, is_blank};
+ghost use Rattle.fam_grammar.specs.Words.{Word as SharedState, is_blank};
 
 use crate::fault::LineFault;
 use crate::keywords::{CommandWord, EventWord, command_word, event_word};
@@ -24,8 +24,8 @@ fn is_blank(byte: u8) -> bool
 }
 
 /// How many bytes stand in front of the first blank.
-fn front_length(bytes: &[u8]) -> usize
-    ensures count { result ≡ front_length bytes.now }
+fn prefix_length(bytes: &[u8]) -> usize
+    ensures count { result ≡ prefix_length bytes.now }
     ensures within { result ≤ length bytes.now }
 {
     let mut rest = bytes;
@@ -67,7 +67,7 @@ fn first_word(words: Words<'_>) -> (Word<'_>, Words<'_>)
     ensures first { words_left words.entry ≡ seen result.0 ∷ words_left result.1 }
     ensures short { IsShort result.1 }
 {
-    let length = front_length(words.bytes);
+    let length = prefix_length(words.bytes);
     let word = Word {
         column: words.column,
         text: &words.bytes[..length],
@@ -99,7 +99,7 @@ impl<'a> Words<'a> {
 
 /// A word's value, where it is spelled so.
 pub(crate) fn fitting<T: Drop>(line: Line, column: u64, spelled: Option<T>) -> Result<T, LineFault>
-    ensures { (rest : List Seen) → Tells line rest result (fitting_word spelled column rest) }
+    ensures { (rest : List SharedState) → Tells line rest result (fitting_word spelled column rest) }
 {
     match spelled {
         Some(value) => Ok(value),

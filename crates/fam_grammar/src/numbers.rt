@@ -56,8 +56,8 @@ pub fn size(text: &[u8]) -> Option<u64>
 {
     match text {
         [] => None,
-        [front @ .., letter] => match multiplier(*letter) {
-            Some(times) => number(front)?.checked_mul(times),
+        [prefix @ .., letter] => match multiplier(*letter) {
+            Some(times) => number(prefix)?.checked_mul(times),
             None => number(text),
         },
     }

@@ -2,7 +2,7 @@
 
 ghost use Rattle.std.specs.Prelude.{◌≡◌, ◌<◌, ◌≤◌, IfOk, IfSome, IsTrue, MatchOption, fold, length, option_map, position, ◌==◌};
 ghost use Rattle.fam_base.specs.Escapes.{is_plain};
-ghost use Rattle.fam_grammar.specs.Spellings.{name_of, uuid_of, unescaped, in_front, byte_of, with_octal, path_of, file_of, id_of, mask_of, count_of, steps_of, is_octal, mode_of, at_comma, stripe_of, stripe_with, value_behind};
+ghost use Rattle.fam_grammar.specs.Spellings.{name_of, uuid_of, unescaped, in_prefix, byte_of, with_octal, path_of, file_of, id_of, mask_of, count_of, steps_of, is_octal, mode_of, at_comma, stripe_of, stripe_with, value_behind};
 ghost use Rattle.uuid.specs.Text.{hex_digit_value, parsed};
 ghost use Rattle.std.specs.List.{list_all};
 
@@ -71,7 +71,7 @@ fn byte_of(high: u8, low: u8) -> Option<u8>
 /// The byte that stands in front of a word, and the rest of the word.
 fn first_byte(word: &[u8]) -> Option<(u8, &[u8])>
     requires { 0 < length word.now }
-    ensures cases { MatchOption result (unescaped word.now ≡ None) (λ p. unescaped word.now ≡ in_front p.0 (unescaped p.1.now)) }
+    ensures cases { MatchOption result (unescaped word.now ≡ None) (λ p. unescaped word.now ≡ in_prefix p.0 (unescaped p.1.now)) }
     ensures shorter { IfSome result (λ p. length p.1.now < length word.now) }
 {
     match word {
@@ -233,8 +233,8 @@ fn at_comma(word: &[u8]) -> Option<(&[u8], &[u8])>
     ensures { option_map (λ p. (p.0.now, p.1.now)) result ≡ at_comma word.now }
 {
     let comma = comma(word)?;
-    let (front, back) = word.split_at(comma);
-    Some((front, &back[1..]))
+    let (prefix, back) = word.split_at(comma);
+    Some((prefix, &back[1..]))
 }
 
 /// Two numbers and a size, with commas between.

@@ -7,16 +7,16 @@ use Rattle.fam_journal.specs.Ends.{ReadsAs}
 use Rattle.fam_journal.specs.View.{WorldStands, WorldView, empty_world}
 use Rattle.fam_journal.specs.Kept.{Held, Kept}
 use Rattle.fam_journal.specs.CallRecords.{DoesPart, IsSoundCall}
-use Rattle.fam_journal.specs.Laws.{IsImage, Says, TaskAt, turn_at}
+use Rattle.fam_journal.specs.Laws.{IsImage, MaySayNext, TaskAt, turn_at}
 use Rattle.fam_journal.specs.Legal.{Legal}
 use Rattle.fam_journal.specs.Machines.{Machines, unused}
 use Rattle.fam_journal.specs.Notes.{Note, Refused}
 use Rattle.fam_journal.specs.Past.{first_past, past_of}
-use Rattle.fam_journal.proofs.Begin.{held_first}
-use Rattle.fam_journal.proofs.Following.{cut_notes, does_kept, kept_quiet, operates_kept}
-use Rattle.fam_journal.proofs.Journals.{legal_both}
-use Rattle.fam_journal.proofs.Left.{held_reads}
-use Rattle.fam_journal.proofs.Stepped.{Bridged, bridged}
+use Rattle.fam_journal.proofs.Calls.Begin.{held_first}
+use Rattle.fam_journal.proofs.Runs.Following.{cut_notes, does_kept, kept_quiet, operates_kept}
+use Rattle.fam_journal.proofs.Settled.Journals.{legal_both}
+use Rattle.fam_journal.proofs.Runs.Left.{held_reads}
+use Rattle.fam_journal.proofs.Calls.Stepped.{Bridged, bridged}
 
 pub begun : (image : Image) → IsImage image → Held image (unused image) empty_world image
 begun image is = record {
@@ -25,9 +25,9 @@ begun image is = record {
   kept = record { views = []; held = held_first image is.limit is.normal; uuids = λ k host none. absurd cc };
 }
 
-pub said : (at : TaskAt) → Says at → Bridged at.past at.host (turn_at at)
+pub said : (at : TaskAt) → MaySayNext at → Bridged at.past at.host (turn_at at)
 said at says =
-    bridged at.past.start at.past.hosts at.host at.told at.is at.task.cmd at.task.me at.task at.words at.made at.word at.standing (turn_at at) refl at.was at.me says.hosts says.seen at.past.state says.bad says.stage says.says
+    bridged at.past.start at.past.hosts at.host at.told at.is at.task.cmd at.task.me at.task at.words at.made at.word at.standing (turn_at at) refl at.was at.me says.hosts says.shared at.past.state says.bad says.stage says.says
 
 pub kept_on : (start : Image) (state left : Machines) (old new : WorldView) (call : Call) (notes : List Note) → Held start state old state.memory → IsSoundCall call → Does call state notes left
     → WorldStands (length start) left new → new.journal ≡ old.journal ++ notes → Held start left new left.memory

@@ -1,4 +1,4 @@
--- What the world's calls promise: where the media tells its image, and on every media.
+-- What the world's calls promise: where the media's image is modelled, and on every media.
 use Rattle.std.specs.Prelude.{ℕ, ⊤, ◌≡◌, ◌⊎◌, ◌<◌, ◌≤◌, Bool, List, [], ◌∷◌, ◌++◌, length, map, slice_get, Option, Some, None, unwrap_or}
 use Rattle.std.specs.List.{list_any}
 use Rattle.fam_base.specs.Image.{Image}
@@ -14,7 +14,7 @@ use Rattle.fam_protocol.specs.Tasks.{IsCommand}
 use Rattle.fam_journal.specs.Calls as call
 use Rattle.fam_journal.specs.declared.refusal.Refusal.{Refusal}
 use Rattle.fam_journal.specs.declared.refusal.Refusal.TheVariants as why
-use Rattle.fam_journal.specs.Calls.{refusal_of, Call, Does, BreaksOff, IsOfSource, Operates, name_of, number_of}
+use Rattle.fam_journal.specs.Calls.{refusal_of, Call, Does, BreaksOff, IsOfSource, DoesOperations, name_of, number_of}
 use Rattle.fam_journal.specs.Ends.{HasCounted, is_answer_note}
 use Rattle.fam_journal.specs.Forms.{BreaksForm, DoesForm, HostForm, IsFormed, PartForm, forms_of}
 use Rattle.fam_journal.specs.Legal.{Legal}
@@ -23,12 +23,12 @@ use Rattle.fam_journal.specs.Names.{AreNamed}
 use Rattle.fam_journal.specs.Notes.{Note, Host, Made, Start, Mark, Found, Writes, Answered, Stop, Halt, Refused}
 use Rattle.fam_journal.specs.View.{HostView, WorldView, WorldStands}
 use Rattle.fam_journal.specs.Kept.{Held}
-use Rattle.fam_journal.specs.WorldAlone.{refusal_in, world_after}
+use Rattle.fam_journal.specs.ByWorld.{refusal_in, world_after}
 
--- What a call makes of it. `told` is the media's image, where it is told.
+-- What a call makes of it. `told` is the media's image, where it is modelled.
 
 -- the call did what its row says, and the world is held again
-pub record Moves (start : Image) (told : Option Image) (does : List Note → Machines → Type 0) (old new : WorldView) : Type 0 where
+pub record DoesRow (start : Image) (told : Option Image) (does : List Note → Machines → Type 0) (old new : WorldView) : Type 0 where
   pub state : Machines
   pub notes : List Note
   pub row : does notes state
@@ -36,9 +36,9 @@ pub record Moves (start : Image) (told : Option Image) (does : List Note → Mac
   pub joined : new.journal ≡ old.journal ++ notes
   pub held : Held start state new state.memory
 
--- memory failed in a mkfs: the same, but the world isn't held any more. It stands for the state behind it: the maker's
+-- the media failed in a mkfs: the same, but the world isn't held any more. It stands for the state behind it: the maker's
 -- cache, and every other host as before
-pub record Breaks (start : Image) (told : Option Image) (does : List Note → Machines → Type 0) (old new : WorldView) : Type 0 where
+pub record LeavesBroken (start : Image) (told : Option Image) (does : List Note → Machines → Type 0) (old new : WorldView) : Type 0 where
   pub state : Machines
   pub notes : List Note
   pub row : does notes state
@@ -53,7 +53,7 @@ pub record SomeOfFinish (name : List ℕ) (state : Machines) (notes : List Note)
   pub host : ℕ
   pub number : number_of name state ≡ Some host
   pub count : ℕ
-  pub does : Operates host count state notes left
+  pub does : DoesOperations host count state notes left
 
 -- of a host that isn't declared nothing was done, where there was no room for the note that says so
 abbrev pub FinishPart : List ℕ → Machines → List Note → Machines → Type 0
@@ -70,19 +70,19 @@ DoesPart (call.Halts name) state notes left = (notes ≡ []) × (left ≡ state)
 DoesPart (call.Moves name line move) state notes left = (notes ≡ []) × (left ≡ state)
 DoesPart (call.Refuses name cause) state notes left = (notes ≡ []) × (left ≡ state)
 
--- what a call of the world promises where the media's image is told and the world was held: its row is done, or where no
+-- what a call of the world promises where the media's image is modelled and the world was held: its row is done, or where no
 -- memory was left a part of it, or memory cut it, which only making a file system may be
 abbrev pub CallKeeps : Call → Image → Option Image → Option Image → WorldView → WorldView → Type 0
 CallKeeps call start before told old new =
-    (state : Machines) → before ≡ Some state.memory → Held start state old state.memory → Moves start told (Does call state) old new
+    (state : Machines) → before ≡ Some state.memory → Held start state old state.memory → DoesRow start told (Does call state) old new
 
 abbrev pub CallParts : Call → Image → Option Image → Option Image → WorldView → WorldView → Type 0
 CallParts call start before told old new =
-    (state : Machines) → before ≡ Some state.memory → Held start state old state.memory → Moves start told (DoesPart call state) old new
+    (state : Machines) → before ≡ Some state.memory → Held start state old state.memory → DoesRow start told (DoesPart call state) old new
 
 abbrev pub CallBreaks : Call → Image → Option Image → Option Image → WorldView → WorldView → Type 0
 CallBreaks call start before told old new =
-    (state : Machines) → before ≡ Some state.memory → Held start state old state.memory → Breaks start told (BreaksOff call state) old new
+    (state : Machines) → before ≡ Some state.memory → Held start state old state.memory → LeavesBroken start told (BreaksOff call state) old new
 
 -- UUIDs are such, and a command's numbers, path and bytes fit
 abbrev pub IsSoundCall : Call → Type 0
@@ -96,7 +96,7 @@ IsSoundCall (call.Halts name) = ⊤
 IsSoundCall (call.Moves name line move) = ⊤
 IsSoundCall (call.Refuses name cause) = ⊤
 
--- What a call promises on every media, told or not. `before` and `now` are the media's counts of faults.
+-- What a call promises on every media, modelled or not. `before` and `now` are the media's counts of faults.
 
 abbrev pub TaskFits : ℕ → Option Task → Type 0
 TaskFits lines None = ⊤
@@ -107,8 +107,8 @@ pub record HostFits (lines : ℕ) (view : HostView) : Type 0 where
   pub cache : (l : ℕ) → IsHeld (cell_at view.cache l) → l < lines
 
 -- all tasks and all cached lines are those of a media of so many lines
-abbrev pub Fits : ℕ → List HostView → Type 0
-Fits lines views = (h : ℕ) (view : HostView) → slice_get views h ≡ Some view → HostFits lines view
+abbrev pub FitsMedia : ℕ → List HostView → Type 0
+FitsMedia lines views = (h : ℕ) (view : HostView) → slice_get views h ≡ Some view → HostFits lines view
 
 -- a host's name and UUID
 abbrev pub heading : HostView → List ℕ × List ℕ
@@ -121,7 +121,7 @@ pub record HasForm (c : Call) (lines : ℕ) (old new : WorldView) : Type 0 where
   pub form : DoesForm c lines (forms_of old.journal) notes
   pub formed : IsFormed new
 
--- notes are added that name declared hosts; memory's count rose by as many faults as they tell; hosts keep their names and
+-- notes are added that name declared hosts; the media's count rose by as many faults as they tell; hosts keep their names and
 -- UUIDs; what fitted the media fits it still; and hosts that were what the journal tells are so still
 pub record Adds (lines before now : ℕ) (old new : WorldView) : Type 0 where
   pub notes : List Note
@@ -130,7 +130,7 @@ pub record Adds (lines before now : ℕ) (old new : WorldView) : Type 0 where
   pub later : before ≤ now
   pub named : AreNamed (length new.hosts) notes
   pub hosts : map heading new.hosts ≡ map heading old.hosts
-  pub fits : Fits lines old.hosts → Fits lines new.hosts
+  pub fits : FitsMedia lines old.hosts → FitsMedia lines new.hosts
   pub formed : IsFormed old → IsFormed new
 
 -- what a call adds that didn't lack memory: all of its row, or memory cut it
@@ -229,7 +229,7 @@ pub record WorldCall (c : Call) (lines : ℕ) (answered : Option Refusal) (old n
   pub after : new ≡ world_after c lines old
   pub said : answered ≡ refusal_in c old lines
 
--- finish, evict, leak, fetch: what holds on every media; and where the image is told, the call's row
+-- finish, evict, leak, fetch: what holds on every media; and where the image is modelled, the call's row
 pub record MediaCall (c : Call) (lines : ℕ) (answered : Option Refusal) (told told_now : Option Image) (faults faults_now : ℕ) (old new : WorldView) : Type 0 where
   pub answers : Answers c lines answered faults faults_now old new
   pub keeps : (start : Image) → CallKeeps c start told told_now old new
@@ -267,12 +267,12 @@ pub record MakeCall (c : Call) (lines : ℕ) (answered : Option Refusal) (told t
   pub leaves : (start : Image) → MakeLeaves answered c start told told_now old new
 
 -- a finish that found no memory: what it did until then stands. Any other call has done nothing (`LeavesAll`)
-pub record FinishWant (name : List ℕ) (lines : ℕ) (told told_now : Option Image) (faults faults_now : ℕ) (old new : WorldView) : Type 0 where
+pub record FinishOutOfMemory (name : List ℕ) (lines : ℕ) (told told_now : Option Image) (faults faults_now : ℕ) (old new : WorldView) : Type 0 where
   pub adds : Adds lines faults faults_now old new
   pub form : IsFormed old → PartForm (call.Finishes name) lines (forms_of old.journal) adds.notes
   pub parts : (start : Image) → CallParts (call.Finishes name) start told told_now old new
 
--- The world after an operation that memory served, as the world's own task has it.
+-- The world after an operation that the media served, as the world's own task has it.
 
 -- a host's own task does its operation on the image
 abbrev pub own_machine : Image → HostView → Machine

@@ -16,9 +16,9 @@ use Rattle.fam_journal.specs.declared.refusal.Refusal.TheVariants as why
 use Rattle.fam_machine.specs.HostMoves.{Move, move_failed, moved}
 use Rattle.fam_machine.specs.Cuts.{Cuts}
 use Rattle.fam_journal.specs.Machines.{HostState, Machines, Operation, machine_of, task_begun, with_machine, with_memory, with_task}
-use Rattle.fam_journal.specs.Members.{place_of}
+use Rattle.fam_journal.specs.Members.{index_of}
 use Rattle.fam_machine.specs.Mkfs as early
-use Rattle.fam_machine.specs.Mkfs.{EarlyRefusal, asked, due_ops, early_refusal, found, goes_on, mkfs_ops, read_ops}
+use Rattle.fam_machine.specs.Mkfs.{EarlyRefusal, asked, expected_ops, early_refusal, superblock_found, goes_on, mkfs_ops, read_ops}
 use Rattle.fam_journal.specs.Notes.{Note, Host, Made, Start, Stop, Halt, Refused}
 
 -- what the world is asked for, of the host of a name
@@ -53,7 +53,7 @@ has_name name host = path_eq host.name name
 
 -- the number of the host of a name
 abbrev pub number_of : List ℕ → Machines → Option ℕ
-number_of name m = place_of (has_name name) m.hosts
+number_of name m = index_of (has_name name) m.hosts
 
 -- the host has a task
 abbrev pub is_busy : HostState → Bool
@@ -106,7 +106,7 @@ cause_of (early.TooSmall needed have) = why.TooSmall needed have
 abbrev pub makes_refusal : ℕ → ℕ → ℕ → Machines → Option Refusal
 makes_refusal unit log h m =
     or_else (option_map cause_of (early_refusal unit log (line_bytes * length m.memory)))
-    (or_else (busy_refusal (place_of is_busy m.hosts)) (dirty_refusal (dirty_from h 0 m.hosts)))
+    (or_else (busy_refusal (index_of is_busy m.hosts)) (dirty_refusal (dirty_from h 0 m.hosts)))
 
 -- what may be asked of a declared host
 abbrev pub on_host : Option ℕ → (ℕ → Option Refusal) → Option Refusal
@@ -131,7 +131,7 @@ line_refusal line m = when (nat_le (length m.memory) line) (why.NoLine line (len
 -- the first refusal of a call, or none
 unfoldable pub refusal_of : Call → Machines → Option Refusal
 refusal_of (Declares name uuid) m =
-    or_else (same_refusal (place_of (is_same name uuid) m.hosts)) (when (nat_le host_limit (length m.hosts)) why.TooManyHosts)
+    or_else (same_refusal (index_of (is_same name uuid) m.hosts)) (when (nat_le host_limit (length m.hosts)) why.TooManyHosts)
 refusal_of (Makes name fs unit log force) m = on_host (number_of name m) (λ h. makes_refusal unit log h m)
 refusal_of (Begins name cmd) m = on_host (number_of name m) (λ h. begins_refusal h m)
 refusal_of (Steps name) m = on_host (number_of name m) (λ h. idle_refusal h m)
@@ -160,21 +160,21 @@ IsOfSource (why.CopyLimit sum) = ⊤
 IsOfSource (why.BadListing at) = ⊤
 IsOfSource (why.MediaFault at) = ⊥
 
-abbrev pub MayRefuse : List ℕ → Refusal → Machines → Type 0
-MayRefuse name cause m = IsOfSource cause ⊎ (may_begin name m ≡ Some cause)
+abbrev pub MayBeRefused : List ℕ → Refusal → Machines → Type 0
+MayBeRefused name cause m = IsOfSource cause ⊎ (may_begin name m ≡ Some cause)
 
 -- Rows.
 
 -- so many operations of host h, fewer where its task answers
-abbrev pub Operates : ℕ → ℕ → Machines → List Note → Machines → Type 0
-Operates h zero old notes new = (notes ≡ []) × (new ≡ old)
-Operates h (suc n) old notes new =
-    ((busy_at h old ≡ false) × (notes ≡ []) × (new ≡ old)) ⊎ ((busy_at h old ≡ true) × (mid : Machines) × (first : List Note) × (rest : List Note) × Operation h old first mid × Operates h n mid rest new × (notes ≡ first ++ rest))
+abbrev pub DoesOperations : ℕ → ℕ → Machines → List Note → Machines → Type 0
+DoesOperations h zero old notes new = (notes ≡ []) × (new ≡ old)
+DoesOperations h (suc n) old notes new =
+    ((busy_at h old ≡ false) × (notes ≡ []) × (new ≡ old)) ⊎ ((busy_at h old ≡ true) × (mid : Machines) × (first : List Note) × (rest : List Note) × Operation h old first mid × DoesOperations h n mid rest new × (notes ≡ first ++ rest))
 
 -- operations up to the answer
 pub record Completes (h : ℕ) (old : Machines) (notes : List Note) (new : Machines) : Type 0 where
   pub count : ℕ
-  pub does : Operates h count old notes new
+  pub does : DoesOperations h count old notes new
   pub done : busy_at h new ≡ false
 
 -- of a declared host
@@ -186,27 +186,27 @@ abbrev pub AtHost : ℕ → Machines → (HostState → Type 0) → Type 0
 AtHost h m P = OnHost (slice_get m.hosts h) P
 
 -- a file system is made, all 81 operations; or a superblock stands there, and 27 are
-pub record IsMade (h : ℕ) (p : Params) (force : Bool) (host : HostState) (old : Machines) (notes : List Note) (new : Machines) : Type 0 where
-  pub free : goes_on force (found p (machine_of old host)) ≡ true
+pub record MakesFileSystem (h : ℕ) (p : Params) (force : Bool) (host : HostState) (old : Machines) (notes : List Note) (new : Machines) : Type 0 where
+  pub free : goes_on force (superblock_found p (machine_of old host)) ≡ true
   pub notes_are : notes ≡ Made h p ∷ []
   pub left : new ≡ with_machine h (operated_all (mkfs_ops p) (machine_of old host)) host.task old
 
 pub record Meets (h : ℕ) (p : Params) (force : Bool) (name : List ℕ) (host : HostState) (old : Machines) (notes : List Note) (new : Machines) : Type 0 where
   pub unforced : force ≡ false
   pub other : Params
-  pub stands : found p (machine_of old host) ≡ Ok other
+  pub stands : superblock_found p (machine_of old host) ≡ Ok other
   pub notes_are : notes ≡ Refused name (why.HasSuper other.fs) ∷ []
   pub left : new ≡ with_machine h (operated_all read_ops (machine_of old host)) host.task old
 
--- memory failed in one of the operations that are due
+-- the media failed in one of the operations that are expected
 pub record MakesCut (h : ℕ) (p : Params) (force : Bool) (name : List ℕ) (host : HostState) (old : Machines) (notes : List Note) (new : Machines) : Type 0 where
   pub line : LineNo
   pub left : Machine
-  pub cuts : Cuts (due_ops force p (machine_of old host)) (machine_of old host) line left
+  pub cuts : Cuts (expected_ops force p (machine_of old host)) (machine_of old host) line left
   pub notes_are : notes ≡ Refused name (why.MediaFault line) ∷ []
   pub left_is : new ≡ with_machine h left host.task old
 
--- a cache moved; or memory failed in it
+-- a cache moved; or the media failed in it
 pub record Moved (h line : ℕ) (move : Move) (host : HostState) (old : Machines) (notes : List Note) (new : Machines) : Type 0 where
   pub notes_are : notes ≡ []
   pub left : new ≡ with_machine h (moved move line (machine_of old host)) host.task old
@@ -222,7 +222,7 @@ pub record MoveFails (h line : ℕ) (move : Move) (name : List ℕ) (host : Host
 abbrev pub ActsAt : Call → ℕ → HostState → Machines → List Note → Machines → Type 0
 ActsAt (Declares name uuid) h host old notes new = ⊥
 ActsAt (Makes name fs unit log force) h host old notes new =
-    IsMade h (asked unit log fs host.uuid (length old.memory)) force host old notes new ⊎ Meets h (asked unit log fs host.uuid (length old.memory)) force name host old notes new
+    MakesFileSystem h (asked unit log fs host.uuid (length old.memory)) force host old notes new ⊎ Meets h (asked unit log fs host.uuid (length old.memory)) force name host old notes new
 ActsAt (Begins name cmd) h host old notes new =
     (notes ≡ Start h cmd ∷ []) × (new ≡ with_task h (Some (task_begun cmd host.uuid)) old)
 ActsAt (Steps name) h host old notes new = Operation h old notes new
@@ -244,7 +244,7 @@ ActsOf call old notes new = AtNumber (number_of (name_of call) old) old (λ h ho
 abbrev pub Acts : Call → Machines → List Note → Machines → Type 0
 Acts (Declares name uuid) old notes new =
     (notes ≡ Host name uuid ∷ []) × (new ≡ record old { hosts = old.hosts ++ record { name = name; uuid = uuid; cache = map.empty; task = None } ∷ [] })
-Acts (Refuses name cause) old notes new = (notes ≡ Refused name cause ∷ []) × (new ≡ old) × MayRefuse name cause old
+Acts (Refuses name cause) old notes new = (notes ≡ Refused name cause ∷ []) × (new ≡ old) × MayBeRefused name cause old
 Acts (Makes name fs unit log force) old notes new = ActsOf (Makes name fs unit log force) old notes new
 Acts (Begins name cmd) old notes new = ActsOf (Begins name cmd) old notes new
 Acts (Steps name) old notes new = ActsOf (Steps name) old notes new

@@ -1,5 +1,5 @@
 -- What a command may answer at last, by the rules: in each state, for each command. A master's append that the decision
--- doesn't refuse, unless memory fails, answers that it is done.
+-- doesn't refuse, unless the media fails, answers that it is done.
 use Rattle.std.specs.Prelude.{ℕ, ⊤, ◌≡◌, ◌≢◌, ◌⊎◌, ◌*◌, List, [], ◌∷◌, ◌++◌, length, take, slice_get, Option, Some, None, Err}
 use Rattle.fam_base.specs.declared.cmd.Cmd.{Cmd}
 use Rattle.fam_base.specs.declared.cmd.Cmd.TheVariants.{Logplay, Mkdir, Creat, Cp, Verify, Read, Check, Fsck}
@@ -21,7 +21,7 @@ use Rattle.fam_journal.specs.declared.refusal.Refusal.{Refusal}
 use Rattle.fam_journal.specs.Calls.{Completes}
 use Rattle.fam_journal.specs.Events.{Session, first_session}
 use Rattle.fam_journal.specs.Follows.{Follows}
-use Rattle.fam_journal.specs.Ends.{IsClean}
+use Rattle.fam_journal.specs.Ends.{IsFaultless}
 use Rattle.fam_journal.specs.Machines.{Machines}
 use Rattle.fam_journal.specs.Legal.{InBounds, IsReportOf, OfHost, damaged_master}
 use Rattle.fam_journal.specs.Notes.{Answer, Replied, MediaFault, Note, Host, Made, Start, Mark, Found, Writes, Answered, Stop, Halt, Refused}
@@ -30,15 +30,15 @@ use Rattle.fam_journal.specs.Past.{first_past, Damage, FewLines, NoSuperblock, B
 -- Sound states.
 
 -- another host than the master
-pub record IsStranger (p : Params) (host : HostPast) (why : Cause) : Type 0 where
+pub record AnswersClient (p : Params) (host : HostPast) (why : Cause) : Type 0 where
   pub other : host.uuid ≢ p.master
   pub is : why ≡ cause.NotMaster host.uuid p.master
 
--- it is done; or its host is a stranger; or the decision refuses it, with nothing pending
+-- it is done; or its host is a client; or the decision refuses it, with nothing pending
 abbrev pub IsAppendAnswer : Params → List File → Option File → HostPast → Cmd → Reply → Type 0
 IsAppendAnswer p history pending host cmd (reply.Appended seq) = ⊤
 IsAppendAnswer p history pending host cmd (reply.NotAppended why) =
-    IsStranger p host why ⊎ ((pending ≡ None) × (decide p host.uuid (entries_of history) cmd ≡ Some (Err why)))
+    AnswersClient p host why ⊎ ((pending ≡ None) × (decide p host.uuid (entries_of history) cmd ≡ Some (Err why)))
 IsAppendAnswer p history pending host cmd (reply.Played m tree) = ⊥
 IsAppendAnswer p history pending host cmd (reply.Same m) = ⊥
 IsAppendAnswer p history pending host cmd (reply.Differs m offset found wanted) = ⊥
@@ -53,26 +53,26 @@ IsAppendAnswer p history pending host cmd (reply.BadHeader fault) = ⊥
 IsAppendAnswer p history pending host cmd (reply.BadSlot seq reason) = ⊥
 
 -- the question's answer on the first entries, of which there are so many as were settled at the mark, or more
-pub record IsAsked (host : HostPast) (all : List File) (cmd : Cmd) (given : Reply) : Type 0 where
+pub record AsksPrefix (host : HostPast) (all : List File) (cmd : Cmd) (given : Reply) : Type 0 where
   pub m : ℕ
   pub bounds : InBounds host m all
   pub is : ask (take m all) cmd ≡ Some given
 
-pub record IsReported (p : Params) (host : HostPast) (all : List File) (given : Reply) : Type 0 where
+pub record IsReportAnswer (p : Params) (host : HostPast) (all : List File) (given : Reply) : Type 0 where
   pub report : Report
   pub is : given ≡ reply.Reports report
   pub says : IsReportOf p host all report
 
 abbrev pub IsSoundAnswer : Params → List File → Option File → HostPast → Cmd → Reply → Type 0
-IsSoundAnswer p history pending host Logplay given = IsAsked host (with_pending history pending) Logplay given
+IsSoundAnswer p history pending host Logplay given = AsksPrefix host (with_pending history pending) Logplay given
 IsSoundAnswer p history pending host (Mkdir path attr) given = IsAppendAnswer p history pending host (Mkdir path attr) given
 IsSoundAnswer p history pending host (Creat path size attr stripe fill) given =
     IsAppendAnswer p history pending host (Creat path size attr stripe fill) given
 IsSoundAnswer p history pending host (Cp path attr stripe bytes) given = IsAppendAnswer p history pending host (Cp path attr stripe bytes) given
-IsSoundAnswer p history pending host (Verify path against) given = IsAsked host (with_pending history pending) (Verify path against) given
-IsSoundAnswer p history pending host (Read path offset count) given = IsAsked host (with_pending history pending) (Read path offset count) given
-IsSoundAnswer p history pending host (Check entries) given = IsAsked host (with_pending history pending) (Check entries) given
-IsSoundAnswer p history pending host Fsck given = IsReported p host (with_pending history pending) given
+IsSoundAnswer p history pending host (Verify path against) given = AsksPrefix host (with_pending history pending) (Verify path against) given
+IsSoundAnswer p history pending host (Read path offset count) given = AsksPrefix host (with_pending history pending) (Read path offset count) given
+IsSoundAnswer p history pending host (Check entries) given = AsksPrefix host (with_pending history pending) (Check entries) given
+IsSoundAnswer p history pending host Fsck given = IsReportAnswer p host (with_pending history pending) given
 
 -- Damaged states.
 
@@ -84,7 +84,7 @@ IsFaultAnswer (BadHeader fault) given = given ≡ reply.BadHeader fault
 IsFaultAnswer (BadSlot i reason) given = given ≡ reply.BadSlot i reason
 
 -- another host than the one that the superblock names, where it reads
-pub record IsDamagedStranger (image : Image) (damage : Damage) (host : HostPast) (given : Reply) : Type 0 where
+pub record IsDamagedClient (image : Image) (damage : Damage) (host : HostPast) (given : Reply) : Type 0 where
   pub master : List ℕ
   pub master_is : damaged_master image damage ≡ Some master
   pub other : host.uuid ≢ master
@@ -95,9 +95,9 @@ pub record IsDamagedMaster (image : Image) (damage : Damage) (host : HostPast) (
   pub is : IsFaultAnswer damage given
   pub own : (master : List ℕ) → damaged_master image damage ≡ Some master → host.uuid ≡ master
 
--- an append answers that its host is a stranger, just where it is one; and else the fault
+-- an append answers that its host is a client, just where it is one; and else the fault
 abbrev pub IsDamagedAppend : Image → Damage → HostPast → Reply → Type 0
-IsDamagedAppend image damage host given = IsDamagedMaster image damage host given ⊎ IsDamagedStranger image damage host given
+IsDamagedAppend image damage host given = IsDamagedMaster image damage host given ⊎ IsDamagedClient image damage host given
 
 -- a check of the whole file system reports; another command that reads answers the fault, whoever asks
 abbrev pub IsDamagedAnswer : Image → Damage → HostPast → Cmd → Reply → Type 0
@@ -145,17 +145,17 @@ AreRuled past (note ∷ notes) = IsRuledNote note past × AreRuled (past_after p
 
 -- notes end in an answer of the rules
 pub record EndsInAnswer (notes : List Note) : Type 0 where
-  pub front : List Note
+  pub prefix : List Note
   pub host : ℕ
   pub given : Reply
-  pub is : notes ≡ front ++ Answered host (Replied given) ∷ []
+  pub is : notes ≡ prefix ++ Answered host (Replied given) ∷ []
 
 -- operations of a host, served by memory, up to its answer
 pub record CanEnd (h : ℕ) (state : Machines) : Type 0 where
   pub notes : List Note
   pub left : Machines
   pub completes : Completes h state notes left
-  pub clean : IsClean notes
+  pub clean : IsFaultless notes
 
 -- Runs in which no count rose.
 
@@ -182,6 +182,6 @@ RunsEnd files (e ∷ events) old journal new follows = RunEnds e follows.1 × Ru
 pub record IsComplete (files : Files) (events : List Event) (start : Image) (journal : List Note) : Type 0 where
   pub last : Session
   pub follows : Follows files events (first_session start) journal last
-  pub clean : IsClean journal
+  pub clean : IsFaultless journal
   pub ruled : AreRuled (first_past start) journal
   pub ends : RunsEnd files events (first_session start) journal last follows

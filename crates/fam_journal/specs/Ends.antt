@@ -11,7 +11,7 @@ use Rattle.fam_journal.specs.declared.event.Event.{Event}
 use Rattle.fam_journal.specs.declared.refusal.Refusal.{Refusal}
 use Rattle.fam_journal.specs.declared.refusal.Refusal.TheVariants as why
 use Rattle.fam_journal.specs.Events.{Session}
-use Rattle.fam_journal.specs.Follows.{Follows, FollowsBroken, FollowsCut, FollowsFront, FollowsLast, FollowsToSource, SourceEnd}
+use Rattle.fam_journal.specs.Follows.{Follows, FollowsBroken, FollowsCut, FollowsPrefix, FollowsLast, FollowsToSource, SourceEnd}
 use Rattle.fam_journal.specs.Notes.{Answer, Replied, MediaFault, Note, Host, Made, Start, Mark, Found, Writes, Answered, Stop, Halt, Refused}
 use Rattle.fam_journal.specs.Past.{State, Bad, Sound, past_of, settled_length, with_pending}
 
@@ -51,14 +51,14 @@ note_faults (Stop host) = 0
 note_faults (Halt host) = 0
 note_faults (Refused name cause) = cause_faults cause
 
--- how often memory failed, as the notes have it
+-- how often the media failed, as the notes have it
 abbrev pub faults_of : List Note → ℕ
 faults_of [] = 0
 faults_of (note ∷ notes) = note_faults note + faults_of notes
 
--- memory never failed
-abbrev pub IsClean : List Note → Type 0
-IsClean notes = faults_of notes ≡ 0
+-- the media never failed
+abbrev pub IsFaultless : List Note → Type 0
+IsFaultless notes = faults_of notes ≡ 0
 
 -- a count of 64 bits rose by at least as many faults as these notes have, or stands at its last value
 abbrev pub HasCounted : ℕ → ℕ → List Note → Type 0
@@ -70,25 +70,25 @@ HasCounted before now notes = min (before + faults_of notes) (2 ^ 64 - 1) ≤ no
 pub data Ending : Type 0 where
   -- all events are done
   AllDone : Ending
-  -- memory failed in a mkfs
+  -- the media failed in a mkfs
   MkfsFails : Ending
   -- a source failed or was short
   SourceFails : (end : SourceEnd) → Ending
   -- no room was found
-  NoMemory : Ending
-  -- memory failed in a mkfs, and then no room was found for what is put
-  NoMemoryBroken : Ending
+  EndsOutOfMemory : Ending
+  -- the media failed in a mkfs, and then no room was found for what is put
+  EndsOutOfMemoryBroken : Ending
   -- the put of an event's notes failed: no event behind it is done
   SinkFails : Ending
 
 -- which events are done
-abbrev pub EndsBy : Ending → Files → List Event → Session → List Note → Session → Type 0
-EndsBy AllDone files events old journal new = Follows files events old journal new
-EndsBy MkfsFails files events old journal new = FollowsBroken files events old journal new
-EndsBy (SourceFails end) files events old journal new = FollowsToSource end files events old journal new
-EndsBy NoMemory files events old journal new = FollowsFront files events old journal new ⊎ FollowsCut files events old journal new
-EndsBy NoMemoryBroken files events old journal new = FollowsBroken files events old journal new
-EndsBy SinkFails files events old journal new = FollowsLast files events old journal new
+abbrev pub EventsDone : Ending → Files → List Event → Session → List Note → Session → Type 0
+EventsDone AllDone files events old journal new = Follows files events old journal new
+EventsDone MkfsFails files events old journal new = FollowsBroken files events old journal new
+EventsDone (SourceFails end) files events old journal new = FollowsToSource end files events old journal new
+EventsDone EndsOutOfMemory files events old journal new = FollowsPrefix files events old journal new ⊎ FollowsCut files events old journal new
+EventsDone EndsOutOfMemoryBroken files events old journal new = FollowsBroken files events old journal new
+EventsDone SinkFails files events old journal new = FollowsLast files events old journal new
 
 -- the image reads as what a journal settles; a damaged one is left as it is
 abbrev pub ReadsAs : State → Image → Type 0
@@ -96,13 +96,13 @@ ReadsAs (Bad image damage gate) after = after ≡ image
 ReadsAs (Sound p history pending) after =
     (reading after ≡ read.Sound p (entries_of history)) ⊎ (reading after ≡ read.Sound p (entries_of (with_pending history pending)))
 
--- so it is but behind a mkfs in which memory failed
+-- so it is but behind a mkfs in which the media failed
 abbrev pub ReadsAfter : Ending → State → Image → Type 0
 ReadsAfter AllDone state after = ReadsAs state after
 ReadsAfter MkfsFails state after = ⊤
 ReadsAfter (SourceFails end) state after = ReadsAs state after
-ReadsAfter NoMemory state after = ReadsAs state after
-ReadsAfter NoMemoryBroken state after = ⊤
+ReadsAfter EndsOutOfMemory state after = ReadsAs state after
+ReadsAfter EndsOutOfMemoryBroken state after = ⊤
 ReadsAfter SinkFails state after = ReadsAs state after
 
 -- The counts of a storm: answers, refusals, and the history's length at the end. That is 0 before the first mkfs that

@@ -13,7 +13,7 @@ use Rattle.fam_journal.specs.declared.refusal.Refusal.{Refusal}
 use Rattle.fam_journal.specs.declared.refusal.Refusal.TheVariants as why
 use Rattle.fam_journal.specs.Calls as call
 use Rattle.fam_journal.specs.Calls.{idle_refusal, may_begin, number_of, on_host}
-use Rattle.fam_journal.specs.Ends.{AllDone, Ending, MkfsFails, NoMemory, NoMemoryBroken, SinkFails, SourceFails}
+use Rattle.fam_journal.specs.Ends.{AllDone, Ending, MkfsFails, EndsOutOfMemory, EndsOutOfMemoryBroken, SinkFails, SourceFails}
 use Rattle.fam_journal.specs.Events.{event_source, source_of}
 use Rattle.fam_journal.specs.Forms.{BreaksForm, CompletesForm, DoesForm, FormByRefusal, HostForm, OperationsForm, forms_after, forms_behind, shown_forms}
 use Rattle.fam_journal.specs.Notes.{Note, Start, Refused}
@@ -104,7 +104,7 @@ EventForm (event.Evict name line) lines hosts notes = DoesForm (call.Moves name 
 EventForm (event.Leak name line mask) lines hosts notes = DoesForm (call.Moves name line.0 (Leak mask.0)) lines hosts notes
 EventForm (event.Fetch name line mask) lines hosts notes = DoesForm (call.Moves name line.0 (Fetch mask.0)) lines hosts notes
 
--- memory cuts an event behind which nothing goes on
+-- a media fault cuts an event behind which nothing goes on
 abbrev pub EventBreaksForm : Event → ℕ → List HostForm → List Note → Type 0
 EventBreaksForm (event.Host name uuid) lines hosts notes = ⊥
 EventBreaksForm (event.Mkfs name fs unit log force) lines hosts notes = BreaksForm (call.Makes name fs unit log force) lines hosts notes
@@ -158,7 +158,7 @@ pub record FormUpTo (P : Event → ℕ → List HostForm → List Note → Type 
   pub joined : journal ≡ whole_notes ++ part_notes
 
 -- some first ones
-pub record FormFront (lines : ℕ) (events : List Event) (hosts : List HostForm) (journal : List Note) : Type 0 where
+pub record FormPrefix (lines : ℕ) (events : List Event) (hosts : List HostForm) (journal : List Note) : Type 0 where
   pub count : ℕ
   pub follows : FollowsForm lines (take count events) hosts journal
 
@@ -178,6 +178,6 @@ abbrev pub EndsForm : Ending → ℕ → List Event → List HostForm → List N
 EndsForm AllDone lines events hosts journal = FollowsForm lines events hosts journal
 EndsForm MkfsFails lines events hosts journal = FormUpTo EventBreaksForm lines events hosts journal
 EndsForm (SourceFails end) lines events hosts journal = FormToSource lines events hosts journal
-EndsForm NoMemory lines events hosts journal = FormFront lines events hosts journal ⊎ FormUpTo EventPartForm lines events hosts journal
-EndsForm NoMemoryBroken lines events hosts journal = FormUpTo EventBreaksForm lines events hosts journal
+EndsForm EndsOutOfMemory lines events hosts journal = FormPrefix lines events hosts journal ⊎ FormUpTo EventPartForm lines events hosts journal
+EndsForm EndsOutOfMemoryBroken lines events hosts journal = FormUpTo EventBreaksForm lines events hosts journal
 EndsForm SinkFails lines events hosts journal = FormUpTo EventForm lines events hosts journal

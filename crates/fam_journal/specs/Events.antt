@@ -15,7 +15,7 @@ use Rattle.fam_journal.specs.declared.event.Event.TheVariants as event
 use Rattle.fam_journal.specs.declared.refusal.Refusal.{Refusal}
 use Rattle.fam_journal.specs.declared.refusal.Refusal.TheVariants as why
 use Rattle.fam_journal.specs.Calls as call
-use Rattle.fam_journal.specs.Calls.{Call, Begins, Refuses, Does, BreaksOff, Operates, Completes, idle_refusal, may_begin, number_of, on_host}
+use Rattle.fam_journal.specs.Calls.{Call, Begins, Refuses, Does, BreaksOff, DoesOperations, Completes, idle_refusal, may_begin, number_of, on_host}
 use Rattle.fam_journal.specs.Listings.{ListingSays}
 use Rattle.fam_machine.specs.HostMoves.{Evict, Leak, Fetch}
 use Rattle.fam_journal.specs.Machines.{Machines, unused}
@@ -93,8 +93,8 @@ pub record HasNoSource (files : Files) (name : List ℕ) (what : Ask) (old : Ses
   pub does : Does (Refuses name cause) old.machines notes new.machines
   pub copied_is : new.copied ≡ copied
 
-abbrev pub IsRefused : Files → List ℕ → Ask → Session → List Note → Session → Type 0
-IsRefused files name what old notes new = MayNot name old notes new ⊎ HasNoSource files name what old notes new
+abbrev pub RefusesEvent : Files → List ℕ → Ask → Session → List Note → Session → Type 0
+RefusesEvent files name what old notes new = MayNot name old notes new ⊎ HasNoSource files name what old notes new
 
 -- a command begins. Its path, numbers and bytes fit: those of a source are bytes, since it was read
 pub record IsBegun (files : Files) (name : List ℕ) (what : Ask) (old : Session) (notes : List Note) (new : Session) : Type 0 where
@@ -107,7 +107,7 @@ pub record IsBegun (files : Files) (name : List ℕ) (what : Ask) (old : Session
   pub copied_is : new.copied ≡ copied
 
 -- and does operations: by a relation of a host's number, machines and notes
-pub record GoesOn (P : ℕ → Machines → List Note → Machines → Type 0) (files : Files) (name : List ℕ) (what : Ask) (old : Session) (notes : List Note) (new : Session) : Type 0 where
+pub record Continues (P : ℕ → Machines → List Note → Machines → Type 0) (files : Files) (name : List ℕ) (what : Ask) (old : Session) (notes : List Note) (new : Session) : Type 0 where
   pub mid : Session
   pub first : List Note
   pub rest : List Note
@@ -137,9 +137,9 @@ pub record MayNotStep (name : List ℕ) (old : Session) (notes : List Note) (new
 abbrev pub DoesEvent : Files → Event → Session → List Note → Session → Type 0
 DoesEvent files (event.Host name uuid) old notes new = Calls (call.Declares name uuid) old notes new
 DoesEvent files (event.Mkfs name fs unit log force) old notes new = Calls (call.Makes name fs unit log force) old notes new
-DoesEvent files (event.Begin name what) old notes new = IsBegun files name what old notes new ⊎ IsRefused files name what old notes new
-DoesEvent files (event.Run name what) old notes new = GoesOn Completes files name what old notes new ⊎ IsRefused files name what old notes new
-DoesEvent files (event.Step name count) old notes new = StepsBy (λ h. Operates h count) name old notes new ⊎ MayNotStep name old notes new
+DoesEvent files (event.Begin name what) old notes new = IsBegun files name what old notes new ⊎ RefusesEvent files name what old notes new
+DoesEvent files (event.Run name what) old notes new = Continues Completes files name what old notes new ⊎ RefusesEvent files name what old notes new
+DoesEvent files (event.Step name count) old notes new = StepsBy (λ h. DoesOperations h count) name old notes new ⊎ MayNotStep name old notes new
 DoesEvent files (event.Finish name) old notes new = Calls (call.Finishes name) old notes new
 DoesEvent files (event.Stop name) old notes new = Calls (call.Stops name) old notes new
 DoesEvent files (event.Halt name) old notes new = Calls (call.Halts name) old notes new
@@ -147,7 +147,7 @@ DoesEvent files (event.Evict name line) old notes new = Calls (call.Moves name l
 DoesEvent files (event.Leak name line mask) old notes new = Calls (call.Moves name line.0 (Leak mask.0)) old notes new
 DoesEvent files (event.Fetch name line mask) old notes new = Calls (call.Moves name line.0 (Fetch mask.0)) old notes new
 
--- memory cuts an event behind which nothing goes on: making a file system
+-- a media fault cuts an event behind which nothing goes on: making a file system
 abbrev pub BreaksEvent : Event → Session → List Note → Session → Type 0
 BreaksEvent (event.Host name uuid) old notes new = ⊥
 BreaksEvent (event.Mkfs name fs unit log force) old notes new =
@@ -165,13 +165,13 @@ BreaksEvent (event.Fetch name line mask) old notes new = ⊥
 -- any number of operations
 pub record SomeOperations (h : ℕ) (old : Machines) (notes : List Note) (new : Machines) : Type 0 where
   pub count : ℕ
-  pub does : Operates h count old notes new
+  pub does : DoesOperations h count old notes new
 
 -- at most so many
 pub record AtMost (limit h : ℕ) (old : Machines) (notes : List Note) (new : Machines) : Type 0 where
   pub count : ℕ
   pub within : count ≤ limit
-  pub does : Operates h count old notes new
+  pub does : DoesOperations h count old notes new
 
 -- no memory was left for an operation of an event: of its operations some were done. Making a file system takes all its
 -- room first, and other events are done whole
@@ -179,7 +179,7 @@ abbrev pub PartOf : Files → Event → Session → List Note → Session → Ty
 PartOf files (event.Host name uuid) old notes new = ⊥
 PartOf files (event.Mkfs name fs unit log force) old notes new = ⊥
 PartOf files (event.Begin name what) old notes new = ⊥
-PartOf files (event.Run name what) old notes new = GoesOn SomeOperations files name what old notes new
+PartOf files (event.Run name what) old notes new = Continues SomeOperations files name what old notes new
 PartOf files (event.Step name count) old notes new = StepsBy (AtMost count) name old notes new
 PartOf files (event.Finish name) old notes new = StepsBy SomeOperations name old notes new
 PartOf files (event.Stop name) old notes new = ⊥

@@ -32,7 +32,7 @@ pub record FollowsUpTo (P : Event → Session → List Note → Session → Type
   pub part : P event mid part_notes new
   pub joined : journal ≡ whole_notes ++ part_notes
 
--- the last event is a mkfs in which memory failed
+-- the last event is a mkfs in which the media failed
 abbrev pub FollowsBroken : Files → List Event → Session → List Note → Session → Type 0
 FollowsBroken files events old journal new = FollowsUpTo BreaksEvent files events old journal new
 
@@ -45,7 +45,7 @@ abbrev pub FollowsLast : Files → List Event → Session → List Note → Sess
 FollowsLast files events old journal new = FollowsUpTo (DoesEvent files) files events old journal new
 
 -- some first ones are done
-pub record FollowsFront (files : Files) (events : List Event) (old : Session) (journal : List Note) (new : Session) : Type 0 where
+pub record FollowsPrefix (files : Files) (events : List Event) (old : Session) (journal : List Note) (new : Session) : Type 0 where
   pub count : ℕ
   pub follows : Follows files (take count events) old journal new
 

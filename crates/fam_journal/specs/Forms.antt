@@ -6,9 +6,9 @@ use Rattle.fam_base.specs.declared.cmd.Cmd.{Cmd}
 use Rattle.fam_base.specs.declared.cmd.Cmd.TheVariants.{Logplay, Mkdir, Creat, Cp, Verify, Read, Check, Fsck}
 use Rattle.fam_base.specs.declared.entry.Entry.{Entry}
 use Rattle.fam_format.specs.Stop.{or_else}
-use Rattle.fam_commands.specs.declared.place.Part.TheVariants.{Superblock, Header, Slot, File}
-use Rattle.fam_commands.specs.declared.place.Place.{Place}
-use Rattle.fam_commands.specs.declared.place.Place.TheVariants as at
+use Rattle.fam_commands.specs.declared.phase.Part.TheVariants.{Superblock, Header, Slot, File}
+use Rattle.fam_commands.specs.declared.phase.Phase.{Phase}
+use Rattle.fam_commands.specs.declared.phase.Phase.TheVariants as at
 use Rattle.fam_machine.specs.Mkfs.{asked, early_refusal}
 use Rattle.fam_commands.specs.Stands.{StandsFor}
 use Rattle.fam_commands.specs.Task.{Task}
@@ -24,7 +24,7 @@ use Rattle.fam_journal.specs.declared.refusal.Refusal.TheVariants as why
 use Rattle.fam_journal.specs.Calls as call
 use Rattle.fam_journal.specs.Calls.{Call, IsOfSource, busy_refusal, cause_of, is_busy, may_begin, name_of, number_of, on_host, refusal_of}
 use Rattle.fam_journal.specs.Machines.{HostState, Machines, TaskState, task_begun}
-use Rattle.fam_journal.specs.Members.{changed_at, place_of}
+use Rattle.fam_journal.specs.Members.{changed_at, index_of}
 use Rattle.fam_journal.specs.Notes.{Answer, Replied, MediaFault, Note, Host, Made, Start, Mark, Found, Writes, Answered, Stop, Halt, Refused}
 use Rattle.fam_journal.specs.Past.{reported_count}
 use Rattle.fam_journal.specs.View.{HostView, WorldView}
@@ -32,18 +32,18 @@ use Rattle.fam_journal.specs.View.{HostView, WorldView}
 -- What a journal tells of the hosts alone.
 
 -- how far a command has come, by the notes that it gave
-pub data Stage : Type 0 where
-  Begun : Stage
+pub data CommandStage : Type 0 where
+  Begun : CommandStage
   -- the gate's line was dropped
-  Marked : Stage
+  Marked : CommandStage
   -- a command that appends found so many entries
-  Met : (n : ℕ) → Stage
+  Met : (n : ℕ) → CommandStage
   -- it named the entry of this number
-  Named : (seq : ℕ) → Stage
+  Named : (seq : ℕ) → CommandStage
 
 pub record TaskForm : Type 0 where
   pub cmd : Cmd
-  pub stage : Stage
+  pub stage : CommandStage
 
 -- a host with its running command, if any
 pub record HostForm : Type 0 where
@@ -52,7 +52,7 @@ pub record HostForm : Type 0 where
   pub task : Option TaskForm
 
 -- its command, if any, has come to a stage
-abbrev pub with_stage : Stage → HostForm → HostForm
+abbrev pub with_stage : CommandStage → HostForm → HostForm
 with_stage stage host = record host { task = option_map (λ (t : TaskForm). record t { stage = stage }) host.task }
 
 -- the hosts after a note
@@ -110,33 +110,33 @@ IsCheck (Check entries) = ⊤
 IsCheck Fsck = ⊥
 
 -- nothing was found yet
-abbrev pub IsHead : Stage → Type 0
+abbrev pub IsHead : CommandStage → Type 0
 IsHead Begun = ⊤
 IsHead Marked = ⊤
 IsHead (Met n) = ⊥
 IsHead (Named seq) = ⊥
 
 -- the gate was read, and nothing is named
-abbrev pub IsReading : Stage → Type 0
-IsReading Begun = ⊥
-IsReading Marked = ⊤
-IsReading (Met n) = ⊤
-IsReading (Named seq) = ⊥
+abbrev pub HasReadGate : CommandStage → Type 0
+HasReadGate Begun = ⊥
+HasReadGate Marked = ⊤
+HasReadGate (Met n) = ⊤
+HasReadGate (Named seq) = ⊥
 
 -- what a command that appends found
-abbrev pub HasMet : Stage → Type 0
+abbrev pub HasMet : CommandStage → Type 0
 HasMet Begun = ⊥
 HasMet Marked = ⊥
 HasMet (Met n) = ⊤
 HasMet (Named seq) = ⊥
 
 -- an answer that tells a count of entries stands behind the mark
-abbrev pub CountForm : Option ℕ → Stage → Type 0
+abbrev pub CountForm : Option ℕ → CommandStage → Type 0
 CountForm None stage = ⊤
 CountForm (Some m) stage = stage ≡ Marked
 
 -- why nothing is appended: the host is another one than the master; or what the found entries tell
-abbrev pub CauseForm : List ℕ → Stage → Cause → Type 0
+abbrev pub CauseForm : List ℕ → CommandStage → Cause → Type 0
 CauseForm me stage (cause.NotMaster own master) = (own ≡ me) × (own ≢ master) × ((stage ≡ Begun) ⊎ HasMet stage)
 CauseForm me stage cause.BadStripe = HasMet stage
 CauseForm me stage (cause.Exists kind) = HasMet stage
@@ -146,7 +146,7 @@ CauseForm me stage (cause.LogFull slots) = HasMet stage
 CauseForm me stage (cause.NoSpace units) = HasMet stage
 
 -- which replies a host's command can give, and where: that it is done behind the entry of this number that it named
-abbrev pub ReplyForm : List ℕ → Cmd → Stage → Reply → Type 0
+abbrev pub ReplyForm : List ℕ → Cmd → CommandStage → Reply → Type 0
 ReplyForm me cmd stage (reply.Appended seq) = stage ≡ Named seq
 ReplyForm me cmd stage (reply.NotAppended why) = HasWish cmd × CauseForm me stage why
 ReplyForm me cmd stage (reply.Played m tree) = (cmd ≡ Logplay) × (stage ≡ Marked)
@@ -160,10 +160,10 @@ ReplyForm me cmd stage (reply.Checks m checked) = IsCheck cmd × (stage ≡ Mark
 ReplyForm me cmd stage (reply.Reports report) = (cmd ≡ Fsck) × CountForm (reported_count report.log) stage
 ReplyForm me cmd stage (reply.NoSuperblock fault) = (cmd ≢ Fsck) × (stage ≡ Begun)
 ReplyForm me cmd stage (reply.BadHeader fault) = (cmd ≢ Fsck) × IsHead stage
-ReplyForm me cmd stage (reply.BadSlot seq reason) = (cmd ≢ Fsck) × IsReading stage
+ReplyForm me cmd stage (reply.BadSlot seq reason) = (cmd ≢ Fsck) × HasReadGate stage
 
 -- memory may fail at any time
-abbrev pub AnswerForm : List ℕ → Cmd → Stage → Answer → Type 0
+abbrev pub AnswerForm : List ℕ → Cmd → CommandStage → Answer → Type 0
 AnswerForm me cmd stage (Replied given) = ReplyForm me cmd stage given
 AnswerForm me cmd stage (MediaFault line) = ⊤
 
@@ -234,7 +234,7 @@ shown_forms lines hosts = record { memory = replicate lines []; hosts = map show
 
 -- before any operation of making a file system: notes don't tell whose lines are dirty
 abbrev pub makes_told : ℕ → ℕ → Machines → Option Refusal
-makes_told unit log m = or_else (option_map cause_of (early_refusal unit log (line_bytes * length m.memory))) (busy_refusal (place_of is_busy m.hosts))
+makes_told unit log m = or_else (option_map cause_of (early_refusal unit log (line_bytes * length m.memory))) (busy_refusal (index_of is_busy m.hosts))
 
 abbrev pub refusal_told : Call → ℕ → List HostForm → Option Refusal
 refusal_told (call.Declares name uuid) lines hosts = refusal_of (call.Declares name uuid) (shown_forms lines hosts)
@@ -264,7 +264,7 @@ pub record SuperForm (force : Bool) (name : List ℕ) (notes : List Note) : Type
   pub fs : List ℕ
   pub notes_are : notes ≡ Refused name (why.HasSuper fs) ∷ []
 
--- memory failed at a line
+-- the media failed at a line
 abbrev pub FaultForm : List ℕ → List Note → Type 0
 FaultForm name notes = (line : ℕ) × (notes ≡ Refused name (why.MediaFault (record { 0 = line })) ∷ [])
 
@@ -317,7 +317,7 @@ FormByRefusal name None notes free = free
 abbrev pub DoesForm : Call → ℕ → List HostForm → List Note → Type 0
 DoesForm c lines hosts notes = FormByRefusal (name_of c) (refusal_told c lines hosts) notes (FreeForm c lines hosts notes)
 
--- memory cuts the making of a file system
+-- a media fault cuts the making of a file system
 abbrev pub BreaksForm : Call → ℕ → List HostForm → List Note → Type 0
 BreaksForm (call.Declares name uuid) lines hosts notes = ⊥
 BreaksForm (call.Makes name fs unit log force) lines hosts notes =
@@ -346,12 +346,12 @@ PartForm (call.Refuses name why) lines hosts notes = notes ≡ []
 -- Worlds.
 
 -- the stage of a command that reads entries, by what it wants and the gate that it read
-abbrev pub reading_stage : Option Wish → ℕ → Stage
+abbrev pub reading_stage : Option Wish → ℕ → CommandStage
 reading_stage None gate = Marked
 reading_stage (Some w) gate = Met gate
 
--- the stage of a task at a place
-abbrev pub stage_at : Place → Task → Stage
+-- the stage of a task in a phase
+abbrev pub stage_at : Phase → Task → CommandStage
 stage_at at.DropMagic t = Begun
 stage_at at.Magic t = Begun
 stage_at (at.Drop Superblock j) t = Begun
@@ -373,8 +373,8 @@ stage_at (at.SendSlot j) t = Named t.gate
 stage_at at.StoreGate t = Named t.gate
 stage_at at.SendGate t = Named t.gate
 
-abbrev pub stage_of : Task → Stage
-stage_of t = stage_at t.place t
+abbrev pub stage_of : Task → CommandStage
+stage_of t = stage_at t.phase t
 
 -- a task is where its notes tell it is, for the host of this UUID
 pub record IsTaskForm (me : List ℕ) (t : Task) (form : TaskForm) : Type 0 where

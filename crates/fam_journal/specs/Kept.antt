@@ -9,14 +9,14 @@ use Rattle.fam_machine.specs.Caches.{cell_at}
 use Rattle.fam_commands.specs.Task.{Task}
 use Rattle.fam_rules.specs.Place.{line_bytes}
 use Rattle.fam_protocol.specs.After.{Run}
-use Rattle.fam_protocol.specs.Seen.{Seen}
-use Rattle.fam_protocol.specs.Way.{Hosts, Settled, Small, Damaged, Known, Way}
+use Rattle.fam_protocol.specs.SharedState.{SharedState}
+use Rattle.fam_protocol.specs.Invariant.{Hosts, Settled, Small, Damaged, Known, Invariant}
 use Rattle.fam_format.specs.Params.{IsUuid}
 use Rattle.fam_journal.specs.Legal.{Legal}
 use Rattle.fam_journal.specs.Machines.{HostState, Machines}
 use Rattle.fam_journal.specs.Notes.{Note}
 use Rattle.fam_journal.specs.Past.{Damage, FewLines, NoSuperblock, BadHeader, BadSlot, State, Bad, Sound, HostPast, past_of, with_pending}
-use Rattle.fam_journal.specs.View.{HostView, WorldView, StandsAt, WorldStands}
+use Rattle.fam_journal.specs.View.{HostView, WorldView, HostStandsAt, WorldStands}
 
 -- The world and its journal agree.
 
@@ -76,8 +76,8 @@ abbrev pub hosts_of : List HostView → List HostPast → Hosts
 hosts_of views told =
     record { uuid = λ h. uuid_at (slice_get views h); run = λ h. run_at (slice_get views h) (slice_get told h) }
 
-abbrev pub seen_of : Image → List HostView → Seen
-seen_of image views = record { memory = line_at image; copy = λ h l. copy_at (slice_get views h) l }
+abbrev pub shared_of : Image → List HostView → SharedState
+shared_of image views = record { memory = line_at image; copy = λ h l. copy_at (slice_get views h) l }
 
 -- What is kept, from the image that was handed in.
 
@@ -89,10 +89,10 @@ pub record Agrees (start : Image) (state : Machines) (world : WorldView) (image 
   pub normal : map eight image ≡ image
   pub first : map eight start ≡ start
   pub limit : line_bytes * length start ≤ device_limit
-  pub stands : (h : ℕ) → StandsAt (length start) (slice_get state.hosts h) (slice_get world.hosts h)
+  pub stands : (h : ℕ) → HostStandsAt (length start) (slice_get state.hosts h) (slice_get world.hosts h)
   pub told : (h : ℕ) → ToldAt (slice_get world.hosts h) (slice_get (past_of start world.journal).hosts h)
   pub legal : Legal start world.journal
-  pub way : Way (settled_of (past_of start world.journal).state) (length start) (hosts_of world.hosts (past_of start world.journal).hosts) (seen_of image world.hosts)
+  pub invariant : Invariant (settled_of (past_of start world.journal).state) (length start) (hosts_of world.hosts (past_of start world.journal).hosts) (shared_of image world.hosts)
 
 -- of some tasks: those that stand for the state's
 pub record Kept (start : Image) (state : Machines) (journal : List Note) : Type 0 where

@@ -7,9 +7,9 @@ use Rattle.fam_base.specs.Image.{Image, eight}
 use Rattle.fam_commands.specs.Stands.{StandsFor, turn_given}
 use Rattle.fam_commands.specs.Task.{Task}
 use Rattle.fam_commands.specs.Turns.{Turn}
-use Rattle.fam_protocol.specs.Seen.{Seen}
+use Rattle.fam_protocol.specs.SharedState.{SharedState}
 use Rattle.fam_protocol.specs.Steps.{TurnSays}
-use Rattle.fam_protocol.specs.Way.{Hosts, Stage}
+use Rattle.fam_protocol.specs.Invariant.{Hosts, InvariantBy}
 use Rattle.fam_journal.specs.Kept.{TaskTold, run_of, settled_of}
 use Rattle.fam_format.specs.Layout.{device_limit}
 use Rattle.fam_format.specs.Params.{IsUuid}
@@ -39,7 +39,7 @@ history_at (Bad image damage gate) = []
 history_at (Sound p history pending) = history
 
 -- the one stands in front of the other
-pub record IsFront (first all : List File) : Type 0 where
+pub record IsPrefix (first all : List File) : Type 0 where
   pub rest : List File
   pub is : all ≡ first ++ rest
 
@@ -132,9 +132,9 @@ pub record IsOwn (lines : ℕ) (image : Image) (damage : Damage) (gate : ℕ) : 
   pub lines_are : length image ≡ lines
 
 -- the protocol lets it say so, while what it keeps holds
-pub record Says (at : TaskAt) : Type 0 where
+pub record MaySayNext (at : TaskAt) : Type 0 where
   pub hosts : Hosts
-  pub seen : Seen
+  pub shared : SharedState
   pub bad : (image : Image) (damage : Damage) (gate : ℕ) → at.past.state ≡ Bad image damage gate → IsOwn (length at.past.start) image damage gate
-  pub stage : Stage (settled_of at.past.state) (length at.past.start) hosts seen
+  pub stage : InvariantBy (settled_of at.past.state) (length at.past.start) hosts shared
   pub says : TurnSays (turn_at at) (run_of at.task at.told) (settled_of at.past.state) (length at.past.start) hosts

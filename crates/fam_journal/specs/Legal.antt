@@ -147,7 +147,7 @@ ReplyAllowed (reply.NoSuperblock fault) host state = DamageAllowed (NoSuperblock
 ReplyAllowed (reply.BadHeader fault) host state = DamageAllowed (BadHeader fault) state
 ReplyAllowed (reply.BadSlot i reason) host state = DamageAllowed (BadSlot i reason) state
 
--- that memory failed is told by the machine alone
+-- that the media failed is told by the machine alone
 abbrev pub AnswerAllowed : Answer → HostPast → State → Type 0
 AnswerAllowed (Replied given) host state = ReplyAllowed given host state
 AnswerAllowed (MediaFault line) host state = ⊤

@@ -15,7 +15,7 @@ pub mod Runs
 pub mod Programs
 pub mod View
 pub mod Kept
-pub mod WorldAlone
+pub mod ByWorld
 pub mod CallRecords
 pub mod Laws
 pub mod Complete

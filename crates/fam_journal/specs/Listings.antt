@@ -49,7 +49,7 @@ ComesBehind None path = ⊤
 ComesBehind (Some before) path = path_cmp before path ≡ Less
 
 -- a line is this entry's, and stands where it may
-pub record IsLineOf (before : Option (List ℕ)) (line : List ℕ) (e : Entry) : Type 0 where
+pub record IsListingLine (before : Option (List ℕ)) (line : List ℕ) (e : Entry) : Type 0 where
   pub listed : IsListed e
   pub printed : line ≡ entry_line e
   pub order : ComesBehind before e.path
@@ -59,9 +59,9 @@ abbrev pub LinesSay : ℕ → Option (List ℕ) → List (List ℕ) → Result (
 LinesSay n before [] (Ok entries) = entries ≡ []
 LinesSay n before [] (Err bad) = ⊥
 LinesSay n before (line ∷ lines) (Ok entries) =
-    (e : Entry) × (more : List Entry) × IsLineOf before line e × LinesSay (n + 1) (Some e.path) lines (Ok more) × (entries ≡ e ∷ more)
+    (e : Entry) × (more : List Entry) × IsListingLine before line e × LinesSay (n + 1) (Some e.path) lines (Ok more) × (entries ≡ e ∷ more)
 LinesSay n before (line ∷ lines) (Err bad) =
-    ((bad ≡ n) × ((e : Entry) → IsLineOf before line e → ⊥)) ⊎ ((e : Entry) × IsLineOf before line e × LinesSay (n + 1) (Some e.path) lines (Err bad))
+    ((bad ≡ n) × ((e : Entry) → IsListingLine before line e → ⊥)) ⊎ ((e : Entry) × IsListingLine before line e × LinesSay (n + 1) (Some e.path) lines (Err bad))
 
 -- a first line that counts the lines behind it
 abbrev pub played_line : ℕ → List ℕ

@@ -1,5 +1,5 @@
 -- The machine of all hosts: one memory, and of each declared host a cache and at most one task. What an operation of a
--- task makes of it, where memory fails or doesn't.
+-- task makes of it, where the media fails or doesn't.
 use Rattle.std.specs.Prelude.{ℕ, ◌≡◌, ◌+◌, List, [], ◌∷◌, length, slice_get, Option, Some, None, option_map}
 use Rattle.fam_base.specs.declared.cmd.Cmd.{Cmd}
 use Rattle.fam_base.specs.Image.{Image}
@@ -47,7 +47,7 @@ abbrev pub with_machine : ℕ → Machine → Option TaskState → Machines → 
 with_machine h x task m =
     record { memory = x.image; hosts = changed_at h (λ host. record host { cache = x.cache; task = task }) m.hosts }
 
--- memory failed, and has this image now; the caches are as before
+-- the media failed, and has this image now; the caches are as before
 abbrev pub with_memory : Image → Machines → Machines
 with_memory image m = record m { memory = image }
 
@@ -57,7 +57,7 @@ with_task h task m = record m { hosts = changed_at h (λ host. record host { tas
 
 -- How an operation comes out.
 
--- memory serves it; or fails, and of the words that it sends, where it sends, a mask says which came through
+-- the media serves it; or fails, and of the words that it sends, where it sends, a mask says which came through
 pub data Outcome : Type 0 where
   Passes : Outcome
   Fails : (through : ℕ) → Outcome
@@ -74,7 +74,7 @@ abbrev pub next_op : TaskState → ℕ → Option Op
 next_op t lines = option_map (λ (r : Row). r.op) (slice_get (table start_slot t.cmd t.me lines t.words) t.made)
 
 -- what comes with it: the table is made of the words that the loads gave, this one's with them
-abbrev pub next_note : TaskState → ℕ → Option ℕ → Option row.Note
+abbrev pub next_note : TaskState → ℕ → Option ℕ → Option row.RowNote
 next_note t lines word = option_map (λ (r : Row). r.note) (slice_get (table start_slot t.cmd t.me lines (with_given t.words word)) t.made)
 
 -- the task, one operation on
@@ -82,28 +82,28 @@ abbrev pub task_on : TaskState → Option ℕ → TaskState
 task_on t word = record t { words = with_given t.words word; made = t.made + 1 }
 
 -- the task after what comes with the operation: an answer ends it
-abbrev pub task_after : row.Note → TaskState → Option TaskState
-task_after row.Quiet t = Some t
-task_after row.Mark t = Some t
-task_after (row.Found n) t = Some t
-task_after (row.Writing seq e) t = Some t
-task_after (row.Answer reply) t = None
+abbrev pub task_behind : row.RowNote → TaskState → Option TaskState
+task_behind row.Quiet t = Some t
+task_behind row.Mark t = Some t
+task_behind (row.Found n) t = Some t
+task_behind (row.Writing seq e) t = Some t
+task_behind (row.Answer reply) t = None
 
 -- what the journal has of it
-abbrev pub notes_of : ℕ → row.Note → List Note
+abbrev pub notes_of : ℕ → row.RowNote → List Note
 notes_of h row.Quiet = []
 notes_of h row.Mark = Mark h ∷ []
 notes_of h (row.Found n) = Found h n ∷ []
 notes_of h (row.Writing seq e) = Writes h seq e ∷ []
 notes_of h (row.Answer reply) = Answered h (Replied reply) ∷ []
 
--- memory served the operation
-abbrev pub served : ℕ → Machines → HostState → TaskState → Op → Option row.Note → Option Done
+-- the media served the operation
+abbrev pub served : ℕ → Machines → HostState → TaskState → Op → Option row.RowNote → Option Done
 served h m host t op None = None
 served h m host t op (Some note) =
-    Some (record { notes = notes_of h note; left = with_machine h (operated op (machine_of m host)) (task_after note (task_on t (given op (machine_of m host)))) m })
+    Some (record { notes = notes_of h note; left = with_machine h (operated op (machine_of m host)) (task_behind note (task_on t (given op (machine_of m host)))) m })
 
--- memory failed in it, and left this: the task is gone. None: it asks nothing of memory
+-- the media failed in it, and left this: the task is gone. None: it asks nothing of memory
 abbrev pub cut : ℕ → Machines → Option Failure → Option Done
 cut h m None = None
 cut h m (Some failure) =

@@ -6,7 +6,7 @@ use Rattle.fam_base.specs.declared.entry.Params.{Params}
 use Rattle.fam_rules.specs.Reply.{Reply}
 use Rattle.fam_journal.specs.declared.refusal.Refusal.{Refusal}
 
--- how a task ends: with what it answers, or because memory failed at a line
+-- how a task ends: with what it answers, or because the media failed at a line
 pub data Answer : Type 0 where
   Replied : (reply : Reply) → Answer
   MediaFault : (line : ℕ) → Answer

@@ -11,7 +11,7 @@ use Rattle.fam_format.specs.Reading as read
 use Rattle.fam_format.specs.Reading.{Reading, gate_in, reading}
 use Rattle.fam_rules.specs.declared.answers.LogState.{LogState}
 use Rattle.fam_rules.specs.declared.answers.LogState.TheVariants as log
-use Rattle.fam_rules.specs.Alone.{content_of, held_file}
+use Rattle.fam_rules.specs.Solo.{content_of, held_file}
 use Rattle.fam_rules.specs.Asks.{File}
 use Rattle.fam_rules.specs.Content.{fill}
 use Rattle.fam_rules.specs.Reply as reply
@@ -146,9 +146,9 @@ pub record Past : Type 0 where
   pub hosts : List HostPast
 
 -- the bytes of a command's new file
-abbrev pub filled : Option Cmd → ℕ → List ℕ
-filled None size = []
-filled (Some cmd) size = fill (content_of cmd) size
+abbrev pub filled_bytes : Option Cmd → ℕ → List ℕ
+filled_bytes None size = []
+filled_bytes (Some cmd) size = fill (content_of cmd) size
 
 -- the last command of a host
 abbrev pub cmd_of : Option HostPast → Option Cmd
@@ -162,7 +162,7 @@ state_after past (Made h p) = Sound p [] None
 state_after past (Start h cmd) = past.state
 state_after past (Mark h) = past.state
 state_after past (Found h n) = finds n past.state
-state_after past (Writes h seq e) = pends (record { entry = e; bytes = filled (cmd_of (slice_get past.hosts h)) e.size }) past.state
+state_after past (Writes h seq e) = pends (record { entry = e; bytes = filled_bytes (cmd_of (slice_get past.hosts h)) e.size }) past.state
 state_after past (Answered h answer) = ended answer past.state
 state_after past (Stop h) = past.state
 state_after past (Halt h) = past.state

@@ -8,7 +8,7 @@ use Rattle.fam_base.specs.declared.cmd.Cmd.TheVariants as cmd
 use Rattle.fam_base.specs.Paths.{slash}
 use Rattle.fam_crc.specs.Crc.{crc32}
 use Rattle.fam_media.specs.Files.{Files}
-use Rattle.fam_media.specs.Outside.{IfTold}
+use Rattle.fam_media.specs.Outside.{IfModelled}
 use Rattle.fam_journal.specs.Events.{Session, first_session}
 use Rattle.fam_journal.specs.declared.event.Ask.{Ask}
 use Rattle.fam_journal.specs.declared.event.Ask.TheVariants as ask
@@ -16,7 +16,7 @@ use Rattle.fam_journal.specs.declared.event.Event.{Event}
 use Rattle.fam_journal.specs.declared.event.Event.TheVariants as event
 use Rattle.fam_journal.specs.declared.status.Status.{Status}
 use Rattle.fam_journal.specs.declared.status.Status.TheVariants as status
-use Rattle.fam_journal.specs.Ends.{AllDone, Ending, EndsBy, MkfsFails, NoMemory, NoMemoryBroken, SinkFails, SourceFails, counted}
+use Rattle.fam_journal.specs.Ends.{AllDone, Ending, EventsDone, MkfsFails, EndsOutOfMemory, EndsOutOfMemoryBroken, SinkFails, SourceFails, counted}
 use Rattle.fam_journal.specs.Follows.{Faulted, FollowsCut, FollowsLast, Short, SourceEnd}
 use Rattle.fam_journal.specs.Notes.{Note, Host, Made, Start, Mark, Found, Writes, Answered, Stop, Halt, Refused}
 use Rattle.fam_journal.specs.Runs.{HasRun, IsPut, NoneFalls, Outside, RunsOn, SourceCaused}
@@ -43,16 +43,16 @@ abbrev pub ScriptPuts : Ending → List Note → List ℕ → Type 0
 ScriptPuts AllDone journal text = text ≡ render journal
 ScriptPuts MkfsFails journal text = text ≡ render journal
 ScriptPuts (SourceFails end) journal text = text ≡ render journal ++ source_line end
-ScriptPuts NoMemory journal text = (count : ℕ) × (text ≡ render (take count journal) ++ memory_line)
-ScriptPuts NoMemoryBroken journal text = (count : ℕ) × (text ≡ render (take count journal) ++ memory_line)
+ScriptPuts EndsOutOfMemory journal text = (count : ℕ) × (text ≡ render (take count journal) ++ memory_line)
+ScriptPuts EndsOutOfMemoryBroken journal text = (count : ℕ) × (text ≡ render (take count journal) ++ memory_line)
 ScriptPuts SinkFails journal text = text ≡ render journal
 
 abbrev pub script_status : Ending → List Note → Status
 script_status AllDone journal = good_status (is_good journal)
 script_status MkfsFails journal = status.MediaFault
 script_status (SourceFails end) journal = status.SourceFault
-script_status NoMemory journal = status.OutOfMemory
-script_status NoMemoryBroken journal = status.OutOfMemory
+script_status EndsOutOfMemory journal = status.OutOfMemory
+script_status EndsOutOfMemoryBroken journal = status.OutOfMemory
 script_status SinkFails journal = status.SinkFault
 
 -- Commands on their own.
@@ -63,19 +63,19 @@ pub data OneShot : Type 0 where
   Runs : (what : Ask) → OneShot
   MakesParents : (path : List ℕ) (attr : Attr) → OneShot
 
--- the fronts of a path that end at a component, the shortest first; `front` stands before the bytes
-abbrev pub fronts_behind : List ℕ → List ℕ → List (List ℕ)
-fronts_behind front [] = front ∷ []
-fronts_behind front (byte ∷ bytes) = if byte == slash then front ∷ fronts_behind (front ++ byte ∷ []) bytes else fronts_behind (front ++ byte ∷ []) bytes
+-- the prefixes of a path that end at a component, the shortest first; `prefix` stands before the bytes
+abbrev pub prefixes_behind : List ℕ → List ℕ → List (List ℕ)
+prefixes_behind prefix [] = prefix ∷ []
+prefixes_behind prefix (byte ∷ bytes) = if byte == slash then prefix ∷ prefixes_behind (prefix ++ byte ∷ []) bytes else prefixes_behind (prefix ++ byte ∷ []) bytes
 
-abbrev pub path_fronts : List ℕ → List (List ℕ)
-path_fronts path = fronts_behind [] path
+abbrev pub path_prefixes : List ℕ → List (List ℕ)
+path_prefixes path = prefixes_behind [] path
 
 -- what the one host does
 abbrev pub shot_events : List ℕ → OneShot → List Event
 shot_events name (Makes fs unit log force) = event.Mkfs name fs unit log force ∷ []
 shot_events name (Runs what) = event.Run name what ∷ []
-shot_events name (MakesParents path attr) = map (λ front. event.Run name (ask.Plain (cmd.Mkdir front attr))) (path_fronts path)
+shot_events name (MakesParents path attr) = map (λ prefix. event.Run name (ask.Plain (cmd.Mkdir prefix attr))) (path_prefixes path)
 
 -- the notes but the last one
 abbrev pub without_last : List Note → List Note
@@ -85,7 +85,7 @@ without_last (note ∷ next ∷ notes) = note ∷ without_last (next ∷ notes)
 
 -- the events of a command on its own, whose host is declared. It goes on up to the first note that stops it; where none does,
 -- all events are done
-pub record IsPlain (me : List ℕ) (shot : OneShot) (events : List Event) (journal : List Note) : Type 0 where
+pub record IsWholeRun (me : List ℕ) (shot : OneShot) (events : List Event) (journal : List Note) : Type 0 where
   pub name : List ℕ
   pub count : ℕ
   pub events_are : events ≡ event.Host name me ∷ take count (shot_events name shot)
@@ -128,21 +128,21 @@ last_passes test [] = false
 last_passes test (note ∷ []) = test note
 last_passes test (note ∷ next ∷ notes) = last_passes test (next ∷ notes)
 
--- it puts its last note; or the line that ends it early, alone. Memory fails a mkfs alone
+-- it puts its last note; or the line that ends it early, alone. The media fails a mkfs alone
 abbrev pub ShotText : OneShot → Ending → List Note → List ℕ → Type 0
 ShotText shot AllDone journal text = (last_passes (ends_shot shot) journal ≡ true) × (text ≡ shown journal)
 ShotText (Makes fs unit log force) MkfsFails journal text = text ≡ shown journal
 ShotText (Runs what) MkfsFails journal text = ⊥
 ShotText (MakesParents path attr) MkfsFails journal text = ⊥
 ShotText shot (SourceFails end) journal text = text ≡ source_line end
-ShotText shot NoMemory journal text = text ≡ memory_line
-ShotText (Makes fs unit log force) NoMemoryBroken journal text = text ≡ memory_line
-ShotText (Runs what) NoMemoryBroken journal text = ⊥
-ShotText (MakesParents path attr) NoMemoryBroken journal text = ⊥
+ShotText shot EndsOutOfMemory journal text = text ≡ memory_line
+ShotText (Makes fs unit log force) EndsOutOfMemoryBroken journal text = text ≡ memory_line
+ShotText (Runs what) EndsOutOfMemoryBroken journal text = ⊥
+ShotText (MakesParents path attr) EndsOutOfMemoryBroken journal text = ⊥
 ShotText shot SinkFails journal text = ⊥
 
 abbrev pub ShotPuts : List ℕ → OneShot → List Event → Ending → List Note → List ℕ → Type 0
-ShotPuts me shot events ending journal text = IsPlain me shot events journal × ShotText shot ending journal text
+ShotPuts me shot events ending journal text = IsWholeRun me shot events journal × ShotText shot ending journal text
 
 -- the status of what was run to its end
 abbrev pub done_status : OneShot → List Note → Status
@@ -154,8 +154,8 @@ abbrev pub shot_status : OneShot → Ending → List Note → Status
 shot_status shot AllDone journal = done_status shot journal
 shot_status shot MkfsFails journal = status.MediaFault
 shot_status shot (SourceFails end) journal = status.SourceFault
-shot_status shot NoMemory journal = status.OutOfMemory
-shot_status shot NoMemoryBroken journal = status.OutOfMemory
+shot_status shot EndsOutOfMemory journal = status.OutOfMemory
+shot_status shot EndsOutOfMemoryBroken journal = status.OutOfMemory
 shot_status shot SinkFails journal = status.SinkFault
 
 -- Storms.
@@ -165,21 +165,21 @@ abbrev pub storm_line : ℕ → ℕ → List Event → List Note → List ℕ
 storm_line seed size events journal =
     line (codes "storm" ++ number seed ++ number size ++ codes " events" ++ number (length events) ++ codes " answers" ++ number (counted journal).answers ++ codes " refused" ++ number (counted journal).refused ++ codes " settled" ++ number (counted journal).settled ++ codes " crc" ++ number (crc32 (render journal)))
 
--- a storm puts its line, also where memory failed in a mkfs; or the line of out of memory alone. It reads no source
+-- a storm puts its line, also where the media failed in a mkfs; or the line of out of memory alone. It reads no source
 abbrev pub StormPuts : ℕ → ℕ → List Event → Ending → List Note → List ℕ → Type 0
 StormPuts seed size events AllDone journal text = text ≡ storm_line seed size events journal
 StormPuts seed size events MkfsFails journal text = text ≡ storm_line seed size events journal
 StormPuts seed size events (SourceFails end) journal text = ⊥
-StormPuts seed size events NoMemory journal text = text ≡ memory_line
-StormPuts seed size events NoMemoryBroken journal text = text ≡ memory_line
+StormPuts seed size events EndsOutOfMemory journal text = text ≡ memory_line
+StormPuts seed size events EndsOutOfMemoryBroken journal text = text ≡ memory_line
 StormPuts seed size events SinkFails journal text = ⊥
 
 abbrev pub storm_status : Ending → List Note → Status
 storm_status AllDone journal = status.Done
 storm_status MkfsFails journal = status.MediaFault
 storm_status (SourceFails end) journal = status.SourceFault
-storm_status NoMemory journal = status.OutOfMemory
-storm_status NoMemoryBroken journal = status.OutOfMemory
+storm_status EndsOutOfMemory journal = status.OutOfMemory
+storm_status EndsOutOfMemoryBroken journal = status.OutOfMemory
 storm_status SinkFails journal = status.SinkFault
 
 -- The commands.
@@ -220,7 +220,7 @@ pub data Early : Type 0 where
   -- a storm's script is printed
   Prints : (script : List ℕ) → Early
   -- no memory was left
-  NoRoom : Early
+  EarlyOutOfMemory : Early
 
 abbrev pub early_text : Early → List ℕ
 early_text NoCommand = usage_line
@@ -229,7 +229,7 @@ early_text (LongScript size) = line (codes "script too long" ++ number size)
 early_text (ScriptFails end) = source_line end
 early_text (BadLine at column) = line (codes "bad line" ++ number at ++ number column)
 early_text (Prints script) = script
-early_text NoRoom = memory_line
+early_text EarlyOutOfMemory = memory_line
 
 abbrev pub early_status : Early → Status
 early_status NoCommand = status.Usage
@@ -238,7 +238,7 @@ early_status (LongScript size) = status.BadScript
 early_status (ScriptFails end) = status.SourceFault
 early_status (BadLine at column) = status.BadScript
 early_status (Prints script) = status.Done
-early_status NoRoom = status.OutOfMemory
+early_status EarlyOutOfMemory = status.OutOfMemory
 
 -- for a script alone
 abbrev pub OfScript : Option Command → (List ℕ → Type 0) → Type 0
@@ -255,13 +255,13 @@ OfPrint (Some (Script name)) P = ⊥
 OfPrint (Some (Storm seed size false)) P = ⊥
 OfPrint (Some (Storm seed size true)) P = P seed size
 
--- where the files are told, these are the script's bytes
+-- where the files are modelled, these are the script's bytes
 abbrev pub HoldsScript : Outside → List ℕ → List ℕ → Type 0
-HoldsScript out name bytes = IfTold out.files (λ files. finmap.get files name ≡ Some bytes)
+HoldsScript out name bytes = IfModelled out.files (λ files. finmap.get files name ≡ Some bytes)
 
--- where the files are told, the script has so many bytes
+-- where the files are modelled, the script has so many bytes
 abbrev pub HasSize : Outside → List ℕ → ℕ → Type 0
-HasSize out name size = IfTold out.files (λ files. (bytes : List ℕ) × (finmap.get files name ≡ Some bytes) × (size ≡ length bytes))
+HasSize out name size = IfModelled out.files (λ files. (bytes : List ℕ) × (finmap.get files name ≡ Some bytes) × (size ≡ length bytes))
 
 -- a script that is short is no longer than a script may be: a longer one isn't read
 abbrev pub ScriptCaused : SourceEnd → Outside → List ℕ → Type 0
@@ -278,12 +278,12 @@ pub record HasBadLine (grammar : Grammar) (out : Outside) (name : List ℕ) (at 
 -- each of them has its cause. Memory may run out at any time
 abbrev pub IsEarly : Grammar → Storms → Option Command → Outside → Early → Type 0
 IsEarly grammar storms command out NoCommand = command ≡ None
-IsEarly grammar storms command out (NoScript own) = OfScript command (λ name. (own ≡ name) × IfTold out.files (λ files. finmap.get files name ≡ None))
+IsEarly grammar storms command out (NoScript own) = OfScript command (λ name. (own ≡ name) × IfModelled out.files (λ files. finmap.get files name ≡ None))
 IsEarly grammar storms command out (LongScript size) = OfScript command (λ name. (script_limit < size) × HasSize out name size)
 IsEarly grammar storms command out (ScriptFails end) = OfScript command (ScriptCaused end out)
 IsEarly grammar storms command out (BadLine at column) = OfScript command (λ name. HasBadLine grammar out name at column)
 IsEarly grammar storms command out (Prints script) = OfPrint command (λ seed size. script ≡ storms seed size)
-IsEarly grammar storms command out NoRoom = ⊤
+IsEarly grammar storms command out EarlyOutOfMemory = ⊤
 
 -- no event was run: the image is as it was
 pub record EndsEarly (grammar : Grammar) (storms : Storms) (command : Option Command) (out : Outside) (text : List ℕ) (own : Status) : Type 0 where
@@ -302,23 +302,23 @@ pub record ShotRuns (me : List ℕ) (shot : OneShot) (out : Outside) (text : Lis
 
 -- where the sink tells its bytes, at least this text is put
 abbrev pub HasPut : Outside → List ℕ → Type 0
-HasPut out text = IfTold out.bytes (λ old. IfTold out.bytes_now (λ now. (more : List ℕ) × (now ≡ old ++ text ++ more)))
+HasPut out text = IfModelled out.bytes (λ old. IfModelled out.bytes_now (λ now. (more : List ℕ) × (now ≡ old ++ text ++ more)))
 
 -- each event's notes are put when it is done, and nothing is run behind a put that failed: so of the events that are done the
 -- notes are put, of all but the last one
-abbrev pub PutsEach : (ending : Ending) (files : Files) (events : List Event) (old : Session) (journal : List Note) (new : Session) → EndsBy ending files events old journal new → Outside → Type 0
+abbrev pub PutsEach : (ending : Ending) (files : Files) (events : List Event) (old : Session) (journal : List Note) (new : Session) → EventsDone ending files events old journal new → Outside → Type 0
 PutsEach AllDone files events old journal new follows out = HasPut out (render journal)
 PutsEach MkfsFails files events old journal new follows out = HasPut out (render follows.whole_notes)
 PutsEach (SourceFails end) files events old journal new follows out = HasPut out (render journal)
-PutsEach NoMemory files events old journal new follows out =
+PutsEach EndsOutOfMemory files events old journal new follows out =
     (journal ≡ []) ⊎ ((last : FollowsLast files events old journal new) × HasPut out (render last.whole_notes)) ⊎ ((cut : FollowsCut files events old journal new) × HasPut out (render cut.whole_notes))
-PutsEach NoMemoryBroken files events old journal new follows out = HasPut out (render follows.whole_notes)
+PutsEach EndsOutOfMemoryBroken files events old journal new follows out = HasPut out (render follows.whole_notes)
 PutsEach SinkFails files events old journal new follows out = HasPut out (render follows.whole_notes)
 
--- where image and files are told, the run that they tell puts so
+-- where image and files are modelled, the run that they tell puts so
 abbrev pub PutsTold : Ending → List Event → List Note → Outside → Type 0
 PutsTold ending events journal out =
-    IfTold out.image (λ start. IfTold out.files (λ files. (run : RunsOn ending files events start out.image_now journal) × PutsEach ending files events (first_session start) journal run.last run.follows out))
+    IfModelled out.image (λ start. IfModelled out.files (λ files. (run : RunsOn ending files events start out.image_now journal) × PutsEach ending files events (first_session start) journal run.last run.follows out))
 
 -- all events are done only where no put failed
 pub record ScriptRuns (grammar : Grammar) (name : List ℕ) (out : Outside) (given : Status) (text : List ℕ) (own : Status) : Type 0 where

@@ -4,13 +4,13 @@ use Rattle.std.specs.Prelude.{ℕ, ⊤, ◌≡◌, ◌⊎◌, ◌+◌, ◌-◌, 
 use Rattle.fam_base.specs.declared.line.LineNo.{LineNo}
 use Rattle.fam_base.specs.Image.{Image}
 use Rattle.fam_media.specs.Files.{Files}
-use Rattle.fam_media.specs.Outside.{IfTold, IsPartlyPut, with_piece}
+use Rattle.fam_media.specs.Outside.{IfModelled, IsPartlyPut, with_piece}
 use Rattle.fam_journal.specs.declared.event.Event.{Event}
 use Rattle.fam_journal.specs.declared.event.Event.TheVariants as event
 use Rattle.fam_journal.specs.declared.refusal.Refusal.TheVariants as why
 use Rattle.fam_journal.specs.declared.status.Status.{Status}
 use Rattle.fam_journal.specs.declared.status.Status.TheVariants as status
-use Rattle.fam_journal.specs.Ends.{AllDone, Ending, EndsBy, HasCounted, MkfsFails, NoMemory, NoMemoryBroken, ReadsAfter, SinkFails, SourceFails}
+use Rattle.fam_journal.specs.Ends.{AllDone, Ending, EventsDone, HasCounted, MkfsFails, EndsOutOfMemory, EndsOutOfMemoryBroken, ReadsAfter, SinkFails, SourceFails}
 use Rattle.fam_journal.specs.EventForms.{EndsForm}
 use Rattle.fam_journal.specs.Events.{Session, first_session}
 use Rattle.fam_journal.specs.Follows.{Faulted, Short, SourceEnd}
@@ -23,7 +23,7 @@ use Rattle.fam_journal.specs.Past.{past_of}
 abbrev pub HasRisen : ℕ → ℕ → Type 0
 HasRisen before now = min (before + 1) (2 ^ 64 - 1) ≤ now
 
--- what media, shelf and sink tell before and after a call of the program: an image, files and the bytes put, where they tell
+-- what media, shelf and sink tell before and after a call of the program: an image, files and the bytes put, where they are modelled
 -- them; and always how many lines the media has, how often each of them failed, and how often a source was short
 pub record Outside : Type 0 where
   pub lines : ℕ
@@ -71,16 +71,16 @@ IsMkfsOf own (event.Evict name line) = ⊥
 IsMkfsOf own (event.Leak name line mask) = ⊥
 IsMkfsOf own (event.Fetch name line mask) = ⊥
 
--- the last note tells that memory failed in one of the events, a mkfs
+-- the last note tells that the media failed in one of the events, a mkfs
 pub record EndsBroken (events : List Event) (journal : List Note) : Type 0 where
   pub count : ℕ
   pub event : Event
   pub event_is : slice_get events count ≡ Some event
-  pub front : List Note
+  pub prefix : List Note
   pub name : List ℕ
   pub line : LineNo
   pub of_mkfs : IsMkfsOf name event
-  pub is : journal ≡ front ++ Refused name (why.MediaFault line) ∷ []
+  pub is : journal ≡ prefix ++ Refused name (why.MediaFault line) ∷ []
 
 -- the shelf failed; or a source was short, so that fewer bytes came
 abbrev pub SourceCaused : SourceEnd → Outside → Type 0
@@ -92,23 +92,23 @@ abbrev pub IsCaused : Ending → List Event → List Note → Outside → Type 0
 IsCaused AllDone events journal out = ⊤
 IsCaused MkfsFails events journal out = EndsBroken events journal
 IsCaused (SourceFails end) events journal out = SourceCaused end out
-IsCaused NoMemory events journal out = ⊤
-IsCaused NoMemoryBroken events journal out = EndsBroken events journal
+IsCaused EndsOutOfMemory events journal out = ⊤
+IsCaused EndsOutOfMemoryBroken events journal out = EndsBroken events journal
 IsCaused SinkFails events journal out = HasRisen out.sink out.sink_now
 
 -- The run.
 
--- on an image and files that are told: the journal is legal and follows the events, the media has the last image, and that
+-- on an image and files that are modelled: the journal is legal and follows the events, the media has the last image, and that
 -- reads as the journal settles
 pub record RunsOn (ending : Ending) (files : Files) (events : List Event) (start : Image) (now : Option Image) (journal : List Note) : Type 0 where
   pub last : Session
   pub legal : Legal start journal
-  pub follows : EndsBy ending files events (first_session start) journal last
+  pub follows : EventsDone ending files events (first_session start) journal last
   pub left : now ≡ Some last.machines.memory
   pub reads : ReadsAfter ending (past_of start journal).state last.machines.memory
 
 -- events ran: one journal, whose notes name hosts declared before them and which has the form of the events, the text that is
--- to be put of it, and its status. Memory's count rose by at least as many faults as the journal tells
+-- to be put of it, and its status. the media's count rose by at least as many faults as the journal tells
 pub record HasRun (puts : Ending → List Note → List ℕ → Type 0) (gives : Ending → List Note → Status) (ending : Ending) (out : Outside) (events : List Event) (text : List ℕ) (own : Status) : Type 0 where
   pub journal : List Note
   pub named : NameDeclared 0 journal
@@ -117,11 +117,11 @@ pub record HasRun (puts : Ending → List Note → List ℕ → Type 0) (gives :
   pub caused : IsCaused ending events journal out
   pub text_is : puts ending journal text
   pub status_is : own ≡ gives ending journal
-  pub told : IfTold out.image (λ start. IfTold out.files (λ files. RunsOn ending files events start out.image_now journal))
+  pub told : IfModelled out.image (λ start. IfModelled out.files (λ files. RunsOn ending files events start out.image_now journal))
 
 -- What is put.
 
--- the text is put whole, and the status is its own; or the sink failed, its count rose, and a front of the text is put
+-- the text is put whole, and the status is its own; or the sink failed, its count rose, and a prefix of the text is put
 pub record IsPut (own given : Status) (text : List ℕ) (out : Outside) : Type 0 where
   pub outcome : ((given ≡ own) × (out.bytes_now ≡ option_map (with_piece text) out.bytes)) ⊎ ((given ≡ status.SinkFault) × IsPartlyPut out.bytes out.bytes_now text)
   pub rose : given ≡ status.SinkFault → HasRisen out.sink out.sink_now

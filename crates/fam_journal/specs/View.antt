@@ -38,12 +38,12 @@ pub record HostStands (lines : ℕ) (state : HostState) (view : HostView) : Type
   pub task : TaskStands lines state.task view.task
 
 -- both are declared, or neither is
-abbrev pub StandsAt : ℕ → Option HostState → Option HostView → Type 0
-StandsAt lines None None = ⊤
-StandsAt lines (Some state) (Some view) = HostStands lines state view
-StandsAt lines None (Some view) = ⊥
-StandsAt lines (Some state) None = ⊥
+abbrev pub HostStandsAt : ℕ → Option HostState → Option HostView → Type 0
+HostStandsAt lines None None = ⊤
+HostStandsAt lines (Some state) (Some view) = HostStands lines state view
+HostStandsAt lines None (Some view) = ⊥
+HostStandsAt lines (Some state) None = ⊥
 
 -- the world's own hosts, caches and tasks stand for those of the state
 abbrev pub WorldStands : ℕ → Machines → WorldView → Type 0
-WorldStands lines state world = (h : ℕ) → StandsAt lines (slice_get state.hosts h) (slice_get world.hosts h)
+WorldStands lines state world = (h : ℕ) → HostStandsAt lines (slice_get state.hosts h) (slice_get world.hosts h)

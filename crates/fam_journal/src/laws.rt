@@ -8,15 +8,15 @@ ghost use Rattle.fam_journal.specs.Calls.{busy_at, refusal_of, BreaksOff, Call, 
 ghost use Rattle.fam_journal.specs.CallRecords.{IsStepped, DoesPart, HasForm, IsSoundCall};
 ghost use Rattle.fam_commands.specs.Task.{Task};
 ghost use Rattle.fam_journal.specs.Complete.{AreRuled, CanEnd, EndsInAnswer, IsComplete};
-ghost use Rattle.fam_journal.specs.Ends.{AllDone, Ending, EndsBy, HasCounted, IsClean, NoMemory, ReadsAs};
-ghost use Rattle.fam_journal.specs.Events.{GoesOn, Session, first_session};
+ghost use Rattle.fam_journal.specs.Ends.{AllDone, Ending, EventsDone, HasCounted, IsFaultless, EndsOutOfMemory, ReadsAs};
+ghost use Rattle.fam_journal.specs.Events.{Continues, Session, first_session};
 ghost use Rattle.fam_journal.specs.EventForms.{EndsForm, FollowsForm};
 ghost use Rattle.fam_journal.specs.Follows.{Follows};
 ghost use Rattle.fam_journal.specs.Forms.{AreFormed, BreaksForm, DoesForm, HostForm, IsFormed, PartForm, forms_behind, forms_of};
 ghost use Rattle.fam_journal.specs.View.{HostView, WorldStands, WorldView, empty_world};
 ghost use Rattle.fam_journal.specs.Kept.{Held, Kept, settled_of};
-ghost use Rattle.fam_journal.specs.WorldAlone.{number_in, refusal_in, IsRow, TakesNoMedia, world_after};
-ghost use Rattle.fam_journal.specs.Laws.{AreSame, AreSound, IsFree, IsFront, NoneMade, Says, IsImage, IsSettled, TaskAt, TwoAnswers, first_entries, history_at, second_entries, turn_at};
+ghost use Rattle.fam_journal.specs.ByWorld.{number_in, refusal_in, IsRow, TakesNoMedia, world_after};
+ghost use Rattle.fam_journal.specs.Laws.{AreSame, AreSound, IsFree, IsPrefix, NoneMade, MaySayNext, IsImage, IsSettled, TaskAt, TwoAnswers, first_entries, history_at, second_entries, turn_at};
 ghost use Rattle.fam_journal.specs.Legal.{Legal, LegalBehind};
 ghost use Rattle.fam_journal.specs.Machines.{Machines, notes_of, unused};
 ghost use Rattle.fam_journal.specs.Names.{AreNamed, NameDeclared};
@@ -43,8 +43,8 @@ pub fn a_new_world_is_held()
 /// What the protocol lets a task say is what the journal allows next (`legal`), and what the protocol settles by it is what
 /// the journal settles (`settles`): for every turn, on sound and on damaged images.
 pub fn what_a_task_says_is_legal()
-    ensures legal { (at : TaskAt) → Says at → LegalBehind at.past (notes_of at.host (note_of (turn_at at))) }
-    ensures settles { (at : TaskAt) → Says at
+    ensures legal { (at : TaskAt) → MaySayNext at → LegalBehind at.past (notes_of at.host (note_of (turn_at at))) }
+    ensures settles { (at : TaskAt) → MaySayNext at
         → settled_of (past_behind at.past (notes_of at.host (note_of (turn_at at)))).state
         ≡ turn_settles (turn_at at) (settled_of at.past.state) }
 {}
@@ -52,7 +52,7 @@ pub fn what_a_task_says_is_legal()
 /// Whatever a call of the world does, as its row has it, a world that was held is held again once it stands for the state
 /// behind the row and has the row's notes: with stops, halts, faults of memory and steps of other hosts at any moment. Every
 /// call is one of these: a host is declared; a file system is made, or a superblock stands there; a command begins, does an
-/// operation, or runs to its answer; it is stopped or halted; a cache moves, or memory fails in it; something is refused.
+/// operation, or runs to its answer; it is stopped or halted; a cache moves, or the media fails in it; something is refused.
 pub fn a_row_keeps_what_is_held()
     ensures held { (start : Image) (state left : Machines) (old new : WorldView) (call : Call) (notes : List Note)
         → Held start state old state.memory → IsSoundCall call → Does call state notes left
@@ -65,7 +65,7 @@ pub fn a_row_keeps_what_is_held()
         → WorldStands (length start) left new → new.journal ≡ old.journal ++ notes
         → Held start left new left.memory }
 
-    // Where memory fails in a mkfs the world isn't held any more, and the journal is legal.
+    // Where the media fails in a mkfs the world isn't held any more, and the journal is legal.
     ensures cut { (start : Image) (state left : Machines) (old : WorldView) (call : Call) (notes : List Note)
         → Held start state old state.memory → BreaksOff call state notes left
         → Legal start (old.journal ++ notes) }
@@ -85,7 +85,7 @@ pub fn a_held_image_reads_as_its_journal()
 pub fn a_run_is_settled()
     ensures { (start : Image) (files : Files) (events : List Event) (ending : Ending) (journal : List Note) (last : Session)
         → IsImage start → AreSound events
-        → EndsBy ending files events (first_session start) journal last
+        → EventsDone ending files events (first_session start) journal last
         → IsSettled ending start journal last.machines.memory }
 {}
 
@@ -104,27 +104,27 @@ pub fn at_most_one_entry_is_pending()
     ensures writes { (start : Image) (before rest : List Note) (host seq : ℕ) (entry : Entry)
         → Legal start (before ++ Writes host seq entry ∷ rest) → IsFree seq (past_of start before).state }
     ensures grows { (start : Image) (before behind : List Note) → NoneMade behind
-        → IsFront (history_at (past_of start before).state) (history_at (past_of start (before ++ behind)).state) }
+        → IsPrefix (history_at (past_of start before).state) (history_at (past_of start (before ++ behind)).state) }
 {}
 
-/// Every answer in a run's journal, but that memory failed, is one of the rules: of its host's last command, in the state
+/// Every answer in a run's journal, but that the media failed, is one of the rules: of its host's last command, in the state
 /// before it (`ruled`). So a master's append that the decision doesn't refuse answers that it is done. Where memory doesn't
 /// fail, a command that begins and is run through ends in such an answer (`ends`). From wherever a host's task has come to
-/// there is a run to its answer, which memory serves (`can`).
+/// there is a run to its answer, which the media serves (`can`).
 pub fn every_answer_is_of_the_rules()
     ensures ruled { (start : Image) (files : Files) (events : List Event) (journal : List Note) (last : Session)
         → IsImage start → AreSound events → Follows files events (first_session start) journal last
         → AreRuled (first_past start) journal }
     ensures ends { (files : Files) (name : List ℕ) (what : Ask) (old new : Session) (notes : List Note)
-        → GoesOn Completes files name what old notes new → IsClean notes → EndsInAnswer notes }
+        → Continues Completes files name what old notes new → IsFaultless notes → EndsInAnswer notes }
     ensures can { (start : Image) (state : Machines) (journal : List Note) (host : ℕ) → Kept start state journal
         → busy_at host state ≡ true → CanEnd host state }
 {}
 
-/// Where memory never fails, events have one journal and one last state.
+/// Where the media never fails, events have one journal and one last state.
 pub fn a_clean_run_is_the_only_one()
     ensures { (files : Files) (events : List Event) (old first second : Session) (a b : List Note)
-        → IsClean a → IsClean b → Follows files events old a first → Follows files events old b second
+        → IsFaultless a → IsFaultless b → Follows files events old a first → Follows files events old b second
         → AreSame a b first second }
 {}
 
@@ -176,7 +176,7 @@ pub fn a_run_without_faults_is_complete()
     ensures run { (out : Outside) (ending : Ending) (journal : List Note) (files : Files) (events : List Event) (start : Image)
         → NoneRose out → IsImage start → AreSound events → HasCounted out.faults out.faults_now journal
         → IsCaused ending events journal out → RunsOn ending files events start out.image_now journal
-        → ((ending ≡ AllDone) × IsComplete files events start journal) ⊎ (ending ≡ NoMemory) }
+        → ((ending ≡ AllDone) × IsComplete files events start journal) ⊎ (ending ≡ EndsOutOfMemory) }
     ensures script { (grammar : Grammar) (storms : Storms) (out : Outside) (given : Status) (name : List ℕ) (files : Files)
         (bytes : List ℕ) (events : List Event) → NoneRose out → TopEnds grammar storms (Some (Script name)) out given
         → out.files ≡ Some files → finmap.get files name ≡ Some bytes → length bytes ≤ script_limit → grammar bytes ≡ Ok events
@@ -186,7 +186,7 @@ pub fn a_run_without_faults_is_complete()
         → (given ≡ Done) ⊎ (given ≡ OutOfMemory) }
 {}
 
-/// An operation that memory serves is the row of a step, where the world makes of its own host what its own task says: on the
+/// An operation that the media serves is the row of a step, where the world makes of its own host what its own task says: on the
 /// state that the world stands for, with the notes of the task's turn, and the new world stands for the state behind it.
 pub fn an_operation_does_its_row()
     ensures { (state : Machines) (world : WorldView) (name : List ℕ) (h : ℕ) (view : HostView) (t : Task)
@@ -196,7 +196,7 @@ pub fn an_operation_does_its_row()
 
 /// Whatever a call of the world does on a state whose hosts are what notes tell, its notes have the form that those notes
 /// allow, whatever memory holds; and the hosts behind it are what the notes tell then (`does`). So have those of a mkfs that
-/// memory cuts (`cut`), and of a call for which no memory was found (`part`). A state's hosts are what a journal tells
+/// a media fault cuts (`cut`), and of a call for which no memory was found (`part`). A state's hosts are what a journal tells
 /// where a world of such hosts stands for it (`world`).
 pub fn a_row_has_its_form()
     ensures does { (lines : ℕ) (state left : Machines) (hosts : List HostForm) (notes : List Note) (call : Call)
@@ -216,12 +216,12 @@ pub fn a_run_has_its_form()
     ensures follows { (files : Files) (events : List Event) (image : Image) (journal : List Note) (last : Session)
         → Follows files events (first_session image) journal last → FollowsForm (length image) events [] journal }
     ensures ends { (files : Files) (events : List Event) (image : Image) (journal : List Note) (last : Session) (ending : Ending)
-        → EndsBy ending files events (first_session image) journal last → EndsForm ending (length image) events [] journal }
+        → EventsDone ending files events (first_session image) journal last → EndsForm ending (length image) events [] journal }
 {}
 
 /// Whatever word an operation of a world's own task gives, what its turn notes has the form of a step (`form`), and the
 /// world's hosts are what its journal tells again, whatever cache the host has then (`world`). So a world keeps it on a media
-/// that tells nothing.
+/// whose content isn't modelled.
 pub fn an_operation_has_its_form()
     ensures form { (lines : ℕ) (world : WorldView) (name : List ℕ) (h : ℕ) (view : HostView) (t : Task) (word : ℕ)
         → IsFormed world → number_in name world ≡ Some h → slice_get world.hosts h ≡ Some view → view.task ≡ Some t

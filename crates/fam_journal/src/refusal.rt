@@ -35,6 +35,6 @@ pub enum Refusal {
     CopyLimit(u64),
     /// This line of the source is no line of a listing.
     BadListing(u64),
-    /// Memory failed at this line.
+    /// The media failed at this line.
     MediaFault(LineNo),
 }

@@ -16,7 +16,7 @@ use Rattle.fam_journal.specs.Machines.{Machines}
 use Rattle.fam_journal.specs.Notes.{Note, Found}
 use Rattle.fam_journal.specs.Past.{Sound, State, finds, first_past, past_of, shows}
 use Rattle.fam_journal.proofs.JournalLaws.{held_reads_as}
-use Rattle.fam_journal.proofs.Journals.{legal_rest, past_both}
+use Rattle.fam_journal.proofs.Settled.Journals.{legal_rest, past_both}
 use Rattle.fam_journal_checks.specs.Wrong.{drops}
 
 same_test : (n : ℕ) → (n == n) ≡ true
@@ -33,9 +33,9 @@ count_in (read.BadSlot i reason) = 0
 count_in (read.Sound p entries) = length entries
 
 -- with nothing pending an image reads as the history alone
-alone : (p : Params) (history : List File) (image : Image) → ReadsAs (Sound p history None) image → count_in (reading image) ≡ length history
-alone p history image (inl is) = ap count_in is ∙ length-map history (λ (f : File). f.entry)
-alone p history image (inr is) = ap count_in is ∙ length-map history (λ (f : File). f.entry)
+solo : (p : Params) (history : List File) (image : Image) → ReadsAs (Sound p history None) image → count_in (reading image) ≡ length history
+solo p history image (inl is) = ap count_in is ∙ length-map history (λ (f : File). f.entry)
+solo p history image (inr is) = ap count_in is ∙ length-map history (λ (f : File). f.entry)
 
 -- by the right definition the pending entry has joined the history, by the wrong one it is gone
 differ : (p : Params) (history : List File) (pending : Option File) (image : Image) → FoundPending (length history + 1) (length history) pending
@@ -54,10 +54,10 @@ differ p history (Some f) image found right wrong =
     dropped = subst (λ (b : Bool). ReadsAs (if b then Sound p history None else if length history + 1 == length history then Sound p history None else Sound p history (Some f)) image) (same_test (length history + 1)) wrong
 
     longer : count_in (reading image) ≡ length history + 1
-    longer = alone p (history ++ f ∷ []) image joined ∙ length-append history (f ∷ [])
+    longer = solo p (history ++ f ∷ []) image joined ∙ length-append history (f ∷ [])
 
     shorter : count_in (reading image) ≡ length history
-    shorter = alone p history image dropped
+    shorter = solo p history image dropped
 
 pub misread : (start : Image) (state : Machines) (world : WorldView) (image : Image) (notes : List Note) (host : ℕ) (p : Params) (history : List File) (pending : Option File) → Held start state world image → (past_of start notes).state ≡ Sound p history pending → world.journal ≡ notes ++ Found host (length history + 1) ∷ [] → ReadsAs (drops (length history + 1) (Sound p history pending)) image → ⊥
 misread start state world image notes host p history pending held was is wrong = differ p history pending image found right wrong

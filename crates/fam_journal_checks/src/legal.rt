@@ -36,7 +36,7 @@ pub fn notes_of_the_master()
     ensures other_entry { Allowed (behind found) (Writes 0 0 (folder y)) → ⊥ }
     ensures other_number { Allowed (behind found) (Writes 0 1 (folder x)) → ⊥ }
     ensures pending { Allowed (behind writing) (Writes 0 0 (folder x)) → ⊥ }
-    ensures stranger { Allowed (behind (made ++ Start 1 (mkdir x) ∷ Mark 1 ∷ [])) (Writes 1 0 (folder x)) → ⊥ }
+    ensures client { Allowed (behind (made ++ Start 1 (mkdir x) ∷ Mark 1 ∷ [])) (Writes 1 0 (folder x)) → ⊥ }
     ensures undeclared { Allowed (behind found) (Writes 2 0 (folder x)) → ⊥ }
     ensures damage { Allowed (damaged (BadSlot 1 BadPath) 2) (Writes 0 0 (folder x)) → ⊥ }
 {}
@@ -50,7 +50,7 @@ pub fn answers_of_appends()
     ensures unnamed { Allowed (behind found) (Answered 0 (Replied (Appended 0))) → ⊥ }
 
     // Not the master: the host's own UUID and the superblock's, and they differ.
-    ensures stranger { Allowed (behind (made ++ Start 1 (mkdir x) ∷ [])) (Answered 1 (Replied (NotAppended (cause.NotMaster client master)))) }
+    ensures client { Allowed (behind (made ++ Start 1 (mkdir x) ∷ [])) (Answered 1 (Replied (NotAppended (cause.NotMaster client master)))) }
     ensures the_master { Allowed (behind (made ++ Start 0 (mkdir x) ∷ [])) (Answered 0 (Replied (NotAppended (cause.NotMaster master master)))) → ⊥ }
     ensures other_uuid { Allowed (behind (made ++ Start 0 (mkdir x) ∷ [])) (Answered 0 (Replied (NotAppended (cause.NotMaster client master)))) → ⊥ }
     ensures no_superblock { Allowed (damaged (NoSuperblock (NoSuper 7)) 0) (Answered 1 (Replied (NotAppended (cause.NotMaster client master)))) → ⊥ }

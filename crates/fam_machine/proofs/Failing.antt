@@ -1,4 +1,4 @@
--- Where memory fails in an operation, and what it leaves.
+-- Where the media fails in an operation, and what it leaves.
 use Rattle.std.proofs.Common.{ℕ, ◌≡◌, List, Option, Some, None, refl, sym, ap}
 use Rattle.std.specs.Prelude.{option_map}
 use Rattle.std.proofs.lemmas.Option.{same_Some}

@@ -1,6 +1,6 @@
 pub mod CacheLemmas
 pub mod DirtyLemmas
-pub mod Drifting
+pub mod Transferring
 pub mod LinePuts
 pub mod CleanCaches
 pub mod Failing

@@ -121,11 +121,11 @@ from_magic = (0, magic_line) ∷ []
 abbrev from_rest : Params → List Put
 from_rest p = (2, slice_range (super_words p) 8 16) ∷ from_magic
 
-abbrev from_front : Params → List Put
-from_front p = (1, slice_range (super_words p) 0 8) ∷ from_rest p
+abbrev from_prefix : Params → List Put
+from_prefix p = (1, slice_range (super_words p) 0 8) ∷ from_rest p
 
 abbrev from_header : Params → List Put
-from_header p = (log_line, log_words p) ∷ from_front p
+from_header p = (log_line, log_words p) ∷ from_prefix p
 
 abbrev from_gate : Params → List Put
 from_gate p = (gate_line, zero_line) ∷ from_header p
@@ -137,10 +137,10 @@ gate_dropped p cache = stays_dropped (from_header p) (with_cell gate_line Absent
 pub header_dropped : (p : Params) (cache : Cache) → cell_at (drop_lines (format_puts p) cache) log_line ≡ Absent
 header_dropped p cache =
     let before : Cache = with_cell gate_line Absent (with_cell 0 Absent cache) in
-    stays_dropped (from_front p) (with_cell log_line Absent before) log_line (cell_at-with_cell_same log_line Absent before)
+    stays_dropped (from_prefix p) (with_cell log_line Absent before) log_line (cell_at-with_cell_same log_line Absent before)
 
-pub front_dropped : (p : Params) (cache : Cache) → cell_at (drop_lines (format_puts p) cache) 1 ≡ Absent
-front_dropped p cache =
+pub prefix_dropped : (p : Params) (cache : Cache) → cell_at (drop_lines (format_puts p) cache) 1 ≡ Absent
+prefix_dropped p cache =
     let before : Cache = with_cell log_line Absent (with_cell gate_line Absent (with_cell 0 Absent cache)) in
     stays_dropped (from_rest p) (with_cell 1 Absent before) 1 (cell_at-with_cell_same 1 Absent before)
 

@@ -1,4 +1,4 @@
--- Moves of a host's cache, and failures of memory, as drifts at one line.
+-- Moves of a host's cache, and media faults, as transfers at one line.
 use Rattle.std.proofs.Common.{◌≡◌, ℕ, ◌<◌, List, length, map, Option, Some, None, refl, sym, ◌∙◌, subst}
 use Rattle.std.specs.Prelude.{option_map}
 use Rattle.std.proofs.lemmas.Option.{same_Some}
@@ -11,19 +11,19 @@ use Rattle.fam_machine.specs.declared.op.Op.{Op}
 use Rattle.fam_machine.specs.declared.op.Op.TheVariants.{Load, Store, WriteBack, Invalidate, Digest}
 use Rattle.fam_machine.specs.Caches.{Cache, cell_at}
 use Rattle.fam_machine.specs.HostMoves.{Move, Evict, Fetch, Leak, failed_fetch, move_failed, moved_cell, moved_words}
-use Rattle.fam_machine.specs.Moves.{Drifts, rests}
+use Rattle.fam_machine.specs.Moves.{Transfers, rests}
 use Rattle.fam_machine.specs.OneLine.{current, failed_leak, failed_send}
-use Rattle.fam_machine.specs.Operations.{Failure, Machine, failed, not_brought, not_sent, IsInside}
-use Rattle.fam_machine.specs.Slips.{Slips, SlipsAt}
-use Rattle.fam_machine.proofs.Drifting.{absent_drifts, failed_leak_drifts, failed_send_drifts, fetched_drifts, leaked_drifts}
+use Rattle.fam_machine.specs.Operations.{Failure, Machine, failed, not_brought, not_sent, IsInImage}
+use Rattle.fam_machine.specs.TearsLine.{TearsLine, TearsLineAt}
+use Rattle.fam_machine.proofs.Transferring.{absent_transfers, failed_leak_transfers, failed_send_transfers, fetched_transfers, leaked_transfers}
 use Rattle.fam_machine.proofs.Failing.{brought_fails, send_fails}
 use Rattle.fam_machine.proofs.WideLines.{sent_wide}
 
--- a move is a drift
-pub move_drifts : (move : Move) (m : List ℕ) (c : Cell) → Drifts m c (moved_words move m c) (moved_cell move m c)
-move_drifts Evict m c = absent_drifts m c
-move_drifts (Leak mask) m c = leaked_drifts mask m c
-move_drifts (Fetch mask) m c = fetched_drifts mask m c
+-- a move is a transfer
+pub move_transfers : (move : Move) (m : List ℕ) (c : Cell) → Transfers m c (moved_words move m c) (moved_cell move m c)
+move_transfers Evict m c = absent_transfers m c
+move_transfers (Leak mask) m c = leaked_transfers mask m c
+move_transfers (Fetch mask) m c = fetched_transfers mask m c
 
 -- and leaves eight words in memory
 pub move_wide : (move : Move) (m : List ℕ) (c : Cell) → length m ≡ 8 → length (current m c) ≡ 8 → length (moved_words move m c) ≡ 8
@@ -34,13 +34,13 @@ move_wide (Leak mask) m (Dirty words) wide copy = length-masked mask words m
 move_wide (Fetch mask) m c wide copy = wide
 
 -- a failed send
-send_slips : (image left : Image) (cache : Cache) (line : ℕ) → line < length image → (through : ℕ) (o : Option (List ℕ)) → failed_send through (line_at image line) (cell_at cache line) ≡ o → option_map (λ words. with_line line words image) o ≡ Some left → SlipsAt line image left cache
-send_slips image left cache line within through None is e = absurd cc
-send_slips image left cache line within through (Some words) is e = record {
+send_tears_line : (image left : Image) (cache : Cache) (line : ℕ) → line < length image → (through : ℕ) (o : Option (List ℕ)) → failed_send through (line_at image line) (cell_at cache line) ≡ o → option_map (λ words. with_line line words image) o ≡ Some left → TearsLineAt line image left cache
+send_tears_line image left cache line within through None is e = absurd cc
+send_tears_line image left cache line within through (Some words) is e = record {
   within = within;
   words = words;
   wide = wide (cell_at cache line) is;
-  drifts = failed_send_drifts through (line_at image line) words (cell_at cache line) is;
+  transfers = failed_send_transfers through (line_at image line) words (cell_at cache line) is;
   is = sym (same_Some (with_line line words image) left e);
 }
   where
@@ -50,13 +50,13 @@ send_slips image left cache line within through (Some words) is e = record {
     wide (Dirty own) is = subst (λ (w : List ℕ). length w ≡ 8) (same_Some (masked through own (line_at image line)) words is) (length-masked through own (line_at image line))
 
 -- a failed leak
-leak_slips : (image left : Image) (cache : Cache) (line mask : ℕ) → line < length image → (through : ℕ) (o : Option (List ℕ)) → failed_leak mask through (line_at image line) (cell_at cache line) ≡ o → option_map (λ words. with_line line words image) o ≡ Some left → SlipsAt line image left cache
-leak_slips image left cache line mask within through None is e = absurd cc
-leak_slips image left cache line mask within through (Some words) is e = record {
+leak_tears_line : (image left : Image) (cache : Cache) (line mask : ℕ) → line < length image → (through : ℕ) (o : Option (List ℕ)) → failed_leak mask through (line_at image line) (cell_at cache line) ≡ o → option_map (λ words. with_line line words image) o ≡ Some left → TearsLineAt line image left cache
+leak_tears_line image left cache line mask within through None is e = absurd cc
+leak_tears_line image left cache line mask within through (Some words) is e = record {
   within = within;
   words = words;
   wide = wide (cell_at cache line) is;
-  drifts = failed_leak_drifts mask through (line_at image line) words (cell_at cache line) is;
+  transfers = failed_leak_transfers mask through (line_at image line) words (cell_at cache line) is;
   is = sym (same_Some (with_line line words image) left e);
 }
   where
@@ -67,47 +67,47 @@ leak_slips image left cache line mask within through (Some words) is e = record 
         subst (λ (w : List ℕ). length w ≡ 8) (same_Some (masked through (masked mask own (line_at image line)) (line_at image line)) words is) (length-masked through (masked mask own (line_at image line)) (line_at image line))
 
 -- a failed read
-read_slips : (image left : Image) (cache : Cache) (line : ℕ) → map eight image ≡ image → line < length image → image ≡ left → SlipsAt line image left cache
-read_slips image left cache line normal within same = record {
+read_tears_line : (image left : Image) (cache : Cache) (line : ℕ) → map eight image ≡ image → line < length image → image ≡ left → TearsLineAt line image left cache
+read_tears_line image left cache line normal within same = record {
   within = within;
   words = line_at image line;
   wide = refl;
-  drifts = rests;
+  transfers = rests;
   is = sym same ∙ sym (with_line-line_at image normal line);
 }
 
 -- a line that can't be brought
-bring_slips : (l : LineNo) (m : Machine) (failure : Failure) → map eight m.image ≡ m.image → l.0 < length m.image → not_brought l m (cell_at m.cache l.0) ≡ Some failure → SlipsAt failure.line.0 m.image failure.left.image m.cache
-bring_slips l m failure normal within e =
-    subst (λ (f : Failure). SlipsAt f.line.0 m.image f.left.image m.cache) (sym (brought_fails l m (cell_at m.cache l.0) failure e)) (read_slips m.image m.image m.cache l.0 normal within refl)
+bring_tears_line : (l : LineNo) (m : Machine) (failure : Failure) → map eight m.image ≡ m.image → l.0 < length m.image → not_brought l m (cell_at m.cache l.0) ≡ Some failure → TearsLineAt failure.line.0 m.image failure.left.image m.cache
+bring_tears_line l m failure normal within e =
+    subst (λ (f : Failure). TearsLineAt f.line.0 m.image f.left.image m.cache) (sym (brought_fails l m (cell_at m.cache l.0) failure e)) (read_tears_line m.image m.image m.cache l.0 normal within refl)
 
 -- a line that can't be sent
-torn_slips : (l : LineNo) (m : Machine) (through : ℕ) (failure : Failure) → l.0 < length m.image → not_sent through l m ≡ Some failure → SlipsAt failure.line.0 m.image failure.left.image m.cache
-torn_slips l m through failure within e =
+torn_tears_line : (l : LineNo) (m : Machine) (through : ℕ) (failure : Failure) → l.0 < length m.image → not_sent through l m ≡ Some failure → TearsLineAt failure.line.0 m.image failure.left.image m.cache
+torn_tears_line l m through failure within e =
     let torn = send_fails l m (failed_send through (line_at m.image l.0) (cell_at m.cache l.0)) failure e in
-    subst (λ (f : Failure). SlipsAt f.line.0 m.image f.left.image m.cache) (sym torn.2) (send_slips m.image (with_line l.0 torn.0 m.image) m.cache l.0 within through (Some torn.0) torn.1 refl)
+    subst (λ (f : Failure). TearsLineAt f.line.0 m.image f.left.image m.cache) (sym torn.2) (send_tears_line m.image (with_line l.0 torn.0 m.image) m.cache l.0 within through (Some torn.0) torn.1 refl)
 
--- an operation in which memory fails
-pub op_slips_at : (op : Op) (m : Machine) (through : ℕ) (failure : Failure) → map eight m.image ≡ m.image → IsInside op m.image → failed through op m ≡ Some failure → SlipsAt failure.line.0 m.image failure.left.image m.cache
-op_slips_at (Load l k) m through failure normal inside e = bring_slips l m failure normal inside e
-op_slips_at (Store l k value) m through failure normal inside e = bring_slips l m failure normal inside e
-op_slips_at (WriteBack l) m through failure normal inside e = torn_slips l m through failure inside e
-op_slips_at (Invalidate l) m through failure normal inside e = torn_slips l m through failure inside e
-op_slips_at Digest m through failure normal inside e = absurd cc
+-- an operation in which the media fails
+pub op_tears_line_at : (op : Op) (m : Machine) (through : ℕ) (failure : Failure) → map eight m.image ≡ m.image → IsInImage op m.image → failed through op m ≡ Some failure → TearsLineAt failure.line.0 m.image failure.left.image m.cache
+op_tears_line_at (Load l k) m through failure normal inside e = bring_tears_line l m failure normal inside e
+op_tears_line_at (Store l k value) m through failure normal inside e = bring_tears_line l m failure normal inside e
+op_tears_line_at (WriteBack l) m through failure normal inside e = torn_tears_line l m through failure inside e
+op_tears_line_at (Invalidate l) m through failure normal inside e = torn_tears_line l m through failure inside e
+op_tears_line_at Digest m through failure normal inside e = absurd cc
 
-pub op_slips : (op : Op) (m : Machine) (through : ℕ) (failure : Failure) → map eight m.image ≡ m.image → IsInside op m.image → failed through op m ≡ Some failure → Slips m.image failure.left.image m.cache
-op_slips op m through failure normal inside e = (failure.line.0, op_slips_at op m through failure normal inside e)
+pub op_tears_line : (op : Op) (m : Machine) (through : ℕ) (failure : Failure) → map eight m.image ≡ m.image → IsInImage op m.image → failed through op m ≡ Some failure → TearsLine m.image failure.left.image m.cache
+op_tears_line op m through failure normal inside e = (failure.line.0, op_tears_line_at op m through failure normal inside e)
 
--- a cache's own move in which memory fails
-fetch_slips : (image left : Image) (cache : Cache) (line : ℕ) → map eight image ≡ image → line < length image → (c : Cell) → option_map (λ words. with_line line words image) (failed_fetch (line_at image line) c) ≡ Some left → SlipsAt line image left cache
-fetch_slips image left cache line normal within Absent e = read_slips image left cache line normal within (sym (with_line-line_at image normal line) ∙ same_Some (with_line line (line_at image line) image) left e)
-fetch_slips image left cache line normal within (Clean words) e = read_slips image left cache line normal within (sym (with_line-line_at image normal line) ∙ same_Some (with_line line (line_at image line) image) left e)
-fetch_slips image left cache line normal within (Dirty words) e = absurd cc
+-- a cache's own move in which the media fails
+fetch_tears_line : (image left : Image) (cache : Cache) (line : ℕ) → map eight image ≡ image → line < length image → (c : Cell) → option_map (λ words. with_line line words image) (failed_fetch (line_at image line) c) ≡ Some left → TearsLineAt line image left cache
+fetch_tears_line image left cache line normal within Absent e = read_tears_line image left cache line normal within (sym (with_line-line_at image normal line) ∙ same_Some (with_line line (line_at image line) image) left e)
+fetch_tears_line image left cache line normal within (Clean words) e = read_tears_line image left cache line normal within (sym (with_line-line_at image normal line) ∙ same_Some (with_line line (line_at image line) image) left e)
+fetch_tears_line image left cache line normal within (Dirty words) e = absurd cc
 
-pub move_slips_at : (move : Move) (line : ℕ) (m : Machine) (through : ℕ) (left : Image) → map eight m.image ≡ m.image → line < length m.image → move_failed move line through m ≡ Some left → SlipsAt line m.image left m.cache
-move_slips_at Evict line m through left normal within e = send_slips m.image left m.cache line within through (failed_send through (line_at m.image line) (cell_at m.cache line)) refl e
-move_slips_at (Leak mask) line m through left normal within e = leak_slips m.image left m.cache line mask within through (failed_leak mask through (line_at m.image line) (cell_at m.cache line)) refl e
-move_slips_at (Fetch mask) line m through left normal within e = fetch_slips m.image left m.cache line normal within (cell_at m.cache line) e
+pub move_tears_line_at : (move : Move) (line : ℕ) (m : Machine) (through : ℕ) (left : Image) → map eight m.image ≡ m.image → line < length m.image → move_failed move line through m ≡ Some left → TearsLineAt line m.image left m.cache
+move_tears_line_at Evict line m through left normal within e = send_tears_line m.image left m.cache line within through (failed_send through (line_at m.image line) (cell_at m.cache line)) refl e
+move_tears_line_at (Leak mask) line m through left normal within e = leak_tears_line m.image left m.cache line mask within through (failed_leak mask through (line_at m.image line) (cell_at m.cache line)) refl e
+move_tears_line_at (Fetch mask) line m through left normal within e = fetch_tears_line m.image left m.cache line normal within (cell_at m.cache line) e
 
-pub move_slips : (move : Move) (line : ℕ) (m : Machine) (through : ℕ) (left : Image) → map eight m.image ≡ m.image → line < length m.image → move_failed move line through m ≡ Some left → Slips m.image left m.cache
-move_slips move line m through left normal within e = (line, move_slips_at move line m through left normal within e)
+pub move_tears_line : (move : Move) (line : ℕ) (m : Machine) (through : ℕ) (left : Image) → map eight m.image ≡ m.image → line < length m.image → move_failed move line through m ≡ Some left → TearsLine m.image left m.cache
+move_tears_line move line m through left normal within e = (line, move_tears_line_at move line m through left normal within e)

@@ -11,7 +11,7 @@ pub record IsMachine (m : Machine) (shown : Option Image) (held : Cache) : Type 
   pub image : shown ≡ Some m.image
   pub cache : held ≡ m.cache
 
--- memory failed in the operation on this machine, at this line: of the words that it sends, where it sends, a mask of a
+-- the media failed in the operation on this machine, at this line: of the words that it sends, where it sends, a mask of a
 -- line's eight words says which came through. This machine is left
 pub record Fails (op : Op) (m : Machine) (line : LineNo) (left : Machine) : Type 0 where
   pub through : ℕ

@@ -1,5 +1,5 @@
 -- Moves that a host's cache makes by itself, at a line, asked or not: what they leave of a machine, and what is left
--- where memory fails in one.
+-- where the media fails in one.
 use Rattle.std.specs.Prelude.{ℕ, List, Option, Some, None, option_map}
 use Rattle.fam_base.specs.Image.{Image, line_at, with_line}
 use Rattle.fam_machine.specs.declared.cell.Cell.{Cell}

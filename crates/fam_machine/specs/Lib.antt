@@ -4,6 +4,6 @@ pub mod Caches
 pub mod Operations
 pub mod Cuts
 pub mod HostMoves
-pub mod Slips
+pub mod TearsLine
 pub mod Whole
 pub mod Mkfs

@@ -60,20 +60,20 @@ early_refusal unit log have =
     else Some (BadGeometry unit log)
 
 -- what the superblock says behind the reading
-abbrev pub found : Params → Machine → Result Params SuperFault
-found p m = super_in (line_at (operated_all read_ops m).image) p.device
+abbrev pub superblock_found : Params → Machine → Result Params SuperFault
+superblock_found p m = super_in (line_at (operated_all read_ops m).image) p.device
 
 -- nothing stands in the way, or it is to be written over
 abbrev pub goes_on : Bool → Result Params SuperFault → Bool
-goes_on true found = true
+goes_on true superblock_found = true
 goes_on false (Ok other) = false
 goes_on false (Err fault) = true
 
--- the operations that are due, by whether it goes on
-abbrev pub due_by : Bool → Params → List Op
-due_by true p = mkfs_ops p
-due_by false p = read_ops
+-- the operations that are expected, by whether it goes on
+abbrev pub expected_by : Bool → Params → List Op
+expected_by true p = mkfs_ops p
+expected_by false p = read_ops
 
--- the operations that are due, by what is found
-abbrev pub due_ops : Bool → Params → Machine → List Op
-due_ops force p m = due_by (goes_on force (found p m)) p
+-- the operations that are expected, by what is superblock_found
+abbrev pub expected_ops : Bool → Params → Machine → List Op
+expected_ops force p m = expected_by (goes_on force (superblock_found p m)) p

@@ -5,15 +5,15 @@ use Rattle.fam_machine.specs.declared.cell.Cell.{Cell}
 use Rattle.fam_machine.specs.declared.cell.Cell.TheVariants.{Absent, Clean, Dirty}
 
 -- memory's words m and the host's copy, before and after one move
-pub data Moves : List ℕ → Cell → List ℕ → Cell → Type 0 where
-  brings : {m : List ℕ} → Moves m Absent m (Clean m)
-  refreshes : {m w : List ℕ} (mask : ℕ) → Moves m (Clean w) m (Clean (masked mask m w))
-  sends : {m w : List ℕ} (mask : ℕ) → Moves m (Dirty w) (masked mask w m) (Dirty w)
-  sends_whole : {m w : List ℕ} → Moves m (Dirty w) w (Dirty w)
-  cleans : {m : List ℕ} → Moves m (Dirty m) m (Clean m)
-  drops : {m w : List ℕ} → Moves m (Clean w) m Absent
+pub data Transfer : List ℕ → Cell → List ℕ → Cell → Type 0 where
+  brings : {m : List ℕ} → Transfer m Absent m (Clean m)
+  refreshes : {m w : List ℕ} (mask : ℕ) → Transfer m (Clean w) m (Clean (masked mask m w))
+  sends : {m w : List ℕ} (mask : ℕ) → Transfer m (Dirty w) (masked mask w m) (Dirty w)
+  sends_whole : {m w : List ℕ} → Transfer m (Dirty w) w (Dirty w)
+  cleans : {m : List ℕ} → Transfer m (Dirty m) m (Clean m)
+  drops : {m w : List ℕ} → Transfer m (Clean w) m Absent
 
 -- any number of moves, one after another
-pub data Drifts : List ℕ → Cell → List ℕ → Cell → Type 0 where
-  rests : {m : List ℕ} {c : Cell} → Drifts m c m c
-  goes : {m m' m'' : List ℕ} {c c' c'' : Cell} → Moves m c m' c' → Drifts m' c' m'' c'' → Drifts m c m'' c''
+pub data Transfers : List ℕ → Cell → List ℕ → Cell → Type 0 where
+  rests : {m : List ℕ} {c : Cell} → Transfers m c m c
+  goes : {m m' m'' : List ℕ} {c c' c'' : Cell} → Transfer m c m' c' → Transfers m' c' m'' c'' → Transfers m c m'' c''

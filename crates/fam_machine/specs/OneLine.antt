@@ -9,7 +9,7 @@
 --   Fetch        an absent line is brought whole, clean. A clean line has its masked words
 --                refreshed from memory. A dirty line stays                                          fetched
 --
--- Bit w of a mask stands for word w. Where memory fails in an operation, the copy is as before.
+-- Bit w of a mask stands for word w. Where the media fails in an operation, the copy is as before.
 use Rattle.std.specs.Prelude.{ℕ, Bool, true, false, List, [], Option, Some, None, IsTrue, slice_set}
 use Rattle.fam_base.specs.Image.{masked}
 use Rattle.fam_machine.specs.declared.cell.Cell.{Cell}

@@ -23,12 +23,12 @@ op_line (Invalidate l) = Some l
 op_line Digest = None
 
 -- the operation's line is one of the image's
-abbrev pub IsInside : Op → Image → Type 0
-IsInside (Load line k) image = line.0 < length image
-IsInside (Store line k value) image = line.0 < length image
-IsInside (WriteBack line) image = line.0 < length image
-IsInside (Invalidate line) image = line.0 < length image
-IsInside Digest image = ⊤
+abbrev pub IsInImage : Op → Image → Type 0
+IsInImage (Load line k) image = line.0 < length image
+IsInImage (Store line k value) image = line.0 < length image
+IsInImage (WriteBack line) image = line.0 < length image
+IsInImage (Invalidate line) image = line.0 < length image
+IsInImage Digest image = ⊤
 
 -- the operation's line is one of so many, and its word one of a line's eight
 abbrev pub IsWithin : ℕ → Op → Type 0
@@ -47,7 +47,7 @@ pub record Machine : Type 0 where
 abbrev pub machine : Image → Cache → Machine
 machine image cache = record { image = image; cache = cache }
 
--- what an operation leaves, where memory doesn't fail
+-- what an operation leaves, where the media doesn't fail
 abbrev pub operated : Op → Machine → Machine
 operated (Load l k) m = record m { cache = cell_changed l.0 (brought (line_at m.image l.0)) m.cache }
 operated (Store l k value) m = record m { cache = cell_changed l.0 (stored k value (line_at m.image l.0)) m.cache }
@@ -73,7 +73,7 @@ given_by (WriteBack line) word = None
 given_by (Invalidate line) word = None
 given_by Digest word = None
 
--- where memory failed: the line, and the machine that is left
+-- where the media failed: the line, and the machine that is left
 pub record Failure : Type 0 where
   pub line : LineNo
   pub left : Machine
@@ -92,7 +92,7 @@ torn_at l m words = record { line = l; left = record m { image = with_line l.0 w
 abbrev pub not_sent : ℕ → LineNo → Machine → Option Failure
 not_sent through l m = option_map (torn_at l m) (failed_send through (line_at m.image l.0) (cell_at m.cache l.0))
 
--- memory failed in an operation; a mask says which words of a send came through. None: the operation asks nothing
+-- the media failed in an operation; a mask says which words of a send came through. None: the operation asks nothing
 -- of memory, and can't fail
 abbrev pub failed : ℕ → Op → Machine → Option Failure
 failed through (Load l k) m = not_brought l m (cell_at m.cache l.0)

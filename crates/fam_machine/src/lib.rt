@@ -3,24 +3,25 @@
 //! A host's cache has a copy of some lines. `specs/OneLine.antt` says what each operation makes of memory's
 //! words of one line and of the host's copy, `specs/Caches.antt` says the same of a whole cache and a whole
 //! image, and `specs/Moves.antt` cuts each operation into the moves that a cache may make by itself.
-//! `specs/HostMoves.antt` has what a cache does by itself, `specs/Cuts.antt` what is left where memory fails in a row of
+//! `specs/HostMoves.antt` has what a cache does by itself, `specs/Cuts.antt` what is left where the media fails in a row of
 //! operations, and `specs/Mkfs.antt` the row that makes a file system.
 #![tactic(auto)]
 
 mod caches;
 mod cell;
-mod drifts;
 mod failures;
 mod lines;
 mod mkfs;
 mod op;
+mod transfers;
 
 pub use caches::{copies_by_line, no_dirty_line};
 pub use cell::Cell;
-pub use drifts::{
-    bring_drifts, failures_slip, fetch_drifts, leak_drifts, own_moves_drift, send_drifts,
-};
 pub use failures::an_operation_fails_at_its_line;
 pub use lines::{a_line_is_loaded, a_line_is_put};
 pub use mkfs::a_file_system_is_made;
 pub use op::Op;
+pub use transfers::{
+    bring_transfers, failures_tear_line, fetch_transfers, leak_transfers, own_moves_transfer,
+    send_transfers,
+};

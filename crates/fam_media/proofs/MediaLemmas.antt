@@ -33,12 +33,12 @@ eight-set_masked image at words old torn mask within stood is =
 
 module _ (image now : Image) (at : ℕ) (words : List ℕ) where
   -- what a media tells after a line was written
-  pub told_after_line : now ≡ with_line at words image → Some (map eight now) ≡ Some (with_line at words (map eight image))
-  told_after_line is = ap (λ (i : Image). Some (map eight i)) is ∙ ap Some (eight-with_line image at words)
+  pub modelled_after_line : now ≡ with_line at words image → Some (map eight now) ≡ Some (with_line at words (map eight image))
+  modelled_after_line is = ap (λ (i : Image). Some (map eight i)) is ∙ ap Some (eight-with_line image at words)
 
   -- and after masked words were
-  pub told_after_words : (mask : ℕ) → mask < masks → now ≡ with_masked at words mask image → IsTorn (Some (map eight image)) (Some (map eight now)) at words
-  told_after_words mask fits is = record {
+  pub modelled_after_words : (mask : ℕ) → mask < masks → now ≡ with_masked at words mask image → IsTorn (Some (map eight image)) (Some (map eight now)) at words
+  modelled_after_words mask fits is = record {
     mask = mask;
     fits = fits;
     written = ap (λ (i : Image). Some (map eight i)) is ∙ ap Some (eight-with_masked image at words mask);

@@ -22,7 +22,7 @@ bytes_or_none (Some bytes) = bytes
 abbrev pub bytes_of : Files → List ℕ → List ℕ
 bytes_of files name = bytes_or_none (map.get files name)
 
--- the files are told, and this name has no byte at the offset
+-- the files are modelled, and this name has no byte at the offset
 abbrev pub HasNone : Option Files → List ℕ → ℕ → Type 0
 HasNone None name offset = ⊥
 HasNone (Some files) name offset = length (bytes_of files name) ≤ offset

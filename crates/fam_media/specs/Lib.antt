@@ -1,6 +1,6 @@
 pub mod Causes
 pub mod Outside
-pub mod Told
+pub mod Modelled
 pub mod Files
 pub mod Plans
 pub mod MemoryMedia

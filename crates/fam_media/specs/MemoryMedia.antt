@@ -24,8 +24,8 @@ abbrev pub next_mask : MediaState → Option Mask
 next_mask m = planned m.plan m.calls
 
 -- the image as the media tells it, eight words in each line
-abbrev pub told_image : MediaState → Option Image
-told_image m = Some (map eight m.image)
+abbrev pub modelled_image : MediaState → Option Image
+modelled_image m = Some (map eight m.image)
 
 -- after a read: a call was counted, and where it failed a fault
 abbrev pub after_call : MediaState → MediaState

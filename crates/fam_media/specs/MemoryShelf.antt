@@ -6,14 +6,14 @@ use Rattle.fam_media.specs.Files.{Files, name_cmp, bytes_of}
 use Rattle.fam_media.specs.Plans.{one_more, is_planned, count_if}
 
 -- where the bytes of a name end for reads
-abbrev pub Cuts : Type 0
-Cuts = map.FinMap name_cmp ℕ
+abbrev pub CutNames : Type 0
+CutNames = map.FinMap name_cmp ℕ
 
 -- the files, where reads of them end, how many calls were made, which ones are to fail, and the counts of
 -- faults and of shorts
 pub record ShelfState : Type 0 where
   pub files : Files
-  pub cuts : Cuts
+  pub cuts : CutNames
   pub calls : ℕ
   pub plan : List ℕ
   pub faults : ℕ
@@ -21,7 +21,7 @@ pub record ShelfState : Type 0 where
 
 -- a shelf's state as a tuple
 abbrev pub Parts : Type 0
-Parts = (Files × Cuts) × ((ℕ × List ℕ) × (ℕ × ℕ))
+Parts = (Files × CutNames) × ((ℕ × List ℕ) × (ℕ × ℕ))
 
 -- the code of that tuple
 abbrev pub parts_code : Coded Parts

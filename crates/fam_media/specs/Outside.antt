@@ -3,9 +3,9 @@ use Rattle.std.specs.Prelude.{ℕ, ◌≡◌, ◌<◌, ◌≤◌, ◌++◌, List
 use Rattle.std.specs.Option.{option_map}
 use Rattle.fam_base.specs.Image.{Image, with_masked}
 
--- where a content is told, it has this property
-abbrev pub IfTold : {T : Type 0} → Option T → (T → Type 0) → Type 0
-IfTold {T} told P = (content : T) → told ≡ Some content → P content
+-- where a content is modelled, it has this property
+abbrev pub IfModelled : {T : Type 0} → Option T → (T → Type 0) → Type 0
+IfModelled {T} modelled P = (content : T) → modelled ≡ Some content → P content
 
 -- how many masks there are: one for each choice among a line's eight words
 abbrev pub masks : ℕ
@@ -21,7 +21,7 @@ pub record IsTorn (old new : Option Image) (line : ℕ) (words : List ℕ) : Typ
 abbrev pub with_piece : List ℕ → List ℕ → List ℕ
 with_piece piece bytes = bytes ++ piece
 
--- after a put that failed a front of the piece stands behind the bytes
+-- after a put that failed a prefix of the piece stands behind the bytes
 pub record IsPartlyPut (old new : Option (List ℕ)) (piece : List ℕ) : Type 0 where
   pub kept : ℕ
   pub fits : kept ≤ length piece

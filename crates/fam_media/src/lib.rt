@@ -2,9 +2,9 @@
 //! trait stands a form in memory, of which chosen calls fail.
 //!
 //! Each has a count of faults, which never falls, and fails only where that count rises during the call. So
-//! a program that answers with a fault has had one. Content may be told or not: forms in memory tell it,
-//! files and streams don't, and a contract speaks of content only where it is told. A form in memory gives
-//! the laws of `Media` by `specs/Told.antt`.
+//! a program that answers with a fault has had one. Content may be modelled or not: forms in memory tell it,
+//! files and streams don't, and a contract speaks of content only where it is modelled. A form in memory gives
+//! the laws of `Media` by `specs/Modelled.antt`.
 #![tactic(auto)]
 
 mod media;

@@ -4,7 +4,7 @@ ghost use Rattle.std.specs.Prelude.{◌≡◌, ℕ, ◌<◌, ◌≤◌, Option, 
 ghost use Rattle.std.specs.Option.{option_map};
 ghost use Rattle.fam_base.specs.Image.{Image, IsNormal, eight, line_at, with_line};
 ghost use Rattle.fam_media.specs.Causes.{HasCause};
-ghost use Rattle.fam_media.specs.Outside.{IfTold, IsTorn};
+ghost use Rattle.fam_media.specs.Outside.{IfModelled, IsTorn};
 
 use fam_base::{Line, LineNo};
 
@@ -17,10 +17,10 @@ pub const MOST_LINES: u64 = 17_179_869_184;
 
 /// Memory that several hosts share, as lines of eight words.
 pub trait Media {
-    /// The image, where it is told.
+    /// The image, where it is modelled.
     ghost image: { Self → Option Image };
 
-    /// How many lines there are, also where no image is told.
+    /// How many lines there are, also where no image is modelled.
     ghost size: { Self → ℕ };
 
     /// How often a call failed.
@@ -36,7 +36,7 @@ pub trait Media {
         requires within { line.0 < size self.old }
 
         ensures words { IfOk result
-            (λ words. IfTold (image self.old) (λ lines. eight words ≡ line_at lines line.0)) }
+            (λ words. IfModelled (image self.old) (λ lines. eight words ≡ line_at lines line.0)) }
         ensures same { image self.new ≡ image self.old }
         ensures size { size self.new ≡ size self.old }
         ensures cause { HasCause (faults self.old) (faults self.new) result };
@@ -51,9 +51,9 @@ pub trait Media {
         ensures size { size self.new ≡ size self.old }
         ensures cause { HasCause (faults self.old) (faults self.new) result };
 
-    /// Each line of an image that is told has eight words.
+    /// Each line of an image that is modelled has eight words.
     ghost normal: { (m : Self) → IsNormal (image m) };
 
-    /// An image that is told has as many lines as the media.
-    ghost told: { (m : Self) → IfTold (image m) (λ lines. length lines ≡ size m) };
+    /// An image that is modelled has as many lines as the media.
+    ghost modelled: { (m : Self) → IfModelled (image m) (λ lines. length lines ≡ size m) };
 }

@@ -4,10 +4,10 @@ ghost use Rattle.std.specs.Prelude.{◌≡◌, ◌<◌, ◌≤◌, ◌∷◌, So
 ghost use Rattle.std.specs.Option.{option_map};
 ghost use Rattle.fam_base.specs.Image.{eight, line_at, with_line, with_masked};
 ghost use Rattle.fam_base.proofs.ImageLemmas.{normal-map_eight};
-ghost use Rattle.fam_media.specs.Told.{told_lines};
+ghost use Rattle.fam_media.specs.Modelled.{modelled_lines};
 ghost use Rattle.fam_media.specs.Causes.{HasCause, Rose};
-ghost use Rattle.fam_media.specs.Outside.{IfTold, IsTorn};
-ghost use Rattle.fam_media.specs.MemoryMedia.{after_call, after_write, blank, fresh, next_mask, told_image};
+ghost use Rattle.fam_media.specs.Outside.{IfModelled, IsTorn};
+ghost use Rattle.fam_media.specs.MemoryMedia.{after_call, after_write, blank, fresh, next_mask, modelled_image};
 
 use crate::media::{Failed, MOST_LINES, Media};
 use crate::plan::find_planned;
@@ -125,7 +125,7 @@ impl MemMedia {
 }
 
 impl Media for MemMedia {
-    ghost image = { told_image };
+    ghost image = { modelled_image };
 
     ghost size = { λ m. length m.image };
 
@@ -139,8 +139,8 @@ impl Media for MemMedia {
         requires within { line.0 < length self.old.image }
 
         ensures words { IfOk result
-            (λ words. IfTold (told_image self.old) (λ lines. eight words ≡ line_at lines line.0)) }
-        ensures same { told_image self.new ≡ told_image self.old }
+            (λ words. IfModelled (modelled_image self.old) (λ lines. eight words ≡ line_at lines line.0)) }
+        ensures same { modelled_image self.new ≡ modelled_image self.old }
         ensures size { length self.new.image ≡ length self.old.image }
         ensures cause { HasCause (self.old.faults) (self.new.faults) result }
 
@@ -158,9 +158,9 @@ impl Media for MemMedia {
         requires within { line.0 < length self.old.image }
 
         ensures written { OnOk result
-            (told_image self.new ≡ option_map (with_line line.0 words.now) (told_image self.old)) }
+            (modelled_image self.new ≡ option_map (with_line line.0 words.now) (modelled_image self.old)) }
         ensures torn { OnErr result
-            (IsTorn (told_image self.old) (told_image self.new) line.0 words.now) }
+            (IsTorn (modelled_image self.old) (modelled_image self.new) line.0 words.now) }
         ensures size { length self.new.image ≡ length self.old.image }
         ensures cause { HasCause (self.old.faults) (self.new.faults) result }
 
@@ -182,5 +182,5 @@ impl Media for MemMedia {
 
     ghost normal = { λ m. normal-map_eight m.image };
 
-    ghost told = { λ m. told_lines m.image };
+    ghost modelled = { λ m. modelled_lines m.image };
 }

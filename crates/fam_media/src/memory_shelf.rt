@@ -6,7 +6,7 @@ ghost use Rattle.std.specs.Option.{option_map};
 ghost use Rattle.std.specs.String.{string_bytes};
 ghost use Rattle.std.specs.FinMap as map;
 ghost use Rattle.fam_media.specs.Causes.{HasCause, Rose};
-ghost use Rattle.fam_media.specs.Outside.{IfTold};
+ghost use Rattle.fam_media.specs.Outside.{IfModelled};
 ghost use Rattle.fam_media.specs.Files.{HasNone, IsShort, bytes_of, bytes_or_none, name_cmp};
 ghost use Rattle.fam_media.specs.MemoryShelf.{after_call, after_read, before_cut, empty_shelf, given, is_failing, readable};
 
@@ -93,7 +93,7 @@ fn before<'a>(bytes: Option<&'a [u8]>, cut: Option<u64>) -> &'a [u8]
 /// tells how many.
 fn copy_from(bytes: &[u8], offset: u64, into: &mut [u8]) -> usize
     ensures count { result ≡ min (length into.old) (length bytes.now - offset) }
-    ensures front { take result into.new ≡ take result (drop offset bytes.now) }
+    ensures prefix { take result into.new ≡ take result (drop offset bytes.now) }
     ensures rest { drop result into.new ≡ drop result into.old }
 {
     let start = bytes.len().min(offset as usize);
@@ -232,12 +232,12 @@ impl Shelf for MemShelf {
 
     fn size(&mut self, name: &str) -> Result<Option<u64>, Failed>
         ensures value { IfOk result
-            (λ size. IfTold (Some self.old.files)
+            (λ size. IfModelled (Some self.old.files)
             (λ files. size ≡ option_map length (map.get files name.now))) }
         ensures same { Some self.new.files ≡ Some self.old.files }
         ensures cause { HasCause self.old.faults self.new.faults result }
         ensures later { self.old.shorts ≤ self.new.shorts }
-        ensures shorts { IfTold (Some self.old.files) (λ _. self.new.shorts ≡ self.old.shorts) }
+        ensures shorts { IfModelled (Some self.old.files) (λ _. self.new.shorts ≡ self.old.shorts) }
 
         // It fails exactly where that was planned.
         ensures fails { is_err result ≡ is_failing self.old }
@@ -256,16 +256,16 @@ impl Shelf for MemShelf {
         requires room { 0 < length into.old }
 
         ensures within { IfOk result (λ n. n ≤ length into.old) }
-        ensures bytes { IfOk result (λ n. IfTold (Some self.old.files)
+        ensures bytes { IfOk result (λ n. IfModelled (Some self.old.files)
             (λ files. take n into.new ≡ take n (drop offset (bytes_of files name.now)))) }
         ensures rest { IfOk result (λ n. drop n into.new ≡ drop n into.old) }
         ensures none { IfOk result (λ n. n ≡ 0 →
             HasNone (Some self.old.files) name.now offset ⊎ Rose self.old.shorts self.new.shorts) }
-        ensures short { IfOk result (λ n. IfTold (Some self.old.files) (λ files.
+        ensures short { IfOk result (λ n. IfModelled (Some self.old.files) (λ files.
             self.old.shorts < self.new.shorts → IsShort files name.now offset n)) }
         ensures err { OnErr result (into.new ≡ into.old) }
         ensures whole { OnErr result
-            (IfTold (Some self.old.files) (λ _. self.new.shorts ≡ self.old.shorts)) }
+            (IfModelled (Some self.old.files) (λ _. self.new.shorts ≡ self.old.shorts)) }
         ensures same { Some self.new.files ≡ Some self.old.files }
         ensures cause { HasCause self.old.faults self.new.faults result }
         ensures later { self.old.shorts ≤ self.new.shorts }

@@ -53,7 +53,7 @@ fn append(bytes: &mut Vec<u8>, piece: &[u8])
 }
 
 /// Appends at most so many bytes of a piece, for which there is room.
-fn append_front(bytes: &mut Vec<u8>, piece: &[u8], most: u64)
+fn append_prefix(bytes: &mut Vec<u8>, piece: &[u8], most: u64)
     requires { length bytes.old.items + min most (length piece.now) ≤ vec_capacity bytes.old }
     ensures bytes { bytes.new.items ≡ bytes.old.items ++ take most piece.now }
     ensures capacity { vec_capacity bytes.old ≤ vec_capacity bytes.new }
@@ -152,7 +152,7 @@ impl Sink for MemSink {
                 Ok(())
             }
             Some(kept) => {
-                append_front(&mut self.bytes, piece, kept);
+                append_prefix(&mut self.bytes, piece, kept);
                 Err(Failed)
             }
         }

@@ -4,14 +4,14 @@ ghost use Rattle.std.specs.Prelude.{◌≡◌, ◌⊎◌, ℕ, ◌<◌, ◌≤�
 ghost use Rattle.std.specs.Option.{option_map};
 ghost use Rattle.std.specs.FinMap as map;
 ghost use Rattle.fam_media.specs.Causes.{HasCause, Rose};
-ghost use Rattle.fam_media.specs.Outside.{IfTold};
+ghost use Rattle.fam_media.specs.Outside.{IfModelled};
 ghost use Rattle.fam_media.specs.Files.{Files, HasNone, IsShort, bytes_of};
 
 use crate::media::Failed;
 
 /// Files by name. No call changes them.
 pub trait Shelf {
-    /// The bytes of each name, where they are told.
+    /// The bytes of each name, where they are modelled.
     ghost files: { Self → Option Files };
 
     /// How often a call failed.
@@ -23,12 +23,12 @@ pub trait Shelf {
     /// Returns the size of a file in bytes, and `None` where no file has the name.
     fn size(&mut self, name: &str) -> Result<Option<u64>, Failed>
         ensures value { IfOk result
-            (λ size. IfTold (files self.old)
+            (λ size. IfModelled (files self.old)
             (λ files. size ≡ option_map length (map.get files name.now))) }
         ensures same { files self.new ≡ files self.old }
         ensures cause { HasCause (faults self.old) (faults self.new) result }
         ensures later { shorts self.old ≤ shorts self.new }
-        ensures shorts { IfTold (files self.old) (λ _. shorts self.new ≡ shorts self.old) };
+        ensures shorts { IfModelled (files self.old) (λ _. shorts self.new ≡ shorts self.old) };
 
     /// Reads a file's bytes from an offset on into the front of `into`, and returns how many. It is 0 only
     /// where the file has no byte there, or where the file is shorter than its size says.
@@ -36,17 +36,17 @@ pub trait Shelf {
         requires room { 0 < length into.old }
 
         ensures within { IfOk result (λ n. n ≤ length into.old) }
-        ensures bytes { IfOk result (λ n. IfTold (files self.old)
+        ensures bytes { IfOk result (λ n. IfModelled (files self.old)
             (λ files. take n into.new ≡ take n (drop offset (bytes_of files name.now)))) }
         ensures rest { IfOk result (λ n. drop n into.new ≡ drop n into.old) }
         ensures none { IfOk result (λ n. n ≡ 0 →
             HasNone (files self.old) name.now offset ⊎ Rose (shorts self.old) (shorts self.new)) }
-        ensures short { IfOk result (λ n. IfTold (files self.old) (λ files.
+        ensures short { IfOk result (λ n. IfModelled (files self.old) (λ files.
             shorts self.old < shorts self.new → IsShort files name.now offset n)) }
 
         // A read that fails leaves `into` as it was, and is no short one.
         ensures err { OnErr result (into.new ≡ into.old) }
-        ensures whole { OnErr result (IfTold (files self.old) (λ _. shorts self.new ≡ shorts self.old)) }
+        ensures whole { OnErr result (IfModelled (files self.old) (λ _. shorts self.new ≡ shorts self.old)) }
 
         ensures same { files self.new ≡ files self.old }
         ensures cause { HasCause (faults self.old) (faults self.new) result }

@@ -9,13 +9,13 @@ use crate::media::Failed;
 
 /// A place for output.
 pub trait Sink {
-    /// The bytes put so far, where they are told.
+    /// The bytes put so far, where they are modelled.
     ghost bytes: { Self → Option (List ℕ) };
 
     /// How often a put failed.
     ghost faults: { Self → ℕ };
 
-    /// Appends a piece. Where the put fails a front of the piece may stand there.
+    /// Appends a piece. Where the put fails a prefix of the piece may stand there.
     fn put(&mut self, piece: &[u8]) -> Result<(), Failed>
         ensures put { OnOk result (bytes self.new ≡ option_map (with_piece piece.now) (bytes self.old)) }
         ensures torn { OnErr result (IsPartlyPut (bytes self.old) (bytes self.new) piece.now) }

@@ -46,7 +46,7 @@ fn size<S: Shelf>(shelf: &mut S, name: &str) -> Option<Option<u64>> {
 }
 
 /// What a read of four bytes of any shelf gives and leaves.
-fn front<S: Shelf>(shelf: &mut S, name: &str, offset: u64) -> (Option<usize>, [u8; 4]) {
+fn prefix<S: Shelf>(shelf: &mut S, name: &str, offset: u64) -> (Option<usize>, [u8; 4]) {
     let mut into = [b'-'; 4];
     let count = shelf.read_at(name, offset, &mut into).ok();
     (count, into)
@@ -75,7 +75,7 @@ fn a_planned_read_fails_once_and_changes_no_line(rt: HostRuntime) -> Result<(), 
 }
 
 #[test]
-fn a_put_that_fails_keeps_a_front_or_nothing(rt: HostRuntime) -> Result<(), Fail> {
+fn a_put_that_fails_keeps_a_prefix_or_nothing(rt: HostRuntime) -> Result<(), Fail> {
     let mut sink = MemSink::new(rt.alloc(), 7)?;
     sink.fail(1, 3)?;
     assert_eq!(rt; put(&mut sink, b"one "), true);
@@ -99,9 +99,9 @@ fn a_shelf_gives_the_bytes_that_were_added_last(rt: HostRuntime) -> Result<(), F
     shelf.fail(3)?;
     assert_eq!(rt; size(&mut shelf, "lis"), Some(None));
     assert_eq!(rt; size(&mut shelf, "list"), Some(Some(6)));
-    assert_eq!(rt; front(&mut shelf, "list", 4), (Some(2), *b"nd--"));
-    assert_eq!(rt; front(&mut shelf, "list", 0), (None, *b"----"));
-    assert_eq!(rt; front(&mut shelf, "list", 0), (Some(4), *b"seco"));
+    assert_eq!(rt; prefix(&mut shelf, "list", 4), (Some(2), *b"nd--"));
+    assert_eq!(rt; prefix(&mut shelf, "list", 0), (None, *b"----"));
+    assert_eq!(rt; prefix(&mut shelf, "list", 0), (Some(4), *b"seco"));
     Ok(())
 }
 
@@ -111,7 +111,7 @@ fn a_cut_file_keeps_its_size_and_gives_no_byte_past_the_cut(rt: HostRuntime) -> 
     shelf.add("list", b"abcdef")?;
     shelf.cut("list", 3)?;
     assert_eq!(rt; size(&mut shelf, "list"), Some(Some(6)));
-    assert_eq!(rt; front(&mut shelf, "list", 1), (Some(2), *b"bc--"));
-    assert_eq!(rt; front(&mut shelf, "list", 3), (Some(0), *b"----"));
+    assert_eq!(rt; prefix(&mut shelf, "list", 1), (Some(2), *b"bc--"));
+    assert_eq!(rt; prefix(&mut shelf, "list", 3), (Some(0), *b"----"));
     Ok(())
 }

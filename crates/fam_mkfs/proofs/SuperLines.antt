@@ -39,9 +39,9 @@ loaded_elsewhere line m other differs =
     ap (λ (m : Machine). line_at m.image other) (line_loaded line m)
     ∙ line_at-with_line_other m.image line (sent (line_at m.image line) (cell_at m.cache line)) other differs
 
-told_loaded : (line : ℕ) (s t : CacheOver) (image : Image) → AreDone (load_ops line 8) s t → s.image ≡ Some image → t.image ≡ Some (loaded_image line (machine image s.lines))
+modelled_loaded : (line : ℕ) (s t : CacheOver) (image : Image) → AreDone (load_ops line 8) s t → s.image ≡ Some image → t.image ≡ Some (loaded_image line (machine image s.lines))
 unfolding loaded_image
-told_loaded line s t image p is = (p.is image is).image
+modelled_loaded line s t image p is = (p.is image is).image
 
 pub lines_read : (s t u v : CacheOver) → AreDone (load_ops 0 8) s t → AreDone (load_ops 1 8) t u → AreDone (load_ops 2 8) u v → AreDone read_ops s v
 unfolding read_ops
@@ -52,9 +52,9 @@ pub cut_magic : (line : LineNo) (s t : CacheOver) → AreCut (load_ops 0 8) line
 unfolding read_ops
 cut_magic line s t b = cut_first (load_ops 0 8) (load_ops 1 8 ++ load_ops 2 8) line s t b
 
-pub cut_front : (line : LineNo) (s t u : CacheOver) → AreDone (load_ops 0 8) s t → AreCut (load_ops 1 8) line t u → AreCut read_ops line s u
+pub cut_prefix : (line : LineNo) (s t u : CacheOver) → AreDone (load_ops 0 8) s t → AreCut (load_ops 1 8) line t u → AreCut read_ops line s u
 unfolding read_ops
-cut_front line s t u p b =
+cut_prefix line s t u p b =
     cut_second (load_ops 0 8) (load_ops 1 8 ++ load_ops 2 8) line s t u p (cut_first (load_ops 1 8) (load_ops 2 8) line t u b)
 
 pub cut_rest : (line : LineNo) (s t u v : CacheOver) → AreDone (load_ops 0 8) s t → AreDone (load_ops 1 8) t u → AreCut (load_ops 2 8) line u v → AreCut read_ops line s v
@@ -62,22 +62,22 @@ unfolding read_ops
 cut_rest line s t u v p q b =
     cut_second (load_ops 0 8) (load_ops 1 8 ++ load_ops 2 8) line s t v p (cut_second (load_ops 1 8) (load_ops 2 8) line t u v q b)
 
-one_told : (told : Option Image) (a b : Image) → told ≡ Some a → told ≡ Some b → a ≡ b
-one_told told a b is too = cc
+one_modelled : (modelled : Option Image) (a b : Image) → modelled ≡ Some a → modelled ≡ Some b → a ≡ b
+one_modelled modelled a b is too = cc
 
 -- what the words say is what memory says
-pub super_loaded : (magic front rest : List ℕ) (s t u v : CacheOver) (image : Image) → AreDone (load_ops 0 8) s t → AreDone (load_ops 1 8) t u → AreDone (load_ops 2 8) u v → magic ≡ eight (words_of (cell_at t.lines 0)) → front ≡ eight (words_of (cell_at u.lines 1)) → rest ≡ eight (words_of (cell_at v.lines 2)) → s.image ≡ Some image → (have : ℕ) → super_in (line_at (magic ∷ front ∷ rest ∷ [])) have ≡ super_in (line_at (operated_all read_ops (machine image s.lines)).image) have
-super_loaded magic front rest s t u v image p q r m f e is have =
+pub super_loaded : (magic prefix rest : List ℕ) (s t u v : CacheOver) (image : Image) → AreDone (load_ops 0 8) s t → AreDone (load_ops 1 8) t u → AreDone (load_ops 2 8) u v → magic ≡ eight (words_of (cell_at t.lines 0)) → prefix ≡ eight (words_of (cell_at u.lines 1)) → rest ≡ eight (words_of (cell_at v.lines 2)) → s.image ≡ Some image → (have : ℕ) → super_in (line_at (magic ∷ prefix ∷ rest ∷ [])) have ≡ super_in (line_at (operated_all read_ops (machine image s.lines)).image) have
+super_loaded magic prefix rest s t u v image p q r m f e is have =
     let i1 = loaded_image 0 (machine image s.lines) in
     let i2 = loaded_image 1 (machine i1 t.lines) in
     let i3 = loaded_image 2 (machine i2 u.lines) in
     let now = (operated_all read_ops (machine image s.lines)).image in
-    let is1 : t.image ≡ Some i1 = told_loaded 0 s t image p is in
-    let is2 : u.image ≡ Some i2 = told_loaded 1 t u i1 q is1 in
-    let is3 : v.image ≡ Some i3 = told_loaded 2 u v i2 r is2 in
-    let end : i3 ≡ now = one_told v.image i3 now is3 ((lines_read s t u v p q r).is image is).image in
+    let is1 : t.image ≡ Some i1 = modelled_loaded 0 s t image p is in
+    let is2 : u.image ≡ Some i2 = modelled_loaded 1 t u i1 q is1 in
+    let is3 : v.image ≡ Some i3 = modelled_loaded 2 u v i2 r is2 in
+    let end : i3 ≡ now = one_modelled v.image i3 now is3 ((lines_read s t u v p q r).is image is).image in
     let m1 : magic ≡ line_at now 0 = m ∙ loaded_words 0 s t image p is ∙ sym (loaded_elsewhere 1 (machine i1 t.lines) 0 (λ e. omega arith)) ∙ sym (loaded_elsewhere 2 (machine i2 u.lines) 0 (λ e. omega arith)) ∙ ap (λ (i : Image). line_at i 0) end in
-    let f1 : front ≡ line_at now 1 = f ∙ loaded_words 1 t u i1 q is1 ∙ sym (loaded_elsewhere 2 (machine i2 u.lines) 1 (λ e. omega arith)) ∙ ap (λ (i : Image). line_at i 1) end in
+    let f1 : prefix ≡ line_at now 1 = f ∙ loaded_words 1 t u i1 q is1 ∙ sym (loaded_elsewhere 2 (machine i2 u.lines) 1 (λ e. omega arith)) ∙ ap (λ (i : Image). line_at i 1) end in
     let e1 : rest ≡ line_at now 2 = e ∙ loaded_words 2 u v i2 r is2 ∙ ap (λ (i : Image). line_at i 2) end in
     ap₂ (λ (w : ℕ) (ws : List ℕ). super_of w ws have) (ap (λ (ws : List ℕ). slice_index (eight ws) 0) m1)
     (ap₂ (λ (xs ys : List ℕ). eight xs ++ eight ys) f1 e1)

@@ -106,17 +106,17 @@ pub held_spare_kept : (word first old new : ℕ) (Held : Type 0) → (0 < word �
 held_spare_kept zero first old new Held held begun held_spare before = omega (arith, held_spare (begun refl))
 held_spare_kept (suc word) first old new Held held begun held_spare before = omega (arith, held_spare (held (omega arith)))
 
-same_copy : (word : ℕ) (told : Option Image) (line : ℕ) (old new : Cache) → 0 < word → (0 < word → IsHeld (cell_at old line)) → FromMemory told line (λ memory. new ≡ cell_changed line (brought memory) old) → cell_at new line ≡ cell_at old line
-same_copy word told line old new some held from = ap (λ (cache : Cache). cell_at cache line) (held_loaded told line old new (held some) from)
+same_copy : (word : ℕ) (modelled : Option Image) (line : ℕ) (old new : Cache) → 0 < word → (0 < word → IsHeld (cell_at old line)) → FromMemory modelled line (λ memory. new ≡ cell_changed line (brought memory) old) → cell_at new line ≡ cell_at old line
+same_copy word modelled line old new some held from = ap (λ (cache : Cache). cell_at cache line) (held_loaded modelled line old new (held some) from)
 
 -- one word more was loaded from the line's copy
-pub words_more : (words : List ℕ) (k value : ℕ) (told : Option Image) (line : ℕ) (old new : Cache) → length words ≡ 8 → k < 8 → ((j : ℕ) → j < k → get_or words j 0 ≡ get_or (words_of (cell_at old line)) j 0) → (0 < k → IsHeld (cell_at old line)) → FromMemory told line (λ memory. new ≡ cell_changed line (brought memory) old) → value ≡ get_or (words_of (cell_at new line)) k 0
+pub words_more : (words : List ℕ) (k value : ℕ) (modelled : Option Image) (line : ℕ) (old new : Cache) → length words ≡ 8 → k < 8 → ((j : ℕ) → j < k → get_or words j 0 ≡ get_or (words_of (cell_at old line)) j 0) → (0 < k → IsHeld (cell_at old line)) → FromMemory modelled line (λ memory. new ≡ cell_changed line (brought memory) old) → value ≡ get_or (words_of (cell_at new line)) k 0
     → (j : ℕ) → j < k + 1 → get_or (set words k value) j 0 ≡ get_or (words_of (cell_at new line)) j 0
-words_more words k value told line old new wide below before held from read =
+words_more words k value modelled line old new wide below before held from read =
     below_more (λ j. get_or (set words k value) j 0 ≡ get_or (words_of (cell_at new line)) j 0) k
     (λ j less.
     let other : j ≢ k = omega arith in
-    let copy : cell_at new line ≡ cell_at old line = same_copy k told line old new (omega arith) held from in
+    let copy : cell_at new line ≡ cell_at old line = same_copy k modelled line old new (omega arith) held from in
     get_or-set_other words k j value 0 other ∙ before j less ∙ ap (λ (c : Cell). get_or (words_of c) j 0) (sym copy))
     (let lt : k < length words = omega arith in get_or-set_same words k value 0 lt ∙ read)
 

@@ -5,39 +5,39 @@ use Rattle.fam_machine.specs.Operations.{Machine, machine}
 use Rattle.fam_media.specs.Causes.{Rose}
 use Rattle.fam_mkfs.specs.declared.make.MkfsEnd.{MkfsEnd}
 use Rattle.fam_mkfs.specs.declared.make.MkfsEnd.TheVariants.{Made, BadGeometry, TooSmall, HasSuper, Failed}
-use Rattle.fam_machine.specs.Mkfs.{read_ops, mkfs_ops, due_ops, found, goes_on}
+use Rattle.fam_machine.specs.Mkfs.{read_ops, mkfs_ops, expected_ops, superblock_found, goes_on}
 use Rattle.fam_cache.specs.Runs.{AreDone, CacheOver}
 use Rattle.fam_base.specs.declared.line.LineNo.{LineNo}
 use Rattle.fam_machine.specs.Cuts.{HasCut}
-use Rattle.fam_media.specs.Outside.{IfTold}
+use Rattle.fam_media.specs.Outside.{IfModelled}
 
 -- all operations were done, and no superblock stood in the way
-pub record IsMade (p : Params) (force : Bool) (before now : CacheOver) : Type 0 where
+pub record IsMadeAsAsked (p : Params) (force : Bool) (before now : CacheOver) : Type 0 where
   pub done : AreDone (mkfs_ops p) before now
-  pub free : IfTold before.image (λ image. goes_on force (found p (machine image before.lines)) ≡ true)
+  pub free : IfModelled before.image (λ image. goes_on force (superblock_found p (machine image before.lines)) ≡ true)
 
 -- a superblock with this UUID reads
 pub record Names (p : Params) (m : Machine) (id : List ℕ) : Type 0 where
   pub other : Params
-  pub reads : found p m ≡ Ok other
+  pub reads : superblock_found p m ≡ Ok other
   pub named : id ≡ other.fs
 
 -- lines 0, 1 and 2 were read, and a superblock stands there that isn't to be written over
 pub record IsFound (p : Params) (force : Bool) (id : List ℕ) (before now : CacheOver) : Type 0 where
   pub unforced : force ≡ false
   pub done : AreDone read_ops before now
-  pub names : IfTold before.image (λ image. Names p (machine image before.lines) id)
+  pub names : IfModelled before.image (λ image. Names p (machine image before.lines) id)
 
--- memory failed at this line, in one of the operations that were due
+-- the media failed at this line, in one of the operations that were expected
 pub record IsCut (p : Params) (force : Bool) (size : ℕ) (line : LineNo) (before now : CacheOver) (faults faults_now : ℕ) : Type 0 where
   pub within : line.0 < size
   pub rose : Rose faults faults_now
-  pub cut : IfTold before.image (λ image. HasCut (due_ops force p (machine image before.lines)) (machine image before.lines) line now.image now.lines)
+  pub cut : IfModelled before.image (λ image. HasCut (expected_ops force p (machine image before.lines)) (machine image before.lines) line now.image now.lines)
 
 -- what an end says, where these parameters are asked for
-abbrev pub Ends : Params → Bool → ℕ → CacheOver → CacheOver → ℕ → ℕ → MkfsEnd → Type 0
-Ends p force size before now faults faults_now (Made made) = (made ≡ p) × IsMade p force before now
-Ends p force size before now faults faults_now (HasSuper id) = IsFound p force id before now
-Ends p force size before now faults faults_now (Failed line) = IsCut p force size line before now faults faults_now
-Ends p force size before now faults faults_now (BadGeometry unit log) = ⊥
-Ends p force size before now faults faults_now (TooSmall need have) = ⊥
+abbrev pub MkfsEnds : Params → Bool → ℕ → CacheOver → CacheOver → ℕ → ℕ → MkfsEnd → Type 0
+MkfsEnds p force size before now faults faults_now (Made made) = (made ≡ p) × IsMadeAsAsked p force before now
+MkfsEnds p force size before now faults faults_now (HasSuper id) = IsFound p force id before now
+MkfsEnds p force size before now faults faults_now (Failed line) = IsCut p force size line before now faults faults_now
+MkfsEnds p force size before now faults faults_now (BadGeometry unit log) = ⊥
+MkfsEnds p force size before now faults faults_now (TooSmall need have) = ⊥

@@ -9,7 +9,7 @@ use Rattle.fam_machine.specs.OneLine.{IsHeld}
 -- lines 0, 1 and 2 are held
 pub record HeldLines (cache : Cache) : Type 0 where
   pub magic : IsHeld (cell_at cache 0)
-  pub front : IsHeld (cell_at cache 1)
+  pub prefix : IsHeld (cell_at cache 1)
   pub rest : IsHeld (cell_at cache 2)
 
 -- a superblock with this UUID was found, and it isn't to be written over
@@ -22,7 +22,7 @@ pub record Stands (force : Bool) (found : Result Params SuperFault) (id : List �
 -- a line that making a file system has nothing to do with
 pub record IsElsewhere (line : ℕ) : Type 0 where
   pub magic : line ≢ 0
-  pub front : line ≢ 1
+  pub prefix : line ≢ 1
   pub rest : line ≢ 2
   pub log : line ≢ log_line
   pub gate : line ≢ gate_line

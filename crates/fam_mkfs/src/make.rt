@@ -8,7 +8,7 @@ ghost use Rattle.fam_machine.specs.Caches.{cell_at};
 ghost use Rattle.fam_machine.specs.Operations.{machine, operated_all};
 ghost use Rattle.fam_rules.specs.Place.{line_bytes};
 ghost use Rattle.fam_machine.specs.Mkfs as spec;
-ghost use Rattle.fam_mkfs.specs.Ends.{Ends};
+ghost use Rattle.fam_mkfs.specs.Ends.{MkfsEnds};
 ghost use Rattle.fam_mkfs.specs.Parts.{HeldLines, IsElsewhere, Stands};
 ghost use Rattle.fam_mkfs.specs.Refusals as refusals;
 ghost use Rattle.fam_media.specs.Causes.{IsSteady, Rose};
@@ -156,7 +156,7 @@ fn make<M: Media>(cache: &mut HostCache, media: &mut M, params: &Params, force: 
     requires within { least_lines ≤ M.size media.old }
     requires room { 6 ≤ cache.old.spare }
 
-    ensures ends { Ends params.now force (M.size media.old)
+    ensures ends { MkfsEnds params.now force (M.size media.old)
         (over (M.image media.old) cache.old.lines) (over (M.image media.new) cache.new.lines)
         (M.faults media.old) (M.faults media.new) result }
     ensures others { (line : ℕ) → IsElsewhere line
@@ -200,11 +200,11 @@ pub fn mkfs<M: Media>(
         → cache.new ≡ cache.old }
 
     ensures ends { refusals.refusal unit log (line_bytes * M.size media.old) ≡ None → IfOk result
-        (Ends (spec.asked unit log fs me (M.size media.old)) force (M.size media.old)
+        (MkfsEnds (spec.asked unit log fs me (M.size media.old)) force (M.size media.old)
         (over (M.image media.old) cache.old.lines) (over (M.image media.new) cache.new.lines)
         (M.faults media.old) (M.faults media.new)) }
 
-    // The cache has of every other line what it had, also where nothing is told.
+    // The cache has of every other line what it had, also where nothing is modelled.
     ensures others { (line : ℕ) → IsElsewhere line
         → cell_at cache.new.lines line ≡ cell_at cache.old.lines line }
 

@@ -5,8 +5,8 @@ use Rattle.fam_plain.specs.declared.reading.Reading.{Reading}
 use Rattle.fam_plain.specs.declared.reading.Reading.TheVariants.{NoSuperblock, BadHeader, BadSlot, Sound}
 
 -- the reading is the image's: the same fault, or the same parameters and entries in the same order
-abbrev pub Says : Reading → image.Reading → Type 0
-Says (NoSuperblock fault) of_image = of_image ≡ image.NoSuperblock fault
-Says (BadHeader fault) of_image = of_image ≡ image.BadHeader fault
-Says (BadSlot seq reason) of_image = of_image ≡ image.BadSlot seq reason
-Says (Sound params entries) of_image = of_image ≡ image.Sound params entries.items
+abbrev pub IsReadingOf : Reading → image.Reading → Type 0
+IsReadingOf (NoSuperblock fault) of_image = of_image ≡ image.NoSuperblock fault
+IsReadingOf (BadHeader fault) of_image = of_image ≡ image.BadHeader fault
+IsReadingOf (BadSlot seq reason) of_image = of_image ≡ image.BadSlot seq reason
+IsReadingOf (Sound params entries) of_image = of_image ≡ image.Sound params entries.items

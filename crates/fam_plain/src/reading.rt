@@ -7,7 +7,7 @@ ghost use Rattle.fam_format.specs.Params.{SoundParams};
 ghost use Rattle.fam_format.specs.Log as header;
 ghost use Rattle.fam_format.specs.Reading as format;
 ghost use Rattle.fam_base.specs.declared.entry.Params.{Params};
-ghost use Rattle.fam_plain.specs.Says.{Says};
+ghost use Rattle.fam_plain.specs.Says.{IsReadingOf};
 
 use crate::join::join_fault;
 use fam_base::{Entry, Line, OutOfMemory, Params};
@@ -88,7 +88,7 @@ fn read_slots(
     requires gate { gate < 2 ^ 32 }
     requires sound { SoundParams params.now }
     ensures { IfOk result (λ r.
-        Says r (format.read_slots (line_at image.now) params.now 0 gate [])) }
+        IsReadingOf r (format.read_slots (line_at image.now) params.now 0 gate [])) }
 {
     let mut entries = Vec::new(alloc);
     for i in 0..gate {
@@ -127,7 +127,7 @@ fn gate_fault(gate: u64, params: &Params) -> Option<LogFault>
 /// The gate and the slots below it.
 fn read_below(alloc: Global, image: &[Line], params: &Params) -> Result<Reading, OutOfMemory>
     requires { SoundParams params.now }
-    ensures { IfOk result (λ r. Says r (format.read_below (line_at image.now) params.now
+    ensures { IfOk result (λ r. IsReadingOf r (format.read_below (line_at image.now) params.now
         (header.gate_fault (format.gate_in (line_at image.now)) params.now))) }
 {
     let [gate, ..] = line_of(image, GATE_LINE);
@@ -140,7 +140,7 @@ fn read_below(alloc: Global, image: &[Line], params: &Params) -> Result<Reading,
 /// The log's header, and what is below it.
 fn read_header(alloc: Global, image: &[Line], params: &Params) -> Result<Reading, OutOfMemory>
     requires { SoundParams params.now }
-    ensures { IfOk result (λ r. Says r (format.read_log (line_at image.now) params.now
+    ensures { IfOk result (λ r. IsReadingOf r (format.read_log (line_at image.now) params.now
         (header.log_fault (line_at image.now layout.log_line) params.now))) }
 {
     match read_log(&line_of(image, LOG_LINE), params) {
@@ -155,7 +155,7 @@ fn read_header(alloc: Global, image: &[Line], params: &Params) -> Result<Reading
 pub fn plain_reading(alloc: Global, image: &[Line]) -> Result<Reading, OutOfMemory>
     requires enough { layout.least_lines ≤ length image.now }
     requires fits { LINE_BYTES * length image.now ≤ layout.device_limit }
-    ensures { IfOk result (λ r. Says r (format.reading image.now)) }
+    ensures { IfOk result (λ r. IsReadingOf r (format.reading image.now)) }
 {
     let lines = [line_of(image, 0), line_of(image, 1), line_of(image, 2)];
     match read_super(&lines, LINE_BYTES * image.len() as u64) {

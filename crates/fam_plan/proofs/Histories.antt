@@ -13,7 +13,7 @@ use Rattle.std.proofs.Math.Seq.{get_or-append_seam, take-append_seam}
 use Rattle.std.proofs.lemmas.Option.{slice_get_within, slice_get-get_or, get_or_from_slice_get}
 use Rattle.fam_base.specs.declared.entry.Params.{Params}
 use Rattle.fam_base.specs.declared.entry.Entry.{Entry}
-use Rattle.fam_format.specs.EntryLaws.{IsInside}
+use Rattle.fam_format.specs.EntryLaws.{IsInDevice}
 use Rattle.fam_format.specs.Layout.{device_units, head_units, log_end}
 use Rattle.fam_format.specs.Params.{SoundParams}
 use Rattle.fam_format.specs.declared.faults.Reason.{Reason}
@@ -45,7 +45,7 @@ once_in s h =
 -- its extents lie within the units of the map
 pub lie_within : (s : PlanState) (tree : Tree) (map : List Bool) (e : Entry) → IsPlan s tree map → Proper s.params e → LieWithin s.params.unit (length map) e.extents
 lie_within s tree map e plan proper =
-    All-weaker (IsInside s.params) (λ x. x.offset + x.length ≤ length map * s.params.unit) (λ x is.
+    All-weaker (IsInDevice s.params) (λ x. x.offset + x.length ≤ length map * s.params.unit) (λ x is.
     let same : device_units s.params * s.params.unit ≡ length map * s.params.unit = ap (λ (n : ℕ). n * s.params.unit) (sym plan.units) in
     omega (arith, is.before, same)) e.extents (proper_inside s.params e proper)
 
@@ -82,8 +82,8 @@ added_more s e h is i x at =
           let last : i ≡ length s.entries = omega (arith, past, slice_get_within longer i x at, length-append s.entries (e ∷ [])) in
           let same : e ≡ x =
           sym (get_or-append_seam s.entries e [] e) ∙ ap (λ (k : ℕ). get_or longer k e) (sym last) ∙ get_or_from_slice_get longer i x e at in
-          let front : s.entries ≡ take i longer = sym (take-append_seam s.entries (e ∷ [])) ∙ ap (λ (k : ℕ). take k longer) (sym last) in
-          subst (λ (list : List Entry). IsAdded s.params list x) front (subst (IsAdded s.params s.entries) same is)
+          let prefix : s.entries ≡ take i longer = sym (take-append_seam s.entries (e ∷ [])) ∙ ap (λ (k : ℕ). take k longer) (sym last) in
+          subst (λ (list : List Entry). IsAdded s.params list x) prefix (subst (IsAdded s.params s.entries) same is)
     ]
 
 -- the list with one entry more

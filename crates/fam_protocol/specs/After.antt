@@ -3,10 +3,10 @@ use Rattle.std.specs.Prelude.{ℕ, ⊤, ◌≡◌, ◌≢◌, ◌⊎◌, ◌+◌
 use Rattle.fam_base.specs.declared.entry.Params.{Params}
 use Rattle.fam_base.specs.declared.entry.Entry.{Entry}
 use Rattle.fam_format.specs.Layout.{gate_line}
-use Rattle.fam_commands.specs.declared.place.Part.{Part}
-use Rattle.fam_commands.specs.declared.place.Part.TheVariants.{Superblock, Header, Slot, File as FileLines}
-use Rattle.fam_commands.specs.declared.place.Place.{Place}
-use Rattle.fam_commands.specs.declared.place.Place.TheVariants as at
+use Rattle.fam_commands.specs.declared.phase.Part.{Part}
+use Rattle.fam_commands.specs.declared.phase.Part.TheVariants.{Superblock, Header, Slot, File as FileLines}
+use Rattle.fam_commands.specs.declared.phase.Phase.{Phase}
+use Rattle.fam_commands.specs.declared.phase.Phase.TheVariants as at
 use Rattle.fam_commands.specs.Task.{Task, content_of}
 use Rattle.fam_commands.specs.Turns.{Turn, Goes, Marks, Finds, Writes, Ends}
 use Rattle.fam_rules.specs.declared.answers.Refused.{Refused}
@@ -19,7 +19,7 @@ use Rattle.fam_rules.specs.Content.{fill}
 use Rattle.fam_rules.specs.Decide.{decide}
 use Rattle.fam_rules.specs.Reply.{Reply, Appended, NotAppended, Played, Same, Differs, Length, Bytes, NotFound, IsDirectory, Checks, Reports, NoSuperblock, BadHeader, BadSlot}
 use Rattle.fam_rules.specs.ReportLaws.{IsSoundReport}
-use Rattle.fam_protocol.specs.Seen.{Seen}
+use Rattle.fam_protocol.specs.SharedState.{SharedState}
 use Rattle.fam_protocol.specs.Lines.{IsAtLeast, gate_of}
 use Rattle.fam_protocol.specs.Core.{System, Core, top_of}
 use Rattle.fam_protocol.specs.Tasks.{TaskHolds}
@@ -38,7 +38,7 @@ pub record Run : Type 0 where
   pub named : Option Named
 
 -- the task has named the entry that it appends, and writes
-abbrev pub HasNamed : Place → Type 0
+abbrev pub HasNamed : Phase → Type 0
 HasNamed (at.StoreData j k) = ⊤
 HasNamed (at.SendData j) = ⊤
 HasNamed (at.StoreSlot j k) = ⊤
@@ -62,7 +62,7 @@ IsPastGate (Slot i) = ⊤
 IsPastGate FileLines = ⊤
 
 -- the task has dropped the gate's line, which is its mark
-abbrev pub HasMarked : Place → Type 0
+abbrev pub HasMarked : Phase → Type 0
 HasMarked at.DropMagic = ⊥
 HasMarked at.Magic = ⊥
 HasMarked (at.Drop part j) = IsPastGate part
@@ -145,40 +145,40 @@ floor_after (Ends reply) settled floor = floor
 -- What a turn may say.
 
 -- an answer on the first m entries: no fewer than were settled at the mark, and no more than there are
-pub record IsAsked (t : Task) (floor : Option ℕ) (all : List File) (reply : Reply) : Type 0 where
+pub record AnswersPrefix (t : Task) (floor : Option ℕ) (all : List File) (reply : Reply) : Type 0 where
   pub low : IsAtLeast floor (shown_by reply)
   pub high : shown_by reply ≤ length all
   pub is : ask (take (shown_by reply) all) t.cmd ≡ Some reply
 
 -- a report on the first m entries, in the same bounds
-pub record IsReported (p : Params) (floor : Option ℕ) (all : List File) (report : Report) : Type 0 where
+pub record ReportsPrefix (p : Params) (floor : Option ℕ) (all : List File) (report : Report) : Type 0 where
   pub m : ℕ
   pub low : IsAtLeast floor m
   pub high : m ≤ length all
   pub is : IsSoundReport p (entries_of (take m all)) report
 
 -- a refusal on the whole history, with nothing pending
-pub record IsRefused (p : Params) (t : Task) (all : List File) (settled : ℕ) (r : Refused) : Type 0 where
+pub record RefusesWhole (p : Params) (t : Task) (all : List File) (settled : ℕ) (r : Refused) : Type 0 where
   pub settled_is : settled ≡ length all
   pub is : decide p t.me (entries_of all) t.cmd ≡ Some (Err r)
 
 -- the host isn't the master
-pub record IsStranger (p : Params) (t : Task) (me master : List ℕ) : Type 0 where
+pub record IsClient (p : Params) (t : Task) (me master : List ℕ) : Type 0 where
   pub me_is : me ≡ t.me
   pub master_is : master ≡ p.master
   pub other : me ≢ master
 
 abbrev pub MayRefuse : Refused → System → Task → List File → ℕ → Type 0
-MayRefuse (refused.NotMaster me master) sys t all settled = IsStranger sys.params t me master
-MayRefuse refused.BadStripe sys t all settled = IsRefused sys.params t all settled refused.BadStripe
-MayRefuse (refused.Exists kind) sys t all settled = IsRefused sys.params t all settled (refused.Exists kind)
-MayRefuse refused.NoParent sys t all settled = IsRefused sys.params t all settled refused.NoParent
-MayRefuse refused.ParentIsFile sys t all settled = IsRefused sys.params t all settled refused.ParentIsFile
-MayRefuse (refused.LogFull slots) sys t all settled = IsRefused sys.params t all settled (refused.LogFull slots)
-MayRefuse (refused.NoSpace units) sys t all settled = IsRefused sys.params t all settled (refused.NoSpace units)
+MayRefuse (refused.NotMaster me master) sys t all settled = IsClient sys.params t me master
+MayRefuse refused.BadStripe sys t all settled = RefusesWhole sys.params t all settled refused.BadStripe
+MayRefuse (refused.Exists kind) sys t all settled = RefusesWhole sys.params t all settled (refused.Exists kind)
+MayRefuse refused.NoParent sys t all settled = RefusesWhole sys.params t all settled refused.NoParent
+MayRefuse refused.ParentIsFile sys t all settled = RefusesWhole sys.params t all settled refused.ParentIsFile
+MayRefuse (refused.LogFull slots) sys t all settled = RefusesWhole sys.params t all settled (refused.LogFull slots)
+MayRefuse (refused.NoSpace units) sys t all settled = RefusesWhole sys.params t all settled (refused.NoSpace units)
 
 -- the entry that the run's task named, with this number, is the last of all; and the task holds it
-pub record IsAppended (r : Run) (all : List File) (seq : ℕ) : Type 0 where
+pub record AppendsNamed (r : Run) (all : List File) (seq : ℕ) : Type 0 where
   pub count : length all ≡ seq + 1
   pub file : File
   pub last : slice_get all seq ≡ Some file
@@ -186,20 +186,20 @@ pub record IsAppended (r : Run) (all : List File) (seq : ℕ) : Type 0 where
   pub entry : r.task.entry ≡ Some file.entry
 
 abbrev pub MayReply : Reply → System → Run → List File → ℕ → Type 0
-MayReply (Appended seq) sys r all settled = IsAppended r all seq
+MayReply (Appended seq) sys r all settled = AppendsNamed r all seq
 MayReply (NotAppended why) sys r all settled = MayRefuse why sys r.task all settled
-MayReply (Reports report) sys r all settled = IsReported sys.params r.floor all report
+MayReply (Reports report) sys r all settled = ReportsPrefix sys.params r.floor all report
 MayReply (NoSuperblock fault) sys r all settled = ⊥
 MayReply (BadHeader fault) sys r all settled = ⊥
 MayReply (BadSlot seq reason) sys r all settled = ⊥
-MayReply (Played m tree) sys r all settled = IsAsked r.task r.floor all (Played m tree)
-MayReply (Same m) sys r all settled = IsAsked r.task r.floor all (Same m)
-MayReply (Differs m offset found wanted) sys r all settled = IsAsked r.task r.floor all (Differs m offset found wanted)
-MayReply (Length m size wanted) sys r all settled = IsAsked r.task r.floor all (Length m size wanted)
-MayReply (Bytes m bytes) sys r all settled = IsAsked r.task r.floor all (Bytes m bytes)
-MayReply (NotFound m) sys r all settled = IsAsked r.task r.floor all (NotFound m)
-MayReply (IsDirectory m) sys r all settled = IsAsked r.task r.floor all (IsDirectory m)
-MayReply (Checks m checked) sys r all settled = IsAsked r.task r.floor all (Checks m checked)
+MayReply (Played m tree) sys r all settled = AnswersPrefix r.task r.floor all (Played m tree)
+MayReply (Same m) sys r all settled = AnswersPrefix r.task r.floor all (Same m)
+MayReply (Differs m offset found wanted) sys r all settled = AnswersPrefix r.task r.floor all (Differs m offset found wanted)
+MayReply (Length m size wanted) sys r all settled = AnswersPrefix r.task r.floor all (Length m size wanted)
+MayReply (Bytes m bytes) sys r all settled = AnswersPrefix r.task r.floor all (Bytes m bytes)
+MayReply (NotFound m) sys r all settled = AnswersPrefix r.task r.floor all (NotFound m)
+MayReply (IsDirectory m) sys r all settled = AnswersPrefix r.task r.floor all (IsDirectory m)
+MayReply (Checks m checked) sys r all settled = AnswersPrefix r.task r.floor all (Checks m checked)
 
 -- a note or an answer that the history before it allows
 abbrev pub MaySay : Turn → System → Run → List File → ℕ → Type 0
@@ -213,15 +213,15 @@ MaySay (Ends reply) sys r all settled = MayReply reply sys r all settled
 -- What holds after it.
 
 -- of the task itself, where it goes on
-abbrev pub GoesOn : Turn → System → ℕ → Option ℕ → Seen → List File → ℕ → Type 0
-GoesOn (Goes t) sys host floor s all settled = TaskHolds sys host floor t s all settled
-GoesOn (Marks t) sys host floor s all settled = TaskHolds sys host floor t s all settled
-GoesOn (Finds n t) sys host floor s all settled = TaskHolds sys host floor t s all settled
-GoesOn (Writes seq e t) sys host floor s all settled = TaskHolds sys host floor t s all settled
-GoesOn (Ends reply) sys host floor s all settled = ⊤
+abbrev pub TaskContinues : Turn → System → ℕ → Option ℕ → SharedState → List File → ℕ → Type 0
+TaskContinues (Goes t) sys host floor s all settled = TaskHolds sys host floor t s all settled
+TaskContinues (Marks t) sys host floor s all settled = TaskHolds sys host floor t s all settled
+TaskContinues (Finds n t) sys host floor s all settled = TaskHolds sys host floor t s all settled
+TaskContinues (Writes seq e t) sys host floor s all settled = TaskHolds sys host floor t s all settled
+TaskContinues (Ends reply) sys host floor s all settled = ⊤
 
 -- the master drops the pending entry, takes it into the history or names a new one: nothing below the gate changes
-pub record Relists (sys : System) (s : Seen) (all : List File) (settled : ℕ) (all' : List File) (settled' : ℕ) : Type 0 where
+pub record Relists (sys : System) (s : SharedState) (all : List File) (settled : ℕ) (all' : List File) (settled' : ℕ) : Type 0 where
   pub up : settled ≤ settled'
   pub low : settled' ≤ gate_of (s.memory gate_line)
   pub high : top_of sys s ≤ length all'
@@ -229,19 +229,19 @@ pub record Relists (sys : System) (s : Seen) (all : List File) (settled : ℕ) (
   pub alike : (i : ℕ) → i ≤ top_of sys s → take i all' ≡ take i all
 
 -- an answer shows entries, all of them published
-pub record Raises (s : Seen) (all : List File) (settled : ℕ) (all' : List File) (settled' : ℕ) : Type 0 where
+pub record Raises (s : SharedState) (all : List File) (settled : ℕ) (all' : List File) (settled' : ℕ) : Type 0 where
   pub same : all' ≡ all
   pub m : ℕ
-  pub seen : m ≤ gate_of (s.memory gate_line)
+  pub shared : m ≤ gate_of (s.memory gate_line)
   pub is : settled' ≡ max settled m
 
 -- how the history changes: by the master, or by an answer
-abbrev pub Changes : System → ℕ → Seen → List File → ℕ → List File → ℕ → Type 0
+abbrev pub Changes : System → ℕ → SharedState → List File → ℕ → List File → ℕ → Type 0
 Changes sys host s all settled all' settled' =
     ((sys.master ≡ Some host) × Relists sys s all settled all' settled') ⊎ Raises s all settled all' settled'
 
-pub record After (turn : Turn) (sys : System) (host : ℕ) (floor : Option ℕ) (named : Option Named) (t : Task) (s : Seen) (all : List File) (settled : ℕ) : Type 0 where
+pub record After (turn : Turn) (sys : System) (host : ℕ) (floor : Option ℕ) (named : Option Named) (t : Task) (s : SharedState) (all : List File) (settled : ℕ) : Type 0 where
   pub may : MaySay turn sys (record { task = t; floor = floor; named = named }) all settled
   pub core : Core sys s (list_after turn all) (settled_after turn settled)
-  pub task : GoesOn turn sys host (floor_after turn settled floor) s (list_after turn all) (settled_after turn settled)
+  pub task : TaskContinues turn sys host (floor_after turn settled floor) s (list_after turn all) (settled_after turn settled)
   pub change : Changes sys host s all settled (list_after turn all) (settled_after turn settled)

@@ -11,10 +11,10 @@ use Rattle.fam_format.specs.Layout.{gate_line, log_line}
 use Rattle.fam_format.specs.Log.{log_fault, gate_fault}
 use Rattle.fam_format.specs.Super.{magic_fault}
 use Rattle.fam_format.specs.Reading.{Reading, Lines, NoSuperblock, BadHeader, BadSlot, Sound, super_in, gate_in, read_slots, reading_of}
-use Rattle.fam_commands.specs.declared.place.Part.{Part}
-use Rattle.fam_commands.specs.declared.place.Part.TheVariants.{Superblock, Header, Slot, File as FileLines}
-use Rattle.fam_commands.specs.declared.place.Place.{Place}
-use Rattle.fam_commands.specs.declared.place.Place.TheVariants as at
+use Rattle.fam_commands.specs.declared.phase.Part.{Part}
+use Rattle.fam_commands.specs.declared.phase.Part.TheVariants.{Superblock, Header, Slot, File as FileLines}
+use Rattle.fam_commands.specs.declared.phase.Phase.{Phase}
+use Rattle.fam_commands.specs.declared.phase.Phase.TheVariants as at
 use Rattle.fam_machine.specs.OneLine.{IsDirty}
 use Rattle.fam_commands.specs.Task.{Task, part_count, part_line}
 use Rattle.fam_commands.specs.Turns.{Turn, Goes, Marks, Finds, Writes, Ends, slots_read}
@@ -24,14 +24,14 @@ use Rattle.fam_rules.specs.Place.{line_bytes}
 use Rattle.fam_rules.specs.Reply.{Reply, NotAppended, Reports, Appended, Played, Same, Differs, Length, Bytes, NotFound, IsDirectory, Checks}
 use Rattle.fam_rules.specs.Reply as reply
 use Rattle.fam_rules.specs.Reports.{report_of, report_by, survey_slots}
-use Rattle.fam_protocol.specs.Seen.{Seen}
+use Rattle.fam_protocol.specs.SharedState.{SharedState}
 use Rattle.fam_protocol.specs.Lines.{Fresh}
 use Rattle.fam_protocol.specs.Core.{IsWide}
 use Rattle.fam_protocol.specs.Tasks.{NoSlot, HasLoaded, part_words}
 use Rattle.fam_format.specs.Line.{line_words}
 
 -- memory is the image that was there, which reads as no sound file system, and no cache has anything to send
-pub record Still (image : Lines) (have : ℕ) (s : Seen) : Type 0 where
+pub record Still (image : Lines) (have : ℕ) (s : SharedState) : Type 0 where
   pub wide : IsWide s
   pub memory : (l : ℕ) → s.memory l ≡ image l
   pub clean : (h l : ℕ) → IsDirty (s.copy h l) → ⊥
@@ -77,30 +77,30 @@ OnBadPart Header image have t = NoSlot t × ReadsSuper image have t
 OnBadPart (Slot i) image have t = ReadsSlots image have i t × (i < slots_read t)
 OnBadPart FileLines image have t = ⊥
 
--- a task at its place. It never comes to an append
-abbrev pub AtBadPlace : Place → Lines → ℕ → ℕ → Task → Seen → Type 0
-AtBadPlace at.DropMagic image have host t s = NoSlot t
-AtBadPlace at.Magic image have host t s = NoSlot t × Fresh (s.memory 0) (s.copy host 0)
-AtBadPlace (at.Drop part j) image have host t s = OnBadPart part image have t × (j < part_count t part) × HasLoaded image t part j 0
-AtBadPlace (at.Word part j k) image have host t s =
+-- A task in its phase. It never comes to an append
+abbrev pub AtDamagedPhase : Phase → Lines → ℕ → ℕ → Task → SharedState → Type 0
+AtDamagedPhase at.DropMagic image have host t s = NoSlot t
+AtDamagedPhase at.Magic image have host t s = NoSlot t × Fresh (s.memory 0) (s.copy host 0)
+AtDamagedPhase (at.Drop part j) image have host t s = OnBadPart part image have t × (j < part_count t part) × HasLoaded image t part j 0
+AtDamagedPhase (at.Word part j k) image have host t s =
     OnBadPart part image have t × (j < part_count t part) × (k < line_words) × Fresh (s.memory (part_line t part j)) (s.copy host (part_line t part j)) × HasLoaded image t part j k
-AtBadPlace at.DropGate image have host t s = NoSlot t × (t.words ≡ []) × ReadsHeader image have t
-AtBadPlace at.Gate image have host t s =
+AtDamagedPhase at.DropGate image have host t s = NoSlot t × (t.words ≡ []) × ReadsHeader image have t
+AtDamagedPhase at.Gate image have host t s =
     NoSlot t × (t.words ≡ []) × ReadsHeader image have t × Fresh (s.memory gate_line) (s.copy host gate_line)
-AtBadPlace (at.Check i) image have host t s = ReadsSlots image have i t × (i < slots_read t) × (t.words ≡ part_words image t (Slot i))
-AtBadPlace at.Decide image have host t s = ReadsSlots image have (slots_read t) t
-AtBadPlace (at.StoreData j k) image have host t s = ⊥
-AtBadPlace (at.SendData j) image have host t s = ⊥
-AtBadPlace (at.StoreSlot j k) image have host t s = ⊥
-AtBadPlace (at.SendSlot j) image have host t s = ⊥
-AtBadPlace at.StoreGate image have host t s = ⊥
-AtBadPlace at.SendGate image have host t s = ⊥
+AtDamagedPhase (at.Check i) image have host t s = ReadsSlots image have i t × (i < slots_read t) × (t.words ≡ part_words image t (Slot i))
+AtDamagedPhase at.Decide image have host t s = ReadsSlots image have (slots_read t) t
+AtDamagedPhase (at.StoreData j k) image have host t s = ⊥
+AtDamagedPhase (at.SendData j) image have host t s = ⊥
+AtDamagedPhase (at.StoreSlot j k) image have host t s = ⊥
+AtDamagedPhase (at.SendSlot j) image have host t s = ⊥
+AtDamagedPhase at.StoreGate image have host t s = ⊥
+AtDamagedPhase at.SendGate image have host t s = ⊥
 
--- a task is its host's, of an image of this size, and what its place says holds
-pub record BadTaskHolds (image : Lines) (have : ℕ) (uuid : ℕ → Option (List ℕ)) (host : ℕ) (t : Task) (s : Seen) : Type 0 where
+-- a task is its host's, of an image of this size, and what its phase says holds
+pub record BadTaskHolds (image : Lines) (have : ℕ) (uuid : ℕ → Option (List ℕ)) (host : ℕ) (t : Task) (s : SharedState) : Type 0 where
   pub me : uuid host ≡ Some t.me
   pub lines : line_bytes * t.lines ≡ have
-  pub place : AtBadPlace t.place image have host t s
+  pub phase : AtDamagedPhase t.phase image have host t s
 
 -- What a turn may say.
 
@@ -112,7 +112,7 @@ fault_of (BadSlot i reason) = Some (reply.BadSlot i reason)
 fault_of (Sound p entries) = None
 
 -- the superblock reads, and names another host
-pub record IsBadStranger (image : Lines) (have : ℕ) (t : Task) (me master : List ℕ) : Type 0 where
+pub record IsBadClient (image : Lines) (have : ℕ) (t : Task) (me master : List ℕ) : Type 0 where
   pub params : Params
   pub super : super_in image have ≡ Ok params
   pub me_is : me ≡ t.me
@@ -121,7 +121,7 @@ pub record IsBadStranger (image : Lines) (have : ℕ) (t : Task) (me master : Li
 
 -- the refusal of another host than the master
 abbrev pub MayRefuseBad : Refused → Lines → ℕ → Task → Type 0
-MayRefuseBad (NotMaster me master) image have t = IsBadStranger image have t me master
+MayRefuseBad (NotMaster me master) image have t = IsBadClient image have t me master
 MayRefuseBad BadStripe image have t = ⊥
 MayRefuseBad (Exists kind) image have t = ⊥
 MayRefuseBad NoParent image have t = ⊥
@@ -160,7 +160,7 @@ MaySayBad (Finds n next) image have t = FindsBad image have n
 MaySayBad (Writes seq e next) image have t = ⊥
 MaySayBad (Ends reply) image have t = MayReplyBad reply image have t
 
-abbrev pub GoesOnBad : Turn → Lines → ℕ → (ℕ → Option (List ℕ)) → ℕ → Seen → Type 0
+abbrev pub GoesOnBad : Turn → Lines → ℕ → (ℕ → Option (List ℕ)) → ℕ → SharedState → Type 0
 GoesOnBad (Goes t) image have uuid host s = BadTaskHolds image have uuid host t s
 GoesOnBad (Marks t) image have uuid host s = BadTaskHolds image have uuid host t s
 GoesOnBad (Finds n t) image have uuid host s = BadTaskHolds image have uuid host t s

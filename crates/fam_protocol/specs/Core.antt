@@ -15,7 +15,7 @@ use Rattle.fam_rules.specs.Asks.{File, entries_of}
 use Rattle.fam_rules.specs.Content.{byte_in}
 use Rattle.fam_rules.specs.Place.{line_bytes}
 use Rattle.fam_rules.specs.Written.{file_line}
-use Rattle.fam_protocol.specs.Seen.{Seen}
+use Rattle.fam_protocol.specs.SharedState.{SharedState}
 use Rattle.fam_protocol.specs.Lines.{gate_of, top}
 use Rattle.fam_format.specs.Line.{line_words}
 
@@ -51,31 +51,31 @@ abbrev pub IsFileLine : Entry → ℕ → Type 0
 IsFileLine e l = (j : ℕ) × (line_bytes * j < e.size) × (l ≡ file_line e j)
 
 -- a line of entry i: of its slot, or of its file
-abbrev pub IsLineOf : Params → ℕ → Entry → ℕ → Type 0
-IsLineOf p i e l = IsSlotLine p i l ⊎ IsFileLine e l
+abbrev pub IsEntryLine : Params → ℕ → Entry → ℕ → Type 0
+IsEntryLine p i e l = IsSlotLine p i l ⊎ IsFileLine e l
 
 -- memory holds entry i: its slot reads as the entry, and its file's lines have its bytes. What stands behind the
 -- last byte in a line is not looked at
-pub record Stands (p : Params) (memory : ℕ → List ℕ) (i : ℕ) (f : File) : Type 0 where
+pub record EntryStands (p : Params) (memory : ℕ → List ℕ) (i : ℕ) (f : File) : Type 0 where
   pub slot : slot_in memory p i ≡ Ok f.entry
   pub bytes : (o : ℕ) → o < f.entry.size → byte_in (memory (file_line f.entry (o / line_bytes))) (o % line_bytes) ≡ slice_index f.bytes o
 
 -- the master's copy of a line, absent where no declared host is the master
-abbrev pub masters_copy : Option ℕ → Seen → ℕ → Cell
+abbrev pub masters_copy : Option ℕ → SharedState → ℕ → Cell
 masters_copy None s l = Absent
 masters_copy (Some h) s l = s.copy h l
 
 -- the larger of memory's gate and one that the master's cache has not sent
-abbrev pub top_of : System → Seen → ℕ
+abbrev pub top_of : System → SharedState → ℕ
 top_of sys s = top (s.memory gate_line) (masters_copy sys.master s gate_line)
 
 -- lines have eight words, in memory and in caches
-pub record IsWide (s : Seen) : Type 0 where
+pub record IsWide (s : SharedState) : Type 0 where
   pub memory : (l : ℕ) → length (s.memory l) ≡ line_words
   pub copies : (h l : ℕ) → length (current (s.memory l) (s.copy h l)) ≡ line_words
 
 -- superblock and header stand in memory, and no cache has anything to send over them
-pub record HasHead (sys : System) (s : Seen) : Type 0 where
+pub record HeadStands (sys : System) (s : SharedState) : Type 0 where
   pub sound : SoundParams sys.params
   pub device : sys.params.device ≤ sys.have
   pub super : super_in s.memory sys.have ≡ Ok sys.params
@@ -87,9 +87,9 @@ pub record IsMaster (sys : System) : Type 0 where
   pub is : (h : ℕ) → sys.master ≡ Some h → sys.uuid h ≡ Some sys.params.master
   pub only : (h : ℕ) → sys.uuid h ≡ Some sys.params.master → sys.master ≡ Some h
 
-pub record Core (sys : System) (s : Seen) (all : List File) (settled : ℕ) : Type 0 where
+pub record Core (sys : System) (s : SharedState) (all : List File) (settled : ℕ) : Type 0 where
   pub wide : IsWide s
-  pub head : HasHead sys s
+  pub head : HeadStands sys s
   pub named : IsMaster sys
   -- nobody but the master holds a line that memory lacks
   pub only_master : (h l : ℕ) → IsDirty (s.copy h l) → sys.master ≡ Some h
@@ -101,5 +101,5 @@ pub record Core (sys : System) (s : Seen) (all : List File) (settled : ℕ) : Ty
   pub room : length all ≤ sys.params.slots
   pub history : IsHistory sys.params all
   -- what is below the gate that was stored last stands in memory, and no cache has anything to send over its lines
-  pub stands : (i : ℕ) (f : File) → slice_get all i ≡ Some f → i < top_of sys s → Stands sys.params s.memory i f
-  pub clean : (i : ℕ) (f : File) (h l : ℕ) → slice_get all i ≡ Some f → i < top_of sys s → IsLineOf sys.params i f.entry l → IsDirty (s.copy h l) → ⊥
+  pub stands : (i : ℕ) (f : File) → slice_get all i ≡ Some f → i < top_of sys s → EntryStands sys.params s.memory i f
+  pub clean : (i : ℕ) (f : File) (h l : ℕ) → slice_get all i ≡ Some f → i < top_of sys s → IsEntryLine sys.params i f.entry l → IsDirty (s.copy h l) → ⊥

@@ -12,17 +12,17 @@ use Rattle.fam_machine.specs.OneLine.{IsDirty}
 use Rattle.fam_commands.specs.Task.{starting}
 use Rattle.fam_rules.specs.Place.{line_bytes}
 use Rattle.fam_rules.specs.Written.{zero_line}
-use Rattle.fam_protocol.specs.Seen.{Seen}
+use Rattle.fam_protocol.specs.SharedState.{SharedState}
 use Rattle.fam_protocol.specs.Core.{IsHeadLine}
 use Rattle.fam_protocol.specs.Tasks.{IsCommand}
-use Rattle.fam_protocol.specs.Way.{Hosts}
+use Rattle.fam_protocol.specs.Invariant.{Hosts}
 use Rattle.fam_format.specs.Line.{line_words}
 
 -- a host is declared, with a UUID that no other declared host has. Its cache is empty, as that of each host that
 -- isn't declared
 pub record Declares (host : ℕ) (id : List ℕ) (old new : Hosts) : Type 0 where
   pub fresh : old.uuid host ≡ None
-  pub alone : (h : ℕ) → old.uuid h ≢ Some id
+  pub solo : (h : ℕ) → old.uuid h ≢ Some id
   pub is : new.uuid host ≡ Some id
   pub uuids : (h : ℕ) → h ≢ host → new.uuid h ≡ old.uuid h
   pub runs : (h : ℕ) → new.run h ≡ old.run h
@@ -44,7 +44,7 @@ pub record Stops (host : ℕ) (old new : Hosts) : Type 0 where
 
 -- what making a file system leaves of memory and of the maker's cache: the lines of superblock, header and gate, of
 -- which the maker has no copy. Any other line of memory and of the maker's cache may be otherwise than before
-pub record Formats (maker : ℕ) (p : Params) (old new : Seen) : Type 0 where
+pub record Formats (maker : ℕ) (p : Params) (old new : SharedState) : Type 0 where
   pub magic : new.memory 0 ≡ magic_line
   pub first : new.memory 1 ≡ slice_range (super_words p) 0 line_words
   pub second : new.memory 2 ≡ slice_range (super_words p) line_words (2 * line_words)
@@ -56,7 +56,7 @@ pub record Formats (maker : ℕ) (p : Params) (old new : Seen) : Type 0 where
 
 -- a declared host may make a file system of these parameters on an image of so many lines: no host has a task, and
 -- no other than the maker's cache has anything to send
-pub record MayFormat (maker : ℕ) (p : Params) (lines : ℕ) (hosts : Hosts) (s : Seen) : Type 0 where
+pub record MayFormat (maker : ℕ) (p : Params) (lines : ℕ) (hosts : Hosts) (s : SharedState) : Type 0 where
   pub sound : SoundParams p
   pub device : p.device ≤ line_bytes * lines
   pub maker_is : hosts.uuid maker ≡ Some p.master

@@ -7,19 +7,19 @@ use Rattle.fam_format.specs.Layout.{geometry}
 use Rattle.fam_format.specs.Reading.{Lines}
 use Rattle.fam_format.specs.ReadingLaws.{HasWords}
 use Rattle.fam_format.specs.Slot.{entry_of, spelling}
-use Rattle.fam_commands.specs.declared.place.Place.{Place}
-use Rattle.fam_commands.specs.declared.place.Place.TheVariants as at
+use Rattle.fam_commands.specs.declared.phase.Phase.{Phase}
+use Rattle.fam_commands.specs.declared.phase.Phase.TheVariants as at
 use Rattle.fam_commands.specs.Task.{Task, first_line}
 use Rattle.fam_rules.specs.declared.answers.Refused.{Refused}
 use Rattle.fam_rules.specs.declared.answers.Refused.TheVariants.{NotMaster, BadStripe, Exists, NoParent, ParentIsFile, LogFull, NoSpace}
 use Rattle.fam_rules.specs.Asks.{File, file_at}
 use Rattle.fam_rules.specs.Place.{line_bytes}
 use Rattle.fam_rules.specs.Reply.{Reply, Played, Same, Differs, Length, Bytes, NotFound, IsDirectory, Checks, NoSuperblock, BadHeader, BadSlot, Appended, NotAppended, Reports}
-use Rattle.fam_protocol.specs.Seen.{Seen}
+use Rattle.fam_protocol.specs.SharedState.{SharedState}
 use Rattle.fam_protocol.specs.Lines.{IsAtLeast}
 use Rattle.fam_protocol.specs.Tasks.{HasRead, wanted_path}
 use Rattle.fam_protocol.specs.After.{IsPastGate, Run}
-use Rattle.fam_protocol.specs.Way.{Hosts, Known, Damaged, Way}
+use Rattle.fam_protocol.specs.Invariant.{Hosts, Known, Damaged, Invariant}
 use Rattle.fam_protocol.specs.Steps.{Steps}
 
 -- Moments of a run.
@@ -28,8 +28,8 @@ use Rattle.fam_protocol.specs.Steps.{Steps}
 pub record SoundTask (p : Params) (all : List File) (settled : ℕ) : Type 0 where
   pub lines : ℕ
   pub hosts : Hosts
-  pub seen : Seen
-  pub way : Way (Known p all settled) lines hosts seen
+  pub shared : SharedState
+  pub invariant : Invariant (Known p all settled) lines hosts shared
   pub host : ℕ
   pub run : Run
   pub runs : hosts.run host ≡ Some run
@@ -39,9 +39,9 @@ pub record SoundStep (p : Params) (all : List File) (settled : ℕ) : Type 0 whe
   pub lines : ℕ
   pub old : Hosts
   pub new : Hosts
-  pub before : Seen
-  pub after : Seen
-  pub way : Way (Known p all settled) lines old before
+  pub before : SharedState
+  pub after : SharedState
+  pub invariant : Invariant (Known p all settled) lines old before
   pub host : ℕ
   pub word : ℕ
   pub run : Run
@@ -51,9 +51,9 @@ pub record SoundStep (p : Params) (all : List File) (settled : ℕ) : Type 0 whe
 pub record DamagedStep (image : Lines) (lines : ℕ) : Type 0 where
   pub old : Hosts
   pub new : Hosts
-  pub before : Seen
-  pub after : Seen
-  pub way : Way (Damaged image) lines old before
+  pub before : SharedState
+  pub after : SharedState
+  pub invariant : Invariant (Damaged image) lines old before
   pub host : ℕ
   pub word : ℕ
   pub run : Run
@@ -62,21 +62,21 @@ pub record DamagedStep (image : Lines) (lines : ℕ) : Type 0 where
 -- Places.
 
 -- the task has loaded the gate, and reads or decides
-abbrev pub HasGate : Place → Type 0
-HasGate (at.Drop part j) = IsPastGate part
-HasGate (at.Word part j k) = IsPastGate part
-HasGate (at.Check i) = ⊤
-HasGate at.Decide = ⊤
-HasGate at.DropMagic = ⊥
-HasGate at.Magic = ⊥
-HasGate at.DropGate = ⊥
-HasGate at.Gate = ⊥
-HasGate (at.StoreData j k) = ⊥
-HasGate (at.SendData j) = ⊥
-HasGate (at.StoreSlot j k) = ⊥
-HasGate (at.SendSlot j) = ⊥
-HasGate at.StoreGate = ⊥
-HasGate at.SendGate = ⊥
+abbrev pub HasLoadedGate : Phase → Type 0
+HasLoadedGate (at.Drop part j) = IsPastGate part
+HasLoadedGate (at.Word part j k) = IsPastGate part
+HasLoadedGate (at.Check i) = ⊤
+HasLoadedGate at.Decide = ⊤
+HasLoadedGate at.DropMagic = ⊥
+HasLoadedGate at.Magic = ⊥
+HasLoadedGate at.DropGate = ⊥
+HasLoadedGate at.Gate = ⊥
+HasLoadedGate (at.StoreData j k) = ⊥
+HasLoadedGate (at.SendData j) = ⊥
+HasLoadedGate (at.StoreSlot j k) = ⊥
+HasLoadedGate (at.SendSlot j) = ⊥
+HasLoadedGate at.StoreGate = ⊥
+HasLoadedGate at.SendGate = ⊥
 
 -- What was loaded.
 
@@ -145,11 +145,11 @@ IsOfFault (Checks m checked) = ⊥
 IsOfFault (Reports report) = ⊥
 
 -- a refusal for another cause than the host
-abbrev pub IsOfCommand : Refused → Type 0
-IsOfCommand (NotMaster me master) = ⊥
-IsOfCommand BadStripe = ⊤
-IsOfCommand (Exists kind) = ⊤
-IsOfCommand NoParent = ⊤
-IsOfCommand ParentIsFile = ⊤
-IsOfCommand (LogFull slots) = ⊤
-IsOfCommand (NoSpace units) = ⊤
+abbrev pub IsOfDecision : Refused → Type 0
+IsOfDecision (NotMaster me master) = ⊥
+IsOfDecision BadStripe = ⊤
+IsOfDecision (Exists kind) = ⊤
+IsOfDecision NoParent = ⊤
+IsOfDecision ParentIsFile = ⊤
+IsOfDecision (LogFull slots) = ⊤
+IsOfDecision (NoSpace units) = ⊤

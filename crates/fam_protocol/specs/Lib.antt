@@ -1,11 +1,11 @@
-pub mod Seen
+pub mod SharedState
 pub mod Hosted
 pub mod Lines
 pub mod Core
 pub mod Tasks
 pub mod After
 pub mod Bad
-pub mod Way
+pub mod Invariant
 pub mod Events
 pub mod Steps
 pub mod Findings

@@ -7,10 +7,10 @@ use Rattle.fam_commands.specs.Task.{op_of}
 use Rattle.fam_commands.specs.Turns.{Turn, Goes, Marks, Finds, Writes, Ends}
 use Rattle.fam_rules.specs.Asks.{File}
 use Rattle.fam_rules.specs.Place.{line_bytes}
-use Rattle.fam_protocol.specs.Seen.{Seen, Operates}
+use Rattle.fam_protocol.specs.SharedState.{SharedState, Operates}
 use Rattle.fam_protocol.specs.After.{Run, MaySay, list_after, settled_after}
 use Rattle.fam_protocol.specs.Bad.{MaySayBad}
-use Rattle.fam_protocol.specs.Way.{Hosts, Settled, Small, Damaged, Known, Way}
+use Rattle.fam_protocol.specs.Invariant.{Hosts, Settled, Small, Damaged, Known, Invariant}
 
 -- the history's length, where there is a history
 abbrev pub settled_count : Settled → ℕ
@@ -44,7 +44,7 @@ TurnSays turn r (Damaged image) lines hosts = MaySayBad turn image (line_bytes *
 TurnSays turn r (Known p all settled) lines hosts = MaySayOf turn r p all settled lines hosts
 
 -- a host's task does its operation, which gave this word if it is a load, and takes its turn
-pub record Steps (host word : ℕ) (settled : Settled) (r : Run) (old new : Hosts) (s s' : Seen) : Type 0 where
+pub record Steps (host word : ℕ) (settled : Settled) (r : Run) (old new : Hosts) (s s' : SharedState) : Type 0 where
   pub is : old.run host ≡ Some r
   pub operates : Operates (op_of r.task) host s s' word
   pub uuids : (h : ℕ) → new.uuid h ≡ old.uuid h
@@ -52,6 +52,6 @@ pub record Steps (host word : ℕ) (settled : Settled) (r : Run) (old new : Host
   pub runs : (h : ℕ) → h ≢ host → new.run h ≡ old.run h
 
 -- it says what it may, and everything holds again
-pub record StepHolds (settled : Settled) (lines word : ℕ) (r : Run) (old new : Hosts) (s' : Seen) : Type 0 where
+pub record StepHolds (settled : Settled) (lines word : ℕ) (r : Run) (old new : Hosts) (s' : SharedState) : Type 0 where
   pub says : TurnSays (turn_given r.task word) r settled lines old
-  pub way : Way (turn_settles (turn_given r.task word) settled) lines new s'
+  pub invariant : Invariant (turn_settles (turn_given r.task word) settled) lines new s'

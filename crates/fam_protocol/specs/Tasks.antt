@@ -1,4 +1,4 @@
--- What holds of one task, by the place where it stands, while the file system is sound. docs/MODEL.md, "The protocol".
+-- What holds of one task, by its phase, while the file system is sound. docs/MODEL.md, "The protocol".
 use Rattle.std.specs.Prelude.{ℕ, ⊤, ◌≡◌, ◌+◌, ◌-◌, ◌*◌, ◌/◌, ◌%◌, ◌<◌, ◌≤◌, min, List, [], length, map, take, drop, slice_get, slice_index, Option, Some, None}
 use Rattle.std.specs.List.{enumerate_from, range_with_len}
 use Rattle.fam_base.specs.declared.cmd.Cmd.{Cmd}
@@ -9,10 +9,10 @@ use Rattle.fam_base.specs.declared.entry.Kind.TheVariants as kind
 use Rattle.fam_format.specs.Layout.{geometry, gate_line, slot_line}
 use Rattle.fam_format.specs.Line.{line_bytes, line_words}
 use Rattle.fam_format.specs.Slot.{spelling}
-use Rattle.fam_commands.specs.declared.place.Part.{Part}
-use Rattle.fam_commands.specs.declared.place.Part.TheVariants.{Superblock, Header, Slot, File as FileLines}
-use Rattle.fam_commands.specs.declared.place.Place.{Place}
-use Rattle.fam_commands.specs.declared.place.Place.TheVariants as at
+use Rattle.fam_commands.specs.declared.phase.Part.{Part}
+use Rattle.fam_commands.specs.declared.phase.Part.TheVariants.{Superblock, Header, Slot, File as FileLines}
+use Rattle.fam_commands.specs.declared.phase.Phase.{Phase}
+use Rattle.fam_commands.specs.declared.phase.Phase.TheVariants as at
 use Rattle.fam_commands.specs.Task.{Task, content_of, data_words, line_of, part_count, part_line, size_of, start_slot}
 use Rattle.fam_commands.specs.Turns.{slots_read}
 use Rattle.fam_rules.specs.Asks.{File, entries_of, file_at}
@@ -21,7 +21,7 @@ use Rattle.fam_rules.specs.Decide.{Wish, wish_of}
 use Rattle.fam_rules.specs.DecideLaws.{IsSoundWish}
 use Rattle.fam_rules.specs.Reports.{Survey, no_survey}
 use Rattle.fam_rules.specs.Written.{slot_part}
-use Rattle.fam_protocol.specs.Seen.{Seen}
+use Rattle.fam_protocol.specs.SharedState.{SharedState}
 use Rattle.fam_protocol.specs.Lines.{IsAtLeast, Fresh, FreshGate, Holding, Finished, gate_of}
 use Rattle.fam_protocol.specs.Core.{System, top_of}
 
@@ -62,16 +62,16 @@ HasLoaded memory t part j k =
     t.words ≡ take (line_words * j + k - kept_from t.cmd part j) (drop (kept_from t.cmd part j) (part_words memory t part))
 
 -- lines that no writer may touch while they are read: all but the slots past the gate
-abbrev pub IsSure : Task → Part → Type 0
-IsSure t Superblock = ⊤
-IsSure t Header = ⊤
-IsSure t (Slot i) = i < t.gate
-IsSure t FileLines = ⊤
+abbrev pub IsStable : Task → Part → Type 0
+IsStable t Superblock = ⊤
+IsStable t Header = ⊤
+IsStable t (Slot i) = i < t.gate
+IsStable t FileLines = ⊤
 
 -- a line that is being read: it was dropped, so a copy that came back is memory's
-abbrev pub IsReading : ℕ → Task → Part → ℕ → ℕ → Seen → Type 0
-IsReading host t part j k s =
-    IsSure t part → Fresh (s.memory (part_line t part j)) (s.copy host (part_line t part j)) × HasLoaded s.memory t part j k
+abbrev pub IsBeingRead : ℕ → Task → Part → ℕ → ℕ → SharedState → Type 0
+IsBeingRead host t part j k s =
+    IsStable t part → Fresh (s.memory (part_line t part j)) (s.copy host (part_line t part j)) × HasLoaded s.memory t part j k
 
 -- no slot is read: the task is to read from the start on
 pub record NoSlot (t : Task) : Type 0 where
@@ -86,7 +86,7 @@ pub record KnowsHead (sys : System) (host : ℕ) (t : Task) : Type 0 where
 
 -- the gate is loaded: it counts all that was settled at the mark, and no more than memory's does. A command that
 -- appends has found the whole history, and nothing pending
-pub record KnowsGate (host : ℕ) (floor : Option ℕ) (t : Task) (s : Seen) (all : List File) (settled : ℕ) : Type 0 where
+pub record KnowsGate (host : ℕ) (floor : Option ℕ) (t : Task) (s : SharedState) (all : List File) (settled : ℕ) : Type 0 where
   pub low : IsAtLeast floor t.gate
   pub high : t.gate ≤ gate_of (s.memory gate_line)
   pub writer : (w : Wish) → wish_of t.cmd ≡ Some w → (settled ≡ t.gate) × (length all ≡ t.gate)
@@ -163,23 +163,23 @@ pub record ReadsFile (t : Task) (all : List File) (j : ℕ) : Type 0 where
   pub same : IsSameBelow t.cmd file (line_bytes * j)
 
 -- all slots are read
-pub record HasReadAll (host : ℕ) (floor : Option ℕ) (t : Task) (s : Seen) (all : List File) (settled : ℕ) : Type 0 where
+pub record HasReadAll (host : ℕ) (floor : Option ℕ) (t : Task) (s : SharedState) (all : List File) (settled : ℕ) : Type 0 where
   pub gate : KnowsGate host floor t s all settled
   pub read : HasRead t.cmd (slots_read t) t all
 
 -- slot i comes next
-pub record IsAtSlot (i host : ℕ) (floor : Option ℕ) (t : Task) (s : Seen) (all : List File) (settled : ℕ) : Type 0 where
+pub record IsAtSlot (i host : ℕ) (floor : Option ℕ) (t : Task) (s : SharedState) (all : List File) (settled : ℕ) : Type 0 where
   pub gate : KnowsGate host floor t s all settled
   pub below : i < slots_read t
   pub read : HasRead t.cmd i t all
 
 -- line j of the file comes next
-pub record IsAtFile (j host : ℕ) (floor : Option ℕ) (t : Task) (s : Seen) (all : List File) (settled : ℕ) : Type 0 where
+pub record IsAtFile (j host : ℕ) (floor : Option ℕ) (t : Task) (s : SharedState) (all : List File) (settled : ℕ) : Type 0 where
   pub all_read : HasReadAll host floor t s all settled
   pub file : ReadsFile t all j
 
 -- what is known when line j of a part is read
-abbrev pub OnPart : Part → ℕ → System → ℕ → Option ℕ → Task → Seen → List File → ℕ → Type 0
+abbrev pub OnPart : Part → ℕ → System → ℕ → Option ℕ → Task → SharedState → List File → ℕ → Type 0
 OnPart Superblock j sys host floor t s all settled = NoSlot t
 OnPart Header j sys host floor t s all settled = NoSlot t × KnowsHead sys host t
 OnPart (Slot i) j sys host floor t s all settled = KnowsHead sys host t × IsAtSlot i host floor t s all settled
@@ -188,7 +188,7 @@ OnPart FileLines j sys host floor t s all settled = KnowsHead sys host t × IsAt
 -- Writing.
 
 -- the entry is named and not yet published: it is the last of all, and the gate doesn't count it
-pub record IsWriting (sys : System) (host : ℕ) (t : Task) (s : Seen) (all : List File) (settled : ℕ) : Type 0 where
+pub record IsWriting (sys : System) (host : ℕ) (t : Task) (s : SharedState) (all : List File) (settled : ℕ) : Type 0 where
   pub master : sys.master ≡ Some host
   pub params : t.params ≡ sys.params
   pub settled_is : settled ≡ t.gate
@@ -202,42 +202,42 @@ pub record IsWriting (sys : System) (host : ℕ) (t : Task) (s : Seen) (all : Li
   pub words : t.words ≡ spelling (geometry sys.params) file.entry t.gate
 
 -- the first so many lines of the new file are finished
-abbrev pub HasData : ℕ → ℕ → Task → Seen → Type 0
+abbrev pub HasData : ℕ → ℕ → Task → SharedState → Type 0
 HasData count host t s =
     (b : ℕ) → b < count → line_bytes * b < size_of t.entry → Finished (data_words t b) (s.memory (line_of t.entry b)) (s.copy host (line_of t.entry b))
 
 -- so are all of them
-abbrev pub HasAllData : ℕ → Task → Seen → Type 0
+abbrev pub HasAllData : ℕ → Task → SharedState → Type 0
 HasAllData host t s = (count : ℕ) → HasData count host t s
 
 -- the first so many lines of the new slot are finished
-abbrev pub HasSlot : ℕ → ℕ → Task → Seen → Type 0
-HasSlot count host t s =
+abbrev pub HasWrittenLines : ℕ → ℕ → Task → SharedState → Type 0
+HasWrittenLines count host t s =
     (b : ℕ) → b < count → Finished (slot_part t.words b) (s.memory (slot_line t.params t.gate b)) (s.copy host (slot_line t.params t.gate b))
 
 -- k words of line j of the new file are stored
-pub record StoresData (j k : ℕ) (sys : System) (host : ℕ) (t : Task) (s : Seen) (all : List File) (settled : ℕ) : Type 0 where
+pub record StoresData (j k : ℕ) (sys : System) (host : ℕ) (t : Task) (s : SharedState) (all : List File) (settled : ℕ) : Type 0 where
   pub writing : IsWriting sys host t s all settled
   pub line : line_bytes * j < writing.file.entry.size
   pub before : HasData j host t s
   pub here : Holding k (data_words t j) (s.memory (line_of t.entry j)) (s.copy host (line_of t.entry j))
 
 -- k words of line j of the new slot are stored
-pub record StoresSlot (j k : ℕ) (sys : System) (host : ℕ) (t : Task) (s : Seen) (all : List File) (settled : ℕ) : Type 0 where
+pub record StoresSlot (j k : ℕ) (sys : System) (host : ℕ) (t : Task) (s : SharedState) (all : List File) (settled : ℕ) : Type 0 where
   pub writing : IsWriting sys host t s all settled
   pub line : j < (geometry sys.params).lines
   pub contents : HasAllData host t s
-  pub before : HasSlot j host t s
+  pub before : HasWrittenLines j host t s
   pub here : Holding k (slot_part t.words j) (s.memory (slot_line t.params t.gate j)) (s.copy host (slot_line t.params t.gate j))
 
 -- file and slot stand in memory
-pub record MayPublish (sys : System) (host : ℕ) (t : Task) (s : Seen) (all : List File) (settled : ℕ) : Type 0 where
+pub record MayPublish (sys : System) (host : ℕ) (t : Task) (s : SharedState) (all : List File) (settled : ℕ) : Type 0 where
   pub writing : IsWriting sys host t s all settled
   pub contents : HasAllData host t s
-  pub slot : HasSlot (geometry sys.params).lines host t s
+  pub slot : HasWrittenLines (geometry sys.params).lines host t s
 
 -- the gate is stored
-pub record HasPublished (sys : System) (host : ℕ) (t : Task) (s : Seen) (all : List File) : Type 0 where
+pub record HasPublished (sys : System) (host : ℕ) (t : Task) (s : SharedState) (all : List File) : Type 0 where
   pub master : sys.master ≡ Some host
   pub published : top_of sys s ≡ t.gate + 1
   pub pending : length all ≡ t.gate + 1
@@ -245,37 +245,37 @@ pub record HasPublished (sys : System) (host : ℕ) (t : Task) (s : Seen) (all :
   pub last : slice_get all t.gate ≡ Some file
   pub entry : t.entry ≡ Some file.entry
 
--- A task at its place. `floor` is what was settled at its mark, once it is made.
+-- A task in its phase. `floor` is what was settled at its mark, once it is made.
 
 -- the gate's line was dropped: a copy that came back is no older than the mark, and the master's is memory's
-pub record IsAtGate (sys : System) (host : ℕ) (floor : Option ℕ) (s : Seen) (settled : ℕ) : Type 0 where
+pub record IsAtGate (sys : System) (host : ℕ) (floor : Option ℕ) (s : SharedState) (settled : ℕ) : Type 0 where
   pub low : IsAtLeast floor settled
   pub copy : FreshGate floor (s.memory gate_line) (s.copy host gate_line)
   pub masters : sys.master ≡ Some host → Fresh (s.memory gate_line) (s.copy host gate_line)
 
-abbrev pub AtPlace : Place → System → ℕ → Option ℕ → Task → Seen → List File → ℕ → Type 0
-AtPlace at.DropMagic sys host floor t s all settled = NoSlot t
-AtPlace at.Magic sys host floor t s all settled = NoSlot t × Fresh (s.memory 0) (s.copy host 0)
-AtPlace (at.Drop part j) sys host floor t s all settled =
-    OnPart part j sys host floor t s all settled × (j < part_count t part) × (IsSure t part → HasLoaded s.memory t part j 0)
-AtPlace (at.Word part j k) sys host floor t s all settled =
-    OnPart part j sys host floor t s all settled × (j < part_count t part) × (k < line_words) × IsReading host t part j k s
-AtPlace at.DropGate sys host floor t s all settled = NoSlot t × (t.words ≡ []) × KnowsHead sys host t
-AtPlace at.Gate sys host floor t s all settled =
+abbrev pub AtPhase : Phase → System → ℕ → Option ℕ → Task → SharedState → List File → ℕ → Type 0
+AtPhase at.DropMagic sys host floor t s all settled = NoSlot t
+AtPhase at.Magic sys host floor t s all settled = NoSlot t × Fresh (s.memory 0) (s.copy host 0)
+AtPhase (at.Drop part j) sys host floor t s all settled =
+    OnPart part j sys host floor t s all settled × (j < part_count t part) × (IsStable t part → HasLoaded s.memory t part j 0)
+AtPhase (at.Word part j k) sys host floor t s all settled =
+    OnPart part j sys host floor t s all settled × (j < part_count t part) × (k < line_words) × IsBeingRead host t part j k s
+AtPhase at.DropGate sys host floor t s all settled = NoSlot t × (t.words ≡ []) × KnowsHead sys host t
+AtPhase at.Gate sys host floor t s all settled =
     NoSlot t × (t.words ≡ []) × KnowsHead sys host t × IsAtGate sys host floor s settled
-AtPlace (at.Check i) sys host floor t s all settled =
+AtPhase (at.Check i) sys host floor t s all settled =
     KnowsHead sys host t × IsAtSlot i host floor t s all settled × (i < t.gate → t.words ≡ part_words s.memory t (Slot i))
-AtPlace at.Decide sys host floor t s all settled = KnowsHead sys host t × HasReadAll host floor t s all settled
-AtPlace (at.StoreData j k) sys host floor t s all settled = (k < line_words) × StoresData j k sys host t s all settled
-AtPlace (at.SendData j) sys host floor t s all settled = StoresData j line_words sys host t s all settled
-AtPlace (at.StoreSlot j k) sys host floor t s all settled = (k < line_words) × StoresSlot j k sys host t s all settled
-AtPlace (at.SendSlot j) sys host floor t s all settled = StoresSlot j line_words sys host t s all settled
-AtPlace at.StoreGate sys host floor t s all settled = MayPublish sys host t s all settled
-AtPlace at.SendGate sys host floor t s all settled = HasPublished sys host t s all
+AtPhase at.Decide sys host floor t s all settled = KnowsHead sys host t × HasReadAll host floor t s all settled
+AtPhase (at.StoreData j k) sys host floor t s all settled = (k < line_words) × StoresData j k sys host t s all settled
+AtPhase (at.SendData j) sys host floor t s all settled = StoresData j line_words sys host t s all settled
+AtPhase (at.StoreSlot j k) sys host floor t s all settled = (k < line_words) × StoresSlot j k sys host t s all settled
+AtPhase (at.SendSlot j) sys host floor t s all settled = StoresSlot j line_words sys host t s all settled
+AtPhase at.StoreGate sys host floor t s all settled = MayPublish sys host t s all settled
+AtPhase at.SendGate sys host floor t s all settled = HasPublished sys host t s all
 
--- a task is its host's, of an image of this size, and what its place says holds
-pub record TaskHolds (sys : System) (host : ℕ) (floor : Option ℕ) (t : Task) (s : Seen) (all : List File) (settled : ℕ) : Type 0 where
+-- a task is its host's, of an image of this size, and what its phase says holds
+pub record TaskHolds (sys : System) (host : ℕ) (floor : Option ℕ) (t : Task) (s : SharedState) (all : List File) (settled : ℕ) : Type 0 where
   pub command : IsCommand t.cmd
   pub me : sys.uuid host ≡ Some t.me
   pub lines : line_bytes * t.lines ≡ sys.have
-  pub place : AtPlace t.place sys host floor t s all settled
+  pub phase : AtPhase t.phase sys host floor t s all settled

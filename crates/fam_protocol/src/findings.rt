@@ -9,19 +9,19 @@ ghost use Rattle.fam_format.specs.Reading.{BadSlot, Lines, gate_in, reading_of, 
 ghost use Rattle.fam_format.specs.declared.faults.Reason.{Reason};
 ghost use Rattle.fam_commands.specs.Stands.{turn_given};
 ghost use Rattle.fam_commands.specs.Task.{Task};
-ghost use Rattle.fam_commands.specs.Turns.{Ends, Finds, Writes, with_gate};
-ghost use Rattle.fam_commands.specs.declared.place.Part.{Part};
-ghost use Rattle.fam_commands.specs.declared.place.Place.{Place};
-ghost use Rattle.fam_protocol.specs.After.{HasNamed, IsAppended, IsAsked, IsRefused, IsReported, IsStranger};
-ghost use Rattle.fam_protocol.specs.Bad.{FindsBad, IsBadStranger, Still, fault_of};
+ghost use Rattle.fam_commands.specs.Turns.{Ends, Finds, Writes, gate_loaded};
+ghost use Rattle.fam_commands.specs.declared.phase.Part.{Part};
+ghost use Rattle.fam_commands.specs.declared.phase.Phase.{Phase};
+ghost use Rattle.fam_protocol.specs.After.{HasNamed, AppendsNamed, AnswersPrefix, RefusesWhole, ReportsPrefix, IsClient};
+ghost use Rattle.fam_protocol.specs.Bad.{FindsBad, IsBadClient, Still, fault_of};
 ghost use Rattle.fam_protocol.specs.Findings.{
   DamagedStep,
-  HasGate,
+  HasLoadedGate,
   IsCurrent,
   IsFoundCount,
   IsLoadedSlot,
   IsLoadedWord,
-  IsOfCommand,
+  IsOfDecision,
   IsOfEntries,
   IsOfFault,
   SoundStep,
@@ -40,24 +40,24 @@ ghost use Rattle.fam_rules.specs.declared.answers.Report.{Report};
 /// its own note named are those of the last one, which comes right behind those that its gate counts (`named`).
 pub fn a_loaded_gate_is_current()
     ensures loaded { (p : Params) (all : List File) (settled : ℕ) (at : SoundTask p all settled)
-        → HasGate at.run.task.place → IsCurrent at.run.floor at.run.task all }
+        → HasLoadedGate at.run.task.phase → IsCurrent at.run.floor at.run.task all }
     ensures named { (p : Params) (all : List File) (settled : ℕ) (at : SoundTask p all settled)
-        → HasNamed at.run.task.place → IsAppended at.run all at.run.task.gate }
+        → HasNamed at.run.task.phase → AppendsNamed at.run all at.run.task.gate }
 {}
 
 /// A slot below the loaded gate, once it is loaded whole, reads as the entry of the history that has its number; and
 /// the slots before it gave the entries before that one.
 pub fn loaded_slots_are_the_history()
     ensures { (p : Params) (all : List File) (settled i : ℕ) (at : SoundTask p all settled)
-        → at.run.task.place ≡ Place.Check i → i < at.run.task.gate
-        → IsLoadedSlot p i at.run.task all at.seen.memory }
+        → at.run.task.phase ≡ Phase.Check i → i < at.run.task.gate
+        → IsLoadedSlot p i at.run.task all at.shared.memory }
 {}
 
 /// A word of a file's line that a task loads has the bytes that were put there, as far as they are below the file's
 /// size. The file is the one of the command's path among the entries below the task's gate.
 pub fn loaded_bytes_are_those_put_there()
     ensures { (p : Params) (all : List File) (settled j k : ℕ) (step : SoundStep p all settled)
-        → step.run.task.place ≡ Place.Word Part.File j k
+        → step.run.task.phase ≡ Phase.Word Part.File j k
         → IsLoadedWord j k step.word step.run.task all }
 {}
 
@@ -75,33 +75,33 @@ pub fn the_master_finds_what_is_settled()
 {}
 
 /// What a command answers on a sound file system.
-pub fn an_answer_is_of_a_settled_front()
-    // An answer made of entries and bytes is the question's answer on a front of the history, which has all that was
+pub fn an_answer_is_of_a_settled_prefix()
+    // An answer made of entries and bytes is the question's answer on a prefix of the history, which has all that was
     // settled at the task's mark.
     ensures asked { (p : Params) (all : List File) (settled : ℕ) (reply : Reply)
         (step : SoundStep p all settled) → turn_given step.run.task step.word ≡ Ends reply
-        → IsOfEntries reply → IsAsked step.run.task step.run.floor all reply }
+        → IsOfEntries reply → AnswersPrefix step.run.task step.run.floor all reply }
 
     // So is the report of a check of the whole file system.
     ensures reported { (p : Params) (all : List File) (settled : ℕ) (report : Report)
         (step : SoundStep p all settled) → turn_given step.run.task step.word ≡ Ends (Reports report)
-        → IsReported p step.run.floor all report }
+        → ReportsPrefix p step.run.floor all report }
 
     // An entry that is appended is the last of all, and the one that the task's own note named, with that number.
     ensures appended { (p : Params) (all : List File) (settled seq : ℕ) (step : SoundStep p all settled)
         → turn_given step.run.task step.word ≡ Ends (Appended seq)
-        → IsAppended step.run all seq }
+        → AppendsNamed step.run all seq }
 
     // A refusal is the one that the rules decide of the whole history, with nothing pending; or the host is another
     // one than the master.
     ensures refused { (p : Params) (all : List File) (settled : ℕ) (refused : Refused)
         (step : SoundStep p all settled)
         → turn_given step.run.task step.word ≡ Ends (NotAppended refused)
-        → IsOfCommand refused → IsRefused p step.run.task all settled refused }
-    ensures stranger { (p : Params) (all : List File) (settled : ℕ) (me master : List ℕ)
+        → IsOfDecision refused → RefusesWhole p step.run.task all settled refused }
+    ensures client { (p : Params) (all : List File) (settled : ℕ) (me master : List ℕ)
         (step : SoundStep p all settled)
         → turn_given step.run.task step.word ≡ Ends (NotAppended (Refused.NotMaster me master))
-        → IsStranger p step.run.task me master }
+        → IsClient p step.run.task me master }
 
     // No task names a fault.
     ensures no_fault { (p : Params) (all : List File) (settled : ℕ) (reply : Reply)
@@ -128,10 +128,10 @@ pub fn a_damaged_image_names_its_fault()
     ensures not_appended { (image : Lines) (lines seq : ℕ) (step : DamagedStep image lines)
         → ¬ (turn_given step.run.task step.word ≡ Ends (Appended seq)) }
     ensures not_refused { (image : Lines) (lines : ℕ) (refused : Refused) (step : DamagedStep image lines)
-        → turn_given step.run.task step.word ≡ Ends (NotAppended refused) → ¬ (IsOfCommand refused) }
-    ensures stranger { (image : Lines) (lines : ℕ) (me master : List ℕ) (step : DamagedStep image lines)
+        → turn_given step.run.task step.word ≡ Ends (NotAppended refused) → ¬ (IsOfDecision refused) }
+    ensures client { (image : Lines) (lines : ℕ) (me master : List ℕ) (step : DamagedStep image lines)
         → turn_given step.run.task step.word ≡ Ends (NotAppended (Refused.NotMaster me master))
-        → IsBadStranger image (line_bytes * lines) step.run.task me master }
+        → IsBadClient image (line_bytes * lines) step.run.task me master }
 
     // Memory stays what it was, and nobody has anything to send.
     ensures same { (image : Lines) (lines : ℕ) (step : DamagedStep image lines)
@@ -148,9 +148,9 @@ pub fn a_damaged_gate_is_found()
     // It is noted as soon as the gate is loaded. Only the master comes so far, as the superblock names it.
     ensures noted { (image : Lines) (lines slot : ℕ) (reason : Reason) (wish : Wish) (step : DamagedStep image lines)
         → reading_of image (line_bytes * lines) ≡ BadSlot slot reason → wish_of step.run.task.cmd ≡ Some wish
-        → step.run.task.place ≡ Place.Gate
-        → turn_given step.run.task step.word ≡ Finds (gate_in image) (with_gate step.run.task (gate_in image)) }
+        → step.run.task.phase ≡ Phase.Gate
+        → turn_given step.run.task step.word ≡ Finds (gate_in image) (gate_loaded step.run.task (gate_in image)) }
     ensures master { (image : Lines) (lines : ℕ) (wish : Wish) (step : DamagedStep image lines)
-        → wish_of step.run.task.cmd ≡ Some wish → step.run.task.place ≡ Place.Gate
+        → wish_of step.run.task.cmd ≡ Some wish → step.run.task.phase ≡ Phase.Gate
         → (params : Params) × (super_in image (line_bytes * lines) ≡ Ok params) × (step.run.task.me ≡ params.master) }
 {}

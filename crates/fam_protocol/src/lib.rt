@@ -7,7 +7,7 @@ mod run;
 
 pub use findings::{
     a_damaged_gate_is_found, a_damaged_image_names_its_fault, a_loaded_gate_is_current,
-    an_answer_is_of_a_settled_front, loaded_bytes_are_those_put_there,
+    an_answer_is_of_a_settled_prefix, loaded_bytes_are_those_put_there,
     loaded_slots_are_the_history, the_master_finds_what_is_settled,
 };
 pub use hosted::{a_host_acts_on_its_machine, a_task_asks_for_lines_of_the_image};

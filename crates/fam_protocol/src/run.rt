@@ -8,9 +8,9 @@ ghost use Rattle.fam_format.specs.Layout.{device_limit, least_lines};
 ghost use Rattle.fam_protocol.specs.After.{Run};
 ghost use Rattle.fam_protocol.specs.Core.{IsWide};
 ghost use Rattle.fam_protocol.specs.Events.{Declares, Formats, MayFormat, Starts, Stops};
-ghost use Rattle.fam_protocol.specs.Seen.{DriftsAt, Loses, Seen};
+ghost use Rattle.fam_protocol.specs.SharedState.{TransfersAt, Loses, SharedState};
 ghost use Rattle.fam_protocol.specs.Steps.{StepHolds, Steps};
-ghost use Rattle.fam_protocol.specs.Way.{AreHosts, Hosts, Known, Rests, Settled, Way, alone, no_hosts, seen_with, settled_at_first};
+ghost use Rattle.fam_protocol.specs.Invariant.{AreHosts, Hosts, Known, Rests, Settled, Invariant, solo, no_hosts, shared_with, settled_at_first};
 ghost use Rattle.fam_machine.specs.declared.cell.Cell.{Cell};
 ghost use Rattle.fam_rules.specs.Asks.{File};
 ghost use Rattle.fam_rules.specs.Place.{line_bytes};
@@ -20,7 +20,7 @@ ghost use Rattle.fam_rules.specs.Place.{line_bytes};
 /// where it is too small or damaged, and else its entries.
 pub fn an_image_begins_a_run()
     ensures { (image : Image) → line_bytes * length image ≤ device_limit
-        → Way (settled_at_first image) (length image) no_hosts (alone image) }
+        → Invariant (settled_at_first image) (length image) no_hosts (solo image) }
 {}
 
 /// The same holds between commands, of any number of hosts: of every image, while no host has a task and no cache has
@@ -28,11 +28,11 @@ pub fn an_image_begins_a_run()
 /// by the image's reading (`told`).
 pub fn an_image_at_rest_begins_a_run()
     ensures again { (image : Image) (hosts : Hosts) (copy : ℕ → ℕ → Cell) → line_bytes * length image ≤ device_limit
-        → Rests hosts (seen_with image copy)
-        → Way (settled_at_first image) (length image) hosts (seen_with image copy) }
+        → Rests hosts (shared_with image copy)
+        → Invariant (settled_at_first image) (length image) hosts (shared_with image copy) }
     ensures told { (image : Image) (hosts : Hosts) (copy : ℕ → ℕ → Cell) (p : Params) (all : List File)
-        → line_bytes * length image ≤ device_limit → Rests hosts (seen_with image copy)
-        → Way (Known p all (length all)) (length image) hosts (seen_with image copy)
+        → line_bytes * length image ≤ device_limit → Rests hosts (shared_with image copy)
+        → Invariant (Known p all (length all)) (length image) hosts (shared_with image copy)
         → settled_at_first image ≡ Known p all (length all) }
 {}
 
@@ -40,34 +40,34 @@ pub fn an_image_at_rest_begins_a_run()
 /// and in any order.
 pub fn every_step_keeps_the_protocol()
     // A cache of a declared host moves by itself at any line: it brings, sends, drops or refreshes it, or a word.
-    ensures drift { (settled : Settled) (lines host line : ℕ) (hosts : Hosts) (s s2 : Seen)
-        → Way settled lines hosts s → DriftsAt host line s s2 → hosts.uuid host ≢ None
-        → Way settled lines hosts s2 }
+    ensures transfer { (settled : Settled) (lines host line : ℕ) (hosts : Hosts) (s s2 : SharedState)
+        → Invariant settled lines hosts s → TransfersAt host line s s2 → hosts.uuid host ≢ None
+        → Invariant settled lines hosts s2 }
 
     // A task does its operation and takes its turn. It also says what it may: `TurnSays`.
-    ensures step { (settled : Settled) (lines host word : ℕ) (r : Run) (old new : Hosts) (s s2 : Seen)
-        → Way settled lines old s → Steps host word settled r old new s s2
+    ensures step { (settled : Settled) (lines host word : ℕ) (r : Run) (old new : Hosts) (s s2 : SharedState)
+        → Invariant settled lines old s → Steps host word settled r old new s s2
         → StepHolds settled lines word r old new s2 }
 
     // A host is declared, with a UUID of its own.
-    ensures host { (settled : Settled) (lines host : ℕ) (id : List ℕ) (old new : Hosts) (s : Seen)
-        → Way settled lines old s → Declares host id old new → Way settled lines new s }
+    ensures host { (settled : Settled) (lines host : ℕ) (id : List ℕ) (old new : Hosts) (s : SharedState)
+        → Invariant settled lines old s → Declares host id old new → Invariant settled lines new s }
 
     // A declared host begins a command.
-    ensures task { (settled : Settled) (lines host : ℕ) (cmd : Cmd) (old new : Hosts) (s : Seen)
-        → Way settled lines old s → least_lines ≤ lines → Starts host cmd lines old new
-        → Way settled lines new s }
+    ensures task { (settled : Settled) (lines host : ℕ) (cmd : Cmd) (old new : Hosts) (s : SharedState)
+        → Invariant settled lines old s → least_lines ≤ lines → Starts host cmd lines old new
+        → Invariant settled lines new s }
 
     // A host's task is dropped, wherever it stands.
-    ensures stop { (settled : Settled) (lines host : ℕ) (old new : Hosts) (s : Seen)
-        → Way settled lines old s → Stops host old new → Way settled lines new s }
+    ensures stop { (settled : Settled) (lines host : ℕ) (old new : Hosts) (s : SharedState)
+        → Invariant settled lines old s → Stops host old new → Invariant settled lines new s }
 
     // A host halts: its task and all of its cache are lost.
-    ensures halt { (settled : Settled) (lines host : ℕ) (old new : Hosts) (s s2 : Seen)
-        → Way settled lines old s → Stops host old new → Loses host s s2 → Way settled lines new s2 }
+    ensures halt { (settled : Settled) (lines host : ℕ) (old new : Hosts) (s s2 : SharedState)
+        → Invariant settled lines old s → Stops host old new → Loses host s s2 → Invariant settled lines new s2 }
 
     // A file system is made, on any image. Then nothing is settled but that it is empty.
-    ensures made { (p : Params) (lines maker : ℕ) (hosts : Hosts) (s s2 : Seen)
+    ensures made { (p : Params) (lines maker : ℕ) (hosts : Hosts) (s s2 : SharedState)
         → AreHosts hosts s → MayFormat maker p lines hosts s → Formats maker p s s2 → IsWide s2
-        → Way (Known p [] 0) lines hosts s2 }
+        → Invariant (Known p [] 0) lines hosts s2 }
 {}

@@ -1,5 +1,5 @@
-pub mod RefusedRuns
-pub mod RefusedPhases
-pub mod RefusedScenes
-pub mod RefusedWays
-pub mod RefusedLaws
+pub mod Runs
+pub mod Phases
+pub mod Scenes
+pub mod Appends
+pub mod RefutedLaws

@@ -20,11 +20,11 @@ use Rattle.fam_rules.specs.Content.{fill}
 use Rattle.fam_rules.specs.Decide.{decide}
 use Rattle.fam_rules.specs.Place.{line_bytes}
 use Rattle.fam_rules.specs.Reply.{Appended}
-use Rattle.fam_protocol.specs.Seen.{Seen, Operates, DriftsAt}
+use Rattle.fam_protocol.specs.SharedState.{SharedState, Operates, TransfersAt}
 use Rattle.fam_protocol.specs.Lines.{gate_of}
 use Rattle.fam_protocol.specs.Tasks.{IsCommand}
 use Rattle.fam_protocol.specs.After.{settled_after}
-use Rattle.fam_protocol.specs.Way.{Hosts, Known, Way, alone, held_file}
+use Rattle.fam_protocol.specs.Invariant.{Hosts, Known, Invariant, solo, held_file}
 
 -- Runs.
 
@@ -33,7 +33,7 @@ pub data Step : Type 0 where
   -- a host does an operation
   Does : (host : ℕ) (op : Op) → Step
   -- a host's cache moves at a line by itself
-  Drifts : (host line : ℕ) → Step
+  Transfers : (host line : ℕ) → Step
 
 -- a word, where there is one, before others
 abbrev pub with_first : Option ℕ → List ℕ → List ℕ
@@ -41,10 +41,10 @@ with_first None words = words
 with_first (Some word) words = word ∷ words
 
 -- these steps may happen in this order. Their loads give these words, and they lead from the first state to the second
-pub data Ran : List Step → List ℕ → Seen → Seen → Type 0 where
-  ends : {s : Seen} → Ran [] [] s s
-  goes : {host : ℕ} {op : Op} {more : List Step} {words : List ℕ} {s s' s'' : Seen} (word : ℕ) → Operates op host s s' word → Ran more words s' s'' → Ran (Does host op ∷ more) (with_first (given_by op word) words) s s''
-  moves : {host line : ℕ} {more : List Step} {words : List ℕ} {s s' s'' : Seen} → DriftsAt host line s s' → Ran more words s' s'' → Ran (Drifts host line ∷ more) words s s''
+pub data RanSteps : List Step → List ℕ → SharedState → SharedState → Type 0 where
+  ends : {s : SharedState} → RanSteps [] [] s s
+  goes : {host : ℕ} {op : Op} {more : List Step} {words : List ℕ} {s s' s'' : SharedState} (word : ℕ) → Operates op host s s' word → RanSteps more words s' s'' → RanSteps (Does host op ∷ more) (with_first (given_by op word) words) s s''
+  moves : {host line : ℕ} {more : List Step} {words : List ℕ} {s s' s'' : SharedState} → TransfersAt host line s s' → RanSteps more words s' s'' → RanSteps (Transfers host line ∷ more) words s s''
 
 -- a host does these operations
 abbrev pub all_by : ℕ → List Op → List Step
@@ -52,7 +52,7 @@ all_by host ops = map (Does host) ops
 
 -- a host's cache moves at each of these lines by itself. In the runs below it fetches them early
 abbrev pub fetches : ℕ → List ℕ → List Step
-fetches host lines = map (Drifts host) lines
+fetches host lines = map (Transfers host) lines
 
 -- The scene: a sound file system, its master with a command that appends, and a reader.
 
@@ -200,14 +200,14 @@ settled_by_answer c = settled_after (Ends (Appended (next c))) (next c)
 
 -- the master has answered that the entry is appended. What the protocol keeps holds of memory and of both hosts'
 -- caches, and the new entry is one of those that are settled
-pub record IsAnswered (c : Scene) (s : Seen) : Type 0 where
+pub record AnswersSettled (c : Scene) (s : SharedState) : Type 0 where
   pub hosts : Hosts
   pub master : hosts.uuid c.master ≡ Some c.params.master
   pub reader : hosts.uuid c.reader ≢ None
-  pub way : Way (Known c.params (history c) (settled_by_answer c)) (length c.image) hosts s
+  pub invariant : Invariant (Known c.params (history c) (settled_by_answer c)) (length c.image) hosts s
 
 -- memory's gate counts the new entry, and its slot reads as it
-pub record IsPublished (c : Scene) (s : Seen) : Type 0 where
+pub record IsPublished (c : Scene) (s : SharedState) : Type 0 where
   pub gate : gate_of (s.memory gate_line) ≡ next c + 1
   pub slot : slot_in s.memory c.params (next c) ≡ Ok c.entry
 
@@ -217,7 +217,7 @@ pub record IsWrong (c : Scene) (given : List ℕ) : Type 0 where
   pub before : List ℕ
   pub words : List ℕ
   pub are : given ≡ (next c + 1) ∷ before ++ words
-  pub place : length before ≡ (geometry c.params).words * next c
+  pub phase : length before ≡ (geometry c.params).words * next c
   pub whole : length words ≡ (geometry c.params).words
   pub file : File
   pub is : slice_get (history c) (next c) ≡ Some file
@@ -226,33 +226,33 @@ pub record IsWrong (c : Scene) (given : List ℕ) : Type 0 where
 -- this may happen from the image and empty caches, and then the master has answered. Then the reader may read so, and
 -- what it is given is wrong
 pub record Misreads (c : Scene) (before reads : List Step) : Type 0 where
-  pub middle : Seen
-  pub began : Ran before [] (alone c.image) middle
-  pub answered : IsAnswered c middle
+  pub middle : SharedState
+  pub began : RanSteps before [] (solo c.image) middle
+  pub answered : AnswersSettled c middle
   pub given : List ℕ
-  pub after : Seen
-  pub ran : Ran reads given middle after
+  pub after : SharedState
+  pub ran : RanSteps reads given middle after
   pub wrong : IsWrong c given
 
 -- the same, and the reader may be given a gate below what was settled when it began
 pub record Misses (c : Scene) (before reads : List Step) : Type 0 where
-  pub middle : Seen
-  pub began : Ran before [] (alone c.image) middle
-  pub answered : IsAnswered c middle
+  pub middle : SharedState
+  pub began : RanSteps before [] (solo c.image) middle
+  pub answered : AnswersSettled c middle
   pub gate : ℕ
-  pub after : Seen
-  pub ran : Ran reads (gate ∷ []) middle after
+  pub after : SharedState
+  pub ran : RanSteps reads (gate ∷ []) middle after
   pub low : gate < settled_by_answer c
 
 -- this may happen from the image and empty caches; then the reader may read so, and what it is given is wrong; and then
 -- the master may do the rest, and memory has the entry
-pub record Tears (c : Scene) (before reads rest : List Step) : Type 0 where
-  pub middle : Seen
-  pub began : Ran before [] (alone c.image) middle
+pub record TearsEntry (c : Scene) (before reads rest : List Step) : Type 0 where
+  pub middle : SharedState
+  pub began : RanSteps before [] (solo c.image) middle
   pub given : List ℕ
-  pub later : Seen
-  pub ran : Ran reads given middle later
+  pub later : SharedState
+  pub ran : RanSteps reads given middle later
   pub wrong : IsWrong c given
-  pub after : Seen
-  pub ended : Ran rest [] later after
+  pub after : SharedState
+  pub ended : RanSteps rest [] later after
   pub published : IsPublished c after

@@ -16,8 +16,8 @@ ghost use Rattle.fam_format.specs.ReadingLaws.{HasWords};
 ghost use Rattle.fam_format.specs.Slot.{spelling};
 ghost use Rattle.fam_commands.specs.Table.{Answer, append_rows, rows};
 ghost use Rattle.fam_protocol.specs.Core.{IsHistory};
-ghost use Rattle.fam_refuted.specs.Refused.{Begins, Misreads, Misses, Scene, SceneOf, Tears, appends, drops_early, fetches_gate, fetches_slot, gate_first, history, keeps_gate, keeps_slots, next, old_history, reads_well, sends_late};
-ghost use Rattle.fam_protocol.specs.Way.{Known, Way, alone, no_hosts};
+ghost use Rattle.fam_refuted.specs.Refused.{Begins, Misreads, Misses, Scene, SceneOf, TearsEntry, appends, drops_early, fetches_gate, fetches_slot, gate_first, history, keeps_gate, keeps_slots, next, old_history, reads_well, sends_late};
+ghost use Rattle.fam_protocol.specs.Invariant.{Known, Invariant, solo, no_hosts};
 ghost use Rattle.fam_rules.specs.Decide.{decide};
 ghost use Rattle.fam_rules.specs.Reply.{Appended};
 
@@ -33,8 +33,8 @@ pub fn each_scene_begins()
         → slot_in (line_at c.image) c.params (next c) ≢ Ok c.entry }
 
     // What the protocol keeps holds at its beginning, and with the new entry its entries are a history.
-    ensures way { (c : Scene) → Begins c
-        → Way (Known c.params (old_history c) (next c)) (length c.image) no_hosts (alone c.image) }
+    ensures invariant { (c : Scene) → Begins c
+        → Invariant (Known c.params (old_history c) (next c)) (length c.image) no_hosts (solo c.image) }
     ensures history { (c : Scene) → Begins c → IsHistory c.params (history c) }
 
     // The master's operations are the rows that the table has behind its decision. The last one answers.
@@ -66,5 +66,5 @@ pub fn without_a_drop_an_old_gate_is_read()
 /// each line before it loads it may be given a gate that counts the entry, and words of its slot that don't read as
 /// it.
 pub fn a_gate_before_its_slot_tears_the_entry()
-    ensures { (c : Scene) → Begins c → Tears c (gate_first c) (reads_well c) (sends_late c) }
+    ensures { (c : Scene) → Begins c → TearsEntry c (gate_first c) (reads_well c) (sends_late c) }
 {}

@@ -13,7 +13,7 @@ use Rattle.fam_format.proofs.EntryLawsProofs.{spelling_count}
 use Rattle.fam_rules.specs.Content.{file_words}
 use Rattle.fam_rules.specs.Place.{line_bytes}
 use Rattle.fam_rules.specs.Written.{put_lines, lines_of, file_line, file_puts, slot_part, slot_puts, with_gate, written}
-use Rattle.fam_rules.specs.WrittenLaws.{HasPlace, IsOffSlot, IsOffFile, IsAppended}
+use Rattle.fam_rules.specs.WrittenLaws.{HasPhase, IsOffSlot, IsOffFile, IsAppended}
 use Rattle.fam_rules.proofs.Puts.{length-put_lines, off_puts, at_put}
 use Rattle.fam_rules.proofs.LinesApart.{file_within, slot_within, gate_within, file_lines_apart, file_off_slot, file_off_gate}
 
@@ -43,7 +43,7 @@ eight_part p e seq j below =
 
 -- The lines of the file, in an image.
 
-module _ (p : Params) (seq : ℕ) (e : Entry) (bytes : List ℕ) (image : Image) (has : HasPlace p seq e (length image)) where
+module _ (p : Params) (seq : ℕ) (e : Entry) (bytes : List ℕ) (image : Image) (has : HasPhase p seq e (length image)) where
   -- with the file's lines
   after_file : Image
   after_file = put_lines (file_puts e bytes) image

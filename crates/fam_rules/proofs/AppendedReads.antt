@@ -23,7 +23,7 @@ use Rattle.fam_format.proofs.JoinLaws.{joins_from}
 use Rattle.fam_format.proofs.ReadingLawsProofs.{sound_holds, holds_sound}
 use Rattle.fam_rules.specs.Place.{line_bytes}
 use Rattle.fam_rules.specs.Written.{slot_part, written}
-use Rattle.fam_rules.specs.WrittenLaws.{HasPlace, IsAppended}
+use Rattle.fam_rules.specs.WrittenLaws.{HasPhase, IsAppended}
 use Rattle.fam_rules.proofs.AppendedProofs.{lines_appended}
 use Rattle.fam_rules.proofs.LinesApart.{file_behind, slot_before}
 use Rattle.fam_rules.proofs.RoomSame.{map_range_same}
@@ -34,7 +34,7 @@ part_word p e seq k =
     get_or-between (spelling (geometry p) e seq) (8 * (k / 8)) (8 * (k / 8) + 8) (k % 8) 0 (omega arith)
     ∙ ap (λ (i : ℕ). get_or (spelling (geometry p) e seq) i 0) (let whole : 8 * (k / 8) + k % 8 ≡ k = omega arith in whole)
 
-module _ (p : Params) (seq : ℕ) (e : Entry) (bytes : List ℕ) (before after : Image) (has : HasPlace p seq e (length before)) (is : IsAppended p seq e bytes before after) where
+module _ (p : Params) (seq : ℕ) (e : Entry) (bytes : List ℕ) (before after : Image) (has : HasPhase p seq e (length before)) (is : IsAppended p seq e bytes before after) where
   -- a line before the slot is as before, but for the gate's
   low_line : (l : ℕ) → l ≢ gate_line → l < slot_line p seq 0 → line_at after l ≡ line_at before l
   low_line l off low = is.others l off (λ j line same. omega arith)
@@ -79,7 +79,7 @@ module _ (p : Params) (seq : ℕ) (e : Entry) (bytes : List ℕ) (before after :
   earlier_entry list i x count slots at below =
       let same : get_or list i x ≡ x = sym (get_or_append_left list (e ∷ []) x i below) ∙ get_or_from_slice_get (list ++ e ∷ []) i x x at in
       let slot : IsSlot (line_at before) p (take i list) i x = slots i x (slice_get-get_or list i x below ∙ ap Some same) in
-      subst (λ (front : List Entry). IsSlot (line_at after) p front i x) (sym (take-append-le i list (e ∷ []) (omega arith)))
+      subst (λ (prefix : List Entry). IsSlot (line_at after) p prefix i x) (sym (take-append-le i list (e ∷ []) (omega arith)))
       (record { proper = slot.proper; words = earlier_slot i (omega arith) ∙ slot.words; joins = slot.joins })
 
   -- so does the new one
@@ -88,9 +88,9 @@ module _ (p : Params) (seq : ℕ) (e : Entry) (bytes : List ℕ) (before after :
       let end : i ≡ length list = omega (arith, slice_get_within (list ++ e ∷ []) i x at, length-append list (e ∷ [])) in
       let first : i - length list ≡ 0 = omega arith in
       let same : e ≡ x = sym (get_or-append_right list (e ∷ []) (length list) i x refl past ∙ ap (λ (n : ℕ). get_or (e ∷ []) n x) first) ∙ get_or_from_slice_get (list ++ e ∷ []) i x x at in
-      let front : take i (list ++ e ∷ []) ≡ list = take-append-le i list (e ∷ []) (omega arith) ∙ take_all i list (omega arith) in
+      let prefix : take i (list ++ e ∷ []) ≡ list = take-append-le i list (e ∷ []) (omega arith) ∙ take_all i list (omega arith) in
       subst (λ (y : Entry). IsSlot (line_at after) p (take i (list ++ e ∷ [])) i y) same
-      (subst (λ (before_it : List Entry). IsSlot (line_at after) p before_it i e) (sym front)
+      (subst (λ (before_it : List Entry). IsSlot (line_at after) p before_it i e) (sym prefix)
       (subst (λ (n : ℕ). IsSlot (line_at after) p list n e) (sym (end ∙ count)) (record { proper = has.proper; words = own_slot; joins = joins })))
 
   -- all of them
@@ -110,14 +110,14 @@ module _ (p : Params) (seq : ℕ) (e : Entry) (bytes : List ℕ) (before after :
   }
 
 -- an entry that joins the list has its place
-pub place_of : (p : Params) (list : List Entry) (e : Entry) (lines : ℕ) → SoundParams p → p.device ≤ line_bytes * lines → length list < p.slots → Proper p e → join_fault p list e ≡ None → HasPlace p (length list) e lines
+pub place_of : (p : Params) (list : List Entry) (e : Entry) (lines : ℕ) → SoundParams p → p.device ≤ line_bytes * lines → length list < p.slots → Proper p e → join_fault p list e ≡ None → HasPhase p (length list) e lines
 place_of p list e lines sound fits left proper joins =
     record { sound = sound; device = fits; slot = left; proper = proper; once = (joins_from p list e joins).units.once }
 
 -- an entry that joins a sound image's entries is read behind them
 pub appended_reads : (image : Image) (p : Params) (list : List Entry) (e : Entry) (bytes : List ℕ) → HasWords (line_at image) → SoundParams p → p.device ≤ line_bytes * length image → reading image ≡ Sound p list → length list < p.slots → Proper p e → join_fault p list e ≡ None → reading (written image p (length list) e bytes) ≡ Sound p (list ++ e ∷ [])
 appended_reads image p list e bytes words sound fits reads left proper joins =
-    let has : HasPlace p (length list) e (length image) = place_of p list e (length image) sound fits left proper joins in
+    let has : HasPhase p (length list) e (length image) = place_of p list e (length image) sound fits left proper joins in
     let after : Image = written image p (length list) e bytes in
     let is : IsAppended p (length list) e bytes image after = lines_appended p (length list) e bytes image has in
     let have : ℕ = 64 * length image in

@@ -44,14 +44,14 @@ last_is_first true e (Some x) new = absurd (let none = new refl in cc)
 last_is_first false e None new = refl
 last_is_first false e (Some x) new = refl
 
--- in the front of a list
-front_finds : (list : List Entry) (path : List ℕ) → AreNew list → (n : ℕ) → n ≤ length list → finmap.get (replay (take n list)) path ≡ first_at path (take n list)
-front_finds list path new zero within = finmap.get-empty {X = Entry} path_cmp path
-front_finds list path new (suc n) within =
+-- in the prefix of a list
+prefix_finds : (list : List Entry) (path : List ℕ) → AreNew list → (n : ℕ) → n ≤ length list → finmap.get (replay (take n list)) path ≡ first_at path (take n list)
+prefix_finds list path new zero within = finmap.get-empty {X = Entry} path_cmp path
+prefix_finds list path new (suc n) within =
     elim (slice_get_cases list n).1 [
       | inl (x, below, at, is) ↦
           let more : take (suc n) list ≡ take n list ++ x ∷ [] = take-suc list n x below ∙ ap (λ (e : Entry). take n list ++ e ∷ []) is in
-          let before : finmap.get (replay (take n list)) path ≡ first_at path (take n list) = front_finds list path new n (omega arith) in
+          let before : finmap.get (replay (take n list)) path ≡ first_at path (take n list) = prefix_finds list path new n (omega arith) in
           ap (λ (es : List Entry). finmap.get (replay es) path) more
           ∙ tree_more (take n list) x path
           ∙ ap (λ (o : Option Entry). cond (path_eq x.path path) (Some x) o) before
@@ -64,7 +64,7 @@ front_finds list path new (suc n) within =
 tree_finds : (list : List Entry) (path : List ℕ) → AreNew list → first_at path list ≡ finmap.get (replay list) path
 tree_finds list path new =
     let whole : take (length list) list ≡ list = take_all (length list) list (omega arith) in
-    sym (ap (λ (es : List Entry). finmap.get (replay es) path) (sym whole) ∙ front_finds list path new (length list) (omega arith) ∙ ap (λ (es : List Entry). first_at path es) whole)
+    sym (ap (λ (es : List Entry). finmap.get (replay es) path) (sym whole) ∙ prefix_finds list path new (length list) (omega arith) ∙ ap (λ (es : List Entry). first_at path es) whole)
 
 -- of files and of entries the same is found
 chosen : (b : Bool) (f : File) (more : Option File) → option_map (λ (x : File). x.entry) (cond b (Some f) more) ≡ cond b (Some f.entry) (option_map (λ (x : File). x.entry) more)

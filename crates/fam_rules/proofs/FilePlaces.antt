@@ -21,7 +21,7 @@ use Rattle.fam_base.specs.Units.{strip_bytes}
 use Rattle.fam_format.specs.Layout.{log_end, device_units}
 use Rattle.fam_format.specs.Params.{SoundParams}
 use Rattle.fam_format.specs.Slot.{Proper, adds_up, is_striped}
-use Rattle.fam_format.specs.EntryLaws.{IsInside}
+use Rattle.fam_format.specs.EntryLaws.{IsInDevice}
 use Rattle.fam_format.specs.Units.{units_in}
 use Rattle.fam_format.proofs.UnitPowers.{unit_told}
 use Rattle.fam_format.proofs.MapFits.{HasExtents, ByMap, bare, simple, striped, by_map}
@@ -64,13 +64,13 @@ units_lined p n sound whole =
 -- a simple map: the size is no more than its extents hold
 pub record IsSimple (p : Params) (e : Entry) : Type 0 where
   pub map : e.map ≡ Simple
-  pub inside : All (IsInside p) e.extents
+  pub inside : All (IsInDevice p) e.extents
   pub size : e.size ≤ total_length e.extents
 
 -- a striped map: chunks of whole units, on strips of one length
 pub record IsStriped (p : Params) (e : Entry) (chunk : ℕ) : Type 0 where
   pub map : e.map ≡ Striped chunk
-  pub inside : All (IsInside p) e.extents
+  pub inside : All (IsInDevice p) e.extents
   pub some : 0 < length e.extents
   pub chunk_some : 0 < chunk
   pub chunk_whole : chunk % p.unit ≡ 0
@@ -150,9 +150,9 @@ pub place_in : (p : Params) (e : Entry) (o : ℕ) → SoundParams p → Proper p
 place_in p e o sound proper below = place_in_by p e o (has_map p e sound proper (omega arith)) below
 
 -- a byte in one of the extents is behind the log and in the device's whole units
-pub in_bounds : (p : Params) (extents : List Extent) (b : ℕ) → All (IsInside p) extents → IsIn extents b → (log_end p ≤ b) × (b < device_units p * p.unit)
+pub in_bounds : (p : Params) (extents : List Extent) (b : ℕ) → All (IsInDevice p) extents → IsIn extents b → (log_end p ≤ b) × (b < device_units p * p.unit)
 in_bounds p extents b inside (k, x, below, is, has) =
-    let at : IsInside p x = subst (IsInside p) is (All-get_or (IsInside p) extents k x below inside) in
+    let at : IsInDevice p x = subst (IsInDevice p) is (All-get_or (IsInDevice p) extents k x below inside) in
     (omega (arith, at.behind, has.from), omega (arith, at.before, has.to))
 
 -- so a byte of a file is behind the log
@@ -217,8 +217,8 @@ place_once p e a b sound proper once a_below b_below same =
 -- Lines.
 
 -- extents of whole units are whole lines
-lined : (p : Params) (xs : List Extent) → SoundParams p → All (IsInside p) xs → All IsLined xs
-lined p xs sound inside = All-weaker (IsInside p) IsLined (λ x h. record { offset = units_lined p x.offset sound h.offset; length = units_lined p x.length sound h.length }) xs inside
+lined : (p : Params) (xs : List Extent) → SoundParams p → All (IsInDevice p) xs → All IsLined xs
+lined p xs sound inside = All-weaker (IsInDevice p) IsLined (λ x h. record { offset = units_lined p x.offset sound h.offset; length = units_lined p x.length sound h.length }) xs inside
 
 -- bytes that begin a line and lie side by side are a line
 pub record OnLine (e : Entry) (o b : ℕ) : Type 0 where

@@ -8,7 +8,7 @@ use Rattle.fam_format.specs.Params.{SoundParams}
 use Rattle.fam_format.specs.Slot.{Proper}
 use Rattle.fam_rules.specs.Place.{line_bytes, place}
 use Rattle.fam_rules.specs.Written.{file_line}
-use Rattle.fam_rules.specs.WrittenLaws.{HasPlace}
+use Rattle.fam_rules.specs.WrittenLaws.{HasPhase}
 use Rattle.fam_rules.proofs.FilePlaces.{place_behind, place_before, place_once, line_place}
 
 -- a slot's lines end with the log, or before
@@ -35,7 +35,7 @@ line_start p e j sound proper below =
     sym (ap (λ (o : ℕ). place e o) whole) ∙ line_place p e j 0 sound proper below (omega arith) ∙ (let none : line_bytes * file_line e j + 0 ≡ line_bytes * file_line e j = omega arith in none)
 
 -- two lines of a file are two lines of the device
-pub file_lines_apart : (p : Params) (seq : ℕ) (e : Entry) (lines i j : ℕ) → HasPlace p seq e lines → line_bytes * i < e.size → line_bytes * j < e.size → file_line e i ≡ file_line e j → i ≡ j
+pub file_lines_apart : (p : Params) (seq : ℕ) (e : Entry) (lines i j : ℕ) → HasPhase p seq e lines → line_bytes * i < e.size → line_bytes * j < e.size → file_line e i ≡ file_line e j → i ≡ j
 file_lines_apart p seq e lines i j has i_below j_below same =
     let places : place e (line_bytes * i) ≡ place e (line_bytes * j) =
     line_start p e i has.sound has.proper i_below ∙ ap (λ (l : ℕ). line_bytes * l) same ∙ sym (line_start p e j has.sound has.proper j_below) in
@@ -43,13 +43,13 @@ file_lines_apart p seq e lines i j has i_below j_below same =
     omega arith
 
 -- a file's line is no line of a slot
-pub file_off_slot : (p : Params) (seq : ℕ) (e : Entry) (lines i j : ℕ) → HasPlace p seq e lines → line_bytes * i < e.size → j < (geometry p).lines → file_line e i ≡ slot_line p seq j → ⊥
+pub file_off_slot : (p : Params) (seq : ℕ) (e : Entry) (lines i j : ℕ) → HasPhase p seq e lines → line_bytes * i < e.size → j < (geometry p).lines → file_line e i ≡ slot_line p seq j → ⊥
 file_off_slot p seq e lines i j has below line same = omega (arith, slot_before p seq j has.sound has.slot line, file_behind p e i has.sound has.proper below)
 
 -- nor the gate's
-pub file_off_gate : (p : Params) (seq : ℕ) (e : Entry) (lines i : ℕ) → HasPlace p seq e lines → line_bytes * i < e.size → file_line e i ≡ gate_line → ⊥
+pub file_off_gate : (p : Params) (seq : ℕ) (e : Entry) (lines i : ℕ) → HasPhase p seq e lines → line_bytes * i < e.size → file_line e i ≡ gate_line → ⊥
 file_off_gate p seq e lines i has below same = omega (arith, slot_before p seq 0 has.sound has.slot (omega arith), file_behind p e i has.sound has.proper below)
 
 -- the gate's line is in the image
-pub gate_within : (p : Params) (seq : ℕ) (e : Entry) (lines : ℕ) → HasPlace p seq e lines → gate_line < lines
+pub gate_within : (p : Params) (seq : ℕ) (e : Entry) (lines : ℕ) → HasPhase p seq e lines → gate_line < lines
 gate_within p seq e lines has = omega (arith, slot_within p seq 0 lines has.sound has.slot (omega arith) has.device)

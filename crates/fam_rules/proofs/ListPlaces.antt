@@ -105,20 +105,20 @@ free_apart p before e h k below among =
 -- one entry more
 units_more : (p : Params) (list : List Entry) (n : ℕ) (x : Entry) → n < length list → get_or list n x ≡ x → list_units p.unit (take n list) ++ units_in p.unit x.extents ≡ list_units p.unit (take (suc n) list)
 units_more p list n x below is =
-    let front : take (suc n) list ≡ take n list ++ x ∷ [] = take-suc list n x below ∙ ap (λ (e : Entry). take n list ++ e ∷ []) is in
-    sym (ap (λ (es : List Entry). list_units p.unit es) front
+    let prefix : take (suc n) list ≡ take n list ++ x ∷ [] = take-suc list n x below ∙ ap (λ (e : Entry). take n list ++ e ∷ []) is in
+    sym (ap (λ (es : List Entry). list_units p.unit es) prefix
     ∙ flat_map-append (λ (e : Entry). units_in p.unit e.extents) (take n list) (x ∷ [])
     ∙ ap (λ (us : List ℕ). list_units p.unit (take n list) ++ us) (append-nil (units_in p.unit x.extents)))
 
 -- in the first n entries no unit stands twice
-once_front : (p : Params) (list : List Entry) → IsLaidOut p list → (n : ℕ) → n ≤ length list → IsOnce (list_units p.unit (take n list))
-once_front p list laid zero within = λ i j less below same. absurd (omega arith)
-once_front p list laid (suc n) within =
+once_prefix : (p : Params) (list : List Entry) → IsLaidOut p list → (n : ℕ) → n ≤ length list → IsOnce (list_units p.unit (take n list))
+once_prefix p list laid zero within = λ i j less below same. absurd (omega arith)
+once_prefix p list laid (suc n) within =
     elim (slice_get_cases list n).1 [
       | inl (x, below, at, is) ↦
           let free : IsFreeAfter p (take n list) x = laid n x at in
           subst IsOnce (units_more p list n x below is)
-          (once_append (list_units p.unit (take n list)) (units_in p.unit x.extents) (once_front p list laid n (omega arith)) free.units.once (free_apart p (take n list) x free))
+          (once_append (list_units p.unit (take n list)) (units_in p.unit x.extents) (once_prefix p list laid n (omega arith)) free.units.once (free_apart p (take n list) x free))
       | inr (past, none) ↦ absurd (omega arith)
     ]
 
@@ -126,7 +126,7 @@ once_front p list laid (suc n) within =
 pub laid_apart : (p : Params) (list : List Entry) → IsLaidOut p list → AreApart p list
 laid_apart p list laid = record {
   proper = λ k d below. (laid k (get_or list k d) (slice_get-get_or list k d below)).proper;
-  once = subst (λ (es : List Entry). IsOnce (list_units p.unit es)) (take_all (length list) list (omega arith)) (once_front p list laid (length list) (omega arith));
+  once = subst (λ (es : List Entry). IsOnce (list_units p.unit es)) (take_all (length list) list (omega arith)) (once_prefix p list laid (length list) (omega arith));
 }
 
 -- so are those of a sound image

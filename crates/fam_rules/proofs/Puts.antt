@@ -24,10 +24,10 @@ put_elsewhere (put ∷ more) image l other =
     put_elsewhere more (put_line image put) l other.1 ∙ line_at-with_line_other image put.0 put.1 l other.0
 
 -- of several puts of a line the last one stays
-pub last_put : (front back : List Put) (image : Image) (l : ℕ) (words : List ℕ) → l < length image → AreElsewhere l back → line_at (put_lines (front ++ (l, words) ∷ back) image) l ≡ eight words
+pub last_put : (prefix back : List Put) (image : Image) (l : ℕ) (words : List ℕ) → l < length image → AreElsewhere l back → line_at (put_lines (prefix ++ (l, words) ∷ back) image) l ≡ eight words
 last_put [] back image l words within other = put_elsewhere back (with_line l words image) l other ∙ line_at-with_line image l words within
-last_put (put ∷ front) back image l words within other =
-    last_put front back (put_line image put) l words (omega (arith, length-with_line image put.0 put.1)) other
+last_put (put ∷ prefix) back image l words within other =
+    last_put prefix back (put_line image put) l words (omega (arith, length-with_line image put.0 put.1)) other
 
 -- Puts of lines f j with words g j, by numbers j.
 

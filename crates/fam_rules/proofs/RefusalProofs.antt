@@ -19,7 +19,7 @@ use Rattle.fam_format.specs.Units.{is_used}
 use Rattle.fam_rules.specs.declared.answers.Refused.{Refused}
 use Rattle.fam_rules.specs.declared.answers.Refused.TheVariants.{NotMaster, BadStripe, Exists, NoParent, ParentIsFile, LogFull, NoSpace}
 use Rattle.fam_rules.specs.Decide.{Wish, Room, one_extent, strip_extents, no_room_needed, room_or, strip_length, master_refusal, stripe_refusal, exists_refusal, file_refusal, found_refusal, parent_refusal, full_refusal, room_by, room_for, entry_for, entry_or, decide_wish}
-use Rattle.fam_rules.specs.DecideLaws.{IsAsked, IsNew, HasFolder, HasSlot, LacksRoom, IsRefused}
+use Rattle.fam_rules.specs.DecideLaws.{IsGoodRequest, IsNew, HasFolder, HasFreeSlot, LacksRoom, IsFirstRefusal}
 use Rattle.fam_rules.specs.Room.{Fits, IsRoom, IsStrips, room, strips, buckets_with_room}
 use Rattle.fam_rules.proofs.RoomLaws.{room_least, room_only, strips_first, strips_only}
 use Rattle.fam_rules.proofs.RefusalTests.{none_master, some_master, none_stripe, some_stripe, StripeCases, good, bad, stripe_cases, ParentCases, stands, missing, is_file, parent_cases, parent_passes}
@@ -65,7 +65,7 @@ module _ (p : Params) (me : List ℕ) (list : List Entry) (w : Wish) where
   master_goes same = from_master ∙ passes (master_refusal p me) by_stripe (none_master p me same)
 
   -- with a good one to the path
-  asked_goes : IsAsked p me w → decide_wish p me list w ≡ by_path
+  asked_goes : IsGoodRequest p me w → decide_wish p me list w ≡ by_path
   unfolding by_stripe
   asked_goes asked = master_goes asked.master ∙ passes (stripe_refusal p w.stripe) by_path (none_stripe p w.stripe asked.stripe)
 
@@ -80,7 +80,7 @@ module _ (p : Params) (me : List ℕ) (list : List Entry) (w : Wish) where
   folder_goes folder = new_goes folder.new ∙ passes (parent_refusal (replay list) (parent_of w.path)) by_slots (parent_passes (replay list) (parent_of w.path) folder.parent)
 
   -- and with a slot to the room
-  slot_goes : HasSlot p me list w → decide_wish p me list w ≡ in_room
+  slot_goes : HasFreeSlot p me list w → decide_wish p me list w ≡ in_room
   unfolding by_slots
   slot_goes slot = folder_goes slot.folder ∙ passes (full_refusal p list) in_room (rw (lt-leb p.slots (length list) slot.left) refl)
 
@@ -153,7 +153,7 @@ lacks_by p list size (Some s) k (is, few) =
 -- Each refusal where its cause is the first.
 
 -- the cause of a refusal brings it
-pub refused_there : (p : Params) (me : List ℕ) (list : List Entry) (w : Wish) (r : Refused) → IsRefused p me list w r → decide_wish p me list w ≡ Err r
+pub refused_there : (p : Params) (me : List ℕ) (list : List Entry) (w : Wish) (r : Refused) → IsFirstRefusal p me list w r → decide_wish p me list w ≡ Err r
 unfolding by_stripe by_path by_parent by_slots in_room
 refused_there p me list w (NotMaster host master) (is_me, is_master, other) =
     from_master p me list w ∙ refuses (master_refusal p me) _ (NotMaster me p.master) (some_master p me other)
@@ -174,12 +174,12 @@ refused_there p me list w (NoSpace k) (slot, bytes, lacks) =
 
 -- a refusal with its cause, or an entry
 data Outcome (p : Params) (me : List ℕ) (list : List Entry) (w : Wish) : Type 0 where
-  refused : (r : Refused) → IsRefused p me list w r → Outcome p me list w
+  refused : (r : Refused) → IsFirstRefusal p me list w r → Outcome p me list w
   granted : (e : Entry) → decide_wish p me list w ≡ Ok e → Outcome p me list w
 
 module _ (p : Params) (me : List ℕ) (list : List Entry) (w : Wish) where
   -- with a slot it goes by the room
-  room_outcome : HasSlot p me list w → RoomCases p list w → Outcome p me list w
+  room_outcome : HasFreeSlot p me list w → RoomCases p list w → Outcome p me list w
   unfolding in_room
   room_outcome slot (given r is) = granted (entry_for w r) (slot_goes p me list w slot ∙ ap (entry_or w) is)
   room_outcome slot (lacking k bytes lacks) = refused (NoSpace k) (slot, bytes, lacks)
@@ -198,7 +198,7 @@ module _ (p : Params) (me : List ℕ) (list : List Entry) (w : Wish) where
   parent_outcome new (is_file parent file is at kind refusal) = refused ParentIsFile (new, (parent, is, (file, at, kind)))
 
   -- with a good stripe by what stands at the path
-  path_outcome : IsAsked p me w → (there : Option Entry) → finmap.get (replay list) w.path ≡ there → Outcome p me list w
+  path_outcome : IsGoodRequest p me w → (there : Option Entry) → finmap.get (replay list) w.path ≡ there → Outcome p me list w
   path_outcome asked None at = parent_outcome (record { asked = asked; absent = at }) (parent_cases (replay list) (parent_of w.path))
   path_outcome asked (Some old) at = refused (Exists old.kind) (asked, (old, at, refl))
 
@@ -215,10 +215,10 @@ module _ (p : Params) (me : List ℕ) (list : List Entry) (w : Wish) where
   ]
 
 -- a refusal that came has its cause
-cause_of : (p : Params) (me : List ℕ) (list : List Entry) (w : Wish) (r : Refused) → decide_wish p me list w ≡ Err r → Outcome p me list w → IsRefused p me list w r
-cause_of p me list w r is (refused other cause) = let same : other ≡ r = (let e = refused_there p me list w other cause in cc) in subst (IsRefused p me list w) same cause
+cause_of : (p : Params) (me : List ℕ) (list : List Entry) (w : Wish) (r : Refused) → decide_wish p me list w ≡ Err r → Outcome p me list w → IsFirstRefusal p me list w r
+cause_of p me list w r is (refused other cause) = let same : other ≡ r = (let e = refused_there p me list w other cause in cc) in subst (IsFirstRefusal p me list w) same cause
 cause_of p me list w r is (granted e ok) = absurd (cc)
 
 -- each refusal has its cause
-pub refused_for : (p : Params) (me : List ℕ) (list : List Entry) (w : Wish) (r : Refused) → decide_wish p me list w ≡ Err r → IsRefused p me list w r
+pub refused_for : (p : Params) (me : List ℕ) (list : List Entry) (w : Wish) (r : Refused) → decide_wish p me list w ≡ Err r → IsFirstRefusal p me list w r
 refused_for p me list w r is = cause_of p me list w r is (outcome p me list w)

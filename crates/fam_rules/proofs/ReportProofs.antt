@@ -51,22 +51,22 @@ module _ (line : Lines) (p : Params) (gate : ℕ) where
       (ap (below_gate (surveyed found before) i) reads
       ∙ ap (applied_or (surveyed found before) i e) (joined_applies p before e slot.joins))
 
-  -- the slot behind a front
-  slot_behind : (front : List Entry) (i : ℕ) (e : Entry) (more : List Entry) → length front ≡ i → AreSlots line p (front ++ e ∷ more) → IsSlot line p front i e
-  slot_behind front i e more count slots =
-      let first : i - length front ≡ 0 = omega arith in
-      let at : slice_get (front ++ e ∷ more) i ≡ Some e =
-      slice_get-get_or (front ++ e ∷ more) i e (omega (arith, length-append front (e ∷ more)))
-      ∙ ap Some (get_or-append_right front (e ∷ more) (length front) i e refl (omega arith) ∙ ap (λ (n : ℕ). get_or (e ∷ more) n e) first) in
-      subst (λ (before : List Entry). IsSlot line p before i e) (ap (λ (n : ℕ). take n (front ++ e ∷ more)) (sym count) ∙ take-append_seam front (e ∷ more)) (slots i e at)
+  -- the slot behind a prefix
+  slot_behind : (prefix : List Entry) (i : ℕ) (e : Entry) (more : List Entry) → length prefix ≡ i → AreSlots line p (prefix ++ e ∷ more) → IsSlot line p prefix i e
+  slot_behind prefix i e more count slots =
+      let first : i - length prefix ≡ 0 = omega arith in
+      let at : slice_get (prefix ++ e ∷ more) i ≡ Some e =
+      slice_get-get_or (prefix ++ e ∷ more) i e (omega (arith, length-append prefix (e ∷ more)))
+      ∙ ap Some (get_or-append_right prefix (e ∷ more) (length prefix) i e refl (omega arith) ∙ ap (λ (n : ℕ). get_or (e ∷ more) n e) first) in
+      subst (λ (before : List Entry). IsSlot line p before i e) (ap (λ (n : ℕ). take n (prefix ++ e ∷ more)) (sym count) ∙ take-append_seam prefix (e ∷ more)) (slots i e at)
 
   -- all of them
-  survey_below : (i : ℕ) (found : List (ℕ × Entry)) (front rest : List Entry) → length front ≡ i → i + length rest ≤ gate → AreSlots line p (front ++ rest) → survey_slots line p gate i (length rest) (surveyed found front) ≡ surveyed (found ++ numbered i rest) (front ++ rest)
-  survey_below i found front [] count within slots = sym (ap₂ surveyed (append-nil found) (append-nil front))
-  survey_below i found front (e ∷ more) count within slots =
-      ap (survey_slots line p gate (i + 1) (length more)) (survey_joined i found front e (omega arith) (slot_behind front i e more count slots))
-      ∙ survey_below (i + 1) (found ++ (i, e) ∷ []) (front ++ e ∷ []) more (omega (arith, length-append front (e ∷ []))) (omega arith) (subst (AreSlots line p) (sym (append_assoc front (e ∷ []) more)) slots)
-      ∙ ap₂ surveyed (append_assoc found ((i, e) ∷ []) (numbered (i + 1) more)) (append_assoc front (e ∷ []) more)
+  survey_below : (i : ℕ) (found : List (ℕ × Entry)) (prefix rest : List Entry) → length prefix ≡ i → i + length rest ≤ gate → AreSlots line p (prefix ++ rest) → survey_slots line p gate i (length rest) (surveyed found prefix) ≡ surveyed (found ++ numbered i rest) (prefix ++ rest)
+  survey_below i found prefix [] count within slots = sym (ap₂ surveyed (append-nil found) (append-nil prefix))
+  survey_below i found prefix (e ∷ more) count within slots =
+      ap (survey_slots line p gate (i + 1) (length more)) (survey_joined i found prefix e (omega arith) (slot_behind prefix i e more count slots))
+      ∙ survey_below (i + 1) (found ++ (i, e) ∷ []) (prefix ++ e ∷ []) more (omega (arith, length-append prefix (e ∷ []))) (omega arith) (subst (AreSlots line p) (sym (append_assoc prefix (e ∷ []) more)) slots)
+      ∙ ap₂ surveyed (append_assoc found ((i, e) ∷ []) (numbered (i + 1) more)) (append_assoc prefix (e ∷ []) more)
 
   -- Slots past it.
 

@@ -17,7 +17,7 @@ use Rattle.fam_base.specs.Units.{strip_bytes}
 use Rattle.fam_base.proofs.UnitLemmas.{strip_below}
 use Rattle.fam_format.specs.Layout.{log_offset, log_end, head_units, device_units}
 use Rattle.fam_format.specs.Params.{SoundParams}
-use Rattle.fam_format.specs.EntryLaws.{IsInside}
+use Rattle.fam_format.specs.EntryLaws.{IsInDevice}
 use Rattle.fam_format.specs.Slot.{extent_limit, is_within, is_placed, has_extents}
 use Rattle.fam_format.specs.Units.{is_used, list_units}
 use Rattle.fam_format.proofs.MapFits.{HasExtents, StripsHold, strips_hold}
@@ -42,8 +42,8 @@ power_divides k most =
 -- sums of whole units are whole units
 whole_sum : (a b unit : ℕ) → a % unit ≡ 0 → b % unit ≡ 0 → (a + b) / unit * unit ≡ a + b
 whole_sum a b unit first second =
-    let front : a / unit * unit ≡ a = omega (arith, first, div-add-mod' a unit) in
-    let rest : (a + b) % unit ≡ 0 = sym (ap (λ (n : ℕ). (n + b) % unit) front) ∙ mul-add-mod_self_right (a / unit) unit b ∙ second in
+    let prefix : a / unit * unit ≡ a = omega (arith, first, div-add-mod' a unit) in
+    let rest : (a + b) % unit ≡ 0 = sym (ap (λ (n : ℕ). (n + b) % unit) prefix) ∙ mul-add-mod_self_right (a / unit) unit b ∙ second in
     omega (arith, rest, div-add-mod' (a + b) unit)
 
 -- the log ends with a unit
@@ -62,7 +62,7 @@ behind_head : (p : Params) (list : List Entry) (u : ℕ) → is_used p list u �
 behind_head p list u free = ltb-false u (head_units p) (or_parts (nat_lt u (head_units p)) (list_any (λ v. v == u) (list_units p.unit list)) free).0
 
 -- so its extent lies where files may stand
-pub run_inside : (p : Params) (list : List Entry) (k s : ℕ) → SoundParams p → 0 < k → Fits (is_used p list) (device_units p) k s → IsInside p (extent_from p.unit k s)
+pub run_inside : (p : Params) (list : List Entry) (k s : ℕ) → SoundParams p → 0 < k → Fits (is_used p list) (device_units p) k s → IsInDevice p (extent_from p.unit k s)
 run_inside p list k s sound some fits =
     let head : head_units p ≤ s = behind_head p list s (fits.free s (omega arith) (omega arith)) in record {
       offset = mul-mod_left s p.unit;
@@ -77,7 +77,7 @@ four_pass : (a b c d : Bool) → a ≡ true → b ≡ true → c ≡ true → d 
 four_pass a b c d e f g h = rw (e, f, g, h) refl
 
 -- the test of an extent
-placed : (p : Params) (x : Extent) → IsInside p x → is_placed p x ≡ true
+placed : (p : Params) (x : Extent) → IsInDevice p x → is_placed p x ≡ true
 placed p x is =
     four_pass (x.offset % p.unit == 0) (x.length % p.unit == 0) (nat_lt 0 x.length) (is_within p x)
     (eq-eqb (x.offset % p.unit) 0 is.offset) (eq-eqb (x.length % p.unit) 0 is.length) (lt-ltb 0 x.length is.some)

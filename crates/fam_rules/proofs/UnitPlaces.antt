@@ -10,7 +10,7 @@ use Rattle.std.proofs.lemmas.List.FromFn.{length-range_with_len, get_or-range_wi
 use Rattle.fam_base.specs.declared.entry.Params.{Params}
 use Rattle.fam_base.specs.declared.extents.Extent.{Extent}
 use Rattle.fam_base.specs.ExtentLists.{no_extent}
-use Rattle.fam_format.specs.EntryLaws.{IsInside}
+use Rattle.fam_format.specs.EntryLaws.{IsInDevice}
 use Rattle.fam_format.specs.Units.{units_in}
 use Rattle.fam_rules.specs.Place.{total_length, simple_place, IsOnce}
 use Rattle.fam_rules.proofs.SimplePlaces.{simple_here, simple_further, left_over}
@@ -26,7 +26,7 @@ once_same us once i j a b same =
     ]
 
 module _ (us vs : List ℕ) (once : IsOnce (us ++ vs)) where
-  -- nor in the front
+  -- nor in the prefix
   pub once_left : IsOnce us
   once_left i j less below same =
       once i j less (omega (arith, length-append us vs)) (get_or_append_left us vs 0 i (omega arith) ∙ same ∙ sym (get_or_append_left us vs 0 j below))
@@ -87,7 +87,7 @@ whole : (n size : ℕ) → n % size ≡ 0 → n / size * size ≡ n
 whole n size none = omega (arith, none, div-add-mod' n size)
 
 -- a byte of an extent
-stands_extent : (p : Params) (x : Extent) (o : ℕ) → 0 < p.unit → IsInside p x → o < x.length → StandsIn p.unit (range_with_len (x.offset / p.unit) (x.length / p.unit)) o (x.offset + o)
+stands_extent : (p : Params) (x : Extent) (o : ℕ) → 0 < p.unit → IsInDevice p x → o < x.length → StandsIn p.unit (range_with_len (x.offset / p.unit) (x.length / p.unit)) o (x.offset + o)
 stands_extent p x o some inside below =
     let count : length (range_with_len (x.offset / p.unit) (x.length / p.unit)) ≡ x.length / p.unit = length-range_with_len (x.offset / p.unit) (x.length / p.unit) in
     let within : o / p.unit < x.length / p.unit = div_below o p.unit (x.length / p.unit) some (omega (arith, whole x.length p.unit inside.length)) in
@@ -101,36 +101,36 @@ stands_extent p x o some inside below =
     }
 
 -- a byte of the extents behind the first one
-stands_behind : (p : Params) (x : Extent) (xs : List Extent) (o n b : ℕ) → 0 < p.unit → IsInside p x → x.length + o ≡ n → StandsIn p.unit (units_in p.unit xs) o b → StandsIn p.unit (units_in p.unit (x ∷ xs)) n b
+stands_behind : (p : Params) (x : Extent) (xs : List Extent) (o n b : ℕ) → 0 < p.unit → IsInDevice p x → x.length + o ≡ n → StandsIn p.unit (units_in p.unit xs) o b → StandsIn p.unit (units_in p.unit (x ∷ xs)) n b
 stands_behind p x xs o n b some inside at h =
     let first : List ℕ = range_with_len (x.offset / p.unit) (x.length / p.unit) in
     let bytes : length first * p.unit ≡ x.length = ap (λ (k : ℕ). k * p.unit) (length-range_with_len (x.offset / p.unit) (x.length / p.unit)) ∙ whole x.length p.unit inside.length in
     subst (λ (k : ℕ). StandsIn p.unit (units_in p.unit (x ∷ xs)) k b) (ap (λ (k : ℕ). k + o) bytes ∙ at) (stands_right p.unit first (units_in p.unit xs) o b some h)
 
 -- a byte of a simple map
-pub simple_stands : (p : Params) (xs : List Extent) (o : ℕ) → 0 < p.unit → All (IsInside p) xs → o < total_length xs → StandsIn p.unit (units_in p.unit xs) o (simple_place xs o)
+pub simple_stands : (p : Params) (xs : List Extent) (o : ℕ) → 0 < p.unit → All (IsInDevice p) xs → o < total_length xs → StandsIn p.unit (units_in p.unit xs) o (simple_place xs o)
 simple_stands p [] o some inside below = absurd (omega arith)
 simple_stands p (x ∷ xs) o some inside below =
-    let head : IsInside p x = All-head (IsInside p) x xs inside in
+    let head : IsInDevice p x = All-head (IsInDevice p) x xs inside in
     elim (cases_lt o x.length) [
       | inl here ↦
           subst (StandsIn p.unit (units_in p.unit (x ∷ xs)) o) (sym (simple_here x xs o here))
           (stands_left p.unit (range_with_len (x.offset / p.unit) (x.length / p.unit)) (units_in p.unit xs) o (x.offset + o) (stands_extent p x o some head here))
       | inr past ↦
           subst (StandsIn p.unit (units_in p.unit (x ∷ xs)) o) (sym (simple_further x xs o past))
-          (stands_behind p x xs (o - x.length) o _ some head (omega arith) (simple_stands p xs (o - x.length) some (All-tail (IsInside p) x xs inside) (left_over x xs o past below)))
+          (stands_behind p x xs (o - x.length) o _ some head (omega arith) (simple_stands p xs (o - x.length) some (All-tail (IsInDevice p) x xs inside) (left_over x xs o past below)))
     ]
 
 -- a byte of a strip, where all strips have one length
-pub strip_stands : (p : Params) (xs : List Extent) (strip s t : ℕ) → 0 < p.unit → All (IsInside p) xs → All (λ x. x.length ≡ strip) xs → s < length xs → t < strip → StandsIn p.unit (units_in p.unit xs) (s * strip + t) ((get_or xs s no_extent).offset + t)
+pub strip_stands : (p : Params) (xs : List Extent) (strip s t : ℕ) → 0 < p.unit → All (IsInDevice p) xs → All (λ x. x.length ≡ strip) xs → s < length xs → t < strip → StandsIn p.unit (units_in p.unit xs) (s * strip + t) ((get_or xs s no_extent).offset + t)
 strip_stands p [] strip s t some inside lengths below within = absurd (omega arith)
 strip_stands p (x ∷ xs) strip zero t some inside lengths below within =
-    let head : IsInside p x = All-head (IsInside p) x xs inside in
+    let head : IsInDevice p x = All-head (IsInDevice p) x xs inside in
     let long : x.length ≡ strip = All-head (λ y. y.length ≡ strip) x xs lengths in
     subst (λ (k : ℕ). StandsIn p.unit (units_in p.unit (x ∷ xs)) k (x.offset + t)) (let e : t ≡ 0 * strip + t = omega arith in e)
     (stands_left p.unit (range_with_len (x.offset / p.unit) (x.length / p.unit)) (units_in p.unit xs) t (x.offset + t) (stands_extent p x t some head (omega (arith, long))))
 strip_stands p (x ∷ xs) strip (suc s) t some inside lengths below within =
-    let head : IsInside p x = All-head (IsInside p) x xs inside in
+    let head : IsInDevice p x = All-head (IsInDevice p) x xs inside in
     let long : x.length ≡ strip = All-head (λ y. y.length ≡ strip) x xs lengths in
     stands_behind p x xs (s * strip + t) (suc s * strip + t) _ some head (omega (arith, long))
-    (strip_stands p xs strip s t some (All-tail (IsInside p) x xs inside) (All-tail (λ y. y.length ≡ strip) x xs lengths) (omega arith) within)
+    (strip_stands p xs strip s t some (All-tail (IsInDevice p) x xs inside) (All-tail (λ y. y.length ≡ strip) x xs lengths) (omega arith) within)

@@ -15,7 +15,7 @@ use Rattle.fam_base.specs.declared.entry.MapKind.{MapKind}
 use Rattle.fam_base.specs.declared.entry.MapKind.TheVariants as mapped
 use Rattle.fam_base.specs.declared.extents.Extent.{Extent}
 use Rattle.fam_rules.specs.declared.answers.Refused.TheVariants.{NotMaster, BadStripe, Exists, NoParent, NoSpace}
-use Rattle.fam_rules.specs.Asks.{verified, bytes_from}
+use Rattle.fam_rules.specs.Asks.{verified, file_bytes_from}
 use Rattle.fam_rules.specs.Reply.{Same, Differs, Length}
 use Rattle.fam_rules.specs.Reports.{Survey, overlap_of, report_by}
 use Rattle.fam_rules.specs.Decide.{Wish, decide, decide_wish, room_for}
@@ -215,9 +215,9 @@ zeros : verified 1 (0 ∷ 0 ∷ []) content.Zero ≡ Same 1
 zeros = refl
 
 -- none past the size
-at_the_end : bytes_from 2 4096 (1 ∷ 2 ∷ 3 ∷ []) ≡ 3 ∷ []
+at_the_end : file_bytes_from 2 4096 (1 ∷ 2 ∷ 3 ∷ []) ≡ 3 ∷ []
 at_the_end = refl
 
 -- and none from past the end
-past_the_end : bytes_from 8 1 (1 ∷ 2 ∷ 3 ∷ []) ≡ []
+past_the_end : file_bytes_from 8 1 (1 ∷ 2 ∷ 3 ∷ []) ≡ []
 past_the_end = refl

@@ -55,8 +55,8 @@ verified m bytes (content.Seed seed) = compared m bytes (content.Seed seed)
 verified m bytes content.Zero = compared m bytes content.Zero
 
 -- at most so many bytes of a file, from an offset on
-abbrev pub bytes_from : ℕ → ℕ → List ℕ → List ℕ
-bytes_from offset count bytes = take count (drop offset bytes)
+abbrev pub file_bytes_from : ℕ → ℕ → List ℕ → List ℕ
+file_bytes_from offset count bytes = take count (drop offset bytes)
 
 -- what a question about bytes gives, by what stands at the path
 abbrev pub of_kind : ℕ → Kind → Reply → Reply
@@ -73,7 +73,7 @@ abbrev pub ask : List File → Cmd → Option Reply
 ask files Logplay = Some (Played (length files) (replay (entries_of files)))
 ask files (Check listing) = Some (Checks (length files) (checked (replay (entries_of files)) listing))
 ask files (Verify path against) = Some (of_file (length files) (file_at files path) (λ bytes. verified (length files) bytes against))
-ask files (Read path offset count) = Some (of_file (length files) (file_at files path) (λ bytes. Bytes (length files) (bytes_from offset count bytes)))
+ask files (Read path offset count) = Some (of_file (length files) (file_at files path) (λ bytes. Bytes (length files) (file_bytes_from offset count bytes)))
 ask files (Mkdir path attr) = None
 ask files (Creat path size attr stripe fill) = None
 ask files (Cp path attr stripe bytes) = None

@@ -73,13 +73,13 @@ HasGoodStripe p None = ⊤
 HasGoodStripe p (Some s) = IsGoodStripe p s
 
 -- the master asks, with a good stripe where there is one
-pub record IsAsked (p : Params) (me : List ℕ) (w : Wish) : Type 0 where
+pub record IsGoodRequest (p : Params) (me : List ℕ) (w : Wish) : Type 0 where
   pub master : me ≡ p.master
   pub stripe : HasGoodStripe p w.stripe
 
 -- and nothing stands at the path
 pub record IsNew (p : Params) (me : List ℕ) (list : List Entry) (w : Wish) : Type 0 where
-  pub asked : IsAsked p me w
+  pub asked : IsGoodRequest p me w
   pub absent : finmap.get (replay list) w.path ≡ None
 
 -- and its parent is the root or a directory
@@ -88,7 +88,7 @@ pub record HasFolder (p : Params) (me : List ℕ) (list : List Entry) (w : Wish)
   pub parent : HasParent (replay list) (parent_of w.path)
 
 -- and a slot is left
-pub record HasSlot (p : Params) (me : List ℕ) (list : List Entry) (w : Wish) : Type 0 where
+pub record HasFreeSlot (p : Params) (me : List ℕ) (list : List Entry) (w : Wish) : Type 0 where
   pub folder : HasFolder p me list w
   pub left : length list < p.slots
 
@@ -112,11 +112,11 @@ LacksRoom p list size (Some s) k =
     (k ≡ strip_length p size s) × (buckets_with_room (is_used p list) (device_units p / s.nbuckets) k s.nbuckets (length list) s.nbuckets < s.nstrips)
 
 -- exactly where each refusal comes: the first cause in this order
-abbrev pub IsRefused : Params → List ℕ → List Entry → Wish → Refused → Type 0
-IsRefused p me list w (NotMaster host master) = (host ≡ me) × (master ≡ p.master) × (me ≢ p.master)
-IsRefused p me list w BadStripe = (me ≡ p.master) × (HasGoodStripe p w.stripe → ⊥)
-IsRefused p me list w (Exists kind) = IsAsked p me w × StandsThere list w.path kind
-IsRefused p me list w NoParent = IsNew p me list w × LacksParent list w.path
-IsRefused p me list w ParentIsFile = IsNew p me list w × HasFileAsParent list w.path
-IsRefused p me list w (LogFull slots) = HasFolder p me list w × (slots ≡ p.slots) × (p.slots ≤ length list)
-IsRefused p me list w (NoSpace k) = HasSlot p me list w × (0 < w.size) × LacksRoom p list w.size w.stripe k
+abbrev pub IsFirstRefusal : Params → List ℕ → List Entry → Wish → Refused → Type 0
+IsFirstRefusal p me list w (NotMaster host master) = (host ≡ me) × (master ≡ p.master) × (me ≢ p.master)
+IsFirstRefusal p me list w BadStripe = (me ≡ p.master) × (HasGoodStripe p w.stripe → ⊥)
+IsFirstRefusal p me list w (Exists kind) = IsGoodRequest p me w × StandsThere list w.path kind
+IsFirstRefusal p me list w NoParent = IsNew p me list w × LacksParent list w.path
+IsFirstRefusal p me list w ParentIsFile = IsNew p me list w × HasFileAsParent list w.path
+IsFirstRefusal p me list w (LogFull slots) = HasFolder p me list w × (slots ≡ p.slots) × (p.slots ≤ length list)
+IsFirstRefusal p me list w (NoSpace k) = HasFreeSlot p me list w × (0 < w.size) × LacksRoom p list w.size w.stripe k

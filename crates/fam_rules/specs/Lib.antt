@@ -10,4 +10,4 @@ pub mod Reports
 pub mod ReportLaws
 pub mod Written
 pub mod WrittenLaws
-pub mod Alone
+pub mod Solo

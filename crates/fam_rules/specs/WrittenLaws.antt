@@ -18,14 +18,14 @@ use Rattle.fam_rules.specs.Written.{file_line, slot_part, zero_line}
 pub record IsFormatted (p : Params) (before after : Image) : Type 0 where
   pub count : length after ≡ length before
   pub magic : line_at after 0 ≡ magic_line
-  pub super_front : line_at after 1 ≡ slice_range (super_words p) 0 line_words
+  pub super_prefix : line_at after 1 ≡ slice_range (super_words p) 0 line_words
   pub super_rest : line_at after 2 ≡ slice_range (super_words p) line_words (2 * line_words)
   pub header : line_at after log_line ≡ log_words p
   pub gate : line_at after gate_line ≡ zero_line
   pub others : (l : ℕ) → l ≢ 0 → l ≢ 1 → l ≢ 2 → l ≢ log_line → l ≢ gate_line → line_at after l ≡ line_at before l
 
 -- an entry and its slot's number that an image of so many lines has room for
-pub record HasPlace (p : Params) (seq : ℕ) (e : Entry) (lines : ℕ) : Type 0 where
+pub record HasPhase (p : Params) (seq : ℕ) (e : Entry) (lines : ℕ) : Type 0 where
   pub sound : SoundParams p
   pub device : p.device ≤ line_bytes * lines
   pub slot : seq < p.slots

@@ -6,7 +6,7 @@ ghost use Rattle.fam_base.specs.declared.entry.Entry.{Entry};
 ghost use Rattle.fam_format.specs.Params.{SoundParams};
 ghost use Rattle.fam_rules.specs.declared.answers.Refused.{Refused};
 ghost use Rattle.fam_rules.specs.Decide.{Wish, decide_wish};
-ghost use Rattle.fam_rules.specs.DecideLaws.{IsSoundWish, IsAsWished, MayAppend, IsRefused};
+ghost use Rattle.fam_rules.specs.DecideLaws.{IsSoundWish, IsAsWished, MayAppend, IsFirstRefusal};
 
 /// The entry that is decided for a sound wish has what was wished for (`wished`). Its host is the master, the log
 /// has a slot for it, it is proper and it joins the entries of the list (`appended`): its path is new, its parent
@@ -21,5 +21,5 @@ pub fn a_decided_entry_joins()
 /// Each refusal comes exactly where its cause is the first of all, in the order of `Refused`.
 pub fn the_first_cause_refuses()
     ensures { (p : Params) (me : List ℕ) (list : List Entry) (w : Wish) (refused : Refused)
-        → (decide_wish p me list w ≡ Err refused) ↔ IsRefused p me list w refused }
+        → (decide_wish p me list w ≡ Err refused) ↔ IsFirstRefusal p me list w refused }
 {}

@@ -12,7 +12,7 @@ ghost use Rattle.fam_format.specs.Slot.{Proper};
 ghost use Rattle.fam_format.specs.Tree.{join_fault};
 ghost use Rattle.fam_rules.specs.Place.{line_bytes};
 ghost use Rattle.fam_rules.specs.Written.{formatted, written};
-ghost use Rattle.fam_rules.specs.WrittenLaws.{IsFormatted, HasPlace, IsAppended};
+ghost use Rattle.fam_rules.specs.WrittenLaws.{IsFormatted, HasPhase, IsAppended};
 
 /// Making a file system writes superblock, header and gate (`lines`). It then reads as sound, with no entries
 /// (`empty`).
@@ -27,7 +27,7 @@ pub fn a_new_file_system_is_empty()
 /// entry is appended that is proper and joins reads as one entry more (`read`).
 pub fn an_appended_entry_is_read()
     ensures lines { (p : Params) (seq : ℕ) (e : Entry) (bytes : List ℕ) (image : Image)
-        → HasPlace p seq e (length image) → IsAppended p seq e bytes image (written image p seq e bytes) }
+        → HasPhase p seq e (length image) → IsAppended p seq e bytes image (written image p seq e bytes) }
     ensures read { (image : Image) (p : Params) (list : List Entry) (e : Entry) (bytes : List ℕ)
         → HasWords (line_at image) → SoundParams p → p.device ≤ line_bytes * length image
         → reading image ≡ Sound p list → length list < p.slots → Proper p e → join_fault p list e ≡ None

@@ -19,35 +19,35 @@ use Rattle.fam_format.specs.declared.faults.SuperFault.{SuperFault}
 use Rattle.fam_format.specs.Layout.{device_limit, least_lines}
 use Rattle.fam_format.specs.Reading.{Lines, Reading, NoSuperblock, BadHeader, BadSlot, Sound, gate_in, reading_of, slot_in, super_in}
 use Rattle.fam_format.specs.Slot.{entry_of}
-use Rattle.fam_commands.specs.declared.place.Place.{Place}
-use Rattle.fam_commands.specs.declared.place.Place.TheVariants as at
+use Rattle.fam_commands.specs.declared.phase.Phase.{Phase}
+use Rattle.fam_commands.specs.declared.phase.Phase.TheVariants as at
 use Rattle.fam_machine.specs.Caches.{Cache, IsClean}
-use Rattle.fam_machine.specs.Operations.{Machine, operated, IsInside}
-use Rattle.fam_commands.specs.Solo.{Came, turn_on}
+use Rattle.fam_machine.specs.Operations.{Machine, operated, IsInImage}
+use Rattle.fam_commands.specs.Solo.{SoloRun, turn_on}
 use Rattle.fam_commands.specs.Task.{Task, op_at, op_of}
 use Rattle.fam_commands.specs.Turns as turns
 use Rattle.fam_commands.specs.Turns.{Goes, Marks, Finds, Writes, Ends}
 use Rattle.fam_rules.specs.declared.answers.Refused.{Refused}
-use Rattle.fam_rules.specs.Alone.{stranger}
+use Rattle.fam_rules.specs.Solo.{client_refusal}
 use Rattle.fam_rules.specs.Decide.{wish_of}
 use Rattle.fam_rules.specs.DecideLaws.{IsAttr, IsSoundWish}
 use Rattle.fam_rules.specs.Place.{line_bytes}
 use Rattle.fam_rules.specs.Reply.{Reply}
 use Rattle.fam_commands.specs.Appends.{IsBeforeWrites}
 use Rattle.fam_protocol.specs.Tasks.{IsCommand}
-use Rattle.fam_solo.proofs.AloneLaws.{alone}
-use Rattle.fam_solo.proofs.AloneMachine.{came_looks, looks_end}
-use Rattle.fam_solo.proofs.AloneReads.{AtCheck, CheckedAt, ComesTo, Finished, IsHeadless, refused_host, headless, stopped, all_read, checked, finished}
-use Rattle.fam_solo.proofs.AloneReply.{Answers}
-use Rattle.fam_solo.proofs.AloneSlots.{HasTold}
+use Rattle.fam_solo.proofs.SoloLaws.{solo}
+use Rattle.fam_solo.proofs.Machine.{ran_looks, looks_end}
+use Rattle.fam_solo.proofs.SlotReads.{AtCheck, CheckedAt, ComesTo, Finished, IsHeadless, refused_host, headless, stopped, all_read, checked, finished}
+use Rattle.fam_solo.proofs.Replies.{Answers}
+use Rattle.fam_solo.proofs.Slots.{HasTold}
 use Rattle.fam_tasks.specs.declared.answer.Answer.{Answer}
 use Rattle.fam_tasks.specs.declared.answer.Answer.TheVariants.{NotYet}
 use Rattle.fam_tasks.specs.declared.answer.Turn.TheVariants.{Done}
 use Rattle.fam_tasks.specs.Answers.{reply_of}
 use Rattle.fam_rules.specs.Reports.{is_file}
 use Rattle.fam_tasks.specs.Sound.{IsServed, most_lines}
-use Rattle.fam_tasks.specs.Tells.{Tells, TellsUnless, file_at, meets_file, tells_file}
-use Rattle.fam_run.specs.Files.{IsDue, files_in, meets_a_file, meets_by, meets_in}
+use Rattle.fam_tasks.specs.Tells.{Tells, TellsUnless, reads_file_at, meets_file, tells_file}
+use Rattle.fam_run.specs.Files.{IsExpected, files_in, meets_a_file, meets_by, meets_in}
 use Rattle.fam_run.specs.Run.{EndsBy, HasEnded, HasLeft, IsPlain, Ran, fault_of}
 
 -- Tests of the first numbers.
@@ -85,12 +85,12 @@ module _ (line : Lines) (p : Params) where
   met_in i (Sound q entries) comes is = files_met (gate_in line) i comes is
 
   -- slots that were read are directories'
-  told_plain : (have i : ℕ) (entries : List Entry) → HasTold line have i entries → super_in line have ≡ Ok p → All (λ (e : Entry). e.kind ≡ Directory) entries → (k : ℕ) → k < i → tells_file (slot_in line p k) ≡ false
-  told_plain have i entries told super plain k below = elim (slice_get_cases entries k).1 [
+  modelled_plain : (have i : ℕ) (entries : List Entry) → HasTold line have i entries → super_in line have ≡ Ok p → All (λ (e : Entry). e.kind ≡ Directory) entries → (k : ℕ) → k < i → tells_file (slot_in line p k) ≡ false
+  modelled_plain have i entries modelled super plain k below = elim (slice_get_cases entries k).1 [
     | inl (e, within, is, same) ↦
         let directory : e.kind ≡ Directory = ap (λ (x : Entry). x.kind) (sym same) ∙ All-get_or (λ (x : Entry). x.kind ≡ Directory) entries k e within plain in
-        ap tells_file (told.told p super k e is) ∙ ap is_file directory
-    | inr (past, none) ↦ absurd (omega (arith, past, below, told.count))
+        ap tells_file (modelled.told p super k e is) ∙ ap is_file directory
+    | inr (past, none) ↦ absurd (omega (arith, past, below, modelled.count))
   ]
 
 headless_meets : (line : Lines) (o : Option Refused) (super : Result Params SuperFault) (r : Reading) → IsHeadless r → meets_by line o super r ≡ false
@@ -111,7 +111,7 @@ below_or_at k i below = elim (cases_eq k i) [ inl same ↦ inr same | inr differ
 
 -- Places.
 
-file_before : (place : Place) (t : Task) → file_at place t ≡ true → IsBeforeWrites place
+file_before : (phase : Phase) (t : Task) → reads_file_at phase t ≡ true → IsBeforeWrites phase
 file_before (at.Check i) t is = tt
 file_before at.DropMagic t is = absurd (cc)
 file_before at.Magic t is = absurd (cc)
@@ -128,7 +128,7 @@ file_before at.StoreGate t is = absurd (cc)
 file_before at.SendGate t is = absurd (cc)
 
 -- a slot that is looked at leaves the machine
-file_leaves : (place : Place) (t : Task) (m : Machine) → file_at place t ≡ true → operated (op_at t place) m ≡ m
+file_leaves : (phase : Phase) (t : Task) (m : Machine) → reads_file_at phase t ≡ true → operated (op_at t phase) m ≡ m
 file_leaves (at.Check i) t m is = refl
 file_leaves at.DropMagic t m is = absurd (cc)
 file_leaves at.Magic t m is = absurd (cc)
@@ -145,42 +145,42 @@ file_leaves at.StoreGate t m is = absurd (cc)
 file_leaves at.SendGate t m is = absurd (cc)
 
 -- a turn of the definition with which a call is done
-told_ends : (wanted : turns.Turn) (given : Answer) (after : Task) → Tells wanted (Done given) after → (reply : Reply) × (wanted ≡ Ends reply) × (reply_of given ≡ Some reply)
-told_ends (Goes t) given after tells = absurd (let no : Done given ≡ _ = tells.0 in cc)
-told_ends (Marks t) given after tells = absurd (let no : Done given ≡ _ = tells.0 in cc)
-told_ends (Finds n t) given after tells = absurd (let no : Done given ≡ _ = tells.0 in cc)
-told_ends (Writes seq e t) given after tells = absurd (let no : Done given ≡ _ = tells.0 in cc)
-told_ends (Ends reply) given after tells = (reply, refl, tells)
+modelled_ends : (wanted : turns.Turn) (given : Answer) (after : Task) → Tells wanted (Done given) after → (reply : Reply) × (wanted ≡ Ends reply) × (reply_of given ≡ Some reply)
+modelled_ends (Goes t) given after tells = absurd (let no : Done given ≡ _ = tells.0 in cc)
+modelled_ends (Marks t) given after tells = absurd (let no : Done given ≡ _ = tells.0 in cc)
+modelled_ends (Finds n t) given after tells = absurd (let no : Done given ≡ _ = tells.0 in cc)
+modelled_ends (Writes seq e t) given after tells = absurd (let no : Done given ≡ _ = tells.0 in cc)
+modelled_ends (Ends reply) given after tells = (reply, refl, tells)
 
 module _ (image : Image) (me : List ℕ) (cmd : Cmd) (cache : Cache) (enough : least_lines ≤ length image) (limit : line_bytes * length image ≤ device_limit) (normal : map eight image ≡ image) (clean : IsClean cache) (command : IsCommand cmd) (other : cmd ≡ Fsck → ⊥) where
   -- At a file.
 
-  met_at : (place : Place) (t : Task) → CheckedAt cmd me image cache enough limit normal clean command other place t → file_at place t ≡ true → meets_a_file image me cmd ≡ true
+  met_at : (phase : Phase) (t : Task) → CheckedAt cmd me image cache enough limit normal clean command other phase t → reads_file_at phase t ≡ true → meets_a_file image me cmd ≡ true
   unfolding meets_a_file
   met_at (at.Check i) t c is =
       ap (λ (o : Option Refused). meets_by (line_at image) o (super_in (line_at image) (line_bytes * length image)) (reading_of (line_at image) (line_bytes * length image))) c.known
       ∙ ap (λ (r : Result Params SuperFault). meets_by (line_at image) None r (reading_of (line_at image) (line_bytes * length image))) c.super
       ∙ met_in (line_at image) t.params i (reading_of (line_at image) (line_bytes * length image)) c.comes (ap tells_file (sym c.tells) ∙ is)
-  met_at place t c is = absurd (cc)
+  met_at phase t c is = absurd (cc)
 
-  pub met : (t : Task) (words : List ℕ) (made : ℕ) (m : Machine) → Came cmd me image cache t words made m → meets_file t ≡ true → (meets_a_file image me cmd ≡ true) × ((operated (op_of t) m).image ≡ image)
-  met t words made m came is = (
-    met_at t.place t (checked cmd me image cache enough limit normal clean command other t words made m came) is,
-    ap (λ (x : Machine). x.image) (file_leaves t.place t m is) ∙ (came_looks cmd me image cache normal clean t words made m came (file_before t.place t is)).image_is,
+  pub met : (t : Task) (words : List ℕ) (made : ℕ) (m : Machine) → SoloRun cmd me image cache t words made m → meets_file t ≡ true → (meets_a_file image me cmd ≡ true) × ((operated (op_of t) m).image ≡ image)
+  met t words made m ran is = (
+    met_at t.phase t (checked cmd me image cache enough limit normal clean command other t words made m ran) is,
+    ap (λ (x : Machine). x.image) (file_leaves t.phase t m is) ∙ (ran_looks cmd me image cache normal clean t words made m ran (file_before t.phase t is)).image_is,
   )
 
   -- Elsewhere.
 
-  module _ (t : Task) (words : List ℕ) (made : ℕ) (m : Machine) (reply : Reply) (came : Came cmd me image cache t words made m) (plain : IsPlain t) (no_file : meets_file t ≡ false) where
+  module _ (t : Task) (words : List ℕ) (made : ℕ) (m : Machine) (reply : Reply) (ran : SoloRun cmd me image cache t words made m) (plain : IsPlain t) (no_file : meets_file t ≡ false) where
     -- the slots up to the bad one at which it stands
-    up_to : (i : ℕ) → t.place ≡ at.Check i → HasTold (line_at image) (line_bytes * length image) i t.entries → (p : Params) → super_in (line_at image) (line_bytes * length image) ≡ Ok p → (k : ℕ) → k < i + 1 → tells_file (slot_in (line_at image) p k) ≡ false
-    up_to i place told p super k below =
-        let c : AtCheck cmd me image cache enough limit normal clean command other i t = subst (λ (x : Place). CheckedAt cmd me image cache enough limit normal clean command other x t) place (checked cmd me image cache enough limit normal clean command other t words made m came) in
-        let here : tells_file (entry_of t.params t.words i) ≡ false = subst (λ (x : Place). file_at x t ≡ false) place no_file in
+    up_to : (i : ℕ) → t.phase ≡ at.Check i → HasTold (line_at image) (line_bytes * length image) i t.entries → (p : Params) → super_in (line_at image) (line_bytes * length image) ≡ Ok p → (k : ℕ) → k < i + 1 → tells_file (slot_in (line_at image) p k) ≡ false
+    up_to i phase modelled p super k below =
+        let c : AtCheck cmd me image cache enough limit normal clean command other i t = subst (λ (x : Phase). CheckedAt cmd me image cache enough limit normal clean command other x t) phase (checked cmd me image cache enough limit normal clean command other t words made m ran) in
+        let here : tells_file (entry_of t.params t.words i) ≡ false = subst (λ (x : Phase). reads_file_at x t ≡ false) phase no_file in
         let params_ok : Ok t.params ≡ Ok p = sym c.super ∙ super in
         let params : t.params ≡ p = cc in
         elim (below_or_at k i below) [
-          | inl before ↦ told_plain (line_at image) p (line_bytes * length image) i t.entries told super plain k before
+          | inl before ↦ modelled_plain (line_at image) p (line_bytes * length image) i t.entries modelled super plain k before
           | inr last ↦
               ap (λ (n : ℕ). tells_file (slot_in (line_at image) p n)) last
               ∙ ap (λ (q : Params). tells_file (slot_in (line_at image) q i)) (sym params)
@@ -190,54 +190,54 @@ module _ (image : Image) (me : List ℕ) (cmd : Cmd) (cache : Cache) (enough : l
     by_finish : Finished cmd me image t → meets_a_file image me cmd ≡ false
     unfolding meets_a_file
     by_finish (refused_host r is) = ap (λ (o : Option Refused). meets_by (line_at image) o (super_in (line_at image) (line_bytes * length image)) (reading_of (line_at image) (line_bytes * length image))) is
-    by_finish (headless none) = headless_meets (line_at image) (stranger (wish_of cmd) (super_in (line_at image) (line_bytes * length image)) me) (super_in (line_at image) (line_bytes * length image)) (reading_of (line_at image) (line_bytes * length image)) none
-    by_finish (stopped i reason named place told) =
-        by_super (line_at image) (stranger (wish_of cmd) (super_in (line_at image) (line_bytes * length image)) me) (super_in (line_at image) (line_bytes * length image)) (reading_of (line_at image) (line_bytes * length image))
-        (λ p super. ap (meets_in (line_at image) p) named ∙ no_files (line_at image) p (i + 1) (up_to i place told p super))
-    by_finish (all_read q entries named told) =
-        by_super (line_at image) (stranger (wish_of cmd) (super_in (line_at image) (line_bytes * length image)) me) (super_in (line_at image) (line_bytes * length image)) (reading_of (line_at image) (line_bytes * length image))
+    by_finish (headless none) = headless_meets (line_at image) (client_refusal (wish_of cmd) (super_in (line_at image) (line_bytes * length image)) me) (super_in (line_at image) (line_bytes * length image)) (reading_of (line_at image) (line_bytes * length image)) none
+    by_finish (stopped i reason named phase modelled) =
+        by_super (line_at image) (client_refusal (wish_of cmd) (super_in (line_at image) (line_bytes * length image)) me) (super_in (line_at image) (line_bytes * length image)) (reading_of (line_at image) (line_bytes * length image))
+        (λ p super. ap (meets_in (line_at image) p) named ∙ no_files (line_at image) p (i + 1) (up_to i phase modelled p super))
+    by_finish (all_read q entries named modelled) =
+        by_super (line_at image) (client_refusal (wish_of cmd) (super_in (line_at image) (line_bytes * length image)) me) (super_in (line_at image) (line_bytes * length image)) (reading_of (line_at image) (line_bytes * length image))
         (λ p super. ap (meets_in (line_at image) p) named
-        ∙ no_files (line_at image) p (gate_in (line_at image)) (told_plain (line_at image) p (line_bytes * length image) (gate_in (line_at image)) t.entries told super plain))
+        ∙ no_files (line_at image) p (gate_in (line_at image)) (modelled_plain (line_at image) p (line_bytes * length image) (gate_in (line_at image)) t.entries modelled super plain))
 
-    pub not_met : IsInside (op_of t) m.image → turn_on t m ≡ Ends reply → meets_a_file image me cmd ≡ false
-    not_met inside ends = by_finish (finished cmd me image cache enough limit normal clean command other t words made m reply came inside ends)
+    pub not_met : IsInImage (op_of t) m.image → turn_on t m ≡ Ends reply → meets_a_file image me cmd ≡ false
+    not_met inside ends = by_finish (finished cmd me image cache enough limit normal clean command other t words made m reply ran inside ends)
 
-  -- What is due.
+  -- What is expected.
 
-  module _ (given : Answer) (told : Option Image) (ended : HasEnded cmd me image cache given told) where
-    due_by : (file : Bool) → meets_file ended.reached.task ≡ file → TellsUnless file (turn_on ended.reached.task ended.reached.machine) (Done given) ended.after → IsDue (meets_a_file image me cmd) image me cmd given told
-    due_by true is not_yet =
-        let at_file = met ended.reached.task ended.reached.words ended.reached.made ended.reached.machine ended.reached.came is in
+  module _ (given : Answer) (modelled : Option Image) (ended : HasEnded cmd me image cache given modelled) where
+    expected_by : (file : Bool) → meets_file ended.reached.task ≡ file → TellsUnless file (turn_on ended.reached.task ended.reached.machine) (Done given) ended.after → IsExpected (meets_a_file image me cmd) image me cmd given modelled
+    expected_by true is not_yet =
+        let at_file = met ended.reached.task ended.reached.words ended.reached.made ended.reached.machine ended.reached.ran is in
         let answer : given ≡ NotYet = let done : Done given ≡ Done NotYet = not_yet in cc in
         rw at_file.0 (answer, ended.left ∙ ap Some at_file.1)
-    due_by false is tells =
-        let ends = told_ends (turn_on ended.reached.task ended.reached.machine) given ended.after tells in
-        let none : meets_a_file image me cmd ≡ false = not_met ended.reached.task ended.reached.words ended.reached.made ended.reached.machine ends.0 ended.reached.came ended.reached.plain is ended.inside ends.1 in
-        let answers : Answers image me cmd ends.0 (operated (op_of ended.reached.task) ended.reached.machine).image = (alone image me cmd cache ended.reached.task ended.reached.words ended.reached.made ended.reached.machine ends.0 enough limit normal clean command ended.reached.came ended.inside ends.1).0 in
+    expected_by false is tells =
+        let ends = modelled_ends (turn_on ended.reached.task ended.reached.machine) given ended.after tells in
+        let none : meets_a_file image me cmd ≡ false = not_met ended.reached.task ended.reached.words ended.reached.made ended.reached.machine ends.0 ended.reached.ran ended.reached.plain is ended.inside ends.1 in
+        let answers : Answers image me cmd ends.0 (operated (op_of ended.reached.task) ended.reached.machine).image = (solo image me cmd cache ended.reached.task ended.reached.words ended.reached.made ended.reached.machine ends.0 enough limit normal clean command ended.reached.ran ended.inside ends.1).0 in
         rw none (ends.2 ∙ ap Some answers.answer, ended.left ∙ ap Some answers.left_is)
 
-    pub due : IsDue (meets_a_file image me cmd) image me cmd given told
-    due = due_by (meets_file ended.reached.task) refl ended.reply
+    pub expected : IsExpected (meets_a_file image me cmd) image me cmd given modelled
+    expected = expected_by (meets_file ended.reached.task) refl ended.reply
 
 -- the cache has nothing to send then either
-pub left_clean : (image : Image) (me : List ℕ) (cmd : Cmd) (cache : Cache) (given : Answer) (told : Option Image) (held : Cache) → least_lines ≤ length image → length image ≤ most_lines → map eight image ≡ image → IsClean cache → IsCommand cmd → HasLeft cmd me image cache given told held
+pub left_clean : (image : Image) (me : List ℕ) (cmd : Cmd) (cache : Cache) (given : Answer) (modelled : Option Image) (held : Cache) → least_lines ≤ length image → length image ≤ most_lines → map eight image ≡ image → IsClean cache → IsCommand cmd → HasLeft cmd me image cache given modelled held
     → IsClean held
-left_clean image me cmd cache given told held enough most normal clean command left =
+left_clean image me cmd cache given modelled held enough most normal clean command left =
     subst IsClean (sym left.keeps) (by_file (meets_file left.ended.reached.task) refl left.ended.reply)
   where
     by_file : (file : Bool) → meets_file left.ended.reached.task ≡ file → TellsUnless file (turn_on left.ended.reached.task left.ended.reached.machine) (Done given) left.ended.after → IsClean (operated (op_of left.ended.reached.task) left.ended.reached.machine).cache
     by_file true is tells =
-        (looks_end cmd me image cache normal clean left.ended.reached.task left.ended.reached.words left.ended.reached.made left.ended.reached.machine left.ended.reached.came (file_before left.ended.reached.task.place left.ended.reached.task is)).1
+        (looks_end cmd me image cache normal clean left.ended.reached.task left.ended.reached.words left.ended.reached.made left.ended.reached.machine left.ended.reached.ran (file_before left.ended.reached.task.phase left.ended.reached.task is)).1
     by_file false is tells =
-        let ends = told_ends (turn_on left.ended.reached.task left.ended.reached.machine) given left.ended.after tells in
-        (alone image me cmd cache left.ended.reached.task left.ended.reached.words left.ended.reached.made left.ended.reached.machine ends.0 enough (omega (arith, most)) normal clean command left.ended.reached.came left.ended.inside ends.1).1
+        let ends = modelled_ends (turn_on left.ended.reached.task left.ended.reached.machine) given left.ended.after tells in
+        (solo image me cmd cache left.ended.reached.task left.ended.reached.words left.ended.reached.made left.ended.reached.machine ends.0 enough (omega (arith, most)) normal clean command left.ended.reached.ran left.ended.inside ends.1).1
 
--- a command ran to its answer, from a cache that had nothing to send, and memory didn't fail
-pub run_due : (image : Image) (me : List ℕ) (cmd : Cmd) (cache : Cache) (given : Answer) (told : Option Image) → least_lines ≤ length image → length image ≤ most_lines → map eight image ≡ image → IsClean cache → IsServed cmd → IsCommand cmd → fault_of given ≡ None → Ran cmd me image cache given told
-    → IsDue (meets_a_file image me cmd) image me cmd given told
-run_due image me cmd cache given told enough most normal clean served command no_fault ran =
-    due image me cmd cache enough (omega (arith, most)) normal clean command (λ fsck. subst IsServed fsck served) given told
-    (subst (λ (o : Option LineNo). EndsBy o cmd me image cache given told) no_fault ran)
+-- a command ran to its answer, from a cache that had nothing to send, and the media didn't fail
+pub run_expected : (image : Image) (me : List ℕ) (cmd : Cmd) (cache : Cache) (given : Answer) (modelled : Option Image) → least_lines ≤ length image → length image ≤ most_lines → map eight image ≡ image → IsClean cache → IsServed cmd → IsCommand cmd → fault_of given ≡ None → Ran cmd me image cache given modelled
+    → IsExpected (meets_a_file image me cmd) image me cmd given modelled
+run_expected image me cmd cache given modelled enough most normal clean served command no_fault ran =
+    expected image me cmd cache enough (omega (arith, most)) normal clean command (λ fsck. subst IsServed fsck served) given modelled
+    (subst (λ (o : Option LineNo). EndsBy o cmd me image cache given modelled) no_fault ran)
 
 -- Commands.
 

@@ -19,16 +19,16 @@ use Rattle.fam_format.specs.Tree.{join_fault}
 use Rattle.fam_rules.specs.declared.answers.Refused.{Refused}
 use Rattle.fam_rules.specs.Decide.{Wish, wish_of, decide_wish}
 use Rattle.fam_rules.specs.Place.{line_bytes}
-use Rattle.fam_commands.specs.declared.place.Part.{Part}
-use Rattle.fam_commands.specs.declared.place.Part.TheVariants as part
-use Rattle.fam_commands.specs.declared.place.Place.{Place}
-use Rattle.fam_commands.specs.declared.place.Place.TheVariants as at
+use Rattle.fam_commands.specs.declared.phase.Part.{Part}
+use Rattle.fam_commands.specs.declared.phase.Part.TheVariants as part
+use Rattle.fam_commands.specs.declared.phase.Phase.{Phase}
+use Rattle.fam_commands.specs.declared.phase.Phase.TheVariants as at
 use Rattle.fam_commands.specs.Stands.{task_after}
 use Rattle.fam_commands.specs.Task.{Task}
-use Rattle.fam_commands.specs.Turns.{Turn, Goes, Marks, Finds, Writes, Ends, turn_at, magic_turn, super_turn, host_turn, host_refusal, header_turn, gate_turn, finds_or_goes, with_gate, slot_or_decide, check_turn, slot_turn, join_turn, decide_turn, wish_turn, append_turn, line_turn, word_turn, with_word, slot_or_gate}
+use Rattle.fam_commands.specs.Turns.{Turn, Goes, Marks, Finds, Writes, Ends, turn_at, magic_turn, super_turn, host_turn, host_refusal, header_turn, gate_turn, finds_or_goes, gate_loaded, slot_or_decide, check_turn, slot_turn, join_turn, decide_turn, wish_turn, append_turn, line_turn, word_turn, with_word, slot_or_gate}
 use Rattle.fam_rules.specs.Reports.{is_file}
 use Rattle.fam_tasks.specs.Sound.{IsServed, IsLine, IsSoundAt}
-use Rattle.fam_tasks.specs.Tells.{file_at, tells_file}
+use Rattle.fam_tasks.specs.Tells.{reads_file_at, tells_file}
 use Rattle.fam_run.specs.Run.{IsPlain}
 use Rattle.fam_commands.specs.Counts.{line_steps, append_steps, slot_steps}
 use Rattle.fam_format.specs.Layout.{geometry}
@@ -51,7 +51,7 @@ reading (part.Slot i) j k t = from_slot t (i + 1) + line_steps * ((geometry t.pa
 reading part.File j k t = 0
 
 -- at a place
-abbrev pub left_at : Place → Task → ℕ
+abbrev pub left_at : Phase → Task → ℕ
 left_at at.DropMagic t = behind_head t + 38
 left_at at.Magic t = behind_head t + 37
 left_at (at.Drop part j) t = reading part j 0 t + 1
@@ -68,12 +68,12 @@ left_at at.StoreGate t = 2
 left_at at.SendGate t = 1
 
 abbrev pub left : Task → ℕ
-left t = left_at t.place t
+left t = left_at t.phase t
 
 -- the task goes on: fewer than n operations may still come, and what was read is as plain as before
 pub record Kept (n : ℕ) (t next : Task) : Type 0 where
   pub lines : next.lines ≡ t.lines
-  pub falls : IsSoundAt next.place next → left next < n
+  pub falls : IsSoundAt next.phase next → left next < n
   pub plain : IsPlain t → IsPlain next
 
 -- the task that a turn goes on with, if it does
@@ -150,12 +150,12 @@ before_word n t word (Ends reply) k = tt
 word_keeps : (p : Part) (t : Task) (j k word : ℕ) → IsLine p j t → k < 8 → Keeps (reading p j k t) t (word_turn (with_word t word) p j k)
 word_keeps p t j k word is small =
     either (reading p j k t) t (nat_lt k 7) _ _
-    (record { lines = refl; falls = λ _. next_word p t (record (with_word t word) { place = at.Word p j (k + 1) }) j k refl refl is small; plain = λ h. h })
+    (record { lines = refl; falls = λ _. next_word p t (record (with_word t word) { phase = at.Word p j (k + 1) }) j k refl refl is small; plain = λ h. h })
     (before_word (reading p j k t) t word (line_turn (with_word t word) p j)
     (subst (λ (n : ℕ). Keeps n (with_word t word) (line_turn (with_word t word) p j)) (same_reading p t j k word)
     (line_keeps p (with_word t word) j k (same_line p t j word is) small)))
 
-first_word : (p : Part) (t : Task) (j : ℕ) → Keeps (reading p j 0 t + 1) t (Goes (record t { place = at.Word p j 0 }))
+first_word : (p : Part) (t : Task) (j : ℕ) → Keeps (reading p j 0 t + 1) t (Goes (record t { phase = at.Word p j 0 }))
 first_word part.Superblock t j = record { lines = refl; falls = λ _. omega arith; plain = λ h. h }
 first_word part.Header t j = record { lines = refl; falls = λ _. omega arith; plain = λ h. h }
 first_word (part.Slot i) t j = record { lines = refl; falls = λ _. omega arith; plain = λ h. h }
@@ -177,8 +177,8 @@ finds_keeps n t m next (Some w) k = k
 gate_keeps : (t : Task) (m : ℕ) (fault : Option LogFault) → Keeps (left_at at.Gate t) t (gate_turn t m fault)
 gate_keeps t m (Some fault) = tt
 gate_keeps t m None =
-    finds_keeps (left_at at.Gate t) t m (with_gate t m) (wish_of t.cmd)
-    (record { lines = refl; falls = slot_falls (with_gate t m) t.first_slot (left_at at.Gate t) _ (λ h. omega (arith, h)) (omega arith); plain = λ h. h })
+    finds_keeps (left_at at.Gate t) t m (gate_loaded t m) (wish_of t.cmd)
+    (record { lines = refl; falls = slot_falls (gate_loaded t m) t.first_slot (left_at at.Gate t) _ (λ h. omega (arith, h)) (omega arith); plain = λ h. h })
 
 directory_of : (kind : Kind) → is_file kind ≡ false → kind ≡ Directory
 directory_of File plain_slot = absurd cc
@@ -192,7 +192,7 @@ join_keeps : (t : Task) (i : ℕ) (e : Entry) (fault : Option Reason) → e.kind
 join_keeps t i e (Some reason) directory = tt
 join_keeps t i e None directory = record {
   lines = refl;
-  falls = slot_falls (record t { entries = t.entries ++ e ∷ []; words = []; place = slot_or_decide t (i + 1) }) (i + 1) (from_slot t (i + 1)) _ (λ _. omega arith) (omega arith);
+  falls = slot_falls (record t { entries = t.entries ++ e ∷ []; words = []; phase = slot_or_decide t (i + 1) }) (i + 1) (from_slot t (i + 1)) _ (λ _. omega arith) (omega arith);
   plain = λ h. All-append (λ (x : Entry). x.kind ≡ Directory) t.entries (e ∷ []) h (one_directory e directory);
 }
 
@@ -244,7 +244,7 @@ send_falls t j false h = omega arith
 
 -- All places.
 
-keeps_at : (place : Place) (t : Task) (word : ℕ) → IsServed t.cmd → IsSoundAt place t → file_at place t ≡ false → Keeps (left_at place t) t (turn_at place t word)
+keeps_at : (phase : Phase) (t : Task) (word : ℕ) → IsServed t.cmd → IsSoundAt phase t → reads_file_at phase t ≡ false → Keeps (left_at phase t) t (turn_at phase t word)
 keeps_at at.DropMagic t word served stands plain_slot = record { lines = refl; falls = λ _. omega arith; plain = λ h. h }
 keeps_at at.Magic t word served stands plain_slot = magic_keeps t (magic_fault word)
 keeps_at (at.Drop p j) t word served stands plain_slot = first_word p t j
@@ -258,7 +258,7 @@ keeps_at (at.SendData j) t word served stands plain_slot = absurd stands
 keeps_at (at.StoreSlot j k) t word served stands plain_slot =
     record { lines = refl; falls = λ _. store_falls t _ j k (nat_lt k 7) stands.2; plain = λ h. h }
 keeps_at (at.SendSlot j) t word served stands plain_slot =
-    record { lines = refl; falls = send_falls (record t { place = slot_or_gate t j }) j (nat_lt (j + 1) 8); plain = λ h. h }
+    record { lines = refl; falls = send_falls (record t { phase = slot_or_gate t j }) j (nat_lt (j + 1) 8); plain = λ h. h }
 keeps_at at.StoreGate t word served stands plain_slot = record { lines = refl; falls = λ _. omega arith; plain = λ h. h }
 keeps_at at.SendGate t word served stands plain_slot = tt
 
@@ -270,5 +270,5 @@ kept_by n t next (Writes seq e other) k is = subst (λ (x : Task). Kept n t x) (
 kept_by n t next (Ends reply) k is = absurd cc
 
 -- the task after any word that an operation may give
-pub kept : (t next : Task) (word : ℕ) → IsServed t.cmd → IsSoundAt t.place t → file_at t.place t ≡ false → task_after (turn_at t.place t word) ≡ Some next → Kept (left t) t next
-kept t next word served stands plain_slot is = kept_by (left t) t next (turn_at t.place t word) (keeps_at t.place t word served stands plain_slot) is
+pub kept : (t next : Task) (word : ℕ) → IsServed t.cmd → IsSoundAt t.phase t → reads_file_at t.phase t ≡ false → task_after (turn_at t.phase t word) ≡ Some next → Kept (left t) t next
+kept t next word served stands plain_slot is = kept_by (left t) t next (turn_at t.phase t word) (keeps_at t.phase t word served stands plain_slot) is

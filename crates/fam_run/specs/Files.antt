@@ -7,7 +7,7 @@ use Rattle.fam_base.specs.Image.{Image, line_at}
 use Rattle.fam_format.specs.declared.faults.SuperFault.{SuperFault}
 use Rattle.fam_format.specs.Reading.{Lines, Reading, NoSuperblock, BadHeader, BadSlot, Sound, super_in, gate_in, slot_in, reading_of}
 use Rattle.fam_rules.specs.declared.answers.Refused.{Refused}
-use Rattle.fam_rules.specs.Alone.{alone_image, alone_reply, stranger}
+use Rattle.fam_rules.specs.Solo.{solo_image, solo_reply, client_refusal}
 use Rattle.fam_rules.specs.Decide.{wish_of}
 use Rattle.fam_rules.specs.Place.{line_bytes}
 use Rattle.fam_tasks.specs.declared.answer.Answer.{Answer}
@@ -35,10 +35,10 @@ meets_by line None (Ok p) reading = meets_in line p reading
 -- the command meets a file before its answer
 unfoldable pub meets_a_file : Image → List ℕ → Cmd → Bool
 meets_a_file image me cmd =
-    meets_by (line_at image) (stranger (wish_of cmd) (super_in (line_at image) (line_bytes * length image)) me) (super_in (line_at image) (line_bytes * length image)) (reading_of (line_at image) (line_bytes * length image))
+    meets_by (line_at image) (client_refusal (wish_of cmd) (super_in (line_at image) (line_bytes * length image)) me) (super_in (line_at image) (line_bytes * length image)) (reading_of (line_at image) (line_bytes * length image))
 
--- the answer that is due, and what is left: by whether the command meets a file. Where it does, it answers that it
+-- the answer that is expected, and what is left: by whether the command meets a file. Where it does, it answers that it
 -- can't read it yet, and the image is as it was
-abbrev pub IsDue : Bool → Image → List ℕ → Cmd → Answer → Option Image → Type 0
-IsDue true image me cmd given told = (given ≡ NotYet) × (told ≡ Some image)
-IsDue false image me cmd given told = (reply_of given ≡ Some (alone_reply image me cmd)) × (told ≡ Some (alone_image image me cmd))
+abbrev pub IsExpected : Bool → Image → List ℕ → Cmd → Answer → Option Image → Type 0
+IsExpected true image me cmd given modelled = (given ≡ NotYet) × (modelled ≡ Some image)
+IsExpected false image me cmd given modelled = (reply_of given ≡ Some (solo_reply image me cmd)) × (modelled ≡ Some (solo_image image me cmd))

@@ -23,7 +23,7 @@ pub record HasTurned (task : Task) (m : Machine) (turn : Turn) (new : Task) (sho
 abbrev pub GoesOn : Task → Cache → Turn → Task → Type 0
 GoesOn task held turn new = TellsUnless (meets_file task) (turn_of task (word_of (op_of task) held)) turn new
 
--- no task answers that memory failed
+-- no task answers that the media failed
 abbrev pub IsNoFault : Turn → Type 0
 IsNoFault turn = (line : LineNo) → turn ≢ Done (MediaFault line)
 

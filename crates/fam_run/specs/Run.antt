@@ -7,8 +7,8 @@ use Rattle.fam_base.specs.declared.entry.Entry.{Entry}
 use Rattle.fam_base.specs.declared.entry.Kind.TheVariants.{Directory}
 use Rattle.fam_machine.specs.Caches.{Cache}
 use Rattle.fam_machine.specs.Cuts.{Fails}
-use Rattle.fam_machine.specs.Operations.{Machine, operated, IsInside}
-use Rattle.fam_commands.specs.Solo.{Came, turn_on}
+use Rattle.fam_machine.specs.Operations.{Machine, operated, IsInImage}
+use Rattle.fam_commands.specs.Solo.{SoloRun, turn_on}
 use Rattle.fam_commands.specs.Task.{Task, op_of}
 use Rattle.fam_tasks.specs.declared.answer.Answer.{Answer}
 use Rattle.fam_tasks.specs.declared.answer.Answer.TheVariants as answer
@@ -19,7 +19,7 @@ use Rattle.fam_tasks.specs.Tells.{TellsUnless, meets_file}
 abbrev pub IsPlain : Task → Type 0
 IsPlain task = All (λ (e : Entry). e.kind ≡ Directory) task.entries
 
--- the line at which memory failed, of an answer that says so
+-- the line at which the media failed, of an answer that says so
 abbrev pub fault_of : Answer → Option LineNo
 fault_of (answer.Ok seq) = None
 fault_of (answer.Played m tree) = None
@@ -51,49 +51,49 @@ pub record Reached (cmd : Cmd) (me : List ℕ) (image : Image) (cache : Cache) :
   pub words : List ℕ
   pub made : ℕ
   pub machine : Machine
-  pub came : Came cmd me image cache task words made machine
+  pub ran : SoloRun cmd me image cache task words made machine
   pub plain : IsPlain task
 
 -- the command stands there still, with this task, this cache and this memory
-pub record Running (cmd : Cmd) (me : List ℕ) (image : Image) (cache : Cache) (task : Task) (held : Cache) (told : Option Image) : Type 0 where
+pub record Running (cmd : Cmd) (me : List ℕ) (image : Image) (cache : Cache) (task : Task) (held : Cache) (modelled : Option Image) : Type 0 where
   pub words : List ℕ
   pub made : ℕ
   pub now : Image
-  pub came : Came cmd me image cache task words made (record { image = now; cache = held })
+  pub ran : SoloRun cmd me image cache task words made (record { image = now; cache = held })
   pub plain : IsPlain task
-  pub told_is : told ≡ Some now
+  pub modelled_is : modelled ≡ Some now
 
 -- one more operation was done, and with it the task answers: as the definition's turn, or where the slot that it
 -- looks at is a file's, that it can't read it yet
-pub record HasEnded (cmd : Cmd) (me : List ℕ) (image : Image) (cache : Cache) (given : Answer) (told : Option Image) : Type 0 where
+pub record HasEnded (cmd : Cmd) (me : List ℕ) (image : Image) (cache : Cache) (given : Answer) (modelled : Option Image) : Type 0 where
   pub reached : Reached cmd me image cache
-  pub inside : IsInside (op_of reached.task) reached.machine.image
-  pub left : told ≡ Some (operated (op_of reached.task) reached.machine).image
+  pub inside : IsInImage (op_of reached.task) reached.machine.image
+  pub left : modelled ≡ Some (operated (op_of reached.task) reached.machine).image
   pub after : Task
   pub reply : TellsUnless (meets_file reached.task) (turn_on reached.task reached.machine) (Done given) after
 
 -- the same, with what is left of the cache
-pub record HasLeft (cmd : Cmd) (me : List ℕ) (image : Image) (cache : Cache) (given : Answer) (told : Option Image) (held : Cache) : Type 0 where
-  pub ended : HasEnded cmd me image cache given told
+pub record HasLeft (cmd : Cmd) (me : List ℕ) (image : Image) (cache : Cache) (given : Answer) (modelled : Option Image) (held : Cache) : Type 0 where
+  pub ended : HasEnded cmd me image cache given modelled
   pub keeps : held ≡ (operated (op_of ended.reached.task) ended.reached.machine).cache
 
--- memory failed in the operation that came next, at this line, and some words of a send came through
-pub record HasBroken (cmd : Cmd) (me : List ℕ) (image : Image) (cache : Cache) (at : LineNo) (told : Option Image) : Type 0 where
+-- the media failed in the operation that came next, at this line, and some words of a send came through
+pub record HasBroken (cmd : Cmd) (me : List ℕ) (image : Image) (cache : Cache) (at : LineNo) (modelled : Option Image) : Type 0 where
   pub reached : Reached cmd me image cache
   pub state : Machine
   pub fails : Fails (op_of reached.task) reached.machine at state
-  pub left : told ≡ Some state.image
+  pub left : modelled ≡ Some state.image
 
 -- no memory was left for the operation that came next
-pub record HasStopped (cmd : Cmd) (me : List ℕ) (image : Image) (cache : Cache) (told : Option Image) : Type 0 where
+pub record HasStopped (cmd : Cmd) (me : List ℕ) (image : Image) (cache : Cache) (modelled : Option Image) : Type 0 where
   pub reached : Reached cmd me image cache
-  pub left : told ≡ Some reached.machine.image
+  pub left : modelled ≡ Some reached.machine.image
 
--- by whether the answer is that memory failed
+-- by whether the answer is that the media failed
 abbrev pub EndsBy : Option LineNo → Cmd → List ℕ → Image → Cache → Answer → Option Image → Type 0
-EndsBy None cmd me image cache given told = HasEnded cmd me image cache given told
-EndsBy (Some line) cmd me image cache given told = HasBroken cmd me image cache line told
+EndsBy None cmd me image cache given modelled = HasEnded cmd me image cache given modelled
+EndsBy (Some line) cmd me image cache given modelled = HasBroken cmd me image cache line modelled
 
 -- the command's run, from an image and a cache to what is left of the image
 abbrev pub Ran : Cmd → List ℕ → Image → Cache → Answer → Option Image → Type 0
-Ran cmd me image cache given told = EndsBy (fault_of given) cmd me image cache given told
+Ran cmd me image cache given modelled = EndsBy (fault_of given) cmd me image cache given modelled

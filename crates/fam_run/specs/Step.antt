@@ -7,7 +7,7 @@ use Rattle.fam_machine.specs.Cuts.{HasFailed}
 use Rattle.fam_machine.specs.Operations.{machine}
 use Rattle.fam_commands.specs.Task.{Task, op_of}
 use Rattle.fam_media.specs.Causes.{Rose}
-use Rattle.fam_media.specs.Outside.{IfTold}
+use Rattle.fam_media.specs.Outside.{IfModelled}
 use Rattle.fam_tasks.specs.declared.answer.Answer.{Answer}
 use Rattle.fam_tasks.specs.declared.answer.Answer.TheVariants.{MediaFault}
 use Rattle.fam_tasks.specs.declared.answer.Turn.{Turn}
@@ -19,7 +19,7 @@ pub record Around : Type 0 where
   pub next : Task
   pub old : Cache
   pub new : Cache
-  pub told : Option Image
+  pub modelled : Option Image
   pub left : Option Image
   pub size : ℕ
   pub before : ℕ
@@ -29,15 +29,15 @@ pub record Around : Type 0 where
 pub record IsDone (a : Around) (answer : Option Answer) : Type 0 where
   pub turn : Turn
   pub ends : ended turn ≡ answer
-  pub turned : IfTold a.told (λ image. HasTurned a.task (machine image a.old) turn a.next a.left a.new)
+  pub turned : IfModelled a.modelled (λ image. HasTurned a.task (machine image a.old) turn a.next a.left a.new)
   pub goes : GoesOn a.task a.new turn a.next
   pub own : IsNoFault turn
 
--- memory failed in it, and the command answers so
+-- the media failed in it, and the command answers so
 pub record IsFault (a : Around) (answer : Option Answer) : Type 0 where
   pub line : LineNo
   pub answers : answer ≡ Some (MediaFault line)
-  pub failed : IfTold a.told (λ image. HasFailed (op_of a.task) (machine image a.old) line a.left a.new)
+  pub failed : IfModelled a.modelled (λ image. HasFailed (op_of a.task) (machine image a.old) line a.left a.new)
   pub rose : Rose a.before a.now
   pub within : line.0 < a.size
 

@@ -5,7 +5,7 @@ ghost use Rattle.fam_machine.specs.Cuts.{HasFailed};
 ghost use Rattle.fam_machine.specs.Operations.{IsWithin, machine, op_line};
 ghost use Rattle.fam_commands.specs.Task.{op_of};
 ghost use Rattle.fam_media.specs.Causes.{IsSteady, Rose};
-ghost use Rattle.fam_media.specs.Outside.{IfTold};
+ghost use Rattle.fam_media.specs.Outside.{IfModelled};
 ghost use Rattle.fam_cache.specs.Faults.{IfMediaFault};
 ghost use Rattle.fam_cache.specs.Operations.{LeavesCache};
 ghost use Rattle.fam_run.specs.Operation.{GoesOn, HasTurned, IsNoFault, KeepsLines};
@@ -28,9 +28,9 @@ pub fn operate<M: Media>(
     requires lines { task.old.lines ≡ M.size media.old }
 
     // Where an image is modelled, it and the cache are what the machine makes of them.
-    ensures turned { IfOk result (λ turn. IfTold (M.image media.old) (λ image.
+    ensures turned { IfOk result (λ turn. IfModelled (M.image media.old) (λ image.
         HasTurned task.old (machine image cache.old.lines) turn task.new (M.image media.new) cache.new.lines)) }
-    ensures failed { IfErr result (λ fault. IfMediaFault fault (λ line. IfTold (M.image media.old) (λ image.
+    ensures failed { IfErr result (λ fault. IfMediaFault fault (λ line. IfModelled (M.image media.old) (λ image.
         HasFailed (op_of task.old) (machine image cache.old.lines) line (M.image media.new) cache.new.lines))) }
 
     // On any media the cache is what the machine's table makes of the operation's line, and the task goes on by the

@@ -5,7 +5,7 @@ ghost use Rattle.fam_machine.specs.Cuts.{HasFailed};
 ghost use Rattle.fam_machine.specs.Operations.{IsWithin, machine};
 ghost use Rattle.fam_commands.specs.Task.{op_of};
 ghost use Rattle.fam_media.specs.Causes.{IsSteady, Rose};
-ghost use Rattle.fam_media.specs.Outside.{IfTold};
+ghost use Rattle.fam_media.specs.Outside.{IfModelled};
 ghost use Rattle.fam_cache.specs.Faults.{IfMediaFault};
 ghost use Rattle.fam_run.specs.Operation.{GoesOn, HasTurned};
 ghost use Rattle.fam_tasks.specs.declared.answer.Turn.TheVariants.{Go};
@@ -25,10 +25,10 @@ pub(crate) fn read_next<M: Media>(
 ) -> Result<bool, OperationFault>
     requires lines { task.old.lines ≡ M.size media.old }
 
-    ensures turned { IfOk result (λ reads. reads ≡ true → IfTold (M.image media.old) (λ image.
+    ensures turned { IfOk result (λ reads. reads ≡ true → IfModelled (M.image media.old) (λ image.
         HasTurned task.old (machine image cache.old.lines) Go task.new (M.image media.new) cache.new.lines)) }
     ensures goes { IfOk result (λ reads. reads ≡ true → GoesOn task.old cache.new.lines Go task.new) }
-    ensures failed { IfErr result (λ fault. IfMediaFault fault (λ line. IfTold (M.image media.old) (λ image.
+    ensures failed { IfErr result (λ fault. IfMediaFault fault (λ line. IfModelled (M.image media.old) (λ image.
         HasFailed (op_of task.old) (machine image cache.old.lines) line (M.image media.new) cache.new.lines))) }
     ensures inside { IfErr result (λ fault. IfMediaFault fault (λ line. line.0 < M.size media.old)) }
     ensures rose { IfErr result (λ fault. IfMediaFault fault (λ line.

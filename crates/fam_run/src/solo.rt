@@ -6,13 +6,13 @@ ghost use Rattle.fam_base.specs.Image.{Image};
 ghost use Rattle.fam_base.specs.declared.cmd.Cmd.{Cmd};
 ghost use Rattle.fam_format.specs.Layout.{least_lines};
 ghost use Rattle.fam_media.specs.Causes.{IsSteady, Rose};
-ghost use Rattle.fam_media.specs.Outside.{IfTold};
+ghost use Rattle.fam_media.specs.Outside.{IfModelled};
 ghost use Rattle.fam_base.specs.Commands.{mode_limit};
 ghost use Rattle.fam_rules.specs.DecideLaws.{IsAttr};
 ghost use Rattle.fam_protocol.specs.Tasks.{IsCommand};
 ghost use Rattle.fam_machine.specs.Operations.{IsWithin};
 ghost use Rattle.fam_tasks.specs.Sound.{IsServed};
-ghost use Rattle.fam_run.specs.Files.{IsDue, meets_a_file};
+ghost use Rattle.fam_run.specs.Files.{IsExpected, meets_a_file};
 ghost use Rattle.fam_run.specs.Operation.{ended};
 ghost use Rattle.fam_run.specs.Step.{HasOperated};
 ghost use Rattle.fam_machine.specs.Caches.{Cache};
@@ -53,7 +53,7 @@ fn go_on<M: Media>(
       next = task.new;
       old = cache.old.lines;
       new = cache.new.lines;
-      told = M.image media.old;
+      modelled = M.image media.old;
       left = M.image media.new;
       size = M.size media.old;
       before = M.faults media.old;
@@ -128,7 +128,7 @@ fn is_command(cmd: &Cmd)
     }
 }
 
-/// Runs a command to its answer, on the host `me` and an empty cache. Where memory fails the answer is `MediaFault`
+/// Runs a command to its answer, on the host `me` and an empty cache. Where the media fails the answer is `MediaFault`
 /// with the line.
 ///
 /// `OutOfMemory` comes where the cache has no room for one more line, or where a Digest finds no memory. What the
@@ -142,15 +142,15 @@ pub fn run<M: Media>(
     requires served { IsServed cmd }
     requires least { least_lines ≤ M.size media.old }
 
-    // Where an image is told, the command's operations were done on it, one after another, up to the answer or the
+    // Where an image is modelled, the command's operations were done on it, one after another, up to the answer or the
     // fault.
-    ensures ran { IfOk result (λ answer. IfTold (M.image media.old)
+    ensures ran { IfOk result (λ answer. IfModelled (M.image media.old)
         (λ image. Ran cmd me image map.empty answer (M.image media.new))) }
-    ensures stopped { OnErr result (IfTold (M.image media.old)
+    ensures stopped { OnErr result (IfModelled (M.image media.old)
         (λ image. HasStopped cmd me image map.empty (M.image media.new))) }
     // Without a fault the answer, and what is left, are those of the rules, or NotYet where the command meets a file.
-    ensures due { IfOk result (λ answer. fault_of answer ≡ None → IfTold (M.image media.old)
-        (λ image. IsDue (meets_a_file image me cmd) image me cmd answer (M.image media.new))) }
+    ensures expected { IfOk result (λ answer. fault_of answer ≡ None → IfModelled (M.image media.old)
+        (λ image. IsExpected (meets_a_file image me cmd) image me cmd answer (M.image media.new))) }
     // A fault is answered only where there was one.
     ensures failed { IfOk result (λ answer.
         OnSome (fault_of answer) (Rose (M.faults media.old) (M.faults media.new))) }

@@ -28,17 +28,17 @@ assoc3 a b c d = simp append_assoc refl
 pub file_parts : (s a a' e t t' : List ℕ) → a' ≡ a → t' ≡ t → s ++ (a' ++ (e ++ t')) ≡ s ++ a ++ e ++ t
 file_parts s a a' e t t' attr stripe = rw (attr, stripe) (assoc3 s a e t)
 
-module _ (front n name back : List ℕ) (same : name ≡ n) where
+module _ (prefix n name back : List ℕ) (same : name ≡ n) where
   -- a name between two texts, the second of which has two parts
-  pub two_parts : (s t : List ℕ) → back ≡ s ++ t → line (front ++ escaped name ++ back) ≡ line (front ++ escaped n ++ s ++ t)
+  pub two_parts : (s t : List ℕ) → back ≡ s ++ t → line (prefix ++ escaped name ++ back) ≡ line (prefix ++ escaped n ++ s ++ t)
   two_parts s t is = rw (same, is) (simp append_assoc refl)
 
   -- or four
-  pub four_parts : (s a e t : List ℕ) → back ≡ s ++ a ++ e ++ t → line (front ++ escaped name ++ back) ≡ line (front ++ escaped n ++ s ++ a ++ e ++ t)
+  pub four_parts : (s a e t : List ℕ) → back ≡ s ++ a ++ e ++ t → line (prefix ++ escaped name ++ back) ≡ line (prefix ++ escaped n ++ s ++ a ++ e ++ t)
   four_parts s a e t is = rw (same, is) (simp append_assoc refl)
 
   -- or three, and nothing between
-  pub three_parts : (s a t : List ℕ) → back ≡ s ++ a ++ [] ++ t → line (front ++ escaped name ++ back) ≡ line (front ++ escaped n ++ s ++ a ++ t)
+  pub three_parts : (s a t : List ℕ) → back ≡ s ++ a ++ [] ++ t → line (prefix ++ escaped name ++ back) ≡ line (prefix ++ escaped n ++ s ++ a ++ t)
   three_parts s a t is = rw (same, is) (simp (append_assoc, append-nil) refl)
 
 -- nine texts behind one another

@@ -25,6 +25,6 @@ IsNameOf names None name = ⊤
 IsNameOf names (Some note) name = name ≡ name_of_note names note
 
 -- how a tree differs from a listing, in front of the first path
-abbrev pub checked_front : ℕ → Checked → List ℕ
-checked_front m c =
+abbrev pub checked_prefix : ℕ → Checked → List ℕ
+checked_prefix m c =
     codes "checked" ++ number m ++ codes " missing" ++ number c.missing ++ codes " extra" ++ number c.extra ++ codes " changed" ++ number c.changed ++ codes " first"

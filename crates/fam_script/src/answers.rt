@@ -8,7 +8,7 @@ ghost use Rattle.fam_journal.specs.Texts as text;
 ghost use Rattle.fam_rules.specs.declared.answers.Refused.TheVariants as refused;
 ghost use Rattle.fam_rules.specs.Reply as reply;
 ghost use Rattle.fam_notes.specs.Notes.{answer_of};
-ghost use Rattle.fam_script.specs.Prints.{PrintsAnswer, checked_front};
+ghost use Rattle.fam_script.specs.Prints.{PrintsAnswer, checked_prefix};
 
 use crate::digits::{byte_digits, bytes_text};
 use crate::faults::{entry_line, kind, log_line, played_lines, super_line};
@@ -46,29 +46,29 @@ fn differs_line(
 ) -> Result<Vec<u8>, OutOfMemory>
     ensures { IfOk result (λ bytes. bytes.items ≡ text.reply_text (reply.Differs m offset found wanted)) }
 {
-    let Ok(front) = format!(in alloc; "differs {m} {offset} ") else {
+    let Ok(prefix) = format!(in alloc; "differs {m} {offset} ") else {
         return Err(OutOfMemory);
     };
     let [high, low] = byte_digits(found);
     let [wanted_high, wanted_low] = byte_digits(wanted);
     let bytes = [high, low, b' ', wanted_high, wanted_low];
-    line_with(alloc, front.as_str(), &bytes)
+    line_with(alloc, prefix.as_str(), &bytes)
 }
 
 /// The line of bytes that were read.
 fn bytes_line(alloc: Global, m: u64, bytes: &[u8]) -> Result<Vec<u8>, OutOfMemory>
     ensures { IfOk result (λ line. line.items ≡ text.reply_text (reply.Bytes m bytes.now)) }
 {
-    let Ok(front) = format!(in alloc; "bytes {m} ") else {
+    let Ok(prefix) = format!(in alloc; "bytes {m} ") else {
         return Err(OutOfMemory);
     };
     let digits = bytes_text(alloc, bytes)?;
-    line_with(alloc, front.as_str(), digits.as_slice())
+    line_with(alloc, prefix.as_str(), digits.as_slice())
 }
 
 /// How a tree differs from a listing, in front of the first path.
 fn checked_text(alloc: Global, m: u64, checked: &Checked) -> Result<String, AllocError>
-    ensures { IfOk result (λ s. string_bytes s ≡ checked_front m checked.now) }
+    ensures { IfOk result (λ s. string_bytes s ≡ checked_prefix m checked.now) }
 {
     let missing = checked.missing;
     let extra = checked.extra;
@@ -80,12 +80,12 @@ fn checked_text(alloc: Global, m: u64, checked: &Checked) -> Result<String, Allo
 fn checked_line(alloc: Global, m: u64, checked: &Checked) -> Result<Vec<u8>, OutOfMemory>
     ensures { IfOk result (λ bytes. bytes.items ≡ text.line (text.checked_text m checked.now)) }
 {
-    let Ok(front) = checked_text(alloc, m, checked) else {
+    let Ok(prefix) = checked_text(alloc, m, checked) else {
         return Err(OutOfMemory);
     };
     match &checked.first {
-        None => line_with(alloc, front.as_str(), b" -"),
-        Some(path) => line_with_last_name(alloc, front.as_str(), path.bytes()),
+        None => line_with(alloc, prefix.as_str(), b" -"),
+        Some(path) => line_with_last_name(alloc, prefix.as_str(), path.bytes()),
     }
 }
 

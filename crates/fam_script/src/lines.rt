@@ -42,11 +42,11 @@ pub(crate) fn line_of(
 }
 
 /// The line of a text with bytes in it, which are printed as they are.
-pub(crate) fn line_with(alloc: Global, front: &str, bytes: &[u8]) -> Result<Vec<u8>, OutOfMemory>
-    ensures { IfOk result (λ made. made.items ≡ text.line (front.now ++ bytes.now)) }
+pub(crate) fn line_with(alloc: Global, prefix: &str, bytes: &[u8]) -> Result<Vec<u8>, OutOfMemory>
+    ensures { IfOk result (λ made. made.items ≡ text.line (prefix.now ++ bytes.now)) }
 {
     let mut text = Vec::new(alloc);
-    put(front.as_bytes(), &mut text)?;
+    put(prefix.as_bytes(), &mut text)?;
     put(bytes, &mut text)?;
     put(b"\n", &mut text)?;
     Ok(text)
@@ -55,14 +55,14 @@ pub(crate) fn line_with(alloc: Global, front: &str, bytes: &[u8]) -> Result<Vec<
 /// The line of a text with a name in it, of a path or a file, which is printed with escapes.
 pub(crate) fn line_with_name(
     alloc: Global,
-    front: &str,
+    prefix: &str,
     name: &[u8],
     back: &str,
 ) -> Result<Vec<u8>, OutOfMemory>
-    ensures { IfOk result (λ made. made.items ≡ text.line (front.now ++ escaped name.now ++ back.now)) }
+    ensures { IfOk result (λ made. made.items ≡ text.line (prefix.now ++ escaped name.now ++ back.now)) }
 {
     let mut text = Vec::new(alloc);
-    put(front.as_bytes(), &mut text)?;
+    put(prefix.as_bytes(), &mut text)?;
     escape(name, &mut text)?;
     put(back.as_bytes(), &mut text)?;
     put(b"\n", &mut text)?;
@@ -72,13 +72,13 @@ pub(crate) fn line_with_name(
 /// The line of a text with a name at its end, behind a space.
 pub(crate) fn line_with_last_name(
     alloc: Global,
-    front: &str,
+    prefix: &str,
     name: &[u8],
 ) -> Result<Vec<u8>, OutOfMemory>
-    ensures { IfOk result (λ made. made.items ≡ text.line (front.now ++ text.name_text name.now)) }
+    ensures { IfOk result (λ made. made.items ≡ text.line (prefix.now ++ text.name_text name.now)) }
 {
     let mut text = Vec::new(alloc);
-    put(front.as_bytes(), &mut text)?;
+    put(prefix.as_bytes(), &mut text)?;
     put(b" ", &mut text)?;
     escape(name, &mut text)?;
     put(b"\n", &mut text)?;

@@ -30,11 +30,11 @@ fn made_text(alloc: Global, params: &Params) -> Result<String, AllocError>
 fn writes_line(alloc: Global, seq: u64, entry: &Entry) -> Result<Vec<u8>, OutOfMemory>
     ensures { IfOk result (λ bytes. bytes.items ≡ text.line (codes "writes" ++ text.number seq ++ codes " " ++ entry_line entry.now)) }
 {
-    let Ok(front) = format!(in alloc; "writes {seq} ") else {
+    let Ok(prefix) = format!(in alloc; "writes {seq} ") else {
         return Err(OutOfMemory);
     };
     let entry = print_entry(alloc, entry)?;
-    line_with(alloc, front.as_str(), entry.as_slice())
+    line_with(alloc, prefix.as_str(), entry.as_slice())
 }
 
 /// The text of a note without its host's name, with its line feeds.

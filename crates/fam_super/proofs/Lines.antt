@@ -14,8 +14,8 @@ eight_is xs len = sym (fill_by_all (λ k. get_or xs k 0) xs 8 0 len (λ k below.
 behind : (n : ℕ) (a rest : List ℕ) → length a ≡ n → drop n (a ++ rest) ≡ rest
 behind n a rest la = ap (λ (k : ℕ). drop k (a ++ rest)) (sym la) ∙ drop-append_seam a rest
 
-front : (n : ℕ) (a rest : List ℕ) → length a ≡ n → take n (a ++ rest) ≡ a
-front n a rest la = ap (λ (k : ℕ). take k (a ++ rest)) (sym la) ∙ take-append_seam a rest
+prefix : (n : ℕ) (a rest : List ℕ) → length a ≡ n → take n (a ++ rest) ≡ a
+prefix n a rest la = ap (λ (k : ℕ). take k (a ++ rest)) (sym la) ∙ take-append_seam a rest
 
 -- the second half has room for as many words as the first
 pub second_half : (n : ℕ) (a rest : List ℕ) → length a ≡ n → length rest ≡ n → length (take n (drop n (a ++ rest))) ≡ n
@@ -25,4 +25,4 @@ second_half n a rest la lr = length-take-le n (drop n (a ++ rest)) (omega (arith
 pub halves : (n : ℕ) (a b rest : List ℕ) → length a ≡ n → length rest ≡ n → put_mid n n (a ++ rest) b ≡ a ++ b
 halves n a b rest la lr =
     let nothing : drop n (drop n (a ++ rest)) ≡ [] = drop_all n (drop n (a ++ rest)) (omega (arith, length-drop n (a ++ rest), length-append a rest)) in
-    ap₂ (λ (x y : List ℕ). x ++ (b ++ y)) (front n a rest la) nothing ∙ ap (λ (x : List ℕ). a ++ x) (append-nil b)
+    ap₂ (λ (x y : List ℕ). x ++ (b ++ y)) (prefix n a rest la) nothing ∙ ap (λ (x : List ℕ). a ++ x) (append-nil b)

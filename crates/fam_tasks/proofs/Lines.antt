@@ -12,10 +12,10 @@ eight_of line part words first a b = a ∙ b
 -- two lines are all sixteen words
 pub two_lines : (words first second : List ℕ) → length words ≡ 16 → first ≡ slice_range words 0 8 → second ≡ slice_range words 8 16 → eight first ++ eight second ≡ words
 two_lines words first second count a b =
-    let front : length first ≡ 8 = ap length a ∙ length-take-le 8 words (omega arith) in
+    let prefix : length first ≡ 8 = ap length a ∙ length-take-le 8 words (omega arith) in
     let rest : length (drop 8 words) ≡ 8 = omega (arith, length-drop 8 words) in
     let back : second ≡ drop 8 words = b ∙ take_all 8 (drop 8 words) (omega arith) in
-    ap₂ (λ (x y : List ℕ). x ++ y) (eight_is first front ∙ a) (eight_is second (ap length back ∙ rest) ∙ back) ∙ take-append-drop 8 words
+    ap₂ (λ (x y : List ℕ). x ++ y) (eight_is first prefix ∙ a) (eight_is second (ap length back ∙ rest) ∙ back) ∙ take-append-drop 8 words
 
 -- where the magic was seen, lines 1 and 2 tell the superblock
 pub body_tells : (words first second : List ℕ) (have : ℕ) → length words ≡ 16 → first ≡ slice_range words 0 8 → second ≡ slice_range words 8 16 → super_of magic (eight first ++ eight second) have ≡ super_body_of words have

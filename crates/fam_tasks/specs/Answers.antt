@@ -8,7 +8,7 @@ use Rattle.fam_rules.specs.Reply.{Reply, Appended, NotAppended, Played, Same, Di
 use Rattle.fam_tasks.specs.declared.answer.Answer.{Answer}
 use Rattle.fam_tasks.specs.declared.answer.Answer.TheVariants as answer
 
--- the reply that an answer stands for. That memory failed, or that a file can't be read yet, is none
+-- the reply that an answer stands for. That the media failed, or that a file can't be read yet, is none
 abbrev pub reply_of : Answer → Option Reply
 reply_of (answer.Ok seq) = Some (Appended seq)
 reply_of (answer.Played m tree) = Some (Played m tree)

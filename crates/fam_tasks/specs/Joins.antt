@@ -8,9 +8,9 @@ use Rattle.fam_format.specs.Tree.{replay, tree_fault}
 use Rattle.fam_rules.specs.Decide.{Wish}
 
 -- the entry joined the list, or it doesn't for this reason
-abbrev pub Joins : Option Reason → List Entry → Entry → List Entry → Type 0
-Joins None old e new = (tree_fault (replay old) e ≡ None) × (new ≡ old ++ e ∷ [])
-Joins (Some reason) old e new = (tree_fault (replay old) e ≡ Some reason) × (new ≡ old)
+abbrev pub JoinsOrNames : Option Reason → List Entry → Entry → List Entry → Type 0
+JoinsOrNames None old e new = (tree_fault (replay old) e ≡ None) × (new ≡ old ++ e ∷ [])
+JoinsOrNames (Some reason) old e new = (tree_fault (replay old) e ≡ Some reason) × (new ≡ old)
 
 -- what a mkdir wants
 abbrev pub directory_wish : List ℕ → Attr → Wish

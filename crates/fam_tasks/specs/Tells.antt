@@ -8,10 +8,10 @@ use Rattle.fam_rules.specs.Reply.{Reply}
 use Rattle.fam_rules.specs.Reports.{is_file}
 use Rattle.fam_machine.specs.declared.op.Op.{Op}
 use Rattle.fam_machine.specs.declared.op.Op.TheVariants.{Load, Store, WriteBack, Invalidate, Digest}
-use Rattle.fam_commands.specs.declared.place.Part.{Part}
-use Rattle.fam_commands.specs.declared.place.Part.TheVariants as part
-use Rattle.fam_commands.specs.declared.place.Place.{Place}
-use Rattle.fam_commands.specs.declared.place.Place.TheVariants as at
+use Rattle.fam_commands.specs.declared.phase.Part.{Part}
+use Rattle.fam_commands.specs.declared.phase.Part.TheVariants as part
+use Rattle.fam_commands.specs.declared.phase.Phase.{Phase}
+use Rattle.fam_commands.specs.declared.phase.Phase.TheVariants as at
 use Rattle.fam_commands.specs.Task.{Task}
 use Rattle.fam_commands.specs.Turns as turns
 use Rattle.fam_tasks.specs.declared.answer.Turn.{Turn}
@@ -50,8 +50,8 @@ is_slot part.Header = false
 is_slot (part.Slot i) = true
 is_slot part.File = false
 
--- a place at which the next operation leads on among the lines that are read, whatever it gives
-abbrev pub is_reading : Place → Bool
+-- a phase in which the next operation leads on among the lines that are read, whatever it gives
+abbrev pub is_reading : Phase → Bool
 is_reading (at.Drop part j) = true
 is_reading (at.Word part j k) = nat_lt k last_word || is_slot part
 is_reading at.DropMagic = false
@@ -72,26 +72,26 @@ abbrev pub tells_file : Result Entry Reason → Bool
 tells_file (Ok e) = is_file e.kind
 tells_file (Err reason) = false
 
--- at a place: the words of the slot that is looked at read as a file
-abbrev pub file_at : Place → Task → Bool
-file_at (at.Check i) t = tells_file (entry_of t.params t.words i)
-file_at at.DropMagic t = false
-file_at at.Magic t = false
-file_at (at.Drop part j) t = false
-file_at (at.Word part j k) t = false
-file_at at.DropGate t = false
-file_at at.Gate t = false
-file_at at.Decide t = false
-file_at (at.StoreData j k) t = false
-file_at (at.SendData j) t = false
-file_at (at.StoreSlot j k) t = false
-file_at (at.SendSlot j) t = false
-file_at at.StoreGate t = false
-file_at at.SendGate t = false
+-- in a phase: the words of the slot that is looked at read as a file
+abbrev pub reads_file_at : Phase → Task → Bool
+reads_file_at (at.Check i) t = tells_file (entry_of t.params t.words i)
+reads_file_at at.DropMagic t = false
+reads_file_at at.Magic t = false
+reads_file_at (at.Drop part j) t = false
+reads_file_at (at.Word part j k) t = false
+reads_file_at at.DropGate t = false
+reads_file_at at.Gate t = false
+reads_file_at at.Decide t = false
+reads_file_at (at.StoreData j k) t = false
+reads_file_at (at.SendData j) t = false
+reads_file_at (at.StoreSlot j k) t = false
+reads_file_at (at.SendSlot j) t = false
+reads_file_at at.StoreGate t = false
+reads_file_at at.SendGate t = false
 
 -- a task meets a file, which it can't read yet
 abbrev pub meets_file : Task → Bool
-meets_file t = file_at t.place t
+meets_file t = reads_file_at t.phase t
 
 -- a Digest ends at a file, and otherwise tells the turn of the definition
 abbrev pub TellsUnless : Bool → turns.Turn → Turn → Task → Type 0

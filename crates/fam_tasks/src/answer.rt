@@ -116,7 +116,7 @@ pub enum Answer {
         size: u64,
         wanted: u64,
     },
-    /// Memory failed at this line. A task doesn't know of it, and never answers so itself.
+    /// The media failed at this line. A task doesn't know of it, and never answers so itself.
     MediaFault(LineNo),
     /// The log holds a file, which a task can't read yet.
     NotYet,

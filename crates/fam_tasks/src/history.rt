@@ -6,10 +6,10 @@ ghost use Rattle.std.specs.FinMap as map;
 ghost use Rattle.fam_base.specs.Paths.{parent_of};
 ghost use Rattle.fam_format.specs.Tree.{replay};
 ghost use Rattle.fam_rules.specs.Decide.{decide_wish, entry_for, exists_refusal, full_refusal, master_refusal, no_room_needed, parent_refusal};
-ghost use Rattle.fam_entry.specs.Tests.{Tells};
+ghost use Rattle.fam_entry.specs.Tests.{NamesFault};
 ghost use Rattle.fam_tree.specs.Faults.{reason_of};
 ghost use Rattle.fam_tasks.specs.Answers.{IsOfDirectory};
-ghost use Rattle.fam_tasks.specs.Joins.{Joins, directory_wish};
+ghost use Rattle.fam_tasks.specs.Joins.{JoinsOrNames, directory_wish};
 
 use fam_base::{Attr, Entry, Extents, Kind, MapKind, OutOfMemory, Params, Path};
 use fam_format::Reason;
@@ -52,7 +52,7 @@ fn reason_against(fault: ApplyFault) -> Result<Reason, OutOfMemory>
 
 /// Whether a host appends to a log.
 fn check_master(params: &Params, me: &Uuid) -> Result<(), Refused>
-    ensures first { Tells result (master_refusal params.now me.now) }
+    ensures first { NamesFault result (master_refusal params.now me.now) }
     ensures refusal { IfErr result IsOfDirectory }
 {
     if *me == params.master {
@@ -103,7 +103,7 @@ impl History {
     /// changes.
     pub(crate) fn join(&mut self, entry: &Entry) -> Result<Option<Reason>, OutOfMemory>
         requires { entry.now.extents ≡ [] }
-        ensures joins { IfOk result (λ fault. Joins fault self.old entry.now self.new) }
+        ensures joins { IfOk result (λ fault. JoinsOrNames fault self.old entry.now self.new) }
         ensures err { OnErr result (self.new ≡ self.old) }
     {
         match self.tree.apply(entry) {
@@ -121,7 +121,7 @@ impl History {
 
     /// Whether nothing stands at a path.
     fn check_free(&self, path: &Path) -> Result<(), Refused>
-        ensures first { Tells result (exists_refusal (map.get (replay self.now) path.now)) }
+        ensures first { NamesFault result (exists_refusal (map.get (replay self.now) path.now)) }
         ensures refusal { IfErr result IsOfDirectory }
     {
         match self.tree.get(path) {
@@ -132,7 +132,7 @@ impl History {
 
     /// Whether a path's parent is the root or a directory.
     fn check_parent(&self, path: &Path) -> Result<(), Refused>
-        ensures first { Tells result (parent_refusal (replay self.now) (parent_of path.now)) }
+        ensures first { NamesFault result (parent_refusal (replay self.now) (parent_of path.now)) }
         ensures refusal { IfErr result IsOfDirectory }
     {
         match self.tree.parent_kind(path) {
@@ -144,7 +144,7 @@ impl History {
 
     /// Whether the log has a slot for one more entry.
     fn check_slots(&self, params: &Params) -> Result<(), Refused>
-        ensures first { Tells result (full_refusal params.now self.now) }
+        ensures first { NamesFault result (full_refusal params.now self.now) }
         ensures refusal { IfErr result IsOfDirectory }
     {
         if params.slots <= self.len() {

@@ -10,7 +10,7 @@ ghost use Rattle.fam_format.specs.Super.{super_body_of};
 ghost use Rattle.fam_rules.specs.Decide.{wish_of};
 ghost use Rattle.fam_rules.specs.declared.answers.Refused.TheVariants.{NotMaster};
 ghost use Rattle.fam_commands.specs.Turns.{host_refusal};
-ghost use Rattle.fam_entry.specs.Tests.{Tells};
+ghost use Rattle.fam_entry.specs.Tests.{NamesFault};
 ghost use Rattle.fam_tasks.specs.Reading.{IsBareDirectory};
 ghost use Rattle.fam_tasks.specs.Sound.{IsServed};
 
@@ -49,7 +49,7 @@ pub(crate) fn read_body(words: &Buffer, have: u64) -> Result<Params, SuperFault>
 /// Whether the words of log line 0 are the header for these parameters.
 pub(crate) fn read_header(words: &Buffer, params: &Params) -> Result<(), LogFault>
     requires { length words.now ≡ LINE_WORDS }
-    ensures { Tells result (log_fault words.now params.now) }
+    ensures { NamesFault result (log_fault words.now params.now) }
 {
     read_log(&words.line(0), params)
 }

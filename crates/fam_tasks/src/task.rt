@@ -1,10 +1,10 @@
-//! A task: a command, the place where it stands, and what it has read. Its turns stand in the files of `task/`.
+//! A task: a command, its phase, and what it has read. Its turns stand in the files of `task/`.
 
 ghost use Rattle.std.specs.Prelude.{◌≡◌, ◌≢◌, ◌≤◌, ◌<◌, nat_lt, if◌then◌else◌, true, false, None, IfOk, OnErr};
 ghost use Rattle.fam_base.specs.declared.line.LineNo.{LineNo};
 ghost use Rattle.fam_format.specs.Layout.{least_lines};
-ghost use Rattle.fam_commands.specs.declared.place.Part.TheVariants as part;
-ghost use Rattle.fam_commands.specs.declared.place.Place.TheVariants as at;
+ghost use Rattle.fam_commands.specs.declared.phase.Part.TheVariants as part;
+ghost use Rattle.fam_commands.specs.declared.phase.Phase.TheVariants as at;
 ghost use Rattle.fam_commands.specs.Task as spec;
 ghost use Rattle.fam_commands.specs.Task.{op_of, starting};
 ghost use Rattle.fam_commands.specs.Turns.{turn_of};
@@ -23,7 +23,7 @@ use crate::buffer::Buffer;
 use crate::history::History;
 use crate::parts::line_of_slot;
 use fam_base::{Cmd, Entry, LineNo, OutOfMemory, Params};
-use fam_commands::{Part, Place};
+use fam_commands::{Part, Phase};
 use fam_format::{GATE_LINE, LAST_WORD, LOG_LINE, SLOT_LINES};
 use fam_machine::Op;
 use std::alloc::Global;
@@ -40,7 +40,7 @@ pub struct Task {
     cmd: Cmd,
     me: Uuid,
     lines: u64,
-    place: Place,
+    phase: Phase,
     params: Params,
     first_slot: u64,
     gate: u64,
@@ -62,26 +62,26 @@ impl Model for Task {
     ghost invariant = { λ t. IsSound (task_of t) };
 }
 
-/// The task is done: it stands at the last place from here on.
-fn done(place: &mut Place, answer: Answer) -> Turn
+/// The task is done: it stands in the last phase from here on.
+fn done(phase: &mut Phase, answer: Answer) -> Turn
     ensures turn { result ≡ Done answer }
-    ensures last { place.new ≡ at.SendGate }
+    ensures last { phase.new ≡ at.SendGate }
 {
-    *place = Place::SendGate;
+    *phase = Phase::SendGate;
     Turn::Done(answer)
 }
 
-/// The place behind slot `i - 1`: the next slot below the gate, or the decision.
-fn slot_or_decide(i: u64, gate: u64) -> Place
+/// The phase behind slot `i - 1`: the next slot below the gate, or the decision.
+fn slot_or_decide(i: u64, gate: u64) -> Phase
     ensures { result ≡ (if nat_lt i gate then at.Drop (part.Slot i) 0 else at.Decide) }
 {
     if i < gate {
-        Place::Drop {
+        Phase::Drop {
             part: Part::Slot(i),
             line: 0,
         }
     } else {
-        Place::Decide
+        Phase::Decide
     }
 }
 
@@ -100,7 +100,7 @@ impl Task {
             cmd,
             me,
             lines,
-            place: Place::DropMagic,
+            phase: Phase::DropMagic,
             params: Params {
                 log_length: 0,
                 slots: 0,
@@ -117,11 +117,11 @@ impl Task {
         }
     }
 
-    /// What is known of every task: its numbers fit its place. A call does nothing.
+    /// What is known of every task: its numbers fit its phase. A call does nothing.
     pub fn is_sound(&self)
         ensures { IsSound self.now }
     {
-        let _ = &self.place;
+        let _ = &self.phase;
     }
 
     /// The operation that comes next, of a task that has not answered.
@@ -129,19 +129,19 @@ impl Task {
         ensures op { result ≡ op_of self.now }
         ensures within { IsWithin self.now.lines result }
     {
-        match self.place {
-            Place::DropMagic => Op::Invalidate(LineNo(0)),
-            Place::Magic => Op::Load(LineNo(0), 0),
-            Place::Drop { part, line } => Op::Invalidate(self.part_line(part, line)),
-            Place::Word { part, line, word } => Op::Load(self.part_line(part, line), word),
-            Place::DropGate => Op::Invalidate(LineNo(GATE_LINE)),
-            Place::Gate => Op::Load(LineNo(GATE_LINE), 0),
-            Place::Check { .. } | Place::Decide => Op::Digest,
-            Place::StoreData { .. } | Place::SendData { .. } => unreachable!(),
-            Place::StoreSlot { line, word } => self.slot_store(line, word),
-            Place::SendSlot { line } => Op::WriteBack(line_of_slot(&self.params, self.gate, line)),
-            Place::StoreGate => Op::Store(LineNo(GATE_LINE), 0, self.gate + 1),
-            Place::SendGate => Op::WriteBack(LineNo(GATE_LINE)),
+        match self.phase {
+            Phase::DropMagic => Op::Invalidate(LineNo(0)),
+            Phase::Magic => Op::Load(LineNo(0), 0),
+            Phase::Drop { part, line } => Op::Invalidate(self.part_line(part, line)),
+            Phase::Word { part, line, word } => Op::Load(self.part_line(part, line), word),
+            Phase::DropGate => Op::Invalidate(LineNo(GATE_LINE)),
+            Phase::Gate => Op::Load(LineNo(GATE_LINE), 0),
+            Phase::Check { .. } | Phase::Decide => Op::Digest,
+            Phase::StoreData { .. } | Phase::SendData { .. } => unreachable!(),
+            Phase::StoreSlot { line, word } => self.slot_store(line, word),
+            Phase::SendSlot { line } => Op::WriteBack(line_of_slot(&self.params, self.gate, line)),
+            Phase::StoreGate => Op::Store(LineNo(GATE_LINE), 0, self.gate + 1),
+            Phase::SendGate => Op::WriteBack(LineNo(GATE_LINE)),
         }
     }
 
@@ -153,38 +153,38 @@ impl Task {
         ensures own { (line : LineNo) → result ≢ Done (MediaFault line) }
     {
         let word = word.unwrap_or(0);
-        match self.place {
-            Place::DropMagic => self.go(Place::Magic),
-            Place::Magic => self.load_magic(word),
-            Place::Drop { part, line } => self.go(Place::Word {
+        match self.phase {
+            Phase::DropMagic => self.go(Phase::Magic),
+            Phase::Magic => self.load_magic(word),
+            Phase::Drop { part, line } => self.go(Phase::Word {
                 part,
                 line,
                 word: 0,
             }),
-            Place::Word {
+            Phase::Word {
                 part,
                 line,
                 word: k,
             } => self.load_word(part, line, k, word),
-            Place::DropGate => self.mark(),
-            Place::Gate => self.load_gate(word),
-            Place::Check { .. } | Place::Decide => unreachable!(),
-            Place::StoreData { .. } | Place::SendData { .. } => unreachable!(),
-            Place::StoreSlot { line, word: k } => self.store_slot(line, k),
-            Place::SendSlot { line } => self.send_slot(line),
-            Place::StoreGate => self.go(Place::SendGate),
-            Place::SendGate => Turn::Done(Answer::Ok(self.gate)),
+            Phase::DropGate => self.mark(),
+            Phase::Gate => self.load_gate(word),
+            Phase::Check { .. } | Phase::Decide => unreachable!(),
+            Phase::StoreData { .. } | Phase::SendData { .. } => unreachable!(),
+            Phase::StoreSlot { line, word: k } => self.store_slot(line, k),
+            Phase::SendSlot { line } => self.send_slot(line),
+            Phase::StoreGate => self.go(Phase::SendGate),
+            Phase::SendGate => Turn::Done(Answer::Ok(self.gate)),
         }
     }
 
     /// Whether the task only reads on among the lines that it reads, once the next operation is done.
     #[inline(always)]
     pub fn reads_on(&self) -> bool
-        ensures { result ≡ is_reading self.now.place }
+        ensures { result ≡ is_reading self.now.phase }
     {
-        match self.place {
-            Place::Drop { .. } => true,
-            Place::Word { part, word, .. } => word < LAST_WORD || matches!(part, Part::Slot(_)),
+        match self.phase {
+            Phase::Drop { .. } => true,
+            Phase::Word { part, word, .. } => word < LAST_WORD || matches!(part, Part::Slot(_)),
             _ => false,
         }
     }
@@ -192,19 +192,19 @@ impl Task {
     /// Does what `feed` does, of a task that reads on: its turn is to go on.
     #[inline(always)]
     pub fn read_on(&mut self, word: Option<u64>)
-        requires { is_reading self.old.place ≡ true }
+        requires { is_reading self.old.phase ≡ true }
         ensures { Tells (turn_of self.old word) Go self.new }
     {
         self.is_sound();
-        match self.place {
-            Place::Drop { part, line } => {
-                self.place = Place::Word {
+        match self.phase {
+            Phase::Drop { part, line } => {
+                self.phase = Phase::Word {
                     part,
                     line,
                     word: 0,
                 };
             }
-            Place::Word {
+            Phase::Word {
                 part,
                 line,
                 word: k,
@@ -223,21 +223,21 @@ impl Task {
         ensures own { (line : LineNo) → IfOk result (λ turn. turn ≢ Done (MediaFault line)) }
         ensures err { OnErr result (self.new ≡ self.old) }
     {
-        match self.place {
-            Place::Check { slot } => self.check_slot(slot),
-            Place::Decide => Ok(self.decide()),
-            Place::DropMagic
-            | Place::Magic
-            | Place::Drop { .. }
-            | Place::Word { .. }
-            | Place::DropGate
-            | Place::Gate
-            | Place::StoreData { .. }
-            | Place::SendData { .. }
-            | Place::StoreSlot { .. }
-            | Place::SendSlot { .. }
-            | Place::StoreGate
-            | Place::SendGate => unreachable!(),
+        match self.phase {
+            Phase::Check { slot } => self.check_slot(slot),
+            Phase::Decide => Ok(self.decide()),
+            Phase::DropMagic
+            | Phase::Magic
+            | Phase::Drop { .. }
+            | Phase::Word { .. }
+            | Phase::DropGate
+            | Phase::Gate
+            | Phase::StoreData { .. }
+            | Phase::SendData { .. }
+            | Phase::StoreSlot { .. }
+            | Phase::SendSlot { .. }
+            | Phase::StoreGate
+            | Phase::SendGate => unreachable!(),
         }
     }
 
@@ -256,13 +256,13 @@ impl Task {
         }
     }
 
-    /// Goes on at another place.
-    fn go(&mut self, place: Place) -> Turn
-        requires { IsSoundAt place (record self.old { place = place }) }
+    /// Goes on in another phase.
+    fn go(&mut self, phase: Phase) -> Turn
+        requires { IsSoundAt phase (record self.old { phase = phase }) }
         ensures turn { result ≡ Go }
-        ensures new { self.new ≡ record self.old { place = place } }
+        ensures new { self.new ≡ record self.old { phase = phase } }
     {
-        self.place = place;
+        self.phase = phase;
         Turn::Go
     }
 }

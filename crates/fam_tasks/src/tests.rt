@@ -234,7 +234,7 @@ fn damage_is_named_where_it_is_read(rt: HostRuntime) -> Result<(), Fail> {
             })
         )
     );
-    image.front[2][7] = 6;
+    image.prefix[2][7] = 6;
     let (ops, answer) = played(rt.alloc(), &image)?;
     assert_eq!(rt; ops, 20);
     assert!(rt;
@@ -247,7 +247,7 @@ fn damage_is_named_where_it_is_read(rt: HostRuntime) -> Result<(), Fail> {
             })
         )
     );
-    image.front[0][0] = 4;
+    image.prefix[0][0] = 4;
     let (ops, answer) = played(rt.alloc(), &image)?;
     assert_eq!(rt; ops, 2);
     assert!(rt; matches!(answer, Some(Answer::NoSuper(4))));

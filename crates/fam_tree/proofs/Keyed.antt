@@ -21,13 +21,13 @@ abbrev pub own_paths : Entries → List (List ℕ)
 own_paths es = list_map (λ e. e.1.path) es
 
 -- what holds of a first entry and of the later ones
-pub record Front (e : List ℕ × Entry) (es : Entries) : Type 0 where
+pub record Prefix (e : List ℕ × Entry) (es : Entries) : Type 0 where
   pub here : e.1.path ≡ e.0
   pub rest : AreKeyed es
 
 -- a keyed list is so from each entry on
-front : (e : List ℕ × Entry) (es : Entries) → AreKeyed (e ∷ es) → Front e es
-front e es h = record { here = cc; rest = cc }
+prefix : (e : List ℕ × Entry) (es : Entries) → AreKeyed (e ∷ es) → Prefix e es
+prefix e es h = record { here = cc; rest = cc }
 
 -- one more in front
 joined : (x y : List ℕ) (xs ys : List (List ℕ)) → x ≡ y → xs ≡ ys → x ∷ xs ≡ y ∷ ys
@@ -38,7 +38,7 @@ pub keyed_insert : (es : Entries) (k : List ℕ) (v : Entry) → v.path ≡ k �
     → AreKeyed (insert_entry path_cmp es k v)
 keyed_insert [] k v own h = joined _ _ [] [] own refl
 keyed_insert (e ∷ es) k v own h =
-    let f = front e es h in
+    let f = prefix e es h in
     let again = keyed_insert es k v own f.rest in
     elim (path_cmp k e.0) as (λ o. path_cmp k e.0 ≡ o
     → AreKeyed (match_ordering o ((k, v) ∷ e ∷ es) ((e.0, v) ∷ es) (e ∷ insert_entry path_cmp es k v))) [
@@ -52,7 +52,7 @@ pub keyed_remove : (test : List ℕ → Bool) (es : Entries) → AreKeyed es
     → AreKeyed (remove_entry test es)
 keyed_remove test [] h = refl
 keyed_remove test (e ∷ es) h =
-    let f = front e es h in
+    let f = prefix e es h in
     let again = keyed_remove test es f.rest in
     elim (test e.0) as (λ b. AreKeyed (cond b es (e ∷ remove_entry test es))) [
       | true ↦ f.rest
@@ -63,7 +63,7 @@ keyed_remove test (e ∷ es) h =
 pub found_is_own : (es : Entries) (q : List ℕ) → AreKeyed es → IfSome (lookup (is_at (path_cmp q)) es) (λ e. e.path ≡ q)
 found_is_own [] q h = tt
 found_is_own (e ∷ es) q h =
-    let f = front e es h in
+    let f = prefix e es h in
     let again = found_is_own es q f.rest in
     elim (path_cmp q e.0) as (λ o. path_cmp q e.0 ≡ o → IfSome (cond (is_eq o) (Some e.1) (lookup (is_at (path_cmp q)) es)) (λ x. x.path ≡ q)) [
       | Less ↦ λ is. again

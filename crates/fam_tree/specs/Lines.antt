@@ -33,9 +33,9 @@ abbrev pub line_feed : ℕ
 line_feed = 0x0a
 
 -- `d` for a directory, `f` for a file
-abbrev pub kind_text : Kind → List ℕ
-kind_text Directory = 0x64 ∷ []
-kind_text File = 0x66 ∷ []
+abbrev pub kind_letter : Kind → List ℕ
+kind_letter Directory = 0x64 ∷ []
+kind_letter File = 0x66 ∷ []
 
 -- the last octal digit of a number, from `0`
 abbrev pub octal_digit : ℕ → ℕ
@@ -62,7 +62,7 @@ map_text (Striped chunk) extents = decimal chunk ++ colon ∷ extents_text exten
 -- the words of a line: KIND MODE UID GID SIZE MAP PATH
 abbrev pub entry_words : Entry → List (List ℕ)
 entry_words e =
-    kind_text e.kind ∷ mode_text e.mode ∷ decimal e.uid ∷ decimal e.gid ∷ decimal e.size
+    kind_letter e.kind ∷ mode_text e.mode ∷ decimal e.uid ∷ decimal e.gid ∷ decimal e.size
     ∷ map_text e.map e.extents ∷ escaped e.path ∷ []
 
 -- an entry's line, with one space between words

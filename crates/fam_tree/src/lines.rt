@@ -2,7 +2,7 @@
 
 ghost use Rattle.std.specs.Prelude.{◌≡◌, [], ◌∷◌, ◌++◌, OnOk, IfOk};
 ghost use Rattle.std.specs.Fmt.{decimal};
-ghost use Rattle.fam_tree.specs.Lines.{kind_text, octal_digit, mode_text, extent_text, extents_text, map_text, entry_line, listing_line, listing};
+ghost use Rattle.fam_tree.specs.Lines.{kind_letter, octal_digit, mode_text, extent_text, extents_text, map_text, entry_line, listing_line, listing};
 ghost use Rattle.fam_tree.specs.NextExtent.{next_text};
 
 use crate::tree::Tree;
@@ -30,7 +30,7 @@ fn put_decimal(n: u64, into: &mut Vec<u8>) -> Result<(), OutOfMemory>
 }
 
 fn put_kind(kind: Kind, into: &mut Vec<u8>) -> Result<(), OutOfMemory>
-    ensures { OnOk result (into.new.items ≡ into.old.items ++ kind_text kind) }
+    ensures { OnOk result (into.new.items ≡ into.old.items ++ kind_letter kind) }
 {
     match kind {
         Kind::Directory => put_byte(b'd', into),

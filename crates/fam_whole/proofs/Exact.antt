@@ -24,8 +24,8 @@ use Rattle.fam_journal.specs.declared.event.Event.TheVariants as event
 use Rattle.fam_journal.specs.declared.refusal.Refusal.{Refusal}
 use Rattle.fam_journal.specs.Calls as call
 use Rattle.fam_journal.specs.Calls.{Acts, ActsAt, ActsOf, AtNumber, ByRefusal, Call, Completes, Does, OnHost, begins_refusal, busy_at, has_name, name_of, number_of, on_host, refusal_of}
-use Rattle.fam_journal.specs.Ends.{IsClean as AreClean}
-use Rattle.fam_journal.specs.Events.{DoesEvent, GoesOn, Session, first_session}
+use Rattle.fam_journal.specs.Ends.{IsFaultless as AreClean}
+use Rattle.fam_journal.specs.Events.{DoesEvent, Continues, Session, first_session}
 use Rattle.fam_journal.specs.Follows.{Follows}
 use Rattle.fam_journal.specs.Kept.{Kept}
 use Rattle.fam_journal.specs.Laws.{AreSound, IsImage, IsSoundEvent}
@@ -35,18 +35,18 @@ use Rattle.fam_journal.specs.Members.{changed_at}
 use Rattle.fam_machine.specs.Mkfs as here
 use Rattle.fam_journal.specs.Notes.{Note, Refused, Start}
 use Rattle.fam_journal.specs.Past.{Past, first_past, first_state, past_behind, past_of}
-use Rattle.fam_journal.proofs.Cases.{by_host, by_refusal, place_same}
-use Rattle.fam_journal.proofs.Declares.{member_before, member_last}
-use Rattle.fam_journal.proofs.Following.{begun_kept, event_kept, first_kept}
-use Rattle.fam_journal.proofs.Journals.{past_both}
-use Rattle.fam_journal.proofs.Members.{changed_at_member, changed_here, changed_other}
-use Rattle.fam_journal.proofs.Tests.{at_most, no_when, or_first}
-use Rattle.fam_journal.proofs.Unique.{clean_front, clean_rest, not_clean}
-use Rattle.fam_whole.specs.Whole.{AreWhole, AreWholeNotes, IsExact, IsSure, IsWholeEvent, WholeRun, image_behind}
+use Rattle.fam_journal.proofs.Calls.Cases.{by_host, by_refusal, place_same}
+use Rattle.fam_journal.proofs.Calls.Declares.{member_before, member_last}
+use Rattle.fam_journal.proofs.Runs.Following.{begun_kept, event_kept, first_kept}
+use Rattle.fam_journal.proofs.Settled.Journals.{past_both}
+use Rattle.fam_journal.proofs.Calls.Members.{changed_at_member, changed_here, changed_other}
+use Rattle.fam_journal.proofs.Calls.Tests.{at_most, no_when, or_first}
+use Rattle.fam_journal.proofs.Runs.Unique.{clean_prefix, clean_rest, not_clean}
+use Rattle.fam_whole.specs.Whole.{AreWhole, AreWholeNotes, IsExact, HasNothingPending, IsWholeEvent, WholeRun, image_behind}
 use Rattle.fam_whole.proofs.Finish.{Finished, finished}
 use Rattle.fam_whole.proofs.Folds.{first_sure, image_both, whole_both}
 use Rattle.fam_whole.proofs.Rests.{HostRests, Rested, rest_state}
-use Rattle.fam_whole.proofs.Running.{Ended, run_alone}
+use Rattle.fam_whole.proofs.Running.{Ended, run_solo}
 
 module _ (image : Image) (cache : Cache) (normal : map eight image ≡ image) (clean : IsClean cache) where
   words_stay : (move : Move) (line : ℕ) → moved_words move (line_at image line) (cell_at cache line) ≡ line_at image line
@@ -99,9 +99,9 @@ pub record EventExact (x : Past) (old new : Machines) (notes : List Note) : Type
   pub rests : Rested new
   pub image : new.memory ≡ image_behind x old.memory notes
   pub whole : AreWholeNotes x old.memory notes
-  pub sure : IsSure (past_behind x notes).state
+  pub sure : HasNothingPending (past_behind x notes).state
 
-module _ (start : Image) (files : Files) (old : Machines) (journal : List Note) (kept : Kept start old journal) (rests : Rested old) (sure : IsSure (past_of start journal).state) where
+module _ (start : Image) (files : Files) (old : Machines) (journal : List Note) (kept : Kept start old journal) (rests : Rested old) (sure : HasNothingPending (past_of start journal).state) where
   abbrev x : Past
   x = past_of start journal
 
@@ -167,7 +167,7 @@ module _ (start : Image) (files : Files) (old : Machines) (journal : List Note) 
       (λ free acts. by_host (call.Moves name line move) old new notes acts (λ h host number is at. moves_exact name line move new notes clean h host is at))
 
   -- a command begins, and is run to its answer
-  module _ (name : List ℕ) (what : Ask) (s new : Session) (same : s.machines ≡ old) (notes : List Note) (clean : AreClean notes) (run : GoesOn Completes files name what s notes new) where
+  module _ (name : List ℕ) (what : Ask) (s new : Session) (same : s.machines ≡ old) (notes : List Note) (clean : AreClean notes) (run : Continues Completes files name what s notes new) where
     pub record Through : Type 0 where
       pub h : ℕ
       pub host : HostState
@@ -175,7 +175,7 @@ module _ (start : Image) (files : Files) (old : Machines) (journal : List Note) 
       pub number : number_of name old ≡ Some h
       pub rest : List Note
       pub joined : notes ≡ Start h run.begun.cmd ∷ rest
-      pub sure_then : IsSure (past_of start (journal ++ Start h run.begun.cmd ∷ [])).state
+      pub sure_then : HasNothingPending (past_of start (journal ++ Start h run.begun.cmd ∷ [])).state
       pub ended : Ended start h old host is run.begun.cmd (journal ++ Start h run.begun.cmd ∷ []) sure_then new.machines rest
       pub enough : least_lines ≤ length old.memory
 
@@ -189,8 +189,8 @@ module _ (start : Image) (files : Files) (old : Machines) (journal : List Note) 
     unfolding refusal_of
     free = subst (λ (z : Machines). call.may_begin name z ≡ None) same run.begun.free
 
-    state_after : (h : ℕ) → IsSure (past_of start (journal ++ Start h cmd ∷ [])).state
-    state_after h = subst (λ (w : Past). IsSure w.state) (sym (past_both (first_past start) journal (Start h cmd ∷ []))) sure
+    state_after : (h : ℕ) → HasNothingPending (past_of start (journal ++ Start h cmd ∷ [])).state
+    state_after h = subst (λ (w : Past). HasNothingPending w.state) (sym (past_both (first_past start) journal (Start h cmd ∷ []))) sure
 
     through_host : (h : ℕ) (host : HostState) → number_of name old ≡ Some h → slice_get old.hosts h ≡ Some host → ActsAt (call.Begins name cmd) h host old run.first run.mid.machines → Through
     unfolding refusal_of
@@ -215,7 +215,7 @@ module _ (start : Image) (files : Files) (old : Machines) (journal : List Note) 
           rest = run.rest;
           joined = run.joined ∙ ap (λ (z : List Note). z ++ run.rest) at.0;
           sure_then = state_after h;
-          ended = run_alone start h old host is cmd (journal ++ Start h cmd ∷ []) (state_after h) completes.count new.machines run.rest kept_as completes.does (clean_rest run.first run.rest notes run.joined clean) completes.done;
+          ended = run_solo start h old host is cmd (journal ++ Start h cmd ∷ []) (state_after h) completes.count new.machines run.rest kept_as completes.does (clean_rest run.first run.rest notes run.joined clean) completes.done;
           enough = at_most least_lines (length old.memory) (no_when _ _ (or_first _ _ (sym (ap (λ (o : Option ℕ). on_host o (λ h. begins_refusal h old)) number) ∙ free)));
         }
 
@@ -280,7 +280,7 @@ module _ (start : Image) (files : Files) (old : Machines) (journal : List Note) 
 pub record Between (start : Image) (s : Machines) (journal : List Note) : Type 0 where
   pub kept : Kept start s journal
   pub rests : Rested s
-  pub sure : IsSure (past_of start journal).state
+  pub sure : HasNothingPending (past_of start journal).state
   pub image : s.memory ≡ image_behind (first_past start) start journal
   pub whole : AreWholeNotes (first_past start) start journal
 
@@ -291,7 +291,7 @@ module _ (start : Image) (files : Files) where
       record {
         kept = event_kept start files e sound old new journal notes between.kept does;
         rests = x.rests;
-        sure = subst (λ (w : Past). IsSure w.state) (sym (past_both (first_past start) journal notes)) x.sure;
+        sure = subst (λ (w : Past). HasNothingPending w.state) (sym (past_both (first_past start) journal notes)) x.sure;
         image = x.image ∙ ap (λ (i : Image). image_behind (past_of start journal) i notes) between.image ∙ sym (image_both (first_past start) start journal notes);
         whole = whole_both (first_past start) start journal notes between.whole (subst (λ (i : Image). AreWholeNotes (past_of start journal) i notes) between.image x.whole);
       }
@@ -301,7 +301,7 @@ module _ (start : Image) (files : Files) where
       subst (λ (z : Session). Between start z.machines (journal ++ notes)) (sym follows.1)
       (subst (Between start old.machines) (sym (append-nil journal) ∙ ap (λ (z : List Note). journal ++ z) (sym follows.0)) between)
   all_exact (e ∷ events) sound whole old new journal notes between clean follows =
-      let one = one_more e sound.0 whole.0 old follows.0 journal follows.1 between (clean_front follows.1 follows.2 notes follows.5 clean) follows.3 in
+      let one = one_more e sound.0 whole.0 old follows.0 journal follows.1 between (clean_prefix follows.1 follows.2 notes follows.5 clean) follows.3 in
       subst (Between start new.machines) (append_assoc journal follows.1 follows.2 ∙ ap (λ (z : List Note). journal ++ z) (sym follows.5))
       (all_exact events sound.1 whole.1 follows.0 new (journal ++ follows.1) follows.2 one (clean_rest follows.1 follows.2 notes follows.5 clean) follows.4)
 

@@ -12,33 +12,33 @@ use Rattle.fam_format.specs.Reading.{Reading, reading}
 use Rattle.fam_machine.specs.Caches.{IsClean}
 use Rattle.fam_machine.specs.Operations.{Machine, operated}
 use Rattle.fam_commands.specs.Task.{op_of}
-use Rattle.fam_rules.specs.Alone.{alone_image, alone_reply, content_of, held_file}
+use Rattle.fam_rules.specs.Solo.{solo_image, solo_reply, content_of, held_file}
 use Rattle.fam_rules.specs.Asks.{File, entries_of}
 use Rattle.fam_rules.specs.Content.{fill}
 use Rattle.fam_rules.specs.Decide.{decide}
 use Rattle.fam_rules.specs.Place.{line_bytes}
 use Rattle.fam_rules.specs.Reply.{Reply, Appended, NotAppended, Played, Same, Differs, Length, Bytes, NotFound, IsDirectory, Checks, Reports, NoSuperblock, BadHeader, BadSlot}
 use Rattle.fam_protocol.specs.Tasks.{IsCommand}
-use Rattle.fam_solo.proofs.AloneLaws.{alone}
-use Rattle.fam_protocol.proofs.Begins.{held_back}
+use Rattle.fam_solo.proofs.SoloLaws.{solo}
+use Rattle.fam_protocol.proofs.Hosts.Begins.{held_back}
 use Rattle.fam_journal.specs.Legal.{AnswerAllowed, AppendedAllowed, OfHost, ReplyAllowed}
 use Rattle.fam_journal.specs.Machines.{HostState, Machines}
 use Rattle.fam_journal.specs.Notes.{Answered, Note, Replied}
 use Rattle.fam_journal.specs.Past.{HostPast, Past, State, Bad, Sound, acknowledges, first_past, first_state, past_behind, past_of, replied, state_read}
-use Rattle.fam_journal.proofs.BadStates.{first_read}
-use Rattle.fam_journal.proofs.Journals.{past_both}
-use Rattle.fam_journal.proofs.Settles.{acknowledged}
-use Rattle.fam_whole.specs.Whole.{AreWholeNotes, IsByRules, IsSure, IsWholeReply, acknowledged_image, image_behind, replied_image}
+use Rattle.fam_journal.proofs.Settled.BadStates.{first_read}
+use Rattle.fam_journal.proofs.Settled.Journals.{past_both}
+use Rattle.fam_journal.proofs.Settled.Settles.{acknowledged}
+use Rattle.fam_whole.specs.Whole.{AreWholeNotes, IsByRules, HasNothingPending, IsWholeReply, acknowledged_image, image_behind, replied_image}
 use Rattle.fam_whole.proofs.Folds.{image_both, replied_sure, whole_both}
 use Rattle.fam_whole.proofs.Replies.{Appends, appends, appends_or, whole_reply}
 use Rattle.fam_whole.proofs.Running.{Ended, On, OnLate}
 
-acknowledged_same : (image : Image) (state : State) (seq : ℕ) → IsSure state → acknowledged_image image state seq ≡ image
+acknowledged_same : (image : Image) (state : State) (seq : ℕ) → HasNothingPending state → acknowledged_image image state seq ≡ image
 acknowledged_same image (Bad own damage gate) seq sure = refl
 acknowledged_same image (Sound p history None) seq sure = refl
 acknowledged_same image (Sound p history (Some f)) seq sure = absurd cc
 
-replied_same : (image : Image) (state : State) (given : Reply) → IsSure state → replied_image image state given ≡ image
+replied_same : (image : Image) (state : State) (given : Reply) → HasNothingPending state → replied_image image state given ≡ image
 replied_same image state (Appended seq) sure = acknowledged_same image state seq sure
 replied_same image state (NotAppended why) sure = refl
 replied_same image state (Played n tree) sure = refl
@@ -71,10 +71,10 @@ sound_read image p history (read.Sound q entries) is = (entries, sym (ap (λ (z 
 pub record Finished (base : Machines) (x : Past) (notes : List Note) (new : Machines) (left : Machine) : Type 0 where
   pub image : new.memory ≡ image_behind x base.memory notes
   pub whole : AreWholeNotes x base.memory notes
-  pub sure : IsSure (past_behind x notes).state
+  pub sure : HasNothingPending (past_behind x notes).state
   pub clean : IsClean left.cache
 
-module _ (start : Image) (h : ℕ) (base : Machines) (host : HostState) (host_is : slice_get base.hosts h ≡ Some host) (cmd : Cmd) (journal : List Note) (sure : IsSure (past_of start journal).state)
+module _ (start : Image) (h : ℕ) (base : Machines) (host : HostState) (host_is : slice_get base.hosts h ≡ Some host) (cmd : Cmd) (journal : List Note) (sure : HasNothingPending (past_of start journal).state)
     (settled : (past_of start journal).state ≡ first_state base.memory) (enough : least_lines ≤ length base.memory) (limit : line_bytes * length base.memory ≤ device_limit) (normal : map eight base.memory ≡ base.memory) (clean : IsClean host.cache) (command : IsCommand cmd)
     (new : Machines) (notes : List Note) (end : Ended start h base host host_is cmd journal sure new notes) where
   abbrev image : Image
@@ -95,20 +95,20 @@ module _ (start : Image) (h : ℕ) (base : Machines) (host : HostState) (host_is
   read_is : x.state ≡ state_read image (reading image)
   read_is = settled ∙ first_read image enough
 
-  pub reply_is : end.reply ≡ alone_reply image me cmd
-  reply_is = (alone image me cmd host.cache end.t end.words end.made end.m end.reply enough limit normal clean command end.came end.inside end.ends).0.answer
+  pub reply_is : end.reply ≡ solo_reply image me cmd
+  reply_is = (solo image me cmd host.cache end.t end.words end.made end.m end.reply enough limit normal clean command end.ran end.inside end.ends).0.answer
 
-  pub left_is : new.memory ≡ alone_image image me cmd
-  left_is = ap (λ (m : Machines). m.memory) end.state_is ∙ (alone image me cmd host.cache end.t end.words end.made end.m end.reply enough limit normal clean command end.came end.inside end.ends).0.left_is
+  pub left_is : new.memory ≡ solo_image image me cmd
+  left_is = ap (λ (m : Machines). m.memory) end.state_is ∙ (solo image me cmd host.cache end.t end.words end.made end.m end.reply enough limit normal clean command end.ran end.inside end.ends).0.left_is
 
   pub left_clean : IsClean left.cache
-  left_clean = (alone image me cmd host.cache end.t end.words end.made end.m end.reply enough limit normal clean command end.came end.inside end.ends).1
+  left_clean = (solo image me cmd host.cache end.t end.words end.made end.m end.reply enough limit normal clean command end.ran end.inside end.ends).1
 
   -- an entry is written, and acknowledged
   record Says : Type 0 where
     image_same : new.memory ≡ replied_image image y.state end.reply
     reply_whole : IsWholeReply end.reply y.state image
-    sure_then : IsSure (replied end.reply y.state)
+    sure_then : HasNothingPending (replied end.reply y.state)
 
   says_late : OnLate start h base host host_is cmd journal sure end.t y → Says
   says_late late =
@@ -116,9 +116,9 @@ module _ (start : Image) (h : ℕ) (base : Machines) (host : HostState) (host_is
       let decides : decide late.p me said.0 cmd ≡ Some (Ok late.e) =
       ap (λ (es : List Entry). decide late.p me es cmd) (sym (ap entries_of said.2 ∙ held_back (line_at image) said.0)) ∙ late.decided in
       let a = appends image me cmd late.p said.0 late.e said.1 decides in
-      by_appends said.0 said.2 (alone_reply image me cmd) refl a late said.1 decides
+      by_appends said.0 said.2 (solo_reply image me cmd) refl a late said.1 decides
     where
-      by_appends : (entries : List Entry) → late.history ≡ map (held_file (line_at image)) entries → (given : Reply) → alone_reply image me cmd ≡ given → Appends image me cmd → OnLate start h base host host_is cmd journal sure end.t y → reading image ≡ read.Sound late.p entries → decide late.p me entries cmd ≡ Some (Ok late.e) → Says
+      by_appends : (entries : List Entry) → late.history ≡ map (held_file (line_at image)) entries → (given : Reply) → solo_reply image me cmd ≡ given → Appends image me cmd → OnLate start h base host host_is cmd journal sure end.t y → reading image ≡ read.Sound late.p entries → decide late.p me entries cmd ≡ Some (Ok late.e) → Says
       by_appends entries history_is given given_is a late' sound decides =
           let sounds : read.Sound a.p a.entries ≡ read.Sound late.p entries = sym a.sound ∙ sound in
           let params : a.p ≡ late.p = cc in
@@ -134,7 +134,7 @@ module _ (start : Image) (h : ℕ) (base : Machines) (host : HostState) (host_is
                 ∙ ap (λ (e : Entry). Rattle.fam_rules.specs.Written.written image late.p (length a.entries) e (fill (content_of cmd) e.size)) entry
                 ∙ sym (ap (λ (r : Reply). replied_image image y.state r) reply ∙ ap (λ (z : State). acknowledged_image image z (length a.entries)) late.is);
             reply_whole = subst (λ (r : Reply). IsWholeReply r y.state image) (sym reply) (λ m e. absurd cc);
-            sure_then = subst IsSure (sym (ap (λ (r : Reply). replied r y.state) reply ∙ ap (acknowledges (length a.entries)) late.is
+            sure_then = subst HasNothingPending (sym (ap (λ (r : Reply). replied r y.state) reply ∙ ap (acknowledges (length a.entries)) late.is
                 ∙ acknowledged late.p late.history (length a.entries) (Some (record { entry = late.e; bytes = fill (content_of cmd) late.e.size })) (omega (arith, count, length-append late.history (record { entry = late.e; bytes = fill (content_of cmd) late.e.size } ∷ []))))) refl;
           }
 
@@ -144,7 +144,7 @@ module _ (start : Image) (h : ℕ) (base : Machines) (host : HostState) (host_is
     | inl stays ↦ record {
       image_same = left_is ∙ stays ∙ sym (ap (λ (z : State). replied_image image z end.reply) same ∙ replied_same image x.state end.reply sure);
       reply_whole = subst (λ (z : State). IsWholeReply end.reply z image) (sym same) (subst (λ (r : Reply). IsWholeReply r x.state image) (sym reply_is) (whole_reply image x.state me cmd read_is));
-      sure_then = subst IsSure (sym (ap (replied end.reply) same ∙ replied_sure end.reply x.state sure)) sure;
+      sure_then = subst HasNothingPending (sym (ap (replied end.reply) same ∙ replied_sure end.reply x.state sure)) sure;
     }
     | inr a ↦ absurd (not_written a same)
   ]
@@ -173,7 +173,7 @@ module _ (start : Image) (h : ℕ) (base : Machines) (host : HostState) (host_is
   by_rules : OfHost (slice_get y.hosts h) (IsByRules image end.reply)
   by_rules =
       subst (λ (o : Option HostPast). OfHost o (IsByRules image end.reply)) (sym end.told_is)
-      record { cmd = cmd; told = end.cmd_is; is = reply_is ∙ ap (λ (u : List ℕ). alone_reply image u cmd) (sym end.uuid_is) }
+      record { cmd = cmd; told = end.cmd_is; is = reply_is ∙ ap (λ (u : List ℕ). solo_reply image u cmd) (sym end.uuid_is) }
 
   abbrev answer : List Note
   answer = Answered h (Replied end.reply) ∷ []
@@ -187,6 +187,6 @@ module _ (start : Image) (h : ℕ) (base : Machines) (host : HostState) (host_is
     whole = whole_both x image end.before answer end.whole
         (subst (λ (i : Image). AreWholeNotes (past_behind x end.before) i answer) (sym end.same)
         (subst (λ (w : Past). AreWholeNotes w image answer) past_before ((says.reply_whole, by_rules), tt)));
-    sure = subst (λ (w : Past). IsSure w.state) (sym (past_both x end.before answer)) (subst (λ (w : Past). IsSure (past_behind w answer).state) past_before says.sure_then);
+    sure = subst (λ (w : Past). HasNothingPending w.state) (sym (past_both x end.before answer)) (subst (λ (w : Past). HasNothingPending (past_behind w answer).state) past_before says.sure_then);
     clean = left_clean;
   }

@@ -1,5 +1,5 @@
 pub mod Folds
-pub mod Places
+pub mod Phases
 pub mod Running
 pub mod Replies
 pub mod Rests

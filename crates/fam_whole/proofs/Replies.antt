@@ -14,7 +14,7 @@ use Rattle.fam_base.specs.Image.{Image, line_at}
 use Rattle.fam_format.specs.Reading as read
 use Rattle.fam_format.specs.Reading.{Reading, reading, reading_of, super_in}
 use Rattle.fam_rules.specs.declared.answers.Refused.{Refused}
-use Rattle.fam_rules.specs.Alone.{alone_image, alone_reply, appended, content_of, decision_image, held_file, reading_image, reading_reply, reply_in, reply_unless, sound_reply, stranger}
+use Rattle.fam_rules.specs.Solo.{solo_image, solo_reply, appended, content_of, decision_image, held_file, reading_image, reading_reply, reply_in, reply_unless, sound_reply, client_refusal}
 use Rattle.fam_rules.specs.Asks.{File, ask, compared, compared_at, file_at, first_difference, of_file, of_kind, verified}
 use Rattle.fam_rules.specs.Content.{fill}
 use Rattle.fam_rules.specs.Decide.{Wish, decide, decide_wish, wish_of}
@@ -22,8 +22,8 @@ use Rattle.fam_rules.specs.Place.{line_bytes}
 use Rattle.fam_rules.specs.Reply.{Reply, Appended, NotAppended, Played, Same, Differs, Length, Bytes, NotFound, IsDirectory, Checks, Reports, NoSuperblock, BadHeader, BadSlot}
 use Rattle.fam_rules.specs.Reports.{report_of}
 use Rattle.fam_rules.specs.Written.{written}
-use Rattle.fam_solo.proofs.AloneReply.{decided}
-use Rattle.fam_protocol.proofs.SoundReads.{sound_reads}
+use Rattle.fam_solo.proofs.Replies.{decided}
+use Rattle.fam_protocol.proofs.Hosts.SoundReads.{sound_reads}
 use Rattle.fam_journal.specs.Past.{State, settled_length, state_read}
 use Rattle.fam_whole.specs.Whole.{IsWholeReply}
 
@@ -122,19 +122,19 @@ module _ (image : Image) (state : State) where
   whole_read me cmd (read.Sound p entries) is = whole_sound entries cmd (decide p me entries cmd) (ap settled_length is)
 
   -- what the rules answer is of all that the image settles
-  pub whole_reply : (me : List ℕ) (cmd : Cmd) → state ≡ state_read image (reading image) → IsWholeReply (alone_reply image me cmd) state image
-  unfolding alone_reply
+  pub whole_reply : (me : List ℕ) (cmd : Cmd) → state ≡ state_read image (reading image) → IsWholeReply (solo_reply image me cmd) state image
+  unfolding solo_reply
   whole_reply me cmd is = by_cmd cmd
     where
       by_cmd : (c : Cmd) → IsWholeReply (reply_in memory have me c) state image
       by_cmd Fsck = refl
-      by_cmd Logplay = whole_unless (stranger (wish_of Logplay) (super_in memory have) me) _ (whole_read me Logplay (reading image) is)
-      by_cmd (Mkdir path attr) = whole_unless (stranger (wish_of (Mkdir path attr)) (super_in memory have) me) _ (whole_read me (Mkdir path attr) (reading image) is)
-      by_cmd (Creat path size attr stripe fill) = whole_unless (stranger (wish_of (Creat path size attr stripe fill)) (super_in memory have) me) _ (whole_read me (Creat path size attr stripe fill) (reading image) is)
-      by_cmd (Cp path attr stripe bytes) = whole_unless (stranger (wish_of (Cp path attr stripe bytes)) (super_in memory have) me) _ (whole_read me (Cp path attr stripe bytes) (reading image) is)
-      by_cmd (Verify path against) = whole_unless (stranger (wish_of (Verify path against)) (super_in memory have) me) _ (whole_read me (Verify path against) (reading image) is)
-      by_cmd (Read path offset count) = whole_unless (stranger (wish_of (Read path offset count)) (super_in memory have) me) _ (whole_read me (Read path offset count) (reading image) is)
-      by_cmd (Check entries) = whole_unless (stranger (wish_of (Check entries)) (super_in memory have) me) _ (whole_read me (Check entries) (reading image) is)
+      by_cmd Logplay = whole_unless (client_refusal (wish_of Logplay) (super_in memory have) me) _ (whole_read me Logplay (reading image) is)
+      by_cmd (Mkdir path attr) = whole_unless (client_refusal (wish_of (Mkdir path attr)) (super_in memory have) me) _ (whole_read me (Mkdir path attr) (reading image) is)
+      by_cmd (Creat path size attr stripe fill) = whole_unless (client_refusal (wish_of (Creat path size attr stripe fill)) (super_in memory have) me) _ (whole_read me (Creat path size attr stripe fill) (reading image) is)
+      by_cmd (Cp path attr stripe bytes) = whole_unless (client_refusal (wish_of (Cp path attr stripe bytes)) (super_in memory have) me) _ (whole_read me (Cp path attr stripe bytes) (reading image) is)
+      by_cmd (Verify path against) = whole_unless (client_refusal (wish_of (Verify path against)) (super_in memory have) me) _ (whole_read me (Verify path against) (reading image) is)
+      by_cmd (Read path offset count) = whole_unless (client_refusal (wish_of (Read path offset count)) (super_in memory have) me) _ (whole_read me (Read path offset count) (reading image) is)
+      by_cmd (Check entries) = whole_unless (client_refusal (wish_of (Check entries)) (super_in memory have) me) _ (whole_read me (Check entries) (reading image) is)
 
 -- Whether an entry is appended.
 
@@ -144,12 +144,12 @@ pub record Appends (image : Image) (me : List ℕ) (cmd : Cmd) : Type 0 where
   pub e : Entry
   pub sound : reading image ≡ read.Sound p entries
   pub decided : decide p me entries cmd ≡ Some (Ok e)
-  pub answer : alone_reply image me cmd ≡ Appended (length entries)
-  pub left : alone_image image me cmd ≡ written image p (length entries) e (fill (content_of cmd) e.size)
+  pub answer : solo_reply image me cmd ≡ Appended (length entries)
+  pub left : solo_image image me cmd ≡ written image p (length entries) e (fill (content_of cmd) e.size)
 
 module _ (image : Image) (me : List ℕ) (cmd : Cmd) where
-  left_read : (r : Reading) → reading image ≡ r → alone_image image me cmd ≡ reading_image image me cmd r
-  unfolding alone_image
+  left_read : (r : Reading) → reading image ≡ r → solo_image image me cmd ≡ reading_image image me cmd r
+  unfolding solo_image
   left_read r is = ap (reading_image image me cmd) is
 
   pub appends : (p : Params) (entries : List Entry) (e : Entry) → reading image ≡ read.Sound p entries → decide p me entries cmd ≡ Some (Ok e) → Appends image me cmd
@@ -162,16 +162,16 @@ module _ (image : Image) (me : List ℕ) (cmd : Cmd) where
           let answers = decided image me cmd p entries sound (sound_reads (line_at image) (line_bytes * length image) p entries sound).super w is (Ok e) ok in
           record { p = p; entries = entries; e = e; sound = sound; decided = decides; answer = sym answers.answer; left = sym answers.left_is }
 
-  pub appends_or : (alone_image image me cmd ≡ image) ⊎ Appends image me cmd
+  pub appends_or : (solo_image image me cmd ≡ image) ⊎ Appends image me cmd
   appends_or = by_reading (reading image) refl
     where
-      by_reading : (r : Reading) → reading image ≡ r → (alone_image image me cmd ≡ image) ⊎ Appends image me cmd
+      by_reading : (r : Reading) → reading image ≡ r → (solo_image image me cmd ≡ image) ⊎ Appends image me cmd
       by_reading (read.NoSuperblock fault) is = inl (left_read (read.NoSuperblock fault) is)
       by_reading (read.BadHeader fault) is = inl (left_read (read.BadHeader fault) is)
       by_reading (read.BadSlot i reason) is = inl (left_read (read.BadSlot i reason) is)
       by_reading (read.Sound p entries) is = by_decision (decide p me entries cmd) refl
         where
-          by_decision : (o : Option (Result Entry Refused)) → decide p me entries cmd ≡ o → (alone_image image me cmd ≡ image) ⊎ Appends image me cmd
+          by_decision : (o : Option (Result Entry Refused)) → decide p me entries cmd ≡ o → (solo_image image me cmd ≡ image) ⊎ Appends image me cmd
           by_decision None none = inl (left_read (read.Sound p entries) is ∙ ap (decision_image image p entries cmd) none)
           by_decision (Some (Err refused)) err = inl (left_read (read.Sound p entries) is ∙ ap (decision_image image p entries cmd) err)
           by_decision (Some (Ok e)) ok = inr (appends p entries e is ok)

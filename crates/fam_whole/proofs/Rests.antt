@@ -12,24 +12,24 @@ use Rattle.fam_machine.specs.Caches.{IsClean, IsCleanCell}
 use Rattle.fam_commands.specs.Task.{Task}
 use Rattle.fam_rules.specs.Asks.{File}
 use Rattle.fam_rules.specs.Place.{line_bytes}
-use Rattle.fam_protocol.specs.Way.{Hosts, Known, Owner, Settled, Way, settled_at_first}
-use Rattle.fam_protocol.specs.Way as way
-use Rattle.fam_protocol.proofs.Resting.{rests_settled}
-use Rattle.fam_journal.specs.View.{HostView, StandsAt, TaskStands}
-use Rattle.fam_journal.specs.Kept.{Kept, copy_at, hosts_of, run_at, run_with, seen_of, settled_of, uuid_at}
+use Rattle.fam_protocol.specs.Invariant.{Hosts, Known, Owner, Settled, Invariant, settled_at_first}
+use Rattle.fam_protocol.specs.Invariant as invariant
+use Rattle.fam_protocol.proofs.Hosts.Resting.{rests_settled}
+use Rattle.fam_journal.specs.View.{HostView, HostStandsAt, TaskStands}
+use Rattle.fam_journal.specs.Kept.{Kept, copy_at, hosts_of, run_at, run_with, shared_of, settled_of, uuid_at}
 use Rattle.fam_journal.specs.Machines.{HostState, Machines, TaskState}
-use Rattle.fam_journal.specs.Members.{place_of}
+use Rattle.fam_journal.specs.Members.{index_of}
 use Rattle.fam_journal.specs.Notes.{Note}
 use Rattle.fam_journal.specs.Past as past
 use Rattle.fam_journal.specs.Past.{Damage, FewLines, State, Bad, Sound, HostPast, first_state, past_of}
-use Rattle.fam_journal.proofs.BadStates.{bad_own}
-use Rattle.fam_journal.proofs.Begin.{settled_first}
-use Rattle.fam_journal.proofs.Declares.{none_passes}
-use Rattle.fam_journal.proofs.Left.{held_reads}
-use Rattle.fam_journal.proofs.Stepped.{find_host}
-use Rattle.fam_journal.proofs.WorldRows.{place_found}
+use Rattle.fam_journal.proofs.Settled.BadStates.{bad_own}
+use Rattle.fam_journal.proofs.Calls.Begin.{settled_first}
+use Rattle.fam_journal.proofs.Calls.Declares.{none_passes}
+use Rattle.fam_journal.proofs.Runs.Left.{held_reads}
+use Rattle.fam_journal.proofs.Calls.Stepped.{find_host}
+use Rattle.fam_journal.proofs.Calls.WorldRows.{place_found}
 use Rattle.fam_journal.specs.Ends.{ReadsAs}
-use Rattle.fam_whole.specs.Whole.{IsSure}
+use Rattle.fam_whole.specs.Whole.{HasNothingPending}
 use Rattle.fam_whole.proofs.Folds.{first_sure}
 
 -- no host has a task, and no cache has anything to send
@@ -46,7 +46,7 @@ module _ (start : Image) (s : Machines) (journal : List Note) (kept : Kept start
 
   view_rests : (k : ℕ) (v : HostView) → slice_get kept.views k ≡ Some v → IsClean v.cache × (v.task ≡ None)
   view_rests k v is =
-      let host = find_host (length start) v (slice_get s.hosts k) (subst (λ (o : Option HostView). StandsAt (length start) (slice_get s.hosts k) o) is (kept.held.stands k)) in
+      let host = find_host (length start) v (slice_get s.hosts k) (subst (λ (o : Option HostView). HostStandsAt (length start) (slice_get s.hosts k) o) is (kept.held.stands k)) in
       let at = rests k host.0 host.1 in
       (subst IsClean host.2.cache at.clean, none v.task (subst (λ (o : Option TaskState). TaskStands (length start) o v.task) at.idle host.2.task))
     where
@@ -72,31 +72,31 @@ module _ (start : Image) (s : Machines) (journal : List Note) (kept : Kept start
   abbrev has : List ℕ → HostView → Bool
   has id v = path_eq v.uuid id
 
-  owner_is : (id : List ℕ) (h : ℕ) → place_of (has id) kept.views ≡ Some h → hosts.uuid h ≡ Some id
+  owner_is : (id : List ℕ) (h : ℕ) → index_of (has id) kept.views ≡ Some h → hosts.uuid h ≡ Some id
   owner_is id h is =
       let at = place_found (has id) kept.views 0 h is in
       let here : at.k ≡ h = (let same = at.at in omega (arith, same)) in
       subst (λ (n : ℕ). uuid_at (slice_get kept.views n) ≡ Some id) here
       (ap uuid_at at.is ∙ ap Some ((pointwise_decides Decides-eqb at.x.uuid id).0 at.passes))
 
-  owner_only : (id : List ℕ) (h : ℕ) → hosts.uuid h ≡ Some id → place_of (has id) kept.views ≡ Some h
-  owner_only id h is = by_place (place_of (has id) kept.views) refl
+  owner_only : (id : List ℕ) (h : ℕ) → hosts.uuid h ≡ Some id → index_of (has id) kept.views ≡ Some h
+  owner_only id h is = by_phase (index_of (has id) kept.views) refl
     where
-      by_view : (o : Option HostView) → slice_get kept.views h ≡ o → uuid_at o ≡ Some id → place_of (has id) kept.views ≡ None → ⊥
+      by_view : (o : Option HostView) → slice_get kept.views h ≡ o → uuid_at o ≡ Some id → index_of (has id) kept.views ≡ None → ⊥
       by_view None at e none = absurd cc
       by_view (Some v) at e none =
           absurd (let no : path_eq v.uuid id ≡ false = none_passes (has id) kept.views 0 none h v at in
           let yes : path_eq v.uuid id ≡ true = (pointwise_decides Decides-eqb v.uuid id).1 (same_Some v.uuid id e) in cc)
 
-      by_place : (o : Option ℕ) → place_of (has id) kept.views ≡ o → o ≡ Some h
-      by_place None none = absurd (by_view (slice_get kept.views h) refl is none)
-      by_place (Some k) found = ap Some (kept.held.way.declared.apart k h id (owner_is id k found) is)
+      by_phase : (o : Option ℕ) → index_of (has id) kept.views ≡ o → o ≡ Some h
+      by_phase None none = absurd (by_view (slice_get kept.views h) refl is none)
+      by_phase (Some k) found = ap Some (kept.held.invariant.declared.apart k h id (owner_is id k found) is)
 
   owner : (id : List ℕ) → Owner hosts id
-  owner id = record { host = place_of (has id) kept.views; is = owner_is id; only = owner_only id }
+  owner id = record { host = index_of (has id) kept.views; is = owner_is id; only = owner_only id }
 
-  at_rest : way.Rests hosts (seen_of s.memory kept.views)
-  at_rest = record { declared = kept.held.way.declared; owner = owner; idle = idle; clean = clean }
+  at_rest : invariant.Rests hosts (shared_of s.memory kept.views)
+  at_rest = record { declared = kept.held.invariant.declared; owner = owner; idle = idle; clean = clean }
 
   lines : length s.memory ≡ length start
   lines = kept.held.lines
@@ -105,10 +105,10 @@ module _ (start : Image) (s : Machines) (journal : List Note) (kept : Kept start
   known_here p history is =
       rests_settled s.memory hosts (λ h l. copy_at (slice_get kept.views h) l) p history
       (subst (λ (n : ℕ). line_bytes * n ≤ device_limit) (sym lines) kept.held.limit) at_rest
-      (subst (λ (n : ℕ). Way (Known p history (length history)) n hosts (seen_of s.memory kept.views)) (sym lines)
-      (subst (λ (z : State). Way (settled_of z) (length start) hosts (seen_of s.memory kept.views)) is kept.held.way))
+      (subst (λ (n : ℕ). Invariant (Known p history (length history)) n hosts (shared_of s.memory kept.views)) (sym lines)
+      (subst (λ (z : State). Invariant (settled_of z) (length start) hosts (shared_of s.memory kept.views)) is kept.held.invariant))
 
-  first_is : (p : Params) (history : List File) (z : State) → IsSure z → settled_of z ≡ Known p history (length history) → Sound p history None ≡ z
+  first_is : (p : Params) (history : List File) (z : State) → HasNothingPending z → settled_of z ≡ Known p history (length history) → Sound p history None ≡ z
   first_is p history (Bad own (FewLines n) gate) sure is = absurd cc
   first_is p history (Bad own (past.NoSuperblock fault) gate) sure is = absurd cc
   first_is p history (Bad own (past.BadHeader fault) gate) sure is = absurd cc
@@ -117,10 +117,10 @@ module _ (start : Image) (s : Machines) (journal : List Note) (kept : Kept start
   first_is p history (Sound q other (Some f)) sure is = absurd cc
 
   -- what is settled is what the image reads as
-  pub rest_state : IsSure (past_of start journal).state → (past_of start journal).state ≡ first_state s.memory
+  pub rest_state : HasNothingPending (past_of start journal).state → (past_of start journal).state ≡ first_state s.memory
   rest_state sure = by_state (past_of start journal).state refl sure
     where
-      by_state : (z : State) → (past_of start journal).state ≡ z → IsSure z → (past_of start journal).state ≡ first_state s.memory
+      by_state : (z : State) → (past_of start journal).state ≡ z → HasNothingPending z → (past_of start journal).state ≡ first_state s.memory
       by_state (Bad own damage gate) is sure =
           let left : s.memory ≡ own = subst (λ (z : State). ReadsAs z s.memory) is (held_reads start s (record { hosts = kept.views; journal = journal }) s.memory kept.held) in
           is ∙ sym (bad_own start own damage gate journal is).reads ∙ ap first_state (sym left)

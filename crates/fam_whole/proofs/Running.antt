@@ -9,43 +9,43 @@ use Rattle.fam_base.specs.declared.entry.Entry.{Entry}
 use Rattle.fam_base.specs.declared.entry.Params.{Params}
 use Rattle.fam_base.specs.Image.{Image}
 use Rattle.fam_machine.specs.declared.op.Op.{Op}
-use Rattle.fam_machine.specs.Operations.{Machine, given, operated, IsInside}
-use Rattle.fam_commands.specs.Solo.{Came, goes, notes_up_to, noted, starts, turn_on}
+use Rattle.fam_machine.specs.Operations.{Machine, given, operated, IsInImage}
+use Rattle.fam_commands.specs.Solo.{SoloRun, goes, notes_up_to, noted, starts, turn_on}
 use Rattle.fam_commands.specs.Stands.{StandsFor, note_of, task_after, with_given}
 use Rattle.fam_commands.specs.Table.{Row, table}
 use Rattle.fam_commands.specs.Task.{Task, op_of, starting, start_slot}
 use Rattle.fam_commands.specs.Turns.{Turn, Goes, Marks, Finds, Writes, Ends}
-use Rattle.fam_commands.proofs.Standing.{operation_from_start, standing_tied}
-use Rattle.fam_solo.proofs.AloneMachine.{came_length, came_stands, same_turn}
-use Rattle.fam_rules.specs.Alone.{content_of}
+use Rattle.fam_commands.proofs.Steps.Standing.{operation_from_start, standing_tied}
+use Rattle.fam_solo.proofs.Machine.{ran_length, ran_stands, same_turn}
+use Rattle.fam_rules.specs.Solo.{content_of}
 use Rattle.fam_rules.specs.Asks.{File, entries_of}
 use Rattle.fam_rules.specs.Content.{fill}
 use Rattle.fam_rules.specs.Decide.{decide}
 use Rattle.fam_rules.specs.Reply.{Reply}
-use Rattle.fam_journal.specs.Calls.{Operates, busy_at, is_busy_host}
-use Rattle.fam_journal.specs.Ends.{IsClean}
+use Rattle.fam_journal.specs.Calls.{DoesOperations, busy_at, is_busy_host}
+use Rattle.fam_journal.specs.Ends.{IsFaultless}
 use Rattle.fam_journal.specs.View.{TaskStands}
-use Rattle.fam_journal.specs.Kept.{IfRuns, Kept, TaskTold, hosts_of, run_at, run_of, run_with, seen_of, settled_of}
+use Rattle.fam_journal.specs.Kept.{IfRuns, Kept, TaskTold, hosts_of, run_at, run_of, run_with, shared_of, settled_of}
 use Rattle.fam_journal.specs.Legal.{AnswerAllowed, LegalBehind, OfHost, WritesAllowed}
 use Rattle.fam_journal.specs.Machines as machine
 use Rattle.fam_journal.specs.Machines.{Done, HostState, Machines, Operation, Passes, TaskState, machine_of, next_op, notes_of, operation, served, task_on, with_machine}
 use Rattle.fam_journal.specs.Notes.{Note, Answered, Mark, Found, Writes as NoteWrites, Replied}
-use Rattle.fam_journal.specs.Past.{HostPast, Past, State, Bad, Sound, cmd_of, filled, finds, first_past, past_behind, past_of, pends}
-use Rattle.fam_journal.proofs.Following.{operation_kept}
-use Rattle.fam_protocol.proofs.Inside.{asks_inside}
-use Rattle.fam_journal.proofs.Journals.{legal_rest, past_both}
-use Rattle.fam_journal.proofs.Members.{changed_at_member}
-use Rattle.fam_journal.proofs.MkfsRows.{changed_twice}
-use Rattle.fam_journal.proofs.Rows.{Declared, declared}
-use Rattle.fam_journal.proofs.TaskRows.{row_served}
-use Rattle.fam_journal.proofs.Unique.{clean_front, clean_rest, passes}
-use Rattle.fam_whole.specs.Whole.{AreWholeNotes, IsSure, image_behind}
+use Rattle.fam_journal.specs.Past.{HostPast, Past, State, Bad, Sound, cmd_of, filled_bytes, finds, first_past, past_behind, past_of, pends}
+use Rattle.fam_journal.proofs.Runs.Following.{operation_kept}
+use Rattle.fam_protocol.proofs.Hosts.Inside.{asks_inside}
+use Rattle.fam_journal.proofs.Settled.Journals.{legal_rest, past_both}
+use Rattle.fam_journal.proofs.Calls.Members.{changed_at_member}
+use Rattle.fam_journal.proofs.Calls.MkfsRows.{changed_twice}
+use Rattle.fam_journal.proofs.Calls.Rows.{Declared, declared}
+use Rattle.fam_journal.proofs.Calls.TaskRows.{row_served}
+use Rattle.fam_journal.proofs.Runs.Unique.{clean_prefix, clean_rest, passes}
+use Rattle.fam_whole.specs.Whole.{AreWholeNotes, HasNothingPending, image_behind}
 use Rattle.fam_whole.proofs.Folds.{all_noted, finds_sure, image_both, noted_both, noted_one, whole_both}
 use Rattle.fam_protocol.specs.After.{HasNamed}
-use Rattle.fam_whole.proofs.Places.{IsLateTurn, WritesLate, late_turn, writes_turn}
+use Rattle.fam_whole.proofs.Phases.{IsLateTurn, WritesLate, late_turn, writes_turn}
 
 -- from the moment at which host h of these machines has begun the command, behind this journal
-module _ (start : Image) (h : ℕ) (base : Machines) (host : HostState) (host_is : slice_get base.hosts h ≡ Some host) (cmd : Cmd) (journal : List Note) (sure : IsSure (past_of start journal).state) where
+module _ (start : Image) (h : ℕ) (base : Machines) (host : HostState) (host_is : slice_get base.hosts h ≡ Some host) (cmd : Cmd) (journal : List Note) (sure : HasNothingPending (past_of start journal).state) where
   abbrev image : Image
   image = base.memory
 
@@ -71,7 +71,7 @@ module _ (start : Image) (h : ℕ) (base : Machines) (host : HostState) (host_is
 
   -- One operation is the machine's row.
 
-  module _ (t : Task) (words : List ℕ) (made : ℕ) (m : Machine) (came : Came cmd me image host.cache t words made m) where
+  module _ (t : Task) (words : List ℕ) (made : ℕ) (m : Machine) (ran : SoloRun cmd me image host.cache t words made m) where
     abbrev s : TaskState
     s = state_of words made
 
@@ -82,15 +82,15 @@ module _ (start : Image) (h : ℕ) (base : Machines) (host : HostState) (host_is
     after = operated (op_of t) m
 
     count : length m.image ≡ length image
-    count = came_length cmd me image host.cache t words made m came
+    count = ran_length cmd me image host.cache t words made m ran
 
     standing : StandsFor cmd me (length image) t words made
-    standing = came_stands cmd me image host.cache t words made m came
+    standing = ran_stands cmd me image host.cache t words made m ran
 
-    row_is : operation Passes h (at m (Some s)) ≡ Some (record { notes = notes_of h (note_of turn); left = at after (machine.task_after (note_of turn) (task_on s (given (op_of t) m))) })
+    row_is : operation Passes h (at m (Some s)) ≡ Some (record { notes = notes_of h (note_of turn); left = at after (machine.task_behind (note_of turn) (task_on s (given (op_of t) m))) })
     row_is =
         row_served (at m (Some s)) h (record host { cache = m.cache; task = Some s }) (host_at m (Some s)) s refl (length image) count t standing m refl turn (same_turn t m)
-        ∙ ap (λ (z : Machines). Some (record { notes = notes_of h (note_of turn); left = z })) (twice m after (Some s) (machine.task_after (note_of turn) (task_on s (given (op_of t) m))))
+        ∙ ap (λ (z : Machines). Some (record { notes = notes_of h (note_of turn); left = z })) (twice m after (Some s) (machine.task_behind (note_of turn) (task_on s (given (op_of t) m))))
 
     -- What the journal and the protocol say of the task.
 
@@ -99,7 +99,7 @@ module _ (start : Image) (h : ℕ) (base : Machines) (host : HostState) (host_is
       told_is : slice_get (past_of start j).hosts h ≡ Some told
       cmd_is : told.cmd ≡ Some cmd
       uuid_is : told.uuid ≡ me
-      inside : IsInside (op_of t) m.image
+      inside : IsInImage (op_of t) m.image
 
     now_of : (j : List Note) (kept : Kept start (at m (Some s)) j) → Declared start (at m (Some s)) (record { hosts = kept.views; journal = j }) h → Now j
     now_of j kept d = by_task d.view.task refl
@@ -128,8 +128,8 @@ module _ (start : Image) (h : ℕ) (base : Machines) (host : HostState) (host_is
               told_is = d.told_is;
               cmd_is = told_task.cmd ∙ ap Some (standing_tied cmd me (length start) z words made other).cmd_is;
               uuid_is = d.host_told.uuid ∙ sym d.stands.uuid ∙ ap (λ (y : HostState). y.uuid) same;
-              inside = subst (λ (op : Op). IsInside op m.image) ops
-                  (asks_inside (settled_of (past_of start j).state) (length start) (hosts_of kept.views (past_of start j).hosts) (seen_of m.image kept.views) kept.held.limit kept.held.way.stage h (run_of z d.told)
+              inside = subst (λ (op : Op). IsInImage op m.image) ops
+                  (asks_inside (settled_of (past_of start j).state) (length start) (hosts_of kept.views (past_of start j).hosts) (shared_of m.image kept.views) kept.held.limit kept.held.invariant.stage h (run_of z d.told)
                   (ap₂ run_at d.view_is d.told_is ∙ ap (λ (o : Option Task). run_with o (Some d.told)) runs) m.image kept.held.lines);
             }
 
@@ -145,7 +145,7 @@ module _ (start : Image) (h : ℕ) (base : Machines) (host : HostState) (host_is
     pub was : x.state ≡ Sound p history None
     pub is : y.state ≡ Sound p history (Some (record { entry = e; bytes = fill (content_of cmd) e.size }))
     pub decided : decide p me (entries_of history) cmd ≡ Some (Ok e)
-    pub late : HasNamed t.place
+    pub late : HasNamed t.phase
 
   abbrev pub On : Task → Past → Type 0
   On t y = (y.state ≡ x.state) ⊎ OnLate t y
@@ -156,9 +156,9 @@ module _ (start : Image) (h : ℕ) (base : Machines) (host : HostState) (host_is
     words : List ℕ
     made : ℕ
     m : Machine
-    came : Came cmd me image host.cache t words made m
+    ran : SoloRun cmd me image host.cache t words made m
     state_is : state ≡ at m (Some (state_of words made))
-    notes_are : notes ≡ all_noted h (notes_up_to cmd me image host.cache t words made m came)
+    notes_are : notes ≡ all_noted h (notes_up_to cmd me image host.cache t words made m ran)
     on : On t (past_of start (journal ++ notes))
     same : image_behind x image notes ≡ image
     whole : AreWholeNotes x image notes
@@ -169,13 +169,13 @@ module _ (start : Image) (h : ℕ) (base : Machines) (host : HostState) (host_is
     pub words : List ℕ
     pub made : ℕ
     pub m : Machine
-    pub came : Came cmd me image host.cache t words made m
-    pub inside : IsInside (op_of t) m.image
+    pub ran : SoloRun cmd me image host.cache t words made m
+    pub inside : IsInImage (op_of t) m.image
     pub reply : Reply
     pub ends : turn_on t m ≡ Ends reply
     pub state_is : state ≡ at (operated (op_of t) m) None
     pub before : List Note
-    pub before_is : before ≡ all_noted h (notes_up_to cmd me image host.cache t words made m came)
+    pub before_is : before ≡ all_noted h (notes_up_to cmd me image host.cache t words made m ran)
     pub notes_are : notes ≡ before ++ Answered h (Replied reply) ∷ []
     pub on : On t (past_of start (journal ++ before))
     pub same : image_behind x image before ≡ image
@@ -192,31 +192,31 @@ module _ (start : Image) (h : ℕ) (base : Machines) (host : HostState) (host_is
   past_here : (notes : List Note) → past_of start (journal ++ notes) ≡ past_behind x notes
   past_here notes = past_both (first_past start) journal notes
 
-  module _ (t : Task) (words : List ℕ) (made : ℕ) (m : Machine) (came : Came cmd me image host.cache t words made m) (notes : List Note) (notes_are : notes ≡ all_noted h (notes_up_to cmd me image host.cache t words made m came)) (on : On t (past_of start (journal ++ notes))) (same : image_behind x image notes ≡ image) (whole : AreWholeNotes x image notes) (info : Now t words made m came (journal ++ notes)) where
+  module _ (t : Task) (words : List ℕ) (made : ℕ) (m : Machine) (ran : SoloRun cmd me image host.cache t words made m) (notes : List Note) (notes_are : notes ≡ all_noted h (notes_up_to cmd me image host.cache t words made m ran)) (on : On t (past_of start (journal ++ notes))) (same : image_behind x image notes ≡ image) (whole : AreWholeNotes x image notes) (info : Now t words made m ran (journal ++ notes)) where
     abbrev y : Past
     y = past_of start (journal ++ notes)
 
     -- what is left and noted by this turn
     abbrev left : Turn → Machines
-    left z = at (operated (op_of t) m) (machine.task_after (note_of z) (task_on (state_of words made) (given (op_of t) m)))
+    left z = at (operated (op_of t) m) (machine.task_behind (note_of z) (task_on (state_of words made) (given (op_of t) m)))
 
     abbrev first : Turn → List Note
     first z = notes_of h (note_of z)
 
     -- the task goes on, with one note more or none
-    goes_on : (z : Turn) (n : Task) → turn_on t m ≡ z → task_after z ≡ Some n → machine.task_after (note_of z) (task_on (state_of words made) (given (op_of t) m)) ≡ Some (task_on (state_of words made) (given (op_of t) m)) → On n (past_behind y (first z)) → image_behind y image (first z) ≡ image → AreWholeNotes y image (first z) → Along (left z) (notes ++ first z)
+    goes_on : (z : Turn) (n : Task) → turn_on t m ≡ z → task_after z ≡ Some n → machine.task_behind (note_of z) (task_on (state_of words made) (given (op_of t) m)) ≡ Some (task_on (state_of words made) (given (op_of t) m)) → On n (past_behind y (first z)) → image_behind y image (first z) ≡ image → AreWholeNotes y image (first z) → Along (left z) (notes ++ first z)
     goes_on z n is next task on' same' whole' =
-        let came' : Came cmd me image host.cache n (with_given words (given (op_of t) m)) (made + 1) (operated (op_of t) m) = goes came info.inside (ap task_after is ∙ next) in
+        let came' : SoloRun cmd me image host.cache n (with_given words (given (op_of t) m)) (made + 1) (operated (op_of t) m) = goes ran info.inside (ap task_after is ∙ next) in
         record {
           t = n;
           words = with_given words (given (op_of t) m);
           made = made + 1;
           m = operated (op_of t) m;
-          came = came';
+          ran = came';
           state_is = ap (at (operated (op_of t) m)) task;
           notes_are =
               ap₂ (λ (u v : List Note). u ++ v) notes_are (sym (noted_one h (note_of z)) ∙ ap (λ (w : Turn). all_noted h (noted (note_of w))) (sym is))
-              ∙ sym (noted_both h (notes_up_to cmd me image host.cache t words made m came) (noted (note_of (turn_on t m))));
+              ∙ sym (noted_both h (notes_up_to cmd me image host.cache t words made m ran) (noted (note_of (turn_on t m))));
           on = subst (On n) (sym (past_on notes (first z))) on';
           same = image_both x image notes (first z) ∙ ap (λ (i : Image). image_behind (past_behind x notes) i (first z)) same ∙ ap (λ (w : Past). image_behind w image (first z)) (sym (past_here notes)) ∙ same';
           whole = whole_both x image notes (first z) whole (subst (λ (i : Image). AreWholeNotes (past_behind x notes) i (first z)) (sym same) (subst (λ (w : Past). AreWholeNotes w image (first z)) (past_here notes) whole'));
@@ -224,10 +224,10 @@ module _ (start : Image) (h : ℕ) (base : Machines) (host : HostState) (host_is
 
     -- the turn of a task that writes
     late_now : OnLate t y → IsLateTurn (turn_on t m)
-    late_now late = late_turn t.place t (unwrap_or (given (op_of t) m) 0) late.late
+    late_now late = late_turn t.phase t (unwrap_or (given (op_of t) m) 0) late.late
 
     names_now : WritesLate (turn_on t m)
-    names_now = writes_turn t.place t (unwrap_or (given (op_of t) m) 0)
+    names_now = writes_turn t.phase t (unwrap_or (given (op_of t) m) 0)
 
     -- the state goes on
     on_goes : (n : Task) → turn_on t m ≡ Goes n → On t y → On n y
@@ -268,7 +268,7 @@ module _ (start : Image) (h : ℕ) (base : Machines) (host : HostState) (host_is
                   history = history;
                   e = e;
                   was = was;
-                  is = ap (pends _) (eq ∙ was) ∙ ap (λ (o : Option Cmd). Sound p history (Some (record { entry = e; bytes = filled o e.size }))) cmd_told;
+                  is = ap (pends _) (eq ∙ was) ∙ ap (λ (o : Option Cmd). Sound p history (Some (record { entry = e; bytes = filled_bytes o e.size }))) cmd_told;
                   decided = ap₂ (λ (u : List ℕ) (c : Cmd). decide p u (entries_of history) c) (sym info.uuid_is) (sym commands) ∙ says.1.is;
                   late = subst WritesLate is names_now;
                 })
@@ -283,7 +283,7 @@ module _ (start : Image) (h : ℕ) (base : Machines) (host : HostState) (host_is
       words = words;
       made = made;
       m = m;
-      came = came;
+      ran = ran;
       inside = info.inside;
       reply = given;
       ends = is;
@@ -302,18 +302,18 @@ module _ (start : Image) (h : ℕ) (base : Machines) (host : HostState) (host_is
     })
 
   -- one operation more
-  step : (state mid : Machines) (notes first : List Note) → Along state notes → Kept start state (journal ++ notes) → Operation h state first mid → IsClean first → Along mid (notes ++ first) ⊎ Ended mid (notes ++ first)
+  step : (state mid : Machines) (notes first : List Note) → Along state notes → Kept start state (journal ++ notes) → Operation h state first mid → IsFaultless first → Along mid (notes ++ first) ⊎ Ended mid (notes ++ first)
   step state mid notes first along kept op clean =
       let s : TaskState = state_of along.words along.made in
       let kept' : Kept start (at along.m (Some s)) (journal ++ notes) = subst (λ (z : Machines). Kept start z (journal ++ notes)) along.state_is kept in
       let op' : Operation h (at along.m (Some s)) first mid = subst (λ (z : Machines). Operation h z first mid) along.state_is op in
-      let info = now along.t along.words along.made along.m along.came (journal ++ notes) kept' in
+      let info = now along.t along.words along.made along.m along.ran (journal ++ notes) kept' in
       let turn : Turn = turn_on along.t along.m in
-      let same : record { notes = notes_of h (note_of turn); left = at (operated (op_of along.t) along.m) (machine.task_after (note_of turn) (task_on s (given (op_of along.t) along.m))) } ≡ record { notes = first; left = mid } =
-      same_Some _ (record { notes = first; left = mid }) (sym (row_is along.t along.words along.made along.m along.came) ∙ passes h (at along.m (Some s)) op'.outcome (record { notes = first; left = mid }) op'.is clean) in
+      let same : record { notes = notes_of h (note_of turn); left = at (operated (op_of along.t) along.m) (machine.task_behind (note_of turn) (task_on s (given (op_of along.t) along.m))) } ≡ record { notes = first; left = mid } =
+      same_Some _ (record { notes = first; left = mid }) (sym (row_is along.t along.words along.made along.m along.ran) ∙ passes h (at along.m (Some s)) op'.outcome (record { notes = first; left = mid }) op'.is clean) in
       let legal : LegalBehind (past_of start (journal ++ notes)) first = legal_rest (first_past start) (journal ++ notes) first (operation_kept start h (at along.m (Some s)) (journal ++ notes) kept' first mid op').held.legal in
       subst (λ (d : Done). Along d.left (notes ++ d.notes) ⊎ Ended d.left (notes ++ d.notes)) same
-      (by_turn along.t along.words along.made along.m along.came notes along.notes_are along.on along.same along.whole info turn refl (subst (λ (d : Done). LegalBehind (past_of start (journal ++ notes)) d.notes) (sym same) legal))
+      (by_turn along.t along.words along.made along.m along.ran notes along.notes_are along.on along.same along.whole info turn refl (subst (λ (d : Done). LegalBehind (past_of start (journal ++ notes)) d.notes) (sym same) legal))
 
   busy : (state : Machines) (notes : List Note) → Along state notes → busy_at h state ≡ true
   busy state notes along = ap (busy_at h) along.state_is ∙ ap is_busy_host (host_at along.m (Some (state_of along.words along.made)))
@@ -322,17 +322,17 @@ module _ (start : Image) (h : ℕ) (base : Machines) (host : HostState) (host_is
   idle state notes ended = ap (busy_at h) ended.state_is ∙ ap is_busy_host (host_at (operated (op_of ended.t) ended.m) None)
 
   -- nothing comes behind the answer
-  rests : (count : ℕ) (state new : Machines) (rest : List Note) → busy_at h state ≡ false → Operates h count state rest new → (rest ≡ []) × (new ≡ state)
+  rests : (count : ℕ) (state new : Machines) (rest : List Note) → busy_at h state ≡ false → DoesOperations h count state rest new → (rest ≡ []) × (new ≡ state)
   rests zero state new rest idle o = (o.0, o.1)
   rests (suc count) state new rest idle (inl o) = (o.1, o.2)
   rests (suc count) state new rest idle (inr o) = absurd (let b = o.0 in cc)
 
-  run : (count : ℕ) (state new : Machines) (notes rest : List Note) → Along state notes → Kept start state (journal ++ notes) → Operates h count state rest new → IsClean rest → busy_at h new ≡ false → Ended new (notes ++ rest)
+  run : (count : ℕ) (state new : Machines) (notes rest : List Note) → Along state notes → Kept start state (journal ++ notes) → DoesOperations h count state rest new → IsFaultless rest → busy_at h new ≡ false → Ended new (notes ++ rest)
   run zero state new notes rest along kept o clean done = absurd (let b = busy state notes along in let same = ap (busy_at h) o.1 in cc)
   run (suc count) state new notes rest along kept (inl o) clean done = absurd (let b = busy state notes along in let f = o.0 in cc)
   run (suc count) state new notes rest along kept (inr o) clean done =
-      let first_clean : IsClean o.2 = clean_front o.2 o.3 rest o.6 clean in
-      let rest_clean : IsClean o.3 = clean_rest o.2 o.3 rest o.6 clean in
+      let first_clean : IsFaultless o.2 = clean_prefix o.2 o.3 rest o.6 clean in
+      let rest_clean : IsFaultless o.3 = clean_rest o.2 o.3 rest o.6 clean in
       let joined : (notes ++ o.2) ++ o.3 ≡ notes ++ rest = append_assoc notes o.2 o.3 ∙ ap (λ (z : List Note). notes ++ z) (sym o.6) in
       let kept' : Kept start o.1 (journal ++ (notes ++ o.2)) = subst (λ (z : List Note). Kept start o.1 z) (append_assoc journal notes o.2) (operation_kept start h state (journal ++ notes) kept o.2 o.1 o.4) in
       elim (step state o.1 notes o.2 along kept o.4 first_clean) [
@@ -344,15 +344,15 @@ module _ (start : Image) (h : ℕ) (base : Machines) (host : HostState) (host_is
       ]
 
   -- all operations of the command
-  pub run_alone : (count : ℕ) (new : Machines) (notes : List Note) → Kept start (at (record { image = image; cache = host.cache }) (Some (state_of [] 0))) journal → Operates h count (at (record { image = image; cache = host.cache }) (Some (state_of [] 0))) notes new → IsClean notes → busy_at h new ≡ false → Ended new notes
-  run_alone count new notes kept o clean done =
+  pub run_solo : (count : ℕ) (new : Machines) (notes : List Note) → Kept start (at (record { image = image; cache = host.cache }) (Some (state_of [] 0))) journal → DoesOperations h count (at (record { image = image; cache = host.cache }) (Some (state_of [] 0))) notes new → IsFaultless notes → busy_at h new ≡ false → Ended new notes
+  run_solo count new notes kept o clean done =
       run count (at (record { image = image; cache = host.cache }) (Some (state_of [] 0))) new [] notes
       record {
         t = starting cmd me (length image);
         words = [];
         made = 0;
         m = record { image = image; cache = host.cache };
-        came = starts;
+        ran = starts;
         state_is = refl;
         notes_are = refl;
         on = inl (ap (λ (z : List Note). (past_of start z).state) (append-nil journal));

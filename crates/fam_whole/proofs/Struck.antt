@@ -7,12 +7,12 @@ use Rattle.fam_journal.specs.declared.event.Event.{Event}
 use Rattle.fam_journal.specs.declared.event.Event.TheVariants as event
 use Rattle.fam_journal.specs.Calls as call
 use Rattle.fam_journal.specs.Calls.{Acts, Call, Does}
-use Rattle.fam_journal.specs.Ends.{IsClean as AreClean}
+use Rattle.fam_journal.specs.Ends.{IsFaultless as AreClean}
 use Rattle.fam_journal.specs.Events.{DoesEvent, Session, first_session}
 use Rattle.fam_journal.specs.Follows.{Follows}
 use Rattle.fam_journal.specs.Laws.{AreSound, IsImage, IsSoundEvent}
 use Rattle.fam_journal.specs.Notes.{Note}
-use Rattle.fam_journal.proofs.Unique.{clean_front, clean_rest}
+use Rattle.fam_journal.proofs.Runs.Unique.{clean_prefix, clean_rest}
 use Rattle.fam_whole.specs.Whole.{AreWhole, AreAlike, IsWholeEvent, WholeRun, command_notes, commands_in, is_move, notes_unless}
 use Rattle.fam_whole.proofs.Exact.{Between, at_start, one_more}
 use Rattle.fam_whole.proofs.Twins.{Same, TwinSessions, ask_same, by_both, host_same, makes_same, move_twin, twins_as, twins_back, twins_on}
@@ -72,7 +72,7 @@ module _ (start : Image) (files : Files) where
   skip_one : (e : Event) (one other : List Event) → is_move e ≡ true → Goal one other → Goal (e ∷ one) other
   unfolding Goal
   skip_one e one other is goal same sound whole sound' whole' s t m n j k a b bs bt twins clean_a clean_b f g =
-      let clean : AreClean f.1 = clean_front f.1 f.2 a f.5 clean_a in
+      let clean : AreClean f.1 = clean_prefix f.1 f.2 a f.5 clean_a in
       let rest = goal (sym (struck_in e one is) ∙ same) sound.1 whole.1 sound' whole' f.0 t m n (j ++ f.1) k f.2 b
       (one_more start files e sound.0 whole.0 s f.0 j f.1 bs clean f.3) bt (session_on f.0 s t (move_twin start files e is s f.0 j f.1 bs clean f.3) twins)
       (clean_rest f.1 f.2 a f.5 clean_a) clean_b f.4 g in
@@ -82,7 +82,7 @@ module _ (start : Image) (files : Files) where
   skip_other : (e : Event) (one other : List Event) → is_move e ≡ true → Goal one other → Goal one (e ∷ other)
   unfolding Goal
   skip_other e one other is goal same sound whole sound' whole' s t m n j k a b bs bt twins clean_a clean_b f g =
-      let clean : AreClean g.1 = clean_front g.1 g.2 b g.5 clean_b in
+      let clean : AreClean g.1 = clean_prefix g.1 g.2 b g.5 clean_b in
       let rest = goal (same ∙ struck_in e other is) sound whole sound'.1 whole'.1 s g.0 m n j (k ++ g.1) a g.2
       bs (one_more start files e sound'.0 whole'.0 t g.0 k g.1 bt clean g.3) (session_on s t g.0 twins (session_back g.0 t (move_twin start files e is t g.0 k g.1 bt clean g.3)))
       clean_a (clean_rest g.1 g.2 b g.5 clean_b) f g.4 in
@@ -95,8 +95,8 @@ module _ (start : Image) (files : Files) where
       let lists : e ∷ commands_in one ≡ d ∷ commands_in other = sym (kept_in e one is) ∙ same ∙ kept_in d other is' in
       let events : d ≡ e = cc in
       let tails : commands_in one ≡ commands_in other = cc in
-      let clean : AreClean f.1 = clean_front f.1 f.2 a f.5 clean_a in
-      let clean' : AreClean g.1 = clean_front g.1 g.2 b g.5 clean_b in
+      let clean : AreClean f.1 = clean_prefix f.1 f.2 a f.5 clean_a in
+      let clean' : AreClean g.1 = clean_prefix g.1 g.2 b g.5 clean_b in
       let here = command_same e is sound.0 whole.0 s t f.0 g.0 j k f.1 g.1 bs bt twins clean clean' f.3 (subst (λ (z : Event). DoesEvent files z t g.1 g.0) events g.3) in
       let rest = goal tails sound.1 whole.1 sound'.1 whole'.1 f.0 g.0 m n (j ++ f.1) (k ++ g.1) f.2 g.2
       (one_more start files e sound.0 whole.0 s f.0 j f.1 bs clean f.3) (one_more start files d sound'.0 whole'.0 t g.0 k g.1 bt clean' g.3) here.sessions

@@ -12,15 +12,15 @@ use Rattle.fam_format.specs.Layout.{device_limit}
 use Rattle.fam_format.specs.Reading.{super_in}
 use Rattle.fam_machine.specs.Caches.{Cache, IsClean, cell_at, dirty_count}
 use Rattle.fam_machine.specs.Operations.{operated, operated_all}
-use Rattle.fam_commands.specs.Solo.{Came, Stand, notes_up_to, stand_after}
+use Rattle.fam_commands.specs.Solo.{SoloRun, Stand, notes_up_to, stand_after}
 use Rattle.fam_commands.specs.Task.{op_of}
 use Rattle.fam_commands.specs.Turns.{Ends}
 use Rattle.fam_machine.proofs.CleanCaches.{not_dirty}
 use Rattle.fam_machine.proofs.DirtyLemmas.{no_dirty_count}
 use Rattle.fam_media.specs.Files.{Files}
 use Rattle.fam_protocol.specs.Tasks.{IsCommand}
-use Rattle.fam_solo.proofs.AloneLoads.{came_told, same_stand, turn_told}
-use Rattle.fam_rules.specs.Alone.{alone_image}
+use Rattle.fam_solo.proofs.Loads.{ran_told, same_stand, turn_told}
+use Rattle.fam_rules.specs.Solo.{solo_image}
 use Rattle.fam_rules.specs.Place.{line_bytes}
 use Rattle.fam_rules.specs.Reply.{Reply}
 use Rattle.fam_rules.specs.Written.{formatted}
@@ -31,19 +31,19 @@ use Rattle.fam_journal.specs.declared.refusal.Refusal.{Refusal}
 use Rattle.fam_journal.specs.declared.refusal.Refusal.TheVariants as why
 use Rattle.fam_journal.specs.Calls as call
 use Rattle.fam_journal.specs.Calls.{Acts, ActsAt, ByRefusal, Call, Completes, Does, has_name, may_begin, name_of, number_of, refusal_of}
-use Rattle.fam_journal.specs.Ends.{IsClean as AreClean}
-use Rattle.fam_journal.specs.Events.{DoesEvent, GoesOn, HasNoSource, IsRefused, Ready, Session, SourceSays, Unfit}
+use Rattle.fam_journal.specs.Ends.{IsFaultless as AreClean}
+use Rattle.fam_journal.specs.Events.{DoesEvent, Continues, HasNoSource, RefusesEvent, Ready, Session, SourceSays, Unfit}
 use Rattle.fam_machine.specs.HostMoves.{Evict, Fetch, Leak, Move}
 use Rattle.fam_journal.specs.Machines.{HostState, Machines, machine_of, with_machine}
 use Rattle.fam_journal.specs.Members.{changed_at}
 use Rattle.fam_machine.specs.Mkfs as here
 use Rattle.fam_journal.specs.Notes.{Answered, Made, Note, Refused, Replied, Start}
 use Rattle.fam_journal.specs.Past.{Past, first_state, past_behind, past_of}
-use Rattle.fam_journal.proofs.Cases.{by_host, by_refusal}
-use Rattle.fam_journal.proofs.Journals.{past_both}
-use Rattle.fam_journal.proofs.Printed.{one_listing}
-use Rattle.fam_journal.proofs.Shown.{AreAlike, number_same, refusal_same}
-use Rattle.fam_journal.proofs.Unique.{met_or_made, not_clean, one_source}
+use Rattle.fam_journal.proofs.Calls.Cases.{by_host, by_refusal}
+use Rattle.fam_journal.proofs.Settled.Journals.{past_both}
+use Rattle.fam_journal.proofs.Texts.Printed.{one_listing}
+use Rattle.fam_journal.proofs.Calls.Shown.{AreAlike, number_same, refusal_same}
+use Rattle.fam_journal.proofs.Runs.Unique.{met_or_made, not_clean, one_source}
 use Rattle.fam_whole.specs.Whole.{AreRefusals, is_move}
 use Rattle.fam_whole.proofs.Exact.{Between, Through, moved_image, through}
 use Rattle.fam_machine.proofs.MkfsOps.{clean_formats, read_image}
@@ -202,11 +202,11 @@ module _ (start : Image) (files : Files) where
 
     -- both make a file system, or meet the same one
     module _ (name fs : List ℕ) (unit log : ℕ) (force : Bool) (h i : ℕ) (host other : HostState) (number : number_of name s ≡ Some h) (number' : number_of name t ≡ Some i) (is : slice_get s.hosts h ≡ Some host) (is' : slice_get t.hosts i ≡ Some other) where
-      places : h ≡ i
-      places = same_Some h i (sym number ∙ numbers name ∙ number')
+      phases : h ≡ i
+      phases = same_Some h i (sym number ∙ numbers name ∙ number')
 
       named : Named host other
-      named = same_member s.hosts t.hosts i host other twins.hosts (subst (λ (n : ℕ). slice_get s.hosts n ≡ Some host) places is) is'
+      named = same_member s.hosts t.hosts i host other twins.hosts (subst (λ (n : ℕ). slice_get s.hosts n ≡ Some host) phases is) is'
 
       abbrev p : Params
       p = here.asked unit log fs host.uuid (length s.memory)
@@ -217,7 +217,7 @@ module _ (start : Image) (files : Files) where
       params : p ≡ q
       params = ap₂ (λ (u : List ℕ) (n : ℕ). here.asked unit log fs u n) named.uuid (ap length twins.memory)
 
-      found_same : here.found p (machine_of s host) ≡ here.found q (machine_of t other)
+      found_same : here.superblock_found p (machine_of s host) ≡ here.superblock_found q (machine_of t other)
       found_same =
           ap (λ (image : Image). super_in (line_at image) p.device) (read_image s.memory host.cache bs.kept.held.normal (bs.rests h host is).clean ∙ twins.memory)
           ∙ ap (λ (z : Params). super_in (line_at t.memory) z.device) params
@@ -225,7 +225,7 @@ module _ (start : Image) (files : Files) where
 
       made_same : ActsAt (call.Makes name fs unit log force) h host s a m → ActsAt (call.Makes name fs unit log force) i other t b n → Same a b m n
       made_same (inl x) (inl y) = record {
-        notes = x.notes_are ∙ ap₂ (λ (k : ℕ) (z : Params). Made k z ∷ []) places params ∙ sym y.notes_are;
+        notes = x.notes_are ∙ ap₂ (λ (k : ℕ) (z : Params). Made k z ∷ []) phases params ∙ sym y.notes_are;
         machines = subst (λ (z : Machines). Twins z n) (sym x.left) (subst (λ (z : Machines). Twins (with_machine h (operated_all (here.mkfs_ops p) (machine_of s host)) host.task s) z) (sym y.left)
             record {
               memory =
@@ -234,8 +234,8 @@ module _ (start : Image) (files : Files) where
               hosts = same_on _ s.hosts _ (same_changed h _ (λ z. record { name = refl; uuid = refl }) s.hosts) (same_on s.hosts t.hosts _ twins.hosts (same_back _ t.hosts (same_changed i _ (λ z. record { name = refl; uuid = refl }) t.hosts)));
             });
       }
-      made_same (inl x) (inr y) = absurd (met_or_made force (here.found p (machine_of s host)) y.other x.free y.unforced (found_same ∙ y.stands))
-      made_same (inr x) (inl y) = absurd (met_or_made force (here.found q (machine_of t other)) x.other y.free x.unforced (sym found_same ∙ x.stands))
+      made_same (inl x) (inr y) = absurd (met_or_made force (here.superblock_found p (machine_of s host)) y.other x.free y.unforced (found_same ∙ y.stands))
+      made_same (inr x) (inl y) = absurd (met_or_made force (here.superblock_found q (machine_of t other)) x.other y.free x.unforced (sym found_same ∙ x.stands))
       made_same (inr x) (inr y) =
           let oks : ◌≡◌ {A = Result Params SuperFault} (Ok x.other) (Ok y.other) = sym x.stands ∙ found_same ∙ y.stands in
           let others : x.other ≡ y.other = cc in
@@ -278,7 +278,7 @@ one_stood cmd me image h a b x y =
 
 module _ (start : Image) (files : Files) (name : List ℕ) (what : Ask) where
   -- one run
-  module _ (s new : Session) (j notes : List Note) (between : Between start s.machines j) (clean : AreClean notes) (run : GoesOn Completes files name what s notes new) where
+  module _ (s new : Session) (j notes : List Note) (between : Between start s.machines j) (clean : AreClean notes) (run : Continues Completes files name what s notes new) where
     abbrev go : Through start files s.machines j between.kept between.rests between.sure name what s new refl notes clean run
     go = through start files s.machines j between.kept between.rests between.sure name what s new refl notes clean run
 
@@ -294,14 +294,14 @@ module _ (start : Image) (files : Files) (name : List ℕ) (what : Ask) where
         let clean_cache : IsClean go.host.cache = (between.rests go.h go.host go.is).clean in
         record {
           made = e.made;
-          stand = record { task = e.t; words = e.words; notes = notes_up_to run.begun.cmd go.host.uuid s.machines.memory go.host.cache e.t e.words e.made e.m e.came };
+          stand = record { task = e.t; words = e.words; notes = notes_up_to run.begun.cmd go.host.uuid s.machines.memory go.host.cache e.t e.words e.made e.m e.ran };
           reply = e.reply;
-          stands = came_told run.begun.cmd go.host.uuid s.machines.memory go.host.cache between.kept.held.normal clean_cache e.t e.words e.made e.m e.came;
-          ends = turn_told run.begun.cmd go.host.uuid s.machines.memory go.host.cache between.kept.held.normal clean_cache e.t e.words e.made e.m e.came ∙ e.ends;
+          stands = ran_told run.begun.cmd go.host.uuid s.machines.memory go.host.cache between.kept.held.normal clean_cache e.t e.words e.made e.m e.ran;
+          ends = turn_told run.begun.cmd go.host.uuid s.machines.memory go.host.cache between.kept.held.normal clean_cache e.t e.words e.made e.m e.ran ∙ e.ends;
           rest_is = e.notes_are ∙ ap (λ (z : List Note). z ++ Answered go.h (Replied e.reply) ∷ []) e.before_is;
         }
 
-    memory_then : new.machines.memory ≡ alone_image s.machines.memory go.host.uuid run.begun.cmd
+    memory_then : new.machines.memory ≡ solo_image s.machines.memory go.host.uuid run.begun.cmd
     memory_then =
         left_is start go.h s.machines go.host go.is run.begun.cmd journal go.sure_then
         (ap (λ (w : Past). w.state) (past_both (Rattle.fam_journal.specs.Past.first_past start) j (Start go.h run.begun.cmd ∷ [])) ∙ rest_state start s.machines j between.kept between.rests between.sure)
@@ -321,7 +321,7 @@ module _ (start : Image) (files : Files) (name : List ℕ) (what : Ask) where
       pub notes : a ≡ b
       pub sessions : TwinSessions m n
 
-    runs_same : GoesOn Completes files name what s a m → GoesOn Completes files name what t b n → Both
+    runs_same : Continues Completes files name what s a m → Continues Completes files name what t b n → Both
     runs_same x y =
         let sources : Ready x.begun.cmd x.begun.copied ≡ Ready y.begun.cmd y.begun.copied =
         one_source one_listing files t.copied what (Ready x.begun.cmd x.begun.copied) (Ready y.begun.cmd y.begun.copied) (subst (λ (c : ℕ). SourceSays files c what (Ready x.begun.cmd x.begun.copied)) twins.copied x.begun.says) y.begun.says in
@@ -329,22 +329,22 @@ module _ (start : Image) (files : Files) (name : List ℕ) (what : Ask) where
         let counts : x.begun.copied ≡ y.begun.copied = cc in
         let gx = go s m j a bs clean_a x in
         let gy = go t n k b bt clean_b y in
-        let places : gx.h ≡ gy.h = same_Some gx.h gy.h (sym gx.number ∙ numbers start files s.machines t.machines j k bs bt twins.machines a b m.machines n.machines name ∙ gy.number) in
-        let named : Named gx.host gy.host = same_member s.machines.hosts t.machines.hosts gy.h gx.host gy.host twins.machines.hosts (subst (λ (i : ℕ). slice_get s.machines.hosts i ≡ Some gx.host) places gx.is) gy.is in
+        let phases : gx.h ≡ gy.h = same_Some gx.h gy.h (sym gx.number ∙ numbers start files s.machines t.machines j k bs bt twins.machines a b m.machines n.machines name ∙ gy.number) in
+        let named : Named gx.host gy.host = same_member s.machines.hosts t.machines.hosts gy.h gx.host gy.host twins.machines.hosts (subst (λ (i : ℕ). slice_get s.machines.hosts i ≡ Some gx.host) phases gx.is) gy.is in
         let stood_x : Stood y.begun.cmd gy.host.uuid t.machines.memory gy.h gx.rest =
         subst (λ (c : Cmd). Stood c gy.host.uuid t.machines.memory gy.h gx.rest) cmds
         (subst (λ (u : List ℕ). Stood x.begun.cmd u t.machines.memory gy.h gx.rest) named.uuid
         (subst (λ (i : Image). Stood x.begun.cmd gx.host.uuid i gy.h gx.rest) twins.machines.memory
-        (subst (λ (i : ℕ). Stood x.begun.cmd gx.host.uuid s.machines.memory i gx.rest) places (stood s m j a bs clean_a x)))) in
+        (subst (λ (i : ℕ). Stood x.begun.cmd gx.host.uuid s.machines.memory i gx.rest) phases (stood s m j a bs clean_a x)))) in
         let rests : gx.rest ≡ gy.rest = one_stood y.begun.cmd gy.host.uuid t.machines.memory gy.h gx.rest gy.rest stood_x (stood t n k b bt clean_b y) in
         record {
-          notes = gx.joined ∙ ap₂ (λ (i : ℕ) (c : Cmd). Start i c ∷ gx.rest) places cmds ∙ ap (λ (z : List Note). Start gy.h y.begun.cmd ∷ z) rests ∙ sym gy.joined;
+          notes = gx.joined ∙ ap₂ (λ (i : ℕ) (c : Cmd). Start i c ∷ gx.rest) phases cmds ∙ ap (λ (z : List Note). Start gy.h y.begun.cmd ∷ z) rests ∙ sym gy.joined;
           sessions = record {
             machines = record {
               memory =
                   memory_then s m j a bs clean_a x
-                  ∙ ap₂ (λ (i : Image) (u : List ℕ). alone_image i u x.begun.cmd) twins.machines.memory named.uuid
-                  ∙ ap (alone_image t.machines.memory gy.host.uuid) cmds
+                  ∙ ap₂ (λ (i : Image) (u : List ℕ). solo_image i u x.begun.cmd) twins.machines.memory named.uuid
+                  ∙ ap (solo_image t.machines.memory gy.host.uuid) cmds
                   ∙ sym (memory_then t n k b bt clean_b y);
               hosts = same_on m.machines.hosts s.machines.hosts n.machines.hosts (hosts_then s m j a bs clean_a x)
                   (same_on s.machines.hosts t.machines.hosts n.machines.hosts twins.machines.hosts (same_back n.machines.hosts t.machines.hosts (hosts_then t n k b bt clean_b y)));
@@ -366,7 +366,7 @@ module _ (start : Image) (files : Files) (name : List ℕ) (what : Ask) where
     unfolding refusal_of
     source_refused z o c x = (x.does.0, x.does.1)
 
-    pub ask_same : (GoesOn Completes files name what s a m) ⊎ (IsRefused files name what s a m) → (GoesOn Completes files name what t b n) ⊎ (IsRefused files name what t b n) → Both
+    pub ask_same : (Continues Completes files name what s a m) ⊎ (RefusesEvent files name what s a m) → (Continues Completes files name what t b n) ⊎ (RefusesEvent files name what t b n) → Both
     ask_same (inl x) (inl y) = runs_same x y
     ask_same (inl x) (inr (inl y)) = absurd (let e : None ≡ Some y.cause = sym x.begun.free ∙ may_be_same ∙ y.first in cc)
     ask_same (inl x) (inr (inr y)) =

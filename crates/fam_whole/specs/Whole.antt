@@ -1,11 +1,11 @@
 -- Scripts of whole commands: hosts are declared, make file systems and run commands, one event after another, and caches
--- move by themselves between them. While memory doesn't fail nothing interrupts a command. What then holds of the machine
+-- move by themselves between them. While the media doesn't fail nothing interrupts a command. What then holds of the machine
 -- of all hosts and of its journal.
 use Rattle.std.specs.Prelude.{ℕ, ⊤, ◌≡◌, ◌*◌, if◌then◌else◌, Bool, true, false, List, [], ◌∷◌, ◌++◌, length, slice_get, Some, None}
 use Rattle.fam_base.specs.declared.cmd.Cmd.{Cmd}
 use Rattle.fam_base.specs.Image.{Image, line_at}
 use Rattle.fam_media.specs.Files.{Files}
-use Rattle.fam_rules.specs.Alone.{alone_reply}
+use Rattle.fam_rules.specs.Solo.{solo_reply}
 use Rattle.fam_rules.specs.Place.{line_bytes}
 use Rattle.fam_rules.specs.Reply as reply
 use Rattle.fam_rules.specs.Reply.{Reply}
@@ -13,7 +13,7 @@ use Rattle.fam_rules.specs.Reports.{report_of}
 use Rattle.fam_rules.specs.Written.{formatted, written}
 use Rattle.fam_journal.specs.declared.event.Event.{Event}
 use Rattle.fam_journal.specs.declared.event.Event.TheVariants as event
-use Rattle.fam_journal.specs.Ends.{IsClean}
+use Rattle.fam_journal.specs.Ends.{IsFaultless}
 use Rattle.fam_journal.specs.Events.{Session, first_session}
 use Rattle.fam_journal.specs.Follows.{Follows}
 use Rattle.fam_journal.specs.Legal.{OfHost}
@@ -82,9 +82,9 @@ image_behind past image [] = image
 image_behind past image (note ∷ notes) = image_behind (past_after past note) (image_after past image note) notes
 
 -- nothing is pending
-abbrev pub IsSure : State → Type 0
-IsSure (Bad image damage gate) = ⊤
-IsSure (Sound p history pending) = pending ≡ None
+abbrev pub HasNothingPending : State → Type 0
+HasNothingPending (Bad image damage gate) = ⊤
+HasNothingPending (Sound p history pending) = pending ≡ None
 
 -- an answer of entries is of the whole history
 abbrev pub IsOfAll : Reply → State → Type 0
@@ -111,7 +111,7 @@ IsWholeReply (reply.BadSlot seq reason) state image = IsOfAll (reply.BadSlot seq
 pub record IsByRules (image : Image) (given : Reply) (host : HostPast) : Type 0 where
   pub cmd : Cmd
   pub told : host.cmd ≡ Some cmd
-  pub is : given ≡ alone_reply image host.uuid cmd
+  pub is : given ≡ solo_reply image host.uuid cmd
 
 abbrev pub IsWholeAnswer : Answer → ℕ → Past → Image → Type 0
 IsWholeAnswer (Replied given) host past image = IsWholeReply given past.state image × OfHost (slice_get past.hosts host) (IsByRules image given)
@@ -134,19 +134,19 @@ AreWholeNotes past image [] = ⊤
 AreWholeNotes past image (note ∷ notes) =
     IsWholeNote note past image × AreWholeNotes (past_after past note) (image_after past image note) notes
 
--- a run of whole events in which memory didn't fail
+-- a run of whole events in which the media didn't fail
 pub record WholeRun (files : Files) (events : List Event) (start : Image) : Type 0 where
   pub whole : AreWhole events
   pub journal : List Note
   pub last : Session
   pub follows : Follows files events (first_session start) journal last
-  pub clean : IsClean journal
+  pub clean : IsFaultless journal
 
--- what holds of it; of each front of its events, since that is such a run too: the image is the fold of the notes, nothing
+-- what holds of it; of each prefix of its events, since that is such a run too: the image is the fold of the notes, nothing
 -- is pending, what the notes settle is what the image reads as, and each answer is of all of it
 pub record IsExact {files : Files} {events : List Event} {start : Image} (run : WholeRun files events start) : Type 0 where
   pub image : run.last.machines.memory ≡ image_behind (first_past start) start run.journal
-  pub sure : IsSure (past_of start run.journal).state
+  pub sure : HasNothingPending (past_of start run.journal).state
   pub settled : (past_of start run.journal).state ≡ first_state run.last.machines.memory
   pub answers : AreWholeNotes (first_past start) start run.journal
 

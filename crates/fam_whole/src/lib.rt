@@ -10,7 +10,7 @@ ghost use Rattle.fam_journal.specs.declared.event.Event.{Event};
 ghost use Rattle.fam_media.specs.Files.{Files};
 ghost use Rattle.fam_whole.specs.Whole.{AreAlike, AreRefusals, IsExact, WholeRun, commands_in, is_move};
 
-/// Where each command ends before the next one begins, and memory doesn't fail, the image after the events is the fold of
+/// Where each command ends before the next one begins, and the media doesn't fail, the image after the events is the fold of
 /// new file systems and acknowledged entries. Nothing is pending, and what the notes settle is what the image reads as.
 /// Each answer is the rules' answer on the image that its command began with, so it is of the whole history, and a report
 /// is that image's own. What the caches hold, and how stale it is, is of no account.

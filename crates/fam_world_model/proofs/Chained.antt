@@ -9,20 +9,20 @@ use Rattle.fam_journal.specs.declared.event.Event.TheVariants as event
 use Rattle.fam_journal.specs.declared.refusal.Refusal.{Refusal}
 use Rattle.fam_journal.specs.declared.refusal.Refusal.TheVariants as why
 use Rattle.fam_journal.specs.Calls as call
-use Rattle.fam_journal.specs.Calls.{Acts, ActsAt, AtNumber, ByRefusal, Call, Does, OnHost, Operates, busy_at, idle_refusal, may_begin, name_of, number_of, on_host, refusal_of, when}
-use Rattle.fam_journal.specs.CallRecords.{FinishPart, Answers, IsSoundCall, Moves, WorldCall, refusal_noted}
-use Rattle.fam_journal.specs.Ends.{AllDone, EndsBy, MkfsFails, NoMemory}
+use Rattle.fam_journal.specs.Calls.{Acts, ActsAt, AtNumber, ByRefusal, Call, Does, OnHost, DoesOperations, busy_at, idle_refusal, may_begin, name_of, number_of, on_host, refusal_of, when}
+use Rattle.fam_journal.specs.CallRecords.{FinishPart, Answers, IsSoundCall, DoesRow, WorldCall, refusal_noted}
+use Rattle.fam_journal.specs.Ends.{AllDone, EventsDone, MkfsFails, EndsOutOfMemory}
 use Rattle.fam_journal.specs.Events.{DoesEvent, Session, first_session}
 use Rattle.fam_journal.specs.Kept.{Held}
 use Rattle.fam_journal.specs.Laws.{IsImage}
 use Rattle.fam_journal.specs.Machines.{HostState, Machines, unused}
 use Rattle.fam_journal.specs.Notes.{Note, Refused}
 use Rattle.fam_journal.specs.View.{WorldStands, WorldView, empty_world}
-use Rattle.fam_journal.specs.WorldAlone.{TakesNoMedia, refusal_in, world_after}
+use Rattle.fam_journal.specs.ByWorld.{TakesNoMedia, refusal_in, world_after}
 use Rattle.fam_journal.proofs.JournalLaws.{begun, kept_on}
-use Rattle.fam_journal.proofs.Shown.{refusal_shown}
-use Rattle.fam_journal.proofs.WorldRows.{row_done}
-use Rattle.fam_world_model.specs.Caller.{ComesTo, ComesToCut, CutTrace, Trace, WantTrace, Wishes, events}
+use Rattle.fam_journal.proofs.Calls.Shown.{refusal_shown}
+use Rattle.fam_journal.proofs.Calls.WorldRows.{row_done}
+use Rattle.fam_world_model.specs.Caller.{ComesTo, ComesToCut, CutTrace, Trace, OutOfMemoryTrace, Wishes, events}
 
 module _ (start : Image) (state : Machines) (old : WorldView) (held : Held start state old state.memory) where
   lines_are : length state.memory ≡ length start
@@ -35,7 +35,7 @@ module _ (start : Image) (state : Machines) (old : WorldView) (held : Held start
   told_refusal c = refusal_shown (length state.memory) state old c stands ∙ ap (refusal_in c old) lines_are
 
   -- a call that takes no media did its row
-  world_moves : (c : Call) (answered : Option Refusal) (new : WorldView) → IsSoundCall c → TakesNoMedia c (length start) old → WorldCall c (length start) answered old new → Moves start (Some state.memory) (Does c state) old new
+  world_moves : (c : Call) (answered : Option Refusal) (new : WorldView) → IsSoundCall c → TakesNoMedia c (length start) old → WorldCall c (length start) answered old new → DoesRow start (Some state.memory) (Does c state) old new
   world_moves c answered new sound takes w =
       let takes' : TakesNoMedia c (length state.memory) old = subst (λ (n : ℕ). TakesNoMedia c n old) (sym lines_are) takes in
       let x = row_done state old stands c takes' in
@@ -58,7 +58,7 @@ module _ (start : Image) (state : Machines) (old : WorldView) (held : Held start
 
 -- a step that isn't refused is one operation
 module _ (files : Files) (name : List ℕ) (old new : Machines) (notes : List Note) where
-  by_host : (h : ℕ) → number_of name old ≡ Some h → idle_refusal h old ≡ None → (o : Option HostState) → OnHost o (λ host. ActsAt (call.Steps name) h host old notes new) → Operates h 1 old notes new
+  by_host : (h : ℕ) → number_of name old ≡ Some h → idle_refusal h old ≡ None → (o : Option HostState) → OnHost o (λ host. ActsAt (call.Steps name) h host old notes new) → DoesOperations h 1 old notes new
   by_host h number free None x = absurd x
   by_host h number free (Some host) x = inr (busy, new, notes, [], x, (refl, refl), sym (append-nil notes))
     where
@@ -106,7 +106,7 @@ joined_all n1 n2 n3 n4 n5 n6 n7 j1 j2 j3 j4 j5 j6 j7 e1 e2 e3 e4 e5 e6 e7 =
     ∙ behind [] n1 (n2 ++ (n3 ++ (n4 ++ (n5 ++ (n6 ++ (n7 ++ [])))))) j1 e1
 
 -- operations of a host that has no task are none
-idle_none : (h count : ℕ) (old new : Machines) (notes : List Note) → busy_at h old ≡ false → Operates h count old notes new → (notes ≡ []) × (new ≡ old)
+idle_none : (h count : ℕ) (old new : Machines) (notes : List Note) → busy_at h old ≡ false → DoesOperations h count old notes new → (notes ≡ []) × (new ≡ old)
 idle_none h zero old new notes idle x = x
 idle_none h (suc count) old new notes idle (inl x) = (x.1, x.2)
 idle_none h (suc count) old new notes idle (inr x) = absurd (let busy = x.0 in cc)
@@ -198,18 +198,18 @@ module _ (start : Image) (files : Files) (w : Wishes) (image : IsImage start) wh
         legal = m2.legal;
       }
 
-  pub want : (t : WantTrace start w) → ComesTo start NoMemory files (event.Host w.name w.uuid ∷ event.Finish w.name ∷ []) t.wanting.world t.wanting.told
-  want t =
+  pub out_of_memory : (t : OutOfMemoryTrace start w) → ComesTo start EndsOutOfMemory files (event.Host w.name w.uuid ∷ event.Finish w.name ∷ []) t.wanting.world t.wanting.told
+  out_of_memory t =
       let m1 = world_moves start (unused start) empty_world first_held (call.Declares w.name w.uuid) None t.declared w.is_uuid tt t.host in
       let m2 = t.finish.parts start m1.state m1.told_is m1.held in
       record { last = at_session m2.state; follows = by_part m1.state m1.notes m1.row m2.state m2.notes _ (m2.joined ∙ ap (λ (j : List Note). j ++ m2.notes) m1.joined) m2.row; left = m2.told_is; held = m2.held }
     where
       by_part : (mid : Machines) (first : List Note) → Does (call.Declares w.name w.uuid) (unused start) first mid → (new : Machines) (notes journal : List Note) → journal ≡ first ++ notes → FinishPart w.name mid notes new
-          → EndsBy NoMemory files (event.Host w.name w.uuid ∷ event.Finish w.name ∷ []) (first_session start) journal (at_session new)
+          → EventsDone EndsOutOfMemory files (event.Host w.name w.uuid ∷ event.Finish w.name ∷ []) (first_session start) journal (at_session new)
       by_part mid first row new notes journal joined (inr x) = inl record { count = 1; follows = (at_session mid, first, notes, (row, refl), (x.0, ap at_session x.1), joined) }
       by_part mid first row new notes journal joined (inl x) = by_busy (busy_at x.host mid) refl
         where
-          by_busy : (t : Bool) → busy_at x.host mid ≡ t → EndsBy NoMemory files (event.Host w.name w.uuid ∷ event.Finish w.name ∷ []) (first_session start) journal (at_session new)
+          by_busy : (t : Bool) → busy_at x.host mid ≡ t → EventsDone EndsOutOfMemory files (event.Host w.name w.uuid ∷ event.Finish w.name ∷ []) (first_session start) journal (at_session new)
           by_busy true is = inr record {
             count = 1;
             event = event.Finish w.name;

@@ -1,4 +1,4 @@
--- A body of mkfs in which memory fails at the first load meets what the call promises.
+-- A body of mkfs in which the media fails at the first load meets what the call promises.
 use Rattle.std.proofs.Common.{◌≡◌, ℕ, ◌+◌, ◌*◌, ◌≤◌, true, List, [], ◌∷◌, ◌++◌, length, map, Option, Some, None, refl, ap, ap₂, sym, ◌∙◌, subst, arith}
 use Prim.Native.Nat.{zero, suc}
 use Rattle.std.specs.Prelude.{codes, drop, slice_get}
@@ -19,17 +19,17 @@ use Rattle.fam_machine.proofs.CacheLemmas.{cell_at-empty, cell_at-with_cell_same
 use Rattle.fam_rules.specs.Place.{line_bytes}
 use Rattle.fam_journal.specs.declared.refusal.Refusal.TheVariants as why
 use Rattle.fam_journal.specs.Calls.{AtNumber, BreaksOff, Call, CutsAt, Makes, MakesCut, OnHost, number_of, refusal_of}
-use Rattle.fam_journal.specs.CallRecords.{Answers, Breaks, CallBreaks, Fits, HostFits, IsLateMake, MakeCall}
+use Rattle.fam_journal.specs.CallRecords.{Answers, LeavesBroken, CallBreaks, FitsMedia, HostFits, IsLateMake, MakeCall}
 use Rattle.fam_journal.specs.Kept.{Held}
 use Rattle.fam_journal.specs.Machines.{HostState, Machines, machine_of, with_machine}
 use Rattle.fam_machine.specs.Mkfs.{asked, mkfs_ops, read_ops}
 use Rattle.fam_journal.specs.Notes.{Note, Refused}
 use Rattle.fam_journal.specs.View.{HostStands, WorldStands, WorldView}
-use Rattle.fam_journal.specs.WorldAlone.{refusal_in}
-use Rattle.fam_journal.proofs.Hosts.{stands_changed}
+use Rattle.fam_journal.specs.ByWorld.{refusal_in}
+use Rattle.fam_journal.proofs.Calls.Hosts.{stands_changed}
 use Rattle.fam_journal.proofs.JournalLaws.{cut_legal}
-use Rattle.fam_journal.proofs.Shown.{number_shown, refusal_shown}
-use Rattle.fam_journal.proofs.Stepped.{find_host}
+use Rattle.fam_journal.proofs.Calls.Shown.{number_shown, refusal_shown}
+use Rattle.fam_journal.proofs.Calls.Stepped.{find_host}
 use Rattle.fam_world_model.specs.Bodies.{after_cut, before_mkfs, host_m}
 use Rattle.fam_world_model.proofs.Formed.{cut_form, formed_m}
 use Rattle.fam_world_model.proofs.Making.{free}
@@ -40,7 +40,7 @@ first_two : (p : Params) → mkfs_ops p ≡ (Invalidate (line_no 0) ∷ []) ++ L
 unfolding read_ops
 first_two p = refl
 
--- line 0, and the note that memory failed there
+-- line 0, and the note that the media failed there
 abbrev line_0 : LineNo
 line_0 = record { 0 = 0 }
 
@@ -60,7 +60,7 @@ module _ (me fs : List ℕ) (is_uuid : IsUuid fs) (image : Image) (enough : need
   abbrev new : WorldView
   new = after_cut me journal
 
-  fits : Fits lines new.hosts
+  fits : FitsMedia lines new.hosts
   fits zero view is = subst (HostFits lines) (same_Some _ view is) record { task = tt; cache = λ l held. absurd (let is_none : IsHeld Absent = subst IsHeld (none_held l) held in cc) }
   fits (suc h) view is = absurd cc
 
@@ -133,7 +133,7 @@ module _ (me fs : List ℕ) (is_uuid : IsUuid fs) (image : Image) (enough : need
         (stands_changed 0 (host_m me finmap.empty None) old.hosts refl (λ v. record v { cache = with_cell 0 Absent finmap.empty }) (length state.memory) state.hosts host host_is (λ z. record z { cache = behind.cache; task = host.task })
         record { name = mine.name; uuid = mine.uuid; cache = ap (with_cell 0 Absent) mine.cache; task = mine.task } stands)
 
-    breaks : Breaks start (Some image) (BreaksOff call state) old new
+    breaks : LeavesBroken start (Some image) (BreaksOff call state) old new
     breaks = record {
       state = left;
       notes = fault ∷ [];

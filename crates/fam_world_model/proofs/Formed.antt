@@ -14,7 +14,7 @@ use Rattle.fam_journal.specs.Calls.{Call, Makes, cause_of}
 use Rattle.fam_journal.specs.CallRecords.{CallForm}
 use Rattle.fam_journal.specs.Forms.{BreaksForm, DoesForm, FormByRefusal, FreeForm, HostForm, HostFormed, IsFormed, Pairs, TaskForm, TaskFormed, forms_after, forms_of, refusal_told, shown_forms}
 use Rattle.fam_journal.specs.Notes.{Note, Made, Refused}
-use Rattle.fam_journal.proofs.FormOperations.{forms_both}
+use Rattle.fam_journal.proofs.Forms.Operations.{forms_both}
 use Rattle.fam_world_model.specs.Bodies.{host_m, world_m}
 
 abbrev pub form_m : List ℕ → HostForm
@@ -56,7 +56,7 @@ module _ (me : List ℕ) (journal : List Note) (cache now : Cache) (is : IsForme
     made_one =
         subst (λ (o : Option Refusal). FormByRefusal (codes "m") o (Made 0 (asked 4096 65536 fs me lines) ∷ []) (FreeForm call lines (form_m me ∷ []) (Made 0 (asked 4096 65536 fs me lines) ∷ []))) (sym free_m) (inl (inl refl))
 
-    -- what it adds, and what it adds where memory cuts it
+    -- what it adds, and what it adds where a media fault cuts it
     pub made_form : CallForm call lines (forms_of journal) (Made 0 (asked 4096 65536 fs me lines) ∷ [])
     made_form = inl (subst (λ (z : List HostForm). DoesForm call lines z (Made 0 (asked 4096 65536 fs me lines) ∷ [])) (sym told_m) made_one)
 

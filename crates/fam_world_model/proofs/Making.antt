@@ -23,19 +23,19 @@ use Rattle.fam_machine.proofs.OneOperation.{IsAt, cache_away}
 use Rattle.fam_rules.specs.Place.{line_bytes}
 use Rattle.fam_rules.specs.Written.{Put, format_puts}
 use Rattle.fam_journal.specs.declared.refusal.Refusal.{Refusal}
-use Rattle.fam_journal.specs.Calls.{Acts, ActsAt, AtNumber, ByRefusal, Call, Does, IsMade, Makes, OnHost, cause_of, number_of, refusal_of}
-use Rattle.fam_journal.specs.CallRecords.{Answers, CallKeeps, Moves, Fits, HostFits, MakeCall}
+use Rattle.fam_journal.specs.Calls.{Acts, ActsAt, AtNumber, ByRefusal, Call, Does, MakesFileSystem, Makes, OnHost, cause_of, number_of, refusal_of}
+use Rattle.fam_journal.specs.CallRecords.{Answers, CallKeeps, DoesRow, FitsMedia, HostFits, MakeCall}
 use Rattle.fam_journal.specs.Kept.{Held}
 use Rattle.fam_journal.specs.Machines.{HostState, Machines, machine_of, with_machine}
 use Rattle.fam_machine.specs.Mkfs.{TooSmall, asked, mkfs_ops, put_ops, read_ops, write_ops}
 use Rattle.fam_journal.specs.Notes.{Made, Note}
 use Rattle.fam_journal.specs.View.{HostStands, WorldStands, WorldView}
-use Rattle.fam_journal.specs.WorldAlone.{refusal_in, shown_state}
-use Rattle.fam_journal.proofs.Hosts.{stands_changed}
-use Rattle.fam_protocol.proofs.Inside.{AsksWithin}
+use Rattle.fam_journal.specs.ByWorld.{refusal_in, shown_state}
+use Rattle.fam_journal.proofs.Calls.Hosts.{stands_changed}
+use Rattle.fam_protocol.proofs.Hosts.Inside.{AsksWithin}
 use Rattle.fam_journal.proofs.JournalLaws.{kept_on}
-use Rattle.fam_journal.proofs.Shown.{number_shown, refusal_shown}
-use Rattle.fam_journal.proofs.Stepped.{find_host}
+use Rattle.fam_journal.proofs.Calls.Shown.{number_shown, refusal_shown}
+use Rattle.fam_journal.proofs.Calls.Stepped.{find_host}
 use Rattle.fam_world_model.proofs.Formed.{formed_m, made_form}
 use Rattle.fam_world_model.specs.Bodies.{after_mkfs, before_mkfs, host_m, made_machine, params_m}
 
@@ -123,7 +123,7 @@ module _ (me fs : List ℕ) (is_uuid : IsUuid fs) (image : Image) (enough : need
   unfolding refusal_of
   free = ap (λ (t : Bool). or_else (option_map cause_of (if t then Some (TooSmall (need 65536 4096) (line_bytes * length (shown_state old lines).memory)) else None)) None) (not_small (length (shown_state old lines).memory) (length-replicate lines []))
 
-  fits : Fits lines new.hosts
+  fits : FitsMedia lines new.hosts
   fits zero view is =
       subst (HostFits lines) (same_Some _ view is)
       record {
@@ -173,8 +173,8 @@ module _ (me fs : List ℕ) (is_uuid : IsUuid fs) (image : Image) (enough : need
     none : refusal_of call state ≡ None
     none = refusal_shown (length state.memory) state old call stands ∙ ap (refusal_in call old) (sym (ap (λ (x : Image). length x) same)) ∙ free
 
-    made : IsMade 0 (asked 4096 65536 fs host.uuid (length state.memory)) true host state (Made 0 p ∷ []) left
-    made = subst (λ (q : Params). IsMade 0 q true host state (Made 0 p ∷ []) left) (sym params_are) record { free = refl; notes_are = refl; left = refl }
+    made : MakesFileSystem 0 (asked 4096 65536 fs host.uuid (length state.memory)) true host state (Made 0 p ∷ []) left
+    made = subst (λ (q : Params). MakesFileSystem 0 q true host state (Made 0 p ∷ []) left) (sym params_are) record { free = refl; notes_are = refl; left = refl }
 
     acts : Acts call state (Made 0 p ∷ []) left
     acts =
@@ -190,7 +190,7 @@ module _ (me fs : List ℕ) (is_uuid : IsUuid fs) (image : Image) (enough : need
         (stands_changed 0 (host_m me finmap.empty None) old.hosts refl (λ v. record v { cache = done.cache }) (length state.memory) state.hosts host host_is (λ z. record z { cache = behind.cache; task = host.task })
         record { name = mine.name; uuid = mine.uuid; cache = ap (λ (z : Machine). (operated_all (mkfs_ops p) z).cache) machine_is; task = mine.task } stands)
 
-    moves : Moves start (Some done.image) (Does call state) old new
+    moves : DoesRow start (Some done.image) (Does call state) old new
     moves = record {
       state = left;
       notes = Made 0 p ∷ [];

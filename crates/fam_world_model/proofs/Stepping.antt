@@ -16,14 +16,14 @@ use Rattle.fam_machine.specs.OneLine.{IsHeld, sent}
 use Rattle.fam_commands.specs.Task.{Task, starting}
 use Rattle.fam_machine.proofs.CacheLemmas.{cell_at-empty, cell_at-with_cell_other, cell_at-with_cell_same}
 use Rattle.fam_journal.specs.Calls.{Steps, refusal_of}
-use Rattle.fam_journal.specs.CallRecords.{AnswersStep, CallKeeps, Fits, HostFits, StepCall}
+use Rattle.fam_journal.specs.CallRecords.{AnswersStep, CallKeeps, FitsMedia, HostFits, StepCall}
 use Rattle.fam_journal.specs.Forms.{IsFormed}
 use Rattle.fam_journal.specs.Notes.{Note}
 use Rattle.fam_journal.specs.View.{WorldStands, WorldView}
-use Rattle.fam_journal.specs.WorldAlone.{number_in, refusal_in}
-use Rattle.fam_journal.proofs.FormViews.{step_formed, world_formed}
+use Rattle.fam_journal.specs.ByWorld.{number_in, refusal_in}
+use Rattle.fam_journal.proofs.Forms.Views.{step_formed, world_formed}
 use Rattle.fam_journal.proofs.JournalLaws.{kept_on}
-use Rattle.fam_journal.proofs.OwnSteps.{own_step}
+use Rattle.fam_journal.proofs.Calls.OwnSteps.{own_step}
 use Rattle.fam_world_model.specs.Bodies.{after_step, before_step, host_m}
 
 -- no line is held
@@ -51,7 +51,7 @@ module _ (me : List ℕ) (lines : ℕ) (journal : List Note) where
   unfolding refusal_of
   free = refl
 
-  fits : Fits lines new.hosts
+  fits : FitsMedia lines new.hosts
   fits zero view is = subst (HostFits lines) (same_Some _ view is) record { task = refl; cache = λ l held. absurd (let is_none : IsHeld Absent = subst IsHeld (none_held l) held in cc) }
   fits (suc h) view is = absurd cc
 
@@ -94,6 +94,6 @@ module _ (me : List ℕ) (lines : ℕ) (journal : List Note) where
   pub meets : (image : Image) (faults : ℕ) → StepCall (codes "m") lines None false (Some image) (Some image) faults faults old new
   meets image faults = record { answers = answers faults; keeps = keeps image }
 
-  -- so it is on a media that tells nothing
+  -- so it is on a media whose content isn't modelled
   pub meets_untold : (faults : ℕ) → StepCall (codes "m") lines None false None None faults faults old new
   meets_untold faults = record { answers = answers faults; keeps = λ start state told held. absurd cc }

@@ -4,7 +4,7 @@ use Rattle.std.specs.Prelude.{ℕ, ◌++◌, List, [], ◌∷◌, codes, length,
 use Rattle.std.specs.FinMap as map_of_lines
 use Rattle.fam_base.specs.declared.cmd.Cmd.TheVariants.{Logplay}
 use Rattle.fam_machine.specs.declared.cell.Cell.TheVariants.{Absent}
-use Rattle.fam_commands.specs.declared.place.Place.TheVariants as at
+use Rattle.fam_commands.specs.declared.phase.Phase.TheVariants as at
 use Rattle.fam_machine.specs.Caches.{Cache, with_cell}
 use Rattle.fam_commands.specs.Task.{Task, starting}
 use Rattle.fam_base.specs.declared.entry.Params.{Params}
@@ -30,7 +30,7 @@ before_step me lines journal = world_m me map_of_lines.empty (Some (starting Log
 -- line 0 was dropped, and its magic is to be loaded. Nothing is noted
 abbrev pub after_step : List ℕ → ℕ → List Note → WorldView
 after_step me lines journal =
-    world_m me (with_cell 0 Absent map_of_lines.empty) (Some (record (starting Logplay me lines) { place = at.Magic })) journal
+    world_m me (with_cell 0 Absent map_of_lines.empty) (Some (record (starting Logplay me lines) { phase = at.Magic })) journal
 
 -- the file system that host m makes, over whatever stands there, and the machine behind it
 abbrev pub params_m : List ℕ → List ℕ → Image → Params

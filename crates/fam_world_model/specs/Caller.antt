@@ -1,4 +1,4 @@
--- A caller of the world that knows of its calls nothing but what they promise: one run of seven calls, one that memory cuts,
+-- A caller of the world that knows of its calls nothing but what they promise: one run of seven calls, one that a media fault cuts,
 -- and one that lacks memory.
 use Rattle.std.specs.Prelude.{ℕ, ◌≡◌, false, List, [], ◌∷◌, length, Option, Some, None}
 use Rattle.fam_base.specs.declared.cmd.Cmd.{Cmd}
@@ -12,8 +12,8 @@ use Rattle.fam_journal.specs.declared.event.Event.{Event}
 use Rattle.fam_journal.specs.declared.event.Event.TheVariants as event
 use Rattle.fam_journal.specs.declared.refusal.Refusal.TheVariants as why
 use Rattle.fam_journal.specs.Calls.{Begins, Declares, Finishes, Halts, Makes, Moves}
-use Rattle.fam_journal.specs.CallRecords.{FinishWant, MakeCall, MediaCall, StepCall, WorldCall}
-use Rattle.fam_journal.specs.Ends.{Ending, EndsBy}
+use Rattle.fam_journal.specs.CallRecords.{FinishOutOfMemory, MakeCall, MediaCall, StepCall, WorldCall}
+use Rattle.fam_journal.specs.Ends.{Ending, EventsDone}
 use Rattle.fam_journal.specs.Events.{Session, first_session}
 use Rattle.fam_journal.specs.Kept.{Held}
 use Rattle.fam_journal.specs.Legal.{Legal}
@@ -31,7 +31,7 @@ pub record Wishes : Type 0 where
   pub is_fs : IsUuid fs
   pub fits : IsCommand cmd
 
--- what a caller holds between two calls: the world, the media's image where it is told, and its count of faults
+-- what a caller holds between two calls: the world, the media's image where it is modelled, and its count of faults
 pub record Moment : Type 0 where
   pub world : WorldView
   pub told : Option Image
@@ -63,11 +63,11 @@ events w =
 -- a world that is held, at the last state of events with this ending, whose notes are its journal; and the media has its image
 pub record ComesTo (start : Image) (ending : Ending) (files : Files) (events : List Event) (world : WorldView) (told : Option Image) : Type 0 where
   pub last : Session
-  pub follows : EndsBy ending files events (first_session start) world.journal last
+  pub follows : EventsDone ending files events (first_session start) world.journal last
   pub left : told ≡ Some last.machines.memory
   pub held : Held start last.machines world last.machines.memory
 
--- memory cuts the mkfs at a line: the caller ends there
+-- a media fault cuts the mkfs at a line: the caller ends there
 pub record CutTrace (start : Image) (w : Wishes) : Type 0 where
   pub first : ℕ
   pub declared : WorldView
@@ -79,14 +79,14 @@ pub record CutTrace (start : Image) (w : Wishes) : Type 0 where
 -- the journal is legal and follows, up to the mkfs
 pub record ComesToCut (start : Image) (ending : Ending) (files : Files) (events : List Event) (world : WorldView) (told : Option Image) : Type 0 where
   pub last : Session
-  pub follows : EndsBy ending files events (first_session start) world.journal last
+  pub follows : EventsDone ending files events (first_session start) world.journal last
   pub left : told ≡ Some last.machines.memory
   pub legal : Legal start world.journal
 
 -- a finish of a declared host finds no memory, not even for its note
-pub record WantTrace (start : Image) (w : Wishes) : Type 0 where
+pub record OutOfMemoryTrace (start : Image) (w : Wishes) : Type 0 where
   pub first : ℕ
   pub declared : WorldView
   pub wanting : Moment
   pub host : WorldCall (Declares w.name w.uuid) (length start) None empty_world declared
-  pub finish : FinishWant w.name (length start) (Some start) wanting.told first wanting.faults declared wanting.world
+  pub finish : FinishOutOfMemory w.name (length start) (Some start) wanting.told first wanting.faults declared wanting.world

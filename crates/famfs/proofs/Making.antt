@@ -8,44 +8,44 @@ use Rattle.fam_base.specs.Image.{Image, eight, line_at}
 use Rattle.fam_format.specs.declared.faults.SuperFault.{SuperFault}
 use Rattle.fam_format.specs.Reading.{super_in}
 use Rattle.fam_machine.specs.Caches.{Cache}
-use Rattle.fam_commands.specs.Solo.{fresh}
-use Rattle.fam_media.specs.Outside.{IfTold}
+use Rattle.fam_commands.specs.Solo.{with_empty_cache}
+use Rattle.fam_media.specs.Outside.{IfModelled}
 use Rattle.fam_machine.proofs.CleanCaches.{clean_empty}
 use Rattle.fam_machine.proofs.MkfsOps.{clean_formats, read_image}
 use Rattle.fam_mkfs.specs.declared.make.MkfsEnd.{MkfsEnd}
 use Rattle.fam_mkfs.specs.declared.make.MkfsEnd.TheVariants as end
-use Rattle.fam_mkfs.specs.Ends.{Ends, IsCut, IsFound, IsMade}
+use Rattle.fam_mkfs.specs.Ends.{MkfsEnds, IsCut, IsFound, IsMadeAsAsked}
 use Rattle.fam_mkfs.specs.Refusals.{end_of, refusal}
-use Rattle.fam_machine.specs.Mkfs.{EarlyRefusal, asked, due_ops, early_refusal, found, goes_on}
+use Rattle.fam_machine.specs.Mkfs.{EarlyRefusal, asked, expected_ops, early_refusal, superblock_found, goes_on}
 use Rattle.fam_machine.specs.Mkfs as early
 use Rattle.fam_machine.specs.Cuts.{Cuts}
 use Rattle.fam_cache.specs.Runs.{CacheOver, over}
 use Rattle.fam_rules.specs.Place.{line_bytes}
 use Rattle.fam_rules.specs.Written.{formatted}
-use Rattle.famfs.specs.declared.said.Said.{Said}
-use Rattle.famfs.specs.declared.said.Said.TheVariants as said
-use Rattle.famfs.specs.Due.{IsMkfsBroken, IsMkfsDue, MadeDue, MkfsDue, early_of, refused_said, said_of_end}
-use Rattle.famfs.specs.Ends.{Leaves, Passage}
-use Rattle.famfs.specs.Said.{said_status}
+use Rattle.famfs.specs.declared.said.CommandResult.{CommandResult}
+use Rattle.famfs.specs.declared.said.CommandResult.TheVariants as said
+use Rattle.famfs.specs.Expected.{IsMkfsBroken, IsMkfsExpected, MadeExpected, MkfsExpected, early_of, refused_said, said_of_end}
+use Rattle.famfs.specs.Ends.{LeavesImage, MediaChange}
+use Rattle.famfs.specs.CommandResult.{said_status}
 use Rattle.famfs.specs.Says.{IsCutShort, MkfsSays}
 use Rattle.famfs.specs.declared.status.Status.TheVariants.{MediaFault}
 
 -- nothing stands in the way where no superblock reads
-free_due : (r : Result Params SuperFault) (p : Params) (image left : Image) (shown : Said) → goes_on false r ≡ true → shown ≡ said.Made p → left ≡ formatted image p → MadeDue r p image shown left
-free_due (Ok other) p image left shown goes is same = absurd (let never : false ≡ true = goes in cc)
-free_due (Err fault) p image left shown goes is same = (is, same)
+free_expected : (r : Result Params SuperFault) (p : Params) (image left : Image) (shown : CommandResult) → goes_on false r ≡ true → shown ≡ said.Made p → left ≡ formatted image p → MadeExpected r p image shown left
+free_expected (Ok other) p image left shown goes is same = absurd (let never : false ≡ true = goes in cc)
+free_expected (Err fault) p image left shown goes is same = (is, same)
 
 -- a superblock reads
-held_due : (r : Result Params SuperFault) (other p : Params) (image left : Image) (shown : Said) → r ≡ Ok other → shown ≡ said.HasSuper other.fs → left ≡ image → MadeDue r p image shown left
-held_due r other p image left shown reads is same = subst (λ (r : Result Params SuperFault). MadeDue r p image shown left) (sym reads) (is, same)
+held_expected : (r : Result Params SuperFault) (other p : Params) (image left : Image) (shown : CommandResult) → r ≡ Ok other → shown ≡ said.HasSuper other.fs → left ≡ image → MadeExpected r p image shown left
+held_expected r other p image left shown reads is same = subst (λ (r : Result Params SuperFault). MadeExpected r p image shown left) (sym reads) (is, same)
 
 -- nothing is refused at once
-allowed_due : (o : Option MkfsEnd) (p : Params) (image left : Image) (shown : Said) → o ≡ None → MadeDue (super_in (line_at image) (line_bytes * length image)) p image shown left → MkfsDue o p image shown left
-allowed_due o p image left shown none due = subst (λ (o : Option MkfsEnd). MkfsDue o p image shown left) (sym none) due
+allowed_expected : (o : Option MkfsEnd) (p : Params) (image left : Image) (shown : CommandResult) → o ≡ None → MadeExpected (super_in (line_at image) (line_bytes * length image)) p image shown left → MkfsExpected o p image shown left
+allowed_expected o p image left shown none expected = subst (λ (o : Option MkfsEnd). MkfsExpected o p image shown left) (sym none) expected
 
 -- what is refused at once
-refused_due : (o : Option MkfsEnd) (refused : MkfsEnd) (p : Params) (image left : Image) → o ≡ Some refused → left ≡ image → MkfsDue o p image (said_of_end refused) left
-refused_due o refused p image left some same = subst (λ (o : Option MkfsEnd). MkfsDue o p image (said_of_end refused) left) (sym some) (refl, same)
+refused_expected : (o : Option MkfsEnd) (refused : MkfsEnd) (p : Params) (image left : Image) → o ≡ Some refused → left ≡ image → MkfsExpected o p image (said_of_end refused) left
+refused_expected o refused p image left some same = subst (λ (o : Option MkfsEnd). MkfsExpected o p image (said_of_end refused) left) (sym some) (refl, same)
 
 -- only two ends are refusals
 abbrev IsRefusal : MkfsEnd → Type 0
@@ -63,35 +63,35 @@ is_refusal unit log have e some = go (early_refusal unit log have) some
     go (Some (early.BadGeometry u l)) some = subst IsRefusal (let same : end.BadGeometry u l ≡ e = cc in same) tt
     go (Some (early.TooSmall needed given)) some = subst IsRefusal (let same : end.TooSmall needed given ≡ e = cc in same) tt
 
-module _ (media : Passage) (me : List ℕ) (unit log : ℕ) (fs : List ℕ) (count : IfTold media.image (λ image. length image ≡ media.size)) (normal : IfTold media.image (λ image. map eight image ≡ image)) where
+module _ (media : MediaChange) (me : List ℕ) (unit log : ℕ) (fs : List ℕ) (count : IfModelled media.image (λ image. length image ≡ media.size)) (normal : IfModelled media.image (λ image. map eight image ≡ image)) where
   -- the numbers are taken
   module _ (now : Cache) (none : refusal unit log (line_bytes * media.size) ≡ None) where
     none_at : (image : Image) → media.image ≡ Some image → refusal unit log (line_bytes * length image) ≡ None
     none_at image is = ap (λ (n : ℕ). refusal unit log (line_bytes * n)) (count image is) ∙ none
 
-    -- what was found by the reading is what the image says
-    reads_image : (image : Image) → media.image ≡ Some image → found (asked unit log fs me (length image)) (fresh image) ≡ super_in (line_at image) (line_bytes * length image)
+    -- what was superblock_found by the reading is what the image says
+    reads_image : (image : Image) → media.image ≡ Some image → superblock_found (asked unit log fs me (length image)) (with_empty_cache image) ≡ super_in (line_at image) (line_bytes * length image)
     reads_image image is = ap (λ (i : Image). super_in (line_at i) (line_bytes * length image)) (read_image image finmap.empty (normal image is) clean_empty)
 
-    made : IsMade (asked unit log fs me media.size) false (over media.image finmap.empty) (over media.image_now now) → Leaves media (λ image left. IsMkfsDue image me unit log fs (said.Made (asked unit log fs me media.size)) left)
+    made : IsMadeAsAsked (asked unit log fs me media.size) false (over media.image finmap.empty) (over media.image_now now) → LeavesImage media (λ image left. IsMkfsExpected image me unit log fs (said.Made (asked unit log fs me media.size)) left)
     made h image is =
         let p = asked unit log fs me (length image) in
         let same : asked unit log fs me media.size ≡ p = ap (asked unit log fs me) (sym (count image is)) in
-        let free : goes_on false (found p (fresh image)) ≡ true = subst (λ (q : Params). goes_on false (found q (fresh image)) ≡ true) same (h.free image is) in (
+        let free : goes_on false (superblock_found p (with_empty_cache image)) ≡ true = subst (λ (q : Params). goes_on false (superblock_found q (with_empty_cache image)) ≡ true) same (h.free image is) in (
           formatted image p,
           (h.done.is image is).image ∙ ap Some (clean_formats image finmap.empty (normal image is) clean_empty (asked unit log fs me media.size) ∙ ap (formatted image) same),
-          allowed_due _ p image _ _ (none_at image is) (free_due _ p image _ _ (ap (goes_on false) (sym (reads_image image is)) ∙ free) (ap said.Made same) refl),
+          allowed_expected _ p image _ _ (none_at image is) (free_expected _ p image _ _ (ap (goes_on false) (sym (reads_image image is)) ∙ free) (ap said.Made same) refl),
         )
 
-    held : (id : List ℕ) → IsFound (asked unit log fs me media.size) false id (over media.image finmap.empty) (over media.image_now now) → Leaves media (λ image left. IsMkfsDue image me unit log fs (said.HasSuper id) left)
+    held : (id : List ℕ) → IsFound (asked unit log fs me media.size) false id (over media.image finmap.empty) (over media.image_now now) → LeavesImage media (λ image left. IsMkfsExpected image me unit log fs (said.HasSuper id) left)
     held id h image is =
         let p = asked unit log fs me (length image) in
         let same : asked unit log fs me media.size ≡ p = ap (asked unit log fs me) (sym (count image is)) in
         let n = h.names image is in
-        let reads : super_in (line_at image) (line_bytes * length image) ≡ Ok n.other = sym (reads_image image is) ∙ ap (λ (q : Params). found q (fresh image)) (sym same) ∙ n.reads in (
+        let reads : super_in (line_at image) (line_bytes * length image) ≡ Ok n.other = sym (reads_image image is) ∙ ap (λ (q : Params). superblock_found q (with_empty_cache image)) (sym same) ∙ n.reads in (
           image,
           (h.done.is image is).image ∙ ap Some (read_image image finmap.empty (normal image is) clean_empty),
-          allowed_due _ p image image _ (none_at image is) (held_due _ n.other p image image _ reads (ap said.HasSuper n.named) refl),
+          allowed_expected _ p image image _ (none_at image is) (held_expected _ n.other p image image _ reads (ap said.HasSuper n.named) refl),
         )
 
     cut : (line : LineNo) → IsCut (asked unit log fs me media.size) false media.size line (over media.image finmap.empty) (over media.image_now now) media.faults media.faults_now → IsCutShort media line (λ image left. IsMkfsBroken image me unit log fs line left)
@@ -105,24 +105,24 @@ module _ (media : Passage) (me : List ℕ) (unit log : ℕ) (fs : List ℕ) (cou
             record {
               allowed = none_at image is;
               state = f.left;
-              cuts = subst (λ (n : ℕ). Cuts (due_ops false (asked unit log fs me n) (fresh image)) (fresh image) line f.left) (sym (count image is)) f.cuts;
+              cuts = subst (λ (n : ℕ). Cuts (expected_ops false (asked unit log fs me n) (with_empty_cache image)) (with_empty_cache image) line f.left) (sym (count image is)) f.cuts;
               left_is = refl;
             },
           );
     }
 
-    taken : (e : MkfsEnd) → Ends (asked unit log fs me media.size) false media.size (over media.image finmap.empty) (over media.image_now now) media.faults media.faults_now e → MkfsSays media me unit log fs (said_of_end e)
-    taken (end.Made p) (same, h) = (same, subst (λ (p : Params). Leaves media (λ image left. IsMkfsDue image me unit log fs (said.Made p) left)) (sym same) (made h))
+    taken : (e : MkfsEnd) → MkfsEnds (asked unit log fs me media.size) false media.size (over media.image finmap.empty) (over media.image_now now) media.faults media.faults_now e → MkfsSays media me unit log fs (said_of_end e)
+    taken (end.Made p) (same, h) = (same, subst (λ (p : Params). LeavesImage media (λ image left. IsMkfsExpected image me unit log fs (said.Made p) left)) (sym same) (made h))
     taken (end.HasSuper id) h = held id h
     taken (end.Failed line) h = cut line h
     taken (end.BadGeometry u l) h = absurd h
     taken (end.TooSmall wanted have) h = absurd h
 
   -- they are refused
-  refused : (e : MkfsEnd) → refusal unit log (line_bytes * media.size) ≡ Some e → media.image_now ≡ media.image → Leaves media (λ image left. IsMkfsDue image me unit log fs (said_of_end e) left)
-  refused e some same image is = (image, same ∙ is, refused_due _ e _ image image (ap (λ (n : ℕ). refusal unit log (line_bytes * n)) (count image is) ∙ some) refl)
+  refused : (e : MkfsEnd) → refusal unit log (line_bytes * media.size) ≡ Some e → media.image_now ≡ media.image → LeavesImage media (λ image left. IsMkfsExpected image me unit log fs (said_of_end e) left)
+  refused e some same image is = (image, same ∙ is, refused_expected _ e _ image image (ap (λ (n : ℕ). refusal unit log (line_bytes * n)) (count image is) ∙ some) refl)
 
-  refused_says : (e : MkfsEnd) → IsRefusal e → Leaves media (λ image left. IsMkfsDue image me unit log fs (said_of_end e) left) → MkfsSays media me unit log fs (said_of_end e)
+  refused_says : (e : MkfsEnd) → IsRefusal e → LeavesImage media (λ image left. IsMkfsExpected image me unit log fs (said_of_end e) left) → MkfsSays media me unit log fs (said_of_end e)
   refused_says (end.Made p) allowed leaves = absurd allowed
   refused_says (end.HasSuper id) allowed leaves = absurd allowed
   refused_says (end.Failed line) allowed leaves = absurd allowed
@@ -133,17 +133,17 @@ module _ (media : Passage) (me : List ℕ) (unit log : ℕ) (fs : List ℕ) (cou
   pub made_says : (e : MkfsEnd) (lines now : Cache) → lines ≡ finmap.empty
       → ((r : MkfsEnd) → refusal unit log (line_bytes * media.size) ≡ Some r → e ≡ r)
       → ((r : MkfsEnd) → refusal unit log (line_bytes * media.size) ≡ Some r → media.image_now ≡ media.image)
-      → (refusal unit log (line_bytes * media.size) ≡ None → Ends (asked unit log fs me media.size) false media.size (over media.image lines) (over media.image_now now) media.faults media.faults_now e)
+      → (refusal unit log (line_bytes * media.size) ≡ None → MkfsEnds (asked unit log fs me media.size) false media.size (over media.image lines) (over media.image_now now) media.faults media.faults_now e)
       → MkfsSays media me unit log fs (said_of_end e)
   made_says e lines now empty refuses untouched ends = go (refusal unit log (line_bytes * media.size)) refl
     where
       go : (o : Option MkfsEnd) → refusal unit log (line_bytes * media.size) ≡ o → MkfsSays media me unit log fs (said_of_end e)
-      go None is = taken now is e (subst (λ (c : Cache). Ends (asked unit log fs me media.size) false media.size (over media.image c) (over media.image_now now) media.faults media.faults_now e) empty (ends is))
+      go None is = taken now is e (subst (λ (c : Cache). MkfsEnds (asked unit log fs me media.size) false media.size (over media.image c) (over media.image_now now) media.faults media.faults_now e) empty (ends is))
       go (Some r) is = subst (λ (e : MkfsEnd). MkfsSays media me unit log fs (said_of_end e)) (sym (refuses r is)) (refused_says r (is_refusal unit log _ r is) (refused r is (untouched r is)))
 
 -- what is refused at once is said at once, and no other end
 pub made_early : (unit log lines : ℕ) (p : Params) (e : MkfsEnd) → ((r : MkfsEnd) → refusal unit log (line_bytes * lines) ≡ Some r → e ≡ r)
-    → (size faults faults_now : ℕ) (s t : CacheOver) → (refusal unit log (line_bytes * lines) ≡ None → Ends p false size s t faults faults_now e) → refused_said unit log lines ≡ early_of (said_of_end e)
+    → (size faults faults_now : ℕ) (s t : CacheOver) → (refusal unit log (line_bytes * lines) ≡ None → MkfsEnds p false size s t faults faults_now e) → refused_said unit log lines ≡ early_of (said_of_end e)
 made_early unit log lines p e refuses size faults faults_now s t ends = go (refusal unit log (line_bytes * lines)) refl
   where
     of_refusal : (r : MkfsEnd) → IsRefusal r → Some (said_of_end r) ≡ early_of (said_of_end r)
@@ -153,7 +153,7 @@ made_early unit log lines p e refuses size faults faults_now s t ends = go (refu
     of_refusal (end.BadGeometry u l) allowed = refl
     of_refusal (end.TooSmall wanted have) allowed = refl
 
-    of_end : (e : MkfsEnd) → Ends p false size s t faults faults_now e → None ≡ early_of (said_of_end e)
+    of_end : (e : MkfsEnd) → MkfsEnds p false size s t faults faults_now e → None ≡ early_of (said_of_end e)
     of_end (end.Made other) h = refl
     of_end (end.HasSuper id) h = refl
     of_end (end.Failed line) h = refl
@@ -165,7 +165,7 @@ made_early unit log lines p e refuses size faults faults_now s t ends = go (refu
     go (Some r) is = ap (option_map said_of_end) is ∙ of_refusal r (is_refusal unit log _ r is) ∙ ap (λ (r : MkfsEnd). early_of (said_of_end r)) (sym (refuses r is))
 
 -- no memory was left for the text of what is not made
-abbrev IsNotMade : Said → Type 0
+abbrev IsNotMade : CommandResult → Type 0
 IsNotMade (said.Made p) = ⊥
 IsNotMade (said.Small lines) = ⊤
 IsNotMade (said.Answered a) = ⊤
@@ -174,26 +174,26 @@ IsNotMade (said.BadGeometry unit log) = ⊤
 IsNotMade (said.TooSmall wanted have) = ⊤
 IsNotMade (said.Failed line) = ⊤
 
-unmade : (r : Result Params SuperFault) (p : Params) (image left : Image) (shown : Said) → IsNotMade shown → MadeDue r p image shown left → left ≡ image
+unmade : (r : Result Params SuperFault) (p : Params) (image left : Image) (shown : CommandResult) → IsNotMade shown → MadeExpected r p image shown left → left ≡ image
 unmade (Ok other) p image left shown not (is, same) = same
 unmade (Err fault) p image left shown not (is, same) = absurd (subst IsNotMade is not)
 
-not_due : (o : Option MkfsEnd) (p : Params) (image left : Image) (shown : Said) → IsNotMade shown → MkfsDue o p image shown left → left ≡ image
-not_due None p image left shown not due = unmade (super_in (line_at image) (line_bytes * length image)) p image left shown not due
-not_due (Some refused) p image left shown not (is, same) = same
+not_expected : (o : Option MkfsEnd) (p : Params) (image left : Image) (shown : CommandResult) → IsNotMade shown → MkfsExpected o p image shown left → left ≡ image
+not_expected None p image left shown not expected = unmade (super_in (line_at image) (line_bytes * length image)) p image left shown not expected
+not_expected (Some refused) p image left shown not (is, same) = same
 
-module _ (media : Passage) (me : List ℕ) (unit log : ℕ) (fs : List ℕ) where
-  not_stopped : (shown : Said) → IsNotMade shown → Leaves media (λ image left. IsMkfsDue image me unit log fs shown left) → Leaves media (λ image left. left ≡ image)
+module _ (media : MediaChange) (me : List ℕ) (unit log : ℕ) (fs : List ℕ) where
+  not_stopped : (shown : CommandResult) → IsNotMade shown → LeavesImage media (λ image left. IsMkfsExpected image me unit log fs shown left) → LeavesImage media (λ image left. left ≡ image)
   not_stopped shown not leaves image is =
       let d = leaves image is in
-      (d.0, d.1, not_due _ _ image d.0 shown not d.2)
+      (d.0, d.1, not_expected _ _ image d.0 shown not d.2)
 
   -- of what is neither made nor failed nothing was written
-  pub mkfs_wants : (shown : Said) → ((p : Params) → shown ≡ said.Made p → ⊥) → said_status shown ≢ MediaFault → MkfsSays media me unit log fs shown → Leaves media (λ image left. left ≡ image)
-  mkfs_wants (said.Made p) other sound l = absurd (other p refl)
-  mkfs_wants (said.HasSuper id) other sound l = not_stopped _ tt l
-  mkfs_wants (said.BadGeometry u g) other sound l = not_stopped _ tt l
-  mkfs_wants (said.TooSmall wanted have) other sound l = not_stopped _ tt l
-  mkfs_wants (said.Failed line) other sound broken = absurd (sound refl)
-  mkfs_wants (said.Small lines) other sound l = absurd l
-  mkfs_wants (said.Answered a) other sound l = absurd l
+  pub mkfs_out_of_memory : (shown : CommandResult) → ((p : Params) → shown ≡ said.Made p → ⊥) → said_status shown ≢ MediaFault → MkfsSays media me unit log fs shown → LeavesImage media (λ image left. left ≡ image)
+  mkfs_out_of_memory (said.Made p) other sound l = absurd (other p refl)
+  mkfs_out_of_memory (said.HasSuper id) other sound l = not_stopped _ tt l
+  mkfs_out_of_memory (said.BadGeometry u g) other sound l = not_stopped _ tt l
+  mkfs_out_of_memory (said.TooSmall wanted have) other sound l = not_stopped _ tt l
+  mkfs_out_of_memory (said.Failed line) other sound broken = absurd (sound refl)
+  mkfs_out_of_memory (said.Small lines) other sound l = absurd l
+  mkfs_out_of_memory (said.Answered a) other sound l = absurd l

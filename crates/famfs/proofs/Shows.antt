@@ -9,36 +9,36 @@ use Rattle.fam_tasks.specs.declared.answer.Answer.{Answer}
 use Rattle.fam_tasks.specs.declared.answer.Answer.TheVariants as answer
 use Rattle.famfs.specs.declared.command.Command.{Command}
 use Rattle.famfs.specs.declared.command.Command.TheVariants.{Log, Mkfs}
-use Rattle.famfs.specs.declared.said.Said.{Said}
-use Rattle.famfs.specs.declared.said.Said.TheVariants as said
+use Rattle.famfs.specs.declared.said.CommandResult.{CommandResult}
+use Rattle.famfs.specs.declared.said.CommandResult.TheVariants as said
 use Rattle.famfs.specs.declared.status.Status.{Status}
 use Rattle.famfs.specs.declared.top.Shown.{Shown}
 use Rattle.famfs.specs.declared.status.Status.TheVariants.{Done, Refused, MediaFault, Damaged, NotYet}
-use Rattle.famfs.specs.Due.{Call, IsBroken, IsDue, IsMkfsBroken, IsMkfsDue, IsOfCommand, IsOfMkfs, IsOfTask, IsStopped, IsTaskBroken, IsTaskDue, IsTaskStopped, early_of, early_said, fault_said, fs_or, refused_said, small_said}
-use Rattle.famfs.specs.Ends.{CommandShows, IsShown, Leaves, Passage, ShowsFault, ShowsWant}
+use Rattle.famfs.specs.Expected.{CommandCall, IsBroken, IsExpected, IsMkfsBroken, IsMkfsExpected, IsOfCall, IsOfMkfs, IsOfTask, IsStopped, IsTaskBroken, IsTaskExpected, IsTaskStopped, early_of, early_said, fault_said, fs_or, refused_said, small_said}
+use Rattle.famfs.specs.Ends.{CommandShows, IsShown, LeavesImage, MediaChange, ShowsFault, ShowsOutOfMemory}
 use Rattle.fam_journal.specs.Statuses.{is_checked_equal}
 use Rattle.fam_journal.specs.Texts.{is_sound_report}
-use Rattle.famfs.specs.Said.{answer_status, said_status, said_text, sound_status}
+use Rattle.famfs.specs.CommandResult.{answer_status, said_status, said_text, sound_status}
 use Rattle.famfs.specs.Says.{AnswerSays, IsCutShort, IsDone, MkfsSays, ShowsSaid, TaskSays}
 use Rattle.fam_journal.specs.Programs.{memory_line}
 
 -- what is left meets more where each such image does
-pub leaves_more : (media : Passage) (P Q : Image → Image → Type 0) → ((image left : Image) → P image left → Q image left) → Leaves media P → Leaves media Q
+pub leaves_more : (media : MediaChange) (P Q : Image → Image → Type 0) → ((image left : Image) → P image left → Q image left) → LeavesImage media P → LeavesImage media Q
 leaves_more media P Q f l image is = let x = l image is in (x.0, x.1, f image x.0 x.2)
 
 -- a command's row of what is shown, left, broken and stopped
-record Rows (call : Call) (lines : ℕ) (own : Said → Type 0) (early : Option Said) (due : Said → Image → Image → Type 0) (broken : LineNo → Image → Image → Type 0) (fault : LineNo → Said) : Type 0 where
-  to_due : (shown : Said) (image left : Image) → due shown image left → IsDue call call.command image shown left
+record Rows (call : CommandCall) (lines : ℕ) (own : CommandResult → Type 0) (early : Option CommandResult) (expected : CommandResult → Image → Image → Type 0) (broken : LineNo → Image → Image → Type 0) (fault : LineNo → CommandResult) : Type 0 where
+  to_expected : (shown : CommandResult) (image left : Image) → expected shown image left → IsExpected call call.command image shown left
   to_broken : (line : LineNo) (image left : Image) → broken line image left → IsBroken call call.command image line left
   fault_is : (line : LineNo) → fault_said call.command line ≡ fault line
-  own_is : (shown : Said) → own shown → IsOfCommand call call.command lines shown
+  own_is : (shown : CommandResult) → own shown → IsOfCall call call.command lines shown
   early_is : early_said call.command lines ≡ early
   fault_late : (line : LineNo) → early_of (fault line) ≡ None
 
-module _ (media : Passage) (call : Call) (own : Said → Type 0) (early : Option Said) (due : Said → Image → Image → Type 0) (broken : LineNo → Image → Image → Type 0) (fault : LineNo → Said) (rows : Rows call media.size own early due broken fault) where
+module _ (media : MediaChange) (call : CommandCall) (own : CommandResult → Type 0) (early : Option CommandResult) (expected : CommandResult → Image → Image → Type 0) (broken : LineNo → Image → Image → Type 0) (fault : LineNo → CommandResult) (rows : Rows call media.size own early expected broken fault) where
   -- a text with a status that is no fault's
-  shows_due : (shown : Said) (status : Status) (text : List ℕ) → status ≡ said_status shown → text ≡ said_text shown → own shown → early ≡ early_of shown → Leaves media (due shown) → IsShown media call status text
-  shows_due shown status text s t o e l = record { shown = shown; status_is = s; text_is = t; own = rows.own_is shown o; early = rows.early_is ∙ e; leaves = leaves_more media (due shown) (λ image left. IsDue call call.command image shown left) (rows.to_due shown) l }
+  shows_expected : (shown : CommandResult) (status : Status) (text : List ℕ) → status ≡ said_status shown → text ≡ said_text shown → own shown → early ≡ early_of shown → LeavesImage media (expected shown) → IsShown media call status text
+  shows_expected shown status text s t o e l = record { shown = shown; status_is = s; text_is = t; own = rows.own_is shown o; early = rows.early_is ∙ e; leaves = leaves_more media (expected shown) (λ image left. IsExpected call call.command image shown left) (rows.to_expected shown) l }
 
   shows_fault : (line : LineNo) (text : List ℕ) → text ≡ said_text (fault line) → early ≡ early_of (fault line) → IsCutShort media line (broken line) → ShowsFault media call text
   shows_fault line text t e cut = record {
@@ -50,26 +50,26 @@ module _ (media : Passage) (call : Call) (own : Said → Type 0) (early : Option
     leaves = leaves_more media (broken line) (λ image left. IsBroken call call.command image line left) (rows.to_broken line) cut.leaves;
   }
 
-  shows_want : (stopped : Image → Image → Type 0) → ((image left : Image) → stopped image left → IsStopped call call.command image left) → Leaves media stopped → ShowsWant media call memory_line
-  shows_want stopped to_stopped l = record { text_is = refl; leaves = leaves_more media stopped (λ image left. IsStopped call call.command image left) to_stopped l }
+  shows_out_of_memory : (stopped : Image → Image → Type 0) → ((image left : Image) → stopped image left → IsStopped call call.command image left) → LeavesImage media stopped → ShowsOutOfMemory media call memory_line
+  shows_out_of_memory stopped to_stopped l = record { text_is = refl; leaves = leaves_more media stopped (λ image left. IsStopped call call.command image left) to_stopped l }
 
 -- Commands on the log.
 
-module _ (media : Passage) (call : Call) (c : Cmd) where
+module _ (media : MediaChange) (call : CommandCall) (c : Cmd) where
   TaskRows : Type 0
-  TaskRows = Rows call media.size IsOfTask (small_said media.size) (λ shown image left. IsTaskDue image call.me c shown left) (λ line image left. IsTaskBroken image call.me c line left) (λ line. said.Answered (answer.MediaFault line))
+  TaskRows = Rows call media.size IsOfTask (small_said media.size) (λ shown image left. IsTaskExpected image call.me c shown left) (λ line image left. IsTaskBroken image call.me c line left) (λ line. said.Answered (answer.MediaFault line))
 
   module _ (rows : TaskRows) where
-    done : (shown : Said) (status : Status) (text : List ℕ) → status ≡ said_status shown → text ≡ said_text shown → IsOfTask shown → small_said media.size ≡ early_of shown → Leaves media (IsDone call.me c shown) → IsShown media call status text
+    done : (shown : CommandResult) (status : Status) (text : List ℕ) → status ≡ said_status shown → text ≡ said_text shown → IsOfTask shown → small_said media.size ≡ early_of shown → LeavesImage media (IsDone call.me c shown) → IsShown media call status text
     unfolding TaskRows
-    done shown status text s t o e l = shows_due media call _ _ _ _ _ rows shown status text s t o e (leaves_more media (IsDone call.me c shown) (λ image left. IsTaskDue image call.me c shown left) (λ image left d. d.due) l)
+    done shown status text s t o e l = shows_expected media call _ _ _ _ _ rows shown status text s t o e (leaves_more media (IsDone call.me c shown) (λ image left. IsTaskExpected image call.me c shown left) (λ image left d. d.expected) l)
 
-    at_status : (want : Status) (status : Status) (text : List ℕ) → status ≡ want → CommandShows media call want text → CommandShows media call status text
-    at_status want status text is shows = subst (λ (x : Status). CommandShows media call x text) (sym is) shows
+    at_status : (out_of_memory : Status) (status : Status) (text : List ℕ) → status ≡ out_of_memory → CommandShows media call out_of_memory text → CommandShows media call status text
+    at_status out_of_memory status text is shows = subst (λ (x : Status). CommandShows media call x text) (sym is) shows
 
     -- what was looked at is sound, or damaged
-    sound_shows : (sound : Bool) (shown : Said) (status : Status) (text : List ℕ) → status ≡ sound_status sound → sound_status sound ≡ said_status shown → text ≡ said_text shown
-        → IsOfTask shown → small_said media.size ≡ early_of shown → Leaves media (IsDone call.me c shown) → CommandShows media call status text
+    sound_shows : (sound : Bool) (shown : CommandResult) (status : Status) (text : List ℕ) → status ≡ sound_status sound → sound_status sound ≡ said_status shown → text ≡ said_text shown
+        → IsOfTask shown → small_said media.size ≡ early_of shown → LeavesImage media (IsDone call.me c shown) → CommandShows media call status text
     unfolding TaskRows
     sound_shows true shown status text s is t o e l = at_status Done status text s (done shown Done text is t o e l)
     sound_shows false shown status text s is t o e l = at_status Damaged status text s (done shown Damaged text is t o e l)
@@ -100,7 +100,7 @@ module _ (media : Passage) (call : Call) (c : Cmd) where
     answer_shows (answer.Report report) status text s t e l = sound_shows (is_sound_report report) (said.Answered (answer.Report report)) status text s refl t tt e l
     answer_shows answer.NotYet status text s t e l = at_status NotYet status text s (done (said.Answered answer.NotYet) NotYet text refl t tt e l)
 
-    said_shows : (shown : Said) (status : Status) (text : List ℕ) → status ≡ said_status shown → text ≡ said_text shown → small_said media.size ≡ early_of shown → TaskSays media call.me c shown → CommandShows media call status text
+    said_shows : (shown : CommandResult) (status : Status) (text : List ℕ) → status ≡ said_status shown → text ≡ said_text shown → small_said media.size ≡ early_of shown → TaskSays media call.me c shown → CommandShows media call status text
     said_shows (said.Small lines) status text s t e l = at_status Damaged status text s (done (said.Small lines) Damaged text refl t tt e l)
     said_shows (said.Answered a) status text s t e l = answer_shows a status text s t e l
     said_shows (said.Made p) status text s t e l = absurd l
@@ -112,30 +112,30 @@ module _ (media : Passage) (call : Call) (c : Cmd) where
     task_shows : (status : Status) (text : List ℕ) → ShowsSaid (small_said media.size) (TaskSays media call.me c) status text → CommandShows media call status text
     task_shows status text s = said_shows s.shown status text s.status_is s.text_is s.early_is s.says_it
 
-module _ (media : Passage) (me random : List ℕ) where
+module _ (media : MediaChange) (me random : List ℕ) where
   module _ (c : Cmd) where
     log_rows : TaskRows media (record { command = Log c; me = me; random = random }) c
     unfolding TaskRows
-    log_rows = record { to_due = λ shown image left d. d; to_broken = λ line image left b. b; fault_is = λ line. refl; own_is = λ shown o. o; early_is = refl; fault_late = λ line. refl }
+    log_rows = record { to_expected = λ shown image left d. d; to_broken = λ line image left b. b; fault_is = λ line. refl; own_is = λ shown o. o; early_is = refl; fault_late = λ line. refl }
 
     pub log_shows : (status : Status) (text : List ℕ) → ShowsSaid (small_said media.size) (TaskSays media me c) status text → CommandShows media (record { command = Log c; me = me; random = random }) status text
     log_shows = task_shows media (record { command = Log c; me = me; random = random }) c log_rows
 
-    pub log_want : Leaves media (λ image left. IsTaskStopped image me c left) → ShowsWant media (record { command = Log c; me = me; random = random }) memory_line
+    pub log_out_of_memory : LeavesImage media (λ image left. IsTaskStopped image me c left) → ShowsOutOfMemory media (record { command = Log c; me = me; random = random }) memory_line
     unfolding TaskRows
-    log_want = shows_want media (record { command = Log c; me = me; random = random }) _ _ _ _ _ log_rows _ (λ image left d. d)
+    log_out_of_memory = shows_out_of_memory media (record { command = Log c; me = me; random = random }) _ _ _ _ _ log_rows _ (λ image left d. d)
 
   -- Making a file system.
 
   module _ (unit log : ℕ) (fs : Option (List ℕ)) where
-    mkfs_rows : Rows (record { command = Mkfs unit log fs; me = me; random = random }) media.size (IsOfMkfs (asked unit log (fs_or random fs) me media.size)) (refused_said unit log media.size) (λ shown image left. IsMkfsDue image me unit log (fs_or random fs) shown left) (λ line image left. IsMkfsBroken image me unit log (fs_or random fs) line left) (λ line. said.Failed line)
-    mkfs_rows = record { to_due = λ shown image left d. d; to_broken = λ line image left b. b; fault_is = λ line. refl; own_is = λ shown o. o; early_is = refl; fault_late = λ line. refl }
+    mkfs_rows : Rows (record { command = Mkfs unit log fs; me = me; random = random }) media.size (IsOfMkfs (asked unit log (fs_or random fs) me media.size)) (refused_said unit log media.size) (λ shown image left. IsMkfsExpected image me unit log (fs_or random fs) shown left) (λ line image left. IsMkfsBroken image me unit log (fs_or random fs) line left) (λ line. said.Failed line)
+    mkfs_rows = record { to_expected = λ shown image left d. d; to_broken = λ line image left b. b; fault_is = λ line. refl; own_is = λ shown o. o; early_is = refl; fault_late = λ line. refl }
 
-    made : (shown : Said) (want status : Status) (text : List ℕ) → want ≡ said_status shown → status ≡ want → text ≡ said_text shown → IsOfMkfs (asked unit log (fs_or random fs) me media.size) shown → refused_said unit log media.size ≡ early_of shown → Leaves media (λ image left. IsMkfsDue image me unit log (fs_or random fs) shown left)
-        → IsShown media (record { command = Mkfs unit log fs; me = me; random = random }) want text
-    made shown want status text w s t o e l = shows_due media _ _ _ _ _ _ mkfs_rows shown want text w t o e l
+    made : (shown : CommandResult) (out_of_memory status : Status) (text : List ℕ) → out_of_memory ≡ said_status shown → status ≡ out_of_memory → text ≡ said_text shown → IsOfMkfs (asked unit log (fs_or random fs) me media.size) shown → refused_said unit log media.size ≡ early_of shown → LeavesImage media (λ image left. IsMkfsExpected image me unit log (fs_or random fs) shown left)
+        → IsShown media (record { command = Mkfs unit log fs; me = me; random = random }) out_of_memory text
+    made shown out_of_memory status text w s t o e l = shows_expected media _ _ _ _ _ _ mkfs_rows shown out_of_memory text w t o e l
 
-    mkfs_said : (shown : Said) (status : Status) (text : List ℕ) → status ≡ said_status shown → text ≡ said_text shown → refused_said unit log media.size ≡ early_of shown → MkfsSays media me unit log (fs_or random fs) shown → CommandShows media (record { command = Mkfs unit log fs; me = me; random = random }) status text
+    mkfs_said : (shown : CommandResult) (status : Status) (text : List ℕ) → status ≡ said_status shown → text ≡ said_text shown → refused_said unit log media.size ≡ early_of shown → MkfsSays media me unit log (fs_or random fs) shown → CommandShows media (record { command = Mkfs unit log fs; me = me; random = random }) status text
     mkfs_said (said.Made p) status text s t e l = subst (λ (x : Status). CommandShows media (record { command = Mkfs unit log fs; me = me; random = random }) x text) (sym s) (made (said.Made p) Done status text refl s t l.0 e l.1)
     mkfs_said (said.HasSuper other) status text s t e l = subst (λ (x : Status). CommandShows media (record { command = Mkfs unit log fs; me = me; random = random }) x text) (sym s) (made (said.HasSuper other) Refused status text refl s t tt e l)
     mkfs_said (said.BadGeometry u g) status text s t e l = subst (λ (x : Status). CommandShows media (record { command = Mkfs unit log fs; me = me; random = random }) x text) (sym s) (made (said.BadGeometry u g) Refused status text refl s t tt e l)
@@ -148,19 +148,19 @@ module _ (media : Passage) (me random : List ℕ) where
     mkfs_shows status text s = mkfs_said s.shown status text s.status_is s.text_is s.early_is s.says_it
 
 -- what is said is shown
-pub shows_what : {E : Type 0} (r : Result Shown E) (early : Option Said) (says : Said → Type 0) (said : Said) → says said → early ≡ early_of said → IfOk r (λ shown. shown.status ≡ said_status said) → IfOk r (λ shown. shown.text.items ≡ said_text said)
+pub shows_what : {E : Type 0} (r : Result Shown E) (early : Option CommandResult) (says : CommandResult → Type 0) (said : CommandResult) → says said → early ≡ early_of said → IfOk r (λ shown. shown.status ≡ said_status said) → IfOk r (λ shown. shown.text.items ≡ said_text said)
     → IfOk r (λ shown. ShowsSaid early says shown.status shown.text.items)
 shows_what (Ok shown) early says said holds first status text = record { shown = said; says_it = holds; early_is = first; status_is = status; text_is = text }
 shows_what (Err none) early says said holds first status text = tt
 
 -- a command that is another shows what that one shows
-pub call_shows : {E : Type 0} (r : Result Shown E) (media : Passage) (me random : List ℕ) (command other : Command) (P : Status → List ℕ → Type 0) → command ≡ other
+pub call_shows : {E : Type 0} (r : Result Shown E) (media : MediaChange) (me random : List ℕ) (command other : Command) (P : Status → List ℕ → Type 0) → command ≡ other
     → ((status : Status) (text : List ℕ) → P status text → CommandShows media (record { command = other; me = me; random = random }) status text)
     → IfOk r (λ shown. P shown.status shown.text.items) → IfOk r (λ shown. CommandShows media (record { command = command; me = me; random = random }) shown.status shown.text.items)
 call_shows (Ok shown) media me random command other P same shows p = subst (λ (c : Command). CommandShows media (record { command = c; me = me; random = random }) shown.status shown.text.items) (sym same) (shows shown.status shown.text.items p)
 call_shows (Err none) media me random command other P same shows p = tt
 
-pub call_wants : {T E : Type 0} (r : Result T E) (media : Passage) (me random : List ℕ) (command other : Command) (W : Type 0) → command ≡ other
-    → (W → ShowsWant media (record { command = other; me = me; random = random }) memory_line) → OnErr r W → OnErr r (ShowsWant media (record { command = command; me = me; random = random }) memory_line)
-call_wants (Ok shown) media me random command other W same wants w = tt
-call_wants (Err none) media me random command other W same wants w = subst (λ (c : Command). ShowsWant media (record { command = c; me = me; random = random }) memory_line) (sym same) (wants w)
+pub call_out_of_memory : {T E : Type 0} (r : Result T E) (media : MediaChange) (me random : List ℕ) (command other : Command) (W : Type 0) → command ≡ other
+    → (W → ShowsOutOfMemory media (record { command = other; me = me; random = random }) memory_line) → OnErr r W → OnErr r (ShowsOutOfMemory media (record { command = command; me = me; random = random }) memory_line)
+call_out_of_memory (Ok shown) media me random command other W same out_of_memory w = tt
+call_out_of_memory (Err none) media me random command other W same out_of_memory w = subst (λ (c : Command). ShowsOutOfMemory media (record { command = c; me = me; random = random }) memory_line) (sym same) (out_of_memory w)

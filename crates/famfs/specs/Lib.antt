@@ -1,8 +1,8 @@
 pub mod Numbers
 pub mod Fresh
 pub mod Words
-pub mod Said
+pub mod CommandResult
 pub mod Commands
-pub mod Due
+pub mod Expected
 pub mod Ends
 pub mod Says

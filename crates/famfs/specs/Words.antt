@@ -128,5 +128,5 @@ abbrev pub image_if : Option Command → List (List ℕ) → Option (List ℕ)
 image_if None words = None
 image_if (Some command) words = Some (word words 1)
 
-unfoldable pub image_word : List (List ℕ) → Option (List ℕ)
-image_word words = image_if (command_of words) words
+unfoldable pub image_argument : List (List ℕ) → Option (List ℕ)
+image_argument words = image_if (command_of words) words

@@ -23,7 +23,7 @@ const PAGE_BYTES: usize = 65536;
 /// The bytes that are read ahead where no line before this one was given.
 const FIRST_BYTES: usize = 4096;
 
-/// A file as a media: each line is read when it is asked for or ahead of that, and written at once. It tells nothing of
+/// A file as a media: each line is read when it is asked for or ahead of that, and written at once. It models nothing of
 /// its content, and counts its faults.
 #[derive(Drop)]
 pub struct FileMedia {
@@ -71,15 +71,15 @@ fn page(alloc: Global) -> Vec<u8> {
 }
 
 /// Reads so many bytes from a line on, or as many as there are, and says how many whole lines they are.
-fn read_lines(file: &File, page: &mut Vec<u8>, want: usize, line: u64) -> u64
+fn read_lines(file: &File, page: &mut Vec<u8>, out_of_memory: usize, line: u64) -> u64
     requires within { line < MOST_LINES }
     ensures len { vec_len page.new ≡ vec_len page.old }
     ensures few { 64 * result ≤ vec_len page.old }
 {
-    if page.len() < want {
+    if page.len() < out_of_memory {
         return 0;
     }
-    match file.read_at(&mut page[..want], byte_of(line)) {
+    match file.read_at(&mut page[..out_of_memory], byte_of(line)) {
         Ok(got) => got as u64 / LINE_BYTES,
         Err(_) => 0,
     }
@@ -130,14 +130,14 @@ impl FileMedia {
         ensures faults { self.new.faults ≡ self.old.faults }
     {
         let more = self.first < self.end && line == self.end;
-        let want = if more { PAGE_BYTES } else { FIRST_BYTES };
+        let out_of_memory = if more { PAGE_BYTES } else { FIRST_BYTES };
         self.first = line;
         self.next = line;
         self.end = line;
         let Some(file) = &self.file else {
             return;
         };
-        let got = read_lines(file, &mut self.page, want, line);
+        let got = read_lines(file, &mut self.page, out_of_memory, line);
         self.end = line + got;
     }
 
@@ -169,7 +169,7 @@ impl Media for FileMedia {
 
     ghost normal = { λ m. tt };
 
-    ghost told = { λ m content e. Prim.cc };
+    ghost modelled = { λ m content e. Prim.cc };
 
     fn lines(&self) -> u64 {
         self.lines

@@ -1,9 +1,9 @@
-//! What a command on its own shows: its last note, or why it ended early. `specs/Said.antt` has the texts and the
+//! What a command on its own shows: its last note, or why it ended early. `specs/CommandResult.antt` has the texts and the
 //! statuses.
 
 ghost use Rattle.std.specs.Prelude.{◌≡◌, ◌≢◌, ◌≤◌, [], IfOk, OnErr, string_bytes, vec_capacity};
 ghost use Rattle.famfs.specs.declared.status.Status.TheVariants.{MediaFault};
-ghost use Rattle.famfs.specs.Said as spec;
+ghost use Rattle.famfs.specs.CommandResult as spec;
 ghost use Rattle.fam_journal.specs.Statuses.{is_checked_equal};
 ghost use Rattle.fam_journal.specs.Texts as text;
 
@@ -18,7 +18,7 @@ use uuid::Uuid;
 
 /// What a command on its own shows.
 #[derive(Drop)]
-pub(crate) enum Said {
+pub(crate) enum CommandResult {
     /// So many lines are too few for an image.
     Small(u64),
     /// A task has answered.
@@ -31,7 +31,7 @@ pub(crate) enum Said {
     BadGeometry { unit: u64, log: u64 },
     /// No file system is made: it would need `need` bytes, and the image has `have`.
     TooSmall { need: u64, have: u64 },
-    /// No file system is made: memory failed at this line.
+    /// No file system is made: the media failed at this line.
     Failed(LineNo),
 }
 
@@ -81,17 +81,17 @@ fn answer_status(answer: &Answer) -> Status
 }
 
 /// The status with which the command ends.
-pub(crate) fn said_status(said: &Said) -> Status
+pub(crate) fn said_status(said: &CommandResult) -> Status
     ensures { result ≡ spec.said_status said.now }
 {
     match said {
-        Said::Small(_) => Status::Damaged,
-        Said::Answered(answer) => answer_status(answer),
-        Said::Made(_) => Status::Done,
-        Said::HasSuper(_) => Status::Refused,
-        Said::BadGeometry { .. } => Status::Refused,
-        Said::TooSmall { .. } => Status::Refused,
-        Said::Failed(_) => Status::MediaFault,
+        CommandResult::Small(_) => Status::Damaged,
+        CommandResult::Answered(answer) => answer_status(answer),
+        CommandResult::Made(_) => Status::Done,
+        CommandResult::HasSuper(_) => Status::Refused,
+        CommandResult::BadGeometry { .. } => Status::Refused,
+        CommandResult::TooSmall { .. } => Status::Refused,
+        CommandResult::Failed(_) => Status::MediaFault,
     }
 }
 
@@ -111,7 +111,7 @@ fn made_text(alloc: Global, params: &Params) -> Result<String, AllocError>
     format!(in alloc; "made {fs}{sizes}")
 }
 
-/// The text of an answer: its line, and the listing behind it. Where memory failed it takes the room that was made for
+/// The text of an answer: its line, and the listing behind it. Where the media failed it takes the room that was made for
 /// it.
 fn answered_lines(alloc: Global, room: Vec<u8>, answer: &Answer) -> Result<Vec<u8>, OutOfMemory>
     requires empty { room.items ≡ [] }
@@ -147,9 +147,13 @@ fn answered_lines(alloc: Global, room: Vec<u8>, answer: &Answer) -> Result<Vec<u
     }
 }
 
-/// The text with its line feeds. Where memory failed it takes the room that was made for it, so no memory is wanted
+/// The text with its line feeds. Where the media failed it takes the room that was made for it, so no memory is wanted
 /// then.
-pub(crate) fn said_lines(alloc: Global, room: Vec<u8>, said: &Said) -> Result<Vec<u8>, OutOfMemory>
+pub(crate) fn said_lines(
+    alloc: Global,
+    room: Vec<u8>,
+    said: &CommandResult,
+) -> Result<Vec<u8>, OutOfMemory>
     requires empty { room.items ≡ [] }
     requires room { FAILURE_BYTES ≤ vec_capacity room }
 
@@ -157,19 +161,25 @@ pub(crate) fn said_lines(alloc: Global, room: Vec<u8>, said: &Said) -> Result<Ve
     ensures failure { OnErr result (spec.said_status said.now ≢ MediaFault) }
 {
     match said {
-        Said::Small(lines) => line_of(alloc, format!(in alloc; "refused image too small {lines}")),
-        Said::Answered(answer) => answered_lines(alloc, room, answer),
-        Said::Made(params) => line_of(alloc, made_text(alloc, params)),
-        Said::HasSuper(fs) => line_of(alloc, format!(in alloc; "refused has superblock {fs}")),
-        Said::BadGeometry { unit, log } => {
+        CommandResult::Small(lines) => line_of(
+            alloc,
+            format!(in alloc; "refused image too small {lines}"),
+        ),
+        CommandResult::Answered(answer) => answered_lines(alloc, room, answer),
+        CommandResult::Made(params) => line_of(alloc, made_text(alloc, params)),
+        CommandResult::HasSuper(fs) => line_of(
+            alloc,
+            format!(in alloc; "refused has superblock {fs}"),
+        ),
+        CommandResult::BadGeometry { unit, log } => {
             line_of(
                 alloc,
                 format!(in alloc; "refused bad geometry {unit} {log}"),
             )
         }
-        Said::TooSmall { need, have } => {
+        CommandResult::TooSmall { need, have } => {
             line_of(alloc, format!(in alloc; "refused too small {need} {have}"))
         }
-        Said::Failed(at) => Ok(failure_line(room, "refused media fault", at.0)),
+        CommandResult::Failed(at) => Ok(failure_line(room, "refused media fault", at.0)),
     }
 }

@@ -5,7 +5,7 @@ ghost use Rattle.std.specs.Prelude.{◌≡◌, None};
 use fam_media::{Failed, Sink};
 use std::io::{Stdout, Write};
 
-/// The standard output. It tells nothing of the bytes put, and counts its faults.
+/// The standard output. It models nothing of the bytes put, and counts its faults.
 #[derive(Drop)]
 pub struct StdSink {
     out: Stdout,

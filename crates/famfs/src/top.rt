@@ -4,10 +4,10 @@ ghost use Rattle.std.specs.Prelude.{◌≡◌, ◌≢◌, ◌≤◌, [], IfOk, O
 ghost use Rattle.fam_media.specs.Causes.{IsSteady};
 ghost use Rattle.fam_tasks.specs.Sound.{IsServed};
 ghost use Rattle.famfs.specs.Commands.{IsServedCommand};
-ghost use Rattle.famfs.specs.Due as due;
-ghost use Rattle.famfs.specs.Due.{IsTaskStopped};
-ghost use Rattle.famfs.specs.Ends.{CommandShows, Ends, Leaves, PutAs, ShowsWant, passed};
-ghost use Rattle.famfs.specs.Said as texts;
+ghost use Rattle.famfs.specs.Expected as expected;
+ghost use Rattle.famfs.specs.Expected.{IsTaskStopped};
+ghost use Rattle.famfs.specs.Ends.{CommandShows, CallEnds, LeavesImage, PutAs, ShowsOutOfMemory, passed};
+ghost use Rattle.famfs.specs.CommandResult as texts;
 ghost use Rattle.famfs.specs.Says.{MkfsSays, ShowsSaid, TaskSays};
 ghost use Rattle.famfs.specs.declared.status.Status.TheVariants.{MediaFault};
 ghost use Rattle.fam_journal.specs.Programs.{memory_line};
@@ -15,7 +15,7 @@ ghost use Rattle.famfs.specs.Words.{command_of};
 
 use crate::command::Command;
 use crate::fresh::version4;
-use crate::said::{Said, said_lines, said_status};
+use crate::said::{CommandResult, said_lines, said_status};
 use crate::status::Status;
 use crate::texts::{FAILURE_BYTES, MEMORY, USAGE, failure_room};
 use crate::words::command;
@@ -35,8 +35,8 @@ struct Shown {
     text: Vec<u8>,
 }
 
-/// What is said, with its text. That memory failed is shown in the room that was made for it, without more memory.
-fn show(alloc: Global, room: Vec<u8>, said: &Said) -> Result<Shown, OutOfMemory>
+/// What is said, with its text. That the media failed is shown in the room that was made for it, without more memory.
+fn show(alloc: Global, room: Vec<u8>, said: &CommandResult) -> Result<Shown, OutOfMemory>
     requires empty { room.items ≡ [] }
     requires room { FAILURE_BYTES ≤ vec_capacity room }
 
@@ -51,35 +51,40 @@ fn show(alloc: Global, room: Vec<u8>, said: &Said) -> Result<Shown, OutOfMemory>
 }
 
 /// What a command on the log says of this media.
-fn answered<M: Media>(alloc: Global, cmd: Cmd, me: Uuid, media: &mut M) -> Result<Said, OutOfMemory>
+fn answered<M: Media>(
+    alloc: Global,
+    cmd: Cmd,
+    me: Uuid,
+    media: &mut M,
+) -> Result<CommandResult, OutOfMemory>
     requires served { IsServed cmd }
 
     ensures says { IfOk result (TaskSays (passed M.image M.size M.faults media.old media.new) me cmd) }
-    ensures early { IfOk result (λ said. due.small_said (M.size media.old) ≡ due.early_of said) }
-    ensures want { OnErr result (Leaves (passed M.image M.size M.faults media.old media.new) (λ image left. IsTaskStopped image me cmd left)) }
+    ensures early { IfOk result (λ said. expected.small_said (M.size media.old) ≡ expected.early_of said) }
+    ensures out_of_memory { OnErr result (LeavesImage (passed M.image M.size M.faults media.old media.new) (λ image left. IsTaskStopped image me cmd left)) }
     ensures steady { IsSteady M.size M.faults media.old media.new }
 {
     let lines = media.lines();
     if lines < LEAST_LINES {
-        return Ok(Said::Small(lines));
+        return Ok(CommandResult::Small(lines));
     }
-    Ok(Said::Answered(run(alloc, cmd, me, media)?))
+    Ok(CommandResult::Answered(run(alloc, cmd, me, media)?))
 }
 
 /// What an end of `mkfs` says.
-fn end_said(end: MkfsEnd) -> Said
-    ensures { result ≡ due.said_of_end end }
+fn end_said(end: MkfsEnd) -> CommandResult
+    ensures { result ≡ expected.said_of_end end }
 {
     match end {
-        MkfsEnd::Made(params) => Said::Made(params),
-        MkfsEnd::BadGeometry { unit, log } => Said::BadGeometry { unit, log },
-        MkfsEnd::TooSmall { need, have } => Said::TooSmall { need, have },
-        MkfsEnd::HasSuper(fs) => Said::HasSuper(fs),
-        MkfsEnd::Failed(line) => Said::Failed(line),
+        MkfsEnd::Made(params) => CommandResult::Made(params),
+        MkfsEnd::BadGeometry { unit, log } => CommandResult::BadGeometry { unit, log },
+        MkfsEnd::TooSmall { need, have } => CommandResult::TooSmall { need, have },
+        MkfsEnd::HasSuper(fs) => CommandResult::HasSuper(fs),
+        MkfsEnd::Failed(line) => CommandResult::Failed(line),
     }
 }
 
-/// Runs a command on the log, and shows what it says. Room for the line that says where memory failed is made first.
+/// Runs a command on the log, and shows what it says. Room for the line that says where the media failed is made first.
 fn task_shown<M: Media>(
     alloc: Global,
     cmd: Cmd,
@@ -88,10 +93,10 @@ fn task_shown<M: Media>(
 ) -> Result<Shown, OutOfMemory>
     requires served { IsServed cmd }
 
-    ensures shows { IfOk result (λ shown. ShowsSaid (due.small_said (M.size media.old))
+    ensures shows { IfOk result (λ shown. ShowsSaid (expected.small_said (M.size media.old))
         (TaskSays (passed M.image M.size M.faults media.old media.new) me cmd)
         shown.status shown.text.items) }
-    ensures want { OnErr result (Leaves (passed M.image M.size M.faults media.old media.new) (λ image left. IsTaskStopped image me cmd left)) }
+    ensures out_of_memory { OnErr result (LeavesImage (passed M.image M.size M.faults media.old media.new) (λ image left. IsTaskStopped image me cmd left)) }
     ensures steady { IsSteady M.size M.faults media.old media.new }
 {
     let room = failure_room(alloc)?;
@@ -107,10 +112,10 @@ fn make<M: Media>(
     fs: Uuid,
     me: Uuid,
     media: &mut M,
-) -> Result<Said, OutOfMemory>
+) -> Result<CommandResult, OutOfMemory>
     ensures says { IfOk result (MkfsSays (passed M.image M.size M.faults media.old media.new) me unit log fs) }
-    ensures early { IfOk result (λ said. due.refused_said unit log (M.size media.old) ≡ due.early_of said) }
-    ensures want { OnErr result (M.image media.new ≡ M.image media.old) }
+    ensures early { IfOk result (λ said. expected.refused_said unit log (M.size media.old) ≡ expected.early_of said) }
+    ensures out_of_memory { OnErr result (M.image media.new ≡ M.image media.old) }
     ensures steady { IsSteady M.size M.faults media.old media.new }
 {
     let mut cache = HostCache::new(alloc);
@@ -118,7 +123,7 @@ fn make<M: Media>(
     Ok(end_said(end))
 }
 
-/// Makes a file system, and shows how that ended. The texts that say that it is made, or where memory failed, find
+/// Makes a file system, and shows how that ended. The texts that say that it is made, or where the media failed, find
 /// their memory before anything is written.
 fn make_shown<M: Media>(
     alloc: Global,
@@ -128,24 +133,24 @@ fn make_shown<M: Media>(
     me: Uuid,
     media: &mut M,
 ) -> Result<Shown, OutOfMemory>
-    ensures shows { IfOk result (λ shown. ShowsSaid (due.refused_said unit log (M.size media.old))
+    ensures shows { IfOk result (λ shown. ShowsSaid (expected.refused_said unit log (M.size media.old))
         (MkfsSays (passed M.image M.size M.faults media.old media.new) me unit log fs)
         shown.status shown.text.items) }
-    ensures want { OnErr result (Leaves (passed M.image M.size M.faults media.old media.new) (λ image left. left ≡ image)) }
+    ensures out_of_memory { OnErr result (LeavesImage (passed M.image M.size M.faults media.old media.new) (λ image left. left ≡ image)) }
     ensures steady { IsSteady M.size M.faults media.old media.new }
 {
-    let made = Said::Made(asked(unit, log, fs, me, media.lines()));
+    let made = CommandResult::Made(asked(unit, log, fs, me, media.lines()));
     let done = show(alloc, failure_room(alloc)?, &made)?;
     let room = failure_room(alloc)?;
     match make(alloc, unit, log, fs, me, media)? {
-        Said::Made(_) => Ok(done),
+        CommandResult::Made(_) => Ok(done),
         said => show(alloc, room, &said),
     }
 }
 
 /// The UUID that is asked for, or one of the random bytes.
 fn fs_or(random: [u8; 16], fs: Option<Uuid>) -> Uuid
-    ensures { result ≡ due.fs_or random fs }
+    ensures { result ≡ expected.fs_or random fs }
 {
     match fs {
         Some(fs) => fs,
@@ -165,7 +170,7 @@ fn command_shown<M: Media>(
 
     ensures shows { IfOk result (λ shown. CommandShows (passed M.image M.size M.faults media.old media.new)
         (record { command = command; me = me; random = random }) shown.status shown.text.items) }
-    ensures want { OnErr result (ShowsWant (passed M.image M.size M.faults media.old media.new)
+    ensures out_of_memory { OnErr result (ShowsOutOfMemory (passed M.image M.size M.faults media.old media.new)
         (record { command = command; me = me; random = random }) memory_line) }
     ensures steady { IsSteady M.size M.faults media.old media.new }
 {
@@ -201,7 +206,7 @@ pub fn famfs<M: Media, S: Shelf, K: Sink>(
     shelf: &mut S,
     out: &mut K,
 ) -> Status
-    ensures ends { Ends (record {
+    ensures ends { CallEnds (record {
       command = command_of (map string_bytes words.now.items);
       me = me;
       random = random;

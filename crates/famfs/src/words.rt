@@ -2,7 +2,7 @@
 
 ghost use Rattle.std.specs.Prelude.{◌≡◌, map, string_bytes, IfOk, IfSome, MatchOption, Some, None, option_map};
 ghost use Rattle.famfs.specs.Commands.{IsServedCommand};
-ghost use Rattle.famfs.specs.Words.{command_of, image_word};
+ghost use Rattle.famfs.specs.Words.{command_of, image_argument};
 
 use crate::command::{Command, has_dash, named_command};
 use fam_base::{NameText, OutOfMemory};
@@ -25,10 +25,10 @@ pub(crate) fn command(words: &Vec<String>) -> Option<Command>
     }
 }
 
-#[tactic(auto, unfolding(crate::specs::Words::image_word))]
+#[tactic(auto, unfolding(crate::specs::Words::image_argument))]
 /// The image that a command names, and `None` exactly where the words are no command.
 fn image<'a>(words: &'a Vec<String>) -> Option<&'a str>
-    ensures { option_map (λ s. s.now) result ≡ image_word (map string_bytes words.now.items) }
+    ensures { option_map (λ s. s.now) result ≡ image_argument (map string_bytes words.now.items) }
 {
     if words.len() < 2 {
         return None;
@@ -41,7 +41,7 @@ fn image<'a>(words: &'a Vec<String>) -> Option<&'a str>
 
 /// The image that a command names, and `None` exactly where the words are no command.
 pub fn image_of(alloc: Global, words: &Vec<String>) -> Result<Option<NameText>, OutOfMemory>
-    ensures { IfOk result (λ name. name ≡ image_word (map string_bytes words.now.items)) }
+    ensures { IfOk result (λ name. name ≡ image_argument (map string_bytes words.now.items)) }
 {
     match image(words) {
         None => Ok(None),

@@ -3,7 +3,7 @@
 ghost use Rattle.std.specs.Prelude.{◌≡◌, [], None, IfOk, OnErr};
 ghost use Rattle.fam_base.specs.declared.cmd.Cmd.TheVariants.{Logplay};
 ghost use Rattle.fam_format.specs.Tree.{replay, tree_fault};
-ghost use Rattle.fam_commands.specs.declared.place.Place.TheVariants as at;
+ghost use Rattle.fam_commands.specs.declared.phase.Phase.TheVariants as at;
 ghost use Rattle.fam_commands.specs.Turns as turns;
 ghost use Rattle.fam_commands.specs.Turns.{turn_of};
 ghost use Rattle.fam_tasks.specs.Tells.{Tells, TellsUnless, meets_file};
@@ -14,14 +14,14 @@ use crate::buffer::Buffer;
 use crate::history::History;
 use crate::parts::read_slot;
 use fam_base::{Cmd, Entry, Kind, OutOfMemory};
-use fam_commands::Place;
+use fam_commands::Phase;
 use fam_entry::spell;
 use std::mem::replace;
 
 impl Task {
     /// Looks at the words of a slot.
     pub(super) fn check_slot(&mut self, slot: u64) -> Result<Turn, OutOfMemory>
-        requires { self.old.place ≡ at.Check slot }
+        requires { self.old.phase ≡ at.Check slot }
         ensures turn { IfOk result (λ turn.
             TellsUnless (meets_file self.old) (turn_of self.old None) turn self.new) }
         ensures err { OnErr result (self.new ≡ self.old) }
@@ -30,18 +30,18 @@ impl Task {
             Ok(entry) => entry,
             Err(reason) => {
                 let answer = Answer::BadEntry { seq: slot, reason };
-                return Ok(done(&mut self.place, answer));
+                return Ok(done(&mut self.phase, answer));
             }
         };
         match entry.kind {
-            Kind::File => Ok(done(&mut self.place, Answer::NotYet)),
+            Kind::File => Ok(done(&mut self.phase, Answer::NotYet)),
             Kind::Directory => self.join(slot, &entry),
         }
     }
 
     /// The directory of a slot joins those before it, or not.
     fn join(&mut self, slot: u64, entry: &Entry) -> Result<Turn, OutOfMemory>
-        requires place { self.old.place ≡ at.Check slot }
+        requires phase { self.old.phase ≡ at.Check slot }
         requires bare { entry.now.extents ≡ [] }
         ensures turn { IfOk result (λ turn. Tells (turns.join_turn self.old slot entry.now
             (tree_fault (replay self.old.entries) entry.now)) turn self.new) }
@@ -50,11 +50,11 @@ impl Task {
         match self.history.join(entry)? {
             Some(reason) => {
                 let answer = Answer::BadEntry { seq: slot, reason };
-                Ok(done(&mut self.place, answer))
+                Ok(done(&mut self.phase, answer))
             }
             None => {
                 self.buffer.clear();
-                self.place = slot_or_decide(slot + 1, self.gate);
+                self.phase = slot_or_decide(slot + 1, self.gate);
                 Ok(Turn::Go)
             }
         }
@@ -62,18 +62,18 @@ impl Task {
 
     /// Decides, with all slots read.
     pub(super) fn decide(&mut self) -> Turn
-        requires { self.old.place ≡ at.Decide }
+        requires { self.old.phase ≡ at.Decide }
         ensures { Tells (turn_of self.old None) result self.new }
     {
         match &self.cmd {
             Cmd::Logplay => self.play(),
             Cmd::Mkdir { path, attr } => {
                 match self.history.decide(&self.params, &self.me, path, *attr) {
-                    Err(refused) => done(&mut self.place, refusal_answer(refused)),
+                    Err(refused) => done(&mut self.phase, refusal_answer(refused)),
                     Ok(entry) => {
                         self.entry = Some(entry);
                         self.buffer = Buffer::of_slot(spell(&entry, self.gate));
-                        self.place = Place::StoreSlot { line: 0, word: 0 };
+                        self.phase = Phase::StoreSlot { line: 0, word: 0 };
                         Turn::Note(TaskNote::Writes(self.gate, entry))
                     }
                 }
@@ -84,7 +84,7 @@ impl Task {
 
     /// Answers with the tree of all entries.
     fn play(&mut self) -> Turn
-        requires place { self.old.place ≡ at.Decide }
+        requires phase { self.old.phase ≡ at.Decide }
         ensures { Tells (turns.decide_turn Logplay self.old) result self.new }
     {
         let m = self.history.len();
@@ -93,6 +93,6 @@ impl Task {
             m,
             tree: history.into_tree(),
         };
-        done(&mut self.place, answer)
+        done(&mut self.phase, answer)
     }
 }

@@ -3,8 +3,8 @@
 ghost use Rattle.std.specs.Prelude.{◌≡◌, ◌<◌, true};
 ghost use Rattle.fam_format.specs.Log.{gate_fault};
 ghost use Rattle.fam_format.specs.Super.{magic_fault};
-ghost use Rattle.fam_commands.specs.declared.place.Part.TheVariants as part;
-ghost use Rattle.fam_commands.specs.declared.place.Place.TheVariants as at;
+ghost use Rattle.fam_commands.specs.declared.phase.Part.TheVariants as part;
+ghost use Rattle.fam_commands.specs.declared.phase.Phase.TheVariants as at;
 ghost use Rattle.fam_commands.specs.Turns as turns;
 ghost use Rattle.fam_tasks.specs.declared.answer.TaskNote.TheVariants.{Mark};
 ghost use Rattle.fam_tasks.specs.declared.answer.Turn.TheVariants.{Go, Note};
@@ -14,21 +14,21 @@ use super::{LAST_LINE, Task, done, slot_or_decide};
 use crate::answer::{Answer, TaskNote, Turn, log_answer, super_answer};
 use crate::parts::{is_refused, read_body, read_header};
 use fam_base::Cmd;
-use fam_commands::{Part, Place};
+use fam_commands::{Part, Phase};
 use fam_format::{LAST_WORD, LINE_BYTES, LogField};
 use fam_super::MAGIC;
 
 impl Task {
     /// Word 0 of line 0 was loaded.
     pub(super) fn load_magic(&mut self, word: u64) -> Turn
-        requires { self.old.place ≡ at.Magic }
+        requires { self.old.phase ≡ at.Magic }
         ensures { Tells (turns.magic_turn self.old (magic_fault word)) result self.new }
     {
         if word != MAGIC {
-            return done(&mut self.place, Answer::NoSuper(word));
+            return done(&mut self.phase, Answer::NoSuper(word));
         }
         self.buffer.clear();
-        self.place = Place::Drop {
+        self.phase = Phase::Drop {
             part: Part::Superblock,
             line: 0,
         };
@@ -37,7 +37,7 @@ impl Task {
 
     /// Word `k` of a line of a part was loaded.
     pub(super) fn load_word(&mut self, part: Part, line: u64, k: u8, word: u64) -> Turn
-        requires { self.old.place ≡ at.Word part line k }
+        requires { self.old.phase ≡ at.Word part line k }
         ensures { Tells (turns.word_turn (turns.with_word self.old word) part line k)
             result self.new }
     {
@@ -60,12 +60,12 @@ impl Task {
     /// A word was loaded that isn't the last of its line.
     #[inline(always)]
     pub(super) fn load_within(&mut self, part: Part, line: u64, k: u8, word: u64)
-        requires place { self.old.place ≡ at.Word part line k }
+        requires phase { self.old.phase ≡ at.Word part line k }
         requires within { k < LAST_WORD }
         ensures { Tells (turns.word_turn (turns.with_word self.old word) part line k) Go self.new }
     {
         self.buffer.push(word);
-        self.place = Place::Word {
+        self.phase = Phase::Word {
             part,
             line,
             word: k + 1,
@@ -75,8 +75,8 @@ impl Task {
     /// A word was loaded that leads on among the lines that are read.
     #[inline(always)]
     pub(super) fn load_on(&mut self, part: Part, line: u64, k: u8, word: u64)
-        requires place { self.old.place ≡ at.Word part line k }
-        requires reading { is_reading self.old.place ≡ true }
+        requires phase { self.old.phase ≡ at.Word part line k }
+        requires reading { is_reading self.old.phase ≡ true }
         ensures { Tells (turns.word_turn (turns.with_word self.old word) part line k) Go self.new }
     {
         self.is_sound();
@@ -91,31 +91,31 @@ impl Task {
 
     /// The last word of line 1 or 2 was loaded.
     fn load_superblock(&mut self, line: u64, word: u64) -> Turn
-        requires { self.old.place ≡ at.Word part.Superblock line LAST_WORD }
+        requires { self.old.phase ≡ at.Word part.Superblock line LAST_WORD }
         ensures { Tells (turns.line_turn (turns.with_word self.old word) part.Superblock line)
             result self.new }
     {
         self.buffer.push(word);
         if line == 0 {
-            self.place = Place::Drop {
+            self.phase = Phase::Drop {
                 part: Part::Superblock,
                 line: 1,
             };
             return Turn::Go;
         }
         match read_body(&self.buffer, LINE_BYTES * self.lines) {
-            Err(fault) => done(&mut self.place, super_answer(fault)),
+            Err(fault) => done(&mut self.phase, super_answer(fault)),
             Ok(params) => {
                 if is_refused(&self.cmd, &params, &self.me) {
                     let answer = Answer::NotMaster {
                         me: self.me,
                         master: params.master,
                     };
-                    return done(&mut self.place, answer);
+                    return done(&mut self.phase, answer);
                 }
                 self.params = params;
                 self.buffer.clear();
-                self.place = Place::Drop {
+                self.phase = Phase::Drop {
                     part: Part::Header,
                     line: 0,
                 };
@@ -126,16 +126,16 @@ impl Task {
 
     /// The last word of the header was loaded.
     fn load_header(&mut self, word: u64) -> Turn
-        requires { self.old.place ≡ at.Word part.Header 0 LAST_WORD }
+        requires { self.old.phase ≡ at.Word part.Header 0 LAST_WORD }
         ensures { Tells (turns.line_turn (turns.with_word self.old word) part.Header 0)
             result self.new }
     {
         self.buffer.push(word);
         match read_header(&self.buffer, &self.params) {
-            Err(fault) => done(&mut self.place, log_answer(fault)),
+            Err(fault) => done(&mut self.phase, log_answer(fault)),
             Ok(()) => {
                 self.buffer.clear();
-                self.place = Place::DropGate;
+                self.phase = Phase::DropGate;
                 Turn::Go
             }
         }
@@ -144,34 +144,34 @@ impl Task {
     /// The last word of a line of a slot was loaded.
     #[inline(always)]
     pub(super) fn load_slot(&mut self, slot: u64, line: u64, word: u64)
-        requires { self.old.place ≡ at.Word (part.Slot slot) line LAST_WORD }
+        requires { self.old.phase ≡ at.Word (part.Slot slot) line LAST_WORD }
         ensures { Tells (turns.line_turn (turns.with_word self.old word) (part.Slot slot) line)
             Go self.new }
     {
         self.buffer.push(word);
-        self.place = if line < LAST_LINE {
-            Place::Drop {
+        self.phase = if line < LAST_LINE {
+            Phase::Drop {
                 part: Part::Slot(slot),
                 line: line + 1,
             }
         } else {
-            Place::Check { slot }
+            Phase::Check { slot }
         };
     }
 
     /// The gate's line was dropped.
     pub(super) fn mark(&mut self) -> Turn
-        requires { self.old.place ≡ at.DropGate }
+        requires { self.old.phase ≡ at.DropGate }
         ensures turn { result ≡ Note Mark }
-        ensures new { self.new ≡ record self.old { place = at.Gate } }
+        ensures new { self.new ≡ record self.old { phase = at.Gate } }
     {
-        self.place = Place::Gate;
+        self.phase = Phase::Gate;
         Turn::Note(TaskNote::Mark)
     }
 
     /// The gate was loaded.
     pub(super) fn load_gate(&mut self, gate: u64) -> Turn
-        requires { self.old.place ≡ at.Gate }
+        requires { self.old.phase ≡ at.Gate }
         ensures { Tells (turns.gate_turn self.old gate (gate_fault gate self.old.params))
             result self.new }
     {
@@ -182,10 +182,10 @@ impl Task {
                 found: gate,
                 wanted: slots,
             };
-            return done(&mut self.place, answer);
+            return done(&mut self.phase, answer);
         }
         self.gate = gate;
-        self.place = slot_or_decide(self.first_slot, gate);
+        self.phase = slot_or_decide(self.first_slot, gate);
         match self.cmd {
             Cmd::Mkdir { .. } => Turn::Note(TaskNote::Found(gate)),
             _ => Turn::Go,

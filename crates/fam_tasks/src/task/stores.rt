@@ -1,7 +1,7 @@
 //! Turns of a task that appends: the new slot's words are stored, and its lines are sent.
 
 ghost use Rattle.std.specs.Prelude.{◌≡◌, None};
-ghost use Rattle.fam_commands.specs.declared.place.Place.TheVariants as at;
+ghost use Rattle.fam_commands.specs.declared.phase.Phase.TheVariants as at;
 ghost use Rattle.fam_commands.specs.Task.{op_of};
 ghost use Rattle.fam_commands.specs.Turns.{turn_of};
 ghost use Rattle.fam_machine.specs.Operations.{IsWithin};
@@ -10,14 +10,14 @@ ghost use Rattle.fam_tasks.specs.Tells.{Tells};
 use super::{LAST_LINE, Task};
 use crate::answer::Turn;
 use crate::parts::line_of_slot;
-use fam_commands::Place;
+use fam_commands::Phase;
 use fam_format::{LAST_WORD, LINE_WORDS};
 use fam_machine::Op;
 
 impl Task {
     /// The store of a word of the new slot.
     pub(super) fn slot_store(&self, line: u64, word: u8) -> Op
-        requires { self.now.place ≡ at.StoreSlot line word }
+        requires { self.now.phase ≡ at.StoreSlot line word }
         ensures op { result ≡ op_of self.now }
         ensures within { IsWithin self.now.lines result }
     {
@@ -27,29 +27,29 @@ impl Task {
 
     /// A word of the new slot was stored.
     pub(super) fn store_slot(&mut self, line: u64, k: u8) -> Turn
-        requires { self.old.place ≡ at.StoreSlot line k }
+        requires { self.old.phase ≡ at.StoreSlot line k }
         ensures { Tells (turn_of self.old None) result self.new }
     {
-        self.place = if k < LAST_WORD {
-            Place::StoreSlot { line, word: k + 1 }
+        self.phase = if k < LAST_WORD {
+            Phase::StoreSlot { line, word: k + 1 }
         } else {
-            Place::SendSlot { line }
+            Phase::SendSlot { line }
         };
         Turn::Go
     }
 
     /// A line of the new slot was sent.
     pub(super) fn send_slot(&mut self, line: u64) -> Turn
-        requires { self.old.place ≡ at.SendSlot line }
+        requires { self.old.phase ≡ at.SendSlot line }
         ensures { Tells (turn_of self.old None) result self.new }
     {
-        self.place = if line < LAST_LINE {
-            Place::StoreSlot {
+        self.phase = if line < LAST_LINE {
+            Phase::StoreSlot {
                 line: line + 1,
                 word: 0,
             }
         } else {
-            Place::StoreGate
+            Phase::StoreGate
         };
         Turn::Go
     }

@@ -50,7 +50,7 @@ pub fn params() -> Params {
 /// What a task may load.
 #[derive(Drop)]
 pub struct Image {
-    pub front: [Line; 3],
+    pub prefix: [Line; 3],
     pub header: Line,
     pub gate: u64,
     pub slots: Vec<[u64; SLOT_WORDS]>,
@@ -70,7 +70,7 @@ impl Image {
             seq = seq.wrapping_add(1);
         }
         Ok(Image {
-            front: Super::spell(&params()),
+            prefix: Super::spell(&params()),
             header: spell_log(&params()),
             gate: seq,
             slots,
@@ -86,7 +86,7 @@ impl Image {
             return if word == 0 { self.gate } else { 7 };
         }
         if line < SLOTS_LINE {
-            return match self.front.get(line as usize) {
+            return match self.prefix.get(line as usize) {
                 Some(words) => word_of(words, word as u64),
                 None => 0,
             };

@@ -70,8 +70,8 @@ fn each_option_of_mkfs_may_stand_in_its_place(rt: HostRuntime) -> Result<(), Fai
     assert!(rt; names(alloc, no_unit.as_str(), named(2_097_152, 65_536))?);
     let no_log = format!(in alloc; "mkfs img -u 4K --uuid {uuid}")?;
     assert!(rt; names(alloc, no_log.as_str(), named(4096, 8_388_608))?);
-    let alone = format!(in alloc; "mkfs img --uuid {uuid}")?;
-    assert!(rt; names(alloc, alone.as_str(), named(2_097_152, 8_388_608))?);
+    let solo = format!(in alloc; "mkfs img --uuid {uuid}")?;
+    assert!(rt; names(alloc, solo.as_str(), named(2_097_152, 8_388_608))?);
     for (text, unit, log) in [
         ("mkfs img", 2_097_152, 8_388_608),
         ("mkfs img -u 4K", 4096, 8_388_608),

@@ -106,7 +106,7 @@ fn a_fault_of_the_media_names_its_line(rt: HostRuntime) -> Result<(), Fail> {
 }
 
 #[test]
-fn a_fault_of_the_sink_leaves_a_front_of_the_text(rt: HostRuntime) -> Result<(), Fail> {
+fn a_fault_of_the_sink_leaves_a_prefix_of_the_text(rt: HostRuntime) -> Result<(), Fail> {
     let alloc = rt.alloc();
     let mut media = formatted(alloc, 65_536, 0)?;
     let mut out = MemSink::new(alloc, 64)?;

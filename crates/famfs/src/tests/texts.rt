@@ -1,7 +1,7 @@
 //! What a command on its own shows: each text, and its status.
 
 use super::images::{FS, MASTER, OTHER, directory, params};
-use crate::said::{Said, said_lines, said_status};
+use crate::said::{CommandResult, said_lines, said_status};
 use crate::status::Status;
 use crate::texts::failure_room;
 use fam_base::{Kind, LineNo};
@@ -13,18 +13,18 @@ use std::test::Fail;
 use uuid::Uuid;
 
 /// Whether this is shown with this status and text.
-fn says(alloc: Global, said: &Said, status: Status, want: &str) -> Result<bool, Fail> {
+fn says(alloc: Global, said: &CommandResult, status: Status, want: &str) -> Result<bool, Fail> {
     let text = said_lines(alloc, failure_room(alloc)?, said)?;
     Ok(said_status(said) == status && text.as_slice() == want.as_bytes())
 }
 
 /// The same of an answer.
 fn answers(alloc: Global, answer: Answer, status: Status, want: &str) -> Result<bool, Fail> {
-    says(alloc, &Said::Answered(answer), status, want)
+    says(alloc, &CommandResult::Answered(answer), status, want)
 }
 
 #[test]
-fn an_answer_that_is_done_is_told(rt: HostRuntime) -> Result<(), Fail> {
+fn an_answer_that_is_done_is_modelled(rt: HostRuntime) -> Result<(), Fail> {
     let alloc = rt.alloc();
     let done = Status::Done;
     assert!(rt; answers(alloc, Answer::Ok(0), done, "ok 0\n")?);
@@ -42,7 +42,7 @@ fn an_answer_that_is_done_is_told(rt: HostRuntime) -> Result<(), Fail> {
 }
 
 #[test]
-fn an_answer_on_damage_is_told(rt: HostRuntime) -> Result<(), Fail> {
+fn an_answer_on_damage_is_modelled(rt: HostRuntime) -> Result<(), Fail> {
     let alloc = rt.alloc();
     let damaged = Status::Damaged;
     assert!(rt; answers(alloc, Answer::NoSuper(7), damaged, "no superblock 7\n")?);
@@ -74,7 +74,7 @@ fn an_answer_on_damage_is_told(rt: HostRuntime) -> Result<(), Fail> {
 }
 
 #[test]
-fn an_answer_that_refuses_is_told(rt: HostRuntime) -> Result<(), Fail> {
+fn an_answer_that_refuses_is_modelled(rt: HostRuntime) -> Result<(), Fail> {
     let alloc = rt.alloc();
     let refused = Status::Refused;
     let other = Answer::NotMaster {
@@ -95,7 +95,7 @@ fn an_answer_that_refuses_is_told(rt: HostRuntime) -> Result<(), Fail> {
 }
 
 #[test]
-fn an_answer_without_an_outcome_is_told(rt: HostRuntime) -> Result<(), Fail> {
+fn an_answer_without_an_outcome_is_modelled(rt: HostRuntime) -> Result<(), Fail> {
     let alloc = rt.alloc();
     let fault = Answer::MediaFault(LineNo(32_769));
     assert!(rt; answers(alloc, fault, Status::MediaFault, "media fault 32769\n")?);
@@ -104,15 +104,15 @@ fn an_answer_without_an_outcome_is_told(rt: HostRuntime) -> Result<(), Fail> {
 }
 
 #[test]
-fn what_mkfs_does_is_told(rt: HostRuntime) -> Result<(), Fail> {
+fn what_mkfs_does_is_modelled(rt: HostRuntime) -> Result<(), Fail> {
     let alloc = rt.alloc();
     let refused = Status::Refused;
     let want = "made 11111111-1111-4111-8111-111111111111 unit 4096 log 65536 device 4194304\n";
-    assert!(rt; says(alloc, &Said::Made(params()), Status::Done, want)?);
-    let has_super = Said::HasSuper(Uuid::from_bytes(FS));
+    assert!(rt; says(alloc, &CommandResult::Made(params()), Status::Done, want)?);
+    let has_super = CommandResult::HasSuper(Uuid::from_bytes(FS));
     let want = "refused has superblock 11111111-1111-4111-8111-111111111111\n";
     assert!(rt; says(alloc, &has_super, refused, want)?);
-    let geometry = Said::BadGeometry {
+    let geometry = CommandResult::BadGeometry {
         unit: 4096,
         log: 4097,
     };
@@ -124,7 +124,7 @@ fn what_mkfs_does_is_told(rt: HostRuntime) -> Result<(), Fail> {
             "refused bad geometry 4096 4097\n"
         )?
     );
-    let small = Said::TooSmall {
+    let small = CommandResult::TooSmall {
         need: 2_166_784,
         have: 2_097_280,
     };
@@ -136,10 +136,10 @@ fn what_mkfs_does_is_told(rt: HostRuntime) -> Result<(), Fail> {
             "refused too small 2166784 2097280\n"
         )?
     );
-    let small = Said::Small(32_769);
+    let small = CommandResult::Small(32_769);
     let want = "refused image too small 32769\n";
     assert!(rt; says(alloc, &small, Status::Damaged, want)?);
-    let fault = Said::Failed(LineNo(2));
+    let fault = CommandResult::Failed(LineNo(2));
     assert!(rt; says(alloc, &fault, Status::MediaFault, "refused media fault 2\n")?);
     Ok(())
 }

@@ -1,7 +1,7 @@
 use Rattle.std.proofs.Common.{arith, length, ◌<◌}
 use Rattle.std.proofs.lemmas.List.{get_or_read}
 use Rattle.fam_alloc.proofs.NextLemmas.{mark_more}
-use Rattle.fam_alloc.specs.Next.{is_used}
+use Rattle.fam_alloc.specs.Next.{is_bit_set}
 use Rattle.fam_alloc.proofs.bits.mark.Goals as goal
 
 pub loop-word-preserved : goal.loop-word-preserved
@@ -11,6 +11,6 @@ loop-word-preserved c =
     record {
       len = c.loop-word.invariant.len;
       marked =
-          mark_more words.items (is_used c.args.words.now.items) c.args.from c.args.to c.loop-word.word c.index_mut.result.now c.span.result below
+          mark_more words.items (is_bit_set c.args.words.now.items) c.args.from c.args.to c.loop-word.word c.index_mut.result.now c.span.result below
           (get_or_read words.items c.loop-word.word c.index_mut.result.now below c.index_mut.ensures.value 0) c.span.ensures c.loop-word.invariant.marked;
     }

@@ -1,5 +1,5 @@
 use Rattle.std.proofs.Common.{◌∙◌, arith}
-use Rattle.fam_alloc.specs.Next.{is_used}
+use Rattle.fam_alloc.specs.Next.{is_bit_set}
 use Rattle.fam_alloc.proofs.OverlapLemmas.{marked_more, count_more}
 use Rattle.fam_alloc.proofs.overlap.mark_all.Goals as goal
 
@@ -13,6 +13,6 @@ loop-i-preserved c =
       count = count_more c.args.unit extents c.loop-i.i run.start run.end c.loop-i.count (omega arith) c.run_at-run.ensures.end c.loop-i.invariant.count;
       marked = λ u.
           c.mark.ensures.marked u
-          ∙ marked_more (is_used c.args.words.now.items) (is_used c.loop-i.words.items u) c.args.unit extents c.loop-i.i run.start run.end u (omega arith)
+          ∙ marked_more (is_bit_set c.args.words.now.items) (is_bit_set c.loop-i.words.items u) c.args.unit extents c.loop-i.i run.start run.end u (omega arith)
           c.run_at-run.ensures.start c.run_at-run.ensures.end (c.loop-i.invariant.marked u);
     }

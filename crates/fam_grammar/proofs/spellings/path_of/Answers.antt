@@ -31,12 +31,12 @@ loop-rest-preserved c =
 
 pub returns-in-Ok : goal.returns-in-Ok
 returns-in-Ok c =
-    let front : List ℕ = take c.loop-rest.count c.loop-rest.field in
-    let whole = read_all c.args.word.now front c.loop-rest.rest.now c.loop-rest.invariant.0 (search rules) in
-    ap (λ (l : List ℕ). Some l) c.in-Ok.ensures.same ∙ is_the_path c.args.word.now front whole (c.in-Ok.ensures.ok.0 refl)
+    let prefix : List ℕ = take c.loop-rest.count c.loop-rest.field in
+    let whole = read_all c.args.word.now prefix c.loop-rest.rest.now c.loop-rest.invariant.0 (search rules) in
+    ap (λ (l : List ℕ). Some l) c.in-Ok.ensures.same ∙ is_the_path c.args.word.now prefix whole (c.in-Ok.ensures.ok.0 refl)
 
 pub returns-in-Err : goal.returns-in-Err
 returns-in-Err c =
-    let front : List ℕ = take c.loop-rest.count c.loop-rest.field in
-    let whole = read_all c.args.word.now front c.loop-rest.rest.now c.loop-rest.invariant.0 (search rules) in
-    is_no_path c.args.word.now front whole (false_of (is_path front) (λ is. true≢false (sym (c.in-Err.ensures.ok.1 is))))
+    let prefix : List ℕ = take c.loop-rest.count c.loop-rest.field in
+    let whole = read_all c.args.word.now prefix c.loop-rest.rest.now c.loop-rest.invariant.0 (search rules) in
+    is_no_path c.args.word.now prefix whole (false_of (is_path prefix) (λ is. true≢false (sym (c.in-Err.ensures.ok.1 is))))

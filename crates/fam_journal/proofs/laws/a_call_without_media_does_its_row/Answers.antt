@@ -1,4 +1,4 @@
-use Rattle.fam_journal.proofs.WorldRows.{row_done}
+use Rattle.fam_journal.proofs.Calls.WorldRows.{row_done}
 use Rattle.fam_journal.proofs.laws.a_call_without_media_does_its_row.Goals as goal
 
 pub returns : goal.returns

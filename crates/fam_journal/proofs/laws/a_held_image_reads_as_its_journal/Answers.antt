@@ -1,4 +1,4 @@
-use Rattle.fam_journal.proofs.BadStates.{bad_image}
+use Rattle.fam_journal.proofs.Settled.BadStates.{bad_image}
 use Rattle.fam_journal.proofs.JournalLaws.{held_reads_as}
 use Rattle.fam_journal.proofs.laws.a_held_image_reads_as_its_journal.Goals as goal
 

@@ -1,4 +1,4 @@
-use Rattle.fam_journal.proofs.FormLaws.{cut_form, part_form, row_form, state_formed}
+use Rattle.fam_journal.proofs.Forms.FormLaws.{cut_form, part_form, row_form, state_formed}
 use Rattle.fam_journal.proofs.laws.a_row_has_its_form.Goals as goal
 
 pub returns : goal.returns

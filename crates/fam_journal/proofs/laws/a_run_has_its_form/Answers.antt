@@ -1,4 +1,4 @@
-use Rattle.fam_journal.proofs.FormLaws.{end_form, run_form}
+use Rattle.fam_journal.proofs.Forms.FormLaws.{end_form, run_form}
 use Rattle.fam_journal.proofs.laws.a_run_has_its_form.Goals as goal
 
 pub returns : goal.returns

@@ -1,4 +1,4 @@
-use Rattle.fam_journal.proofs.Causes.{media_cause, sink_cause, source_cause}
+use Rattle.fam_journal.proofs.Runs.Causes.{media_cause, sink_cause, source_cause}
 use Rattle.fam_journal.proofs.laws.a_status_has_its_cause.Goals as goal
 
 pub returns : goal.returns

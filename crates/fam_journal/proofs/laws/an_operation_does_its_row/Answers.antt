@@ -1,4 +1,4 @@
-use Rattle.fam_journal.proofs.OwnSteps.{own_step}
+use Rattle.fam_journal.proofs.Calls.OwnSteps.{own_step}
 use Rattle.fam_journal.proofs.laws.an_operation_does_its_row.Goals as goal
 
 pub returns : goal.returns

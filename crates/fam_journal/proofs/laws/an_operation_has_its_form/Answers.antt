@@ -1,4 +1,4 @@
-use Rattle.fam_journal.proofs.FormViews.{step_formed, world_formed}
+use Rattle.fam_journal.proofs.Forms.Views.{step_formed, world_formed}
 use Rattle.fam_journal.proofs.laws.an_operation_has_its_form.Goals as goal
 
 pub returns : goal.returns

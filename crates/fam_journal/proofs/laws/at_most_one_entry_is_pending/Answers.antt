@@ -1,4 +1,4 @@
-use Rattle.fam_journal.proofs.Fronts.{grows, writes_free}
+use Rattle.fam_journal.proofs.Settled.Prefixes.{grows, writes_free}
 use Rattle.fam_journal.proofs.laws.at_most_one_entry_is_pending.Goals as goal
 
 pub returns : goal.returns

@@ -1,5 +1,5 @@
-use Rattle.fam_journal.proofs.Completing.{all_ruled, run_ends}
-use Rattle.fam_journal.proofs.Ending.{can_end}
+use Rattle.fam_journal.proofs.Runs.Completing.{all_ruled, run_ends}
+use Rattle.fam_journal.proofs.Runs.Ending.{can_end}
 use Rattle.fam_journal.proofs.laws.every_answer_is_of_the_rules.Goals as goal
 
 pub returns : goal.returns

@@ -20,7 +20,7 @@ pub returns-clause-other_entry : goal.returns-clause-other_entry
 returns-clause-other_entry c = λ a.
     other_name (ap path_of (sym first ∙ decides params (record (new_host (codes "m") master) { cmd = Some (mkdir x); floor = Some 0 }) [] (Ok (folder y)) (mkdir x) refl a.1))
 
-pub returns-clause-stranger : goal.returns-clause-stranger
+pub returns-clause-client : goal.returns-clause-client
 unfolding fill
-returns-clause-stranger c = λ a.
+returns-clause-client c = λ a.
     absurd (let e : Some (Err (cause.NotMaster client master)) ≡ Some (Ok (folder x)) = sym of_client ∙ decides params (record (new_host (codes "c") client) { cmd = Some (mkdir x); floor = Some 0 }) [] (Ok (folder x)) (mkdir x) refl a.1 in cc)

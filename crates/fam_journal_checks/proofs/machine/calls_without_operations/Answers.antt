@@ -1,5 +1,5 @@
 use Rattle.std.proofs.Common.{refl, inl, inr, [], codes, None}
-use Rattle.fam_journal.specs.Calls.{MayRefuse}
+use Rattle.fam_journal.specs.Calls.{MayBeRefused}
 use Rattle.fam_journal.specs.declared.refusal.Refusal.TheVariants as why
 use Rattle.fam_journal_checks.specs.Scene.{one_host}
 use Rattle.fam_journal.specs.Calls.{refusal_of}
@@ -41,6 +41,6 @@ pub returns-clause-refuse_needs_a_cause : goal.returns-clause-refuse_needs_a_cau
 unfolding refusal_of
 returns-clause-refuse_needs_a_cause c = λ does. by_cause does.2
   where
-    by_cause : MayRefuse (codes "m") why.Idle (one_host [] None) → ⊥
+    by_cause : MayBeRefused (codes "m") why.Idle (one_host [] None) → ⊥
     by_cause (inl is) = is
     by_cause (inr is) = absurd cc

@@ -1,5 +1,5 @@
 use Rattle.fam_machine.specs.Mkfs.{read_ops}
-use Rattle.fam_mkfs.proofs.SuperLines.{lines_read, cut_magic, cut_front, cut_rest, super_loaded}
+use Rattle.fam_mkfs.proofs.SuperLines.{lines_read, cut_magic, cut_prefix, cut_rest, super_loaded}
 use Rattle.fam_mkfs.proofs.WholeLines.{cut_on}
 use Rattle.fam_mkfs.proofs.make.read_super_lines.Goals as goal
 
@@ -10,7 +10,7 @@ returns-in_err-magic-clause-cut g c =
 pub returns-in_err-first-clause-cut : goal.returns-in_err-first-clause-cut
 returns-in_err-first-clause-cut g c =
     cut_on read_ops _ _ c.in_err-first.field-0.0 c.from_residual-in_err-first.result c.from_residual-in_err-first.ensures
-    (cut_front _ _ _ _ c.in_ok-magic.ensures.done c.in_err-first.ensures.cut)
+    (cut_prefix _ _ _ _ c.in_ok-magic.ensures.done c.in_err-first.ensures.cut)
 
 pub returns-in_err-second-clause-cut : goal.returns-in_err-second-clause-cut
 returns-in_err-second-clause-cut g c =

@@ -1,4 +1,4 @@
-use Rattle.fam_protocol.proofs.BadFinds.{bad_found, bad_master, bad_noted}
+use Rattle.fam_protocol.proofs.Damaged.Finds.{bad_found, bad_master, bad_noted}
 use Rattle.fam_protocol.proofs.findings.a_damaged_gate_is_found.Goals as goal
 
 pub returns : goal.returns

@@ -1,4 +1,4 @@
-use Rattle.fam_protocol.proofs.FindingLaws.{loaded_gate, named_entry}
+use Rattle.fam_protocol.proofs.Hosts.FindingLaws.{loaded_gate, named_entry}
 use Rattle.fam_protocol.proofs.findings.a_loaded_gate_is_current.Goals as goal
 
 pub returns : goal.returns

@@ -1,4 +1,4 @@
-use Rattle.fam_protocol.proofs.FindingLaws.{found_count, named_next}
+use Rattle.fam_protocol.proofs.Hosts.FindingLaws.{found_count, named_next}
 use Rattle.fam_protocol.proofs.findings.the_master_finds_what_is_settled.Goals as goal
 
 pub returns : goal.returns

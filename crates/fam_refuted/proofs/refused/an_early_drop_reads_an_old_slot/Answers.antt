@@ -1,4 +1,4 @@
-use Rattle.fam_refuted.proofs.RefusedLaws.{early_drop}
+use Rattle.fam_refuted.proofs.RefutedLaws.{early_drop}
 use Rattle.fam_refuted.proofs.refused.an_early_drop_reads_an_old_slot.Goals as goal
 
 pub returns : goal.returns

@@ -1,4 +1,4 @@
-use Rattle.fam_refuted.proofs.RefusedLaws.{no_gate_drop}
+use Rattle.fam_refuted.proofs.RefutedLaws.{no_gate_drop}
 use Rattle.fam_refuted.proofs.refused.without_a_drop_an_old_gate_is_read.Goals as goal
 
 pub returns : goal.returns

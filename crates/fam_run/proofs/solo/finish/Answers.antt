@@ -18,13 +18,13 @@ returns-in_err-answer-clause-stopped g c =
 pub returns-in-Some-clause-ran : goal.returns-in-Some-clause-ran
 returns-in-Some-clause-ran g c = λ cmd me image from run.
     answered cmd me image from _ c.in-Some.answer (subst (HasOperated _) c.in-Some.is c.in_ok-answer.ensures.operated) c.go_on.ensures.within
-    (λ i is. g.met.M.Media.told c.operations.media i is ∙ sym c.operations.invariant.lines)
+    (λ i is. g.met.M.Media.modelled c.operations.media i is ∙ sym c.operations.invariant.lines)
     (c.operations.invariant.running cmd me image from run)
 
 pub returns-in-Some-clause-left : goal.returns-in-Some-clause-left
 returns-in-Some-clause-left g c = λ none cmd me image from run.
     left_behind cmd me image from _ c.in-Some.answer (subst (HasOperated _) c.in-Some.is c.in_ok-answer.ensures.operated) none c.go_on.ensures.within
-    (λ i is. g.met.M.Media.told c.operations.media i is ∙ sym c.operations.invariant.lines)
+    (λ i is. g.met.M.Media.modelled c.operations.media i is ∙ sym c.operations.invariant.lines)
     (c.operations.invariant.running cmd me image from run)
 
 pub operations-smaller : goal.operations-smaller
@@ -46,6 +46,6 @@ operations-preserved g c =
       steady = record { size = c.go_on.ensures.steady.size ∙ c.operations.invariant.steady.size; later = search rules };
       running = λ cmd me image from run.
           running_on cmd me image from c.operations.task c.go_on.new.task c.operations.cache.lines c.go_on.new.cache.lines (g.M.Media.image c.operations.media) (g.M.Media.image c.go_on.new.media) o.turn o.ends c.is_sound.ensures o.goes c.go_on.ensures.within
-          (λ i is. g.met.M.Media.told c.operations.media i is ∙ sym c.operations.invariant.lines)
+          (λ i is. g.met.M.Media.modelled c.operations.media i is ∙ sym c.operations.invariant.lines)
           o.turned (c.operations.invariant.running cmd me image from run);
     }

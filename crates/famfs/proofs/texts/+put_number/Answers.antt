@@ -36,7 +36,7 @@ put_byte-requires-2 t c = record {
 -- src/texts.rt:212:1
 pub returns-clause-items : goal.returns-clause-items
 returns-clause-items t c =
-    c.put_byte-2.ensures.items ∙ ap (λ (front : List ℕ). front ++ (48 + c.args.number % 10) ∷ []) c.put_number.ensures.items
+    c.put_byte-2.ensures.items ∙ ap (λ (prefix : List ℕ). prefix ++ (48 + c.args.number % 10) ∷ []) c.put_number.ensures.items
     ∙ append_assoc c.args.bytes.now.items (decimal (c.args.number / 10)) ((48 + c.args.number % 10) ∷ [])
     ∙ ap (λ (digits : List ℕ). c.args.bytes.now.items ++ digits) (sym (decimal_step c.args.number c.if-number-lt10.false c.ranges.number.fits))
 

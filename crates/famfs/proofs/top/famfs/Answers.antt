@@ -2,14 +2,14 @@ use Rattle.std.proofs.Common.{◌∙◌, refl, sym, map, string_bytes, Some, Non
 use Rattle.famfs.proofs.Endings.{put_ends, shows_by}
 use Rattle.famfs.proofs.top.famfs.Goals as goal
 use Rattle.famfs.specs.declared.status.Status.TheVariants.{OutOfMemory, Usage}
-use Rattle.famfs.specs.Ends.{Meeting, passed}
+use Rattle.famfs.specs.Ends.{Invocation, passed}
 use Rattle.fam_journal.specs.Programs.{memory_line, usage_line}
 use Rattle.famfs.specs.Words.{command_of}
 
 -- src/top.rt:300:1
 pub returns-in-Ok-clause-ends : goal.returns-in-Ok-clause-ends
 returns-in-Ok-clause-ends g c =
-    let m : Meeting = record {
+    let m : Invocation = record {
       command = command_of (map string_bytes c.args.words.now.items);
       me = c.args.me;
       random = c.args.random;
@@ -24,7 +24,7 @@ returns-in-Ok-clause-ends g c =
 -- src/top.rt:300:1
 pub returns-in-Err-clause-ends : goal.returns-in-Err-clause-ends
 returns-in-Err-clause-ends g c =
-    let m : Meeting = record {
+    let m : Invocation = record {
       command = command_of (map string_bytes c.args.words.now.items);
       me = c.args.me;
       random = c.args.random;
@@ -34,12 +34,12 @@ returns-in-Err-clause-ends g c =
       put_before = g.K.Sink.bytes c.args.out.now;
       put_now = g.K.Sink.bytes c.put-in-Err.new.out;
     } in
-    put_ends m OutOfMemory c.put-in-Err.result c.as_bytes.result.now (shows_by m (Some c.in-Some.command) OutOfMemory memory_line c.as_bytes.result.now (sym c.command.ensures.command ∙ c.in-Some.is) c.as_bytes.ensures.value c.in-Err.ensures.want) c.put-in-Err.ensures
+    put_ends m OutOfMemory c.put-in-Err.result c.as_bytes.result.now (shows_by m (Some c.in-Some.command) OutOfMemory memory_line c.as_bytes.result.now (sym c.command.ensures.command ∙ c.in-Some.is) c.as_bytes.ensures.value c.in-Err.ensures.out_of_memory) c.put-in-Err.ensures
 
 -- src/top.rt:300:1
 pub returns-in-None-clause-ends : goal.returns-in-None-clause-ends
 returns-in-None-clause-ends g c =
-    let m : Meeting = record {
+    let m : Invocation = record {
       command = command_of (map string_bytes c.args.words.now.items);
       me = c.args.me;
       random = c.args.random;

@@ -1,0 +1,3 @@
+-- How many operations a command makes.
+pub mod Ends
+pub mod Files

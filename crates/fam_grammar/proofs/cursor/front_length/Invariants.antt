@@ -1,9 +1,0 @@
-use Rattle.std.proofs.Common.{◌≡◌, ◌+◌, length}
-use Rattle.fam_grammar.specs.Cursor.{front_length}
-use Rattle.fam_grammar.proofs.cursor.front_length.Given as goal
-
-abbrev pub invariant-loop-rest : goal.invariant-loop-rest
-invariant-loop-rest l = (front_length l.initial.rest ≡ l.count + front_length l.rest) × (l.count + length l.rest ≡ length l.initial.rest)
-
-abbrev pub decreases-loop-rest : goal.decreases-loop-rest
-decreases-loop-rest l = length l.rest

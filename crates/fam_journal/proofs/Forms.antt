@@ -1,0 +1,9 @@
+-- Which notes fit each other, whatever memory holds.
+pub mod WithoutMedia
+pub mod FormLaws
+pub mod Operations
+pub mod Pairs
+pub mod Rows
+pub mod Views
+pub mod EventRows
+pub mod Tasks

@@ -1,0 +1,263 @@
+-- Operations of a task on the machine add notes of its form, and leave hosts that are what notes tell.
+use Prim.Native.Nat.{zero, suc}
+use Rattle.std.proofs.Common.{◌≡◌, ℕ, ◌+◌, ◌≤◌, inl, inr, List, [], ◌∷◌, ◌++◌, length, map, Option, Some, None, refl, ap, sym, ◌∙◌, subst, arith}
+use Rattle.std.specs.Prelude.{slice_get, unwrap_or, is_some, option_map}
+use Rattle.std.proofs.lemmas.List.{length-append}
+use Rattle.std.proofs.lemmas.Option.{same_Some}
+use Rattle.fam_base.specs.Image.{Image, line_at, with_line}
+use Rattle.fam_base.proofs.ImageLemmas.{length-with_line}
+use Rattle.fam_base.specs.declared.line.LineNo.{LineNo}
+use Rattle.fam_machine.specs.declared.cell.Cell.{Cell}
+use Rattle.fam_machine.specs.declared.cell.Cell.TheVariants.{Absent, Clean, Dirty}
+use Rattle.fam_machine.specs.declared.op.Op.{Op}
+use Rattle.fam_machine.specs.declared.op.Op.TheVariants.{Load, Store, WriteBack, Invalidate, Digest}
+use Rattle.fam_machine.specs.Caches.{cell_at}
+use Rattle.fam_machine.specs.HostMoves.{Move, move_failed}
+use Rattle.fam_machine.specs.OneLine.{failed_send}
+use Rattle.fam_machine.specs.Operations.{Failure, Machine, failed, given, not_brought, operated, operated_all, torn_at, given_by}
+use Rattle.fam_commands.specs.Stands.{StandsFor, note_of, task_after, turn_given, with_given}
+use Rattle.fam_commands.specs.Task.{Task, op_of}
+use Rattle.fam_commands.specs.Turns.{Turn, Goes, Marks, Finds, Writes, Ends}
+use Rattle.fam_machine.proofs.OneOperation.{operated_length, same_given}
+use Rattle.fam_commands.proofs.Steps.Standing.{note_from_start, operation_from_start}
+use Rattle.fam_commands.specs.Appends.{HasWish}
+use Rattle.fam_rules.specs.Reply.{Reply}
+use Rattle.fam_base.specs.declared.cmd.Cmd.{Cmd}
+use Rattle.fam_journal.specs.Calls.{DoesOperations, is_busy_host}
+use Rattle.fam_journal.specs.Forms.{AreFormed, EntryForm, HostForm, IsStateTask, IsTaskForm, Marked, Met, Named, OfRunning, OfTask, OperationsForm, Pairs, ReplyForm, CommandStage, StateFormed, StateTaskFormed, TaskForm, TaskNote, forms_after, forms_behind, runs_form, shown_form, shown_running, stage_of, with_stage}
+use Rattle.fam_journal.specs.Machines as machine
+use Rattle.fam_journal.specs.Machines.{Done, Fails, HostState, Machines, Operation, Outcome, Passes, TaskState, cut, host_done, machine_of, next_op, notes_of, op_done, operation, served, task_done, task_on, with_machine}
+use Rattle.fam_journal.specs.Members.{changed_at}
+use Rattle.fam_journal.specs.Notes as note
+use Rattle.fam_journal.specs.Notes.{Note}
+use Rattle.fam_journal.proofs.Forms.Pairs.{Looks, pairs_at, pairs_changed, pairs_moved}
+use Rattle.fam_journal.proofs.Forms.Tasks.{IsNext, TurnForm, turn_form}
+use Rattle.fam_journal.proofs.Settled.TaskTurns.{next_stands}
+
+-- An image keeps its length.
+
+brought_length : (l : LineNo) (m : Machine) (c : Cell) (x : Failure) → not_brought l m c ≡ Some x → length x.left.image ≡ length m.image
+brought_length l m Absent x is = ap (λ (z : Failure). length z.left.image) (sym (same_Some _ x is))
+brought_length l m (Clean words) x is = absurd cc
+brought_length l m (Dirty words) x is = absurd cc
+
+torn_length : (l : LineNo) (m : Machine) (o : Option (List ℕ)) (x : Failure) → option_map (torn_at l m) o ≡ Some x → length x.left.image ≡ length m.image
+torn_length l m None x is = absurd cc
+torn_length l m (Some words) x is = ap (λ (z : Failure). length z.left.image) (sym (same_Some (torn_at l m words) x is)) ∙ length-with_line m.image l.0 words
+
+pub failed_length : (through : ℕ) (op : Op) (m : Machine) (x : Failure) → failed through op m ≡ Some x → length x.left.image ≡ length m.image
+failed_length through (Load l k) m x is = brought_length l m (cell_at m.cache l.0) x is
+failed_length through (Store l k value) m x is = brought_length l m (cell_at m.cache l.0) x is
+failed_length through (WriteBack l) m x is = torn_length l m (failed_send through (line_at m.image l.0) (cell_at m.cache l.0)) x is
+failed_length through (Invalidate l) m x is = torn_length l m (failed_send through (line_at m.image l.0) (cell_at m.cache l.0)) x is
+failed_length through Digest m x is = absurd cc
+
+pub all_length : (ops : List Op) (m : Machine) → length (operated_all ops m).image ≡ length m.image
+all_length [] m = refl
+all_length (op ∷ ops) m = all_length ops (operated op m) ∙ operated_length op m
+
+sent_length : (line : ℕ) (image left : Image) (o : Option (List ℕ)) → option_map (λ words. with_line line words image) o ≡ Some left → length left ≡ length image
+sent_length line image left None is = absurd cc
+sent_length line image left (Some words) is = ap (λ (z : Image). length z) (sym (same_Some (with_line line words image) left is)) ∙ length-with_line image line words
+
+pub move_length : (move : Move) (line through : ℕ) (m : Machine) (left : Image) → move_failed move line through m ≡ Some left → length left ≡ length m.image
+move_length move line through m left is = sent_length line m.image left _ is
+
+-- Hosts that are what notes tell.
+
+pub forms_both : (hosts : List HostForm) (a b : List Note) → forms_behind hosts (a ++ b) ≡ forms_behind (forms_behind hosts a) b
+forms_both hosts [] b = refl
+forms_both hosts (n ∷ a) b = forms_both (forms_after hosts n) a b
+
+task_looks : (lines : ℕ) (me : List ℕ) (s : Option TaskState) (f : Option TaskForm) → StateTaskFormed lines me s f → is_some s ≡ is_some (shown_running f)
+task_looks lines me None None is = refl
+task_looks lines me None (Some f) is = absurd is
+task_looks lines me (Some s) None is = absurd is
+task_looks lines me (Some s) (Some f) is = refl
+
+task_runs : (lines : ℕ) (me : List ℕ) (s : Option TaskState) (f : Option TaskForm) → StateTaskFormed lines me s f → is_some s ≡ is_some f
+task_runs lines me None None is = refl
+task_runs lines me None (Some f) is = absurd is
+task_runs lines me (Some s) None is = absurd is
+task_runs lines me (Some s) (Some f) is = refl
+
+pub all_look : (lines : ℕ) (xs : List HostState) (ys : List HostForm) → Pairs (StateFormed lines) xs ys → Pairs Looks xs (map shown_form ys)
+all_look lines [] [] all = tt
+all_look lines [] (y ∷ ys) all = absurd all
+all_look lines (x ∷ xs) [] all = absurd all
+all_look lines (x ∷ xs) (y ∷ ys) all =
+    (record { name = sym all.0.name; uuid = sym all.0.uuid; busy = task_looks lines x.uuid x.task y.task all.0.task }, all_look lines xs ys all.1)
+
+pub runs_same : (lines h : ℕ) (xs : List HostState) (ys : List HostForm) → Pairs (StateFormed lines) xs ys → is_busy_host (slice_get xs h) ≡ runs_form (slice_get ys h)
+runs_same lines h [] [] all = refl
+runs_same lines h [] (y ∷ ys) all = absurd all
+runs_same lines h (x ∷ xs) [] all = absurd all
+runs_same lines zero (x ∷ xs) (y ∷ ys) all = task_runs lines x.uuid x.task y.task all.0.task
+runs_same lines (suc h) (x ∷ xs) (y ∷ ys) all = runs_same lines h xs ys all.1
+
+-- notes of operations, and the machine behind them
+pub record Operated (lines h count : ℕ) (hosts : List HostForm) (notes : List Note) (new : Machines) : Type 0 where
+  pub form : OperationsForm h hosts notes
+  pub within : length notes ≤ count
+  pub next : AreFormed lines new (forms_behind hosts notes)
+
+module _ (lines : ℕ) (m : Machines) (hosts : List HostForm) (formed : AreFormed lines m hosts) (h : ℕ) (host : HostState) (host_is : slice_get m.hosts h ≡ Some host) (f : HostForm) (f_is : slice_get hosts h ≡ Some f) (is : StateFormed lines host f) where
+  -- one host changes
+  pub form_changed : (x : Machine) (task : Option TaskState) (k : HostForm → HostForm) → length x.image ≡ length m.memory → StateFormed lines (record host { cache = x.cache; task = task }) (k f) → AreFormed lines (with_machine h x task m) (changed_at h k hosts)
+  form_changed x task k same here = record {
+    lines_are = same ∙ formed.lines_are;
+    formed = pairs_changed (StateFormed lines) m.hosts hosts h host f (λ z. record z { cache = x.cache; task = task }) k formed.formed host_is f_is here;
+  }
+
+  pub form_moved : (x : Machine) (task : Option TaskState) → length x.image ≡ length m.memory → StateFormed lines (record host { cache = x.cache; task = task }) f → AreFormed lines (with_machine h x task m) hosts
+  form_moved x task same here = record {
+    lines_are = same ∙ formed.lines_are;
+    formed = pairs_moved (StateFormed lines) m.hosts hosts h host f (λ z. record z { cache = x.cache; task = task }) formed.formed host_is f_is here;
+  }
+
+  -- its task is over
+  pub form_ended : (x : Machine) → length x.image ≡ length m.memory → AreFormed lines (with_machine h x None m) (changed_at h (λ z. record z { task = None }) hosts)
+  form_ended x same = form_changed x None (λ z. record z { task = None }) same record { name = is.name; uuid = is.uuid; task = tt }
+
+  module _ (s : TaskState) (s_is : host.task ≡ Some s) (g : TaskForm) (g_is : f.task ≡ Some g) (t : Task) (stands : StandsFor s.cmd s.me lines t s.words s.made) (where_it_is : IsTaskForm host.uuid t g) where
+    running : (note : Note) → TaskNote h f.uuid g note → OfRunning (slice_get hosts h) (λ me t. TaskNote h me t note)
+    running note p =
+        subst (λ (o : Option HostForm). OfRunning o (λ me t. TaskNote h me t note)) (sym f_is)
+        (subst (λ (o : Option TaskForm). OfTask o (λ t. TaskNote h f.uuid t note)) (sym g_is) p)
+
+    me_is : t.me ≡ f.uuid
+    me_is = where_it_is.me_is ∙ sym is.uuid
+
+    reply_form : (given : Reply) → ReplyForm t.me t.cmd (stage_of t) given → ReplyForm f.uuid g.cmd g.stage given
+    reply_form given form =
+        subst (λ (me : List ℕ). ReplyForm me g.cmd g.stage given) me_is
+        (subst (λ (c : Cmd). ReplyForm t.me c g.stage given) (sym where_it_is.cmd)
+        (subst (λ (at : CommandStage). ReplyForm t.me t.cmd at given) (sym where_it_is.stage) form))
+
+    module _ (word : ℕ) (got : Option ℕ) (got_is : given_by (op_of t) word ≡ got) (x : Machine) (same : length x.image ≡ length m.memory) where
+      goes_on : (z : Turn) (n : Task) (stage : CommandStage) → turn_given t word ≡ z → task_after z ≡ Some n → IsNext t.me t.cmd stage n → IsStateTask lines host.uuid (task_on s got) (record { cmd = g.cmd; stage = stage })
+      goes_on z n stage e goes next = record {
+        task = n;
+        stands = subst (λ (o : Option ℕ). StandsFor s.cmd s.me lines n (with_given s.words o) (s.made + 1)) got_is
+            (next_stands s.cmd s.me lines t s.words s.made word stands (turn_given t word) refl n (ap task_after e ∙ goes));
+        is = record { cmd = where_it_is.cmd ∙ sym next.cmd_is; me_is = next.me_is ∙ where_it_is.me_is; stage = sym next.stage_is };
+      }
+
+      staged : (z : Turn) (n : Task) (stage : CommandStage) → turn_given t word ≡ z → task_after z ≡ Some n → IsNext t.me t.cmd stage n → AreFormed lines (with_machine h x (Some (task_on s got)) m) (changed_at h (with_stage stage) hosts)
+      staged z n stage e goes next =
+          form_changed x (Some (task_on s got)) (with_stage stage) same
+          record {
+            name = is.name;
+            uuid = is.uuid;
+            task = subst (λ (o : Option TaskForm). StateTaskFormed lines host.uuid (Some (task_on s got)) (option_map (λ (y : TaskForm). record y { stage = stage }) o)) (sym g_is) (goes_on z n stage e goes next);
+          }
+
+      turned : (z : Turn) → turn_given t word ≡ z → TurnForm t.me t.cmd (stage_of t) z → Operated lines h 1 hosts (notes_of h (note_of z)) (with_machine h x (machine.task_behind (note_of z) (task_on s got)) m)
+      turned (Goes n) e next = record {
+        form = tt;
+        within = omega arith;
+        next = form_moved x (Some (task_on s got)) same
+            record {
+              name = is.name;
+              uuid = is.uuid;
+              task = subst (λ (o : Option TaskForm). StateTaskFormed lines host.uuid (Some (task_on s got)) o) (sym (g_is ∙ ap (λ (at : CommandStage). Some (record { cmd = g.cmd; stage = at })) where_it_is.stage)) (goes_on (Goes n) n (stage_of t) e refl next);
+            };
+      }
+      turned (Marks n) e next = record {
+        form = (running (note.Mark h) (refl, where_it_is.stage ∙ next.0), tt);
+        within = omega arith;
+        next = staged (Marks n) n Marked e refl next.1;
+      }
+      turned (Finds k n) e next = record {
+        form = (running (note.Found h k) (refl, subst HasWish (sym where_it_is.cmd) next.0, where_it_is.stage ∙ next.1), tt);
+        within = omega arith;
+        next = staged (Finds k n) n (Met k) e refl next.2;
+      }
+      turned (Writes seq entry n) e next = record {
+        form = (running (note.Writes h seq entry) (refl, subst (λ (c : Cmd). EntryForm c entry) (sym where_it_is.cmd) next.0, where_it_is.stage ∙ next.1), tt);
+        within = omega arith;
+        next = staged (Writes seq entry n) n (Named seq) e refl next.2;
+      }
+      turned (Ends given) e next = record {
+        form = (running (note.Answered h (note.Replied given)) (refl, reply_form given next), tt);
+        within = omega arith;
+        next = form_ended x same;
+      }
+
+    abbrev own : Machine
+    own = machine_of m host
+
+    abbrev word : ℕ
+    word = unwrap_or (given (op_of t) own) 0
+
+    op_is : next_op s (length m.memory) ≡ Some (op_of t)
+    op_is = ap (next_op s) formed.lines_are ∙ operation_from_start s.cmd s.me lines t s.words s.made stands
+
+    note_is : machine.next_note s (length m.memory) (given (op_of t) own) ≡ Some (note_of (turn_given t word))
+    note_is =
+        ap (λ (n : ℕ). machine.next_note s n (given (op_of t) own)) formed.lines_are
+        ∙ ap (machine.next_note s lines) (sym (same_given (op_of t) own))
+        ∙ note_from_start s.cmd s.me lines t s.words s.made stands word
+
+    served_form : (d : Done) → served h m host s (op_of t) (Some (note_of (turn_given t word))) ≡ Some d → Operated lines h 1 hosts d.notes d.left
+    served_form d done =
+        subst (λ (z : Done). Operated lines h 1 hosts z.notes z.left) (same_Some _ d done)
+        (turned word (given (op_of t) own) (same_given (op_of t) own) (operated (op_of t) own) (operated_length (op_of t) own) (turn_given t word) refl (turn_form t word))
+
+    cut_form : (o : Option Failure) → ((x : Failure) → o ≡ Some x → length x.left.image ≡ length m.memory) → (d : Done) → cut h m o ≡ Some d → Operated lines h 1 hosts d.notes d.left
+    cut_form None same d done = absurd cc
+    cut_form (Some x) same d done =
+        subst (λ (z : Done). Operated lines h 1 hosts z.notes z.left) (same_Some _ d done)
+        record {
+          form = (running (note.Answered h (note.MediaFault x.line.0)) (refl, tt), tt);
+          within = omega arith;
+          next = form_ended x.left (same x refl);
+        }
+
+    op_form : (outcome : Outcome) (d : Done) → op_done outcome h m host s (Some (op_of t)) ≡ Some d → Operated lines h 1 hosts d.notes d.left
+    op_form Passes d done = served_form d (subst (λ (o : Option _). served h m host s (op_of t) o ≡ Some d) note_is done)
+    op_form (Fails through) d done = cut_form (failed through (op_of t) own) (λ x e. failed_length through (op_of t) own x e) d done
+
+    pub task_form : (outcome : Outcome) (d : Done) → task_done outcome h m host (Some s) ≡ Some d → Operated lines h 1 hosts d.notes d.left
+    task_form outcome d done = op_form outcome d (subst (λ (o : Option Op). op_done outcome h m host s o ≡ Some d) op_is done)
+
+  -- by the host's task
+  by_task : (outcome : Outcome) (d : Done) (o : Option TaskState) → host.task ≡ o → (p : Option TaskForm) → f.task ≡ p → StateTaskFormed lines host.uuid o p → task_done outcome h m host o ≡ Some d → Operated lines h 1 hosts d.notes d.left
+  by_task outcome d None e p e2 at done = absurd cc
+  by_task outcome d (Some s) e None e2 at done = absurd at
+  by_task outcome d (Some s) e (Some g) e2 at done = task_form s e g e2 at.task at.stands at.is outcome d done
+
+module _ (lines h : ℕ) where
+  pub operation_form : (m : Machines) (hosts : List HostForm) → AreFormed lines m hosts → (notes : List Note) (new : Machines) → Operation h m notes new → Operated lines h 1 hosts notes new
+  unfolding operation
+  operation_form m hosts formed notes new op = by_host (slice_get m.hosts h) refl op.is
+    where
+      by_host : (o : Option HostState) → slice_get m.hosts h ≡ o → host_done op.outcome h m o ≡ Some (record { notes = notes; left = new }) → Operated lines h 1 hosts notes new
+      by_host None e done = absurd cc
+      by_host (Some host) e done =
+          let p = pairs_at (StateFormed lines) m.hosts hosts h host formed.formed e in
+          by_task lines m hosts formed h host e p.0 p.1 p.2 op.outcome (record { notes = notes; left = new }) host.task refl p.0.task refl p.2.task done
+
+  operations_both : (hosts : List HostForm) (a b : List Note) → OperationsForm h hosts a → OperationsForm h (forms_behind hosts a) b → OperationsForm h hosts (a ++ b)
+  operations_both hosts [] b first rest = rest
+  operations_both hosts (n ∷ a) b first rest = (first.0, operations_both (forms_after hosts n) a b first.1 rest)
+
+  quiet_form : (m : Machines) (hosts : List HostForm) (count : ℕ) → AreFormed lines m hosts → (notes : List Note) (new : Machines) → notes ≡ [] → new ≡ m → Operated lines h count hosts notes new
+  quiet_form m hosts count formed notes new e same =
+      subst (λ (z : List Note). Operated lines h count hosts z new) (sym e)
+      record { form = tt; within = omega arith; next = subst (λ (z : Machines). AreFormed lines z hosts) (sym same) formed }
+
+  pub operates_form : (count : ℕ) (m : Machines) (hosts : List HostForm) → AreFormed lines m hosts → (notes : List Note) (new : Machines) → DoesOperations h count m notes new → Operated lines h count hosts notes new
+  operates_form zero m hosts formed notes new o = quiet_form m hosts 0 formed notes new o.0 o.1
+  operates_form (suc count) m hosts formed notes new (inl o) = quiet_form m hosts (suc count) formed notes new o.1 o.2
+  operates_form (suc count) m hosts formed notes new (inr o) =
+      let first = operation_form m hosts formed o.2 o.1 o.4 in
+      let rest = operates_form count o.1 (forms_behind hosts o.2) first.next o.3 new o.5 in
+      let one = first.within in
+      let more = rest.within in
+      subst (λ (z : List Note). Operated lines h (suc count) hosts z new) (sym o.6)
+      record {
+        form = operations_both hosts o.2 o.3 first.form rest.form;
+        within = omega (arith, one, more, length-append o.2 o.3);
+        next = subst (λ (z : List HostForm). AreFormed lines new z) (sym (forms_both hosts o.2 o.3)) rest.next;
+      }

@@ -1,0 +1,274 @@
+-- What a row of a call adds has its form.
+use Rattle.std.proofs.Common.{◌≡◌, ◌⊎◌, inl, inr, ℕ, ◌*◌, Bool, List, [], ◌∷◌, length, Option, Some, None, refl, ap, ap₂, sym, ◌∙◌, subst, arith}
+use Rattle.std.specs.Prelude.{slice_get, option_map}
+use Rattle.std.specs.FinMap as finmap
+use Rattle.std.proofs.lemmas.List.{length-replicate}
+use Rattle.fam_base.proofs.ImageLemmas.{length-with_line}
+use Rattle.fam_format.specs.Stop.{or_else}
+use Rattle.fam_machine.specs.Mkfs.{asked, early_refusal, mkfs_ops, read_ops}
+use Rattle.fam_base.specs.Image.{line_at}
+use Rattle.fam_machine.specs.Caches.{cell_at}
+use Rattle.fam_machine.specs.HostMoves.{moved_words}
+use Rattle.fam_machine.specs.Operations.{Machine}
+use Rattle.fam_commands.specs.Stands as standing
+use Rattle.fam_commands.specs.Task.{starting}
+use Rattle.fam_rules.specs.Place.{line_bytes}
+use Rattle.fam_journal.specs.declared.refusal.Refusal.{Refusal}
+use Rattle.fam_journal.specs.declared.refusal.Refusal.TheVariants as why
+use Rattle.fam_journal.specs.Calls as call
+use Rattle.fam_journal.specs.Calls.{Acts, ActsAt, AtNumber, BreaksOff, ByRefusal, Call, CutsAt, Does, MayBeRefused, OnHost, busy_at, busy_refusal, cause_of, dirty_from, dirty_refusal, is_busy, makes_refusal, may_begin, name_of, number_of, on_host, refusal_of}
+use Rattle.fam_journal.specs.Forms.{ActsForm, AreFormed, AtForm, BreaksForm, DirtyForm, DoesForm, FaultForm, FormByRefusal, FreeForm, HostActsForm, HostForm, OfHostForm, Pairs, StateFormed, forms_behind, makes_told, refusal_told, shown_forms}
+use Rattle.fam_journal.specs.Machines.{HostState, Machines, machine_of, with_machine}
+use Rattle.fam_journal.specs.Members.{index_of}
+use Rattle.fam_journal.specs.Notes.{Note, Made, Refused}
+use Rattle.fam_journal.proofs.Forms.Operations.{all_length, all_look, form_ended, form_moved, move_length, operates_form, operation_form, runs_same}
+use Rattle.fam_journal.proofs.Forms.Pairs.{Looks, busy_place, dirty_other, may_same, number_same, pairs_at, pairs_changed, pairs_last, pairs_length, refusal_looks, step_same}
+
+-- notes have a form, and the hosts behind them are what notes tell
+pub record Formed (P : List Note → Type 0) (lines : ℕ) (hosts : List HostForm) (notes : List Note) (new : Machines) : Type 0 where
+  pub form : P notes
+  pub next : AreFormed lines new (forms_behind hosts notes)
+
+pub formed_as : (P : List Note → Type 0) (lines : ℕ) (hosts : List HostForm) (notes told : List Note) (new left : Machines) → notes ≡ told → new ≡ left → Formed P lines hosts told left → Formed P lines hosts notes new
+formed_as P lines hosts notes told new left e f is =
+    subst (λ (z : Machines). Formed P lines hosts notes z) (sym f) (subst (λ (z : List Note). Formed P lines hosts z left) (sym e) is)
+
+module _ (lines : ℕ) (m : Machines) (hosts : List HostForm) (formed : AreFormed lines m hosts) where
+  abbrev told : Machines
+  told = shown_forms lines hosts
+
+  look : Pairs Looks m.hosts told.hosts
+  look = all_look lines m.hosts hosts formed.formed
+
+  same_lines : length m.memory ≡ length told.memory
+  same_lines = formed.lines_are ∙ sym (length-replicate lines [])
+
+  pub number_told : (name : List ℕ) → number_of name m ≡ number_of name told
+  number_told name = number_same m told look same_lines name
+
+  pub may_told : (name : List ℕ) → may_begin name m ≡ may_begin name told
+  may_told name = may_same m told look same_lines name
+
+  pub step_told : (name : List ℕ) → on_host (number_of name m) (λ h. call.idle_refusal h m) ≡ on_host (number_of name told) (λ h. call.idle_refusal h told)
+  step_told name = step_same m told look same_lines name
+
+  -- Of a declared host.
+
+  module _ (h : ℕ) (host : HostState) (host_is : slice_get m.hosts h ≡ Some host) (f : HostForm) (f_is : slice_get hosts h ≡ Some f) (is : StateFormed lines host f) where
+    -- the host's task is as before
+    stays : (notes : List Note) (x : Machine) → forms_behind hosts notes ≡ hosts → length x.image ≡ length m.memory → AreFormed lines (with_machine h x host.task m) (forms_behind hosts notes)
+    stays notes x quiet same =
+        subst (λ (z : List HostForm). AreFormed lines (with_machine h x host.task m) z) (sym quiet)
+        (form_moved lines m hosts formed h host host_is f f_is is x host.task same record { name = is.name; uuid = is.uuid; task = is.task })
+
+    act_form : (c : Call) (notes : List Note) (new : Machines) → ActsAt c h host m notes new → Formed (ActsForm c h f lines hosts) lines hosts notes new
+    act_form (call.Declares name uuid) notes new x = absurd x
+    act_form (call.Makes name fs unit log force) notes new (inl x) =
+        formed_as (ActsForm (call.Makes name fs unit log force) h f lines hosts) lines hosts notes _ new _ x.notes_are x.left
+        record {
+          form = inl (ap₂ (λ (me : List ℕ) (n : ℕ). Made h (asked unit log fs me n) ∷ []) (sym is.uuid) formed.lines_are);
+          next = stays (Made h (asked unit log fs host.uuid (length m.memory)) ∷ []) _ refl (all_length (mkfs_ops (asked unit log fs host.uuid (length m.memory))) (machine_of m host));
+        }
+    act_form (call.Makes name fs unit log force) notes new (inr x) =
+        formed_as (ActsForm (call.Makes name fs unit log force) h f lines hosts) lines hosts notes _ new _ x.notes_are x.left
+        record {
+          form = inr (record { unforced = x.unforced; fs = x.other.fs; notes_are = refl });
+          next = stays (Refused name (why.HasSuper x.other.fs) ∷ []) _ refl (all_length read_ops (machine_of m host));
+        }
+    act_form (call.Begins name cmd) notes new x =
+        formed_as (ActsForm (call.Begins name cmd) h f lines hosts) lines hosts notes _ new _ x.0 x.1
+        record {
+          form = refl;
+          next = record {
+            lines_are = formed.lines_are;
+            formed = pairs_changed (StateFormed lines) m.hosts hosts h host f _ _ formed.formed host_is f_is
+                record {
+                  name = is.name;
+                  uuid = is.uuid;
+                  task = record { task = starting cmd host.uuid lines; stands = standing.starts; is = record { cmd = refl; me_is = refl; stage = refl } };
+                };
+          };
+        }
+    act_form (call.Steps name) notes new x =
+        let o = operation_form lines h m hosts formed notes new x in record { form = (o.form, o.within); next = o.next }
+    act_form (call.Finishes name) notes new x =
+        let o = operates_form lines h x.count m hosts formed notes new x.does in
+        record {
+          form = record { operations = o.form; done = sym (runs_same lines h new.hosts (forms_behind hosts notes) o.next.formed) ∙ x.done };
+          next = o.next;
+        }
+    act_form (call.Stops name) notes new x =
+        formed_as (ActsForm (call.Stops name) h f lines hosts) lines hosts notes _ new _ x.0 x.1
+        record {
+          form = refl;
+          next = record {
+            lines_are = formed.lines_are;
+            formed = pairs_changed (StateFormed lines) m.hosts hosts h host f _ _ formed.formed host_is f_is record { name = is.name; uuid = is.uuid; task = tt };
+          };
+        }
+    act_form (call.Halts name) notes new x =
+        formed_as (ActsForm (call.Halts name) h f lines hosts) lines hosts notes _ new _ x.0 x.1
+        record { form = refl; next = form_ended lines m hosts formed h host host_is f f_is is (record { image = m.memory; cache = finmap.empty }) refl }
+    act_form (call.Moves name line move) notes new (inl x) =
+        formed_as (ActsForm (call.Moves name line move) h f lines hosts) lines hosts notes [] new _ x.notes_are x.left
+        record { form = inl refl; next = stays [] _ refl (length-with_line m.memory line (moved_words move (line_at m.memory line) (cell_at host.cache line))) }
+    act_form (call.Moves name line move) notes new (inr x) =
+        formed_as (ActsForm (call.Moves name line move) h f lines hosts) lines hosts notes _ new _ x.notes_are x.left
+        record {
+          form = inr refl;
+          next = record { lines_are = move_length move line x.through (machine_of m host) x.image x.fails ∙ formed.lines_are; formed = formed.formed };
+        }
+    act_form (call.Refuses name cause) notes new x = absurd x
+
+  module _ (notes : List Note) (new : Machines) where
+    at_host : (c : Call) (h : ℕ) (o : Option HostState) → slice_get m.hosts h ≡ o → OnHost o (λ host. ActsAt c h host m notes new)
+        → Formed (λ z. OfHostForm (slice_get hosts h) (λ f. ActsForm c h f lines hosts z)) lines hosts notes new
+    at_host c h None e x = absurd x
+    at_host c h (Some host) e x =
+        let p = pairs_at (StateFormed lines) m.hosts hosts h host formed.formed e in
+        let a = act_form h host e p.0 p.1 p.2 c notes new x in
+        record { form = subst (λ (o : Option HostForm). OfHostForm o (λ f. ActsForm c h f lines hosts notes)) (sym p.1) a.form; next = a.next }
+
+    at_number : (c : Call) (o : Option ℕ) → number_of (name_of c) told ≡ o → AtNumber o m (λ h host. ActsAt c h host m notes new) → Formed (HostActsForm c lines hosts) lines hosts notes new
+    at_number c None e x = absurd x
+    at_number c (Some h) e x =
+        let a = at_host c h (slice_get m.hosts h) refl x in
+        record { form = subst (λ (o : Option ℕ). AtForm o hosts (λ h f. ActsForm c h f lines hosts notes)) (sym e) a.form; next = a.next }
+
+    acts_of : (c : Call) → AtNumber (number_of (name_of c) m) m (λ h host. ActsAt c h host m notes new) → Formed (HostActsForm c lines hosts) lines hosts notes new
+    acts_of c x =
+        at_number c (number_of (name_of c) told) refl (subst (λ (o : Option ℕ). AtNumber o m (λ h host. ActsAt c h host m notes new)) (number_told (name_of c)) x)
+
+    -- a note alone, and nothing else
+    pub noted : (P : List Note → Type 0) (name : List ℕ) (cause : Refusal) → P (Refused name cause ∷ []) → notes ≡ Refused name cause ∷ [] → new ≡ m → Formed P lines hosts notes new
+    noted P name cause form e same = formed_as P lines hosts notes _ new m e same record { form = form; next = formed }
+
+    may_refuse : (name : List ℕ) (cause : Refusal) → MayBeRefused name cause m → call.IsOfSource cause ⊎ (may_begin name told ≡ Some cause)
+    may_refuse name cause (inl x) = inl x
+    may_refuse name cause (inr x) = inr (sym (may_told name) ∙ x)
+
+    acts_form : (c : Call) → Acts c m notes new → Formed (FreeForm c lines hosts) lines hosts notes new
+    acts_form (call.Declares name uuid) x =
+        formed_as (FreeForm (call.Declares name uuid) lines hosts) lines hosts notes _ new _ x.0 x.1
+        record {
+          form = refl;
+          next = record { lines_are = formed.lines_are; formed = pairs_last (StateFormed lines) m.hosts hosts _ _ formed.formed record { name = refl; uuid = refl; task = tt } };
+        }
+    acts_form (call.Refuses name cause) x = noted (FreeForm (call.Refuses name cause) lines hosts) name cause (refl, may_refuse name cause x.2) x.0 x.1
+    acts_form (call.Makes name fs unit log force) x = let a = acts_of (call.Makes name fs unit log force) x in record { form = inl a.form; next = a.next }
+    acts_form (call.Begins name cmd) x = acts_of (call.Begins name cmd) x
+    acts_form (call.Steps name) x = acts_of (call.Steps name) x
+    acts_form (call.Finishes name) x = acts_of (call.Finishes name) x
+    acts_form (call.Stops name) x = acts_of (call.Stops name) x
+    acts_form (call.Halts name) x = acts_of (call.Halts name) x
+    acts_form (call.Moves name line move) x = acts_of (call.Moves name line move) x
+
+    -- by the first refusal, which is the same
+    by_same : (P : List Note → Type 0) (name : List ℕ) (A : Type 0) (o r : Option Refusal) → o ≡ r → (A → Formed P lines hosts notes new) → ByRefusal name o notes m new A → Formed (λ z. FormByRefusal name r z (P z)) lines hosts notes new
+    by_same P name A None None e acts x = let a = acts x in record { form = a.form; next = a.next }
+    by_same P name A None (Some cause) e acts x = absurd cc
+    by_same P name A (Some cause) None e acts x = absurd cc
+    by_same P name A (Some cause) (Some other) e acts x =
+        noted (λ z. z ≡ Refused name other ∷ []) name other refl (x.0 ∙ ap (λ (y : Refusal). Refused name y ∷ []) (Rattle.std.proofs.lemmas.Option.same_Some cause other e)) x.1
+
+    does_by : (c : Call) → refusal_of c m ≡ refusal_told c lines hosts → Does c m notes new → Formed (DoesForm c lines hosts) lines hosts notes new
+    does_by c same x = by_same (FreeForm c lines hosts) (name_of c) (Acts c m notes new) (refusal_of c m) (refusal_told c lines hosts) same (acts_form c) x
+
+    -- Making a file system.
+
+    module _ (name fs : List ℕ) (unit log : ℕ) (force : Bool) where
+      abbrev makes : Call
+      makes = call.Makes name fs unit log force
+
+      abbrev Form : List Note → Type 0
+      Form z = FormByRefusal name (refusal_told makes lines hosts) z (FreeForm makes lines hosts z)
+
+      early_same : option_map cause_of (early_refusal unit log (line_bytes * length m.memory)) ≡ option_map cause_of (early_refusal unit log (line_bytes * length told.memory))
+      early_same = ap (λ (n : ℕ). option_map cause_of (early_refusal unit log (line_bytes * n))) same_lines
+
+      busy_told : busy_refusal (index_of is_busy m.hosts) ≡ busy_refusal (index_of is_busy told.hosts)
+      busy_told = ap busy_refusal (busy_place m told look same_lines)
+
+      told_is : (h : ℕ) → number_of name told ≡ Some h → (e b : Option Refusal) → option_map cause_of (early_refusal unit log (line_bytes * length told.memory)) ≡ e → busy_refusal (index_of is_busy told.hosts) ≡ b → refusal_told makes lines hosts ≡ or_else e b
+      told_is h n e b e_is b_is = ap (λ (o : Option ℕ). on_host o (λ h. makes_told unit log told)) n ∙ ap₂ or_else e_is b_is
+
+      refusal_is : (h : ℕ) → number_of name told ≡ Some h → (e b d : Option Refusal) → option_map cause_of (early_refusal unit log (line_bytes * length told.memory)) ≡ e → busy_refusal (index_of is_busy told.hosts) ≡ b → dirty_refusal (dirty_from h 0 m.hosts) ≡ d → refusal_of makes m ≡ or_else e (or_else b d)
+      unfolding refusal_of
+      refusal_is h n e b d e_is b_is d_is =
+          ap (λ (o : Option ℕ). on_host o (λ h. makes_refusal unit log h m)) (number_told name ∙ n)
+          ∙ ap₂ or_else (early_same ∙ e_is) (ap₂ or_else (busy_told ∙ b_is) d_is)
+
+      abbrev A : Type 0
+      A = Acts makes m notes new
+
+      -- where notes tell the refusal, or there is none
+      by_told : (r : Option Refusal) → refusal_of makes m ≡ r → refusal_told makes lines hosts ≡ r → Does makes m notes new → Formed Form lines hosts notes new
+      by_told r e f x = does_by makes (e ∙ sym f) x
+
+      dirty_case : (h : ℕ) → number_of name told ≡ Some h → (o : Option ℕ) → dirty_from h 0 m.hosts ≡ o → refusal_of makes m ≡ dirty_refusal o → refusal_told makes lines hosts ≡ None → Does makes m notes new → Formed Form lines hosts notes new
+      dirty_case h n None e is free x = by_told None is free x
+      dirty_case h n (Some k) e is free x =
+          let y : ByRefusal name (Some (why.Dirty (record { 0 = k }))) notes m new A = subst (λ (o : Option Refusal). ByRefusal name o notes m new A) is x in
+          noted Form name (why.Dirty (record { 0 = k }))
+          (subst (λ (o : Option Refusal). FormByRefusal name o (Refused name (why.Dirty (record { 0 = k })) ∷ []) (FreeForm makes lines hosts (Refused name (why.Dirty (record { 0 = k })) ∷ []))) (sym free)
+          (inr dirty_form))
+          y.0 y.1
+        where
+          dirty_form : DirtyForm name lines hosts (Refused name (why.Dirty (record { 0 = k })) ∷ [])
+          dirty_form =
+              let other = dirty_other h 0 m.hosts k e in
+              let below = other.1 in
+              record { maker = h; number = n; dirty = k; declared = omega (arith, below, pairs_length (StateFormed lines) m.hosts hosts formed.formed); other = other.0; notes_are = refl }
+
+      of_maker : (h : ℕ) → number_of name told ≡ Some h → (e b : Option Refusal) → option_map cause_of (early_refusal unit log (line_bytes * length told.memory)) ≡ e → busy_refusal (index_of is_busy told.hosts) ≡ b → Does makes m notes new → Formed Form lines hosts notes new
+      of_maker h n (Some e) b e_is b_is x = by_told (Some e) (refusal_is h n (Some e) b (dirty_refusal (dirty_from h 0 m.hosts)) e_is b_is refl) (told_is h n (Some e) b e_is b_is) x
+      of_maker h n None (Some b) e_is b_is x = by_told (Some b) (refusal_is h n None (Some b) (dirty_refusal (dirty_from h 0 m.hosts)) e_is b_is refl) (told_is h n None (Some b) e_is b_is) x
+      of_maker h n None None e_is b_is x =
+          dirty_case h n (dirty_from h 0 m.hosts) refl (refusal_is h n None None (dirty_refusal (dirty_from h 0 m.hosts)) e_is b_is refl) (told_is h n None None e_is b_is) x
+
+      no_maker : number_of name told ≡ None → refusal_of makes m ≡ Some why.NoHost
+      unfolding refusal_of
+      no_maker n = ap (λ (o : Option ℕ). on_host o (λ h. makes_refusal unit log h m)) (number_told name ∙ n)
+
+      by_maker : (o : Option ℕ) → number_of name told ≡ o → Does makes m notes new → Formed Form lines hosts notes new
+      by_maker None n x = by_told (Some why.NoHost) (no_maker n) (ap (λ (o : Option ℕ). on_host o (λ h. makes_told unit log told)) n) x
+      by_maker (Some h) n x = of_maker h n (option_map cause_of (early_refusal unit log (line_bytes * length told.memory))) (busy_refusal (index_of is_busy told.hosts)) refl refl x
+
+      makes_form : Does makes m notes new → Formed Form lines hosts notes new
+      makes_form x = by_maker (number_of name told) refl x
+
+      -- where notes tell a refusal there is one
+      free_told : refusal_of makes m ≡ None → refusal_told makes lines hosts ≡ None
+      free_told none = by_number (number_of name told) refl
+        where
+          at_maker : (h : ℕ) → number_of name told ≡ Some h → (e b : Option Refusal) → option_map cause_of (early_refusal unit log (line_bytes * length told.memory)) ≡ e → busy_refusal (index_of is_busy told.hosts) ≡ b → refusal_told makes lines hosts ≡ None
+          at_maker h n (Some e) b e_is b_is = absurd (let some = sym none ∙ refusal_is h n (Some e) b (dirty_refusal (dirty_from h 0 m.hosts)) e_is b_is refl in cc)
+          at_maker h n None (Some b) e_is b_is = absurd (let some = sym none ∙ refusal_is h n None (Some b) (dirty_refusal (dirty_from h 0 m.hosts)) e_is b_is refl in cc)
+          at_maker h n None None e_is b_is = told_is h n None None e_is b_is
+
+          by_number : (o : Option ℕ) → number_of name told ≡ o → refusal_told makes lines hosts ≡ None
+          by_number None n = absurd (let some = sym none ∙ no_maker n in cc)
+          by_number (Some h) n = at_maker h n (option_map cause_of (early_refusal unit log (line_bytes * length told.memory))) (busy_refusal (index_of is_busy told.hosts)) refl refl
+
+      cut_host : (h : ℕ) (o : Option HostState) → OnHost o (λ host. CutsAt makes h host m notes new) → FaultForm name notes
+      cut_host h None x = absurd x
+      cut_host h (Some host) x = (x.line.0, x.notes_are)
+
+      cut_number : (o : Option ℕ) → AtNumber o m (λ h host. CutsAt makes h host m notes new) → FaultForm name notes
+      cut_number None x = absurd x
+      cut_number (Some h) x = cut_host h (slice_get m.hosts h) x
+
+      pub breaks_form : BreaksOff makes m notes new → BreaksForm makes lines hosts notes
+      breaks_form x = (free_told x.0, cut_number (number_of name m) x.1)
+
+    -- what a call does has its form
+    pub does_form : (c : Call) → Does c m notes new → Formed (DoesForm c lines hosts) lines hosts notes new
+    does_form (call.Declares name uuid) x = does_by (call.Declares name uuid) (refusal_looks m told look same_lines (call.Declares name uuid) tt) x
+    does_form (call.Makes name fs unit log force) x = makes_form name fs unit log force x
+    does_form (call.Begins name cmd) x = does_by (call.Begins name cmd) (refusal_looks m told look same_lines (call.Begins name cmd) tt) x
+    does_form (call.Steps name) x = does_by (call.Steps name) (refusal_looks m told look same_lines (call.Steps name) tt) x
+    does_form (call.Finishes name) x = does_by (call.Finishes name) (refusal_looks m told look same_lines (call.Finishes name) tt) x
+    does_form (call.Stops name) x = does_by (call.Stops name) (refusal_looks m told look same_lines (call.Stops name) tt) x
+    does_form (call.Halts name) x = does_by (call.Halts name) (refusal_looks m told look same_lines (call.Halts name) tt) x
+    does_form (call.Moves name line move) x = does_by (call.Moves name line move) (refusal_looks m told look same_lines (call.Moves name line move) tt) x
+    does_form (call.Refuses name cause) x = does_by (call.Refuses name cause) (refusal_looks m told look same_lines (call.Refuses name cause) tt) x

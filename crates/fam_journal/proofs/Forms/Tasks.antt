@@ -1,0 +1,430 @@
+-- What comes of an operation has the form of its task's notes.
+use Rattle.std.proofs.Common.{◌≡◌, ◌≢◌, ℕ, ◌+◌, ◌*◌, ◌⊎◌, inl, inr, Bool, true, false, List, [], length, Option, Some, None, Ok, Err, refl, sym, ap, ◌∙◌, subst}
+use Rattle.std.specs.Cmp.Lexicographic.{pointwise_decides}
+use Rattle.std.proofs.lemmas.Bool.Decides.{Decides-eqb}
+use Rattle.std.specs.Prelude.{⊤, unwrap_or, ◌==◌, nat_lt, nat_le, if◌then◌else◌, Result}
+use Rattle.std.specs.FinMap as finmap
+use Rattle.fam_base.specs.declared.cmd.Cmd.{Cmd}
+use Rattle.fam_base.specs.declared.cmd.Cmd.TheVariants.{Logplay, Mkdir, Creat, Cp, Verify, Read, Check, Fsck}
+use Rattle.fam_base.specs.declared.cmd.Content.{Content}
+use Rattle.fam_base.specs.declared.cmd.Content.TheVariants as content
+use Rattle.fam_base.specs.declared.entry.Params.{Params}
+use Rattle.fam_base.specs.declared.entry.Entry.{Entry}
+use Rattle.fam_base.specs.declared.entry.Kind.{Kind}
+use Rattle.fam_base.specs.declared.entry.Kind.TheVariants as kind
+use Rattle.fam_base.specs.Paths.{parent_of}
+use Rattle.fam_base.specs.PathOrder.{path_eq}
+use Rattle.fam_format.specs.declared.faults.SuperFault.{SuperFault}
+use Rattle.fam_format.specs.declared.faults.LogFault.{LogFault}
+use Rattle.fam_format.specs.declared.faults.LogFault.TheVariants as log_faults
+use Rattle.fam_format.specs.declared.faults.Reason.{Reason}
+use Rattle.fam_format.specs.Log.{gate_fault, log_fault}
+use Rattle.fam_format.specs.Slot.{entry_of}
+use Rattle.fam_format.specs.Stop.{stop}
+use Rattle.fam_format.specs.Super.{magic_fault, super_body_of}
+use Rattle.fam_format.specs.Tree.{join_fault, replay}
+use Rattle.fam_commands.specs.declared.phase.Part.{Part}
+use Rattle.fam_commands.specs.declared.phase.Part.TheVariants.{Superblock, Header, Slot, File}
+use Rattle.fam_commands.specs.declared.phase.Phase.{Phase}
+use Rattle.fam_commands.specs.declared.phase.Phase.TheVariants as at
+use Rattle.fam_machine.specs.Operations.{given_by}
+use Rattle.fam_commands.specs.Stands.{turn_given}
+use Rattle.fam_commands.specs.Task.{Task, op_of, part_count, size_of, wanted_end}
+use Rattle.fam_commands.specs.Turns.{Turn, Goes, Marks, Finds, Writes, Ends, super_fault_reply, log_fault_reply, magic_turn, host_refusal, host_turn, super_turn, header_turn, slot_or_decide, slots_read, finds_or_goes, gate_loaded, gate_turn, join_turn, slot_turn, check_turn, first_store, append_turn, verify_lines, verify_turn, bytes_turn, kind_turn, found_turn, wish_turn, decide_turn, line_or, line_difference, compare_turn, file_turn, line_turn, with_word, word_turn, turn_at}
+use Rattle.fam_rules.specs.declared.answers.Refused.{Refused}
+use Rattle.fam_rules.specs.declared.answers.Refused.TheVariants as cause
+use Rattle.fam_rules.specs.Decide.{Wish, Room, decide_wish, entry_or, exists_refusal, full_refusal, master_refusal, parent_refusal, room_for, stripe_refusal, wish_of, file_refusal, found_refusal, is_stripe, room_or, room_by, simple_room, striped_room}
+use Rattle.fam_rules.specs.Place.{line_bytes}
+use Rattle.fam_rules.specs.Reports.{log_report, report_by}
+use Rattle.fam_rules.specs.Written.{lines_of}
+use Rattle.fam_format.specs.Layout.{geometry}
+use Rattle.fam_commands.specs.Appends.{HasWish}
+use Rattle.fam_journal.specs.Past.{reported_count}
+use Rattle.fam_journal.specs.Forms.{CauseForm, CountForm, EntryForm, IsCheck, IsRead, IsVerify, IsHead, HasReadGate, IsWished, ReplyForm, CommandStage, Begun, Marked, Met, Named, reading_stage, stage_at, stage_of}
+
+-- the task that goes on is of the same command and host, at this stage
+pub record IsNext (me : List ℕ) (cmd : Cmd) (stage : CommandStage) (next : Task) : Type 0 where
+  pub cmd_is : next.cmd ≡ cmd
+  pub me_is : next.me ≡ me
+  pub stage_is : stage_of next ≡ stage
+
+abbrev pub TurnForm : List ℕ → Cmd → CommandStage → Turn → Type 0
+TurnForm me cmd stage (Goes next) = IsNext me cmd stage next
+TurnForm me cmd stage (Marks next) = (stage ≡ Begun) × IsNext me cmd Marked next
+TurnForm me cmd stage (Finds n next) = HasWish cmd × (stage ≡ Marked) × IsNext me cmd (Met n) next
+TurnForm me cmd stage (Writes seq e next) = EntryForm cmd e × (stage ≡ Met seq) × IsNext me cmd (Named seq) next
+TurnForm me cmd stage (Ends given) = ReplyForm me cmd stage given
+
+-- bytes that a test tells apart
+other_of : (a b : List ℕ) → path_eq a b ≡ false → a ≢ b
+other_of a b is e = absurd (let same : path_eq a b ≡ true = (pointwise_decides Decides-eqb a b).1 e in cc)
+
+-- The decision.
+
+-- a refusal of an append, where the entries were read
+MetCause : List ℕ → Refused → Type 0
+MetCause me why = (n : ℕ) → CauseForm me (Met n) why
+
+abbrev OptionCause : List ℕ → Option Refused → Type 0
+OptionCause me None = ⊤
+OptionCause me (Some why) = MetCause me why
+
+-- what is decided: an entry of the wish, or such a refusal
+abbrev DecisionForm : List ℕ → Wish → Result Entry Refused → Type 0
+DecisionForm me w (Ok e) = IsWished w e
+DecisionForm me w (Err why) = MetCause me why
+
+module _ (me : List ℕ) where
+  stopped : (w : Wish) (o : Option Refused) (r : Result Entry Refused) → OptionCause me o → DecisionForm me w r → DecisionForm me w (stop o r)
+  stopped w None r first rest = rest
+  stopped w (Some why) r first rest = first
+
+  master_cause : (p : Params) → OptionCause me (master_refusal p me)
+  unfolding MetCause
+  master_cause p = by_test (path_eq me p.master) refl
+    where
+      by_test : (b : Bool) → path_eq me p.master ≡ b → OptionCause me (if b then None else Some (cause.NotMaster me p.master))
+      by_test true is = tt
+      by_test false is = λ n. (refl, other_of me p.master is, inr tt)
+
+  stripe_cause : (p : Params) (o : Option _) → OptionCause me (stripe_refusal p o)
+  unfolding MetCause
+  stripe_cause p None = tt
+  stripe_cause p (Some s) = by_test (is_stripe p s)
+    where
+      by_test : (b : Bool) → OptionCause me (if b then None else Some cause.BadStripe)
+      by_test true = tt
+      by_test false = λ n. tt
+
+  exists_cause : (o : Option Entry) → OptionCause me (exists_refusal o)
+  unfolding MetCause
+  exists_cause None = tt
+  exists_cause (Some old) = λ n. tt
+
+  file_cause : (k : Kind) → OptionCause me (file_refusal k)
+  unfolding MetCause
+  file_cause kind.File = λ n. tt
+  file_cause kind.Directory = tt
+
+  found_cause : (o : Option Entry) → OptionCause me (found_refusal o)
+  unfolding MetCause
+  found_cause None = λ n. tt
+  found_cause (Some parent) = file_cause parent.kind
+
+  parent_cause : (tree : Rattle.fam_format.specs.Tree.Tree) (o : Option (List ℕ)) → OptionCause me (parent_refusal tree o)
+  parent_cause tree None = tt
+  parent_cause tree (Some parent) = found_cause (finmap.get tree parent)
+
+  full_cause : (p : Params) (list : List Entry) → OptionCause me (full_refusal p list)
+  unfolding MetCause
+  full_cause p list = by_test (nat_le p.slots (length list))
+    where
+      by_test : (b : Bool) → OptionCause me (if b then Some (cause.LogFull p.slots) else None)
+      by_test true = λ n. tt
+      by_test false = tt
+
+  abbrev RoomForm : Result Room Refused → Type 0
+  RoomForm (Ok found) = ⊤
+  RoomForm (Err why) = MetCause me why
+
+  room_or_form : (k : ℕ) (o : Option Room) → RoomForm (room_or k o)
+  unfolding MetCause
+  room_or_form k None = λ n. tt
+  room_or_form k (Some found) = tt
+
+  room_by_form : (p : Params) (list : List Entry) (size : ℕ) (o : Option _) → RoomForm (room_by p list size o)
+  room_by_form p list size None = room_or_form _ _
+  room_by_form p list size (Some s) = room_or_form _ _
+
+  room_form : (p : Params) (list : List Entry) (w : Wish) → RoomForm (room_for p list w)
+  unfolding room_for
+  room_form p list w = by_test (w.size == 0)
+    where
+      by_test : (b : Bool) → RoomForm (if b then Ok Rattle.fam_rules.specs.Decide.no_room_needed else room_by p list w.size w.stripe)
+      by_test true = tt
+      by_test false = room_by_form p list w.size w.stripe
+
+  entry_form : (w : Wish) (r : Result Room Refused) → RoomForm r → DecisionForm me w (entry_or w r)
+  entry_form w (Ok found) is = record { kind = refl; path = refl; size = refl; mode = refl; uid = refl; gid = refl }
+  entry_form w (Err why) is = is
+
+  decided : (p : Params) (list : List Entry) (w : Wish) → DecisionForm me w (decide_wish p me list w)
+  unfolding decide_wish
+  decided p list w =
+      stopped w (master_refusal p me) _ (master_cause p)
+      (stopped w (stripe_refusal p w.stripe) _ (stripe_cause p w.stripe)
+      (stopped w (exists_refusal (finmap.get (replay list) w.path)) _ (exists_cause (finmap.get (replay list) w.path))
+      (stopped w (parent_refusal (replay list) (parent_of w.path)) _ (parent_cause (replay list) (parent_of w.path))
+      (stopped w (full_refusal p list) _ (full_cause p list)
+      (entry_form w (room_for p list w) (room_form p list w))))))
+
+-- A test either way, and answers on a damaged image.
+module _ (me : List ℕ) (cmd : Cmd) (stage : CommandStage) where
+  either : (b : Bool) (one other : Turn) → TurnForm me cmd stage one → TurnForm me cmd stage other → TurnForm me cmd stage (if b then one else other)
+  either true one other first second = first
+  either false one other first second = second
+
+  super_ends : stage ≡ Begun → (fault : SuperFault) → ReplyForm me cmd stage (super_fault_reply cmd fault)
+  super_ends at fault = by_cmd cmd
+    where
+      by_cmd : (c : Cmd) → ReplyForm me c stage (super_fault_reply c fault)
+      by_cmd Fsck = (refl, tt)
+      by_cmd Logplay = ((λ e. absurd cc), at)
+      by_cmd (Mkdir path attr) = ((λ e. absurd cc), at)
+      by_cmd (Creat path size attr stripe fill) = ((λ e. absurd cc), at)
+      by_cmd (Cp path attr stripe bytes) = ((λ e. absurd cc), at)
+      by_cmd (Verify path against) = ((λ e. absurd cc), at)
+      by_cmd (Read path offset count) = ((λ e. absurd cc), at)
+      by_cmd (Check listing) = ((λ e. absurd cc), at)
+
+  log_ends : IsHead stage → (fault : LogFault) → ReplyForm me cmd stage (log_fault_reply cmd fault)
+  log_ends head fault = by_cmd cmd
+    where
+      no_count : (f : LogFault) → CountForm (reported_count (log_report f).log) stage
+      no_count (log_faults.BadLog field found wanted) = tt
+
+      by_cmd : (c : Cmd) → ReplyForm me c stage (log_fault_reply c fault)
+      by_cmd Fsck = (refl, no_count fault)
+      by_cmd Logplay = ((λ e. absurd cc), head)
+      by_cmd (Mkdir path attr) = ((λ e. absurd cc), head)
+      by_cmd (Creat path size attr stripe fill) = ((λ e. absurd cc), head)
+      by_cmd (Cp path attr stripe bytes) = ((λ e. absurd cc), head)
+      by_cmd (Verify path against) = ((λ e. absurd cc), head)
+      by_cmd (Read path offset count) = ((λ e. absurd cc), head)
+      by_cmd (Check listing) = ((λ e. absurd cc), head)
+
+-- Superblock and header.
+abbrev BegunCause : List ℕ → Option Refused → Type 0
+BegunCause me None = ⊤
+BegunCause me (Some why) = CauseForm me Begun why
+
+begun_master : (me : List ℕ) (p : Params) → BegunCause me (master_refusal p me)
+begun_master me p = by_test (path_eq me p.master) refl
+  where
+    by_test : (b : Bool) → path_eq me p.master ≡ b → BegunCause me (if b then None else Some (cause.NotMaster me p.master))
+    by_test true is = tt
+    by_test false is = (refl, other_of me p.master is, inl refl)
+
+module _ (t : Task) where
+  magic_form : (o : Option SuperFault) → TurnForm t.me t.cmd Begun (magic_turn t o)
+  magic_form (Some fault) = super_ends t.me t.cmd Begun refl fault
+  magic_form None = record { cmd_is = refl; me_is = refl; stage_is = refl }
+
+  host_form : (p : Params) (o : Option Refused) → BegunCause t.me o → HasWish t.cmd → TurnForm t.me t.cmd Begun (host_turn t p o)
+  host_form p None may wish = record { cmd_is = refl; me_is = refl; stage_is = refl }
+  host_form p (Some why) may wish = (wish, may)
+
+  wished_form : (p : Params) (o : Option Wish) → wish_of t.cmd ≡ o → TurnForm t.me t.cmd Begun (host_turn t p (host_refusal o p t.me))
+  wished_form p None is = record { cmd_is = refl; me_is = refl; stage_is = refl }
+  wished_form p (Some w) is = host_form p (master_refusal p t.me) (begun_master t.me p) (w, is)
+
+  super_form : (r : Result Params SuperFault) → TurnForm t.me t.cmd Begun (super_turn t r)
+  super_form (Err fault) = super_ends t.me t.cmd Begun refl fault
+  super_form (Ok p) = wished_form p (wish_of t.cmd) refl
+
+  header_form : (o : Option LogFault) → TurnForm t.me t.cmd Begun (header_turn t o)
+  header_form (Some fault) = log_ends t.me t.cmd Begun tt fault
+  header_form None = record { cmd_is = refl; me_is = refl; stage_is = refl }
+
+-- Gate and slots.
+
+slot_stage : (t u : Task) (i : ℕ) → stage_at (slot_or_decide t i) u ≡ reading_stage (wish_of u.cmd) u.gate
+slot_stage t u i = by_test (nat_lt i (slots_read t))
+  where
+    by_test : (b : Bool) → stage_at (if b then at.Drop (Slot i) 0 else at.Decide) u ≡ reading_stage (wish_of u.cmd) u.gate
+    by_test true = refl
+    by_test false = refl
+
+is_reading : (o : Option Wish) (gate : ℕ) → HasReadGate (reading_stage o gate)
+is_reading None gate = tt
+is_reading (Some w) gate = tt
+
+module _ (t : Task) where
+  abbrev reads : CommandStage
+  reads = reading_stage (wish_of t.cmd) t.gate
+
+  gate_form : (n : ℕ) (o : Option LogFault) → TurnForm t.me t.cmd Marked (gate_turn t n o)
+  gate_form n (Some fault) = log_ends t.me t.cmd Marked tt fault
+  gate_form n None = by_wish (wish_of t.cmd) refl
+    where
+      next : (o : Option Wish) → wish_of t.cmd ≡ o → stage_of (gate_loaded t n) ≡ reading_stage o n
+      next o is = slot_stage (record t { gate = n }) (gate_loaded t n) t.first_slot ∙ ap (λ (z : Option Wish). reading_stage z n) is
+
+      by_wish : (o : Option Wish) → wish_of t.cmd ≡ o → TurnForm t.me t.cmd Marked (finds_or_goes o n (gate_loaded t n))
+      by_wish None is = record { cmd_is = refl; me_is = refl; stage_is = next None is }
+      by_wish (Some w) is = ((w, is), refl, record { cmd_is = refl; me_is = refl; stage_is = next (Some w) is })
+
+  join_form : t.cmd ≢ Fsck → (i : ℕ) (e : Entry) (o : Option Reason) → TurnForm t.me t.cmd reads (join_turn t i e o)
+  join_form other i e (Some reason) = (other, is_reading (wish_of t.cmd) t.gate)
+  join_form other i e None = record { cmd_is = refl; me_is = refl; stage_is = slot_stage t _ (i + 1) }
+
+  slot_form : t.cmd ≢ Fsck → (i : ℕ) (r : Result Entry Reason) → TurnForm t.me t.cmd reads (slot_turn t i r)
+  slot_form other i (Err reason) = (other, is_reading (wish_of t.cmd) t.gate)
+  slot_form other i (Ok e) = join_form other i e (join_fault t.params t.entries e)
+
+  check_form : (i : ℕ) → TurnForm t.me t.cmd reads (check_turn t.cmd t i)
+  check_form i = by_cmd t.cmd refl
+    where
+      reads_slot : t.cmd ≢ Fsck → TurnForm t.me t.cmd reads (slot_turn t i (entry_of t.params t.words i))
+      reads_slot other = slot_form other i (entry_of t.params t.words i)
+
+      by_cmd : (c : Cmd) → t.cmd ≡ c → TurnForm t.me t.cmd reads (check_turn c t i)
+      by_cmd Fsck is = record { cmd_is = refl; me_is = refl; stage_is = slot_stage t _ (i + 1) }
+      by_cmd Logplay is = reads_slot (λ e. absurd cc)
+      by_cmd (Mkdir path attr) is = reads_slot (λ e. absurd cc)
+      by_cmd (Creat path size attr stripe fill) is = reads_slot (λ e. absurd cc)
+      by_cmd (Cp path attr stripe bytes) is = reads_slot (λ e. absurd cc)
+      by_cmd (Verify path against) is = reads_slot (λ e. absurd cc)
+      by_cmd (Read path offset count) is = reads_slot (λ e. absurd cc)
+      by_cmd (Check listing) is = reads_slot (λ e. absurd cc)
+
+  -- The decision.
+
+  first_stage : (size : ℕ) (u : Task) → stage_at (first_store size) u ≡ Named u.gate
+  first_stage size u = by_test (size == 0)
+    where
+      by_test : (b : Bool) → stage_at (if b then at.StoreSlot 0 0 else at.StoreData 0 0) u ≡ Named u.gate
+      by_test true = refl
+      by_test false = refl
+
+  append_form : (w : Wish) → wish_of t.cmd ≡ Some w → (r : Result Entry Refused) → DecisionForm t.me w r → TurnForm t.me t.cmd reads (append_turn t r)
+  unfolding MetCause
+  append_form w is (Err why) form =
+      ((w, is), subst (λ (s : CommandStage). CauseForm t.me s why) (sym (ap (λ (z : Option Wish). reading_stage z t.gate) is)) (form t.gate))
+  append_form w is (Ok e) form =
+      ((w, is, form), ap (λ (z : Option Wish). reading_stage z t.gate) is, record { cmd_is = refl; me_is = refl; stage_is = first_stage e.size _ })
+
+  module _ (phase : t.phase ≡ at.Decide) where
+    wish_form : (o : Option Wish) → wish_of t.cmd ≡ o → TurnForm t.me t.cmd reads (wish_turn t o)
+    wish_form None is = record { cmd_is = refl; me_is = refl; stage_is = ap (λ (p : Phase). stage_at p t) phase }
+    wish_form (Some w) is = append_form w is (decide_wish t.params t.me t.entries w) (decided t.me t.params t.entries w)
+
+    marked : wish_of t.cmd ≡ None → reads ≡ Marked
+    marked is = ap (λ (z : Option Wish). reading_stage z t.gate) is
+
+    read_form : (e : Entry) → TurnForm t.me t.cmd reads (Goes (record t { entry = Some e; phase = at.Drop File 0; words = [] }))
+    read_form e = record { cmd_is = refl; me_is = refl; stage_is = refl }
+
+    lines_form : IsVerify t.cmd → reads ≡ Marked → (e : Entry) → TurnForm t.me t.cmd reads (verify_lines t e)
+    lines_form mine at e = either t.me t.cmd reads (e.size == 0) _ _ (mine, at) (read_form e)
+
+    verify_form : IsVerify t.cmd → reads ≡ Marked → (e : Entry) (against : Content) → TurnForm t.me t.cmd reads (verify_turn t e against)
+    verify_form mine at e (content.Bytes given) = either t.me t.cmd reads (length given == e.size) _ _ (lines_form mine at e) (mine, at)
+    verify_form mine at e (content.Seed seed) = lines_form mine at e
+    verify_form mine at e content.Zero = lines_form mine at e
+
+    bytes_form : IsRead t.cmd → reads ≡ Marked → (e : Entry) (offset : ℕ) → TurnForm t.me t.cmd reads (bytes_turn t e offset)
+    bytes_form mine at e offset = either t.me t.cmd reads (nat_le (wanted_end t.cmd e.size) offset) _ _ (mine, at) (read_form e)
+
+    kind_form : IsVerify t.cmd ⊎ IsRead t.cmd → reads ≡ Marked → (k : Kind) (turn : Turn) → TurnForm t.me t.cmd reads turn → TurnForm t.me t.cmd reads (kind_turn t k turn)
+    kind_form mine at kind.Directory turn says = (mine, at)
+    kind_form mine at kind.File turn says = says
+
+    found_form : IsVerify t.cmd ⊎ IsRead t.cmd → reads ≡ Marked → (o : Option Entry) (turn : Entry → Turn) → ((e : Entry) → TurnForm t.me t.cmd reads (turn e)) → TurnForm t.me t.cmd reads (found_turn t o turn)
+    found_form mine at None turn says = (mine, at)
+    found_form mine at (Some e) turn says = kind_form mine at e.kind (turn e) (says e)
+
+    decide_form : (c : Cmd) → t.cmd ≡ c → TurnForm t.me t.cmd reads (decide_turn c t)
+    decide_form Logplay is = (is, marked (ap wish_of is))
+    decide_form (Check listing) is = (subst IsCheck (sym is) tt, marked (ap wish_of is))
+    decide_form Fsck is = (is, fsck_count)
+      where
+        fsck_count : CountForm (reported_count (report_by t.params t.gate t.survey).log) reads
+        fsck_count = any_count (reported_count (report_by t.params t.gate t.survey).log)
+          where
+            any_count : (o : Option ℕ) → CountForm o reads
+            any_count None = tt
+            any_count (Some m) = marked (ap wish_of is)
+    decide_form (Verify path against) is =
+        let mine : IsVerify t.cmd = subst IsVerify (sym is) tt in
+        found_form (inl mine) (marked (ap wish_of is)) (finmap.get (replay t.entries) path) (λ e. verify_turn t e against) (λ e. verify_form mine (marked (ap wish_of is)) e against)
+    decide_form (Read path offset count) is =
+        let mine : IsRead t.cmd = subst IsRead (sym is) tt in
+        found_form (inr mine) (marked (ap wish_of is)) (finmap.get (replay t.entries) path) (λ e. bytes_turn t e offset) (λ e. bytes_form mine (marked (ap wish_of is)) e offset)
+    decide_form (Mkdir path attr) is = wish_form (wish_of t.cmd) refl
+    decide_form (Creat path size attr stripe fill) is = wish_form (wish_of t.cmd) refl
+    decide_form (Cp path attr stripe bytes) is = wish_form (wish_of t.cmd) refl
+
+-- Lines that were loaded.
+
+line_or_form : (t : Task) (stage : CommandStage) (part : Part) (j : ℕ) (turn : Turn) → stage_at (at.Drop part (j + 1)) (record t { phase = at.Drop part (j + 1) }) ≡ stage → TurnForm t.me t.cmd stage turn → TurnForm t.me t.cmd stage (line_or t part j turn)
+line_or_form t stage part j turn next says =
+    either t.me t.cmd stage (nat_lt (j + 1) (part_count t part)) _ _ record { cmd_is = refl; me_is = refl; stage_is = next } says
+
+compare_form : (t : Task) (against : Content) (j : ℕ) (o : Option ℕ) → IsVerify t.cmd → reading_stage (wish_of t.cmd) t.gate ≡ Marked → TurnForm t.me t.cmd (reading_stage (wish_of t.cmd) t.gate) (compare_turn t against j o)
+compare_form t against j (Some b) mine at = (mine, at)
+compare_form t against j None mine at = line_or_form (record t { words = [] }) (reading_stage (wish_of t.cmd) t.gate) File j _ refl (mine, at)
+
+file_form : (t : Task) (j k : ℕ) → t.phase ≡ at.Word File j k → (c : Cmd) → t.cmd ≡ c → TurnForm t.me t.cmd (reading_stage (wish_of t.cmd) t.gate) (file_turn c t j)
+file_form t j k phase c is = by_cmd c is
+  where
+    stays : TurnForm t.me t.cmd (reading_stage (wish_of t.cmd) t.gate) (Goes t)
+    stays = record { cmd_is = refl; me_is = refl; stage_is = ap (λ (p : Phase). stage_at p t) phase }
+
+    by_cmd : (c : Cmd) → t.cmd ≡ c → TurnForm t.me t.cmd (reading_stage (wish_of t.cmd) t.gate) (file_turn c t j)
+    by_cmd (Verify path against) is =
+        compare_form t against j (line_difference t against j) (subst IsVerify (sym is) tt) (ap (λ (z : Cmd). reading_stage (wish_of z) t.gate) is)
+    by_cmd (Read path offset count) is =
+        line_or_form t (reading_stage (wish_of t.cmd) t.gate) File j _ refl (subst IsRead (sym is) tt, ap (λ (z : Cmd). reading_stage (wish_of z) t.gate) is)
+    by_cmd Logplay is = stays
+    by_cmd (Mkdir path attr) is = stays
+    by_cmd (Creat path size attr stripe fill) is = stays
+    by_cmd (Cp path attr stripe bytes) is = stays
+    by_cmd (Check listing) is = stays
+    by_cmd Fsck is = stays
+
+part_form : (t : Task) (part : Part) (j k : ℕ) → t.phase ≡ at.Word part j k → TurnForm t.me t.cmd (stage_at (at.Word part j k) t) (line_turn t part j)
+part_form t Superblock j k phase = line_or_form t Begun Superblock j _ refl (super_form t (super_body_of t.words (line_bytes * t.lines)))
+part_form t Header j k phase = header_form t (log_fault t.words t.params)
+part_form t (Slot i) j k phase = line_or_form t (reading_stage (wish_of t.cmd) t.gate) (Slot i) j _ refl record { cmd_is = refl; me_is = refl; stage_is = refl }
+part_form t File j k phase = file_form t j k phase t.cmd refl
+
+word_form : (t : Task) (part : Part) (j k : ℕ) → t.phase ≡ at.Word part j k → TurnForm t.me t.cmd (stage_at (at.Word part j k) t) (word_turn t part j k)
+word_form t part j k phase = either t.me t.cmd (stage_at (at.Word part j k) t) (nat_lt k 7) _ _ (next part) (part_form t part j k phase)
+  where
+    next : (part : Part) → TurnForm t.me t.cmd (stage_at (at.Word part j k) t) (Goes (record t { phase = at.Word part j (k + 1) }))
+    next Superblock = record { cmd_is = refl; me_is = refl; stage_is = refl }
+    next Header = record { cmd_is = refl; me_is = refl; stage_is = refl }
+    next (Slot i) = record { cmd_is = refl; me_is = refl; stage_is = refl }
+    next File = record { cmd_is = refl; me_is = refl; stage_is = refl }
+
+with_word_form : (t : Task) (word : ℕ) (part : Part) (j k : ℕ) → t.phase ≡ at.Word part j k → TurnForm t.me t.cmd (stage_at (at.Word part j k) t) (word_turn (with_word t word) part j k)
+with_word_form t word part j k phase = by_part part phase
+  where
+    by_part : (part : Part) → t.phase ≡ at.Word part j k → TurnForm t.me t.cmd (stage_at (at.Word part j k) t) (word_turn (with_word t word) part j k)
+    by_part Superblock phase = word_form (with_word t word) Superblock j k phase
+    by_part Header phase = word_form (with_word t word) Header j k phase
+    by_part (Slot i) phase = word_form (with_word t word) (Slot i) j k phase
+    by_part File phase = word_form (with_word t word) File j k phase
+
+drop_form : (t : Task) (part : Part) (j : ℕ) → TurnForm t.me t.cmd (stage_at (at.Drop part j) t) (Goes (record t { phase = at.Word part j 0 }))
+drop_form t Superblock j = record { cmd_is = refl; me_is = refl; stage_is = refl }
+drop_form t Header j = record { cmd_is = refl; me_is = refl; stage_is = refl }
+drop_form t (Slot i) j = record { cmd_is = refl; me_is = refl; stage_is = refl }
+drop_form t File j = record { cmd_is = refl; me_is = refl; stage_is = refl }
+
+-- Lines that are written.
+
+named_either : (u : Task) (b : Bool) (one other : Phase) → stage_at one u ≡ Named u.gate → stage_at other u ≡ Named u.gate → stage_at (if b then one else other) u ≡ Named u.gate
+named_either u true one other first second = first
+named_either u false one other first second = second
+
+form_at : (p : Phase) (t : Task) (word : ℕ) → t.phase ≡ p → TurnForm t.me t.cmd (stage_at p t) (turn_at p t word)
+form_at at.DropMagic t word phase = record { cmd_is = refl; me_is = refl; stage_is = refl }
+form_at at.Magic t word phase = magic_form t (magic_fault word)
+form_at (at.Drop part j) t word phase = drop_form t part j
+form_at (at.Word part j k) t word phase = with_word_form t word part j k phase
+form_at at.DropGate t word phase = (refl, record { cmd_is = refl; me_is = refl; stage_is = refl })
+form_at at.Gate t word phase = gate_form t word (gate_fault word t.params)
+form_at (at.Check i) t word phase = check_form t i
+form_at at.Decide t word phase = decide_form t phase t.cmd refl
+form_at (at.StoreData j k) t word phase = record { cmd_is = refl; me_is = refl; stage_is = named_either _ (nat_lt k 7) (at.StoreData j (k + 1)) (at.SendData j) refl refl }
+form_at (at.SendData j) t word phase = record { cmd_is = refl; me_is = refl; stage_is = named_either _ (nat_lt (j + 1) (lines_of (size_of t.entry))) (at.StoreData (j + 1) 0) (at.StoreSlot 0 0) refl refl }
+form_at (at.StoreSlot j k) t word phase = record { cmd_is = refl; me_is = refl; stage_is = named_either _ (nat_lt k 7) (at.StoreSlot j (k + 1)) (at.SendSlot j) refl refl }
+form_at (at.SendSlot j) t word phase = record { cmd_is = refl; me_is = refl; stage_is = named_either _ (nat_lt (j + 1) (geometry t.params).lines) (at.StoreSlot (j + 1) 0) at.StoreGate refl refl }
+form_at at.StoreGate t word phase = record { cmd_is = refl; me_is = refl; stage_is = refl }
+form_at at.SendGate t word phase = refl
+
+-- whatever word an operation gives
+pub turn_form : (t : Task) (word : ℕ) → TurnForm t.me t.cmd (stage_of t) (turn_given t word)
+turn_form t word = form_at t.phase t (unwrap_or (given_by (op_of t) word) 0) refl

@@ -1,0 +1,144 @@
+-- A call that the world alone tells adds notes of its form, and the world's hosts are what its journal tells again.
+use Prim.Native.Nat.{zero, suc}
+use Rattle.std.proofs.Common.{◌⊎◌, inl, inr, ◌≡◌, ℕ, ◌+◌, Bool, true, false, List, [], ◌∷◌, ◌++◌, map, Option, Some, None, refl, sym, ◌∙◌, ap, subst, arith}
+use Rattle.std.specs.Prelude.{slice_get, if◌then◌else◌}
+use Rattle.fam_journal.specs.declared.refusal.Refusal.{Refusal}
+use Rattle.fam_base.specs.declared.cmd.Cmd.TheVariants.{Logplay}
+use Rattle.fam_commands.specs.Task.{starting}
+use Rattle.std.specs.FinMap as finmap
+use Rattle.fam_journal.specs.declared.refusal.Refusal.TheVariants as why
+use Rattle.fam_journal.specs.Calls as call
+use Rattle.fam_journal.proofs.Forms.Pairs.{IsNoMake, pairs_last}
+use Rattle.fam_journal.specs.Notes as note
+use Rattle.fam_journal.specs.Calls.{Call, has_name, name_of, number_of, on_host, refusal_of}
+use Rattle.fam_journal.specs.CallRecords.{HasForm}
+use Rattle.fam_journal.specs.Forms.{ActsForm, AtForm, DoesForm, FormByRefusal, FreeForm, HostForm, HostActsForm, HostFormed, IsFormed, OfHostForm, Pairs, forms_after, forms_of, refusal_told, shown_form, shown_forms}
+use Rattle.fam_journal.specs.Members.{changed_at, index_from}
+use Rattle.fam_journal.specs.Notes.{Note, Refused}
+use Rattle.fam_journal.specs.View.{HostView, WorldView}
+use Rattle.fam_journal.specs.ByWorld.{TakesNoMedia, acted_by, number_in, refusal_in, shown_state, with_host, world_after}
+use Rattle.fam_journal.proofs.Forms.Operations.{forms_both}
+use Rattle.fam_journal.proofs.Forms.Views.{number_formed, refusal_formed}
+
+-- all pairs may change
+pairs_any : {A B : Type 0} (P : A → B → Type 0) (g : A → A) (k : B → B) → ((x : A) (y : B) → P x y → P (g x) (k y)) → (h : ℕ) (xs : List A) (ys : List B) → Pairs P xs ys → Pairs P (changed_at h g xs) (changed_at h k ys)
+pairs_any P g k each h [] [] all = tt
+pairs_any P g k each h [] (y ∷ ys) all = absurd all
+pairs_any P g k each h (x ∷ xs) [] all = absurd all
+pairs_any P g k each zero (x ∷ xs) (y ∷ ys) all = (each x y all.0, all.1)
+pairs_any P g k each (suc h) (x ∷ xs) (y ∷ ys) all = (all.0, pairs_any P g k each h xs ys all.1)
+
+-- the host of a number that a name has, counted from i, is declared
+named_here : (name : List ℕ) (P : HostForm → Type 0) → ((f : HostForm) → P f) → (hosts : List HostForm) (i k : ℕ) → index_from i (has_name name) (map shown_form hosts) ≡ Some (i + k) → OfHostForm (slice_get hosts k) P
+named_here name P each [] i k is = absurd cc
+named_here name P each (f ∷ hosts) i zero is = each f
+named_here name P each (f ∷ hosts) i (suc k) is = by_test (has_name name (shown_form f)) (λ rest. named_here name P each hosts (i + 1) k rest) is
+  where
+    shift : i + suc k ≡ (i + 1) + k
+    shift = omega arith
+
+    by_test : (t : Bool) → (index_from (i + 1) (has_name name) (map shown_form hosts) ≡ Some ((i + 1) + k) → OfHostForm (slice_get hosts k) P) → (if t then Some i else index_from (i + 1) (has_name name) (map shown_form hosts)) ≡ Some (i + suc k) → OfHostForm (slice_get hosts k) P
+    by_test true rest is = absurd (let same : i ≡ i + suc k = Rattle.std.proofs.lemmas.Option.same_Some i (i + suc k) is in omega (arith, same))
+    by_test false rest is = rest (is ∙ ap Some shift)
+
+module _ (lines : ℕ) (world : WorldView) (is : IsFormed world) where
+  abbrev forms : List HostForm
+  forms = forms_of world.journal
+
+  -- one note more
+  added : (views : List HostView) (n : Note) → Pairs HostFormed views (forms_after forms n) → IsFormed (record { hosts = views; journal = world.journal ++ n ∷ [] })
+  added views n all = subst (λ (z : List HostForm). Pairs HostFormed views z) (sym (forms_both [] world.journal (n ∷ []))) all
+
+  refused : (c : Call) (o : Option Refusal) (cause : Refusal) → refusal_told c lines forms ≡ Some cause → HasForm c lines world (record world { journal = world.journal ++ Refused (name_of c) cause ∷ [] })
+  refused c o cause told = record {
+    notes = Refused (name_of c) cause ∷ [];
+    joined = refl;
+    form = subst (λ (r : Option Refusal). FormByRefusal (name_of c) r (Refused (name_of c) cause ∷ []) (FreeForm c lines forms (Refused (name_of c) cause ∷ []))) (sym told) refl;
+    formed = added world.hosts (Refused (name_of c) cause) is;
+  }
+
+  freed : (c : Call) (notes : List Note) → refusal_told c lines forms ≡ None → FreeForm c lines forms notes → DoesForm c lines forms notes
+  freed c notes told x = subst (λ (r : Option Refusal). FormByRefusal (name_of c) r notes (FreeForm c lines forms notes)) (sym told) x
+
+  -- of a declared host
+  hosted : (c : Call) (g : HostView → HostView) (n : ℕ → Note) (o : Option ℕ) → number_in (name_of c) world ≡ o → ((h : ℕ) → o ≡ None → ⊥)
+      → ((h : ℕ) → HostActsForm c lines forms (n h ∷ []) → FreeForm c lines forms (n h ∷ []))
+      → ((h : ℕ) (f : HostForm) → ActsForm c h f lines forms (n h ∷ [])) → ((h : ℕ) → Pairs HostFormed (changed_at h g world.hosts) (forms_after forms (n h)))
+      → refusal_told c lines forms ≡ None → HasForm c lines world (with_host o g n world)
+  hosted c g n None number none free acts pairs told = absurd (none 0 refl)
+  hosted c g n (Some h) number none free acts pairs told =
+      let at_number : number_of (name_of c) (shown_forms lines forms) ≡ Some h = sym (number_formed lines world is (name_of c)) ∙ number in
+      record {
+        notes = n h ∷ [];
+        joined = refl;
+        form = freed c (n h ∷ []) told (free h (subst (λ (o : Option ℕ). AtForm o forms (λ k f. ActsForm c k f lines forms (n h ∷ []))) (sym at_number) (named_here (name_of c) (λ f. ActsForm c h f lines forms (n h ∷ [])) (acts h) forms 0 h (at_number ∙ ap Some (omega arith)))));
+        formed = added (changed_at h g world.hosts) (n h) (pairs h);
+      }
+
+  told_of : (c : Call) → IsNoMake c → refusal_told c lines forms ≡ refusal_in c world lines
+  told_of (call.Declares name uuid) other = sym (refusal_formed lines world is (call.Declares name uuid) tt)
+  told_of (call.Makes name fs unit log force) other = absurd other
+  told_of (call.Begins name cmd) other = sym (refusal_formed lines world is (call.Begins name cmd) tt)
+  told_of (call.Steps name) other = sym (refusal_formed lines world is (call.Steps name) tt)
+  told_of (call.Finishes name) other = sym (refusal_formed lines world is (call.Finishes name) tt)
+  told_of (call.Stops name) other = sym (refusal_formed lines world is (call.Stops name) tt)
+  told_of (call.Halts name) other = sym (refusal_formed lines world is (call.Halts name) tt)
+  told_of (call.Moves name line move) other = sym (refusal_formed lines world is (call.Moves name line move) tt)
+  told_of (call.Refuses name cause) other = sym (refusal_formed lines world is (call.Refuses name cause) tt)
+
+  -- an undeclared host is refused
+  no_host : (name : List ℕ) (f : ℕ → Option Refusal) → on_host (number_of name (shown_state world lines)) f ≡ None → number_in name world ≡ None → ⊥
+  no_host name f free none = absurd (let some : on_host (number_of name (shown_state world lines)) f ≡ Some why.NoHost = ap (λ (o : Option ℕ). on_host o f) none in let both = sym free ∙ some in cc)
+
+  acted_form : (c : Call) → TakesNoMedia c lines world → refusal_in c world lines ≡ None → HasForm c lines world (acted_by None c lines world)
+  unfolding refusal_of
+  acted_form (call.Declares name uuid) takes free = record {
+    notes = note.Host name uuid ∷ [];
+    joined = refl;
+    form = freed (call.Declares name uuid) (note.Host name uuid ∷ []) (told_of (call.Declares name uuid) tt ∙ free) refl;
+    formed = added _ (note.Host name uuid) (pairs_last HostFormed world.hosts forms _ _ is record { name = refl; uuid = refl; task = tt });
+  }
+  acted_form (call.Makes name fs unit log force) takes free = absurd takes
+  acted_form (call.Begins name cmd) takes free =
+      hosted (call.Begins name cmd) (λ v. record v { task = Some (starting cmd v.uuid lines) }) (λ h. note.Start h cmd) (number_in name world) refl (λ h none. no_host name _ free none) (λ h x. x) (λ h f. refl)
+      (λ h. pairs_any HostFormed _ _ (λ v f at. record { name = at.name; uuid = at.uuid; task = record { cmd = refl; me_is = refl; stage = refl } }) h world.hosts forms is)
+      (told_of (call.Begins name cmd) tt ∙ free)
+  acted_form (call.Steps name) takes free = absurd takes
+  acted_form (call.Finishes name) takes free = absurd takes
+  acted_form (call.Stops name) takes free =
+      hosted (call.Stops name) (λ v. record v { task = None }) note.Stop (number_in name world) refl (λ h none. no_host name _ free none) (λ h x. x) (λ h f. refl)
+      (λ h. pairs_any HostFormed _ _ (λ v f at. record { name = at.name; uuid = at.uuid; task = tt }) h world.hosts forms is)
+      (told_of (call.Stops name) tt ∙ free)
+  acted_form (call.Halts name) takes free =
+      hosted (call.Halts name) (λ v. record v { cache = finmap.empty; task = None }) note.Halt (number_in name world) refl (λ h none. no_host name _ free none) (λ h x. x) (λ h f. refl)
+      (λ h. pairs_any HostFormed _ _ (λ v f at. record { name = at.name; uuid = at.uuid; task = tt }) h world.hosts forms is)
+      (told_of (call.Halts name) tt ∙ free)
+  acted_form (call.Moves name line move) takes free = absurd takes
+  acted_form (call.Refuses name cause) takes free = record {
+    notes = Refused name cause ∷ [];
+    joined = refl;
+    form = freed (call.Refuses name cause) (Refused name cause ∷ []) (told_of (call.Refuses name cause) tt ∙ free) (refl, by_takes takes);
+    formed = added world.hosts (Refused name cause) is;
+  }
+    where
+      by_takes : call.IsOfSource cause ⊎ (refusal_in (call.Begins name Logplay) world lines ≡ Some cause) → call.IsOfSource cause ⊎ (call.may_begin name (shown_forms lines forms) ≡ Some cause)
+      by_takes (inl x) = inl x
+      by_takes (inr x) = inr (sym (refusal_formed lines world is (call.Begins name Logplay) tt) ∙ x)
+
+  no_make : (c : Call) → TakesNoMedia c lines world → IsNoMake c
+  no_make (call.Declares name uuid) takes = tt
+  no_make (call.Makes name fs unit log force) takes = takes
+  no_make (call.Begins name cmd) takes = tt
+  no_make (call.Steps name) takes = tt
+  no_make (call.Finishes name) takes = tt
+  no_make (call.Stops name) takes = tt
+  no_make (call.Halts name) takes = tt
+  no_make (call.Moves name line move) takes = tt
+  no_make (call.Refuses name cause) takes = tt
+
+  pub solo_form : (c : Call) → TakesNoMedia c lines world → HasForm c lines world (world_after c lines world)
+  solo_form c takes = by_refusal (refusal_in c world lines) refl
+    where
+      by_refusal : (o : Option Refusal) → refusal_in c world lines ≡ o → HasForm c lines world (acted_by o c lines world)
+      by_refusal (Some cause) e = refused c (Some cause) cause (told_of c (no_make c takes) ∙ e)
+      by_refusal None e = acted_form c takes e

@@ -1,0 +1,10 @@
+-- Whole runs: their journals are legal, their answers are of the rules, and they come to an end.
+pub mod Following
+pub mod Completing
+pub mod Ending
+pub mod Halting
+pub mod Faultless
+pub mod Unique
+pub mod Left
+pub mod Ruled
+pub mod Causes

@@ -1,0 +1,4 @@
+-- Samples, computed.
+pub mod Vectors
+pub mod Endings
+pub mod Programs

@@ -1,0 +1,116 @@
+-- On a damaged image: what a turn may say is legal, and settles nothing.
+use Rattle.std.proofs.Common.{◌≡◌, ◌≢◌, ℕ, ◌*◌, List, length, Option, Some, refl, ap, sym, ◌∙◌, subst}
+use Rattle.std.specs.Prelude.{slice_get, Ok}
+use Rattle.std.proofs.lemmas.Option.{same_Some}
+use Rattle.fam_base.specs.declared.entry.Entry.{Entry}
+use Rattle.fam_base.specs.declared.entry.Params.{Params}
+use Rattle.fam_base.specs.Image.{Image, line_at}
+use Rattle.fam_format.specs.Reading as read
+use Rattle.fam_format.specs.Reading.{Lines, Reading, gate_in, reading_of, super_in}
+use Rattle.fam_commands.specs.Stands.{note_of}
+use Rattle.fam_commands.specs.Task.{Task}
+use Rattle.fam_commands.specs.Turns.{Turn, Goes, Marks, Finds, Writes, Ends}
+use Rattle.fam_rules.specs.declared.answers.Refused.TheVariants as refused
+use Rattle.fam_rules.specs.Place.{line_bytes}
+use Rattle.fam_rules.specs.Reply as reply
+use Rattle.fam_rules.specs.Reply.{Reply}
+use Rattle.fam_protocol.specs.Bad.{MayReplyBad, MaySayBad, fault_of}
+use Rattle.fam_protocol.specs.Steps.{turn_settles}
+use Rattle.fam_journal.proofs.Settled.ReplyCases.{replied_by}
+use Rattle.fam_journal.specs.Kept.{settled_bad, settled_of}
+use Rattle.fam_journal.specs.Legal.{DamageAllowed, FoundAllowed, LegalBehind, OfHost, ReplyAllowed, ReportAllowed, master_of, master_read}
+use Rattle.fam_journal.specs.Machines.{notes_of}
+use Rattle.fam_journal.specs.Past as past
+use Rattle.fam_journal.specs.Past.{Damage, FewLines, State, Bad, Sound, HostPast, Past, past_behind, replied, reported_count, shows_count, state_read}
+use Rattle.fam_journal.proofs.Settled.BadStates.{not_super}
+
+-- Nothing is settled.
+
+pub replied_bad : (i : Image) (d : Damage) (g : ℕ) (given : Reply) → replied given (Bad i d g) ≡ Bad i d g
+replied_bad i d g = replied_by (λ f. f (Bad i d g) ≡ Bad i d g) refl (λ m. refl) (λ seq. refl)
+
+turn_keeps_bad : (image : Lines) (turn : Turn) (d : Damage) → turn_settles turn (settled_bad image d) ≡ settled_bad image d
+turn_keeps_bad image turn (FewLines lines) = refl
+turn_keeps_bad image turn (past.NoSuperblock fault) = refl
+turn_keeps_bad image turn (past.BadHeader fault) = refl
+turn_keeps_bad image turn (past.BadSlot i reason) = refl
+
+bad_stays : (start : Image) (hosts : List HostPast) (h : ℕ) (i : Image) (d : Damage) (g : ℕ) (turn : Turn) → (past_behind (record { start = start; state = Bad i d g; hosts = hosts }) (notes_of h (note_of turn))).state ≡ Bad i d g
+bad_stays start hosts h i d g (Goes next) = refl
+bad_stays start hosts h i d g (Marks next) = refl
+bad_stays start hosts h i d g (Finds n next) = refl
+bad_stays start hosts h i d g (Writes seq e next) = refl
+bad_stays start hosts h i d g (Ends given) = replied_bad i d g given
+
+pub bad_settles : (start : Image) (hosts : List HostPast) (h : ℕ) (i : Image) (d : Damage) (g : ℕ) (turn : Turn)
+    → settled_of (past_behind (record { start = start; state = Bad i d g; hosts = hosts }) (notes_of h (note_of turn))).state ≡ turn_settles turn (settled_of (Bad i d g))
+bad_settles start hosts h i d g turn = ap settled_of (bad_stays start hosts h i d g turn) ∙ sym (turn_keeps_bad (line_at i) turn d)
+
+-- What is legal.
+
+module _ (first start : Image) (state : State) (hosts : List HostPast) (h : ℕ) (told : HostPast) (host_is : slice_get hosts h ≡ Some told) (t : Task) (me : told.uuid ≡ t.me) (state_is : state ≡ state_read start (reading_of (line_at start) (line_bytes * length start))) (bad : (p : Params) (entries : List Entry) → reading_of (line_at start) (line_bytes * length start) ≢ read.Sound p entries) where
+  abbrev have : ℕ
+  have = line_bytes * length start
+
+  -- the fault of the image
+  at_reading : (P : State → Type 0) (r : Reading) → reading_of (line_at start) have ≡ r → P (state_read start r) → P state
+  at_reading P r is holds = subst P (sym (state_is ∙ ap (state_read start) is)) holds
+
+  super_fault : (r : Reading) (given : Reply) → reading_of (line_at start) have ≡ r → fault_of r ≡ Some given → ReplyAllowed given told state
+  super_fault (read.NoSuperblock fault) given is e =
+      subst (λ (x : Reply). ReplyAllowed x told state) (same_Some (reply.NoSuperblock fault) given e)
+      (at_reading (λ (s : State). DamageAllowed (past.NoSuperblock fault) s) (read.NoSuperblock fault) is refl)
+  super_fault (read.BadHeader fault) given is e =
+      subst (λ (x : Reply). ReplyAllowed x told state) (same_Some (reply.BadHeader fault) given e)
+      (at_reading (λ (s : State). DamageAllowed (past.BadHeader fault) s) (read.BadHeader fault) is refl)
+  super_fault (read.BadSlot i reason) given is e =
+      subst (λ (x : Reply). ReplyAllowed x told state) (same_Some (reply.BadSlot i reason) given e)
+      (at_reading (λ (s : State). DamageAllowed (past.BadSlot i reason) s) (read.BadSlot i reason) is refl)
+  super_fault (read.Sound p entries) given is e = absurd cc
+
+  master_by : (p : Params) (r : Reading) → super_in (line_at start) have ≡ Ok p → reading_of (line_at start) have ≡ r → master_of (state_read start r) ≡ Some p.master
+  master_by p (read.NoSuperblock fault) super is = absurd (not_super (line_at start) p fault have super is)
+  master_by p (read.BadHeader fault) super is = ap master_read super
+  master_by p (read.BadSlot i reason) super is = ap master_read super
+  master_by p (read.Sound q entries) super is = absurd (bad q entries is)
+
+  report_by : (given : Rattle.fam_rules.specs.declared.answers.Report.Report) (r : Reading) → reading_of (line_at start) have ≡ r → given ≡ Rattle.fam_rules.specs.Reports.report_of (line_at start) have → ReportAllowed given told (state_read start r)
+  report_by given (read.NoSuperblock fault) is same = same
+  report_by given (read.BadHeader fault) is same = same
+  report_by given (read.BadSlot i reason) is same = same
+  report_by given (read.Sound p entries) is same = absurd (bad p entries is)
+
+  reply_legal : (given : Reply) → MayReplyBad given (line_at start) have t → ReplyAllowed given told state
+  reply_legal (reply.NotAppended (refused.NotMaster own master)) a = record {
+    me_is = a.me_is ∙ sym me;
+    master_is = ap master_of state_is ∙ master_by a.params (reading_of (line_at start) have) a.super refl ∙ ap Some (sym a.master_is);
+    other = a.other;
+  }
+  reply_legal (reply.NotAppended refused.BadStripe) a = absurd a
+  reply_legal (reply.NotAppended (refused.Exists kind)) a = absurd a
+  reply_legal (reply.NotAppended refused.NoParent) a = absurd a
+  reply_legal (reply.NotAppended refused.ParentIsFile) a = absurd a
+  reply_legal (reply.NotAppended (refused.LogFull slots)) a = absurd a
+  reply_legal (reply.NotAppended (refused.NoSpace units)) a = absurd a
+  reply_legal (reply.Reports report) a =
+      subst (λ (s : State). ReportAllowed report told s) (sym state_is) (report_by report (reading_of (line_at start) have) refl a)
+  reply_legal (reply.NoSuperblock fault) a = super_fault (reading_of (line_at start) have) (reply.NoSuperblock fault) refl a
+  reply_legal (reply.BadHeader fault) a = super_fault (reading_of (line_at start) have) (reply.BadHeader fault) refl a
+  reply_legal (reply.BadSlot i reason) a = super_fault (reading_of (line_at start) have) (reply.BadSlot i reason) refl a
+  reply_legal (reply.Appended seq) a = absurd a
+  reply_legal (reply.Played m tree) a = absurd a
+  reply_legal (reply.Same m) a = absurd a
+  reply_legal (reply.Differs m offset found wanted) a = absurd a
+  reply_legal (reply.Length m size wanted) a = absurd a
+  reply_legal (reply.Bytes m bytes) a = absurd a
+  reply_legal (reply.NotFound m) a = absurd a
+  reply_legal (reply.IsDirectory m) a = absurd a
+  reply_legal (reply.Checks m checked) a = absurd a
+
+  pub damaged_legal : (turn : Turn) → MaySayBad turn (line_at start) have t → LegalBehind (record { start = first; state = state; hosts = hosts }) (notes_of h (note_of turn))
+  damaged_legal (Goes next) may = tt
+  damaged_legal (Marks next) may = (tt, tt)
+  damaged_legal (Finds n next) may = (at_reading (λ (s : State). FoundAllowed n s) (read.BadSlot may.slot may.reason) may.bad may.is, tt)
+  damaged_legal (Writes seq e next) may = absurd may
+  damaged_legal (Ends given) may =
+      (subst (λ (o : Option HostPast). OfHost o (λ x. ReplyAllowed given x state)) (sym host_is) (reply_legal given may), tt)

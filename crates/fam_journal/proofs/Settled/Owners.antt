@@ -1,0 +1,125 @@
+-- On a damaged image: a task that appends comes to a fault behind the superblock only where its host is the one that the
+-- superblock names.
+use Rattle.std.proofs.Common.{◌≡◌, ℕ, ◌*◌, ◌⊎◌, List, length, Some, inl, inr, refl, ap, sym, ◌∙◌, subst}
+use Rattle.std.specs.Prelude.{⊤, unwrap_or}
+use Rattle.std.proofs.lemmas.Option.{same_Some}
+use Rattle.fam_base.specs.declared.cmd.Cmd.{Cmd}
+use Rattle.fam_base.specs.Image.{Image, line_at}
+use Rattle.fam_format.specs.declared.faults.LogFault.{LogFault}
+use Rattle.fam_format.specs.declared.faults.Reason.{Reason}
+use Rattle.fam_format.specs.Reading.{Lines, super_in}
+use Rattle.fam_commands.specs.declared.phase.Part.TheVariants.{Superblock, Header, Slot, File}
+use Rattle.fam_commands.specs.declared.phase.Phase.{Phase}
+use Rattle.fam_commands.specs.declared.phase.Phase.TheVariants as at
+use Rattle.fam_machine.specs.Operations.{given_by}
+use Rattle.fam_commands.specs.Stands.{turn_given}
+use Rattle.fam_commands.specs.Task.{Task, op_of}
+use Rattle.fam_commands.specs.Turns.{Ends}
+use Rattle.fam_rules.specs.Place.{line_bytes}
+use Rattle.fam_rules.specs.Reply as reply
+use Rattle.fam_rules.specs.Reply.{Reply}
+use Rattle.fam_protocol.specs.After.{Run}
+use Rattle.fam_commands.specs.Appends.{HasWish, IsBeforeWrites}
+use Rattle.fam_protocol.specs.Bad.{AtDamagedPhase, ReadsSuper}
+use Rattle.fam_protocol.specs.SharedState.{SharedState}
+use Rattle.fam_protocol.specs.Invariant.{Hosts, IsDamaged, InvariantBy}
+use Rattle.fam_commands.proofs.BeforeWrites.{EndsAt, IsBehindSuper, SaysAt, turn_says}
+use Rattle.fam_journal.specs.Kept.{settled_bad, settled_of}
+use Rattle.fam_journal.specs.Laws.{IsOwn}
+use Rattle.fam_journal.specs.Legal.{damaged_master, master_read}
+use Rattle.fam_journal.specs.Past as past
+use Rattle.fam_journal.specs.Past.{Damage, FewLines, State, Bad, Sound, HostPast}
+
+-- where the command appends, its host is the one that a damaged image's superblock names
+abbrev pub Owns : Cmd → HostPast → State → Type 0
+Owns cmd host (Sound p history pending) = ⊤
+Owns cmd host (Bad image damage gate) = HasWish cmd → (master : List ℕ) → damaged_master image damage ≡ Some master → host.uuid ≡ master
+
+-- so it is where a fault behind the superblock is answered
+pub record OwnsFault (cmd : Cmd) (host : HostPast) (state : State) (given : Reply) : Type 0 where
+  pub header : (fault : LogFault) → given ≡ reply.BadHeader fault → Owns cmd host state
+  pub slot : (i : ℕ) (reason : Reason) → given ≡ reply.BadSlot i reason → Owns cmd host state
+
+-- Such an answer is given behind the superblock.
+
+behind_or : (p : Phase) → IsBeforeWrites p ⊎ IsBehindSuper p
+behind_or at.DropMagic = inl tt
+behind_or at.Magic = inl tt
+behind_or (at.Drop part j) = inl tt
+behind_or (at.Word part j k) = inl tt
+behind_or at.DropGate = inl tt
+behind_or at.Gate = inl tt
+behind_or (at.Check i) = inl tt
+behind_or at.Decide = inl tt
+behind_or (at.StoreData j k) = inr tt
+behind_or (at.SendData j) = inr tt
+behind_or (at.StoreSlot j k) = inr tt
+behind_or (at.SendSlot j) = inr tt
+behind_or at.StoreGate = inr tt
+behind_or at.SendGate = inr tt
+
+module _ (t : Task) (word : ℕ) (given : Reply) (is : turn_given t word ≡ Ends given) where
+  says_end : IsBeforeWrites t.phase → EndsAt t.phase t.cmd given
+  says_end reads = subst (SaysAt t.phase t.cmd) is (turn_says t.phase t (unwrap_or (given_by (op_of t) word) 0) reads refl)
+
+  header_behind : (fault : LogFault) → given ≡ reply.BadHeader fault → IsBehindSuper t.phase
+  header_behind fault e = elim (behind_or t.phase) [
+    | inl reads ↦ (subst (EndsAt t.phase t.cmd) e (says_end reads)).0
+    | inr behind ↦ behind
+  ]
+
+  slot_behind : (i : ℕ) (reason : Reason) → given ≡ reply.BadSlot i reason → IsBehindSuper t.phase
+  slot_behind i reason e = elim (behind_or t.phase) [
+    | inl reads ↦ (subst (EndsAt t.phase t.cmd) e (says_end reads)).0
+    | inr behind ↦ behind
+  ]
+
+-- Behind the superblock a host that appends is the one that it names.
+
+behind_known : (p : Phase) (image : Lines) (have h : ℕ) (t : Task) (s : SharedState) → IsBehindSuper p → AtDamagedPhase p image have h t s → ReadsSuper image have t
+behind_known at.DropMagic image have h t s behind a = absurd behind
+behind_known at.Magic image have h t s behind a = absurd behind
+behind_known (at.Drop Superblock j) image have h t s behind a = absurd behind
+behind_known (at.Drop Header j) image have h t s behind a = a.0.1
+behind_known (at.Drop (Slot i) j) image have h t s behind a = a.0.0.header.super
+behind_known (at.Drop File j) image have h t s behind a = absurd a.0
+behind_known (at.Word Superblock j k) image have h t s behind a = absurd behind
+behind_known (at.Word Header j k) image have h t s behind a = a.0.1
+behind_known (at.Word (Slot i) j k) image have h t s behind a = a.0.0.header.super
+behind_known (at.Word File j k) image have h t s behind a = absurd a.0
+behind_known at.DropGate image have h t s behind a = a.2.super
+behind_known at.Gate image have h t s behind a = a.2.super
+behind_known (at.Check i) image have h t s behind a = a.0.header.super
+behind_known at.Decide image have h t s behind a = a.header.super
+behind_known (at.StoreData j k) image have h t s behind a = absurd a
+behind_known (at.SendData j) image have h t s behind a = absurd a
+behind_known (at.StoreSlot j k) image have h t s behind a = absurd a
+behind_known (at.SendSlot j) image have h t s behind a = absurd a
+behind_known at.StoreGate image have h t s behind a = absurd a
+behind_known at.SendGate image have h t s behind a = absurd a
+
+module _ (lines : ℕ) (hosts : Hosts) (shared : SharedState) (h : ℕ) (r : Run) (run : hosts.run h ≡ Some r) (behind : IsBehindSuper r.task.phase) where
+  by_super : (image : Image) → length image ≡ lines → IsDamaged (line_at image) lines hosts shared → HasWish r.task.cmd → (master : List ℕ) → master_read (super_in (line_at image) (line_bytes * length image)) ≡ Some master → r.task.me ≡ master
+  by_super image same stage wish master is =
+      let known = behind_known r.task.phase (line_at image) (line_bytes * lines) h r.task shared behind (stage.tasks h r run).phase in
+      known.master wish.0 wish.1
+      ∙ same_Some r.task.params.master master (sym (ap master_read (ap (λ (n : ℕ). super_in (line_at image) (line_bytes * n)) same ∙ known.super)) ∙ is)
+
+  owned : (image : Image) (damage : Damage) → length image ≡ lines → InvariantBy (settled_bad (line_at image) damage) lines hosts shared → HasWish r.task.cmd → (master : List ℕ) → damaged_master image damage ≡ Some master → r.task.me ≡ master
+  owned image (FewLines n) same stage wish master is = absurd cc
+  owned image (past.NoSuperblock fault) same stage wish master is = absurd cc
+  owned image (past.BadHeader fault) same stage wish master is = by_super image same stage wish master is
+  owned image (past.BadSlot i reason) same stage wish master is = by_super image same stage wish master is
+
+  owns : (cmd : Cmd) (told : HostPast) → r.task.cmd ≡ cmd → told.uuid ≡ r.task.me → (state : State) → ((i : Image) (d : Damage) (g : ℕ) → state ≡ Bad i d g → IsOwn lines i d g) → InvariantBy (settled_of state) lines hosts shared → Owns cmd told state
+  owns cmd told cmds me (Sound p history pending) own stage = tt
+  owns cmd told cmds me (Bad image damage gate) own stage = λ wish master is.
+      me ∙ owned image damage (own image damage gate refl).lines_are stage (subst HasWish (sym cmds) wish) master is
+
+pub owns_fault : (lines : ℕ) (hosts : Hosts) (shared : SharedState) (h : ℕ) (r : Run) → hosts.run h ≡ Some r → (cmd : Cmd) (told : HostPast) → r.task.cmd ≡ cmd → told.uuid ≡ r.task.me
+    → (state : State) → ((i : Image) (d : Damage) (g : ℕ) → state ≡ Bad i d g → IsOwn lines i d g) → InvariantBy (settled_of state) lines hosts shared
+    → (word : ℕ) (given : Reply) → turn_given r.task word ≡ Ends given → OwnsFault cmd told state given
+owns_fault lines hosts shared h r run cmd told cmds me state own stage word given is = record {
+  header = λ fault e. owns lines hosts shared h r run (header_behind r.task word given is fault e) cmd told cmds me state own stage;
+  slot = λ i reason e. owns lines hosts shared h r run (slot_behind r.task word given is i reason e) cmd told cmds me state own stage;
+}

@@ -1,0 +1,3 @@
+-- Texts of journals and listings.
+pub mod Names
+pub mod Printed

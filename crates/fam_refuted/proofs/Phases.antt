@@ -1,0 +1,383 @@
+-- Runs of a master and a reader, computed on what memory and their caches show of a slot and of the gate.
+use Rattle.std.proofs.Common.{ℕ, zero, suc, ◌≡◌, ◌≢◌, inl, inr, ◌+◌, ◌*◌, ◌<◌, ◌≤◌, Bool, true, false, cond, List, [], ◌∷◌, ◌++◌, length, map, refl, sym, ap, subst, ◌∙◌, length-append, arith}
+use Rattle.std.specs.Prelude.{⊤, filter, flat_map}
+use Rattle.std.proofs.Math.Nat.{mul-suc}
+use Rattle.std.specs.List.{range_with_len}
+use Rattle.fam_base.specs.declared.entry.Params.{Params}
+use Rattle.fam_format.specs.Layout.{gate_line, slot_line}
+use Rattle.fam_machine.specs.declared.cell.Cell.{Cell}
+use Rattle.fam_machine.specs.declared.op.Op.{Op}
+use Rattle.fam_machine.specs.declared.op.Op.TheVariants.{Load, Store, WriteBack, Invalidate, Digest}
+use Rattle.fam_protocol.specs.SharedState.{SharedState, ChangesOnly}
+use Rattle.fam_refuted.specs.Refused.{Step, Does, RanSteps, ends, goes, all_by}
+use Rattle.fam_protocol.proofs.Lines.Free.{same}
+use Rattle.fam_refuted.proofs.Runs.{word_by, Here, here, placed, left_all, give_all, Shows, Did, at_one, does_op, ran_on}
+
+-- The lines of a slot.
+
+module _ (p : Params) (n : ℕ) where
+  -- a host takes steps at each of these lines
+  pub record DidAll (h : ℕ) (steps : ℕ → List Step) (x : ℕ → Here) (from count : ℕ) (s : SharedState) : Type 0 where
+    pub after : SharedState
+    pub ran : RanSteps (flat_map (λ j. map (placed h (slot_line p n j)) (steps j)) (range_with_len from count)) (flat_map (λ j. give_all (steps j) (x j)) (range_with_len from count)) s after
+    pub inside : (j : ℕ) → from ≤ j → j < from + count → Shows after h (slot_line p n j) (left_all (steps j) (x j))
+    pub memory : (l : ℕ) → ((j : ℕ) → from ≤ j → j < from + count → l ≢ slot_line p n j) → after.memory l ≡ s.memory l
+    pub copies : (k l : ℕ) → ((j : ℕ) → from ≤ j → j < from + count → l ≢ slot_line p n j) → after.copy k l ≡ s.copy k l
+    pub hosts : (k l : ℕ) → k ≢ h → after.copy k l ≡ s.copy k l
+
+  pub at_all : (h : ℕ) (steps : ℕ → List Step) (x : ℕ → Here) (from count : ℕ) (s : SharedState) → ((j : ℕ) → from ≤ j → j < from + count → Shows s h (slot_line p n j) (x j)) → DidAll h steps x from count s
+  at_all h steps x from zero s shows =
+      record { after = s; ran = ends; inside = λ j low high. absurd (omega (arith, low, high)); memory = λ l out. refl; copies = λ k l out. refl; hosts = λ k l ne. refl }
+  at_all h steps x from (suc count) s shows =
+      let first : Did h (slot_line p n from) (steps from) (x from) s = at_one h (slot_line p n from) (steps from) (x from) s (shows from (omega arith) (omega arith)) in
+      let rest : DidAll h steps x (from + 1) count first.after =
+      at_all h steps x (from + 1) count first.after (λ j low high.
+      let held = shows j (omega (arith, low)) (omega (arith, high)) in
+      let other : slot_line p n j ≢ slot_line p n from = λ e. omega (arith, e, low) in
+      record { words = first.only.memory (slot_line p n j) other ∙ held.words; cell = first.only.lines h (slot_line p n j) other ∙ held.cell }) in
+      record {
+        after = rest.after;
+        ran = ran_on first.ran rest.ran;
+        inside = λ j low high. elim (same j from) [
+          | inl e ↦
+              let out : (k : ℕ) → from + 1 ≤ k → k < from + 1 + count → slot_line p n from ≢ slot_line p n k = λ k above below e. omega (arith, e, above) in
+              let is : Shows rest.after h (slot_line p n from) (left_all (steps from) (x from)) = record { words = rest.memory (slot_line p n from) out ∙ first.shows.words; cell = rest.copies h (slot_line p n from) out ∙ first.shows.cell } in
+              subst (λ (i : ℕ). Shows rest.after h (slot_line p n i) (left_all (steps i) (x i))) (sym e) is
+          | inr ne ↦ rest.inside j (omega (arith, low, ne)) (omega (arith, high))
+        ];
+        memory = λ l out. rest.memory l (λ j low high. out j (omega (arith, low)) (omega (arith, high))) ∙ first.only.memory l (out from (omega arith) (omega arith));
+        copies = λ k l out. rest.copies k l (λ j low high. out j (omega (arith, low)) (omega (arith, high))) ∙ first.only.lines k l (out from (omega arith) (omega arith));
+        hosts = λ k l ne. rest.hosts k l ne ∙ first.only.hosts k l ne;
+      }
+
+-- What is shown.
+
+pub data Who : Type 0 where
+  Master : Who
+  Reader : Who
+
+-- a line of the slot, or the gate's
+pub data Which : Type 0 where
+  Slot : (j : ℕ) → Which
+  Gate : Which
+
+-- a slot has eight lines
+abbrev pub IsThere : Which → Type 0
+IsThere (Slot j) = j < 8
+IsThere Gate = ⊤
+
+-- what memory and the caches have of them
+pub record View : Type 0 where
+  pub words : Which → List ℕ
+  pub cell : Who → Which → Cell
+
+abbrev pub shared_by : View → Who → Which → Here
+shared_by v h w = here (v.words w) (v.cell h w)
+
+-- one of two copies, by whether two hosts are one
+abbrev at_host : Who → Who → Cell → Cell → Cell
+at_host Master Master new old = new
+at_host Master Reader new old = old
+at_host Reader Master new old = old
+at_host Reader Reader new old = new
+
+-- the slot's lines replaced
+abbrev put_slot : View → Who → (ℕ → Here) → View
+put_slot v h x = record { words = words; cell = cell }
+  where
+    words : Which → List ℕ
+    words (Slot j) = (x j).words
+    words Gate = v.words Gate
+
+    cell : Who → Which → Cell
+    cell k (Slot j) = at_host h k (x j).cell (v.cell k (Slot j))
+    cell k Gate = v.cell k Gate
+
+-- the gate's
+abbrev put_gate : View → Who → Here → View
+put_gate v h x = record { words = words; cell = cell }
+  where
+    words : Which → List ℕ
+    words (Slot j) = v.words (Slot j)
+    words Gate = x.words
+
+    cell : Who → Which → Cell
+    cell k (Slot j) = v.cell k (Slot j)
+    cell k Gate = at_host h k x.cell (v.cell k Gate)
+
+-- what one of them does: at each line of the slot, at the gate's, or elsewhere
+pub data Phase : Type 0 where
+  AtSlot : (h : Who) (steps : ℕ → List Step) → Phase
+  AtGate : (h : Who) (steps : List Step) → Phase
+  Elsewhere : (h : Who) (ops : List Op) → Phase
+
+-- what is shown then
+abbrev pub then : Phase → View → View
+then (AtSlot h steps) v = put_slot v h (λ j. left_all (steps j) (shared_by v h (Slot j)))
+then (AtGate h steps) v = put_gate v h (left_all steps (shared_by v h Gate))
+then (Elsewhere h ops) v = v
+
+abbrev pub then_all : List Phase → View → View
+then_all [] v = v
+then_all (phase ∷ more) v = then_all more (then phase v)
+
+-- the words that it gives
+abbrev pub words_of : Phase → View → List ℕ
+words_of (AtSlot h steps) v = flat_map (λ j. give_all (steps j) (shared_by v h (Slot j))) (range_with_len 0 8)
+words_of (AtGate h steps) v = give_all steps (shared_by v h Gate)
+words_of (Elsewhere h ops) v = []
+
+abbrev pub words_of_all : List Phase → View → List ℕ
+words_of_all [] v = []
+words_of_all (phase ∷ more) v = words_of phase v ++ words_of_all more (then phase v)
+
+-- how many words operations load
+abbrev pub loads_in : List Op → ℕ
+loads_in [] = 0
+loads_in (Load l k ∷ more) = 1 + loads_in more
+loads_in (Store l k value ∷ more) = loads_in more
+loads_in (WriteBack l ∷ more) = loads_in more
+loads_in (Invalidate l ∷ more) = loads_in more
+loads_in (Digest ∷ more) = loads_in more
+
+pub loads_both : (xs ys : List Op) → loads_in (xs ++ ys) ≡ loads_in xs + loads_in ys
+loads_both [] ys = omega arith
+loads_both (Load l k ∷ more) ys = omega (arith, loads_both more ys)
+loads_both (Store l k value ∷ more) ys = loads_both more ys
+loads_both (WriteBack l ∷ more) ys = loads_both more ys
+loads_both (Invalidate l ∷ more) ys = loads_both more ys
+loads_both (Digest ∷ more) ys = loads_both more ys
+
+-- at so many slots as many each
+pub loads_at : (f : ℕ → List Op) (each from count : ℕ) → ((i : ℕ) → loads_in (f i) ≡ each) → loads_in (flat_map f (range_with_len from count)) ≡ each * count
+loads_at f each from zero is = omega arith
+loads_at f each from (suc count) is =
+    omega (arith, loads_both (f from) (flat_map f (range_with_len (from + 1) count)), is from, loads_at f each (from + 1) count is, mul-suc each count)
+
+module _ (p : Params) (n : ℕ) where
+  abbrev pub line : Which → ℕ
+  line (Slot j) = slot_line p n j
+  line Gate = gate_line
+
+  -- the gate's line is none of the slot
+  not_slot : (j : ℕ) → gate_line ≢ slot_line p n j
+  not_slot j e = absurd (omega (arith, e))
+
+  -- an operation that loads nothing, at no line of the slot and not at the gate's
+  abbrev pub IsApart : ℕ → Type 0
+  IsApart l = (w : Which) → IsThere w → line w ≢ l
+
+  abbrev pub IsElsewhere : Op → Type 0
+  IsElsewhere (Load l k) = ⊥
+  IsElsewhere (Store l k value) = IsApart l.0
+  IsElsewhere (WriteBack l) = IsApart l.0
+  IsElsewhere (Invalidate l) = IsApart l.0
+  IsElsewhere Digest = ⊤
+
+  abbrev pub AreElsewhere : List Op → Type 0
+  AreElsewhere [] = ⊤
+  AreElsewhere (op ∷ more) = IsElsewhere op × AreElsewhere more
+
+  -- one that may load
+  abbrev pub IsAway : Op → Type 0
+  IsAway (Load l k) = IsApart l.0
+  IsAway (Store l k value) = IsApart l.0
+  IsAway (WriteBack l) = IsApart l.0
+  IsAway (Invalidate l) = IsApart l.0
+  IsAway Digest = ⊤
+
+  abbrev pub AreAway : List Op → Type 0
+  AreAway [] = ⊤
+  AreAway (op ∷ more) = IsAway op × AreAway more
+
+  pub both_away : (xs ys : List Op) → AreAway xs → AreAway ys → AreAway (xs ++ ys)
+  both_away [] ys a b = b
+  both_away (op ∷ xs) ys a b = (a.0, both_away xs ys a.1 b)
+
+  pub all_away : (f : ℕ → List Op) (from count : ℕ) → ((j : ℕ) → from ≤ j → j < from + count → AreAway (f j)) → AreAway (flat_map f (range_with_len from count))
+  all_away f from zero are = tt
+  all_away f from (suc count) are =
+      both_away (f from) (flat_map f (range_with_len (from + 1) count)) (are from (omega arith) (omega arith)) (all_away f (from + 1) count (λ j low high. are j (omega (arith, low)) (omega (arith, high))))
+
+  chosen_away : (b : Bool) (op : Op) (rest : List Op) → IsAway op → AreAway rest → AreAway (cond b (op ∷ rest) rest)
+  chosen_away true op rest is are = (is, are)
+  chosen_away false op rest is are = are
+
+  pub some_away : (test : Op → Bool) (ops : List Op) → AreAway ops → AreAway (filter test ops)
+  some_away test [] are = tt
+  some_away test (op ∷ more) are = chosen_away (test op) op (filter test more) are.0 (some_away test more are.1)
+
+  abbrev pub IsPhase : Phase → Type 0
+  IsPhase (AtSlot h steps) = ⊤
+  IsPhase (AtGate h steps) = ⊤
+  IsPhase (Elsewhere h ops) = AreElsewhere ops
+
+  abbrev pub ArePhases : List Phase → Type 0
+  ArePhases [] = ⊤
+  ArePhases (phase ∷ more) = IsPhase phase × ArePhases more
+
+  -- operations of two lists
+  both_elsewhere : (xs ys : List Op) → AreElsewhere xs → AreElsewhere ys → AreElsewhere (xs ++ ys)
+  both_elsewhere [] ys a b = b
+  both_elsewhere (op ∷ xs) ys a b = (a.0, both_elsewhere xs ys a.1 b)
+
+  -- operations at some lines
+  pub all_elsewhere : (f : ℕ → List Op) (from count : ℕ) → ((j : ℕ) → from ≤ j → j < from + count → AreElsewhere (f j)) → AreElsewhere (flat_map f (range_with_len from count))
+  all_elsewhere f from zero are = tt
+  all_elsewhere f from (suc count) are =
+      both_elsewhere (f from) (flat_map f (range_with_len (from + 1) count)) (are from (omega arith) (omega arith)) (all_elsewhere f (from + 1) count (λ j low high. are j (omega (arith, low)) (omega (arith, high))))
+
+  module _ (host : Who → ℕ) (two : host Master ≢ host Reader) where
+    -- the steps of a phase
+    abbrev pub steps_of : Phase → List Step
+    steps_of (AtSlot h steps) = flat_map (λ j. map (placed (host h) (slot_line p n j)) (steps j)) (range_with_len 0 8)
+    steps_of (AtGate h steps) = map (placed (host h) gate_line) steps
+    steps_of (Elsewhere h ops) = all_by (host h) ops
+
+    abbrev pub steps_of_all : List Phase → List Step
+    steps_of_all [] = []
+    steps_of_all (phase ∷ more) = steps_of phase ++ steps_of_all more
+
+    pub record Shown (s : SharedState) (v : View) : Type 0 where
+      pub words : (w : Which) → IsThere w → s.memory (line w) ≡ v.words w
+      pub cell : (h : Who) (w : Which) → IsThere w → s.copy (host h) (line w) ≡ v.cell h w
+
+    -- a phase is a run, and shows what is computed
+    record Passed (phase : Phase) (s : SharedState) (v : View) : Type 0 where
+      after : SharedState
+      ran : RanSteps (steps_of phase) (words_of phase v) s after
+      shown : Shown after (then phase v)
+
+    module _ (s : SharedState) (v : View) (shown : Shown s v) where
+      here_shown : (h : Who) (w : Which) → IsThere w → Shows s (host h) (line w) (shared_by v h w)
+      here_shown h w there = record { words = shown.words w there; cell = shown.cell h w there }
+
+      -- at the slot
+      module _ (h : Who) (steps : ℕ → List Step) (did : DidAll p n (host h) steps (λ j. shared_by v h (Slot j)) 0 8 s) where
+        slot_words : (w : Which) → IsThere w → did.after.memory (line w) ≡ (then (AtSlot h steps) v).words w
+        slot_words (Slot j) there = (did.inside j (omega arith) there).words
+        slot_words Gate there = did.memory gate_line (λ j low high. not_slot j) ∙ shown.words Gate there
+
+      slot_cells : (h k : Who) (steps : ℕ → List Step) (w : Which) (did : DidAll p n (host h) steps (λ j. shared_by v h (Slot j)) 0 8 s) → IsThere w → did.after.copy (host k) (line w) ≡ (then (AtSlot h steps) v).cell k w
+      slot_cells Master Master steps (Slot j) did there = (did.inside j (omega arith) there).cell
+      slot_cells Reader Reader steps (Slot j) did there = (did.inside j (omega arith) there).cell
+      slot_cells Master Reader steps (Slot j) did there = did.hosts (host Reader) (slot_line p n j) (λ e. two (sym e)) ∙ shown.cell Reader (Slot j) there
+      slot_cells Reader Master steps (Slot j) did there = did.hosts (host Master) (slot_line p n j) two ∙ shown.cell Master (Slot j) there
+      slot_cells h k steps Gate did there = did.copies (host k) gate_line (λ j low high. not_slot j) ∙ shown.cell k Gate there
+
+      pass_slot : (h : Who) (steps : ℕ → List Step) → Passed (AtSlot h steps) s v
+      pass_slot h steps =
+          let did = at_all p n (host h) steps (λ j. shared_by v h (Slot j)) 0 8 s (λ j low high. here_shown h (Slot j) high) in
+          record { after = did.after; ran = did.ran; shown = record { words = slot_words h steps did; cell = λ k w there. slot_cells h k steps w did there } }
+
+      -- at the gate
+      gate_words : (h : Who) (steps : List Step) (did : Did (host h) gate_line steps (shared_by v h Gate) s) (w : Which) → IsThere w → did.after.memory (line w) ≡ (then (AtGate h steps) v).words w
+      gate_words h steps did (Slot j) there = did.only.memory (slot_line p n j) (λ e. not_slot j (sym e)) ∙ shown.words (Slot j) there
+      gate_words h steps did Gate there = did.shows.words
+
+      gate_cells : (h k : Who) (steps : List Step) (did : Did (host h) gate_line steps (shared_by v h Gate) s) (w : Which) → IsThere w → did.after.copy (host k) (line w) ≡ (then (AtGate h steps) v).cell k w
+      gate_cells h k steps did (Slot j) there = did.only.lines (host k) (slot_line p n j) (λ e. not_slot j (sym e)) ∙ shown.cell k (Slot j) there
+      gate_cells Master Master steps did Gate there = did.shows.cell
+      gate_cells Reader Reader steps did Gate there = did.shows.cell
+      gate_cells Master Reader steps did Gate there = did.only.hosts (host Reader) gate_line (λ e. two (sym e)) ∙ shown.cell Reader Gate there
+      gate_cells Reader Master steps did Gate there = did.only.hosts (host Master) gate_line two ∙ shown.cell Master Gate there
+
+      pass_gate : (h : Who) (steps : List Step) → Passed (AtGate h steps) s v
+      pass_gate h steps =
+          let did = at_one (host h) gate_line steps (shared_by v h Gate) s (here_shown h Gate tt) in
+          record { after = did.after; ran = did.ran; shown = record { words = gate_words h steps did; cell = λ k w there. gate_cells h k steps did w there } }
+
+    -- elsewhere
+    elsewhere_shown : (h l : ℕ) (s s' : SharedState) (v : View) → Shown s v → ChangesOnly h l s s' → IsApart l → Shown s' v
+    elsewhere_shown h l s s' v shown only apart = record {
+      words = λ w there. only.memory (line w) (apart w there) ∙ shown.words w there;
+      cell = λ k w there. only.lines (host k) (line w) (apart w there) ∙ shown.cell k w there;
+    }
+
+    -- an operation there is done, and what is shown stays
+    record Passes (h : Who) (op : Op) (s : SharedState) (v : View) : Type 0 where
+      next : SharedState
+      ran : RanSteps (Does (host h) op ∷ []) [] s next
+      shown : Shown next v
+
+    -- memory and a host's copy of a line show themselves
+    shows_itself : (s : SharedState) (h l : ℕ) → Shows s h l (here (s.memory l) (s.copy h l))
+    shows_itself s h l = record { words = refl; cell = refl }
+
+    pass_op : (h : Who) (op : Op) (s : SharedState) (v : View) → Shown s v → IsElsewhere op → Passes h op s v
+    pass_op h (Load l k) s v shown apart = absurd apart
+    pass_op h (Store l k value) s v shown apart =
+        let done = does_op (host h) l.0 (here (s.memory l.0) (s.copy (host h) l.0)) s (shows_itself s (host h) l.0) (Store l k value) in
+        record { next = done.next; ran = goes 0 done.operates ends; shown = elsewhere_shown (host h) l.0 s done.next v shown done.only apart }
+    pass_op h (WriteBack l) s v shown apart =
+        let done = does_op (host h) l.0 (here (s.memory l.0) (s.copy (host h) l.0)) s (shows_itself s (host h) l.0) (WriteBack l) in
+        record { next = done.next; ran = goes 0 done.operates ends; shown = elsewhere_shown (host h) l.0 s done.next v shown done.only apart }
+    pass_op h (Invalidate l) s v shown apart =
+        let done = does_op (host h) l.0 (here (s.memory l.0) (s.copy (host h) l.0)) s (shows_itself s (host h) l.0) (Invalidate l) in
+        record { next = done.next; ran = goes 0 done.operates ends; shown = elsewhere_shown (host h) l.0 s done.next v shown done.only apart }
+    pass_op h Digest s v shown apart = record { next = s; ran = goes 0 refl ends; shown = shown }
+
+    pass_else : (h : Who) (ops : List Op) (s : SharedState) (v : View) → Shown s v → AreElsewhere ops → Passed (Elsewhere h ops) s v
+    pass_else h [] s v shown apart = record { after = s; ran = ends; shown = shown }
+    pass_else h (op ∷ more) s v shown apart =
+        let first = pass_op h op s v shown apart.0 in
+        let rest = pass_else h more first.next v first.shown apart.1 in
+        record { after = rest.after; ran = ran_on first.ran rest.ran; shown = rest.shown }
+
+    pass : (phase : Phase) (s : SharedState) (v : View) → Shown s v → IsPhase phase → Passed phase s v
+    pass (AtSlot h steps) s v shown is = pass_slot s v shown h steps
+    pass (AtGate h steps) s v shown is = pass_gate s v shown h steps
+    pass (Elsewhere h ops) s v shown is = pass_else h ops s v shown is
+
+    -- phases are a run, and show what is computed
+    pub record PassedAll (phases : List Phase) (s : SharedState) (v : View) : Type 0 where
+      pub after : SharedState
+      pub ran : RanSteps (steps_of_all phases) (words_of_all phases v) s after
+      pub shown : Shown after (then_all phases v)
+
+    pub pass_all : (phases : List Phase) (s : SharedState) (v : View) → Shown s v → ArePhases phases → PassedAll phases s v
+    pass_all [] s v shown are = record { after = s; ran = ends; shown = shown }
+    pass_all (phase ∷ more) s v shown are =
+        let first = pass phase s v shown are.0 in
+        let rest = pass_all more first.after (then phase v) first.shown are.1 in
+        record { after = rest.after; ran = ran_on first.ran rest.ran; shown = rest.shown }
+
+    -- Loads elsewhere, of which the words don't matter.
+
+    -- such operations may be done. They give as many words as they load
+    pub record Loaded (h : Who) (ops : List Op) (s : SharedState) (v : View) : Type 0 where
+      pub words : List ℕ
+      pub after : SharedState
+      pub ran : RanSteps (all_by (host h) ops) words s after
+      pub shown : Shown after v
+      pub count : length words ≡ loads_in ops
+
+    record LoadsOne (h : Who) (op : Op) (s : SharedState) (v : View) : Type 0 where
+      words : List ℕ
+      after : SharedState
+      ran : RanSteps (Does (host h) op ∷ []) words s after
+      shown : Shown after v
+      count : length words ≡ loads_in (op ∷ [])
+
+    load_one : (h : Who) (op : Op) (s : SharedState) (v : View) → Shown s v → IsAway op → LoadsOne h op s v
+    load_one h (Load l k) s v shown apart =
+        let x = here (s.memory l.0) (s.copy (host h) l.0) in
+        let done = does_op (host h) l.0 x s (shows_itself s (host h) l.0) (Load l k) in
+        record { words = word_by (Load l k) x ∷ []; after = done.next; ran = goes (word_by (Load l k) x) done.operates ends; shown = elsewhere_shown (host h) l.0 s done.next v shown done.only apart; count = refl }
+    load_one h (Store l k value) s v shown apart = let did = pass_op h (Store l k value) s v shown apart in record { words = []; after = did.next; ran = did.ran; shown = did.shown; count = refl }
+    load_one h (WriteBack l) s v shown apart = let did = pass_op h (WriteBack l) s v shown apart in record { words = []; after = did.next; ran = did.ran; shown = did.shown; count = refl }
+    load_one h (Invalidate l) s v shown apart = let did = pass_op h (Invalidate l) s v shown apart in record { words = []; after = did.next; ran = did.ran; shown = did.shown; count = refl }
+    load_one h Digest s v shown apart = let did = pass_op h Digest s v shown apart in record { words = []; after = did.next; ran = did.ran; shown = did.shown; count = refl }
+
+    pub load_away : (h : Who) (ops : List Op) (s : SharedState) (v : View) → Shown s v → AreAway ops → Loaded h ops s v
+    load_away h [] s v shown apart = record { words = []; after = s; ran = ends; shown = shown; count = refl }
+    load_away h (op ∷ more) s v shown apart =
+        let first = load_one h op s v shown apart.0 in
+        let rest = load_away h more first.after v first.shown apart.1 in
+        record {
+          words = first.words ++ rest.words;
+          after = rest.after;
+          ran = ran_on first.ran rest.ran;
+          shown = rest.shown;
+          count = length-append first.words rest.words ∙ ap (λ (n : ℕ). n + length rest.words) first.count ∙ ap (λ (n : ℕ). loads_in (op ∷ []) + n) rest.count ∙ sym (loads_both (op ∷ []) more);
+        }
