@@ -1,7 +1,7 @@
 -- What one entry more changes.
-use Rattle.std.proofs.Common.{◌≡◌, ℕ, zero, suc, Bool, true, false, ◌+◌, ◌-◌, ◌*◌, ◌<◌, ◌≤◌, ◌%◌, ◌^◌, ◌==◌, ◌||◌, ◌&&◌, List, [], ◌∷◌, ◌++◌, length, get_or, map, cond, Option, Some, None, count_by, refl, sym, ap, ap₂, subst, ◌∙◌, arith}
+use Rattle.std.proofs.Common.{◌≡◌, ℕ, suc, Bool, true, false, ◌+◌, ◌*◌, ◌<◌, ◌≤◌, ◌%◌, ◌^◌, ◌==◌, ◌||◌, ◌&&◌, List, [], ◌∷◌, ◌++◌, length, get_or, map, cond, Option, Some, None, count_by, refl, sym, ap, ap₂, subst, ◌∙◌, arith}
 use Rattle.std.specs.Prelude.{nat_lt, nat_le}
-use Rattle.std.specs.List.{All, filter, list_any, range_with_len}
+use Rattle.std.specs.List.{All, filter, range_with_len}
 use Rattle.std.proofs.lemmas.Bool.{and_parts, leb-true}
 use Rattle.std.proofs.lemmas.List.{append-nil, map-append}
 use Rattle.std.proofs.lemmas.List.Concat.{flat_map-append}
@@ -15,7 +15,7 @@ use Rattle.fam_format.specs.EntryLaws.{IsInDevice}
 use Rattle.fam_format.specs.Layout.{head_units, device_units}
 use Rattle.fam_format.specs.Params.{SoundParams}
 use Rattle.fam_format.specs.Slot.{Proper}
-use Rattle.fam_format.specs.Tree.{Tree, with_entry, replay, tree_fault}
+use Rattle.fam_format.specs.Tree.{replay}
 use Rattle.fam_format.specs.Units.{units_in, list_units, is_used}
 use Rattle.fam_format.proofs.JoinLaws.{replay_more}
 use Rattle.fam_format.proofs.EntryLawsProofs.{proper_inside}

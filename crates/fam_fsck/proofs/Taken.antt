@@ -1,5 +1,5 @@
 -- An entry that joined a tree is taken back.
-use Rattle.std.proofs.Common.{◌≡◌, Option, Some, None, refl, sym, ap, ◌∙◌}
+use Rattle.std.proofs.Common.{◌≡◌, Option, Some, None, refl, sym}
 use Rattle.fam_base.specs.declared.entry.Entry.{Entry}
 use Rattle.fam_format.specs.Tree.{Tree, tree_fault}
 use Rattle.fam_format.specs.declared.faults.Reason.{Reason}

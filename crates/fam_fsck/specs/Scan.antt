@@ -2,7 +2,6 @@
 use Rattle.std.specs.Prelude.{ℕ, ◌≡◌, ◌+◌, ◌≤◌, Bool, List, length, Option, Some, None}
 use Rattle.std.specs.List.{All}
 use Rattle.fam_base.specs.declared.entry.Params.{Params}
-use Rattle.fam_base.specs.declared.entry.Entry.{Entry}
 use Rattle.fam_format.specs.Layout.{device_units}
 use Rattle.fam_format.specs.Params.{SoundParams}
 use Rattle.fam_format.specs.Tree.{Tree, replay}

@@ -49,8 +49,8 @@ fn directory(path: &[u8], number: u64) -> Result<[u64; SLOT_WORDS], BadPath> {
 
 /// The words of a file whose two extents are one unit each.
 fn file(path: &[u8], first: u64, second: u64, number: u64) -> Result<[u64; SLOT_WORDS], BadPath>
-    requires first { first < 1024 }
-    requires second { second < 1024 }
+    requires first { first < 16384 }
+    requires second { second < 16384 }
 {
     let mut extents = Extents::new();
     for unit in [first, second] {
@@ -188,5 +188,66 @@ fn an_entry_overlaps_with_itself(rt: HostRuntime) -> Result<(), Fail> {
         ..sound()
     };
     assert_eq!(rt; reported(rt.alloc(), &slots, 3)?, report);
+    Ok(())
+}
+
+/// A device of 64 MiB, 16,384 units, with a log of 1 MiB: the first 768 units are superblock and log.
+fn long_log() -> Params
+    ensures { SoundParams result }
+{
+    Params {
+        log_length: 1_048_576,
+        slots: 2_047,
+        unit: 4_096,
+        device: 67_108_864,
+        ..params()
+    }
+}
+
+/// A letter for each digit of a number, so that each number has a path.
+fn letters(number: u64) -> [u8; 3] {
+    [
+        b'a' + (number / 676 % 26) as u8,
+        b'a' + (number / 26 % 26) as u8,
+        b'a' + (number % 26) as u8,
+    ]
+}
+
+/// 1,100 files with units of their own, one that shares a unit with numbers 7 and 3, and zeros.
+fn crowded_slot(number: u64) -> Result<[u64; SLOT_WORDS], BadPath> {
+    if number < 1_100 {
+        return file(
+            &letters(number),
+            1_000 + 2 * number,
+            1_001 + 2 * number,
+            number,
+        );
+    }
+    if number == 1_100 {
+        return file(b"x", 1_014, 1_006, number);
+    }
+    Ok([0; SLOT_WORDS])
+}
+
+#[test]
+fn the_least_earlier_entry_of_a_long_log_is_told(rt: HostRuntime) -> Result<(), Fail> {
+    let params = long_log();
+    let mut fsck = Fsck::new(rt.alloc(), &params, 1_101)?;
+    for i in 0..params.slots {
+        fsck.add(&crowded_slot(i)?)?;
+    }
+    let report = Report {
+        log: LogState::Sound {
+            entries: 1_101,
+            slots: 2_047,
+        },
+        files: 1_101,
+        directories: 0,
+        used: 2_968,
+        free: 13_416,
+        overlap: Some((3, 1_100)),
+        ..sound()
+    };
+    assert_eq!(rt; fsck.report(), report);
     Ok(())
 }

@@ -1,7 +1,7 @@
 -- Words that are printed one behind another are read as these words.
-use Rattle.std.proofs.Common.{◌≡◌, ℕ, suc, ◌+◌, ◌-◌, ◌<◌, ◌≤◌, Bool, true, false, cond, List, [], ◌∷◌, ◌++◌, length, take, drop, refl, sym, ap, ◌∙◌, subst, arith, append-nil}
+use Rattle.std.proofs.Common.{◌≡◌, ℕ, suc, ◌+◌, Bool, false, cond, List, [], ◌∷◌, ◌++◌, length, take, drop, refl, ap, ◌∙◌, subst, arith, append-nil}
 use Rattle.std.specs.List.{join_with_byte}
-use Rattle.std.proofs.lemmas.List.{take_at, drop_at, take_all, length-append}
+use Rattle.std.proofs.lemmas.List.{take_at, drop_at, take_all}
 use Rattle.fam_grammar.specs.Words.{Word, is_blank, words_from}
 use Rattle.fam_grammar.specs.Cursor.{prefix_length, BeginsWithWord}
 use Rattle.fam_grammar.proofs.WordLemmas.{word_prefix}

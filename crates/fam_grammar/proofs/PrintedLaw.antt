@@ -1,5 +1,5 @@
 -- What is printed of a command reads as that command.
-use Rattle.std.proofs.Common.{◌≡◌, ℕ, ◌+◌, ◌^◌, ◌<◌, ◌≤◌, Bool, true, false, List, [], ◌∷◌, ◌++◌, Option, Some, None, length, codes, refl, sym, ap, ◌∙◌, subst, arith, append-nil, decimal}
+use Rattle.std.proofs.Common.{◌≡◌, ℕ, ◌+◌, ◌^◌, ◌<◌, ◌≤◌, true, List, [], ◌∷◌, ◌++◌, Option, Some, None, length, codes, refl, sym, ap, ◌∙◌, arith, append-nil, decimal}
 use Rattle.std.specs.List.{join_with_byte}
 use Rattle.std.proofs.lemmas.List.{append_assoc}
 use Rattle.fam_base.specs.declared.cmd.Attr.{Attr}
@@ -11,7 +11,6 @@ use Rattle.fam_base.specs.declared.cmd.Stripe.{Stripe}
 use Rattle.fam_base.specs.Escapes.{escaped}
 use Rattle.fam_base.specs.Paths.{is_path}
 use Rattle.fam_tree.specs.Lines.{mode_text}
-use Rattle.fam_journal.specs.declared.event.Ask.{Ask}
 use Rattle.fam_journal.specs.declared.event.Ask.TheVariants as ask
 use Rattle.fam_journal.specs.Texts.{attr_text, cmd_text, number, name_text, seed_text, stripe_text}
 use Rattle.fam_grammar.specs.declared.options.FileOptions.{FileOptions}

@@ -1,20 +1,17 @@
 -- What is printed of a value is a word that spells it.
-use Rattle.std.proofs.Common.{◌≡◌, ℕ, suc, ◌+◌, ◌-◌, ◌*◌, ◌/◌, ◌%◌, ◌^◌, ◌<◌, ◌≤◌, Bool, true, false, cond, leb, ltb, List, [], ◌∷◌, ◌++◌, Option, Some, None, length, refl, sym, ap, ◌∙◌, subst, arith, decimal, inl, inr}
-use Rattle.std.specs.Prelude.{option_map, IsTrue, fold}
-use Rattle.std.specs.List.{list_all, flat_map}
-use Rattle.std.specs.Char.{is_ascii_digit}
+use Rattle.std.proofs.Common.{◌≡◌, ℕ, ◌/◌, ◌%◌, ◌^◌, ◌<◌, ◌≤◌, true, false, cond, leb, List, [], ◌∷◌, ◌++◌, Option, Some, length, refl, ap, ◌∙◌, arith, decimal}
+use Rattle.std.specs.List.{flat_map}
 use Rattle.std.specs.Str.{all_ascii_digits}
 use Rattle.std.specs.Str.Parse.{digits_value}
-use Rattle.std.proofs.lemmas.Bool.{cases_lt}
 use Rattle.std.proofs.lemmas.Bool.Decides.{nat_tests}
 use Rattle.std.proofs.lemmas.Fmt.{decimal_nonempty, digits_decimal, digits_value-decimal, length-decimal-le}
 use Rattle.std.proofs.lemmas.Str.Parse.{IsNumeralModel, numerals_by_value, tells_all_ascii_digits}
-use Rattle.uuid.specs.Text.{hex_digit_value, is_hex_digit}
+use Rattle.uuid.specs.Text.{hex_digit_value}
 use Rattle.fam_base.specs.Escapes.{is_plain, hex_digit, escaped_byte, escaped}
 use Rattle.fam_base.specs.Paths.{has_no_nul, is_path}
 use Rattle.fam_tree.specs.Lines.{mode_text, octal_digit}
 use Rattle.fam_grammar.specs.Numbers.{number_of_text, fitting, below}
-use Rattle.fam_grammar.specs.Spellings.{byte_of, in_prefix, in_prefix_of, is_octal, mode_of, path_of, unescaped, with_octal}
+use Rattle.fam_grammar.specs.Spellings.{byte_of, in_prefix, in_prefix_of, is_octal, mode_of, path_of, unescaped}
 use Rattle.fam_grammar.specs.Words.{is_blank}
 use Rattle.fam_grammar.proofs.Joined.{HasNoBlank, IsOneWord, no_blank-append}
 

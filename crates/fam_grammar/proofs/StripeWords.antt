@@ -1,17 +1,15 @@
 -- A size and a stripe that are printed are read as they were.
-use Rattle.std.proofs.Common.{◌≡◌, ℕ, suc, ◌+◌, ◌-◌, ◌^◌, ◌<◌, ◌≤◌, Bool, true, false, cond, eqb, ltb, List, [], ◌∷◌, ◌++◌, Option, Some, None, length, take, drop, get_or, codes, refl, sym, ap, ◌∙◌, arith, add-one, decimal}
+use Rattle.std.proofs.Common.{◌≡◌, ℕ, suc, ◌+◌, ◌-◌, ◌^◌, ◌<◌, ◌≤◌, true, false, eqb, ltb, List, [], ◌∷◌, ◌++◌, Option, Some, None, length, take, drop, get_or, codes, refl, ap, ◌∙◌, arith, add-one, decimal}
 use Rattle.std.specs.Prelude.{option_map, position, ◌==◌}
 use Rattle.std.specs.List.{position_or_len}
-use Rattle.std.specs.Char.{is_ascii_digit}
 use Rattle.std.specs.Str.{all_ascii_digits}
 use Rattle.std.proofs.lemmas.Bool.Decides.{nat_tests}
 use Rattle.std.proofs.lemmas.Fmt.{decimal_nonempty, digits_decimal}
 use Rattle.std.proofs.lemmas.List.{append_assoc, length-append, take_at}
 use Rattle.std.proofs.lemmas.Str.Parse.{digit_at}
 use Rattle.fam_base.specs.declared.cmd.Stripe.{Stripe}
-use Rattle.fam_grammar.specs.Numbers.{multiplier_of, number_of_text, size_behind, size_of_text}
+use Rattle.fam_grammar.specs.Numbers.{multiplier_of, size_of_text}
 use Rattle.fam_grammar.specs.Spellings.{at_comma, stripe_of}
-use Rattle.fam_grammar.specs.Words.{is_blank}
 use Rattle.fam_grammar.proofs.Joined.{HasNoBlank, no_blank-append}
 use Rattle.fam_grammar.proofs.Respelled.{decimal_no_blank, number-decimal, own}
 

@@ -1,5 +1,5 @@
 -- What reading from the left gives of a line's words.
-use Rattle.std.specs.Prelude.{ℕ, ◌≡◌, ⊤, ◌+◌, ◌^◌, ◌<◌, Bool, true, false, if◌then◌else◌, List, [], ◌∷◌, length, Option, Some, None, Result, Ok, Err, zero, suc}
+use Rattle.std.specs.Prelude.{ℕ, ◌≡◌, ⊤, ◌+◌, ◌^◌, ◌<◌, false, if◌then◌else◌, List, [], ◌∷◌, length, Option, Some, None, Result, Ok, Err, suc}
 use Rattle.fam_grammar.specs.declared.fault.LineFault.{LineFault}
 use Rattle.fam_grammar.specs.declared.fault.LineFault.TheVariants.{BadLine, OutOfMemory}
 use Rattle.fam_grammar.specs.declared.words.Line.{Line}

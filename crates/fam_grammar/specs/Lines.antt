@@ -13,12 +13,11 @@ use Rattle.fam_grammar.specs.declared.keywords.EventWord.TheVariants as word
 use Rattle.fam_grammar.specs.declared.keywords.CommandWord.{CommandWord}
 use Rattle.fam_grammar.specs.declared.keywords.CommandWord.TheVariants as command
 use Rattle.fam_grammar.specs.declared.options.FileOptions.{FileOptions}
-use Rattle.fam_grammar.specs.declared.options.MkfsOptions.{MkfsOptions}
 use Rattle.fam_grammar.specs.declared.options.Takes.{Takes}
 use Rattle.fam_grammar.specs.Keywords.{command_word, event_word}
 use Rattle.fam_grammar.specs.Numbers.{number_of_text, size_of_text}
 use Rattle.fam_grammar.specs.Options.{file_options, keyed, mkfs_options, no_file_options, no_mkfs_options}
-use Rattle.fam_grammar.specs.Reading.{Reading, Reads, Misfit, fitting_word, word_of, then_reads, ends_with}
+use Rattle.fam_grammar.specs.Reading.{Reading, Reads, word_of, then_reads, ends_with}
 use Rattle.fam_grammar.specs.Spellings.{count_of, file_of, mask_of, name_of, path_of, steps_of, uuid_of, value_behind}
 use Rattle.fam_grammar.specs.Words.{Word}
 

@@ -1,5 +1,5 @@
 -- Commands that a line of a script can spell: those without given bytes or a listing, whose numbers fit their words.
-use Rattle.std.specs.Prelude.{ℕ, ◌≡◌, ⊤, ◌^◌, ◌<◌, ◌≤◌, List, Option, Some, None, IsTrue}
+use Rattle.std.specs.Prelude.{ℕ, ⊤, ◌^◌, ◌<◌, ◌≤◌, Option, Some, None, IsTrue}
 use Rattle.fam_base.specs.declared.cmd.Attr.{Attr}
 use Rattle.fam_base.specs.declared.cmd.Cmd.{Cmd}
 use Rattle.fam_base.specs.declared.cmd.Cmd.TheVariants.{Logplay, Mkdir, Creat, Cp, Verify, Read, Check, Fsck}

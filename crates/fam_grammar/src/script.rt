@@ -37,8 +37,6 @@ fn is_comment(word: &[u8]) -> bool
 /// memory.
 #[tactic(auto, unfolding(crate::specs::Scripts::line_reads))]
 pub fn read_line(alloc: Global, bytes: &[u8], number: u64) -> Result<Option<Event>, LineFault>
-    requires short { length bytes.now < 2 ^ 63 }
-
     ensures value { IfOk result (λ event. line_reads bytes.now ≡ Ok event) }
     ensures bad { IfErr result (IsBadLine number (line_reads bytes.now)) }
 {

@@ -40,8 +40,8 @@ pub fn a_new_world_is_held()
     ensures { (image : Image) → IsImage image → Held image (unused image) empty_world image }
 {}
 
-/// What the protocol lets a task say is what the journal allows next (`legal`), and what the protocol settles by it is what
-/// the journal settles (`settles`): for every turn, on sound and on damaged images.
+/// What the protocol lets a task say is what the journal allows next (`legal`), and what the protocol settles by it is
+/// what the journal settles (`settles`): for every turn, on sound and on damaged images.
 pub fn what_a_task_says_is_legal()
     ensures legal { (at : TaskAt) → MaySayNext at → LegalBehind at.past (notes_of at.host (note_of (turn_at at))) }
     ensures settles { (at : TaskAt) → MaySayNext at
@@ -49,10 +49,11 @@ pub fn what_a_task_says_is_legal()
         ≡ turn_settles (turn_at at) (settled_of at.past.state) }
 {}
 
-/// Whatever a call of the world does, as its row has it, a world that was held is held again once it stands for the state
-/// behind the row and has the row's notes: with stops, halts, faults of memory and steps of other hosts at any moment. Every
-/// call is one of these: a host is declared; a file system is made, or a superblock stands there; a command begins, does an
-/// operation, or runs to its answer; it is stopped or halted; a cache moves, or the media fails in it; something is refused.
+/// Whatever a call of the world does, as its row has it, a world that was held is held again once it stands for the
+/// state behind the row and has the row's notes: with stops, halts, media faults and steps of other hosts at any
+/// moment. Every call is one of these: a host is declared; a file system is made, or a superblock stands there; a
+/// command begins, does an operation, or runs to its answer; it is stopped or halted; a cache moves, or the media fails
+/// in it; something is refused.
 pub fn a_row_keeps_what_is_held()
     ensures held { (start : Image) (state left : Machines) (old new : WorldView) (call : Call) (notes : List Note)
         → Held start state old state.memory → IsSoundCall call → Does call state notes left
@@ -71,8 +72,8 @@ pub fn a_row_keeps_what_is_held()
         → Legal start (old.journal ++ notes) }
 {}
 
-/// While a world is held, the image reads as what its journal settles (`reads`). The image of a journal's damaged state is
-/// the one that was handed in, so a damaged image is left as it was (`bad`).
+/// While a world is held, the image reads as what its journal settles (`reads`). The image of a journal's damaged state
+/// is the one that was handed in, so a damaged image is left as it was (`bad`).
 pub fn a_held_image_reads_as_its_journal()
     ensures reads { (start : Image) (state : Machines) (world : WorldView) (image : Image)
         → Held start state world image → ReadsAs (past_of start world.journal).state image }
@@ -80,8 +81,8 @@ pub fn a_held_image_reads_as_its_journal()
         → (past_of start journal).state ≡ Bad image damage gate → image ≡ start }
 {}
 
-/// However the run of a script's events ends, its journal is legal. The image that is left reads as what the journal settles,
-/// but behind a mkfs that a media fault cut.
+/// However the run of a script's events ends, its journal is legal. The image that is left reads as what the journal
+/// settles, but behind a mkfs that a media fault cut.
 pub fn a_run_is_settled()
     ensures { (start : Image) (files : Files) (events : List Event) (ending : Ending) (journal : List Note) (last : Session)
         → IsImage start → AreSound events
@@ -89,8 +90,8 @@ pub fn a_run_is_settled()
         → IsSettled ending start journal last.machines.memory }
 {}
 
-/// Of two answers with no file system made between them, the one of fewer entries has those that stand first in the other
-/// one's, whichever came first.
+/// Of two answers with no file system made between them, the one of fewer entries has those that stand first in the
+/// other one's, whichever came first.
 pub fn the_history_only_grows()
     ensures more { (start : Image) (two : TwoAnswers start) → two.m ≤ two.n
         → first_entries two ≡ take two.m (second_entries two) }
@@ -98,8 +99,8 @@ pub fn the_history_only_grows()
         → second_entries two ≡ take two.n (first_entries two) }
 {}
 
-/// At most one entry is pending: one is written only where nothing is, and it is numbered by what is settled (`writes`).
-/// What a journal settles only grows until the next file system is made (`grows`).
+/// At most one entry is pending: one is written only where nothing is, and it is numbered by what is settled
+/// (`writes`). What a journal settles only grows until the next file system is made (`grows`).
 pub fn at_most_one_entry_is_pending()
     ensures writes { (start : Image) (before rest : List Note) (host seq : ℕ) (entry : Entry)
         → Legal start (before ++ Writes host seq entry ∷ rest) → IsFree seq (past_of start before).state }
@@ -107,10 +108,10 @@ pub fn at_most_one_entry_is_pending()
         → IsPrefix (history_at (past_of start before).state) (history_at (past_of start (before ++ behind)).state) }
 {}
 
-/// Every answer in a run's journal, but that the media failed, is one of the rules: of its host's last command, in the state
-/// before it (`ruled`). So a master's append that the decision doesn't refuse answers that it is done. Where memory doesn't
-/// fail, a command that begins and is run through ends in such an answer (`ends`). From wherever a host's task has come to
-/// there is a run to its answer, which the media serves (`can`).
+/// Every answer in a run's journal, but that the media failed, is one of the rules: of its host's last command, in the
+/// state before it (`ruled`). So a master's append that the decision doesn't refuse answers that it is done. Where
+/// memory doesn't fail, a command that begins and is run through ends in such an answer (`ends`). From wherever a
+/// host's task has come to there is a run to its answer, which the media serves (`can`).
 pub fn every_answer_is_of_the_rules()
     ensures ruled { (start : Image) (files : Files) (events : List Event) (journal : List Note) (last : Session)
         → IsImage start → AreSound events → Follows files events (first_session start) journal last
@@ -134,8 +135,8 @@ pub fn a_refusal_is_told_by_the_world()
         → refusal_of call state ≡ refusal_in call world (length state.memory) }
 {}
 
-/// What a call that takes no media makes of a world, as the world alone tells it, is the call's row: on the state that the
-/// world stands for there are notes and a next state of the row, and the new world stands for that.
+/// What a call that takes no media makes of a world, as the world alone tells it, is the call's row: on the state that
+/// the world stands for there are notes and a next state of the row, and the new world stands for that.
 pub fn a_call_without_media_does_its_row()
     ensures { (state : Machines) (world : WorldView) (call : Call) → WorldStands (length state.memory) state world
         → TakesNoMedia call (length state.memory) world
@@ -143,8 +144,8 @@ pub fn a_call_without_media_does_its_row()
 {}
 
 /// The text of a longer journal is the old text and what is put for the notes that were added (`more`). In a journal
-/// that follows events from no hosts each note names a host that is declared before it (`named`), also with
-/// notes added that name hosts of the journal (`adds`); and hosts' names are those of the journal's own notes (`names`).
+/// that follows events from no hosts each note names a host that is declared before it (`named`), also with notes added
+/// that name hosts of the journal (`adds`); and hosts' names are those of the journal's own notes (`names`).
 pub fn a_text_only_grows()
     ensures more { (old added : List Note) → render (old ++ added) ≡ render old ++ render_behind (names_behind [] old) added }
     ensures named { (files : Files) (events : List Event) (image : Image) (journal : List Note) (last : Session)
@@ -168,10 +169,10 @@ pub fn a_status_has_its_cause()
         → TopEnds grammar storms command out given → given ≡ SinkFault → HasRisen out.sink out.sink_now }
 {}
 
-/// Where no count rose, of media, shelf and sink, events are all done, each with its answer by the rules, or there was no
-/// memory (`run`). So a script that the shelf holds, and that is no longer than a script may be and has no bad line, is read
-/// and run to its end: its status is Done or Refused, or there was no memory (`script`); and a storm's is Done, or that
-/// (`storm`).
+/// Where no count rose, of media, shelf and sink, events are all done, each with its answer by the rules, or there was
+/// no memory (`run`). So a script that the shelf holds, and that is no longer than a script may be and has no bad line,
+/// is read and run to its end: its status is Done or Refused, or there was no memory (`script`); and a storm's is Done,
+/// or that (`storm`).
 pub fn a_run_without_faults_is_complete()
     ensures run { (out : Outside) (ending : Ending) (journal : List Note) (files : Files) (events : List Event) (start : Image)
         → NoneRose out → IsImage start → AreSound events → HasCounted out.faults out.faults_now journal
@@ -186,18 +187,19 @@ pub fn a_run_without_faults_is_complete()
         → (given ≡ Done) ⊎ (given ≡ OutOfMemory) }
 {}
 
-/// An operation that the media serves is the row of a step, where the world makes of its own host what its own task says: on the
-/// state that the world stands for, with the notes of the task's turn, and the new world stands for the state behind it.
+/// An operation that the media serves is the row of a step, where the world makes of its own host what its own task
+/// says: on the state that the world stands for, with the notes of the task's turn, and the new world stands for the
+/// state behind it.
 pub fn an_operation_does_its_row()
     ensures { (state : Machines) (world : WorldView) (name : List ℕ) (h : ℕ) (view : HostView) (t : Task)
         → WorldStands (length state.memory) state world → number_in name world ≡ Some h
         → slice_get world.hosts h ≡ Some view → view.task ≡ Some t → IsStepped name h view t state world }
 {}
 
-/// Whatever a call of the world does on a state whose hosts are what notes tell, its notes have the form that those notes
-/// allow, whatever memory holds; and the hosts behind it are what the notes tell then (`does`). So have those of a mkfs that
-/// a media fault cuts (`cut`), and of a call for which no memory was found (`part`). A state's hosts are what a journal tells
-/// where a world of such hosts stands for it (`world`).
+/// Whatever a call of the world does on a state whose hosts are what notes tell, its notes have the form that those
+/// notes allow, whatever memory holds; and the hosts behind it are what the notes tell then (`does`). So have those of
+/// a mkfs that a media fault cuts (`cut`), and of a call for which no memory was found (`part`). A state's hosts are
+/// what a journal tells where a world of such hosts stands for it (`world`).
 pub fn a_row_has_its_form()
     ensures does { (lines : ℕ) (state left : Machines) (hosts : List HostForm) (notes : List Note) (call : Call)
         → AreFormed lines state hosts → Does call state notes left
@@ -210,8 +212,8 @@ pub fn a_row_has_its_form()
         → AreFormed (length state.memory) state (forms_of world.journal) }
 {}
 
-/// The journal of events that follow from an image has their form, on a media of as many lines (`follows`); and so has the
-/// journal of a run, however it ends (`ends`).
+/// The journal of events that follow from an image has their form, on a media of as many lines (`follows`); and so has
+/// the journal of a run, however it ends (`ends`).
 pub fn a_run_has_its_form()
     ensures follows { (files : Files) (events : List Event) (image : Image) (journal : List Note) (last : Session)
         → Follows files events (first_session image) journal last → FollowsForm (length image) events [] journal }
@@ -220,8 +222,8 @@ pub fn a_run_has_its_form()
 {}
 
 /// Whatever word an operation of a world's own task gives, what its turn notes has the form of a step (`form`), and the
-/// world's hosts are what its journal tells again, whatever cache the host has then (`world`). So a world keeps it on a media
-/// whose content isn't modelled.
+/// world's hosts are what its journal tells again, whatever cache the host has then (`world`). So a world keeps it on a
+/// media whose content isn't modelled.
 pub fn an_operation_has_its_form()
     ensures form { (lines : ℕ) (world : WorldView) (name : List ℕ) (h : ℕ) (view : HostView) (t : Task) (word : ℕ)
         → IsFormed world → number_in name world ≡ Some h → slice_get world.hosts h ≡ Some view → view.task ≡ Some t
@@ -235,8 +237,8 @@ pub fn an_operation_has_its_form()
         }) }
 {}
 
-/// What a call that takes no media makes of a world, as the world alone tells it, has its form where the world's hosts are
-/// what its journal tells; and they are so again.
+/// What a call that takes no media makes of a world, as the world alone tells it, has its form where the world's hosts
+/// are what its journal tells; and they are so again.
 pub fn a_call_without_media_has_its_form()
     ensures { (lines : ℕ) (world : WorldView) (call : Call) → IsFormed world → TakesNoMedia call lines world
         → HasForm call lines world (world_after call lines world) }

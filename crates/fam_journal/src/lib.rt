@@ -2,12 +2,13 @@
 //! follow a list of events.
 //!
 //! `specs/Notes.antt` has the notes, `specs/Past.antt` what they settle, `specs/Legal.antt` which of them the history
-//! before them allows. `specs/Forms.antt` and `EventForms.antt` say which notes a call and an event may add whatever memory
-//! holds. `specs/Machines.antt`, `Calls.antt` and `Events.antt` have the machine of all hosts and what each
-//! call of the world and each event of a script does on it; `specs/Follows.antt` puts events one after another.
-//! `specs/Texts.antt` is the text of a journal, `specs/Statuses.antt` has the statuses, `specs/Ends.antt` and `Runs.antt` how a
-//! run ends, and `specs/Programs.antt` what the top call promises of each command. `specs/Kept.antt` is what a world keeps,
-//! and `specs/CallRecords.antt` what its calls promise: the crate's page says which record is which call's.
+//! before them allows. `specs/Forms.antt` and `EventForms.antt` say which notes a call and an event may add whatever
+//! memory holds. `specs/Machines.antt`, `Calls.antt` and `Events.antt` have the machine of all hosts and what each call
+//! of the world and each event of a script does on it; `specs/Follows.antt` puts events one after another.
+//! `specs/Texts.antt` is the text of a journal, `specs/Statuses.antt` has the statuses, `specs/Ends.antt` and
+//! `Runs.antt` how a run ends, and `specs/Programs.antt` what the top call promises of each command. `specs/Kept.antt`
+//! is what a world keeps, and `specs/CallRecords.antt` what its calls promise: the crate's page says which record is
+//! which call's.
 #![tactic(auto)]
 
 mod event;

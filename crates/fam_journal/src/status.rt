@@ -6,11 +6,11 @@ ghost use Rattle.fam_journal.specs.Statuses.{status_number};
 /// How a call of the program ended.
 #[derive(Clone, Copy, Debug, PartialEq, Eq)]
 pub enum Status {
-    /// The command did what it was asked for. A script: it was run to its end, nothing was refused, and every answer alone
-    /// has this status.
+    /// The command did what it was asked for. A script: it was run to its end, nothing was refused, and every answer
+    /// alone has this status.
     Done,
-    /// The command was refused, and changed nothing; or what it asks for isn't there. A script: it was run to its end, and
-    /// something was refused or has another status alone; or there is no such script.
+    /// The command was refused, and changed nothing; or what it asks for isn't there. A script: it was run to its end,
+    /// and something was refused or has another status alone; or there is no such script.
     Refused,
     /// The words are no command.
     Usage,

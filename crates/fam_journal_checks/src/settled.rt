@@ -16,7 +16,8 @@ pub fn what_notes_settle()
     ensures made { state_behind made ≡ Sound params [] None }
     ensures writes { state_behind writing ≡ Sound params [] (Some (held x)) }
 
-    // What is pending is dropped where the master finds as many entries as are settled, and joins where it finds one more.
+    // What is pending is dropped where the master finds as many entries as are settled, and joins where it finds one
+    // more.
     ensures found_old { state_behind (writing ++ Found 0 0 ∷ []) ≡ Sound params [] None }
     ensures found_new { state_behind (writing ++ Found 0 1 ∷ []) ≡ Sound params (held x ∷ []) None }
     ensures found_far { state_behind (writing ++ Found 0 2 ∷ []) ≡ Sound params [] (Some (held x)) }

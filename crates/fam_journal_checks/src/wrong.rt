@@ -25,9 +25,9 @@ pub fn a_floor_at_found_forbids_each_listing()
     ensures wrong { LegalBy Allowed late_floor_after (first_past []) (made ++ Start 1 Logplay ∷ Mark 1 ∷ Answered 1 (Replied (Played 0 no_tree)) ∷ []) → ⊥ }
 {}
 
-/// Where a master that finds one entry more than is settled drops what is pending, an entry is lost that stands in memory:
-/// in every world that is held, behind such a note, the image doesn't read as what is said to be settled (`misread`). The
-/// other clauses have a journal with such a note, and what both definitions make of it.
+/// Where a master that finds one entry more than is settled drops what is pending, an entry is lost that stands in
+/// memory: in every world that is held, behind such a note, the image doesn't read as what is said to be settled
+/// (`misread`). The other clauses have a journal with such a note, and what both definitions make of it.
 pub fn a_found_that_drops_loses_an_entry()
     ensures misread { (start : Image) (state : Machines) (world : WorldView) (image : Image) (notes : List Note) (host : ℕ)
         (p : Params) (history : List File) (pending : Option File) → Held start state world image
@@ -39,8 +39,9 @@ pub fn a_found_that_drops_loses_an_entry()
         ≡ Sound params [] None }
 {}
 
-/// Where an Ok doesn't ask that the entry is its task's own, a command is acknowledged of which no entry is ever written:
-/// its master was stopped behind the first entry's publication, and the next command answers Ok with that entry's number.
+/// Where an Ok doesn't ask that the entry is its task's own, a command is acknowledged of which no entry is ever
+/// written: its master was stopped behind the first entry's publication, and the next command answers Ok with that
+/// entry's number.
 pub fn an_ok_of_any_entry_loses_a_command()
     ensures wrong { LegalBy AnyOkAllowed past_after (first_past []) (done ++ Start 0 (mkdir y) ∷ Mark 0 ∷ Found 0 1 ∷ Answered 0 (Replied (Appended 0)) ∷ []) }
     ensures lost { state_behind (done ++ Start 0 (mkdir y) ∷ Mark 0 ∷ Found 0 1 ∷ Answered 0 (Replied (Appended 0)) ∷ [])

@@ -1,10 +1,10 @@
 //! The machine that the tools run on: hosts with caches of their own over one shared memory.
 //!
-//! A host's cache has a copy of some lines. `specs/OneLine.antt` says what each operation makes of memory's
-//! words of one line and of the host's copy, `specs/Caches.antt` says the same of a whole cache and a whole
-//! image, and `specs/Moves.antt` cuts each operation into the moves that a cache may make by itself.
-//! `specs/HostMoves.antt` has what a cache does by itself, `specs/Cuts.antt` what is left where the media fails in a row of
-//! operations, and `specs/Mkfs.antt` the row that makes a file system.
+//! A host's cache has a copy of some lines. `specs/OneLine.antt` says what each operation makes of memory's words of
+//! one line and of the host's copy, `specs/Caches.antt` says the same of a whole cache and a whole image, and
+//! `specs/Moves.antt` cuts each operation into the moves that a cache may make by itself. `specs/HostMoves.antt` has
+//! what a cache does by itself, `specs/Cuts.antt` what is left where the media fails in a row of operations, and
+//! `specs/Mkfs.antt` the row that makes a file system.
 #![tactic(auto)]
 
 mod caches;

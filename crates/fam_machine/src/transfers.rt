@@ -46,8 +46,8 @@ pub fn own_moves_transfer()
     ensures { (move : Move) (m : List ℕ) (c : Cell) → Transfers m c (moved_words move m c) (moved_cell move m c) }
 {}
 
-/// Where the media fails, in an operation or in a cache's own move, no line of memory but its own has other words, and it
-/// drifted there while the host's copy stayed.
+/// Where the media fails, in an operation or in a cache's own move, no line of memory but its own has other words, and
+/// it drifted there while the host's copy stayed.
 pub fn failures_tear_line()
     ensures operation { (op : Op) (m : Machine) (through : ℕ) (failure : Failure) →
         map_list eight m.image ≡ m.image → IsInImage op m.image → failed through op m ≡ Some failure →

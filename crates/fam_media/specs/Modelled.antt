@@ -8,7 +8,7 @@ inside : {T : Type 0} → T → Option T → T
 inside content None = content
 inside content (Some other) = other
 
--- what holds of the content holds of what is told
+-- what holds of the content holds of what is modelled
 pub modelled : {T : Type 0} (content : T) (P : T → Type 0) → P content → IfModelled (Some content) P
 unfolding inside
 modelled content P holds other is = subst P (ap (inside content) is) holds

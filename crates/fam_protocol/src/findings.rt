@@ -138,8 +138,8 @@ pub fn a_damaged_image_names_its_fault()
         → Still image (line_bytes * lines) step.after }
 {}
 
-/// On an image of which a slot below the gate is bad, a command that appends, of any host that passed the master's test,
-/// finds the image's gate.
+/// On an image of which a slot below the gate is bad, a command that appends, of any host that passed the master's
+/// test, finds the image's gate.
 pub fn a_damaged_gate_is_found()
     // What a task finds on a damaged image is the image's gate, and a slot is bad.
     ensures found { (image : Lines) (lines n : ℕ) (t : Task) (step : DamagedStep image lines)

@@ -22,11 +22,11 @@ ghost use Rattle.fam_protocol.specs.Steps.{turn_settles};
 ghost use Rattle.fam_protocol.specs.Invariant.{settled_at_first};
 ghost use Rattle.fam_protocol.specs.Tasks.{IsCommand};
 
-/// What a command answers is what the rules say of the image that it began with (`reply`), and memory is then what
-/// they say that it leaves: one entry more where it appended one, and else the image as it was (`left`). Its cache has
-/// nothing to send then, as at first (`sent`), so the next command may follow, on this host or on another. What its notes
-/// and its answer settle is then told by the image that it leaves, so nothing is pending (`settled`). All this holds of
-/// each command, on each image that has a gate and at most 1 TiB, sound or damaged.
+/// What a command answers is what the rules say of the image that it began with (`reply`), and memory is then what they
+/// say that it leaves: one entry more where it appended one, and else the image as it was (`left`). Its cache has
+/// nothing to send then, as at first (`sent`), so the next command may follow, on this host or on another. What its
+/// notes and its answer settle is then told by the image that it leaves, so nothing is pending (`settled`). All this
+/// holds of each command, on each image that has a gate and at most 1 TiB, sound or damaged.
 pub fn a_solo_command_answers_by_the_image()
     ensures reply { (image : Image) (me : List ℕ) (cmd : Cmd) (cache : Cache) (t : Task) (words : List ℕ)
         (made : ℕ) (m : Machine) (reply : Reply) → least_lines ≤ length image → line_bytes * length image ≤ device_limit

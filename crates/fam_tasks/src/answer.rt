@@ -93,7 +93,8 @@ pub enum Answer {
     ParentIsFile,
     /// The log has room for so many entries, and holds them.
     LogFull(u64),
-    /// There is no room for so many units in a row; for strips, too few buckets have room for one strip of so many units.
+    /// There is no room for so many units in a row; for strips, too few buckets have room for one strip of so many
+    /// units.
     NoSpace(u64),
     /// Nothing stands at the path.
     NotFound {
@@ -103,7 +104,8 @@ pub enum Answer {
     IsDirectory {
         m: u64,
     },
-    /// At this offset, the first that differs, the file has the byte `found`, and what it is compared with has `wanted`.
+    /// At this offset, the first that differs, the file has the byte `found`, and what it is compared with has
+    /// `wanted`.
     Differs {
         m: u64,
         offset: u64,

@@ -24,7 +24,7 @@ use Rattle.fam_journal.specs.declared.event.Event.TheVariants as event
 use Rattle.fam_journal.specs.declared.refusal.Refusal.{Refusal}
 use Rattle.fam_journal.specs.Calls as call
 use Rattle.fam_journal.specs.Calls.{Acts, ActsAt, ActsOf, AtNumber, ByRefusal, Call, Completes, Does, OnHost, begins_refusal, busy_at, has_name, name_of, number_of, on_host, refusal_of}
-use Rattle.fam_journal.specs.Ends.{IsFaultless as AreClean}
+use Rattle.fam_journal.specs.Ends.{IsFaultless as AreFaultless}
 use Rattle.fam_journal.specs.Events.{DoesEvent, Continues, Session, first_session}
 use Rattle.fam_journal.specs.Follows.{Follows}
 use Rattle.fam_journal.specs.Kept.{Kept}
@@ -148,7 +148,7 @@ module _ (start : Image) (files : Files) (old : Machines) (journal : List Note) 
         sure = sure;
       })
 
-  moves_exact : (name : List ℕ) (line : ℕ) (move : Move) (new : Machines) (notes : List Note) → AreClean notes → (h : ℕ) (host : HostState) → slice_get old.hosts h ≡ Some host → ActsAt (call.Moves name line move) h host old notes new → EventExact x old new notes
+  moves_exact : (name : List ℕ) (line : ℕ) (move : Move) (new : Machines) (notes : List Note) → AreFaultless notes → (h : ℕ) (host : HostState) → slice_get old.hosts h ≡ Some host → ActsAt (call.Moves name line move) h host old notes new → EventExact x old new notes
   moves_exact name line move new notes clean h host is (inl moves) =
       subst (λ (z : Machines). EventExact x old z notes) (sym moves.left)
       (subst (EventExact x old _) (sym moves.notes_are)
@@ -161,13 +161,13 @@ module _ (start : Image) (files : Files) (old : Machines) (journal : List Note) 
   moves_exact name line move new notes clean h host is (inr fails) = absurd (not_clean _ notes fails.notes_are refl clean)
 
   -- a cache's own move
-  move_exact : (name : List ℕ) (line : ℕ) (move : Move) (new : Machines) (notes : List Note) → AreClean notes → Does (call.Moves name line move) old notes new → EventExact x old new notes
+  move_exact : (name : List ℕ) (line : ℕ) (move : Move) (new : Machines) (notes : List Note) → AreFaultless notes → Does (call.Moves name line move) old notes new → EventExact x old new notes
   move_exact name line move new notes clean does =
       by_refusal (call.Moves name line move) old new notes does (λ cause e f. quiet name cause new notes e f)
       (λ free acts. by_host (call.Moves name line move) old new notes acts (λ h host number is at. moves_exact name line move new notes clean h host is at))
 
   -- a command begins, and is run to its answer
-  module _ (name : List ℕ) (what : Ask) (s new : Session) (same : s.machines ≡ old) (notes : List Note) (clean : AreClean notes) (run : Continues Completes files name what s notes new) where
+  module _ (name : List ℕ) (what : Ask) (s new : Session) (same : s.machines ≡ old) (notes : List Note) (clean : AreFaultless notes) (run : Continues Completes files name what s notes new) where
     pub record Through : Type 0 where
       pub h : ℕ
       pub host : HostState
@@ -248,7 +248,7 @@ module _ (start : Image) (files : Files) (old : Machines) (journal : List Note) 
             }
 
   -- an event
-  event_exact : (e : Event) → IsSoundEvent e → IsWholeEvent e → (s new : Session) → s.machines ≡ old → (notes : List Note) → AreClean notes → DoesEvent files e s notes new → EventExact x old new.machines notes
+  event_exact : (e : Event) → IsSoundEvent e → IsWholeEvent e → (s new : Session) → s.machines ≡ old → (notes : List Note) → AreFaultless notes → DoesEvent files e s notes new → EventExact x old new.machines notes
   event_exact (event.Host name uuid) sound whole s new same notes clean does =
       by_refusal (call.Declares name uuid) old new.machines notes (subst (λ (z : Machines). Does (call.Declares name uuid) z notes new.machines) same does.0)
       (λ cause e f. quiet name cause new.machines notes e f) (λ free acts. declared_exact name uuid new.machines notes acts)
@@ -285,7 +285,7 @@ pub record Between (start : Image) (s : Machines) (journal : List Note) : Type 0
   pub whole : AreWholeNotes (first_past start) start journal
 
 module _ (start : Image) (files : Files) where
-  pub one_more : (e : Event) → IsSoundEvent e → IsWholeEvent e → (old new : Session) (journal notes : List Note) → Between start old.machines journal → AreClean notes → DoesEvent files e old notes new → Between start new.machines (journal ++ notes)
+  pub one_more : (e : Event) → IsSoundEvent e → IsWholeEvent e → (old new : Session) (journal notes : List Note) → Between start old.machines journal → AreFaultless notes → DoesEvent files e old notes new → Between start new.machines (journal ++ notes)
   one_more e sound whole old new journal notes between clean does =
       let x : EventExact (past_of start journal) old.machines new.machines notes = event_exact start files old.machines journal between.kept between.rests between.sure e sound whole old new refl notes clean does in
       record {
@@ -296,7 +296,7 @@ module _ (start : Image) (files : Files) where
         whole = whole_both (first_past start) start journal notes between.whole (subst (λ (i : Image). AreWholeNotes (past_of start journal) i notes) between.image x.whole);
       }
 
-  all_exact : (events : List Event) → AreSound events → AreWhole events → (old new : Session) (journal notes : List Note) → Between start old.machines journal → AreClean notes → Follows files events old notes new → Between start new.machines (journal ++ notes)
+  all_exact : (events : List Event) → AreSound events → AreWhole events → (old new : Session) (journal notes : List Note) → Between start old.machines journal → AreFaultless notes → Follows files events old notes new → Between start new.machines (journal ++ notes)
   all_exact [] sound whole old new journal notes between clean follows =
       subst (λ (z : Session). Between start z.machines (journal ++ notes)) (sym follows.1)
       (subst (Between start old.machines) (sym (append-nil journal) ∙ ap (λ (z : List Note). journal ++ z) (sym follows.0)) between)

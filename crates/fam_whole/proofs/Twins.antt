@@ -31,7 +31,7 @@ use Rattle.fam_journal.specs.declared.refusal.Refusal.{Refusal}
 use Rattle.fam_journal.specs.declared.refusal.Refusal.TheVariants as why
 use Rattle.fam_journal.specs.Calls as call
 use Rattle.fam_journal.specs.Calls.{Acts, ActsAt, ByRefusal, Call, Completes, Does, has_name, may_begin, name_of, number_of, refusal_of}
-use Rattle.fam_journal.specs.Ends.{IsFaultless as AreClean}
+use Rattle.fam_journal.specs.Ends.{IsFaultless as AreFaultless}
 use Rattle.fam_journal.specs.Events.{DoesEvent, Continues, HasNoSource, RefusesEvent, Ready, Session, SourceSays, Unfit}
 use Rattle.fam_machine.specs.HostMoves.{Evict, Fetch, Leak, Move}
 use Rattle.fam_journal.specs.Machines.{HostState, Machines, machine_of, with_machine}
@@ -137,7 +137,7 @@ pub record TwinSessions (s t : Session) : Type 0 where
 -- A cache's own move leaves a twin.
 
 module _ (start : Image) (files : Files) where
-  moves_twin : (name : List ℕ) (line : ℕ) (move : Move) (s new : Machines) (journal notes : List Note) → Between start s journal → AreClean notes → Does (call.Moves name line move) s notes new → Twins new s
+  moves_twin : (name : List ℕ) (line : ℕ) (move : Move) (s new : Machines) (journal notes : List Note) → Between start s journal → AreFaultless notes → Does (call.Moves name line move) s notes new → Twins new s
   moves_twin name line move s new journal notes between clean does =
       by_refusal (call.Moves name line move) s new notes does (λ cause e f. twins_as new s f)
       (λ free acts. by_host (call.Moves name line move) s new notes acts (λ h host number is at. at_host h host is at))
@@ -151,7 +151,7 @@ module _ (start : Image) (files : Files) where
           }
       at_host h host is (inr x) = absurd (not_clean _ notes x.notes_are refl clean)
 
-  pub move_twin : (e : Event) → is_move e ≡ true → (s new : Session) (journal notes : List Note) → Between start s.machines journal → AreClean notes → DoesEvent files e s notes new → TwinSessions new s
+  pub move_twin : (e : Event) → is_move e ≡ true → (s new : Session) (journal notes : List Note) → Between start s.machines journal → AreFaultless notes → DoesEvent files e s notes new → TwinSessions new s
   move_twin (event.Host name uuid) is s new journal notes between clean does = absurd cc
   move_twin (event.Mkfs name fs unit log force) is s new journal notes between clean does = absurd cc
   move_twin (event.Begin name what) is s new journal notes between clean does = absurd cc
@@ -278,7 +278,7 @@ one_stood cmd me image h a b x y =
 
 module _ (start : Image) (files : Files) (name : List ℕ) (what : Ask) where
   -- one run
-  module _ (s new : Session) (j notes : List Note) (between : Between start s.machines j) (clean : AreClean notes) (run : Continues Completes files name what s notes new) where
+  module _ (s new : Session) (j notes : List Note) (between : Between start s.machines j) (clean : AreFaultless notes) (run : Continues Completes files name what s notes new) where
     abbrev go : Through start files s.machines j between.kept between.rests between.sure name what s new refl notes clean run
     go = through start files s.machines j between.kept between.rests between.sure name what s new refl notes clean run
 
@@ -316,7 +316,7 @@ module _ (start : Image) (files : Files) (name : List ℕ) (what : Ask) where
     copied_then = run.copied ∙ run.begun.copied_is
 
   -- two runs
-  module _ (s t m n : Session) (j k a b : List Note) (bs : Between start s.machines j) (bt : Between start t.machines k) (twins : TwinSessions s t) (clean_a : AreClean a) (clean_b : AreClean b) where
+  module _ (s t m n : Session) (j k a b : List Note) (bs : Between start s.machines j) (bt : Between start t.machines k) (twins : TwinSessions s t) (clean_a : AreFaultless a) (clean_b : AreFaultless b) where
     pub record Both : Type 0 where
       pub notes : a ≡ b
       pub sessions : TwinSessions m n

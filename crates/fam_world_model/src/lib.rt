@@ -1,5 +1,5 @@
-//! A model of those who call the world: what the world's calls promise is enough to chain them, and can be met. Laws with
-//! empty bodies.
+//! A model of those who call the world: what the world's calls promise is enough to chain them, and can be met. Laws
+//! with empty bodies.
 #![tactic(auto)]
 
 ghost use Rattle.std.specs.Prelude.{◌≤◌, ◌+◌, ◌*◌, length, true, [], ◌∷◌, ℕ, List, Some, None, false, codes};
@@ -17,9 +17,9 @@ ghost use Rattle.fam_journal.specs.Notes.{Note};
 ghost use Rattle.fam_world_model.specs.Bodies.{after_cut, after_mkfs, after_step, before_mkfs, before_step, made_machine};
 ghost use Rattle.fam_world_model.specs.Caller.{ComesTo, ComesToCut, CutTrace, Trace, OutOfMemoryTrace, Wishes, events};
 
-/// What seven calls promise is enough to know that their notes follow a script's events, that the media has the last image,
-/// and that the world is held (`done`). Where a media fault cuts a mkfs the notes follow up to it, and are legal (`cut`). Where a
-/// finish finds no memory the world is held still, and may go on (`out_of_memory`).
+/// What seven calls promise is enough to know that their notes follow a script's events, that the media has the last
+/// image, and that the world is held (`done`). Where a media fault cuts a mkfs the notes follow up to it, and are legal
+/// (`cut`). Where a finish finds no memory the world is held still, and may go on (`out_of_memory`).
 pub fn a_caller_chains_what_calls_promise()
     ensures done { (start : Image) (files : Files) (w : Wishes) → IsImage start → (t : Trace start w)
         → ComesTo start AllDone files (events w) t.halted t.evicted.told }
@@ -29,10 +29,11 @@ pub fn a_caller_chains_what_calls_promise()
         → ComesTo start EndsOutOfMemory files (Host w.name w.uuid ∷ Finish w.name ∷ []) t.wanting.world t.wanting.told }
 {}
 
-/// A body that does what its own task says meets what the call promises: the first operation of a logplay drops line 0, of
-/// which the cache has no copy, so memory is asked for nothing; on every image that is modelled (`step`), and on a media that
-/// tells nothing (`untold`). So does one that makes a file system of 65,536 bytes of log and units of 4,096, over whatever
-/// stands there, on every image that has room for it (`mkfs`); and one in which the media fails at the first load (`cut`).
+/// A body that does what its own task says meets what the call promises: the first operation of a logplay drops line 0,
+/// of which the cache has no copy, so memory is asked for nothing; on every image that is modelled (`step`), and on a
+/// media that tells nothing (`untold`). So does one that makes a file system of 65,536 bytes of log and units of 4,096,
+/// over whatever stands there, on every image that has room for it (`mkfs`); and one in which the media fails at the
+/// first load (`cut`).
 pub fn a_body_meets_what_calls_promise()
     ensures step { (me : List ℕ) (lines : ℕ) (journal : List Note) (image : Image) (faults : ℕ)
         → StepCall (codes "m") lines None false (Some image) (Some image) faults faults (before_step me lines journal) (after_step me lines journal) }

@@ -1,8 +1,9 @@
-//! A file as a media, with some lines of it read ahead. This is a trusted edge: what a real file holds, no clause tells.
+//! A file as a media, with some lines of it read ahead. This is a trusted edge: what a real file holds, no clause
+//! tells.
 //!
-//! Lines behind the gate's are read ahead for a reader that goes upward, and each of them is given once. The gate's line,
-//! and those before it, are always read by themselves, and then all that was read ahead is forgotten. So what is given of
-//! slots and files after a gate was read is never older than that gate.
+//! Lines behind the gate's are read ahead for a reader that goes upward, and each of them is given once. The gate's
+//! line, and those before it, are always read by themselves, and then all that was read ahead is forgotten. So what is
+//! given of slots and files after a gate was read is never older than that gate.
 
 ghost use Rattle.std.specs.Prelude.{◌≡◌, ◌≤◌, ◌<◌, ◌+◌, ◌-◌, ◌*◌, ◌↔◌, IsTrue, None, vec_len};
 ghost use Rattle.fam_media.specs.Causes.{HasCause};
@@ -23,8 +24,8 @@ const PAGE_BYTES: usize = 65536;
 /// The bytes that are read ahead where no line before this one was given.
 const FIRST_BYTES: usize = 4096;
 
-/// A file as a media: each line is read when it is asked for or ahead of that, and written at once. It models nothing of
-/// its content, and counts its faults.
+/// A file as a media: each line is read when it is asked for or ahead of that, and written at once. It models nothing
+/// of its content, and counts its faults.
 #[derive(Drop)]
 pub struct FileMedia {
     file: Option<File>,
@@ -40,8 +41,8 @@ pub struct FileMedia {
     ghost held: { 64 * (end - first) ≤ vec_len page },
 }
 
-/// How many whole lines a file or a block device has, at most those of 1 TiB. A device's length isn't in its metadata, but
-/// its end can be found as a file's can.
+/// How many whole lines a file or a block device has, at most those of 1 TiB. A device's length isn't in its metadata,
+/// but its end can be found as a file's can.
 fn lines_of(file: &mut Option<File>) -> u64
     ensures { result ≤ MOST_LINES }
 {

@@ -1,5 +1,5 @@
-//! What a command on its own shows: its last note, or why it ended early. `specs/CommandResult.antt` has the texts and the
-//! statuses.
+//! What a command on its own shows: its last note, or why it ended early. `specs/CommandResult.antt` has the texts and
+//! the statuses.
 
 ghost use Rattle.std.specs.Prelude.{◌≡◌, ◌≢◌, ◌≤◌, [], IfOk, OnErr, string_bytes, vec_capacity};
 ghost use Rattle.famfs.specs.declared.status.Status.TheVariants.{MediaFault};
@@ -111,8 +111,8 @@ fn made_text(alloc: Global, params: &Params) -> Result<String, AllocError>
     format!(in alloc; "made {fs}{sizes}")
 }
 
-/// The text of an answer: its line, and the listing behind it. Where the media failed it takes the room that was made for
-/// it.
+/// The text of an answer: its line, and the listing behind it. Where the media failed it takes the room that was made
+/// for it.
 fn answered_lines(alloc: Global, room: Vec<u8>, answer: &Answer) -> Result<Vec<u8>, OutOfMemory>
     requires empty { room.items ≡ [] }
     requires room { FAILURE_BYTES ≤ vec_capacity room }

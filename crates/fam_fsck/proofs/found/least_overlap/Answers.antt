@@ -1,6 +1,5 @@
-use Rattle.std.proofs.Common.{◌≡◌, ℕ, Option, Some, None, sym, ap, subst, ◌∙◌}
+use Rattle.std.proofs.Common.{◌≡◌, ℕ, None, sym, ap, subst, ◌∙◌}
 use Rattle.std.specs.Prelude.{option_map}
-use Rattle.fam_base.specs.declared.entry.Params.{Params}
 use Rattle.fam_format.specs.Units.{units_in, first_overlap}
 use Rattle.fam_alloc.specs.Taken.{is_taken}
 use Rattle.fam_fsck.proofs.Pairs.{partner_pair, least_of, least_known, least_new, none_new, is_none_told}

@@ -1,4 +1,3 @@
-use Rattle.std.proofs.Common.{◌≡◌}
 use Rattle.fam_grammar.proofs.WordLemmas.{word_prefix_at}
 use Rattle.fam_grammar.proofs.cursor.first_word.Goals as goal
 

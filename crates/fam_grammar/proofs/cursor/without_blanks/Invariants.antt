@@ -1,4 +1,4 @@
-use Rattle.std.proofs.Common.{◌≡◌, ◌+◌, length}
+use Rattle.std.proofs.Common.{◌≡◌, length}
 use Rattle.fam_grammar.specs.Cursor.{words_left, IsShort}
 use Rattle.fam_grammar.proofs.cursor.without_blanks.Given as goal
 

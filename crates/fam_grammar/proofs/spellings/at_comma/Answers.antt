@@ -1,13 +1,7 @@
-use Rattle.std.proofs.Common.{◌≡◌, ◌<◌, ◌≤◌, ◌+◌, ◌++◌, ◌∷◌, [], ℕ, List, Option, Some, None, Bool, true, false, cond, true≢false, take, drop, length, refl, sym, ap, subst, ◌∙◌, arith, rules}
-use Rattle.std.specs.Prelude.{option_map, position, IsTrue, ◌==◌}
-use Rattle.std.specs.Str.{IsUtf8, is_utf8}
-use Rattle.uuid.specs.Text.{parsed}
-use Rattle.std.proofs.lemmas.Str.{is_utf8-from_IsUtf8}
-use Rattle.std.proofs.lemmas.Bool.Decides.{nat_tests}
-use Rattle.std.proofs.lemmas.List.{drop-drop, take_all, take_rest, take_more_set, length-set, length-take-le}
-use Rattle.fam_base.specs.Paths.{is_path}
-use Rattle.fam_grammar.specs.Spellings.{unescaped, at_comma, uuid_of}
-use Rattle.fam_grammar.proofs.SpellingLemmas.{pair_of, behind, false_of, true_of, not_utf8, no_name_of_nothing, name_of_utf8, no_name_of_others, no_path, no_file, is_the_path, is_no_path, is_the_file, is_no_file, too_long, read_on, read_all, read_none}
+use Rattle.std.proofs.Common.{◌≡◌, ℕ, Some, None, take, drop, refl, sym, ap, ◌∙◌, arith}
+use Rattle.std.specs.Prelude.{position, ◌==◌}
+use Rattle.std.proofs.lemmas.List.{drop-drop, take_rest}
+use Rattle.fam_grammar.proofs.SpellingLemmas.{pair_of}
 use Rattle.fam_grammar.proofs.spellings.at_comma.Goals as goal
 
 pub returns-in_err-comma : goal.returns-in_err-comma

@@ -1,4 +1,4 @@
-use Rattle.std.proofs.Common.{◌≡◌, ◌≤◌, ◌++◌, length, take}
+use Rattle.std.proofs.Common.{◌≡◌, ◌≤◌, length, take}
 use Rattle.fam_grammar.specs.Spellings.{unescaped}
 use Rattle.fam_grammar.proofs.SpellingLemmas.{behind}
 use Rattle.fam_grammar.proofs.spellings.path_of.Given as goal

@@ -1,10 +1,6 @@
-use Rattle.std.proofs.Common.{◌≡◌, ◌<◌, ◌≤◌, ◌+◌, ◌++◌, ◌∷◌, [], ℕ, List, Option, Some, None, Bool, true, false, take, drop, length, refl, sym, ap, subst, ◌∙◌, arith, rules}
-use Rattle.std.specs.Prelude.{option_map, position, IsTrue}
-use Rattle.std.proofs.lemmas.Bool.Decides.{nat_tests}
-use Rattle.std.proofs.lemmas.List.{take_all, take_more_set, length-set, length-take-le}
-use Rattle.fam_base.specs.Paths.{is_path}
-use Rattle.fam_grammar.specs.Spellings.{unescaped, at_comma}
-use Rattle.fam_grammar.proofs.SpellingLemmas.{behind, no_path, no_file, is_the_path, is_no_path, is_the_file, is_no_file, too_long, read_on, read_all, read_none}
+use Rattle.std.proofs.Common.{◌≡◌, ◌++◌, ◌∷◌, [], ℕ, List, sym, ap, ◌∙◌, rules}
+use Rattle.fam_grammar.specs.Spellings.{unescaped}
+use Rattle.fam_grammar.proofs.SpellingLemmas.{behind, read_on}
 use Rattle.fam_grammar.proofs.spellings.unescaped.Goals as goal
 
 pub loop-rest-preserved : goal.loop-rest-preserved

@@ -1,8 +1,8 @@
-use Rattle.std.proofs.Common.{◌≡◌, ℕ, Bool, ◌||◌, List, [], ◌∷◌, ◌++◌, length, refl, sym, ap, subst, ◌∙◌}
+use Rattle.std.proofs.Common.{ℕ, Bool, ◌||◌, List, [], ◌∷◌, ◌++◌, length, refl, sym, ap, subst, ◌∙◌}
 use Rattle.std.specs.List.{All}
 use Rattle.fam_format.specs.Tree.{Tree, replay}
 use Rattle.fam_format.specs.Units.{units_in, is_used}
-use Rattle.fam_alloc.specs.Taken.{holds, LieWithin}
+use Rattle.fam_alloc.specs.Taken.{holds}
 use Rattle.fam_fsck.specs.declared.found.Found.{Found}
 use Rattle.fam_fsck.specs.Found.{Finds, applied_of, entries_of, found_as, tree_after, LiesWithin}
 use Rattle.fam_fsck.proofs.Surveys.{lies_within, placed_more, tree_more, used_more}

@@ -1,4 +1,4 @@
-use Rattle.std.proofs.Common.{◌≡◌, arith, ap}
+use Rattle.std.proofs.Common.{arith, ap}
 use Rattle.fam_fsck.specs.Scan.{Scan}
 use Rattle.fam_fsck.proofs.Surveys.{slots_fit}
 use Rattle.fam_fsck.proofs.fsck.Fsck.add_past.Goals as goal

@@ -1,4 +1,4 @@
-use Rattle.std.proofs.Common.{◌≡◌, ap, ◌∙◌}
+use Rattle.std.proofs.Common.{ap}
 use Rattle.fam_rules.specs.Reports.{report_by}
 use Rattle.fam_fsck.specs.Scan.{Scan}
 use Rattle.fam_fsck.proofs.fsck.Fsck.report.Goals as goal
