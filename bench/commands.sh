@@ -2,10 +2,10 @@
 # Times mkfs, mkdir and logplay on a log of 8 MiB: 16,382 directories, read from the page cache. python3 writes the
 # image.
 #
-# Measured on one x86-64 processor of about 2.5 GHz with nothing else to do: mkfs 0.002 to 0.003 s; mkdir, which reads
-# 16,382 slots and fills the last one, and logplay of the full log 0.06 to 0.07 s in 8 of 10 calls, and 0.11 and 0.12 s.
-# A logplay makes 137 reads. The rest is more than a million steps on the cache, parsing, and the tree. Where the disk
-# still writes the image that was just copied, up to 0.2 s.
+# Measured on one x86-64 processor of about 2.5 GHz: mkfs 0.003 to 0.004 s; mkdir, which reads 16,382 slots and fills the
+# last one, 0.08 to 0.11 s; logplay of a log as long 0.085 to 0.09 s. A logplay makes 137 reads. The rest is more than a
+# million steps on the cache, parsing, and the tree. Where the disk still writes the image that was just copied, up to
+# 0.2 s.
 set -eu
 top=$(cd "$(dirname "${BASH_SOURCE[0]}")/.." && pwd)
 "$top/famfs" logplay "$top/crates/famfs/data/img" >/dev/null
