@@ -8,3 +8,4 @@ pub mod Options
 pub mod Lines
 pub mod Scripts
 pub mod Printed
+pub mod Sound

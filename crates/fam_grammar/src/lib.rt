@@ -19,5 +19,6 @@ mod words;
 
 pub use fault::LineFault;
 pub use laws::a_printed_command_reads_as_itself;
-pub use numbers::size;
+pub use numbers::{number, size};
 pub use script::read_line;
+pub use spellings::{count_of, id_of, mode_of};

@@ -20,7 +20,7 @@ fn with_digit(number: u64, byte: u8) -> Option<u64>
 #[tactic(auto, unfolding(crate::specs::Numbers::number_of_text))]
 /// The number that 1 to 20 decimal digits spell, and `None` exactly where the text isn't these, or the number needs
 /// more than 64 bits.
-pub(crate) fn number(text: &[u8]) -> Option<u64>
+pub fn number(text: &[u8]) -> Option<u64>
     ensures { result ≡ number_of_text text.now }
 {
     if text.is_empty() {

@@ -1,6 +1,7 @@
 //! How words are spelled. `specs/Spellings.antt` has each spelling as a function of one word.
 
 ghost use Rattle.std.specs.Prelude.{◌≡◌, ◌<◌, ◌≤◌, IfOk, IfSome, IsTrue, MatchOption, fold, length, option_map, position, ◌==◌};
+ghost use Rattle.fam_base.specs.Commands.{mode_limit, read_limit};
 ghost use Rattle.fam_base.specs.Escapes.{is_plain};
 ghost use Rattle.fam_grammar.specs.Spellings.{name_of, uuid_of, unescaped, in_prefix, byte_of, with_octal, path_of, file_of, id_of, mask_of, count_of, steps_of, is_octal, mode_of, at_comma, stripe_of, stripe_with, value_behind};
 ghost use Rattle.uuid.specs.Text.{hex_digit_value, parsed};
@@ -138,7 +139,7 @@ pub(crate) fn file_of(alloc: Global, word: &[u8]) -> Result<Option<NameText>, Ou
 }
 
 /// A number below 2^32.
-pub(crate) fn id_of(word: &[u8]) -> Option<u32>
+pub fn id_of(word: &[u8]) -> Option<u32>
     ensures { result ≡ id_of word.now }
 {
     match number(word) {
@@ -158,8 +159,9 @@ pub(crate) fn mask_of(word: &[u8]) -> Option<u8>
 }
 
 /// A number of at most 4,096.
-pub(crate) fn count_of(word: &[u8]) -> Option<u64>
-    ensures { result ≡ count_of word.now }
+pub fn count_of(word: &[u8]) -> Option<u64>
+    ensures value { result ≡ count_of word.now }
+    ensures small { IfSome result (λ count. count ≤ read_limit) }
 {
     match number(word) {
         Some(n) if n < 4097 => Some(n),
@@ -192,8 +194,9 @@ fn are_octal(digits: &[u8]) -> bool
 
 /// A mode: 1 to 4 octal digits.
 #[tactic(auto, unfolding(crate::specs::Spellings::mode_of))]
-pub(crate) fn mode_of(word: &[u8]) -> Option<u32>
-    ensures { result ≡ mode_of word.now }
+pub fn mode_of(word: &[u8]) -> Option<u32>
+    ensures value { result ≡ mode_of word.now }
+    ensures small { IfSome result (λ mode. mode ≤ mode_limit) }
 {
     if word.is_empty() {
         return None;
@@ -211,7 +214,8 @@ pub(crate) fn mode_of(word: &[u8]) -> Option<u32>
 fn octal_value(digits: &[u8]) -> u32
     requires short { length digits.now ≤ 4 }
     requires octal { IsTrue (list_all is_octal digits.now) }
-    ensures { result ≡ fold with_octal 0 digits.now }
+    ensures value { result ≡ fold with_octal 0 digits.now }
+    ensures small { result ≤ mode_limit }
 {
     let mut value = 0;
     for digit in digits {

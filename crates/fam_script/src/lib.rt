@@ -17,4 +17,5 @@ mod tests;
 pub use answers::answer_text;
 pub use fam_grammar::{LineFault, read_line};
 pub use notes::print_note;
+pub use refusals::refusal_line;
 pub use reports::is_sound;

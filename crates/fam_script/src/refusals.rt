@@ -18,7 +18,7 @@ pub(crate) fn host_name(names: &[HostName], host: HostId) -> &[u8]
 }
 
 /// The line of a refusal.
-pub(crate) fn refusal_line(
+pub fn refusal_line(
     alloc: Global,
     cause: &Refusal,
     names: &[HostName],

@@ -2,11 +2,8 @@
 use Rattle.std.proofs.Common.{◌≡◌, ℕ, ◌<◌, ◌≤◌, Bool, true, false, List, [], length, Option, Some, None, inl, inr, refl, sym, ap, subst, ◌∙◌, arith}
 use Rattle.std.specs.Prelude.{nat_lt, IfSome, OnSome, OnErr, Result, Ok, Err}
 use Rattle.std.proofs.lemmas.Bool.Decides.{nat_tests}
-use Rattle.std.proofs.lemmas.List.Elements.{All-nil}
 use Rattle.std.specs.FinMap as finmap
 use Rattle.fam_base.specs.declared.cmd.Cmd.{Cmd}
-use Rattle.fam_base.specs.declared.entry.Entry.{Entry}
-use Rattle.fam_base.specs.declared.entry.Kind.TheVariants.{Directory}
 use Rattle.fam_base.specs.Image.{Image}
 use Rattle.fam_format.specs.Layout.{least_lines}
 use Rattle.fam_machine.specs.Operations.{operated}
@@ -14,13 +11,13 @@ use Rattle.fam_commands.specs.Solo.{with_empty_cache, starts}
 use Rattle.fam_commands.specs.Task.{op_of, starting}
 use Rattle.fam_media.specs.Causes.{Rose}
 use Rattle.fam_media.specs.Outside.{IfModelled}
-use Rattle.fam_run.specs.Files.{IsExpected, meets_a_file}
+use Rattle.fam_run.specs.Expected.{IsExpected}
 use Rattle.fam_run.specs.Run.{HasBroken, HasEnded, HasStopped, Ran, fault_of}
 use Rattle.fam_tasks.specs.declared.answer.Answer.{Answer}
 use Rattle.fam_tasks.specs.declared.answer.Answer.TheVariants as answer
 use Rattle.famfs.specs.declared.said.CommandResult.{CommandResult}
 use Rattle.famfs.specs.declared.said.CommandResult.TheVariants as said
-use Rattle.famfs.specs.declared.status.Status.TheVariants.{MediaFault}
+use Rattle.fam_journal.specs.declared.status.Status.TheVariants.{MediaFault}
 use Rattle.famfs.specs.CommandResult.{answer_status, said_status}
 use Rattle.famfs.specs.Expected.{IsTaskStopped, TaskExpected}
 use Rattle.famfs.specs.Ends.{LeavesImage, MediaChange}
@@ -29,14 +26,14 @@ use Rattle.famfs.specs.Says.{AnswerSays, IsDone, TaskSays}
 -- nothing was done
 not_begun : (image : Image) (me : List ℕ) (c : Cmd) → IsTaskStopped image me c image
 not_begun image me c =
-    inl (record { reached = record { task = starting c me (length image); words = []; made = 0; machine = with_empty_cache image; ran = starts; plain = All-nil (λ (e : Entry). e.kind ≡ Directory) }; left = refl })
+    inl (record { reached = record { task = starting c me (length image); words = []; made = 0; machine = with_empty_cache image; ran = starts }; left = refl })
 
 pub untouched_stopped : (media : MediaChange) (me : List ℕ) (c : Cmd) → media.image_now ≡ media.image → LeavesImage media (λ image left. IsTaskStopped image me c left)
 untouched_stopped media me c same image is = (image, same ∙ is, not_begun image me c)
 
 module _ (media : MediaChange) (me : List ℕ) (c : Cmd) (count : IfModelled media.image (λ image. length image ≡ media.size)) where
   -- the image is large enough
-  enough_expected : (image left : Image) (a : Answer) → least_lines ≤ length image → IsExpected (meets_a_file image me c) image me c a (Some left) → TaskExpected (nat_lt (length image) least_lines) image me c (said.Answered a) left
+  enough_expected : (image left : Image) (a : Answer) → least_lines ≤ length image → IsExpected image me c a (Some left) → TaskExpected (nat_lt (length image) least_lines) image me c (said.Answered a) left
   enough_expected image left a enough expected = go (nat_lt (length image) least_lines) refl
     where
       go : (b : Bool) → nat_lt (length image) least_lines ≡ b → TaskExpected b image me c (said.Answered a) left
@@ -44,7 +41,7 @@ module _ (media : MediaChange) (me : List ℕ) (c : Cmd) (count : IfModelled med
       go false is = record { answer = a; shown_is = refl; expected = expected }
 
   -- an answer without a fault
-  ended : (a : Answer) → least_lines ≤ media.size → IfModelled media.image (λ image. HasEnded c me image finmap.empty a media.image_now) → IfModelled media.image (λ image. IsExpected (meets_a_file image me c) image me c a media.image_now) → LeavesImage media (IsDone me c (said.Answered a))
+  ended : (a : Answer) → least_lines ≤ media.size → IfModelled media.image (λ image. HasEnded c me image finmap.empty a media.image_now) → IfModelled media.image (λ image. IsExpected image me c a media.image_now) → LeavesImage media (IsDone me c (said.Answered a))
   ended a enough ran expected image is =
       let e = ran image is in
       let left : Image = (operated (op_of e.reached.task) e.reached.machine).image in
@@ -52,13 +49,13 @@ module _ (media : MediaChange) (me : List ℕ) (c : Cmd) (count : IfModelled med
         left,
         e.left,
         record {
-          expected = enough_expected image left a (omega (arith, at, enough)) (subst (λ (o : Option Image). IsExpected (meets_a_file image me c) image me c a o) e.left (expected image is));
+          expected = enough_expected image left a (omega (arith, at, enough)) (subst (λ (o : Option Image). IsExpected image me c a o) e.left (expected image is));
           stopped = inr (a, record { reached = e.reached; inside = e.inside; left = refl; after = e.after; reply = e.reply });
         },
       )
 
   pub says_answer : (a : Answer) → least_lines ≤ media.size → IfModelled media.image (λ image. Ran c me image finmap.empty a media.image_now)
-      → (fault_of a ≡ None → IfModelled media.image (λ image. IsExpected (meets_a_file image me c) image me c a media.image_now))
+      → (fault_of a ≡ None → IfModelled media.image (λ image. IsExpected image me c a media.image_now))
       → OnSome (fault_of a) (Rose media.faults media.faults_now) → IfSome (fault_of a) (λ line. line.0 < media.size) → AnswerSays media me c a
   says_answer (answer.Ok seq) enough ran expected rose line = ended _ enough ran (expected refl)
   says_answer (answer.Played m tree) enough ran expected rose line = ended _ enough ran (expected refl)
@@ -81,7 +78,6 @@ module _ (media : MediaChange) (me : List ℕ) (c : Cmd) (count : IfModelled med
   says_answer (answer.Differs m offset found wanted) enough ran expected rose line = ended _ enough ran (expected refl)
   says_answer (answer.Length m size wanted) enough ran expected rose line = ended _ enough ran (expected refl)
   says_answer answer.BadStripe enough ran expected rose line = ended _ enough ran (expected refl)
-  says_answer answer.NotYet enough ran expected rose line = ended _ enough ran (expected refl)
   says_answer (answer.MediaFault at) enough ran expected rose line = record {
     rose = rose;
     within = line;
@@ -148,7 +144,6 @@ module _ (media : MediaChange) (me : List ℕ) (c : Cmd) where
   answer_stopped answer.BadStripe other says = stopped_too _ says
   answer_stopped answer.NoParent other says = stopped_too _ says
   answer_stopped answer.ParentIsFile other says = stopped_too _ says
-  answer_stopped answer.NotYet other says = stopped_too _ says
 
   -- what is said of a command on the log, unless the media failed
   pub said_stopped : (shown : CommandResult) → (said_status shown ≡ MediaFault → ⊥) → TaskSays media me c shown → LeavesImage media (λ image left. IsTaskStopped image me c left)

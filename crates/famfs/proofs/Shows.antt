@@ -7,14 +7,12 @@ use Rattle.fam_base.specs.Image.{Image}
 use Rattle.fam_machine.specs.Mkfs.{asked}
 use Rattle.fam_tasks.specs.declared.answer.Answer.{Answer}
 use Rattle.fam_tasks.specs.declared.answer.Answer.TheVariants as answer
-use Rattle.famfs.specs.declared.command.Command.{Command}
-use Rattle.famfs.specs.declared.command.Command.TheVariants.{Log, Mkfs}
 use Rattle.famfs.specs.declared.said.CommandResult.{CommandResult}
 use Rattle.famfs.specs.declared.said.CommandResult.TheVariants as said
-use Rattle.famfs.specs.declared.status.Status.{Status}
+use Rattle.fam_journal.specs.declared.status.Status.{Status}
 use Rattle.famfs.specs.declared.top.Shown.{Shown}
-use Rattle.famfs.specs.declared.status.Status.TheVariants.{Done, Refused, MediaFault, Damaged, NotYet}
-use Rattle.famfs.specs.Expected.{CommandCall, IsBroken, IsExpected, IsMkfsBroken, IsMkfsExpected, IsOfCall, IsOfMkfs, IsOfTask, IsStopped, IsTaskBroken, IsTaskExpected, IsTaskStopped, early_of, early_said, fault_said, fs_or, refused_said, small_said}
+use Rattle.fam_journal.specs.declared.status.Status.TheVariants.{Done, Refused, MediaFault, Damaged}
+use Rattle.famfs.specs.Expected.{Command, CommandCall, Log, Mkfs, IsBroken, IsExpected, IsMkfsBroken, IsMkfsExpected, IsOfCall, IsOfMkfs, IsOfTask, IsStopped, IsTaskBroken, IsTaskExpected, IsTaskStopped, early_of, early_said, fault_said, fs_or, refused_said, small_said}
 use Rattle.famfs.specs.Ends.{CommandShows, IsShown, LeavesImage, MediaChange, ShowsFault, ShowsOutOfMemory}
 use Rattle.fam_journal.specs.Statuses.{is_checked_equal}
 use Rattle.fam_journal.specs.Texts.{is_sound_report}
@@ -64,8 +62,8 @@ module _ (media : MediaChange) (call : CommandCall) (c : Cmd) where
     unfolding TaskRows
     done shown status text s t o e l = shows_expected media call _ _ _ _ _ rows shown status text s t o e (leaves_more media (IsDone call.me c shown) (λ image left. IsTaskExpected image call.me c shown left) (λ image left d. d.expected) l)
 
-    at_status : (out_of_memory : Status) (status : Status) (text : List ℕ) → status ≡ out_of_memory → CommandShows media call out_of_memory text → CommandShows media call status text
-    at_status out_of_memory status text is shows = subst (λ (x : Status). CommandShows media call x text) (sym is) shows
+    at_status : (wanted : Status) (status : Status) (text : List ℕ) → status ≡ wanted → CommandShows media call wanted text → CommandShows media call status text
+    at_status wanted status text is shows = subst (λ (x : Status). CommandShows media call x text) (sym is) shows
 
     -- what was looked at is sound, or damaged
     sound_shows : (sound : Bool) (shown : CommandResult) (status : Status) (text : List ℕ) → status ≡ sound_status sound → sound_status sound ≡ said_status shown → text ≡ said_text shown
@@ -98,7 +96,6 @@ module _ (media : MediaChange) (call : CommandCall) (c : Cmd) where
     answer_shows answer.BadStripe status text s t e l = at_status Refused status text s (done (said.Answered answer.BadStripe) Refused text refl t tt e l)
     answer_shows (answer.Checked m checked) status text s t e l = sound_shows (is_checked_equal checked) (said.Answered (answer.Checked m checked)) status text s refl t tt e l
     answer_shows (answer.Report report) status text s t e l = sound_shows (is_sound_report report) (said.Answered (answer.Report report)) status text s refl t tt e l
-    answer_shows answer.NotYet status text s t e l = at_status NotYet status text s (done (said.Answered answer.NotYet) NotYet text refl t tt e l)
 
     said_shows : (shown : CommandResult) (status : Status) (text : List ℕ) → status ≡ said_status shown → text ≡ said_text shown → small_said media.size ≡ early_of shown → TaskSays media call.me c shown → CommandShows media call status text
     said_shows (said.Small lines) status text s t e l = at_status Damaged status text s (done (said.Small lines) Damaged text refl t tt e l)
@@ -127,24 +124,24 @@ module _ (media : MediaChange) (me random : List ℕ) where
 
   -- Making a file system.
 
-  module _ (unit log : ℕ) (fs : Option (List ℕ)) where
-    mkfs_rows : Rows (record { command = Mkfs unit log fs; me = me; random = random }) media.size (IsOfMkfs (asked unit log (fs_or random fs) me media.size)) (refused_said unit log media.size) (λ shown image left. IsMkfsExpected image me unit log (fs_or random fs) shown left) (λ line image left. IsMkfsBroken image me unit log (fs_or random fs) line left) (λ line. said.Failed line)
+  module _ (fs : Option (List ℕ)) (unit log : ℕ) (force : Bool) where
+    mkfs_rows : Rows (record { command = Mkfs fs unit log force; me = me; random = random }) media.size (IsOfMkfs (asked unit log (fs_or random fs) me media.size)) (refused_said unit log media.size) (λ shown image left. IsMkfsExpected image me (fs_or random fs) unit log force shown left) (λ line image left. IsMkfsBroken image me (fs_or random fs) unit log force line left) (λ line. said.Failed line)
     mkfs_rows = record { to_expected = λ shown image left d. d; to_broken = λ line image left b. b; fault_is = λ line. refl; own_is = λ shown o. o; early_is = refl; fault_late = λ line. refl }
 
-    made : (shown : CommandResult) (out_of_memory status : Status) (text : List ℕ) → out_of_memory ≡ said_status shown → status ≡ out_of_memory → text ≡ said_text shown → IsOfMkfs (asked unit log (fs_or random fs) me media.size) shown → refused_said unit log media.size ≡ early_of shown → LeavesImage media (λ image left. IsMkfsExpected image me unit log (fs_or random fs) shown left)
-        → IsShown media (record { command = Mkfs unit log fs; me = me; random = random }) out_of_memory text
-    made shown out_of_memory status text w s t o e l = shows_expected media _ _ _ _ _ _ mkfs_rows shown out_of_memory text w t o e l
+    made : (shown : CommandResult) (wanted status : Status) (text : List ℕ) → wanted ≡ said_status shown → status ≡ wanted → text ≡ said_text shown → IsOfMkfs (asked unit log (fs_or random fs) me media.size) shown → refused_said unit log media.size ≡ early_of shown → LeavesImage media (λ image left. IsMkfsExpected image me (fs_or random fs) unit log force shown left)
+        → IsShown media (record { command = Mkfs fs unit log force; me = me; random = random }) wanted text
+    made shown wanted status text w s t o e l = shows_expected media _ _ _ _ _ _ mkfs_rows shown wanted text w t o e l
 
-    mkfs_said : (shown : CommandResult) (status : Status) (text : List ℕ) → status ≡ said_status shown → text ≡ said_text shown → refused_said unit log media.size ≡ early_of shown → MkfsSays media me unit log (fs_or random fs) shown → CommandShows media (record { command = Mkfs unit log fs; me = me; random = random }) status text
-    mkfs_said (said.Made p) status text s t e l = subst (λ (x : Status). CommandShows media (record { command = Mkfs unit log fs; me = me; random = random }) x text) (sym s) (made (said.Made p) Done status text refl s t l.0 e l.1)
-    mkfs_said (said.HasSuper other) status text s t e l = subst (λ (x : Status). CommandShows media (record { command = Mkfs unit log fs; me = me; random = random }) x text) (sym s) (made (said.HasSuper other) Refused status text refl s t tt e l)
-    mkfs_said (said.BadGeometry u g) status text s t e l = subst (λ (x : Status). CommandShows media (record { command = Mkfs unit log fs; me = me; random = random }) x text) (sym s) (made (said.BadGeometry u g) Refused status text refl s t tt e l)
-    mkfs_said (said.TooSmall need have) status text s t e l = subst (λ (x : Status). CommandShows media (record { command = Mkfs unit log fs; me = me; random = random }) x text) (sym s) (made (said.TooSmall need have) Refused status text refl s t tt e l)
-    mkfs_said (said.Failed line) status text s t e cut = subst (λ (x : Status). CommandShows media (record { command = Mkfs unit log fs; me = me; random = random }) x text) (sym s) (shows_fault media _ _ _ _ _ _ mkfs_rows line text t e cut)
+    mkfs_said : (shown : CommandResult) (status : Status) (text : List ℕ) → status ≡ said_status shown → text ≡ said_text shown → refused_said unit log media.size ≡ early_of shown → MkfsSays media me (fs_or random fs) unit log force shown → CommandShows media (record { command = Mkfs fs unit log force; me = me; random = random }) status text
+    mkfs_said (said.Made p) status text s t e l = subst (λ (x : Status). CommandShows media (record { command = Mkfs fs unit log force; me = me; random = random }) x text) (sym s) (made (said.Made p) Done status text refl s t l.0 e l.1)
+    mkfs_said (said.HasSuper other) status text s t e l = subst (λ (x : Status). CommandShows media (record { command = Mkfs fs unit log force; me = me; random = random }) x text) (sym s) (made (said.HasSuper other) Refused status text refl s t tt e l)
+    mkfs_said (said.BadGeometry u g) status text s t e l = subst (λ (x : Status). CommandShows media (record { command = Mkfs fs unit log force; me = me; random = random }) x text) (sym s) (made (said.BadGeometry u g) Refused status text refl s t tt e l)
+    mkfs_said (said.TooSmall need have) status text s t e l = subst (λ (x : Status). CommandShows media (record { command = Mkfs fs unit log force; me = me; random = random }) x text) (sym s) (made (said.TooSmall need have) Refused status text refl s t tt e l)
+    mkfs_said (said.Failed line) status text s t e cut = subst (λ (x : Status). CommandShows media (record { command = Mkfs fs unit log force; me = me; random = random }) x text) (sym s) (shows_fault media _ _ _ _ _ _ mkfs_rows line text t e cut)
     mkfs_said (said.Small lines) status text s t e l = absurd l
     mkfs_said (said.Answered a) status text s t e l = absurd l
 
-    pub mkfs_shows : (status : Status) (text : List ℕ) → ShowsSaid (refused_said unit log media.size) (MkfsSays media me unit log (fs_or random fs)) status text → CommandShows media (record { command = Mkfs unit log fs; me = me; random = random }) status text
+    pub mkfs_shows : (status : Status) (text : List ℕ) → ShowsSaid (refused_said unit log media.size) (MkfsSays media me (fs_or random fs) unit log force) status text → CommandShows media (record { command = Mkfs fs unit log force; me = me; random = random }) status text
     mkfs_shows status text s = mkfs_said s.shown status text s.status_is s.text_is s.early_is s.says_it
 
 -- what is said is shown
@@ -153,14 +150,8 @@ pub shows_what : {E : Type 0} (r : Result Shown E) (early : Option CommandResult
 shows_what (Ok shown) early says said holds first status text = record { shown = said; says_it = holds; early_is = first; status_is = status; text_is = text }
 shows_what (Err none) early says said holds first status text = tt
 
--- a command that is another shows what that one shows
-pub call_shows : {E : Type 0} (r : Result Shown E) (media : MediaChange) (me random : List ℕ) (command other : Command) (P : Status → List ℕ → Type 0) → command ≡ other
-    → ((status : Status) (text : List ℕ) → P status text → CommandShows media (record { command = other; me = me; random = random }) status text)
-    → IfOk r (λ shown. P shown.status shown.text.items) → IfOk r (λ shown. CommandShows media (record { command = command; me = me; random = random }) shown.status shown.text.items)
-call_shows (Ok shown) media me random command other P same shows p = subst (λ (c : Command). CommandShows media (record { command = c; me = me; random = random }) shown.status shown.text.items) (sym same) (shows shown.status shown.text.items p)
-call_shows (Err none) media me random command other P same shows p = tt
-
-pub call_out_of_memory : {T E : Type 0} (r : Result T E) (media : MediaChange) (me random : List ℕ) (command other : Command) (W : Type 0) → command ≡ other
-    → (W → ShowsOutOfMemory media (record { command = other; me = me; random = random }) memory_line) → OnErr r W → OnErr r (ShowsOutOfMemory media (record { command = command; me = me; random = random }) memory_line)
-call_out_of_memory (Ok shown) media me random command other W same out_of_memory w = tt
-call_out_of_memory (Err none) media me random command other W same out_of_memory w = subst (λ (c : Command). ShowsOutOfMemory media (record { command = c; me = me; random = random }) memory_line) (sym same) (out_of_memory w)
+-- a call shows what it says it does
+pub on_ok_shows : {E : Type 0} (r : Result Shown E) (P Q : Status → List ℕ → Type 0) → ((status : Status) (text : List ℕ) → P status text → Q status text)
+    → IfOk r (λ shown. P shown.status shown.text.items) → IfOk r (λ shown. Q shown.status shown.text.items)
+on_ok_shows (Ok shown) P Q more p = more shown.status shown.text.items p
+on_ok_shows (Err none) P Q more p = tt

@@ -10,8 +10,8 @@ use Rattle.fam_tasks.specs.declared.answer.Answer.{Answer}
 use Rattle.fam_tasks.specs.declared.answer.Answer.TheVariants as answer
 use Rattle.famfs.specs.declared.said.CommandResult.{CommandResult}
 use Rattle.famfs.specs.declared.said.CommandResult.TheVariants as said
-use Rattle.famfs.specs.declared.status.Status.{Status}
-use Rattle.famfs.specs.declared.status.Status.TheVariants as status
+use Rattle.fam_journal.specs.declared.status.Status.{Status}
+use Rattle.fam_journal.specs.declared.status.Status.TheVariants as status
 
 -- the text of a task's answer: that of the reply that it stands for
 abbrev pub answered_text : Answer → List ℕ
@@ -37,7 +37,6 @@ answered_text (answer.IsDirectory m) = reply_text (reply.IsDirectory m)
 answered_text (answer.Differs m offset found wanted) = reply_text (reply.Differs m offset found wanted)
 answered_text (answer.Length m size wanted) = reply_text (reply.Length m size wanted)
 answered_text (answer.MediaFault at) = line (fault_text at.0)
-answered_text answer.NotYet = line (codes "not yet")
 
 -- the text of all that may be shown
 abbrev pub said_text : CommandResult → List ℕ
@@ -78,7 +77,6 @@ answer_status (answer.IsDirectory m) = status.Refused
 answer_status (answer.Differs m offset found wanted) = status.Damaged
 answer_status (answer.Length m size wanted) = status.Damaged
 answer_status (answer.MediaFault at) = status.MediaFault
-answer_status answer.NotYet = status.NotYet
 
 -- the status of all that may be shown
 abbrev pub said_status : CommandResult → Status

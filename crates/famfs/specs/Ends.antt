@@ -1,16 +1,26 @@
 -- How a call of the program ends: the one clause of the top call, by its status.
-use Rattle.std.specs.Prelude.{ℕ, ◌≡◌, ◌≤◌, ◌<◌, ◌⊎◌, List, Option, Some, None, option_map}
+use Rattle.std.specs.Prelude.{ℕ, ◌≡◌, ◌≤◌, ◌<◌, ◌⊎◌, List, [], ◌++◌, codes, Option, Some, None, option_map}
+use Rattle.fam_base.specs.declared.cmd.Cmd.{Cmd}
 use Rattle.fam_base.specs.declared.line.LineNo.{LineNo}
 use Rattle.fam_base.specs.Image.{Image}
+use Rattle.fam_format.specs.Layout.{least_lines}
 use Rattle.fam_media.specs.Causes.{Rose}
 use Rattle.fam_media.specs.Outside.{IfModelled, IsPartlyPut, with_piece}
-use Rattle.famfs.specs.declared.command.Command.{Command}
+use Rattle.fam_journal.specs.declared.event.Ask.{Ask}
+use Rattle.fam_journal.specs.declared.refusal.Refusal.{Refusal}
+use Rattle.fam_journal.specs.declared.status.Status.{Status}
+use Rattle.fam_journal.specs.declared.status.Status.TheVariants.{Done, Refused, Usage, BadScript, MediaFault, SourceFault, SinkFault, OutOfMemory, Damaged}
+use Rattle.fam_journal.specs.Programs.{memory_line, source_line, usage_line}
+use Rattle.fam_journal.specs.Texts.{line, refusal_text}
+use Rattle.fam_sources.specs.declared.sourced.SourceEnd.{SourceEnd}
+use Rattle.fam_sources.specs.Sourced.{IsEnded, IsReady, IsUnfit, end_of}
+use Rattle.fam_sources.specs.Whole.{ShelfChange}
+use Rattle.famfs.specs.declared.request.Request.{Request}
+use Rattle.famfs.specs.declared.request.Request.TheVariants as request
 use Rattle.famfs.specs.declared.said.CommandResult.{CommandResult}
-use Rattle.famfs.specs.declared.status.Status.{Status}
-use Rattle.famfs.specs.declared.status.Status.TheVariants.{Done, Refused, Usage, MediaFault, SinkFault, OutOfMemory, Damaged, NotYet}
-use Rattle.famfs.specs.Expected.{CommandCall, IsBroken, IsExpected, IsOfCall, IsStopped, early_of, early_said, fault_said}
+use Rattle.famfs.specs.declared.said.CommandResult.TheVariants as said
+use Rattle.famfs.specs.Expected.{CommandCall, IsBroken, IsExpected, IsOfCall, IsStopped, Log, Mkfs, early_of, early_said, fault_said}
 use Rattle.famfs.specs.CommandResult.{said_status, said_text}
-use Rattle.fam_journal.specs.Programs.{memory_line, usage_line}
 
 -- the media before and after a call: the image where it is modelled, its lines and the counts of faults
 pub record MediaChange : Type 0 where
@@ -25,13 +35,13 @@ abbrev pub passed : {S : Type 0} → (S → Option Image) → (S → ℕ) → (S
 passed image size faults old now =
     record { image = image old; image_now = image now; size = size old; faults = faults old; faults_now = faults now }
 
--- what the call meets: the command that the words name, its host and random bytes, the media, and the sink before and
--- after it
+-- what the call meets: what the words ask for, its host and random bytes, and media, shelf and sink before and after it
 pub record Invocation : Type 0 where
-  pub command : Option Command
+  pub request : Option Request
   pub me : List ℕ
   pub random : List ℕ
   pub media : MediaChange
+  pub shelf : ShelfChange
   pub sink_before : ℕ
   pub sink_now : ℕ
   pub put_before : Option (List ℕ)
@@ -68,32 +78,85 @@ pub record ShowsOutOfMemory (media : MediaChange) (call : CommandCall) (text : L
 -- what a command may show, by its status
 abbrev pub CommandShows : MediaChange → CommandCall → Status → List ℕ → Type 0
 CommandShows media call Usage text = ⊥
+CommandShows media call BadScript text = ⊥
+CommandShows media call SourceFault text = ⊥
 CommandShows media call SinkFault text = ⊥
 CommandShows media call MediaFault text = ShowsFault media call text
 CommandShows media call OutOfMemory text = ShowsOutOfMemory media call text
 CommandShows media call Done text = IsShown media call Done text
 CommandShows media call Refused text = IsShown media call Refused text
 CommandShows media call Damaged text = IsShown media call Damaged text
-CommandShows media call NotYet text = IsShown media call NotYet text
 
--- what words that are no command show, which leave the image
+-- Words that are no command, and sources.
+
+-- a text that leaves the image as it was
+pub record ShowsOnly (media : MediaChange) (own : Status) (whole : List ℕ) (status : Status) (text : List ℕ) : Type 0 where
+  pub status_is : status ≡ own
+  pub text_is : text ≡ whole
+  pub same : media.image_now ≡ media.image
+
+-- words that are no command
 abbrev pub UsageShows : MediaChange → Status → List ℕ → Type 0
-UsageShows media Usage text = (text ≡ usage_line) × (media.image_now ≡ media.image)
-UsageShows media Done text = ⊥
-UsageShows media Refused text = ⊥
-UsageShows media MediaFault text = ⊥
-UsageShows media SinkFault text = ⊥
-UsageShows media OutOfMemory text = ⊥
-UsageShows media Damaged text = ⊥
-UsageShows media NotYet text = ⊥
+UsageShows media status text = ShowsOnly media Usage usage_line status text
 
--- what may be shown with a status
-abbrev pub MayShowBy : Option Command → Invocation → Status → List ℕ → Type 0
+-- no memory was left before anything was done
+abbrev pub ShowsNoMemory : MediaChange → Status → List ℕ → Type 0
+ShowsNoMemory media status text = ShowsOnly media OutOfMemory memory_line status text
+
+-- the image is too small, and no source is read
+abbrev pub ShowsSmall : MediaChange → Status → List ℕ → Type 0
+ShowsSmall media status text =
+    (media.size < least_lines) × ShowsOnly media Damaged (said_text (said.Small media.size)) status text
+
+-- the command with its source's bytes is run
+pub record ShowsRun (media : MediaChange) (shelf : ShelfChange) (me random : List ℕ) (what : Ask) (status : Status) (text : List ℕ) : Type 0 where
+  pub cmd : Cmd
+  pub copied : ℕ
+  pub ready : IsReady shelf 0 what copied cmd
+  pub shows : CommandShows media (record { command = Log cmd; me = me; random = random }) status text
+
+-- the source is none
+pub record ShowsUnfit (media : MediaChange) (shelf : ShelfChange) (what : Ask) (status : Status) (text : List ℕ) : Type 0 where
+  pub enough : least_lines ≤ media.size
+  pub cause : Refusal
+  pub copied : ℕ
+  pub unfit : IsUnfit shelf 0 what copied cause
+  pub shows : ShowsOnly media Refused (line (codes "refused " ++ refusal_text [] cause)) status text
+
+-- the source could not be read to its end
+pub record ShowsEnded (media : MediaChange) (shelf : ShelfChange) (what : Ask) (status : Status) (text : List ℕ) : Type 0 where
+  pub enough : least_lines ≤ media.size
+  pub end : SourceEnd
+  pub ended : IsEnded shelf 0 what end
+  pub shows : ShowsOnly media SourceFault (source_line (end_of end)) status text
+
+-- what a command on the log may show, with its source
+pub data AskShows (media : MediaChange) (shelf : ShelfChange) (me random : List ℕ) (what : Ask) (status : Status) (text : List ℕ) : Type 0 where
+  TooSmall : ShowsSmall media status text → AskShows media shelf me random what status text
+  Run : ShowsRun media shelf me random what status text → AskShows media shelf me random what status text
+  Unfit : ShowsUnfit media shelf what status text → AskShows media shelf me random what status text
+  Ended : ShowsEnded media shelf what status text → AskShows media shelf me random what status text
+  NoMemory : ShowsNoMemory media status text → AskShows media shelf me random what status text
+
+-- the UUID of the host
+abbrev pub host_or : List ℕ → Option (List ℕ) → List ℕ
+host_or me None = me
+host_or me (Some system) = system
+
+-- what a request may show, for a host of this UUID where it names no other, and with these random bytes
+abbrev pub RequestShows : Request → MediaChange → ShelfChange → List ℕ → List ℕ → Status → List ℕ → Type 0
+RequestShows (request.Log system ask) media shelf me random status text =
+    AskShows media shelf (host_or me system) random ask status text
+RequestShows (request.Mkfs system fs unit log force) media shelf me random status text =
+    CommandShows media (record { command = Mkfs fs unit log force; me = host_or me system; random = random }) status text
+
+abbrev pub MayShowBy : Option Request → Invocation → Status → List ℕ → Type 0
 MayShowBy None m status text = UsageShows m.media status text
-MayShowBy (Some command) m status text = CommandShows m.media (record { command = command; me = m.me; random = m.random }) status text
+MayShowBy (Some request) m status text = RequestShows request m.media m.shelf m.me m.random status text
 
+-- or no memory was left for the words
 abbrev pub MayShow : Invocation → Status → List ℕ → Type 0
-MayShow m status text = MayShowBy m.command m status text
+MayShow m status text = MayShowBy m.request m status text ⊎ ShowsNoMemory m.media status text
 
 -- the whole text was put behind what stood there
 pub record PutsWhole (m : Invocation) (status : Status) : Type 0 where
@@ -115,10 +178,11 @@ CallEnds m SinkFault = PutsPrefix m
 CallEnds m Done = PutsWhole m Done
 CallEnds m Refused = PutsWhole m Refused
 CallEnds m Usage = PutsWhole m Usage
+CallEnds m BadScript = PutsWhole m BadScript
+CallEnds m SourceFault = PutsWhole m SourceFault
 CallEnds m MediaFault = PutsWhole m MediaFault
 CallEnds m OutOfMemory = PutsWhole m OutOfMemory
 CallEnds m Damaged = PutsWhole m Damaged
-CallEnds m NotYet = PutsWhole m NotYet
 
 -- a text was put whole and the status is its own, or the sink failed
 pub record PutAs (status : Status) (text : List ℕ) (before now : ℕ) (put_before put_now : Option (List ℕ)) (result : Status) : Type 0 where

@@ -18,16 +18,18 @@ use Rattle.fam_mkfs.specs.Refusals.{refusal}
 use Rattle.fam_machine.specs.Mkfs.{asked, expected_ops}
 use Rattle.fam_rules.specs.Place.{line_bytes}
 use Rattle.fam_rules.specs.Written.{formatted}
-use Rattle.fam_run.specs.Files as files
-use Rattle.fam_run.specs.Files.{meets_a_file}
+use Rattle.fam_run.specs.Expected as runs
 use Rattle.fam_run.specs.Run.{HasBroken, HasEnded, HasStopped}
 use Rattle.fam_tasks.specs.declared.answer.Answer.{Answer}
 use Rattle.fam_tasks.specs.declared.answer.Answer.TheVariants as answer
-use Rattle.famfs.specs.declared.command.Command.{Command}
-use Rattle.famfs.specs.declared.command.Command.TheVariants.{Log, Mkfs}
 use Rattle.famfs.specs.declared.said.CommandResult.{CommandResult}
 use Rattle.famfs.specs.declared.said.CommandResult.TheVariants as said
 use Rattle.famfs.specs.Fresh.{version4_of}
+
+-- what is done: a command on the log, or a file system is made
+pub data Command : Type 0 where
+  Log : (c : Cmd) → Command
+  Mkfs : (fs : Option (List ℕ)) (unit log : ℕ) (force : Bool) → Command
 
 -- a command, the UUID of its host, and sixteen random bytes
 pub record CommandCall : Type 0 where
@@ -37,11 +39,11 @@ pub record CommandCall : Type 0 where
 
 -- Commands on the log.
 
--- the answer that the image gives, and the image that the command leaves. A file keeps it from an answer
+-- the answer that the image gives, and the image that the command leaves
 pub record AnswersImage (image : Image) (me : List ℕ) (c : Cmd) (shown : CommandResult) (left : Image) : Type 0 where
   pub answer : Answer
   pub shown_is : shown ≡ said.Answered answer
-  pub expected : files.IsExpected (meets_a_file image me c) image me c answer (Some left)
+  pub expected : runs.IsExpected image me c answer (Some left)
 
 -- an image of too few lines is refused
 abbrev pub TaskExpected : Bool → Image → List ℕ → Cmd → CommandResult → Image → Type 0
@@ -51,12 +53,12 @@ TaskExpected false image me c shown left = AnswersImage image me c shown left
 abbrev pub IsTaskExpected : Image → List ℕ → Cmd → CommandResult → Image → Type 0
 IsTaskExpected image me c shown left = TaskExpected (nat_lt (length image) least_lines) image me c shown left
 
--- the command's first operations were done, before it met a file, and in the next one, at this line, the media failed
+-- the command's first operations were done, and in the next one, at this line, the media failed
 pub record IsTaskBroken (image : Image) (me : List ℕ) (c : Cmd) (line : LineNo) (left : Image) : Type 0 where
   pub enough : least_lines ≤ length image
   pub broken : HasBroken c me image finmap.empty line (Some left)
 
--- the command's first operations were done, before it met a file, and no other; or all of them
+-- the command's first operations were done, and no other; or all of them
 abbrev pub IsTaskStopped : Image → List ℕ → Cmd → Image → Type 0
 IsTaskStopped image me c left = HasStopped c me image finmap.empty (Some left) ⊎ ((answer : Answer) × HasEnded c me image finmap.empty answer (Some left))
 
@@ -75,24 +77,25 @@ said_of_end (end.TooSmall need have) = said.TooSmall need have
 said_of_end (end.HasSuper fs) = said.HasSuper fs
 said_of_end (end.Failed line) = said.Failed line
 
--- a superblock stands in the way; or the file system is made
-abbrev pub MadeExpected : Result Params SuperFault → Params → Image → CommandResult → Image → Type 0
-MadeExpected (Ok other) p image shown left = (shown ≡ said.HasSuper other.fs) × (left ≡ image)
-MadeExpected (Err fault) p image shown left = (shown ≡ said.Made p) × (left ≡ formatted image p)
+-- a superblock stands in the way; or the file system is made, over what stands there where it is forced
+abbrev pub MadeExpected : Bool → Result Params SuperFault → Params → Image → CommandResult → Image → Type 0
+MadeExpected true r p image shown left = (shown ≡ said.Made p) × (left ≡ formatted image p)
+MadeExpected false (Ok other) p image shown left = (shown ≡ said.HasSuper other.fs) × (left ≡ image)
+MadeExpected false (Err fault) p image shown left = (shown ≡ said.Made p) × (left ≡ formatted image p)
 
 -- what is refused at once; or what line 0, 1 and 2 say decides
-abbrev pub MkfsExpected : Option MkfsEnd → Params → Image → CommandResult → Image → Type 0
-MkfsExpected (Some refused) p image shown left = (shown ≡ said_of_end refused) × (left ≡ image)
-MkfsExpected None p image shown left = MadeExpected (super_in (line_at image) (line_bytes * length image)) p image shown left
+abbrev pub MkfsExpected : Option MkfsEnd → Bool → Params → Image → CommandResult → Image → Type 0
+MkfsExpected (Some refused) force p image shown left = (shown ≡ said_of_end refused) × (left ≡ image)
+MkfsExpected None force p image shown left = MadeExpected force (super_in (line_at image) (line_bytes * length image)) p image shown left
 
-abbrev pub IsMkfsExpected : Image → List ℕ → ℕ → ℕ → List ℕ → CommandResult → Image → Type 0
-IsMkfsExpected image me unit log fs shown left = MkfsExpected (refusal unit log (line_bytes * length image)) (asked unit log fs me (length image)) image shown left
+abbrev pub IsMkfsExpected : Image → List ℕ → List ℕ → ℕ → ℕ → Bool → CommandResult → Image → Type 0
+IsMkfsExpected image me fs unit log force shown left = MkfsExpected (refusal unit log (line_bytes * length image)) force (asked unit log fs me (length image)) image shown left
 
 -- of the operations that are expected the first ones were done, and in the next one, at this line, the media failed
-pub record IsMkfsBroken (image : Image) (me : List ℕ) (unit log : ℕ) (fs : List ℕ) (line : LineNo) (left : Image) : Type 0 where
+pub record IsMkfsBroken (image : Image) (me fs : List ℕ) (unit log : ℕ) (force : Bool) (line : LineNo) (left : Image) : Type 0 where
   pub allowed : refusal unit log (line_bytes * length image) ≡ None
   pub state : Machine
-  pub cuts : Cuts (expected_ops false (asked unit log fs me (length image)) (with_empty_cache image)) (with_empty_cache image) line state
+  pub cuts : Cuts (expected_ops force (asked unit log fs me (length image)) (with_empty_cache image)) (with_empty_cache image) line state
   pub left_is : left ≡ state.image
 
 -- What is said at once, whatever the image holds.
@@ -120,22 +123,22 @@ early_of (said.Failed line) = None
 -- what is expected at once on an image of so many lines
 abbrev pub early_said : Command → ℕ → Option CommandResult
 early_said (Log c) lines = small_said lines
-early_said (Mkfs unit log fs) lines = refused_said unit log lines
+early_said (Mkfs fs unit log force) lines = refused_said unit log lines
 
 -- what is expected: it is shown, and left
 abbrev pub IsExpected : CommandCall → Command → Image → CommandResult → Image → Type 0
 IsExpected call (Log c) image shown left = IsTaskExpected image call.me c shown left
-IsExpected call (Mkfs unit log fs) image shown left = IsMkfsExpected image call.me unit log (fs_or call.random fs) shown left
+IsExpected call (Mkfs fs unit log force) image shown left = IsMkfsExpected image call.me (fs_or call.random fs) unit log force shown left
 
 -- what a media fault at a line leaves
 abbrev pub IsBroken : CommandCall → Command → Image → LineNo → Image → Type 0
 IsBroken call (Log c) image line left = IsTaskBroken image call.me c line left
-IsBroken call (Mkfs unit log fs) image line left = IsMkfsBroken image call.me unit log (fs_or call.random fs) line left
+IsBroken call (Mkfs fs unit log force) image line left = IsMkfsBroken image call.me (fs_or call.random fs) unit log force line left
 
 -- what running out of memory leaves: of a command on the log what its operations left; of mkfs the image as it was
 abbrev pub IsStopped : CommandCall → Command → Image → Image → Type 0
 IsStopped call (Log c) image left = IsTaskStopped image call.me c left
-IsStopped call (Mkfs unit log fs) image left = left ≡ image
+IsStopped call (Mkfs fs unit log force) image left = left ≡ image
 
 -- what a command on the log says, whatever the image holds: that it is too small, or an answer
 abbrev pub IsOfTask : CommandResult → Type 0
@@ -160,9 +163,9 @@ IsOfMkfs p (said.Failed line) = ⊤
 -- by the command, on an image of so many lines
 abbrev pub IsOfCall : CommandCall → Command → ℕ → CommandResult → Type 0
 IsOfCall call (Log c) lines shown = IsOfTask shown
-IsOfCall call (Mkfs unit log fs) lines shown = IsOfMkfs (asked unit log (fs_or call.random fs) call.me lines) shown
+IsOfCall call (Mkfs fs unit log force) lines shown = IsOfMkfs (asked unit log (fs_or call.random fs) call.me lines) shown
 
 -- the line that says where the media failed: mkfs is refused so, other commands answer so
 abbrev pub fault_said : Command → LineNo → CommandResult
 fault_said (Log c) line = said.Answered (answer.MediaFault line)
-fault_said (Mkfs unit log fs) line = said.Failed line
+fault_said (Mkfs fs unit log force) line = said.Failed line

@@ -1,5 +1,5 @@
 -- What the parts of a call promise: what is said, with what it leaves of the media.
-use Rattle.std.specs.Prelude.{ℕ, ◌≡◌, ◌<◌, List, Option}
+use Rattle.std.specs.Prelude.{ℕ, Bool, ◌≡◌, ◌<◌, List, Option}
 use Rattle.fam_base.specs.declared.cmd.Cmd.{Cmd}
 use Rattle.fam_base.specs.declared.line.LineNo.{LineNo}
 use Rattle.fam_base.specs.Image.{Image}
@@ -10,7 +10,7 @@ use Rattle.fam_tasks.specs.declared.answer.Answer.TheVariants as answer
 use Rattle.famfs.specs.declared.said.CommandResult.{CommandResult}
 use Rattle.famfs.specs.declared.said.CommandResult.TheVariants as said
 use Rattle.famfs.specs.Expected.{IsMkfsBroken, IsMkfsExpected, IsTaskBroken, IsTaskExpected, IsTaskStopped, early_of}
-use Rattle.famfs.specs.declared.status.Status.{Status}
+use Rattle.fam_journal.specs.declared.status.Status.{Status}
 use Rattle.famfs.specs.Ends.{LeavesImage, MediaChange}
 use Rattle.famfs.specs.CommandResult.{said_status, said_text}
 
@@ -49,7 +49,6 @@ AnswerSays media me c (answer.IsDirectory m) = LeavesImage media (IsDone me c (s
 AnswerSays media me c (answer.Differs m offset found wanted) = LeavesImage media (IsDone me c (said.Answered (answer.Differs m offset found wanted)))
 AnswerSays media me c (answer.Length m size wanted) = LeavesImage media (IsDone me c (said.Answered (answer.Length m size wanted)))
 AnswerSays media me c answer.BadStripe = LeavesImage media (IsDone me c (said.Answered answer.BadStripe))
-AnswerSays media me c answer.NotYet = LeavesImage media (IsDone me c (said.Answered answer.NotYet))
 
 -- what a command on the log says: its answer, or that the image is too small
 abbrev pub TaskSays : MediaChange → List ℕ → Cmd → CommandResult → Type 0
@@ -62,14 +61,14 @@ TaskSays media me c (said.TooSmall need have) = ⊥
 TaskSays media me c (said.Failed line) = ⊥
 
 -- what making a file system says
-abbrev pub MkfsSays : MediaChange → List ℕ → ℕ → ℕ → List ℕ → CommandResult → Type 0
-MkfsSays media me unit log fs (said.Failed line) = IsCutShort media line (λ image left. IsMkfsBroken image me unit log fs line left)
-MkfsSays media me unit log fs (said.Small lines) = ⊥
-MkfsSays media me unit log fs (said.Answered other) = ⊥
-MkfsSays media me unit log fs (said.Made p) = (p ≡ asked unit log fs me media.size) × LeavesImage media (λ image left. IsMkfsExpected image me unit log fs (said.Made p) left)
-MkfsSays media me unit log fs (said.HasSuper other) = LeavesImage media (λ image left. IsMkfsExpected image me unit log fs (said.HasSuper other) left)
-MkfsSays media me unit log fs (said.BadGeometry u l) = LeavesImage media (λ image left. IsMkfsExpected image me unit log fs (said.BadGeometry u l) left)
-MkfsSays media me unit log fs (said.TooSmall need have) = LeavesImage media (λ image left. IsMkfsExpected image me unit log fs (said.TooSmall need have) left)
+abbrev pub MkfsSays : MediaChange → List ℕ → List ℕ → ℕ → ℕ → Bool → CommandResult → Type 0
+MkfsSays media me fs unit log force (said.Failed line) = IsCutShort media line (λ image left. IsMkfsBroken image me fs unit log force line left)
+MkfsSays media me fs unit log force (said.Small lines) = ⊥
+MkfsSays media me fs unit log force (said.Answered other) = ⊥
+MkfsSays media me fs unit log force (said.Made p) = (p ≡ asked unit log fs me media.size) × LeavesImage media (λ image left. IsMkfsExpected image me fs unit log force (said.Made p) left)
+MkfsSays media me fs unit log force (said.HasSuper other) = LeavesImage media (λ image left. IsMkfsExpected image me fs unit log force (said.HasSuper other) left)
+MkfsSays media me fs unit log force (said.BadGeometry u l) = LeavesImage media (λ image left. IsMkfsExpected image me fs unit log force (said.BadGeometry u l) left)
+MkfsSays media me fs unit log force (said.TooSmall need have) = LeavesImage media (λ image left. IsMkfsExpected image me fs unit log force (said.TooSmall need have) left)
 
 -- something is said with this status and this text, and what is to be said at once
 pub record ShowsSaid (early : Option CommandResult) (says : CommandResult → Type 0) (status : Status) (text : List ℕ) : Type 0 where

@@ -72,15 +72,15 @@ fn page(alloc: Global) -> Vec<u8> {
 }
 
 /// Reads so many bytes from a line on, or as many as there are, and says how many whole lines they are.
-fn read_lines(file: &File, page: &mut Vec<u8>, out_of_memory: usize, line: u64) -> u64
+fn read_lines(file: &File, page: &mut Vec<u8>, wanted: usize, line: u64) -> u64
     requires within { line < MOST_LINES }
     ensures len { vec_len page.new ≡ vec_len page.old }
     ensures few { 64 * result ≤ vec_len page.old }
 {
-    if page.len() < out_of_memory {
+    if page.len() < wanted {
         return 0;
     }
-    match file.read_at(&mut page[..out_of_memory], byte_of(line)) {
+    match file.read_at(&mut page[..wanted], byte_of(line)) {
         Ok(got) => got as u64 / LINE_BYTES,
         Err(_) => 0,
     }
@@ -131,14 +131,14 @@ impl FileMedia {
         ensures faults { self.new.faults ≡ self.old.faults }
     {
         let more = self.first < self.end && line == self.end;
-        let out_of_memory = if more { PAGE_BYTES } else { FIRST_BYTES };
+        let wanted = if more { PAGE_BYTES } else { FIRST_BYTES };
         self.first = line;
         self.next = line;
         self.end = line;
         let Some(file) = &self.file else {
             return;
         };
-        let got = read_lines(file, &mut self.page, out_of_memory, line);
+        let got = read_lines(file, &mut self.page, wanted, line);
         self.end = line + got;
     }
 

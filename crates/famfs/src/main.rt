@@ -2,20 +2,20 @@
 //! handed to it.
 #![tactic(auto)]
 
-mod command;
 mod file_media;
+mod file_shelf;
 mod fresh;
+mod request;
 mod said;
-mod status;
 mod std_sink;
 mod texts;
 mod top;
 mod words;
 
 use fam_base::OutOfMemory;
-use fam_media::MemShelf;
+use fam_journal::Status;
 use file_media::FileMedia;
-use status::Status;
+use file_shelf::FileShelf;
 use std::env;
 use std::fs::{File, OpenOptions};
 use std::io::ErrorKind;
@@ -92,7 +92,7 @@ fn run(rt: &HostRuntime, words: &Vec<String>) -> Result<Status, OutOfMemory> {
         None => None,
     };
     let mut media = FileMedia::new(rt.alloc(), file);
-    let mut shelf = MemShelf::new(rt.alloc());
+    let mut shelf = FileShelf::new(rt);
     let mut out = StdSink::new(rt.stdout());
     let me = Uuid::from_bytes(SYSTEM);
     let status = famfs(

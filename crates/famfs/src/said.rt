@@ -2,14 +2,14 @@
 //! the statuses.
 
 ghost use Rattle.std.specs.Prelude.{◌≡◌, ◌≢◌, ◌≤◌, [], IfOk, OnErr, string_bytes, vec_capacity};
-ghost use Rattle.famfs.specs.declared.status.Status.TheVariants.{MediaFault};
+ghost use Rattle.fam_journal.specs.declared.status.Status.TheVariants.{MediaFault};
 ghost use Rattle.famfs.specs.CommandResult as spec;
 ghost use Rattle.fam_journal.specs.Statuses.{is_checked_equal};
 ghost use Rattle.fam_journal.specs.Texts as text;
 
-use crate::status::Status;
 use crate::texts::{FAILURE_BYTES, failure_line, line, line_of};
 use fam_base::{LineNo, OutOfMemory, Params};
+use fam_journal::Status;
 use fam_rules::Checked;
 use fam_script::{answer_text, is_sound};
 use fam_tasks::Answer;
@@ -76,7 +76,6 @@ fn answer_status(answer: &Answer) -> Status
         Answer::Differs { .. } => Status::Damaged,
         Answer::Length { .. } => Status::Damaged,
         Answer::MediaFault(_) => Status::MediaFault,
-        Answer::NotYet => Status::NotYet,
     }
 }
 
@@ -143,7 +142,6 @@ fn answered_lines(alloc: Global, room: Vec<u8>, answer: &Answer) -> Result<Vec<u
         Answer::Differs { .. } => answer_text(alloc, answer),
         Answer::Length { .. } => answer_text(alloc, answer),
         Answer::MediaFault(at) => Ok(failure_line(room, "media fault", at.0)),
-        Answer::NotYet => line(alloc, "not yet"),
     }
 }
 

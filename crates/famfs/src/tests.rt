@@ -9,4 +9,5 @@ mod listings;
 mod making;
 mod manual;
 mod outside;
+mod sessions;
 mod texts;

@@ -1,30 +1,38 @@
 //! The top call: it does all that the program does, over any media, shelf and sink.
 
-ghost use Rattle.std.specs.Prelude.{◌≡◌, ◌≢◌, ◌≤◌, [], IfOk, OnErr, ℕ, map, string_bytes, vec_capacity};
+ghost use Rattle.std.specs.Prelude.{◌≡◌, ◌≢◌, ◌≤◌, ◌++◌, [], IfOk, OnErr, ℕ, List, codes, map, string_bytes, vec_capacity};
+ghost use Rattle.fam_base.specs.Commands.{IsSoundCmd};
 ghost use Rattle.fam_media.specs.Causes.{IsSteady};
-ghost use Rattle.fam_tasks.specs.Sound.{IsServed};
-ghost use Rattle.famfs.specs.Commands.{IsServedCommand};
+ghost use Rattle.fam_journal.specs.declared.status.Status.TheVariants.{Damaged, MediaFault, OutOfMemory, Refused, SourceFault};
+ghost use Rattle.fam_journal.specs.Names.{NamesCause};
+ghost use Rattle.fam_journal.specs.Programs.{memory_line, source_line};
+ghost use Rattle.fam_grammar.specs.Sound.{IsSoundAsk};
+ghost use Rattle.fam_journal.specs.Texts.{line, refusal_text};
+ghost use Rattle.fam_sources.specs.Sourced.{end_of};
+ghost use Rattle.fam_sources.specs.Whole.{IsShelfSteady, changed};
 ghost use Rattle.famfs.specs.Expected as expected;
 ghost use Rattle.famfs.specs.Expected.{IsTaskStopped};
-ghost use Rattle.famfs.specs.Ends.{CommandShows, CallEnds, LeavesImage, PutAs, ShowsOutOfMemory, passed};
+ghost use Rattle.famfs.specs.Ends as ends;
+ghost use Rattle.famfs.specs.Ends.{AskShows, CallEnds, LeavesImage, PutAs, RequestShows, passed};
 ghost use Rattle.famfs.specs.CommandResult as texts;
 ghost use Rattle.famfs.specs.Says.{MkfsSays, ShowsSaid, TaskSays};
-ghost use Rattle.famfs.specs.declared.status.Status.TheVariants.{MediaFault};
-ghost use Rattle.fam_journal.specs.Programs.{memory_line};
-ghost use Rattle.famfs.specs.Words.{command_of};
+ghost use Rattle.famfs.specs.Words.{IsSoundRequest, request_named};
+ghost use Rattle.famfs.specs.declared.said.CommandResult.TheVariants as result_of;
 
-use crate::command::Command;
 use crate::fresh::version4;
+use crate::request::Request;
 use crate::said::{CommandResult, said_lines, said_status};
-use crate::status::Status;
-use crate::texts::{FAILURE_BYTES, MEMORY, USAGE, failure_room};
-use crate::words::command;
+use crate::texts::{FAILURE_BYTES, MEMORY, USAGE, failure_room, line, line_of};
+use crate::words::request;
 use fam_base::{Cmd, OutOfMemory};
 use fam_cache::HostCache;
 use fam_format::LEAST_LINES;
+use fam_journal::{Ask, Refusal, Status};
 use fam_media::{Media, Shelf, Sink};
 use fam_mkfs::{MkfsEnd, asked, mkfs};
 use fam_run::run;
+use fam_script::refusal_line;
+use fam_sources::{SourceEnd, Sourced, sourced};
 use std::alloc::Global;
 use uuid::Uuid;
 
@@ -57,7 +65,7 @@ fn answered<M: Media>(
     me: Uuid,
     media: &mut M,
 ) -> Result<CommandResult, OutOfMemory>
-    requires served { IsServed cmd }
+    requires sound { IsSoundCmd cmd }
 
     ensures says { IfOk result (TaskSays (passed M.image M.size M.faults media.old media.new) me cmd) }
     ensures early { IfOk result (λ said. expected.small_said (M.size media.old) ≡ expected.early_of said) }
@@ -91,7 +99,7 @@ fn task_shown<M: Media>(
     me: Uuid,
     media: &mut M,
 ) -> Result<Shown, OutOfMemory>
-    requires served { IsServed cmd }
+    requires sound { IsSoundCmd cmd }
 
     ensures shows { IfOk result (λ shown. ShowsSaid (expected.small_said (M.size media.old))
         (TaskSays (passed M.image M.size M.faults media.old media.new) me cmd)
@@ -107,19 +115,20 @@ fn task_shown<M: Media>(
 /// Makes a file system through an empty cache, and says how that ended.
 fn make<M: Media>(
     alloc: Global,
+    fs: Uuid,
     unit: u64,
     log: u64,
-    fs: Uuid,
+    force: bool,
     me: Uuid,
     media: &mut M,
 ) -> Result<CommandResult, OutOfMemory>
-    ensures says { IfOk result (MkfsSays (passed M.image M.size M.faults media.old media.new) me unit log fs) }
+    ensures says { IfOk result (MkfsSays (passed M.image M.size M.faults media.old media.new) me fs unit log force) }
     ensures early { IfOk result (λ said. expected.refused_said unit log (M.size media.old) ≡ expected.early_of said) }
     ensures out_of_memory { OnErr result (M.image media.new ≡ M.image media.old) }
     ensures steady { IsSteady M.size M.faults media.old media.new }
 {
     let mut cache = HostCache::new(alloc);
-    let end = mkfs(&mut cache, media, unit, log, fs, me, false)?;
+    let end = mkfs(&mut cache, media, unit, log, fs, me, force)?;
     Ok(end_said(end))
 }
 
@@ -127,14 +136,15 @@ fn make<M: Media>(
 /// their memory before anything is written.
 fn make_shown<M: Media>(
     alloc: Global,
+    fs: Uuid,
     unit: u64,
     log: u64,
-    fs: Uuid,
+    force: bool,
     me: Uuid,
     media: &mut M,
 ) -> Result<Shown, OutOfMemory>
     ensures shows { IfOk result (λ shown. ShowsSaid (expected.refused_said unit log (M.size media.old))
-        (MkfsSays (passed M.image M.size M.faults media.old media.new) me unit log fs)
+        (MkfsSays (passed M.image M.size M.faults media.old media.new) me fs unit log force)
         shown.status shown.text.items) }
     ensures out_of_memory { OnErr result (LeavesImage (passed M.image M.size M.faults media.old media.new) (λ image left. left ≡ image)) }
     ensures steady { IsSteady M.size M.faults media.old media.new }
@@ -142,7 +152,7 @@ fn make_shown<M: Media>(
     let made = CommandResult::Made(asked(unit, log, fs, me, media.lines()));
     let done = show(alloc, failure_room(alloc)?, &made)?;
     let room = failure_room(alloc)?;
-    match make(alloc, unit, log, fs, me, media)? {
+    match make(alloc, fs, unit, log, force, me, media)? {
         CommandResult::Made(_) => Ok(done),
         said => show(alloc, room, &said),
     }
@@ -158,27 +168,118 @@ fn fs_or(random: [u8; 16], fs: Option<Uuid>) -> Uuid
     }
 }
 
-/// Does a command, and shows what it says.
-fn command_shown<M: Media>(
+/// Says that an image has too few lines for a command on the log.
+fn small_shown(alloc: Global, lines: u64) -> Result<Shown, OutOfMemory>
+    ensures status { IfOk result (λ shown. shown.status ≡ Damaged) }
+    ensures text { IfOk result (λ shown. shown.text.items ≡ texts.said_text (result_of.Small lines)) }
+{
+    show(alloc, failure_room(alloc)?, &CommandResult::Small(lines))
+}
+
+/// Says why a source is none.
+fn unfit_shown(alloc: Global, cause: &Refusal) -> Result<Shown, OutOfMemory>
+    requires { NamesCause 0 cause.now }
+    ensures status { IfOk result (λ shown. shown.status ≡ Refused) }
+    ensures text { IfOk result (λ shown. shown.text.items ≡ line (codes "refused " ++ refusal_text [] cause.now)) }
+{
+    Ok(Shown {
+        status: Status::Refused,
+        text: refusal_line(alloc, cause, &[])?,
+    })
+}
+
+/// Says how the reading of a source ended early.
+fn ended_shown(alloc: Global, end: SourceEnd) -> Result<Shown, OutOfMemory>
+    ensures status { IfOk result (λ shown. shown.status ≡ SourceFault) }
+    ensures text { IfOk result (λ shown. shown.text.items ≡ source_line (end_of end)) }
+{
+    let text = match end {
+        SourceEnd::Faulted => line(alloc, "source fault")?,
+        SourceEnd::Short { size, got } => line_of(
+            alloc,
+            format!(in alloc; "short source {size} {got}"),
+        )?,
+    };
+    Ok(Shown {
+        status: Status::SourceFault,
+        text,
+    })
+}
+
+/// Runs a command on the log with the bytes of its source, if it has one, and shows what it says. No source is read for
+/// an image that is too small.
+fn ask_shown<M: Media, S: Shelf>(
     alloc: Global,
-    command: Command,
+    ask: Ask,
+    me: Uuid,
+    media: &mut M,
+    shelf: &mut S,
+) -> Result<Shown, OutOfMemory>
+    requires sound { IsSoundAsk ask }
+
+    ensures shows { IfOk result (λ shown. (random : List ℕ) → AskShows (passed M.image M.size M.faults media.old media.new)
+        (changed S.files S.faults S.shorts shelf.old shelf.new) me random ask shown.status shown.text.items) }
+    ensures out_of_memory { OnErr result ((random : List ℕ) → AskShows (passed M.image M.size M.faults media.old media.new)
+        (changed S.files S.faults S.shorts shelf.old shelf.new) me random ask OutOfMemory memory_line) }
+    ensures steady { IsSteady M.size M.faults media.old media.new }
+    ensures shelf { IsShelfSteady S.files S.faults S.shorts shelf.old shelf.new }
+{
+    let lines = media.lines();
+    if lines < LEAST_LINES {
+        return small_shown(alloc, lines);
+    }
+    match sourced(alloc, shelf, ask, 0)?.sourced {
+        Sourced::Ready(cmd) => task_shown(alloc, cmd, me, media),
+        Sourced::Unfit(cause) => unfit_shown(alloc, &cause),
+        Sourced::Ended(end) => ended_shown(alloc, end),
+    }
+}
+
+/// The UUID that is asked for, or this host's.
+fn host_or(me: Uuid, system: Option<Uuid>) -> Uuid
+    ensures { result ≡ ends.host_or me system }
+{
+    match system {
+        Some(system) => system,
+        None => me,
+    }
+}
+
+/// Does what is asked for, and shows what that says.
+fn request_shown<M: Media, S: Shelf>(
+    alloc: Global,
+    request: Request,
     me: Uuid,
     random: [u8; 16],
     media: &mut M,
+    shelf: &mut S,
 ) -> Result<Shown, OutOfMemory>
-    requires served { IsServedCommand command }
+    requires sound { IsSoundRequest request }
 
-    ensures shows { IfOk result (λ shown. CommandShows (passed M.image M.size M.faults media.old media.new)
-        (record { command = command; me = me; random = random }) shown.status shown.text.items) }
-    ensures out_of_memory { OnErr result (ShowsOutOfMemory (passed M.image M.size M.faults media.old media.new)
-        (record { command = command; me = me; random = random }) memory_line) }
+    ensures shows { IfOk result (λ shown. RequestShows request (passed M.image M.size M.faults media.old media.new)
+        (changed S.files S.faults S.shorts shelf.old shelf.new) me random shown.status shown.text.items) }
+    ensures out_of_memory { OnErr result (RequestShows request (passed M.image M.size M.faults media.old media.new)
+        (changed S.files S.faults S.shorts shelf.old shelf.new) me random OutOfMemory memory_line) }
     ensures steady { IsSteady M.size M.faults media.old media.new }
+    ensures shelf { IsShelfSteady S.files S.faults S.shorts shelf.old shelf.new }
 {
-    match command {
-        Command::Log(cmd) => task_shown(alloc, cmd, me, media),
-        Command::Mkfs { unit, log, fs } => {
-            make_shown(alloc, unit, log, fs_or(random, fs), me, media)
-        }
+    match request {
+        Request::Log { system, ask } => ask_shown(alloc, ask, host_or(me, system), media, shelf),
+        Request::Mkfs {
+            system,
+            fs,
+            unit,
+            log,
+            force,
+        } => make_shown(
+            alloc,
+            fs_or(random, fs),
+            unit,
+            log,
+            force,
+            host_or(me, system),
+            media,
+        ),
     }
 }
 
@@ -194,9 +295,9 @@ fn put<K: Sink>(out: &mut K, status: Status, text: &[u8]) -> Status
 
 /// Runs the command that `words` name on the image that `media` holds, and puts its text to `out`.
 ///
-/// `words` are the words after the program's name. `me` is the UUID of this host and `random` are 16 random bytes,
-/// from which `mkfs` makes a UUID where the words give none. No command needs the `shelf` yet, whose files stand
-/// outside the image.
+/// `words` are the words after the program's name. `me` is the UUID of this host where the words name no other, and
+/// `random` are 16 random bytes, from which `mkfs` makes a UUID where the words give none. Sources of `cp`, `verify` and
+/// `check` are read from the `shelf`.
 pub fn famfs<M: Media, S: Shelf, K: Sink>(
     alloc: Global,
     words: &Vec<String>,
@@ -207,10 +308,11 @@ pub fn famfs<M: Media, S: Shelf, K: Sink>(
     out: &mut K,
 ) -> Status
     ensures ends { CallEnds (record {
-      command = command_of (map string_bytes words.now.items);
+      request = request_named (map string_bytes words.now.items);
       me = me;
       random = random;
       media = passed M.image M.size M.faults media.old media.new;
+      shelf = changed S.files S.faults S.shorts shelf.old shelf.new;
       sink_before = K.faults out.old;
       sink_now = K.faults out.new;
       put_before = K.bytes out.old;
@@ -218,13 +320,17 @@ pub fn famfs<M: Media, S: Shelf, K: Sink>(
     }) result }
     ensures steady { IsSteady M.size M.faults media.old media.new }
     ensures sink { K.faults out.old ≤ K.faults out.new }
-    ensures shelf { shelf.new ≡ shelf.old }
+    ensures shelf { IsShelfSteady S.files S.faults S.shorts shelf.old shelf.new }
 {
-    match command(words) {
-        Some(command) => match command_shown(alloc, command, me, random, media) {
-            Ok(shown) => put(out, shown.status, shown.text.as_slice()),
-            Err(OutOfMemory) => put(out, Status::OutOfMemory, MEMORY.as_bytes()),
-        },
-        None => put(out, Status::Usage, USAGE.as_bytes()),
+    let request = match request(alloc, words) {
+        Ok(request) => request,
+        Err(_) => return put(out, Status::OutOfMemory, MEMORY.as_bytes()),
+    };
+    let Some(request) = request else {
+        return put(out, Status::Usage, USAGE.as_bytes());
+    };
+    match request_shown(alloc, request, me, random, media, shelf) {
+        Ok(shown) => put(out, shown.status, shown.text.as_slice()),
+        Err(_) => put(out, Status::OutOfMemory, MEMORY.as_bytes()),
     }
 }

@@ -1,116 +1,255 @@
-//! The words of each command, as its user spells them.
+//! The words of each command, as its user spells them, and what they ask for.
 
-use super::images::{FS, words};
-use crate::command::Command;
+use super::images::words;
 use crate::fresh::version4;
-use crate::words::{command, image_of};
-use fam_base::{Attr, Cmd, Path};
+use crate::request::Request;
+use crate::words::{image_of, request};
+use fam_base::{Attr, Cmd, Content, Stripe};
+use fam_journal::Ask;
 use std::alloc::Global;
+use std::str::from_utf8;
 use std::test::Fail;
 use uuid::Uuid;
 
-/// Whether the words, which stand between spaces, name this command, and an image where they name one.
-fn names(alloc: Global, text: &str, want: Option<Command>) -> Result<bool, Fail> {
-    let words = words(alloc, text)?;
-    let image = match image_of(alloc, &words)? {
-        Some(name) => name.text() == "img",
-        None => want.is_none(),
+/// Text of bytes that are text.
+fn text(bytes: &[u8]) -> &str {
+    from_utf8(bytes).unwrap_or("?")
+}
+
+/// Mode, user and group.
+fn attr_text(alloc: Global, attr: &Attr) -> Result<String, Fail> {
+    let (mode, uid, gid) = (attr.mode, attr.uid, attr.gid);
+    Ok(format!(in alloc; "{mode:o} {uid} {gid}")?)
+}
+
+/// Strips, buckets and chunk, or a dash.
+fn stripe_text(alloc: Global, stripe: &Option<Stripe>) -> Result<String, Fail> {
+    match stripe {
+        Some(stripe) => {
+            let (strips, buckets, chunk) = (stripe.nstrips, stripe.nbuckets, stripe.chunk);
+            Ok(format!(in alloc; "{strips},{buckets},{chunk}")?)
+        }
+        None => Ok(String::from_str(alloc, "-")?),
+    }
+}
+
+/// What a file holds or is compared with.
+fn content_text(alloc: Global, content: &Content) -> Result<String, Fail> {
+    match content {
+        Content::Zero => Ok(String::from_str(alloc, "zeros")?),
+        Content::Seed(seed) => Ok(format!(in alloc; "seed {seed}")?),
+        Content::Bytes(_) => Ok(String::from_str(alloc, "bytes")?),
+    }
+}
+
+/// A command without a source.
+fn plain_text(alloc: Global, cmd: &Cmd) -> Result<String, Fail> {
+    match cmd {
+        Cmd::Logplay => Ok(String::from_str(alloc, "logplay")?),
+        Cmd::Fsck => Ok(String::from_str(alloc, "fsck")?),
+        Cmd::Mkdir { path, attr } => {
+            let (path, attr) = (text(path.bytes()), attr_text(alloc, attr)?);
+            Ok(format!(in alloc; "mkdir {path} {attr}")?)
+        }
+        Cmd::Creat {
+            path,
+            size,
+            attr,
+            stripe,
+            fill,
+        } => {
+            let (path, attr) = (text(path.bytes()), attr_text(alloc, attr)?);
+            let (stripe, fill) = (stripe_text(alloc, stripe)?, content_text(alloc, fill)?);
+            Ok(format!(in alloc; "creat {path} {size} {attr} {stripe} {fill}")?)
+        }
+        Cmd::Verify { path, against } => {
+            let (path, against) = (text(path.bytes()), content_text(alloc, against)?);
+            Ok(format!(in alloc; "verify {path} {against}")?)
+        }
+        Cmd::Read {
+            path,
+            offset,
+            count,
+        } => {
+            let path = text(path.bytes());
+            Ok(format!(in alloc; "read {path} {offset} {count}")?)
+        }
+        Cmd::Cp { .. } => Ok(String::from_str(alloc, "cp with bytes")?),
+        Cmd::Check { .. } => Ok(String::from_str(alloc, "check with entries")?),
+    }
+}
+
+/// What a host is asked to do.
+fn ask_text(alloc: Global, ask: &Ask) -> Result<String, Fail> {
+    match ask {
+        Ask::Plain(cmd) => plain_text(alloc, cmd),
+        Ask::Cp {
+            source,
+            path,
+            attr,
+            stripe,
+        } => {
+            let (source, path) = (source.text(), text(path.bytes()));
+            let (attr, stripe) = (attr_text(alloc, attr)?, stripe_text(alloc, stripe)?);
+            Ok(format!(in alloc; "cp {source} {path} {attr} {stripe}")?)
+        }
+        Ask::VerifySource { path, source } => {
+            let (source, path) = (source.text(), text(path.bytes()));
+            Ok(format!(in alloc; "verify {path} source {source}")?)
+        }
+        Ask::Check { source } => {
+            let source = source.text();
+            Ok(format!(in alloc; "check {source}")?)
+        }
+    }
+}
+
+/// A UUID, or a dash.
+fn uuid_text(alloc: Global, uuid: &Option<Uuid>) -> Result<String, Fail> {
+    match uuid {
+        Some(uuid) => Ok(format!(in alloc; "{uuid}")?),
+        None => Ok(String::from_str(alloc, "-")?),
+    }
+}
+
+/// What is asked for, and for which host.
+fn request_text(alloc: Global, request: &Request) -> Result<String, Fail> {
+    match request {
+        Request::Log { system, ask } => {
+            let (ask, system) = (ask_text(alloc, ask)?, uuid_text(alloc, system)?);
+            Ok(format!(in alloc; "{ask} for {system}")?)
+        }
+        Request::Mkfs {
+            system,
+            fs,
+            unit,
+            log,
+            force,
+        } => {
+            let (fs, system) = (uuid_text(alloc, fs)?, uuid_text(alloc, system)?);
+            Ok(format!(in alloc; "mkfs {fs} {unit} {log} {force} for {system}")?)
+        }
+    }
+}
+
+/// Whether the words, which stand between spaces, ask for this on an image.
+fn asks(alloc: Global, line: &str, image: &str, want: &str) -> Result<bool, Fail> {
+    let words = words(alloc, line)?;
+    let named = match image_of(alloc, &words)? {
+        Some(name) => name.text() == image,
+        None => false,
     };
-    Ok(image && is_same(&command(&words), &want))
+    let asked = match request(alloc, &words)? {
+        Some(request) => request_text(alloc, &request)?.as_str() == want,
+        None => false,
+    };
+    Ok(named && asked)
 }
 
-/// Whether two commands are equal, of those that words name.
-fn is_same(one: &Option<Command>, other: &Option<Command>) -> bool {
-    match (one, other) {
-        (None, None) => true,
-        (Some(Command::Log(Cmd::Logplay)), Some(Command::Log(Cmd::Logplay))) => true,
-        (
-            Some(Command::Log(Cmd::Mkdir { path, attr })),
-            Some(
-                Command::Log(
-                    Cmd::Mkdir {
-                        path: other_path,
-                        attr: other_attr,
-                    },
-                ),
-            ),
-        ) => path == other_path && attr == other_attr,
-        (
-            Some(Command::Mkfs { unit, log, fs }),
-            Some(
-                Command::Mkfs {
-                    unit: other_unit,
-                    log: other_log,
-                    fs: other_fs,
-                },
-            ),
-        ) => unit == other_unit && log == other_log && fs == other_fs,
-        _ => false,
-    }
-}
-
-/// mkfs with a fresh UUID.
-fn fresh(unit: u64, log: u64) -> Option<Command> {
-    Some(Command::Mkfs {
-        unit,
-        log,
-        fs: None,
-    })
+/// Whether the words are no command.
+fn are_none(alloc: Global, line: &str) -> Result<bool, Fail> {
+    let words = words(alloc, line)?;
+    Ok(image_of(alloc, &words)?.is_none() && request(alloc, &words)?.is_none())
 }
 
 #[test]
-fn each_option_of_mkfs_may_stand_in_its_place(rt: HostRuntime) -> Result<(), Fail> {
+fn words_ask_for_a_file_system(rt: HostRuntime) -> Result<(), Fail> {
     let alloc = rt.alloc();
-    let fs = Some(Uuid::from_bytes(FS));
-    let uuid = "11111111-1111-4111-8111-111111111111";
-    let named = |unit: u64, log: u64| -> Option<Command> { Some(Command::Mkfs { unit, log, fs }) };
-    let all = format!(in alloc; "mkfs img -u 4K -l 64K --uuid {uuid}")?;
-    assert!(rt; names(alloc, all.as_str(), named(4096, 65_536))?);
-    let no_unit = format!(in alloc; "mkfs img -l 64K --uuid {uuid}")?;
-    assert!(rt; names(alloc, no_unit.as_str(), named(2_097_152, 65_536))?);
-    let no_log = format!(in alloc; "mkfs img -u 4K --uuid {uuid}")?;
-    assert!(rt; names(alloc, no_log.as_str(), named(4096, 8_388_608))?);
-    let solo = format!(in alloc; "mkfs img --uuid {uuid}")?;
-    assert!(rt; names(alloc, solo.as_str(), named(2_097_152, 8_388_608))?);
-    for (text, unit, log) in [
-        ("mkfs img", 2_097_152, 8_388_608),
-        ("mkfs img -u 4K", 4096, 8_388_608),
-        ("mkfs img -l 64K", 2_097_152, 65_536),
-        ("mkfs img -u 4K -l 64K", 4096, 65_536),
-    ] {
-        assert!(rt; names(alloc, text, fresh(unit, log))?, "{text}");
-    }
-    Ok(())
-}
-
-#[test]
-fn a_size_is_digits_and_at_most_a_letter(rt: HostRuntime) -> Result<(), Fail> {
-    let alloc = rt.alloc();
-    for (text, unit) in [
-        ("mkfs img -u 0", 0),
-        ("mkfs img -u 4096", 4096),
-        ("mkfs img -u 00000000000000004096", 4096),
+    let id = "00010203-0405-0607-0809-0a0b0c0d0e0f";
+    for (line, want) in [
+        ("mkfs img", "mkfs - 2097152 8388608 false for -"),
+        ("mkfs img -u 4K -l 64K", "mkfs - 4096 65536 false for -"),
+        ("mkfs -u 4K -l 64K img", "mkfs - 4096 65536 false for -"),
+        ("mkfs -l64K img -u4K", "mkfs - 4096 65536 false for -"),
+        ("mkfs img -u=4096", "mkfs - 4096 8388608 false for -"),
+        ("mkfs img --unit 4k", "mkfs - 4096 8388608 false for -"),
+        ("mkfs img --unit=3m", "mkfs - 3145728 8388608 false for -"),
+        ("mkfs img --loglen 02g", "mkfs - 2097152 2147483648 false for -"),
+        ("mkfs img -f", "mkfs - 2097152 8388608 true for -"),
+        ("mkfs img --force -u 0", "mkfs - 0 8388608 true for -"),
+        ("mkfs img -fu 1G", "mkfs - 1073741824 8388608 true for -"),
         (
             "mkfs img -u 18446744073709551615",
-            18_446_744_073_709_551_615,
+            "mkfs - 18446744073709551615 8388608 false for -",
         ),
-        ("mkfs img -u 1k", 1024),
-        ("mkfs img -u 1K", 1024),
-        ("mkfs img -u 3m", 3_145_728),
-        ("mkfs img -u 3M", 3_145_728),
-        ("mkfs img -u 02g", 2_147_483_648),
-        ("mkfs img -u 2G", 2_147_483_648),
-        ("mkfs img -u 17179869183G", 18_446_744_072_635_809_792),
+        (
+            "mkfs img -u 17179869183G",
+            "mkfs - 18446744072635809792 8388608 false for -",
+        ),
     ] {
-        assert!(rt; names(alloc, text, fresh(unit, 8_388_608))?, "{text}");
+        assert!(rt; asks(alloc, line, "img", want)?, "{line}");
+    }
+    for form in [
+        "00010203-0405-0607-0809-0a0b0c0d0e0f",
+        "00010203-0405-0607-0809-0A0B0C0D0E0F",
+        "000102030405060708090a0b0c0d0e0f",
+        "{00010203-0405-0607-0809-0a0b0c0d0e0f}",
+        "urn:uuid:00010203-0405-0607-0809-0a0b0c0d0e0f",
+        "URN:UUID:00010203-0405-0607-0809-0a0b0c0d0e0f",
+    ] {
+        let line = format!(in alloc; "mkfs --uuid {form} --system={form} img")?;
+        let want = format!(in alloc; "mkfs {id} 2097152 8388608 false for {id}")?;
+        assert!(rt; asks(alloc, line.as_str(), "img", want.as_str())?, "{form}");
     }
     Ok(())
 }
 
 #[test]
-fn a_size_has_nothing_else(rt: HostRuntime) -> Result<(), Fail> {
+fn words_ask_for_directories_and_files(rt: HostRuntime) -> Result<(), Fail> {
     let alloc = rt.alloc();
-    for text in [
+    for (line, want) in [
+        ("logplay img", "logplay for -"),
+        (
+            "logplay --system 000102030405060708090a0b0c0d0e0f img",
+            "logplay for 00010203-0405-0607-0809-0a0b0c0d0e0f",
+        ),
+        ("mkdir img a", "mkdir a 755 0 0 for -"),
+        ("mkdir img -", "mkdir - 755 0 0 for -"),
+        ("mkdir img a-", "mkdir a- 755 0 0 for -"),
+        ("mkdir img \\x41", "mkdir \\x41 755 0 0 for -"),
+        ("mkdir img -- -a", "mkdir -a 755 0 0 for -"),
+        ("mkdir img a/b -m 700 -u 3 -g 4", "mkdir a/b 700 3 4 for -"),
+        ("mkdir -m=0007 img --uid=4294967295 a --gid 0", "mkdir a 7 4294967295 0 for -"),
+        ("mkdir img a -m 7777", "mkdir a 7777 0 0 for -"),
+        ("creat img x --size=1", "creat x 1 644 0 0 - zeros for -"),
+        ("creat -s1 img x", "creat x 1 644 0 0 - zeros for -"),
+        ("creat img -s=1 x", "creat x 1 644 0 0 - zeros for -"),
+        ("creat img x -s 3M -S 7", "creat x 3145728 644 0 0 - seed 7 for -"),
+        (
+            "creat img x -s 1 --seed=0 -m 600",
+            "creat x 1 600 0 0 - seed 0 for -",
+        ),
+        (
+            "creat img x -s 40000 -N 3 -B 4 -C 8K",
+            "creat x 40000 644 0 0 3,4,8192 zeros for -",
+        ),
+        (
+            "creat --nstrips 0 --nbuckets=65 --chunksize 5000 img x -s 0",
+            "creat x 0 644 0 0 0,65,5000 zeros for -",
+        ),
+        ("cp img s a/b", "cp s a/b 644 0 0 - for -"),
+        ("cp img -m 640 s -N 1 a -B 1 -C 4K", "cp s a 640 0 0 1,1,4096 for -"),
+        ("cp img -- -s -a", "cp -s -a 644 0 0 - for -"),
+        ("verify img a", "verify a zeros for -"),
+        ("verify img a -S 18446744073709551615", "verify a seed 18446744073709551615 for -"),
+        ("verify --source s img a", "verify a source s for -"),
+        ("read img a 0 4096", "read a 0 4096 for -"),
+        ("read img a 007 0", "read a 7 0 for -"),
+        ("check img list", "check list for -"),
+        ("fsck img", "fsck for -"),
+    ] {
+        assert!(rt; asks(alloc, line, "img", want)?, "{line}");
+    }
+    assert!(rt; asks(alloc, "logplay -- -img", "-img", "logplay for -")?);
+    assert!(rt; asks(alloc, "logplay ", "", "logplay for -")?, "an image without a name");
+    assert!(rt; asks(alloc, "logplay -", "-", "logplay for -")?);
+    Ok(())
+}
+
+#[test]
+fn values_are_spelled_as_they_should_be(rt: HostRuntime) -> Result<(), Fail> {
+    let alloc = rt.alloc();
+    for line in [
         "mkfs img -u 18446744073709551616",
         "mkfs img -u 000000000000000004096",
         "mkfs img -u 17179869184G",
@@ -119,94 +258,41 @@ fn a_size_has_nothing_else(rt: HostRuntime) -> Result<(), Fail> {
         "mkfs img -u 1kk",
         "mkfs img -u 1T",
         "mkfs img -u +1",
-        "mkfs img -u -1",
         "mkfs img -u 0x10",
         "mkfs img -u 1.5K",
         "mkfs img -u ",
+        "mkfs img -u=",
         "mkfs img -l x",
-    ] {
-        assert!(rt; names(alloc, text, None)?, "{text}");
-    }
-    Ok(())
-}
-
-#[test]
-fn a_uuid_has_each_form_of_its_crate(rt: HostRuntime) -> Result<(), Fail> {
-    let alloc = rt.alloc();
-    for text in [
-        "mkfs img --uuid 00010203-0405-0607-0809-0a0b0c0d0e0f",
-        "mkfs img --uuid 00010203-0405-0607-0809-0A0B0C0D0E0F",
-        "mkfs img --uuid 000102030405060708090a0b0c0d0e0f",
-        "mkfs img --uuid {00010203-0405-0607-0809-0a0b0c0d0e0f}",
-        "mkfs img --uuid urn:uuid:00010203-0405-0607-0809-0a0b0c0d0e0f",
-        "mkfs img --uuid URN:UUID:00010203-0405-0607-0809-0a0b0c0d0e0f",
-    ] {
-        let want = Some(Command::Mkfs {
-            unit: 2_097_152,
-            log: 8_388_608,
-            fs: Some(Uuid::from_bytes([0, 1, 2, 3, 4, 5, 6, 7, 8, 9, 10, 11, 12, 13, 14, 15])),
-        });
-        assert!(rt; names(alloc, text, want)?, "{text}");
-    }
-    Ok(())
-}
-
-#[test]
-fn a_uuid_has_no_other_form(rt: HostRuntime) -> Result<(), Fail> {
-    let alloc = rt.alloc();
-    for text in [
         "mkfs img --uuid F",
         "mkfs img --uuid 00010203-0405-0607-0809-0a0b0c0d0e0",
         "mkfs img --uuid 0001020304-05-0607-0809-0a0b0c0d0e0f",
         "mkfs img --uuid {000102030405060708090a0b0c0d0e0f}",
-        "mkfs img --uuid fresh",
-    ] {
-        assert!(rt; names(alloc, text, None)?, "{text}");
-    }
-    Ok(())
-}
-
-#[test]
-fn a_path_is_one_word_and_no_option(rt: HostRuntime) -> Result<(), Fail> {
-    let alloc = rt.alloc();
-    for (text, path) in [
-        ("mkdir img a", "a"),
-        ("mkdir img a/b", "a/b"),
-        ("mkdir img -", "-"),
-        ("mkdir img a-", "a-"),
-        ("mkdir img \\x41", "\\x41"),
-    ] {
-        let path = Path::read(path.as_bytes())?;
-        let attr = Attr {
-            mode: 0o755,
-            uid: 0,
-            gid: 0,
-        };
-        assert!(rt;
-            names(alloc, text, Some(Command::Log(Cmd::Mkdir { path, attr })))?,
-            "{text}"
-        );
-    }
-    Ok(())
-}
-
-#[test]
-fn a_mkdir_has_no_other_words(rt: HostRuntime) -> Result<(), Fail> {
-    let alloc = rt.alloc();
-    for text in [
-        "mkdir img",
+        "mkfs img --system fresh",
         "mkdir img ",
         "mkdir img /a",
         "mkdir img a/",
         "mkdir img a//b",
         "mkdir img ..",
-        "mkdir img -a",
-        "mkdir img --",
-        "mkdir img -- a",
-        "mkdir img a b",
-        "mkdir img -p a",
+        "mkdir img a -m 8",
+        "mkdir img a -m 00755",
+        "mkdir img a --mode=",
+        "mkdir img a -u 4294967296",
+        "mkdir img a -u 4K",
+        "creat img x -s ",
+        "creat img x -s 1 -S 1k",
+        "creat img x -s 1 -N 1",
+        "creat img x -s 1 -N 1 -B 1",
+        "creat img x -s 1 -B 1 -C 4K",
+        "creat img x -s 1 -N 1k -B 1 -C 4K",
+        "cp img  a",
+        "verify img a -S 1 --source s",
+        "verify img a --source ",
+        "read img a 1k 1",
+        "read img a 0 4097",
+        "read img a 0 -1",
+        "check img ",
     ] {
-        assert!(rt; names(alloc, text, None)?, "{text}");
+        assert!(rt; are_none(alloc, line)?, "{line}");
     }
     Ok(())
 }
@@ -214,36 +300,51 @@ fn a_mkdir_has_no_other_words(rt: HostRuntime) -> Result<(), Fail> {
 #[test]
 fn other_words_are_no_command(rt: HostRuntime) -> Result<(), Fail> {
     let alloc = rt.alloc();
-    assert!(rt; names(alloc, "logplay img", Some(Command::Log(Cmd::Logplay)))?);
-    for text in [
+    for line in [
         "",
+        "frob",
+        "Logplay img",
+        "img logplay",
         "logplay",
         "logplay -i",
-        "logplay -",
         "logplay img img",
-        "Logplay img",
+        "logplay img -h",
+        "logplay img --version",
         "mkfs",
-        "mkfs -u 4K img",
-        "mkfs -u",
         "mkfs img img",
         "mkfs img -u",
-        "mkfs img -l",
+        "mkfs img -u -1",
         "mkfs img --uuid",
-        "mkfs img -f",
-        "mkfs img -u4K",
-        "mkfs img --unit 4K",
-        "mkfs img -l 64K -u 4K",
-        "mkfs img --uuid 00010203-0405-0607-0809-0a0b0c0d0e0f -u 4K",
-        "mkfs img --uuid 00010203-0405-0607-0809-0a0b0c0d0e0f -l 64K",
         "mkfs img -u 4K -u 4K",
-        "mkfs img -l 64K -l 64K",
-        "mkfs img -u 4K -l 64K more",
-        "mkdir",
-        "mkdir -x a",
-        "fsck img",
-        "img logplay",
+        "mkfs img -f -f",
+        "mkfs img --forc",
+        "mkfs img -f=true",
+        "mkdir img",
+        "mkdir img -a",
+        "mkdir img --",
+        "mkdir img a b",
+        "mkdir img a -- -p",
+        "mkdir img a -m --",
+        "mkdir img -p -p a",
+        "mkdir img -p a",
+        "creat img x",
+        "creat img x -s",
+        "creat img x -s 1 -s 1",
+        "creat img x -s 1 --size 1",
+        "creat img x -s 1 -S -1",
+        "creat img x -s --",
+        "cp img s",
+        "cp img s a b",
+        "verify img",
+        "read img a 0",
+        "read img a 0 1 2",
+        "check img",
+        "fsck",
+        "fsck img -f",
+        "script f img",
+        "storm 0 1 img",
     ] {
-        assert!(rt; names(alloc, text, None)?, "{text}");
+        assert!(rt; are_none(alloc, line)?, "{line}");
     }
     Ok(())
 }

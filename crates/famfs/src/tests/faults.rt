@@ -2,7 +2,7 @@
 
 use super::images::{call, directory, holding, shows};
 use super::making::{MADE, MKFS};
-use crate::status::Status;
+use fam_journal::Status;
 use fam_base::Mask;
 use fam_media::{MemMedia, MemSink};
 use std::alloc::Global;

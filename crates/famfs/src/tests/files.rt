@@ -4,7 +4,7 @@ use super::images::shows;
 use super::making::{MADE, MKFS};
 use crate::file_media::FileMedia;
 use crate::opened;
-use crate::status::Status;
+use fam_journal::Status;
 use std::fs::{File, remove_file};
 use std::io::Write;
 use std::test::Fail;

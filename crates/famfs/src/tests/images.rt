@@ -1,6 +1,6 @@
 //! Images in memory, and calls of the program on them.
 
-use crate::status::Status;
+use fam_journal::Status;
 use crate::top::famfs;
 use fam_base::{Entry, Extent, Extents, Kind, Line, LineNo, MapKind, Params, Path};
 use fam_crc::crc_words;
@@ -142,6 +142,15 @@ pub const THE_MASTER: Caller = Caller {
     random: [0; 16],
 };
 
+/// The words of a call, which stand between bars.
+pub fn barred(alloc: Global, text: &str) -> Result<Vec<String>, Fail> {
+    let mut words = Vec::new(alloc);
+    for word in text.split('|') {
+        words.push(String::from_str(alloc, word)?)?;
+    }
+    Ok(words)
+}
+
 /// Calls the program on a media, and gives the status and what was put to the sink.
 pub fn call_by<M: Media>(
     alloc: Global,
@@ -155,6 +164,22 @@ pub fn call_by<M: Media>(
     let me = Uuid::from_bytes(caller.me);
     let random = caller.random;
     Ok(famfs(alloc, &words, me, random, media, &mut shelf, out))
+}
+
+/// Whether a call of the master with words between bars, and with this shelf, ends with this status and text.
+pub fn gives<M: Media>(
+    alloc: Global,
+    media: &mut M,
+    shelf: &mut MemShelf,
+    text: &str,
+    status: Status,
+    want: &str,
+) -> Result<bool, Fail> {
+    let mut out = MemSink::new(alloc, 65_536)?;
+    let words = barred(alloc, text)?;
+    let me = Uuid::from_bytes(MASTER);
+    let got = famfs(alloc, &words, me, [0; 16], media, shelf, &mut out);
+    Ok(got == status && out.bytes() == want.as_bytes())
 }
 
 /// The same by the master.

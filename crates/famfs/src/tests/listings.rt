@@ -1,7 +1,7 @@
 //! Logs that are listed, and words that aren't a command.
 
 use super::images::{call, directory, file, formatted, holding, shows, words};
-use crate::status::Status;
+use fam_journal::Status;
 use crate::words::image_of;
 use fam_base::Mask;
 use fam_media::{MemMedia, MemSink};
@@ -22,23 +22,17 @@ fn a_log_of_directories_is_listed_in_byte_order(rt: HostRuntime) -> Result<(), F
 }
 
 #[test]
-fn a_file_is_not_listed_yet(rt: HostRuntime) -> Result<(), Fail> {
+fn files_are_listed_too(rt: HostRuntime) -> Result<(), Fail> {
     let alloc = rt.alloc();
     let mut one = holding(alloc, &[file(b"a")?])?;
-    assert!(rt; shows(alloc, &mut one, "logplay img", Status::NotYet, "not yet\n")?);
-    let mut behind = holding(
-        alloc,
-        &[directory(b"a")?, file(b"x/y")?, directory(b"q/r")?],
-    )?;
-    assert!(rt;
-        shows(
-            alloc,
-            &mut behind,
-            "logplay img",
-            Status::NotYet,
-            "not yet\n"
-        )?
-    );
+    let want = "played 1\nf 0644 0 0 4096 2162688+4096 a\n";
+    assert!(rt; shows(alloc, &mut one, "logplay img", Status::Done, want)?);
+    let mut behind = holding(alloc, &[directory(b"a")?, file(b"x/y")?])?;
+    let want = "bad entry 1 no parent\n";
+    assert!(rt; shows(alloc, &mut behind, "logplay img", Status::Damaged, want)?);
+    let mut twice = holding(alloc, &[file(b"a")?, file(b"b")?])?;
+    let want = "bad entry 1 overlap 528\n";
+    assert!(rt; shows(alloc, &mut twice, "logplay img", Status::Damaged, want)?);
     let mut before = holding(alloc, &[directory(b"q/r")?, file(b"a")?])?;
     let want = "bad entry 0 no parent\n";
     assert!(rt; shows(alloc, &mut before, "logplay img", Status::Damaged, want)?);

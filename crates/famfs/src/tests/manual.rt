@@ -1,7 +1,7 @@
 //! The manual's sessions.
 
 use super::images::shows;
-use crate::status::Status;
+use fam_journal::Status;
 use fam_media::MemMedia;
 use std::test::Fail;
 

@@ -3,7 +3,7 @@
 use super::images::shows;
 use crate::file_media::FileMedia;
 use crate::opened;
-use crate::status::Status;
+use fam_journal::Status;
 use std::fs::{File, create_dir, remove_dir, remove_file};
 use std::io::Write;
 use std::test::Fail;

@@ -2,7 +2,7 @@
 
 use super::images::{FS, MASTER, OTHER, directory, params};
 use crate::said::{CommandResult, said_lines, said_status};
-use crate::status::Status;
+use fam_journal::Status;
 use crate::texts::failure_room;
 use fam_base::{Kind, LineNo};
 use fam_format::{LogField, Reason, SuperField};
@@ -99,7 +99,6 @@ fn an_answer_without_an_outcome_is_modelled(rt: HostRuntime) -> Result<(), Fail>
     let alloc = rt.alloc();
     let fault = Answer::MediaFault(LineNo(32_769));
     assert!(rt; answers(alloc, fault, Status::MediaFault, "media fault 32769\n")?);
-    assert!(rt; answers(alloc, Answer::NotYet, Status::NotYet, "not yet\n")?);
     Ok(())
 }
 

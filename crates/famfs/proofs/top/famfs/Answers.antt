@@ -1,7 +1,7 @@
 use Rattle.std.proofs.Common.{◌∙◌, refl, sym, map, string_bytes, Some, None}
 use Rattle.famfs.proofs.Endings.{put_ends, shows_by}
 use Rattle.famfs.proofs.top.famfs.Goals as goal
-use Rattle.famfs.specs.declared.status.Status.TheVariants.{OutOfMemory, Usage}
+use Rattle.fam_journal.specs.declared.status.Status.TheVariants.{OutOfMemory, Usage}
 use Rattle.famfs.specs.Ends.{Invocation, passed}
 use Rattle.fam_journal.specs.Programs.{memory_line, usage_line}
 use Rattle.famfs.specs.Words.{command_of}

@@ -1,0 +1,2 @@
+pub mod SimpleApps
+pub mod Given

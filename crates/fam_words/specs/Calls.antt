@@ -1,0 +1,215 @@
+-- Which words are a command, and which one. docs/MANUAL.md.
+use Rattle.std.specs.Prelude.{ℕ, ◌≤◌, ⊤, Bool, true, false, if◌then◌else◌, List, [], ◌∷◌, codes, Option, Some, None, option_map, option_and_then}
+use Rattle.std.specs.Str.{bytes_eq}
+use Rattle.clap.specs.Simple.{App}
+use Rattle.clap.specs.Walk.{Row, Text}
+use Rattle.uuid.specs.Text.{parsed}
+use Rattle.fam_base.specs.declared.cmd.Attr.{Attr}
+use Rattle.fam_base.specs.declared.cmd.Cmd.TheVariants as cmd
+use Rattle.fam_base.specs.declared.cmd.Content.TheVariants as content
+use Rattle.fam_base.specs.declared.cmd.Stripe.{Stripe}
+use Rattle.fam_base.specs.Commands.{IsSoundAttr}
+use Rattle.fam_grammar.specs.Lines.{directory_mode, file_mode, fill_of}
+use Rattle.fam_grammar.specs.Numbers.{number_of_text, size_of_text}
+use Rattle.fam_grammar.specs.Spellings.{count_of}
+use Rattle.fam_journal.specs.declared.event.Ask.{Ask}
+use Rattle.fam_journal.specs.declared.event.Ask.TheVariants as ask
+use Rattle.fam_grammar.specs.Sound.{IsSoundAsk}
+use Rattle.fam_words.specs.declared.wanted.Call.{Call}
+use Rattle.fam_words.specs.declared.wanted.Order.{Order}
+use Rattle.fam_words.specs.declared.wanted.Order.TheVariants as order
+use Rattle.fam_words.specs.declared.wanted.Shot.{Shot}
+use Rattle.fam_words.specs.declared.wanted.Shot.TheVariants as shot
+use Rattle.fam_words.specs.declared.orders.Name.{Name}
+use Rattle.fam_words.specs.declared.orders.Name.TheVariants as name
+use Rattle.fam_words.specs.Apps.{mkfs_app, logplay_app, mkdir_app, creat_app, cp_app, verify_app, read_app, check_app, fsck_app, script_app, storm_app}
+use Rattle.fam_words.specs.Simple.{flag_in, rows_given, value_in}
+use Rattle.fam_words.specs.Values.{attr_of_texts, if_given, most_storm, name_of_text, needed, or_default, path_of_text, storm_size_of, stripe_of_texts}
+
+-- mkfs takes these where no option says more: units of 2 MiB, and a log of 8 MiB
+abbrev pub default_unit : ℕ
+default_unit = 2097152
+
+abbrev pub default_log : ℕ
+default_log = 8388608
+
+-- What each command makes of its values: None where one of them isn't spelled as it should be.
+
+abbrev pub mkfs_with : Option ℕ → Option ℕ → Option (Option (List ℕ)) → Bool → Option Shot
+mkfs_with None log fs force = None
+mkfs_with (Some unit) None fs force = None
+mkfs_with (Some unit) (Some log) None force = None
+mkfs_with (Some unit) (Some log) (Some fs) force = Some (shot.Mkfs fs unit log force)
+
+unfoldable pub mkfs_shot : List Row → Option Shot
+mkfs_shot rows =
+    mkfs_with (or_default default_unit size_of_text (value_in (codes "unit") rows))
+    (or_default default_log size_of_text (value_in (codes "loglen") rows))
+    (if_given parsed (value_in (codes "uuid") rows))
+    (flag_in (codes "force") rows)
+
+-- -m, -u and -g among the words
+unfoldable pub attr_in : ℕ → List Row → Option Attr
+attr_in default rows =
+    attr_of_texts default (value_in (codes "mode") rows) (value_in (codes "uid") rows) (value_in (codes "gid") rows)
+
+-- -N, -B and -C among the words
+unfoldable pub stripe_in : List Row → Option (Option Stripe)
+stripe_in rows =
+    stripe_of_texts (value_in (codes "nstrips") rows) (value_in (codes "nbuckets") rows) (value_in (codes "chunksize") rows)
+
+-- PATH among the words
+unfoldable pub path_in : List Row → Option (List ℕ)
+path_in rows = needed path_of_text (value_in (codes "path") rows)
+
+-- with -p all directories along the path are made
+abbrev pub mkdir_by : Bool → List ℕ → Attr → Shot
+mkdir_by true path attr = shot.Parents path attr
+mkdir_by false path attr = shot.Run (ask.Plain (cmd.Mkdir path attr))
+
+abbrev pub mkdir_with : Bool → Option (List ℕ) → Option Attr → Option Shot
+mkdir_with parents None attr = None
+mkdir_with parents (Some path) None = None
+mkdir_with parents (Some path) (Some attr) = Some (mkdir_by parents path attr)
+
+unfoldable pub mkdir_shot : List Row → Option Shot
+mkdir_shot rows = mkdir_with (flag_in (codes "parents") rows) (path_in rows) (attr_in directory_mode rows)
+
+abbrev pub creat_with : Option (List ℕ) → Option ℕ → Option Attr → Option (Option Stripe) → Option (Option ℕ) → Option Shot
+creat_with None size attr stripe seed = None
+creat_with (Some path) None attr stripe seed = None
+creat_with (Some path) (Some size) None stripe seed = None
+creat_with (Some path) (Some size) (Some attr) None seed = None
+creat_with (Some path) (Some size) (Some attr) (Some stripe) None = None
+creat_with (Some path) (Some size) (Some attr) (Some stripe) (Some seed) =
+    Some (shot.Run (ask.Plain (cmd.Creat path size attr stripe (fill_of seed))))
+
+unfoldable pub creat_shot : List Row → Option Shot
+creat_shot rows =
+    creat_with (path_in rows) (needed size_of_text (value_in (codes "size") rows)) (attr_in file_mode rows) (stripe_in rows)
+    (if_given number_of_text (value_in (codes "seed") rows))
+
+abbrev pub cp_with : Option (List ℕ) → Option (List ℕ) → Option Attr → Option (Option Stripe) → Option Shot
+cp_with None path attr stripe = None
+cp_with (Some source) None attr stripe = None
+cp_with (Some source) (Some path) None stripe = None
+cp_with (Some source) (Some path) (Some attr) None = None
+cp_with (Some source) (Some path) (Some attr) (Some stripe) = Some (shot.Run (ask.Cp source path attr stripe))
+
+unfoldable pub cp_shot : List Row → Option Shot
+cp_shot rows =
+    cp_with (needed name_of_text (value_in (codes "source") rows)) (path_in rows) (attr_in file_mode rows) (stripe_in rows)
+
+-- what a file is compared with: the bytes of a seed, or those of a file, but not both; zeros without either
+abbrev pub against_texts : List ℕ → Option Text → Option Text → Option Ask
+against_texts path None None = Some (ask.Plain (cmd.Verify path content.Zero))
+against_texts path (Some seed) None = option_map (λ n. ask.Plain (cmd.Verify path (content.Seed n))) (number_of_text seed)
+against_texts path None (Some source) = option_map (λ file. ask.VerifySource path file) (name_of_text source)
+against_texts path (Some seed) (Some source) = None
+
+unfoldable pub verify_shot : List Row → Option Shot
+verify_shot rows =
+    option_and_then
+    (λ path. option_map (λ asked. shot.Run asked) (against_texts path (value_in (codes "seed") rows) (value_in (codes "source") rows)))
+    (path_in rows)
+
+abbrev pub read_with : Option (List ℕ) → Option ℕ → Option ℕ → Option Shot
+read_with None offset count = None
+read_with (Some path) None count = None
+read_with (Some path) (Some offset) None = None
+read_with (Some path) (Some offset) (Some count) = Some (shot.Run (ask.Plain (cmd.Read path offset count)))
+
+unfoldable pub read_shot : List Row → Option Shot
+read_shot rows =
+    read_with (path_in rows) (needed number_of_text (value_in (codes "offset") rows)) (needed count_of (value_in (codes "count") rows))
+
+unfoldable pub check_shot : List Row → Option Shot
+check_shot rows = option_map (λ source. shot.Run (ask.Check source)) (needed name_of_text (value_in (codes "listing") rows))
+
+abbrev pub storm_with : Option ℕ → Option ℕ → Bool → Option Order
+storm_with None size prints = None
+storm_with (Some seed) None prints = None
+storm_with (Some seed) (Some size) prints = Some (order.Storm seed size prints)
+
+unfoldable pub storm_order : List Row → Option Order
+storm_order rows =
+    storm_with (needed number_of_text (value_in (codes "seed") rows)) (needed storm_size_of (value_in (codes "size") rows))
+    (flag_in (codes "print") rows)
+
+unfoldable pub script_order : List Row → Option Order
+script_order rows = option_map (λ file. order.Script file) (needed name_of_text (value_in (codes "file") rows))
+
+-- Calls.
+
+abbrev pub call_with : Option Text → Option Order → Option Call
+call_with None what = None
+call_with (Some image) None = None
+call_with (Some image) (Some what) = Some (record { image = image; order = what })
+
+-- an order on IMAGE
+abbrev pub order_call : List Row → Option Order → Option Call
+order_call rows what = call_with (value_in (codes "image") rows) what
+
+-- --system
+abbrev pub system_of : Option Text → Option (Option (List ℕ))
+system_of text = if_given parsed text
+
+abbrev pub single_with : Option (Option (List ℕ)) → Option Shot → Option Order
+single_with None what = None
+single_with (Some system) None = None
+single_with (Some system) (Some what) = Some (order.Single system what)
+
+-- a command of its own, on the host of --system
+abbrev pub single_call : List Row → Option Shot → Option Call
+single_call rows what = order_call rows (single_with (system_of (value_in (codes "system") rows)) what)
+
+-- what the words mean to a command, if they have no fault
+abbrev pub behind : App → List Text → (List Row → Option Call) → Option Call
+behind app words make = option_and_then make (rows_given app words)
+
+-- the words behind a command's name
+abbrev pub call_behind : Name → List Text → Option Call
+call_behind name.Mkfs words = behind mkfs_app words (λ rows. single_call rows (mkfs_shot rows))
+call_behind name.Logplay words = behind logplay_app words (λ rows. single_call rows (Some (shot.Run (ask.Plain cmd.Logplay))))
+call_behind name.Mkdir words = behind mkdir_app words (λ rows. single_call rows (mkdir_shot rows))
+call_behind name.Creat words = behind creat_app words (λ rows. single_call rows (creat_shot rows))
+call_behind name.Cp words = behind cp_app words (λ rows. single_call rows (cp_shot rows))
+call_behind name.Verify words = behind verify_app words (λ rows. single_call rows (verify_shot rows))
+call_behind name.Read words = behind read_app words (λ rows. single_call rows (read_shot rows))
+call_behind name.Check words = behind check_app words (λ rows. single_call rows (check_shot rows))
+call_behind name.Fsck words = behind fsck_app words (λ rows. single_call rows (Some (shot.Run (ask.Plain cmd.Fsck))))
+call_behind name.Script words = behind script_app words (λ rows. order_call rows (script_order rows))
+call_behind name.Storm words = behind storm_app words (λ rows. order_call rows (storm_order rows))
+
+-- the commands' names
+unfoldable pub name_of : Text → Option Name
+name_of word =
+    if bytes_eq word (codes "mkfs") then Some name.Mkfs
+    else if bytes_eq word (codes "logplay") then Some name.Logplay
+    else if bytes_eq word (codes "mkdir") then Some name.Mkdir
+    else if bytes_eq word (codes "creat") then Some name.Creat
+    else if bytes_eq word (codes "cp") then Some name.Cp
+    else if bytes_eq word (codes "verify") then Some name.Verify
+    else if bytes_eq word (codes "read") then Some name.Read
+    else if bytes_eq word (codes "check") then Some name.Check
+    else if bytes_eq word (codes "fsck") then Some name.Fsck
+    else if bytes_eq word (codes "script") then Some name.Script
+    else if bytes_eq word (codes "storm") then Some name.Storm
+    else None
+
+-- a command's name, and the words that belong to it
+unfoldable pub call_of : List Text → Option Call
+call_of [] = None
+call_of (first ∷ words) = option_and_then (λ which. call_behind which words) (name_of first)
+
+-- What the words give is within its limits.
+
+abbrev pub IsSoundShot : Shot → Type 0
+IsSoundShot (shot.Mkfs fs unit log force) = ⊤
+IsSoundShot (shot.Run what) = IsSoundAsk what
+IsSoundShot (shot.Parents path attr) = IsSoundAttr attr
+
+abbrev pub IsSoundOrder : Order → Type 0
+IsSoundOrder (order.Single system what) = IsSoundShot what
+IsSoundOrder (order.Script file) = ⊤
+IsSoundOrder (order.Storm seed size prints) = (1 ≤ size) × (size ≤ most_storm)

@@ -1,0 +1,4 @@
+pub mod Simple
+pub mod Apps
+pub mod Values
+pub mod Calls

@@ -1,0 +1,16 @@
+//! The words of a call, read as one of the program's commands.
+//!
+//! The first word is the command's name. The others are read as a simple command of `clap`, whose published definition
+//! says what they mean (`specs/Simple.antt`, `specs/Apps.antt`); `specs/Values.antt` has the spellings of values, and
+//! `specs/Calls.antt` what each command makes of them.
+#![tactic(auto)]
+
+mod apps;
+mod orders;
+mod shots;
+mod simple;
+mod values;
+mod wanted;
+
+pub use orders::read_words;
+pub use wanted::{Call, Order, Shot};

@@ -1,0 +1,267 @@
+//! What each command makes of its values. `specs/Calls.antt` says so.
+
+ghost use Rattle.std.specs.Prelude.{◌≡◌, ◌≤◌, IfOk, IfSome, Some, option_map};
+ghost use Rattle.fam_base.specs.Commands.{IsSoundAttr, mode_limit};
+ghost use Rattle.fam_grammar.specs.Sound.{IsSoundAsk};
+ghost use Rattle.clap.specs.Words.{found_of, rows_of};
+ghost use Rattle.fam_grammar.specs.Lines.{fill_of};
+ghost use Rattle.fam_words.specs.Calls as spec;
+ghost use Rattle.fam_base.specs.declared.cmd.Cmd.TheVariants as cmd;
+ghost use Rattle.fam_base.specs.declared.cmd.Content.TheVariants as content;
+ghost use Rattle.fam_journal.specs.declared.event.Ask.TheVariants as ask;
+
+use crate::wanted::{Order, Shot};
+use crate::simple::{is_given, value};
+use crate::values::{
+    attr_of, count_of, name_of, number_if_given, number_of, path_of, size_of, size_or, storm_size,
+    stripe_of, uuid_if_given,
+};
+use clap::ArgMatches;
+use fam_base::{Attr, Cmd, Content, NameText, OutOfMemory, Path, Stripe};
+use fam_journal::Ask;
+use std::alloc::Global;
+
+/// The bytes of a unit where no word says more.
+const DEFAULT_UNIT: u64 = 2_097_152;
+
+/// The bytes of the log where no word says more.
+const DEFAULT_LOG: u64 = 8_388_608;
+
+/// The mode of a directory where no word says more.
+const DIRECTORY_MODE: u32 = 0o755;
+
+/// The mode of a file where no word says more.
+const FILE_MODE: u32 = 0o644;
+
+/// Make a file system.
+#[tactic(auto, unfolding(crate::specs::Calls::mkfs_shot))]
+pub(crate) fn mkfs(found: &ArgMatches<'_>) -> Option<Shot>
+    ensures sound { IfSome result spec.IsSoundShot }
+    ensures value { result ≡ spec.mkfs_shot (rows_of (found_of found.now)) }
+{
+    Some(Shot::Mkfs {
+        unit: size_or(DEFAULT_UNIT, value(found, "unit"))?,
+        log: size_or(DEFAULT_LOG, value(found, "loglen"))?,
+        fs: uuid_if_given(value(found, "uuid"))?,
+        force: is_given(found, "force"),
+    })
+}
+
+/// Mode, user and group.
+#[tactic(auto, unfolding(crate::specs::Calls::attr_in))]
+fn attr(default: u32, found: &ArgMatches<'_>) -> Option<Attr>
+    requires { default ≤ mode_limit }
+    ensures sound { IfSome result IsSoundAttr }
+    ensures value { result ≡ spec.attr_in default (rows_of (found_of found.now)) }
+{
+    attr_of(
+        default,
+        value(found, "mode"),
+        value(found, "uid"),
+        value(found, "gid"),
+    )
+}
+
+/// Strips, buckets and chunk.
+#[tactic(auto, unfolding(crate::specs::Calls::stripe_in))]
+fn stripe(found: &ArgMatches<'_>) -> Option<Option<Stripe>>
+    ensures { result ≡ spec.stripe_in (rows_of (found_of found.now)) }
+{
+    stripe_of(
+        value(found, "nstrips"),
+        value(found, "nbuckets"),
+        value(found, "chunksize"),
+    )
+}
+
+/// The path.
+#[tactic(auto, unfolding(crate::specs::Calls::path_in))]
+fn path(found: &ArgMatches<'_>) -> Option<Path>
+    ensures { result ≡ spec.path_in (rows_of (found_of found.now)) }
+{
+    path_of(value(found, "path"))
+}
+
+/// Make a directory, or all of them along the path.
+#[tactic(auto, unfolding(crate::specs::Calls::mkdir_shot))]
+pub(crate) fn mkdir(found: &ArgMatches<'_>) -> Option<Shot>
+    ensures sound { IfSome result spec.IsSoundShot }
+    ensures value { result ≡ spec.mkdir_shot (rows_of (found_of found.now)) }
+{
+    let path = path(found)?;
+    let attr = attr(DIRECTORY_MODE, found)?;
+    if is_given(found, "parents") {
+        Some(Shot::Parents { path, attr })
+    } else {
+        Some(Shot::Run(Ask::Plain(Cmd::Mkdir { path, attr })))
+    }
+}
+
+/// The bytes of a new file.
+fn fill(seed: Option<u64>) -> Content
+    ensures { result ≡ fill_of seed }
+{
+    match seed {
+        Some(seed) => Content::Seed(seed),
+        None => Content::Zero,
+    }
+}
+
+/// Make a file.
+#[tactic(auto, unfolding(crate::specs::Calls::creat_shot))]
+pub(crate) fn creat(found: &ArgMatches<'_>) -> Option<Shot>
+    ensures sound { IfSome result spec.IsSoundShot }
+    ensures value { result ≡ spec.creat_shot (rows_of (found_of found.now)) }
+{
+    let path = path(found)?;
+    let size = size_of(value(found, "size"))?;
+    let attr = attr(FILE_MODE, found)?;
+    let stripe = stripe(found)?;
+    let seed = number_if_given(value(found, "seed"))?;
+    Some(Shot::Run(Ask::Plain(Cmd::Creat {
+        path,
+        size,
+        attr,
+        stripe,
+        fill: fill(seed),
+    })))
+}
+
+/// Append a file that holds the bytes of a source.
+fn cp_from(source: NameText, found: &ArgMatches<'_>) -> Option<Shot>
+    ensures sound { IfSome result spec.IsSoundShot }
+    ensures value { result ≡ spec.cp_with (Some source) (spec.path_in (rows_of (found_of found.now))) (spec.attr_in FILE_MODE (rows_of (found_of found.now))) (spec.stripe_in (rows_of (found_of found.now))) }
+{
+    let path = path(found)?;
+    let attr = attr(FILE_MODE, found)?;
+    let stripe = stripe(found)?;
+    Some(Shot::Run(Ask::Cp {
+        source,
+        path,
+        attr,
+        stripe,
+    }))
+}
+
+/// Append a file that holds the bytes of a source.
+#[tactic(auto, unfolding(crate::specs::Calls::cp_shot))]
+pub(crate) fn cp(alloc: Global, found: &ArgMatches<'_>) -> Result<Option<Shot>, OutOfMemory>
+    ensures sound { IfOk result (λ shot. IfSome shot spec.IsSoundShot) }
+    ensures value { IfOk result (λ shot. shot ≡ spec.cp_shot (rows_of (found_of found.now))) }
+{
+    match name_of(alloc, value(found, "source"))? {
+        Some(source) => Ok(cp_from(source, found)),
+        None => Ok(None),
+    }
+}
+
+/// Compare a file with the bytes of a seed, or with those of a source; with zeros without either.
+fn against(
+    alloc: Global,
+    path: Path,
+    seed: Option<&str>,
+    source: Option<&str>,
+) -> Result<Option<Ask>, OutOfMemory>
+    ensures sound { IfOk result (λ asked. IfSome asked IsSoundAsk) }
+    ensures value { IfOk result (λ asked. asked ≡ spec.against_texts path (option_map (λ s. s.now) seed.entry) (option_map (λ s. s.now) source.entry)) }
+{
+    match (seed, source) {
+        (None, None) => Ok(Some(Ask::Plain(Cmd::Verify {
+            path,
+            against: Content::Zero,
+        }))),
+        (Some(_), None) => Ok(against_seed(path, number_of(seed))),
+        (None, Some(_)) => Ok(against_source(path, name_of(alloc, source)?)),
+        (Some(_), Some(_)) => Ok(None),
+    }
+}
+
+/// Compare a file with the bytes of a seed.
+fn against_seed(path: Path, seed: Option<u64>) -> Option<Ask>
+    ensures sound { IfSome result IsSoundAsk }
+    ensures value { result ≡ option_map (λ n. ask.Plain (cmd.Verify path (content.Seed n))) seed }
+{
+    Some(Ask::Plain(Cmd::Verify {
+        path,
+        against: Content::Seed(seed?),
+    }))
+}
+
+/// Compare a file with the bytes of a source.
+fn against_source(path: Path, source: Option<NameText>) -> Option<Ask>
+    ensures sound { IfSome result IsSoundAsk }
+    ensures value { result ≡ option_map (λ file. ask.VerifySource path file) source }
+{
+    Some(Ask::VerifySource {
+        path,
+        source: source?,
+    })
+}
+
+/// Compare a file.
+#[tactic(auto, unfolding(crate::specs::Calls::verify_shot))]
+pub(crate) fn verify(alloc: Global, found: &ArgMatches<'_>) -> Result<Option<Shot>, OutOfMemory>
+    ensures sound { IfOk result (λ shot. IfSome shot spec.IsSoundShot) }
+    ensures value { IfOk result (λ shot. shot ≡ spec.verify_shot (rows_of (found_of found.now))) }
+{
+    let Some(path) = path(found) else {
+        return Ok(None);
+    };
+    match against(alloc, path, value(found, "seed"), value(found, "source"))? {
+        Some(asked) => Ok(Some(Shot::Run(asked))),
+        None => Ok(None),
+    }
+}
+
+/// Read bytes of a file.
+#[tactic(auto, unfolding(crate::specs::Calls::read_shot))]
+pub(crate) fn read(found: &ArgMatches<'_>) -> Option<Shot>
+    ensures sound { IfSome result spec.IsSoundShot }
+    ensures value { result ≡ spec.read_shot (rows_of (found_of found.now)) }
+{
+    let path = path(found)?;
+    let offset = number_of(value(found, "offset"))?;
+    let count = count_of(value(found, "count"))?;
+    Some(Shot::Run(Ask::Plain(Cmd::Read {
+        path,
+        offset,
+        count,
+    })))
+}
+
+/// Compare the tree with a listing.
+#[tactic(auto, unfolding(crate::specs::Calls::check_shot))]
+pub(crate) fn check(alloc: Global, found: &ArgMatches<'_>) -> Result<Option<Shot>, OutOfMemory>
+    ensures sound { IfOk result (λ shot. IfSome shot spec.IsSoundShot) }
+    ensures value { IfOk result (λ shot. shot ≡ spec.check_shot (rows_of (found_of found.now))) }
+{
+    match name_of(alloc, value(found, "listing"))? {
+        Some(source) => Ok(Some(Shot::Run(Ask::Check { source }))),
+        None => Ok(None),
+    }
+}
+
+/// Run or print a storm.
+#[tactic(auto, unfolding(crate::specs::Calls::storm_order))]
+pub(crate) fn storm(found: &ArgMatches<'_>) -> Option<Order>
+    ensures sound { IfSome result spec.IsSoundOrder }
+    ensures value { result ≡ spec.storm_order (rows_of (found_of found.now)) }
+{
+    Some(Order::Storm {
+        seed: number_of(value(found, "seed"))?,
+        size: storm_size(value(found, "size"))?,
+        prints: is_given(found, "print"),
+    })
+}
+
+/// Run a script.
+#[tactic(auto, unfolding(crate::specs::Calls::script_order))]
+pub(crate) fn script(alloc: Global, found: &ArgMatches<'_>) -> Result<Option<Order>, OutOfMemory>
+    ensures sound { IfOk result (λ order. IfSome order spec.IsSoundOrder) }
+    ensures value { IfOk result (λ order. order ≡ spec.script_order (rows_of (found_of found.now))) }
+{
+    match name_of(alloc, value(found, "file"))? {
+        Some(file) => Ok(Some(Order::Script { file })),
+        None => Ok(None),
+    }
+}

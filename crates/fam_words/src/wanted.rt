@@ -1,0 +1,53 @@
+//! What the words of a call name.
+
+use fam_base::{Attr, NameText, Path};
+use fam_journal::Ask;
+use uuid::Uuid;
+
+/// A command of the program, and the image that it works on.
+#[derive(Drop)]
+pub struct Call {
+    /// The name of the image's file. It may be empty.
+    pub image: NameText,
+    pub order: Order,
+}
+
+/// What is to be done with the image.
+#[derive(Drop)]
+pub enum Order {
+    /// A command of its own, on a host of this UUID where one is given.
+    Single {
+        system: Option<Uuid>,
+        shot: Shot,
+    },
+    /// Run the script that this file holds.
+    Script {
+        file: NameText,
+    },
+    /// Run the storm of this seed, or print its script.
+    Storm {
+        seed: u64,
+        size: u64,
+        prints: bool,
+    },
+}
+
+/// A command of its own.
+#[derive(Drop)]
+pub enum Shot {
+    /// Make a file system with units of `unit` bytes and a log of `log` bytes, with a fresh UUID where `fs` is `None`,
+    /// and over a superblock that reads only where it is forced.
+    Mkfs {
+        fs: Option<Uuid>,
+        unit: u64,
+        log: u64,
+        force: bool,
+    },
+    /// Run a command on the log.
+    Run(Ask),
+    /// Make the directories along a path that aren't there.
+    Parents {
+        path: Path,
+        attr: Attr,
+    },
+}
