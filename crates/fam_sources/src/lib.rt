@@ -1,10 +1,12 @@
-//! Sources: files outside the image, read whole.
+//! Sources: files outside the image, read whole, and the commands that hold their bytes.
 //!
-//! `specs/Whole.antt` says what comes of reading one.
+//! `specs/Whole.antt` says what comes of reading a file, and `specs/Sourced.antt` what comes of an ask.
 #![tactic(auto)]
 
+mod sourced;
 mod whole;
 
+pub use sourced::{COPY_LIMIT, Resolved, SourceEnd, Sourced, sourced};
 pub use whole::{WholeFault, read_whole};
 
 #[cfg(test)]

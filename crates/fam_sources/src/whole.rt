@@ -1,6 +1,6 @@
 //! A file of a shelf, read whole.
 
-ghost use Rattle.std.specs.Prelude.{◌≡◌, ◌+◌, ◌≤◌, Ok, Err, IfOk, IfErr, OnOk, length, take};
+ghost use Rattle.std.specs.Prelude.{◌≡◌, ◌+◌, ◌-◌, ◌^◌, ◌<◌, ◌≤◌, Ok, Err, IfOk, IfErr, OnOk, length, take};
 ghost use Rattle.fam_media.specs.Files.{bytes_of};
 ghost use Rattle.fam_media.specs.Outside.{IfModelled};
 ghost use Rattle.fam_sources.specs.declared.whole.WholeFault.TheVariants.{OutOfMemory};
@@ -43,6 +43,7 @@ fn size_of<S: Shelf>(
     copied: u64,
     limit: u64,
 ) -> Result<u64, WholeFault>
+    requires { limit < 2 ^ 64 - 1 }
     ensures within { IfOk result (λ size. copied + size ≤ limit) }
     ensures size { IfOk result (λ size.
         HoldsBytes (S.files shelf.old) name.now (λ bytes. size ≡ length bytes)) }
@@ -100,6 +101,7 @@ pub fn read_whole<S: Shelf>(
     copied: u64,
     limit: u64,
 ) -> Result<Vec<u8>, WholeFault>
+    requires { limit < 2 ^ 64 - 1 }
     ensures bytes { IfOk result (λ bytes. WholeSays (changed S.files S.faults S.shorts shelf.old shelf.new)
         (record { name = name.now; copied = copied; limit = limit }) (Ok bytes.items)) }
     ensures fault { IfErr result (λ fault. WholeSays (changed S.files S.faults S.shorts shelf.old shelf.new)
