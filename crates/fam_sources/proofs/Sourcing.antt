@@ -20,8 +20,14 @@ use Rattle.fam_journal.specs.declared.refusal.Refusal.TheVariants as why
 use Rattle.fam_journal.specs.Events.{BytesSay, ListingIs, Ready, SourceSays, Sourced, Unfit, WithinSays, copy_limit, source_of}
 use Rattle.fam_journal.specs.Listings.{ListingSays}
 use Rattle.fam_sources.specs.declared.sourced.SourceEnd.TheVariants as end
-use Rattle.fam_sources.specs.Sourced.{IsAbsent, IsEnded, IsReady, IsUnfit}
-use Rattle.fam_sources.specs.Whole.{HoldsBytes, ShelfChange, sum_of}
+use Rattle.fam_sources.specs.declared.sourced.Given.{Given}
+use Rattle.fam_sources.specs.declared.sourced.Given.TheVariants as given
+use Rattle.fam_sources.specs.declared.sourced.Resolved.{Resolved}
+use Rattle.fam_sources.specs.declared.sourced.Sourced.TheVariants as sourced
+use Rattle.fam_sources.specs.Sourced.{IsAbsent, IsEnded, IsGiven, IsReady, IsSourced, IsUnfit}
+use Rattle.fam_sources.specs.declared.whole.WholeFault.{WholeFault}
+use Rattle.fam_sources.specs.declared.whole.WholeFault.TheVariants as whole
+use Rattle.fam_sources.specs.Whole.{HoldsBytes, ShelfChange, Wanted, WholeSays, sum_of}
 
 -- a source that is there and within the limit
 bytes_say : (name : List ℕ) (held : Option (List ℕ)) (copied : ℕ) (bytes : List ℕ) (reads : List ℕ → ℕ → Sourced → Type 0) (said : Sourced)
@@ -48,19 +54,26 @@ long_bytes files source name bytes copied sum reads same held is over =
     subst (λ (o : Option (List ℕ)). BytesSay source o copied reads (Unfit (why.CopyLimit sum) copied)) (sym there)
     (subst (λ (b : Bool). WithinSays b bytes copied reads (Unfit (why.CopyLimit sum) copied)) (sym long) (ap (λ (n : ℕ). Unfit (why.CopyLimit n) copied) is))
 
+-- what each ask makes of its source's bytes
+abbrev CpReads : List ℕ → Attr → Option Stripe → List ℕ → ℕ → Sourced → Type 0
+CpReads path attr stripe bytes copied said = said ≡ Ready (cmd.Cp path attr stripe bytes) copied
+
+abbrev VerifyReads : List ℕ → List ℕ → ℕ → Sourced → Type 0
+VerifyReads path bytes copied said = said ≡ Ready (cmd.Verify path (content.Bytes bytes)) copied
+
 -- in each ask
 absent_says : (files : Files) (name : List ℕ) (copied : ℕ) (what : Ask) → source_of what ≡ Some name → map.get files name ≡ None → SourceSays files copied what (Unfit (why.NoFile name) copied)
 absent_says files name copied (ask.Plain c) is none = absurd cc
-absent_says files name copied (ask.Cp source path attr stripe) is none = no_bytes files source name copied _ cc none
-absent_says files name copied (ask.VerifySource path source) is none = no_bytes files source name copied _ cc none
-absent_says files name copied (ask.Check source) is none = no_bytes files source name copied _ cc none
+absent_says files name copied (ask.Cp source path attr stripe) is none = no_bytes files source name copied (CpReads path attr stripe) (cc) none
+absent_says files name copied (ask.VerifySource path source) is none = no_bytes files source name copied (VerifyReads path) (cc) none
+absent_says files name copied (ask.Check source) is none = no_bytes files source name copied ListingIs (cc) none
 
 long_says : (files : Files) (name bytes : List ℕ) (copied sum : ℕ) (what : Ask) → source_of what ≡ Some name → map.get files name ≡ Some bytes
     → sum ≡ sum_of copied (length bytes) → copy_limit < sum → SourceSays files copied what (Unfit (why.CopyLimit sum) copied)
 long_says files name bytes copied sum (ask.Plain c) is held sums over = absurd cc
-long_says files name bytes copied sum (ask.Cp source path attr stripe) is held sums over = long_bytes files source name bytes copied sum _ cc held sums over
-long_says files name bytes copied sum (ask.VerifySource path source) is held sums over = long_bytes files source name bytes copied sum _ cc held sums over
-long_says files name bytes copied sum (ask.Check source) is held sums over = long_bytes files source name bytes copied sum _ cc held sums over
+long_says files name bytes copied sum (ask.Cp source path attr stripe) is held sums over = long_bytes files source name bytes copied sum (CpReads path attr stripe) (cc) held sums over
+long_says files name bytes copied sum (ask.VerifySource path source) is held sums over = long_bytes files source name bytes copied sum (VerifyReads path) (cc) held sums over
+long_says files name bytes copied sum (ask.Check source) is held sums over = long_bytes files source name bytes copied sum ListingIs (cc) held sums over
 
 module _ (change : ShelfChange) (copied : ℕ) (name : List ℕ) where
   -- there is no file of the name
@@ -93,14 +106,14 @@ module _ (change : ShelfChange) (copied : ℕ) (name : List ℕ) where
     cp_ready path attr stripe = record {
       form = (bytes, refl);
       sound = λ sound. sound;
-      says = λ files at. bytes_say name (map.get files name) copied bytes _ _ (held files at) within refl;
+      says = λ files at. bytes_say name (map.get files name) copied bytes (CpReads path attr stripe) _ (held files at) within refl;
     }
 
     pub verify_ready : (path : List ℕ) → IsReady change copied (ask.VerifySource path name) (copied + length bytes) (cmd.Verify path (content.Bytes bytes))
     verify_ready path = record {
       form = (bytes, refl);
       sound = λ sound. tt;
-      says = λ files at. bytes_say name (map.get files name) copied bytes _ _ (held files at) within refl;
+      says = λ files at. bytes_say name (map.get files name) copied bytes (VerifyReads path) _ (held files at) within refl;
     }
 
     pub check_ready : (c : Cmd) (entries : List Entry) → c ≡ cmd.Check entries → IsListing entries → ListingSays bytes (Ok entries) → IsReady change copied (ask.Check name) (copied + length bytes) c
@@ -115,3 +128,14 @@ module _ (change : ShelfChange) (copied : ℕ) (name : List ℕ) where
       form = tt;
       says = λ files at. bytes_say name (map.get files name) copied bytes ListingIs _ (held files at) within (inr (line, says, refl));
     }
+
+-- what came of a source is no command
+pub unfit_resolved : (change : ShelfChange) (copied : ℕ) (name : List ℕ) (what : Ask) (came : Given) (cause : Refusal) (r : Resolved) → came ≡ given.Unfit cause → source_of what ≡ Some name
+    → IsGiven change copied name came → r ≡ record { sourced = sourced.Unfit cause; copied = copied } → IsSourced change copied what r.copied r.sourced
+unfit_resolved change copied name what came cause r is source says made =
+    subst (λ (x : Resolved). IsSourced change copied what x.copied x.sourced) (sym made) (subst (IsGiven change copied name) is says what source)
+
+-- the shelf failed while the source was read
+pub faulted_source : (change : ShelfChange) (copied : ℕ) (name : List ℕ) (w : Wanted) (fault : WholeFault) → fault ≡ whole.Faulted → WholeSays change w (Err fault)
+    → (what : Ask) → source_of what ≡ Some name → IsEnded change copied what end.Faulted
+faulted_source change copied name w fault is says = faulted change copied name (subst (λ (f : WholeFault). WholeSays change w (Err f)) is says)

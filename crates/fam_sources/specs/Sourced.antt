@@ -65,7 +65,7 @@ IsAbsent change copied name cause = (what : Ask) → source_of what ≡ Some nam
 
 abbrev pub IsGiven : ShelfChange → ℕ → List ℕ → Given → Type 0
 IsGiven change copied name (given.Bytes bytes) =
-    (copied + length bytes ≤ copy_limit) × IfModelled change.files (λ files. map.get files name ≡ Some bytes)
+    (copied + length bytes.items ≤ copy_limit) × IfModelled change.files (λ files. map.get files name ≡ Some bytes.items)
 IsGiven change copied name (given.Unfit cause) = IsAbsent change copied name cause
 IsGiven change copied name (given.Ended end) = (what : Ask) → source_of what ≡ Some name → IsEnded change copied what end
 

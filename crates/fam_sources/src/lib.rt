@@ -6,7 +6,7 @@
 mod sourced;
 mod whole;
 
-pub use sourced::{COPY_LIMIT, Resolved, SourceEnd, Sourced, sourced};
+pub use sourced::{COPY_LIMIT, Resolved, SourceEnd, Sourced, resolve};
 pub use whole::{WholeFault, read_whole};
 
 #[cfg(test)]

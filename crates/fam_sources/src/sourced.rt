@@ -54,7 +54,7 @@ enum Given {
 }
 
 /// The bytes of a source.
-fn given<S: Shelf>(
+fn bytes_of<S: Shelf>(
     alloc: Global,
     shelf: &mut S,
     source: NameText,
@@ -94,7 +94,7 @@ fn cp<S: Shelf>(
         copied (ask.Cp source path attr stripe) r.copied r.sourced) }
     ensures steady { IsShelfSteady S.files S.faults S.shorts shelf.old shelf.new }
 {
-    match given(alloc, shelf, source, copied)? {
+    match bytes_of(alloc, shelf, source, copied)? {
         Given::Bytes(bytes) => {
             let now = copied + bytes.len() as u64;
             let bytes = SharedBytes::new(alloc, bytes)?;
@@ -125,7 +125,7 @@ fn verify<S: Shelf>(
         copied (ask.VerifySource path source) r.copied r.sourced) }
     ensures steady { IsShelfSteady S.files S.faults S.shorts shelf.old shelf.new }
 {
-    match given(alloc, shelf, source, copied)? {
+    match bytes_of(alloc, shelf, source, copied)? {
         Given::Bytes(bytes) => {
             let now = copied + bytes.len() as u64;
             let against = Content::Bytes(SharedBytes::new(alloc, bytes)?);
@@ -163,7 +163,7 @@ fn check<S: Shelf>(
         copied (ask.Check source) r.copied r.sourced) }
     ensures steady { IsShelfSteady S.files S.faults S.shorts shelf.old shelf.new }
 {
-    match given(alloc, shelf, source, copied)? {
+    match bytes_of(alloc, shelf, source, copied)? {
         Given::Bytes(bytes) => {
             let now = copied + bytes.len() as u64;
             Ok(Resolved {
@@ -178,7 +178,7 @@ fn check<S: Shelf>(
 
 /// The command that an ask comes to, where `copied` bytes of sources were read before. A source counts from when it
 /// was read, also where it is no listing; one that is too long isn't read.
-pub fn sourced<S: Shelf>(
+pub fn resolve<S: Shelf>(
     alloc: Global,
     shelf: &mut S,
     what: Ask,

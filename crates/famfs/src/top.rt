@@ -32,7 +32,7 @@ use fam_media::{Media, Shelf, Sink};
 use fam_mkfs::{MkfsEnd, asked, mkfs};
 use fam_run::run;
 use fam_script::refusal_line;
-use fam_sources::{SourceEnd, Sourced, sourced};
+use fam_sources::{SourceEnd, Sourced, resolve};
 use std::alloc::Global;
 use uuid::Uuid;
 
@@ -228,7 +228,7 @@ fn ask_shown<M: Media, S: Shelf>(
     if lines < LEAST_LINES {
         return small_shown(alloc, lines);
     }
-    match sourced(alloc, shelf, ask, 0)?.sourced {
+    match resolve(alloc, shelf, ask, 0)?.sourced {
         Sourced::Ready(cmd) => task_shown(alloc, cmd, me, media),
         Sourced::Unfit(cause) => unfit_shown(alloc, &cause),
         Sourced::Ended(end) => ended_shown(alloc, end),
