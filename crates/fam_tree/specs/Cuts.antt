@@ -4,7 +4,7 @@ use Rattle.std.specs.Fmt.{decimal}
 use Rattle.fam_base.specs.declared.entry.Entry.{Entry}
 use Rattle.fam_base.specs.Escapes.{escaped}
 use Rattle.fam_tree.specs.Lines.{kind_letter, mode_text, map_text}
-use Rattle.fam_tree.specs.declared.words.Words.{Words}
+use Rattle.fam_tree.specs.declared.line_words.Words.{Words}
 
 -- what stands in front of the first such byte; all of a text without one
 abbrev pub front : ℕ → List ℕ → List ℕ

@@ -7,12 +7,12 @@
 
 mod fault;
 mod laws;
+mod line_words;
 mod lines;
 mod listings;
 #[cfg(test)]
 mod tests;
 mod tree;
-mod words;
 
 pub use fault::{ApplyFault, ListingFault};
 pub use laws::take_back_undoes_apply;

@@ -8,8 +8,8 @@ ghost use Rattle.fam_tree.specs.Listings.{ComesBehind, LinesSay, ListingSays, pl
 ghost use Rattle.fam_tree.specs.Said.{IsRead, NamesBad};
 
 use crate::fault::ListingFault;
+use crate::line_words::{cut, entry_of};
 use crate::lines::{put_decimal, put_entry};
-use crate::words::{cut, entry_of};
 use fam_base::{Entry, OutOfMemory, Path};
 use std::alloc::Global;
 

@@ -2,7 +2,7 @@
 //!
 //! A word in another form may be read as anything. So whoever reads a line prints what was read, and compares.
 
-ghost use Rattle.std.specs.Prelude.{◌≡◌, ℕ, ◌+◌, ◌*◌, ◌%◌, ◌^◌, ◌<◌, ◌≤◌, ◌++◌, ◌==◌, IfSome, IsTrue, List, true, length, option_map, slice_index};
+ghost use Rattle.std.specs.Prelude.{◌≡◌, ℕ, ◌+◌, ◌*◌, ◌%◌, ◌^◌, ◌<◌, ◌≤◌, ◌++◌, ◌==◌, IfSome, IsTrue, List, MatchOption, true, length, slice_index};
 ghost use Rattle.std.specs.Fmt.{decimal};
 ghost use Rattle.std.specs.List.{All};
 ghost use Rattle.fam_base.specs.declared.entry.Kind.{Kind};
@@ -168,7 +168,7 @@ fn hex_value(digit: u8) -> u8
 /// The byte that stands in front of a name in print, and what stands behind it.
 fn first_byte(word: &[u8]) -> Option<(u8, &[u8])>
     ensures read { (b : ℕ) (more : List ℕ) → b < 256 → word.now ≡ escaped_byte b ++ more
-        → option_map (λ p. (p.0, p.1.now)) result ≡ Some (b, more) }
+        → MatchOption result ⊥ (λ p. (p.0 ≡ b) × (p.1.now ≡ more)) }
     ensures shorter { IfSome result (λ p. length p.1.now < length word.now) }
 {
     match word {
