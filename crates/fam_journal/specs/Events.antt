@@ -16,7 +16,7 @@ use Rattle.fam_journal.specs.declared.refusal.Refusal.{Refusal}
 use Rattle.fam_journal.specs.declared.refusal.Refusal.TheVariants as why
 use Rattle.fam_journal.specs.Calls as call
 use Rattle.fam_journal.specs.Calls.{Call, Begins, Refuses, Does, BreaksOff, DoesOperations, Completes, idle_refusal, may_begin, number_of, on_host}
-use Rattle.fam_journal.specs.Listings.{ListingSays}
+use Rattle.fam_tree.specs.Listings.{ListingSays}
 use Rattle.fam_machine.specs.HostMoves.{Evict, Leak, Fetch}
 use Rattle.fam_journal.specs.Machines.{Machines, unused}
 use Rattle.fam_journal.specs.Notes.{Note, Refused}

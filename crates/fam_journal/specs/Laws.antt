@@ -2,7 +2,7 @@
 use Rattle.std.specs.Prelude.{ℕ, ⊤, ◌≡◌, ◌*◌, ◌≤◌, false, List, [], ◌∷◌, ◌++◌, length, map, slice_get, take, Some, None, Result}
 use Rattle.fam_base.specs.declared.entry.Entry.{Entry}
 use Rattle.fam_journal.specs.Events.{Session}
-use Rattle.fam_journal.specs.Listings.{ListingSays}
+use Rattle.fam_tree.specs.Listings.{ListingSays}
 use Rattle.fam_base.specs.Image.{Image, eight}
 use Rattle.fam_commands.specs.Stands.{StandsFor, turn_given}
 use Rattle.fam_commands.specs.Task.{Task}

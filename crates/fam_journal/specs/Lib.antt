@@ -4,7 +4,6 @@ pub mod Past
 pub mod Legal
 pub mod Machines
 pub mod Calls
-pub mod Listings
 pub mod Events
 pub mod Follows
 pub mod Texts

@@ -4,3 +4,7 @@ pub mod Boxed
 pub mod TakenBack
 pub mod Words
 pub mod Puts
+pub mod Printed
+pub mod Cutting
+pub mod WordsRead
+pub mod LinesSaid

@@ -5,3 +5,6 @@ pub mod Faults
 pub mod Keyed
 pub mod Iter
 pub mod Parents
+pub mod Listings
+pub mod Cuts
+pub mod Said

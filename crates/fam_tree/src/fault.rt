@@ -1,6 +1,9 @@
-//! Why an entry doesn't join a tree.
+//! Why an entry doesn't join a tree, and why bytes are no listing.
 
-use fam_base::Kind;
+ghost use Rattle.std.specs.Prelude.{◌≡◌};
+ghost use Rattle.fam_tree.specs.declared.fault.ListingFault.TheVariants as listing;
+
+use fam_base::{Kind, OutOfMemory};
 
 /// Why an entry doesn't join a tree, in the order in which it is found out.
 #[derive(Clone, Copy, Debug, PartialEq, Eq)]
@@ -13,4 +16,21 @@ pub enum ApplyFault {
     ParentIsFile,
     /// No memory is left for the entry.
     OutOfMemory,
+}
+
+/// Why bytes aren't read as a listing.
+#[derive(Clone, Copy, Debug, PartialEq, Eq)]
+pub enum ListingFault {
+    /// The number, from 1, of the first line that can't stand where it does.
+    BadListing(u64),
+    /// No memory is left.
+    OutOfMemory,
+}
+
+impl From<OutOfMemory> for ListingFault {
+    ghost from_gives = { λ _ fault. fault ≡ listing.OutOfMemory };
+
+    fn from(_full: OutOfMemory) -> ListingFault {
+        ListingFault::OutOfMemory
+    }
 }

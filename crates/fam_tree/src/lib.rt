@@ -7,12 +7,15 @@
 
 mod fault;
 mod laws;
+mod line_words;
 mod lines;
+mod listings;
 #[cfg(test)]
 mod tests;
 mod tree;
 
-pub use fault::ApplyFault;
+pub use fault::{ApplyFault, ListingFault};
 pub use laws::take_back_undoes_apply;
 pub use lines::{print_entry, print_listing};
+pub use listings::read_listing;
 pub use tree::{Tree, TreeIter};

@@ -18,7 +18,7 @@ fn put_byte(byte: u8, into: &mut Vec<u8>) -> Result<(), OutOfMemory>
     }
 }
 
-fn put_decimal(n: u64, into: &mut Vec<u8>) -> Result<(), OutOfMemory>
+pub(crate) fn put_decimal(n: u64, into: &mut Vec<u8>) -> Result<(), OutOfMemory>
     ensures { OnOk result (into.new.items ≡ into.old.items ++ decimal n) }
 {
     let digit = b'0' + (n % 10) as u8;
@@ -103,7 +103,7 @@ fn put_map(map: MapKind, extents: &Extents, into: &mut Vec<u8>) -> Result<(), Ou
     }
 }
 
-fn put_entry(entry: &Entry, into: &mut Vec<u8>) -> Result<(), OutOfMemory>
+pub(crate) fn put_entry(entry: &Entry, into: &mut Vec<u8>) -> Result<(), OutOfMemory>
     ensures { OnOk result (into.new.items ≡ into.old.items ++ entry_line entry.now) }
 {
     put_kind(entry.kind, into)?;

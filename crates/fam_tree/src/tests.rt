@@ -1,9 +1,11 @@
 //! Rows of listings, and trees as a caller builds them.
 
-use crate::fault::ApplyFault;
+use crate::fault::{ApplyFault, ListingFault};
 use crate::lines::{print_entry, print_listing};
+use crate::listings::read_listing;
 use crate::tree::Tree;
 use fam_base::{BadPath, Entry, Extent, Extents, Kind, MapKind, Path};
+use std::alloc::Global;
 use std::test::Fail;
 
 fn directory(path: &[u8]) -> Result<Entry, BadPath> {
@@ -113,5 +115,93 @@ fn a_copy_keeps_what_is_taken_back(rt: HostRuntime) -> Result<(), Fail> {
     assert!(rt; tree.get(&entry.path).is_none());
     assert_eq!(rt; tree.iter().count(), 0);
     assert!(rt; copy.get(&entry.path).is_some());
+    Ok(())
+}
+
+/// How many entries a listing has, or the number of its first bad line.
+fn counted(alloc: Global, bytes: &[u8]) -> Result<usize, ListingFault> {
+    match read_listing(alloc, bytes) {
+        Ok(entries) => Ok(entries.len()),
+        Err(fault) => Err(fault),
+    }
+}
+
+#[test]
+fn listings_are_read_as_they_are_printed(rt: HostRuntime) -> Result<(), Fail> {
+    let rows = [
+        "",
+        "played 0",
+        "played 0\n",
+        "d 0755 0 0 0 - a\n",
+        "played 2\nd 0755 0 0 0 - a\nf 0644 0 0 4096 2162688+4096 a/b",
+        "f 0644 0 0 1 0:1+2 a\n",
+        "d 0755 0 0 0 - a\nd 0755 0 0 0 - a.b\nd 0755 0 0 0 - a/b\n",
+        "f 7777 4294967295 4294967295 18446744073709551615 - \\x20\\x5c\\xff",
+        "f 0644 0 0 0 1+1,1+1,1+1,1+1,1+1,1+1,1+1,1+1,1+1,1+1,1+1,1+1,1+1,1+1,1+1,1+1 a",
+    ];
+    let counts = [0, 0, 0, 1, 2, 1, 3, 1, 1];
+    for (row, count) in rows.iter().zip(&counts) {
+        assert_eq!(rt; counted(rt.alloc(), row.as_bytes()), Ok(*count), "{row}");
+    }
+    Ok(())
+}
+
+#[test]
+fn the_first_bad_line_is_named(rt: HostRuntime) -> Result<(), Fail> {
+    let rows = [
+        ("x", 1),
+        ("\n", 1),
+        ("played 0\n\n", 1),
+        ("played 2\nd 0755 0 0 0 - a\n", 1),
+        ("played 01\nd 0755 0 0 0 - a\n", 1),
+        ("d 0755 0 0 0 - a\nplayed 0\n", 2),
+        ("d 0755 0 0 0 - a\n\n", 2),
+        ("d 0755 0 0 0 - a\r\n", 1),
+        ("d 0755 0 0 0 - b\nd 0755 0 0 0 - a\n", 2),
+        ("d 0755 0 0 0 - a\nd 0755 0 0 0 - a\n", 2),
+        ("d 755 0 0 0 - a", 1),
+        ("d 8755 0 0 0 - a", 1),
+        ("d 0755 00 0 0 - a", 1),
+        ("d 0755 4294967296 0 0 - a", 1),
+        ("d 0755 0 0 18446744073709551616 - a", 1),
+        ("d 0755 0 0 0  - a", 1),
+        ("d 0755 0 0 0 - a ", 1),
+        ("d 0755 0 0 0 - a/", 1),
+        ("d 0755 0 0 0 - \\xFF", 1),
+        ("d 0755 0 0 0 - \\x61", 1),
+        ("d 0755 0 0 0 - \\x2", 1),
+        ("e 0755 0 0 0 - a", 1),
+        ("f 0644 0 0 0 0:- a", 1),
+        ("f 0644 0 0 0 -1+1 a", 1),
+        ("f 0644 0 0 0 1+1, a", 1),
+        ("f 0644 0 0 0 1++1 a", 1),
+        (
+            "f 0644 0 0 0 1+1,1+1,1+1,1+1,1+1,1+1,1+1,1+1,1+1,1+1,1+1,1+1,1+1,1+1,1+1,1+1,1+1 a",
+            1,
+        ),
+    ];
+    for (row, line) in &rows {
+        assert_eq!(rt;
+            counted(rt.alloc(), row.as_bytes()),
+            Err(ListingFault::BadListing(*line)),
+            "{row}"
+        );
+    }
+    Ok(())
+}
+
+#[test]
+fn a_listing_gives_its_entries(rt: HostRuntime) -> Result<(), Fail> {
+    let striped = file(
+        b"s 1",
+        40000,
+        MapKind::Striped { chunk: 8192 },
+        &[(2162688, 16384), (4194304, 16384)],
+    )?;
+    let text =
+        b"played 2\nd 0755 0 0 0 - a\nf 0644 0 0 40000 8192:2162688+16384,4194304+16384 s\\x201";
+    let entries = read_listing(rt.alloc(), text)?;
+    let wanted = [directory(b"a")?, striped];
+    assert!(rt; entries.as_slice() == wanted.as_slice());
     Ok(())
 }

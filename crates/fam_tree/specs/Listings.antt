@@ -27,6 +27,13 @@ text_lines bytes = without_end (slice_split (λ byte. byte == line_feed) bytes)
 abbrev pub IsWord : ℕ → Type 0
 IsWord n = n < 2 ^ 64
 
+-- an extent of such numbers
+abbrev pub IsWordExtent : Extent → Type 0
+IsWordExtent x = IsWord x.offset × IsWord x.length
+
+abbrev pub AreWordExtents : List Extent → Type 0
+AreWordExtents xs = All (λ (x : Extent). IsWordExtent x) xs
+
 -- no map has extents but one of bytes
 abbrev pub MapListed : MapKind → List Extent → Type 0
 MapListed Empty extents = extents ≡ []
@@ -41,7 +48,7 @@ pub record IsListed (e : Entry) : Type 0 where
   pub uid : e.uid < 2 ^ 32
   pub gid : e.gid < 2 ^ 32
   pub map : MapListed e.map e.extents
-  pub extents : All (λ (x : Extent). IsWord x.offset × IsWord x.length) e.extents
+  pub extents : AreWordExtents e.extents
 
 -- the path comes behind the one before it
 abbrev pub ComesBehind : Option (List ℕ) → List ℕ → Type 0
