@@ -18,7 +18,7 @@ use Rattle.fam_journal.specs.declared.event.Ask.TheVariants as ask
 use Rattle.fam_journal.specs.declared.refusal.Refusal.{Refusal}
 use Rattle.fam_journal.specs.declared.refusal.Refusal.TheVariants as why
 use Rattle.fam_journal.specs.Events.{BytesSay, ListingIs, Ready, SourceSays, Sourced, Unfit, WithinSays, copy_limit, source_of}
-use Rattle.fam_journal.specs.Listings.{ListingSays}
+use Rattle.fam_tree.specs.Listings.{ListingSays}
 use Rattle.fam_sources.specs.declared.sourced.SourceEnd.TheVariants as end
 use Rattle.fam_sources.specs.declared.sourced.Given.{Given}
 use Rattle.fam_sources.specs.declared.sourced.Given.TheVariants as given

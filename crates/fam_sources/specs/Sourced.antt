@@ -11,7 +11,7 @@ use Rattle.fam_media.specs.Outside.{IfModelled}
 use Rattle.fam_journal.specs.declared.event.Ask.{Ask}
 use Rattle.fam_journal.specs.declared.refusal.Refusal.{Refusal}
 use Rattle.fam_journal.specs.declared.refusal.Refusal.TheVariants as why
-use Rattle.fam_journal.specs.Listings.{ListingSays}
+use Rattle.fam_tree.specs.Listings.{ListingSays}
 use Rattle.fam_journal.specs.EventForms.{AskForm, UnfitForm}
 use Rattle.fam_journal.specs.Events.{Ready, SourceSays, Unfit, copy_limit, source_of}
 use Rattle.fam_grammar.specs.Sound.{IsSoundAsk}
