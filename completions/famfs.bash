@@ -1,37 +1,34 @@
 # Completes the words of famfs and mkfs.famfs in bash.
 
-# options of mkfs, each with its value, in their order: what may come behind these words
+# the options of a command
 _famfs_options() {
-    local words=" $* "
-    case $words in
-        *" --uuid "*) ;;
-        *" -l "*) echo "--uuid" ;;
-        *" -u "*) echo "-l --uuid" ;;
-        *) echo "-u -l --uuid" ;;
+    case $1 in
+        mkfs) echo "-u --unit -l --loglen -f --force --uuid --system" ;;
+        mkdir) echo "-m --mode -u --uid -g --gid --system" ;;
+        creat) echo "-s --size -S --seed -m --mode -u --uid -g --gid -N --nstrips -B --nbuckets -C --chunksize --system" ;;
+        cp) echo "-m --mode -u --uid -g --gid -N --nstrips -B --nbuckets -C --chunksize --system" ;;
+        verify) echo "-S --seed --source --system" ;;
+        *) echo "--system" ;;
     esac
 }
 
 _famfs() {
-    local word=${COMP_WORDS[COMP_CWORD]} before=${COMP_WORDS[COMP_CWORD - 1]}
-    local name=${COMP_WORDS[0]##*/} at=$COMP_CWORD command=mkfs
+    local word=${COMP_WORDS[COMP_CWORD]} name=${COMP_WORDS[0]##*/} command=mkfs
     COMPREPLY=()
     if [ "$name" = famfs ]; then
-        if [ "$at" = 1 ]; then
-            mapfile -t COMPREPLY < <(compgen -W "logplay mkdir mkfs" -- "$word")
+        if [ "$COMP_CWORD" = 1 ]; then
+            mapfile -t COMPREPLY < <(compgen -W "mkfs logplay mkdir creat cp verify read check fsck" -- "$word")
             return
         fi
         command=${COMP_WORDS[1]}
-        at=$((at - 1))
     fi
-    if [ "$at" = 1 ]; then
-        compopt -o filenames
-        mapfile -t COMPREPLY < <(compgen -f -- "$word")
-    elif [ "$command" = mkfs ]; then
-        case $before in
-            -u | -l | --uuid) ;;
-            *) mapfile -t COMPREPLY < <(compgen -W "$(_famfs_options "${COMP_WORDS[@]:0:COMP_CWORD}")" -- "$word") ;;
-        esac
-    fi
+    case $word in
+        -*) mapfile -t COMPREPLY < <(compgen -W "$(_famfs_options "$command")" -- "$word") ;;
+        *)
+            compopt -o filenames
+            mapfile -t COMPREPLY < <(compgen -f -- "$word")
+            ;;
+    esac
 }
 
 complete -F _famfs famfs mkfs.famfs
