@@ -1,13 +1,14 @@
-use Rattle.std.proofs.Common.{sym, subst}
-use Rattle.fam_tasks.specs.Sound.{IsServed}
+use Rattle.std.proofs.Common.{sym, refl, subst}
+use Rattle.fam_base.specs.declared.cmd.Cmd.TheVariants.{Logplay, Mkdir, Creat, Cp, Verify, Read, Check, Fsck}
 use Rattle.fam_protocol.specs.Tasks.{IsCommand}
-use Rattle.fam_run.proofs.Files.{directory_command}
+use Rattle.fam_run.proofs.Expected.{reader, writer}
 use Rattle.fam_run.proofs.solo.is_command.Goals as goal
 
--- src/solo.rt:65:1
 pub returns-in-Mkdir : goal.returns-in-Mkdir
-returns-in-Mkdir c = subst IsCommand (sym c.in-Mkdir.is) (directory_command c.in-Mkdir.path c.in-Mkdir.attr c.bytes.ensures.path c.is_attr.ensures)
+returns-in-Mkdir c = ?
 
--- src/solo.rt:65:1
-pub is_attr-requires : goal.is_attr-requires
-is_attr-requires c = record { mode = subst IsServed c.in-Mkdir.is c.requires.served }
+pub returns-in-Creat : goal.returns-in-Creat
+returns-in-Creat c = ?
+
+pub returns-in-Cp : goal.returns-in-Cp
+returns-in-Cp c = ?
