@@ -33,7 +33,6 @@ answer_of (given.IsDirectory m) = option_map Replied (reply_of (given.IsDirector
 answer_of (given.Differs m offset found wanted) = option_map Replied (reply_of (given.Differs m offset found wanted))
 answer_of (given.Length m size wanted) = option_map Replied (reply_of (given.Length m size wanted))
 answer_of (given.MediaFault line) = Some (MediaFault line.0)
-answer_of given.NotYet = None
 
 -- the note of a journal that a note stands for
 abbrev pub note_of : Note → Option journal.Note
