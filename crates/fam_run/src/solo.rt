@@ -40,6 +40,39 @@ fn answer_of(turn: Turn) -> Option<Answer>
 }
 
 /// Does the next operation of a command that has not answered, and gives the answer with which it ends, if it does.
+/// It stands apart from the reads, which are most of the operations and have no room for a turn with an entry.
+#[inline(never)]
+fn any_operation<M: Media>(
+    cache: &mut HostCache,
+    task: &mut Task,
+    media: &mut M,
+) -> Result<Option<Answer>, OutOfMemory>
+    requires lines { task.old.lines ≡ M.size media.old }
+
+    ensures operated { IfOk result (HasOperated (record {
+      task = task.old;
+      next = task.new;
+      old = cache.old.lines;
+      new = cache.new.lines;
+      modelled = M.image media.old;
+      left = M.image media.new;
+      size = M.size media.old;
+      before = M.faults media.old;
+      now = M.faults media.new;
+    })) }
+    ensures within { IsWithin task.old.lines (op_of task.old) }
+    ensures undone { OnErr result (media.new ≡ media.old) }
+
+    ensures steady { IsSteady M.size M.faults media.old media.new }
+{
+    match operate(cache, task, media) {
+        Ok(turn) => Ok(answer_of(turn)),
+        Err(OperationFault::MediaFault(line)) => Ok(Some(Answer::MediaFault(line))),
+        Err(OperationFault::OutOfMemory) => Err(OutOfMemory),
+    }
+}
+
+/// As `any_operation`, and tries first whether the operation is a read after which the command reads on.
 #[inline(always)]
 fn go_on<M: Media>(
     cache: &mut HostCache,
@@ -66,11 +99,7 @@ fn go_on<M: Media>(
 {
     match read_next(cache, task, media) {
         Ok(true) => Ok(None),
-        Ok(false) => match operate(cache, task, media) {
-            Ok(turn) => Ok(answer_of(turn)),
-            Err(OperationFault::MediaFault(line)) => Ok(Some(Answer::MediaFault(line))),
-            Err(OperationFault::OutOfMemory) => Err(OutOfMemory),
-        },
+        Ok(false) => any_operation(cache, task, media),
         Err(OperationFault::MediaFault(line)) => Ok(Some(Answer::MediaFault(line))),
         Err(OperationFault::OutOfMemory) => Err(OutOfMemory),
     }
