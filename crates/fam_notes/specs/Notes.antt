@@ -9,7 +9,7 @@ use Rattle.fam_journal.specs.Names.{NamesCause}
 use Rattle.fam_notes.specs.declared.note.Note.{Note}
 use Rattle.fam_notes.specs.declared.note.Note.TheVariants as note
 
--- what an answer is in a journal: its reply, or the line at which the media failed. That a file can't be read yet is none
+-- what an answer is in a journal: its reply, or the line at which the media failed
 abbrev pub answer_of : Given → Option Answer
 answer_of (given.Ok seq) = option_map Replied (reply_of (given.Ok seq))
 answer_of (given.Played m tree) = option_map Replied (reply_of (given.Played m tree))
