@@ -6,7 +6,9 @@ ghost use Rattle.fam_sources.specs.Sourced.{IsGiven, IsListed, IsSourced};
 ghost use Rattle.fam_sources.specs.Whole.{IsShelfSteady, changed};
 
 use crate::whole::{WholeFault, read_whole};
-use fam_base::{Attr, Cmd, Content, NameText, OutOfMemory, Path, SharedBytes, SharedEntries, Stripe};
+use fam_base::{
+    Attr, Cmd, Content, NameText, OutOfMemory, Path, SharedBytes, SharedEntries, Stripe,
+};
 use fam_journal::{Ask, Refusal};
 use fam_media::Shelf;
 use fam_tree::{ListingFault, read_listing};

@@ -81,10 +81,12 @@ fn asks_come_to_commands(rt: HostRuntime) -> Result<(), Fail> {
     let alloc = rt.alloc();
     let mut shelf = shelf(alloc)?;
     let made = resolve(alloc, &mut shelf, cp(alloc, "s")?, 5)?;
-    let is_cp = matches!(&made.sourced, Sourced::Ready(Cmd::Cp { bytes, .. }) if bytes.as_slice() == b"0123456789");
+    let is_cp =
+        matches!(&made.sourced, Sourced::Ready(Cmd::Cp { bytes, .. }) if bytes.as_slice() == b"0123456789");
     assert!(rt; is_cp && has_read(&made, 15));
     let made = resolve(alloc, &mut shelf, check(alloc, "list")?, 5)?;
-    let is_check = matches!(&made.sourced, Sourced::Ready(Cmd::Check { listing }) if listing.as_slice().is_empty());
+    let is_check =
+        matches!(&made.sourced, Sourced::Ready(Cmd::Check { listing }) if listing.as_slice().is_empty());
     assert!(rt; is_check && has_read(&made, 14));
     let made = resolve(alloc, &mut shelf, Ask::Plain(Cmd::Fsck), 5)?;
     assert!(rt; matches!(&made.sourced, Sourced::Ready(Cmd::Fsck)) && has_read(&made, 5));
@@ -97,16 +99,29 @@ fn asks_come_to_refusals(rt: HostRuntime) -> Result<(), Fail> {
     let mut shelf = shelf(alloc)?;
     let made = resolve(alloc, &mut shelf, check(alloc, "x")?, 5)?;
     let is_bad = matches!(&made.sourced, Sourced::Unfit(Refusal::BadListing(1)));
-    assert!(rt; is_bad && has_read(&made, 6), "a source that was read counts");
+    assert!(rt;
+        is_bad && has_read(&made, 6),
+        "a source that was read counts"
+    );
     let made = resolve(alloc, &mut shelf, cp(alloc, "gone")?, 5)?;
-    let is_gone = matches!(&made.sourced, Sourced::Unfit(Refusal::NoFile(name)) if name.text() == "gone");
+    let is_gone =
+        matches!(&made.sourced, Sourced::Unfit(Refusal::NoFile(name)) if name.text() == "gone");
     assert!(rt; is_gone && has_read(&made, 5));
     let made = resolve(alloc, &mut shelf, cp(alloc, "s")?, 268_435_447)?;
-    let is_long = matches!(&made.sourced, Sourced::Unfit(Refusal::CopyLimit(268_435_457)));
-    assert!(rt; is_long && has_read(&made, 268_435_447), "one that is too long doesn't");
+    let is_long = matches!(
+        &made.sourced,
+        Sourced::Unfit(Refusal::CopyLimit(268_435_457))
+    );
+    assert!(rt;
+        is_long && has_read(&made, 268_435_447),
+        "one that is too long doesn't"
+    );
     shelf.cut("s", 0)?;
     let made = resolve(alloc, &mut shelf, cp(alloc, "s")?, 0)?;
-    let end = matches!(&made.sourced, Sourced::Ended(SourceEnd::Short { size: 10, got: 0 }));
+    let end = matches!(
+        &made.sourced,
+        Sourced::Ended(SourceEnd::Short { size: 10, got: 0 })
+    );
     assert!(rt; end && has_read(&made, 0));
     Ok(())
 }

@@ -37,12 +37,7 @@ fn blank(alloc: Global, size: u64) -> Result<Vec<u8>, WholeFault>
 }
 
 /// The size of a file that is to be read, where it is within the limit.
-fn size_of<S: Shelf>(
-    shelf: &mut S,
-    name: &str,
-    copied: u64,
-    limit: u64,
-) -> Result<u64, WholeFault>
+fn size_of<S: Shelf>(shelf: &mut S, name: &str, copied: u64, limit: u64) -> Result<u64, WholeFault>
     requires { limit < 2 ^ 64 - 1 }
     ensures within { IfOk result (λ size. copied + size ≤ limit) }
     ensures size { IfOk result (λ size.

@@ -6,11 +6,10 @@ ghost use Rattle.fam_words.specs.Calls as spec;
 ghost use Rattle.fam_words.specs.Calls.{call_behind, call_of, call_with};
 ghost use Rattle.fam_words.specs.declared.orders.Name.TheVariants as name;
 
-use crate::apps;
-use crate::wanted::{Call, Order, Shot};
-use crate::shots;
 use crate::simple::{matches, value};
 use crate::values::uuid_if_given;
+use crate::wanted::{Call, Order, Shot};
+use crate::{apps, shots};
 use clap::ArgMatches;
 use fam_base::{Cmd, NameText, OutOfMemory};
 use fam_journal::Ask;

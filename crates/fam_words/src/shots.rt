@@ -10,12 +10,12 @@ ghost use Rattle.fam_base.specs.declared.cmd.Cmd.TheVariants as cmd;
 ghost use Rattle.fam_base.specs.declared.cmd.Content.TheVariants as content;
 ghost use Rattle.fam_journal.specs.declared.event.Ask.TheVariants as ask;
 
-use crate::wanted::{Order, Shot};
 use crate::simple::{is_given, value};
 use crate::values::{
     attr_of, count_of, name_of, number_if_given, number_of, path_of, size_of, size_or, storm_size,
     stripe_of, uuid_if_given,
 };
+use crate::wanted::{Order, Shot};
 use clap::ArgMatches;
 use fam_base::{Attr, Cmd, Content, NameText, OutOfMemory, Path, Stripe};
 use fam_journal::Ask;

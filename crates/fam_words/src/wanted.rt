@@ -16,20 +16,11 @@ pub struct Call {
 #[derive(Drop)]
 pub enum Order {
     /// A command of its own, on a host of this UUID where one is given.
-    Single {
-        system: Option<Uuid>,
-        shot: Shot,
-    },
+    Single { system: Option<Uuid>, shot: Shot },
     /// Run the script that this file holds.
-    Script {
-        file: NameText,
-    },
+    Script { file: NameText },
     /// Run the storm of this seed, or print its script.
-    Storm {
-        seed: u64,
-        size: u64,
-        prints: bool,
-    },
+    Storm { seed: u64, size: u64, prints: bool },
 }
 
 /// A command of its own.

@@ -224,9 +224,8 @@ fn ask_shown<M: Media, S: Shelf>(
     ensures steady { IsSteady M.size M.faults media.old media.new }
     ensures shelf { IsShelfSteady S.files S.faults S.shorts shelf.old shelf.new }
 {
-    let lines = media.lines();
-    if lines < LEAST_LINES {
-        return small_shown(alloc, lines);
+    if media.lines() < LEAST_LINES {
+        return small_shown(alloc, media.lines());
     }
     match resolve(alloc, shelf, ask, 0)?.sourced {
         Sourced::Ready(cmd) => task_shown(alloc, cmd, me, media),
