@@ -12,7 +12,7 @@ ghost use Rattle.fam_commands.specs.Turns.{turn_of};
 ghost use Rattle.fam_machine.specs.Operations.{IsWithin};
 ghost use Rattle.fam_tasks.specs.declared.answer.Answer.TheVariants.{MediaFault};
 ghost use Rattle.fam_tasks.specs.declared.answer.Turn.TheVariants.{Done, Go};
-ghost use Rattle.fam_tasks.specs.Sound.{most_lines, HasSuper, IsFileLine, IsLine, IsSound};
+ghost use Rattle.fam_tasks.specs.Sound.{most_lines, HasSuper, IsFileLine, IsLine, IsSound, IsWantedLine};
 ghost use Rattle.fam_tasks.specs.Tells.{Tells, is_digest, is_reading};
 
 mod decide;
@@ -250,6 +250,7 @@ impl Task {
     }
 
     /// Line `line` of a part.
+    #[inline(always)]
     fn part_line(&self, part: Part, line: u64) -> LineNo
         requires least { least_lines ≤ self.now.lines }
         requires line { IsLine part line self.now }
@@ -260,8 +261,19 @@ impl Task {
             Part::Superblock => LineNo(1 + line),
             Part::Header => LineNo(LOG_LINE),
             Part::Slot(i) => line_of_slot(&self.params, i, line),
-            Part::File => self.file_line(first_line(&self.cmd) + line),
+            Part::File => self.wanted_line(line),
         }
+    }
+
+    /// Line `line` of those that are wanted of the file. It stands apart from the lines of slots, which are most of
+    /// those that are read.
+    #[inline(never)]
+    fn wanted_line(&self, line: u64) -> LineNo
+        requires { IsWantedLine line self.now }
+        ensures line { result.0 ≡ spec.part_line self.now part.File line }
+        ensures within { result.0 < self.now.lines }
+    {
+        self.file_line(first_line(&self.cmd) + line)
     }
 
     /// Line `line` of the file of the entry.
