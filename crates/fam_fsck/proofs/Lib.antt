@@ -1,3 +1,9 @@
+pub mod PathTests
+pub mod EntryTests
+pub mod Below
+pub mod Least
+pub mod Merged
+pub mod MergeRoom
 pub mod Pairs
 pub mod Taken
 pub mod Surveys

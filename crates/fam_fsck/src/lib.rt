@@ -7,8 +7,10 @@ mod findings;
 mod found;
 mod fsck;
 mod joining;
+mod merge;
 
 pub use fsck::Fsck;
+pub use merge::check;
 
 #[cfg(test)]
 mod tests;

@@ -177,6 +177,13 @@ impl Plan {
         &self.tree
     }
 
+    /// The tree, which the caller takes over.
+    pub fn into_tree(self) -> Tree
+        ensures { result ≡ replay self.entries }
+    {
+        self.tree
+    }
+
     /// How many entries were added.
     pub fn count(&self) -> u64
         ensures count { result ≡ length self.now.entries }

@@ -1,13 +1,10 @@
 -- A command that runs alone, by one operation.
 use Rattle.std.proofs.Common.{ℕ, ◌≡◌, ◌+◌, inl, inr, Bool, true, false, List, [], length, Option, Some, None, refl, sym, ap, subst, ◌∙◌, arith}
 use Rattle.std.specs.Prelude.{unwrap_or}
-use Rattle.std.proofs.lemmas.List.Elements.{All-nil}
 use Rattle.std.proofs.lemmas.Option.{same_Some}
 use Rattle.fam_base.specs.Image.{Image}
 use Rattle.fam_base.specs.declared.line.LineNo.{LineNo}
 use Rattle.fam_base.specs.declared.cmd.Cmd.{Cmd}
-use Rattle.fam_base.specs.declared.entry.Entry.{Entry}
-use Rattle.fam_base.specs.declared.entry.Kind.TheVariants.{Directory}
 use Rattle.fam_rules.specs.Reply.{Reply}
 use Rattle.fam_machine.specs.declared.op.Op.{Op}
 use Rattle.fam_machine.specs.declared.op.Op.TheVariants.{Load, Store, WriteBack, Invalidate, Digest}
@@ -26,40 +23,31 @@ use Rattle.fam_tasks.specs.declared.answer.Answer.TheVariants as answer
 use Rattle.fam_tasks.specs.declared.answer.Turn.{Turn}
 use Rattle.fam_tasks.specs.declared.answer.Turn.TheVariants.{Go, Note, Done}
 use Rattle.fam_tasks.specs.Sound.{IsSound}
-use Rattle.fam_tasks.specs.Tells.{Replies, TellsUnless, meets_file}
+use Rattle.fam_tasks.specs.Tells.{Replies, Tells}
 use Rattle.fam_run.specs.Operation.{GoesOn, HasTurned, IsNoFault, KeepsLines, ended}
 use Rattle.fam_run.specs.Step.{Around, HasOperated, IsDone}
-use Rattle.fam_run.specs.Run.{HasEnded, HasLeft, HasStopped, IsPlain, Ran, Reached, Running, fault_of}
+use Rattle.fam_run.specs.Run.{HasEnded, HasLeft, HasStopped, Ran, Reached, Running, fault_of}
 use Rattle.fam_run.proofs.Left.{Kept, kept, left}
 
 -- The task goes on.
-
--- the definition's turn goes on as the call's does
-record Continues (file : Bool) (wanted : turns.Turn) (new : Task) : Type 0 where
-  no_file : file ≡ false
-  next : task_after wanted ≡ Some new
 
 no_reply : (turn : Turn) (reply : Reply) → ended turn ≡ None → Replies turn reply → ⊥
 no_reply Go reply on replies = replies
 no_reply (Note note) reply on replies = replies
 no_reply (Done given) reply on replies = absurd cc
 
-goes_on : (file : Bool) (wanted : turns.Turn) (turn : Turn) (new : Task) → ended turn ≡ None → TellsUnless file wanted turn new → Continues file wanted new
-goes_on true wanted turn new on tells =
-    let ends : ended turn ≡ Some answer.NotYet = ap ended tells in
-    absurd (cc (on, ends))
-goes_on false (Goes t) turn new on tells = record { no_file = refl; next = ap Some (sym tells.1) }
-goes_on false (Marks t) turn new on tells = record { no_file = refl; next = ap Some (sym tells.1) }
-goes_on false (Finds n t) turn new on tells = record { no_file = refl; next = ap Some (sym tells.1) }
-goes_on false (Writes seq e t) turn new on tells = record { no_file = refl; next = ap Some (sym tells.1) }
-goes_on false (Ends reply) turn new on tells = absurd (no_reply turn reply on tells)
+-- the definition's turn goes on as the call's does
+goes_on : (wanted : turns.Turn) (turn : Turn) (new : Task) → ended turn ≡ None → Tells wanted turn new → task_after wanted ≡ Some new
+goes_on (Goes t) turn new on tells = ap Some (sym tells.1)
+goes_on (Marks t) turn new on tells = ap Some (sym tells.1)
+goes_on (Finds n t) turn new on tells = ap Some (sym tells.1)
+goes_on (Writes seq e t) turn new on tells = ap Some (sym tells.1)
+goes_on (Ends reply) turn new on tells = absurd (no_reply turn reply on tells)
 
 -- a task that goes on comes nearer to its end
 pub kept_on : (held : Cache) (task new : Task) (turn : Turn) → ended turn ≡ None → IsSound task → GoesOn task held turn new → Kept (left task) task new
 kept_on held task new turn on sound went =
-    let so : Continues (meets_file task) (turn_of task (word_of (op_of task) held)) new =
-    goes_on (meets_file task) (turn_of task (word_of (op_of task) held)) turn new on went in
-    kept task new (unwrap_or (word_of (op_of task) held) 0) sound.served sound.stands so.no_file so.next
+    kept task new (unwrap_or (word_of (op_of task) held) 0) sound.stands (goes_on (turn_of task (word_of (op_of task) held)) turn new on went)
 
 pub lines_kept : (held : Cache) (task new : Task) (turn : Turn) → IsSound task → GoesOn task held turn new → KeepsLines turn task new
 lines_kept held task new turn sound went on = (kept_on held task new turn on sound went).lines
@@ -78,20 +66,19 @@ pub running_on : (cmd : Cmd) (me : List ℕ) (image : Image) (cache : Cache) (ta
 running_on cmd me image cache task new held after modelled now turn on sound went within count did run =
     let m : Machine = machine run.now held in
     let done : HasTurned task m turn new now after = did run.now run.modelled_is in
-    let so : Continues (meets_file task) (turn_on task m) new = goes_on (meets_file task) (turn_on task m) turn new on done.tells in
+    let next : task_after (turn_on task m) ≡ Some new = goes_on (turn_on task m) turn new on done.tells in
     let inside : IsInImage (op_of task) run.now = inside_by (op_of task) task.lines run.now (count run.now run.modelled_is) within in
     record {
       words = with_given run.words (given (op_of task) m);
       made = run.made + 1;
       now = (operated (op_of task) m).image;
       ran = subst (λ (c : Cache). SoloRun cmd me image cache new (with_given run.words (given (op_of task) m)) (run.made + 1) (machine (operated (op_of task) m).image c)) (sym done.is.cache)
-          (goes run.ran inside so.next);
-      plain = (kept_on after task new turn on sound went).plain run.plain;
+          (goes run.ran inside next);
       modelled_is = done.is.image;
     }
 
 abbrev reached : (cmd : Cmd) (me : List ℕ) (image : Image) (cache : Cache) (task : Task) (held : Cache) (modelled : Option Image) → Running cmd me image cache task held modelled → Reached cmd me image cache
-reached cmd me image cache task held modelled run = record { task = task; words = run.words; made = run.made; machine = record { image = run.now; cache = held }; ran = run.ran; plain = run.plain }
+reached cmd me image cache task held modelled run = record { task = task; words = run.words; made = run.made; machine = record { image = run.now; cache = held }; ran = run.ran }
 
 -- The command ends.
 
@@ -118,7 +105,6 @@ no_fault (answer.IsDirectory m) own = refl
 no_fault (answer.Differs m offset found wanted) own = refl
 no_fault (answer.Length m size wanted) own = refl
 no_fault (answer.MediaFault line) own = absurd (own line refl)
-no_fault answer.NotYet own = refl
 
 done_left : (cmd : Cmd) (me : List ℕ) (image : Image) (cache : Cache) (task new : Task) (held after : Cache) (modelled now : Option Image) (given : Answer) → IsWithin task.lines (op_of task) → IfModelled modelled (λ (i : Image). length i ≡ task.lines) → IfModelled modelled (λ (i : Image). HasTurned task (machine i held) (Done given) new now after) → Running cmd me image cache task held modelled → HasLeft cmd me image cache given now after
 done_left cmd me image cache task new held after modelled now given within count did run =
@@ -184,6 +170,5 @@ not_begun cmd me image cache task lines held modelled start count same is = reco
   now = image;
   ran = subst (λ (t : Task). SoloRun cmd me image cache t [] 0 (record { image = image; cache = held })) (ap (starting cmd me) count ∙ sym start)
       (subst (λ (c : Cache). SoloRun cmd me image cache (starting cmd me (length image)) [] 0 (record { image = image; cache = c })) (sym same) starts);
-  plain = subst IsPlain (sym start) (All-nil (λ (e : Entry). e.kind ≡ Directory));
   modelled_is = is;
 }

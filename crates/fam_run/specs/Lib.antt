@@ -1,4 +1,4 @@
 pub mod Operation
 pub mod Step
 pub mod Run
-pub mod Files
+pub mod Expected

@@ -12,16 +12,16 @@ use Rattle.fam_tasks.specs.declared.answer.Answer.{Answer}
 use Rattle.fam_tasks.specs.declared.answer.Answer.TheVariants.{MediaFault}
 use Rattle.fam_tasks.specs.declared.answer.Turn.{Turn}
 use Rattle.fam_tasks.specs.declared.answer.Turn.TheVariants.{Go, Note, Done}
-use Rattle.fam_tasks.specs.Tells.{TellsUnless, meets_file}
+use Rattle.fam_tasks.specs.Tells.{Tells}
 
 -- the operation was done on this machine: memory and cache are what it leaves, and the task went on to `new`, saying `turn`
 pub record HasTurned (task : Task) (m : Machine) (turn : Turn) (new : Task) (shown : Option Image) (held : Cache) : Type 0 where
   pub is : IsMachine (operated (op_of task) m) shown held
-  pub tells : TellsUnless (meets_file task) (turn_of task (given (op_of task) m)) turn new
+  pub tells : Tells (turn_of task (given (op_of task) m)) turn new
 
 -- over any media: the task goes on by the word of the copy that its host has then
 abbrev pub GoesOn : Task → Cache → Turn → Task → Type 0
-GoesOn task held turn new = TellsUnless (meets_file task) (turn_of task (word_of (op_of task) held)) turn new
+GoesOn task held turn new = Tells (turn_of task (word_of (op_of task) held)) turn new
 
 -- no task answers that the media failed
 abbrev pub IsNoFault : Turn → Type 0

@@ -1,10 +1,8 @@
 -- What a command that runs alone, from a host's cache, has done when it ends.
-use Rattle.std.specs.Prelude.{ℕ, ◌≡◌, List, All, Option, Some, None}
+use Rattle.std.specs.Prelude.{ℕ, ◌≡◌, List, Option, Some, None}
 use Rattle.fam_base.specs.Image.{Image}
 use Rattle.fam_base.specs.declared.line.LineNo.{LineNo}
 use Rattle.fam_base.specs.declared.cmd.Cmd.{Cmd}
-use Rattle.fam_base.specs.declared.entry.Entry.{Entry}
-use Rattle.fam_base.specs.declared.entry.Kind.TheVariants.{Directory}
 use Rattle.fam_machine.specs.Caches.{Cache}
 use Rattle.fam_machine.specs.Cuts.{Fails}
 use Rattle.fam_machine.specs.Operations.{Machine, operated, IsInImage}
@@ -13,11 +11,7 @@ use Rattle.fam_commands.specs.Task.{Task, op_of}
 use Rattle.fam_tasks.specs.declared.answer.Answer.{Answer}
 use Rattle.fam_tasks.specs.declared.answer.Answer.TheVariants as answer
 use Rattle.fam_tasks.specs.declared.answer.Turn.TheVariants.{Done}
-use Rattle.fam_tasks.specs.Tells.{TellsUnless, meets_file}
-
--- a task has read no file: each slot that it took is a directory's
-abbrev pub IsPlain : Task → Type 0
-IsPlain task = All (λ (e : Entry). e.kind ≡ Directory) task.entries
+use Rattle.fam_tasks.specs.Tells.{Tells}
 
 -- the line at which the media failed, of an answer that says so
 abbrev pub fault_of : Answer → Option LineNo
@@ -43,7 +37,6 @@ fault_of (answer.IsDirectory m) = None
 fault_of (answer.Differs m offset found wanted) = None
 fault_of (answer.Length m size wanted) = None
 fault_of (answer.MediaFault line) = Some line
-fault_of answer.NotYet = None
 
 -- how far the command came from this image and cache: its task stands before an operation, on this machine
 pub record Reached (cmd : Cmd) (me : List ℕ) (image : Image) (cache : Cache) : Type 0 where
@@ -52,7 +45,6 @@ pub record Reached (cmd : Cmd) (me : List ℕ) (image : Image) (cache : Cache) :
   pub made : ℕ
   pub machine : Machine
   pub ran : SoloRun cmd me image cache task words made machine
-  pub plain : IsPlain task
 
 -- the command stands there still, with this task, this cache and this memory
 pub record Running (cmd : Cmd) (me : List ℕ) (image : Image) (cache : Cache) (task : Task) (held : Cache) (modelled : Option Image) : Type 0 where
@@ -60,17 +52,15 @@ pub record Running (cmd : Cmd) (me : List ℕ) (image : Image) (cache : Cache) (
   pub made : ℕ
   pub now : Image
   pub ran : SoloRun cmd me image cache task words made (record { image = now; cache = held })
-  pub plain : IsPlain task
   pub modelled_is : modelled ≡ Some now
 
--- one more operation was done, and with it the task answers: as the definition's turn, or where the slot that it
--- looks at is a file's, that it can't read it yet
+-- one more operation was done, and with it the task answers as the definition's turn
 pub record HasEnded (cmd : Cmd) (me : List ℕ) (image : Image) (cache : Cache) (given : Answer) (modelled : Option Image) : Type 0 where
   pub reached : Reached cmd me image cache
   pub inside : IsInImage (op_of reached.task) reached.machine.image
   pub left : modelled ≡ Some (operated (op_of reached.task) reached.machine).image
   pub after : Task
-  pub reply : TellsUnless (meets_file reached.task) (turn_on reached.task reached.machine) (Done given) after
+  pub reply : Tells (turn_on reached.task reached.machine) (Done given) after
 
 -- the same, with what is left of the cache
 pub record HasLeft (cmd : Cmd) (me : List ℕ) (image : Image) (cache : Cache) (given : Answer) (modelled : Option Image) (held : Cache) : Type 0 where

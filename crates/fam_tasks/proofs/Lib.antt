@@ -1,3 +1,6 @@
 pub mod Lines
-pub mod Directories
-pub mod Slots
+pub mod Found
+pub mod Compared
+pub mod FileLines
+pub mod Phases
+pub mod FileTurns

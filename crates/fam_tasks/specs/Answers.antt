@@ -1,14 +1,13 @@
 -- An answer is a reply, whoever runs the command.
-use Rattle.std.specs.Prelude.{⊤, Option, Some, None}
+use Rattle.std.specs.Prelude.{Option, Some, None}
 use Rattle.fam_format.specs.declared.faults.SuperFault.TheVariants as super_fault
 use Rattle.fam_format.specs.declared.faults.LogFault.TheVariants as log_fault
-use Rattle.fam_rules.specs.declared.answers.Refused.{Refused}
 use Rattle.fam_rules.specs.declared.answers.Refused.TheVariants as refused
 use Rattle.fam_rules.specs.Reply.{Reply, Appended, NotAppended, Played, Same, Differs, Length, Bytes, NotFound, IsDirectory, Checks, Reports, NoSuperblock, BadHeader, BadSlot}
 use Rattle.fam_tasks.specs.declared.answer.Answer.{Answer}
 use Rattle.fam_tasks.specs.declared.answer.Answer.TheVariants as answer
 
--- the reply that an answer stands for. That the media failed, or that a file can't be read yet, is none
+-- the reply that an answer stands for. That the media failed is none
 abbrev pub reply_of : Answer → Option Reply
 reply_of (answer.Ok seq) = Some (Appended seq)
 reply_of (answer.Played m tree) = Some (Played m tree)
@@ -32,14 +31,3 @@ reply_of (answer.IsDirectory m) = Some (IsDirectory m)
 reply_of (answer.Differs m offset found wanted) = Some (Differs m offset found wanted)
 reply_of (answer.Length m size wanted) = Some (Length m size wanted)
 reply_of (answer.MediaFault line) = None
-reply_of answer.NotYet = None
-
--- why a directory may not be appended: it has neither strips nor bytes
-abbrev pub IsOfDirectory : Refused → Type 0
-IsOfDirectory (refused.NotMaster me master) = ⊤
-IsOfDirectory refused.BadStripe = ⊥
-IsOfDirectory (refused.Exists kind) = ⊤
-IsOfDirectory refused.NoParent = ⊤
-IsOfDirectory refused.ParentIsFile = ⊤
-IsOfDirectory (refused.LogFull slots) = ⊤
-IsOfDirectory (refused.NoSpace units) = ⊥

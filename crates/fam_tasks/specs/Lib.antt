@@ -1,6 +1,9 @@
 pub mod Answers
+pub mod Commands
+pub mod Contents
+pub mod ContentsHeld
+pub mod Slots
 pub mod Tells
 pub mod Sound
 pub mod Model
-pub mod Reading
-pub mod Joins
+pub mod Held

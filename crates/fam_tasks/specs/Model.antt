@@ -1,9 +1,9 @@
 -- What a contract sees of a task.
-use Rattle.fam_rules.specs.Reports.{no_survey}
 use Rattle.fam_commands.specs.Task.{Task}
 use Rattle.fam_tasks.specs.declared.task.Task.TheInside.{Inside}
+use Rattle.fam_tasks.specs.Slots.{entries_in, survey_in}
 
--- its command, host, phase and what it read. It surveys nothing
+-- its command, host and phase, and what it read
 abbrev pub task_of : Inside → Task
 task_of t = record {
   cmd = t.cmd;
@@ -13,8 +13,8 @@ task_of t = record {
   params = t.params;
   first_slot = t.first_slot;
   gate = t.gate;
-  entries = t.history;
+  entries = entries_in t.plan;
   words = t.buffer;
   entry = t.entry;
-  survey = no_survey;
+  survey = survey_in t.scan;
 }

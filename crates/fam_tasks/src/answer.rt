@@ -1,13 +1,9 @@
 //! What a task says: notes on its way, and its answer.
 
-ghost use Rattle.std.specs.Prelude.{◌≡◌, Some};
-ghost use Rattle.fam_rules.specs.Reply.{BadHeader, NoSuperblock, NotAppended};
-ghost use Rattle.fam_tasks.specs.Answers.{reply_of, IsOfDirectory};
-
 use crate::byte_text::ByteText;
 use fam_base::{Entry, Kind, LineNo};
-use fam_format::{LogFault, LogField, Reason, SuperFault, SuperField};
-use fam_rules::{Checked, Refused, Report};
+use fam_format::{LogField, Reason, SuperField};
+use fam_rules::{Checked, Report};
 use fam_tree::Tree;
 use uuid::Uuid;
 
@@ -120,57 +116,4 @@ pub enum Answer {
     },
     /// The media failed at this line. A task doesn't know of it, and never answers so itself.
     MediaFault(LineNo),
-    /// The log holds a file, which a task can't read yet.
-    NotYet,
-}
-
-/// The answer on a damaged superblock.
-pub(crate) fn super_answer(fault: SuperFault) -> Answer
-    ensures { reply_of result ≡ Some (NoSuperblock fault) }
-{
-    match fault {
-        SuperFault::NoSuper(word) => Answer::NoSuper(word),
-        SuperFault::BadSuper {
-            field,
-            found,
-            wanted,
-        } => Answer::BadSuper {
-            field,
-            found,
-            wanted,
-        },
-    }
-}
-
-/// The answer on a damaged header.
-pub(crate) fn log_answer(fault: LogFault) -> Answer
-    ensures { reply_of result ≡ Some (BadHeader fault) }
-{
-    match fault {
-        LogFault::BadLog {
-            field,
-            found,
-            wanted,
-        } => Answer::BadLog {
-            field,
-            found,
-            wanted,
-        },
-    }
-}
-
-/// The answer where a directory is not appended.
-pub(crate) fn refusal_answer(refused: Refused) -> Answer
-    requires { IsOfDirectory refused }
-    ensures { reply_of result ≡ Some (NotAppended refused) }
-{
-    match refused {
-        Refused::NotMaster { me, master } => Answer::NotMaster { me, master },
-        Refused::Exists(kind) => Answer::Exists(kind),
-        Refused::NoParent => Answer::NoParent,
-        Refused::ParentIsFile => Answer::ParentIsFile,
-        Refused::LogFull(slots) => Answer::LogFull(slots),
-        Refused::BadStripe => unreachable!(),
-        Refused::NoSpace(_) => unreachable!(),
-    }
 }

@@ -1,27 +1,30 @@
 //! Words that were loaded and not yet looked at, or that are to be stored.
 
-ghost use Rattle.std.specs.Prelude.{◌≡◌, ◌+◌, ◌<◌, ◌≤◌, [], ◌∷◌, ◌++◌, length, slice_index, slice_range};
+ghost use Rattle.std.specs.Prelude.{◌≡◌, ◌+◌, ◌*◌, ◌<◌, ◌≤◌, ℕ, [], ◌∷◌, ◌++◌, length, slice_index, slice_range};
+ghost use Rattle.fam_rules.specs.Content.{byte_in};
 
 use fam_base::Line;
-use fam_format::{LINE_WORDS, SLOT_WORDS};
+use fam_format::{LINE_WORDS, SLOT_WORDS, byte_of};
 use std::marker::Model;
 
-/// At most the words of one slot. A contract sees a list.
+/// The most words that are held: those of 65 lines, which hold any 4,096 bytes of a file.
+pub(crate) const MOST_WORDS: usize = 520;
+
+/// At most `MOST_WORDS` words. A contract sees a list.
 #[derive(Drop)]
 pub(crate) struct Buffer {
-    words: [u64; SLOT_WORDS],
+    words: [u64; MOST_WORDS],
     len: usize,
 }
 
 impl Model for Buffer {
     ghost use Rattle.std.specs.Prelude.{ℕ, ◌≤◌, List, take};
-    ghost use Rattle.fam_format.specs.Layout.{first_format};
 
     ghost Value = { List ℕ };
 
     ghost view = { λ b. take b.len b.words };
 
-    ghost invariant = { λ b. b.len ≤ first_format.words };
+    ghost invariant = { λ b. b.len ≤ 520 };
 }
 
 impl Buffer {
@@ -30,25 +33,23 @@ impl Buffer {
         ensures { result ≡ [] }
     {
         Buffer {
-            words: [0; SLOT_WORDS],
+            words: [0; MOST_WORDS],
             len: 0,
         }
     }
 
-    /// The words of a slot.
+    /// Holds the words of a slot, and no others.
     #[tactic(auto, using(std::proofs::lemmas::List::take_all))]
-    pub(crate) fn of_slot(words: [u64; SLOT_WORDS]) -> Buffer
-        ensures { result ≡ words }
+    pub(crate) fn hold(&mut self, slot: &[u64; SLOT_WORDS])
+        ensures { self.new ≡ slot.now }
     {
-        Buffer {
-            words,
-            len: SLOT_WORDS,
-        }
+        self.words[..SLOT_WORDS].copy_from_slice(slot);
+        self.len = SLOT_WORDS;
     }
 
     /// Adds a word.
     pub(crate) fn push(&mut self, word: u64)
-        requires { length self.old < SLOT_WORDS }
+        requires { length self.old < MOST_WORDS }
         ensures { self.new ≡ self.old ++ word ∷ [] }
     {
         self.words[self.len] = word;
@@ -65,7 +66,7 @@ impl Buffer {
     /// The words in their order.
     fn as_slice(&self) -> &[u64]
         ensures same { result.now ≡ self.now }
-        ensures few { length self.now ≤ SLOT_WORDS }
+        ensures few { length self.now ≤ MOST_WORDS }
     {
         &self.words[..self.len]
     }
@@ -90,11 +91,33 @@ impl Buffer {
         line
     }
 
-    /// All words of a slot.
-    pub(crate) fn whole(&self) -> &[u64; SLOT_WORDS]
+    /// All words, which are a slot's.
+    pub(crate) fn slot(&self) -> [u64; SLOT_WORDS]
         requires { length self.now ≡ SLOT_WORDS }
-        ensures { result.now ≡ self.now }
+        ensures { result ≡ self.now }
     {
-        &self.words
+        let mut slot = [0; SLOT_WORDS];
+        slot.copy_from_slice(self.as_slice());
+        slot
+    }
+
+    /// Byte `b` of the words.
+    fn byte(&self, b: usize) -> u8
+        requires { b < 8 * length self.now }
+        ensures { result ≡ byte_in self.now b }
+    {
+        byte_of(self.at(b / 8), b % 8)
+    }
+
+    /// Copies bytes of the words, from byte `first` on.
+    pub(crate) fn copy_bytes(&self, first: usize, bytes: &mut [u8])
+        requires { first + length bytes.old ≤ 8 * length self.now }
+        ensures count { length bytes.new ≡ length bytes.old }
+        ensures each { (i : ℕ) → i < length bytes.old → slice_index bytes.new i ≡ byte_in self.now (first + i) }
+    {
+        let _words = self.as_slice();
+        'bytes: for i in 0..bytes.len() {
+            bytes[i] = self.byte(first + i);
+        }
     }
 }

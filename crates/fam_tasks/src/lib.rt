@@ -9,9 +9,13 @@
 mod answer;
 mod buffer;
 mod byte_text;
-mod history;
+mod commands;
+mod contents;
 mod parts;
+mod replies;
+mod slots;
 mod task;
+mod wanted;
 #[cfg(test)]
 mod tests;
 

@@ -5,14 +5,12 @@ ghost use Rattle.std.specs.Bool.{OnTrue, OnFalse};
 ghost use Rattle.fam_format.specs.Layout.{device_limit, slot_line};
 ghost use Rattle.fam_format.specs.Log.{log_fault};
 ghost use Rattle.fam_format.specs.Params.{SoundParams};
-ghost use Rattle.fam_format.specs.Slot.{entry_of};
+ghost use Rattle.fam_format.specs.Slot.{entry_of, Proper};
 ghost use Rattle.fam_format.specs.Super.{super_body_of};
 ghost use Rattle.fam_rules.specs.Decide.{wish_of};
 ghost use Rattle.fam_rules.specs.declared.answers.Refused.TheVariants.{NotMaster};
 ghost use Rattle.fam_commands.specs.Turns.{host_refusal};
 ghost use Rattle.fam_entry.specs.Tests.{NamesFault};
-ghost use Rattle.fam_tasks.specs.Reading.{IsBareDirectory};
-ghost use Rattle.fam_tasks.specs.Sound.{IsServed};
 
 use crate::buffer::Buffer;
 use fam_base::{Cmd, Entry, LineNo, Params};
@@ -59,20 +57,21 @@ pub(crate) fn read_slot(words: &Buffer, i: u64, params: &Params) -> Result<Entry
     requires sound { SoundParams params.now }
     requires count { length words.now ≡ SLOT_WORDS }
     ensures value { result ≡ entry_of params.now words.now i }
-    ensures bare { IfOk result (λ e. IsBareDirectory e) }
+    ensures proper { IfOk result (Proper params.now) }
 {
-    read_entry(words.whole(), i, params)
+    read_entry(&words.slot(), i, params)
 }
 
 /// Whether this host may not go on, since the command appends and another host is the master.
 pub(crate) fn is_refused(cmd: &Cmd, params: &Params, me: &Uuid) -> bool
-    requires { IsServed cmd.now }
     ensures other { OnTrue result (host_refusal (wish_of cmd.now) params.now me.now
         ≡ Some (NotMaster me.now params.now.master)) }
     ensures master { OnFalse result (host_refusal (wish_of cmd.now) params.now me.now ≡ None) }
 {
     match cmd {
         Cmd::Mkdir { .. } => *me != params.master,
+        Cmd::Creat { .. } => *me != params.master,
+        Cmd::Cp { .. } => *me != params.master,
         _ => false,
     }
 }

@@ -1,6 +1,7 @@
 //! A task: a command, its phase, and what it has read. Its turns stand in the files of `task/`.
 
 ghost use Rattle.std.specs.Prelude.{◌≡◌, ◌≢◌, ◌≤◌, ◌<◌, nat_lt, if◌then◌else◌, true, false, None, IfOk, OnErr};
+ghost use Rattle.fam_base.specs.Commands.{IsSoundCmd};
 ghost use Rattle.fam_base.specs.declared.line.LineNo.{LineNo};
 ghost use Rattle.fam_format.specs.Layout.{least_lines};
 ghost use Rattle.fam_commands.specs.declared.phase.Part.TheVariants as part;
@@ -8,24 +9,30 @@ ghost use Rattle.fam_commands.specs.declared.phase.Phase.TheVariants as at;
 ghost use Rattle.fam_commands.specs.Task as spec;
 ghost use Rattle.fam_commands.specs.Task.{op_of, starting};
 ghost use Rattle.fam_commands.specs.Turns.{turn_of};
+ghost use Rattle.fam_machine.specs.Operations.{IsWithin};
 ghost use Rattle.fam_tasks.specs.declared.answer.Answer.TheVariants.{MediaFault};
 ghost use Rattle.fam_tasks.specs.declared.answer.Turn.TheVariants.{Done, Go};
-ghost use Rattle.fam_tasks.specs.Sound.{most_lines, IsLine, IsServed, IsSound, IsSoundAt};
-ghost use Rattle.fam_machine.specs.Operations.{IsWithin};
-ghost use Rattle.fam_tasks.specs.Tells.{Tells, TellsUnless, is_digest, is_reading, meets_file};
+ghost use Rattle.fam_tasks.specs.Sound.{most_lines, HasSuper, IsFileLine, IsLine, IsSound};
+ghost use Rattle.fam_tasks.specs.Tells.{Tells, is_digest, is_reading};
 
+mod decide;
 mod digests;
+mod file_loads;
 mod loads;
 mod stores;
 
 use crate::answer::{Answer, Turn};
 use crate::buffer::Buffer;
-use crate::history::History;
+use crate::contents::Contents;
 use crate::parts::line_of_slot;
-use fam_base::{Cmd, Entry, LineNo, OutOfMemory, Params};
+use crate::wanted::first_line;
+use fam_base::{Cmd, Content, Entry, LineNo, OutOfMemory, Params};
 use fam_commands::{Part, Phase};
+use fam_extents::file_line;
 use fam_format::{GATE_LINE, LAST_WORD, LOG_LINE, SLOT_LINES};
+use fam_fsck::Fsck;
 use fam_machine::Op;
+use fam_plan::Plan;
 use std::alloc::Global;
 use std::marker::Model;
 use uuid::Uuid;
@@ -44,9 +51,16 @@ pub struct Task {
     params: Params,
     first_slot: u64,
     gate: u64,
-    history: History,
+    /// The entries of the slots that were read; a check of the whole file system has none.
+    plan: Option<Plan>,
+    /// A check of the whole file system, with the slots that it was shown.
+    scan: Option<Fsck>,
     buffer: Buffer,
     entry: Option<Entry>,
+    /// What is written or compared with.
+    contents: Contents,
+    /// Room for the bytes of an answer.
+    room: Vec<u8>,
 }
 
 impl Model for Task {
@@ -55,11 +69,11 @@ impl Model for Task {
     ghost Value = { spec.Task };
 
     ghost use Rattle.fam_tasks.specs.Model.{task_of};
-    ghost use Rattle.fam_tasks.specs.Sound.{IsSound};
+    ghost use Rattle.fam_tasks.specs.Held.{IsTask};
 
     ghost view = { task_of };
 
-    ghost invariant = { λ t. IsSound (task_of t) };
+    ghost invariant = { IsTask };
 }
 
 /// The task is done: it stands in the last phase from here on.
@@ -71,11 +85,11 @@ fn done(phase: &mut Phase, answer: Answer) -> Turn
     Turn::Done(answer)
 }
 
-/// The phase behind slot `i - 1`: the next slot below the gate, or the decision.
-fn slot_or_decide(i: u64, gate: u64) -> Phase
-    ensures { result ≡ (if nat_lt i gate then at.Drop (part.Slot i) 0 else at.Decide) }
+/// The phase behind slot `i - 1`: the next slot below `end`, or the decision.
+fn slot_or_decide(i: u64, end: u64) -> Phase
+    ensures { result ≡ (if nat_lt i end then at.Drop (part.Slot i) 0 else at.Decide) }
 {
-    if i < gate {
+    if i < end {
         Phase::Drop {
             part: Part::Slot(i),
             line: 0,
@@ -86,9 +100,9 @@ fn slot_or_decide(i: u64, gate: u64) -> Phase
 }
 
 impl Task {
-    /// A command before its first operation, on the host `me` and an image of so many lines.
+    /// A command before its first operation, on the host `me` and an image of so many lines. It takes no memory.
     pub fn new(alloc: Global, cmd: Cmd, me: Uuid, lines: u64) -> Task
-        requires served { IsServed cmd }
+        requires command { IsSoundCmd cmd }
         requires least { least_lines ≤ lines }
         requires most { lines ≤ most_lines }
 
@@ -111,9 +125,12 @@ impl Task {
             },
             first_slot: 0,
             gate: 0,
-            history: History::new(alloc),
+            plan: None,
+            scan: None,
             buffer: Buffer::new(),
             entry: None,
+            contents: Contents::new(Content::Zero),
+            room: Vec::new(alloc),
         }
     }
 
@@ -137,7 +154,8 @@ impl Task {
             Phase::DropGate => Op::Invalidate(LineNo(GATE_LINE)),
             Phase::Gate => Op::Load(LineNo(GATE_LINE), 0),
             Phase::Check { .. } | Phase::Decide => Op::Digest,
-            Phase::StoreData { .. } | Phase::SendData { .. } => unreachable!(),
+            Phase::StoreData { line, word } => self.data_store(line, word),
+            Phase::SendData { line } => Op::Invalidate(self.file_line(line)),
             Phase::StoreSlot { line, word } => self.slot_store(line, word),
             Phase::SendSlot { line } => Op::WriteBack(line_of_slot(&self.params, self.gate, line)),
             Phase::StoreGate => Op::Store(LineNo(GATE_LINE), 0, self.gate + 1),
@@ -154,13 +172,9 @@ impl Task {
     {
         let word = word.unwrap_or(0);
         match self.phase {
-            Phase::DropMagic => self.go(Phase::Magic),
+            Phase::DropMagic => self.drop_magic(),
             Phase::Magic => self.load_magic(word),
-            Phase::Drop { part, line } => self.go(Phase::Word {
-                part,
-                line,
-                word: 0,
-            }),
+            Phase::Drop { part, line } => self.drop_line(part, line),
             Phase::Word {
                 part,
                 line,
@@ -169,10 +183,11 @@ impl Task {
             Phase::DropGate => self.mark(),
             Phase::Gate => self.load_gate(word),
             Phase::Check { .. } | Phase::Decide => unreachable!(),
-            Phase::StoreData { .. } | Phase::SendData { .. } => unreachable!(),
+            Phase::StoreData { line, word: k } => self.store_data(line, k),
+            Phase::SendData { line } => self.send_data(line),
             Phase::StoreSlot { line, word: k } => self.store_slot(line, k),
             Phase::SendSlot { line } => self.send_slot(line),
-            Phase::StoreGate => self.go(Phase::SendGate),
+            Phase::StoreGate => self.store_gate(),
             Phase::SendGate => Turn::Done(Answer::Ok(self.gate)),
         }
     }
@@ -197,13 +212,7 @@ impl Task {
     {
         self.is_sound();
         match self.phase {
-            Phase::Drop { part, line } => {
-                self.phase = Phase::Word {
-                    part,
-                    line,
-                    word: 0,
-                };
-            }
+            Phase::Drop { part, line } => self.begin_line(part, line),
             Phase::Word {
                 part,
                 line,
@@ -218,14 +227,13 @@ impl Task {
     pub fn digest(&mut self) -> Result<Turn, OutOfMemory>
         requires { is_digest (op_of self.old) ≡ true }
 
-        ensures turn { IfOk result (λ turn.
-            TellsUnless (meets_file self.old) (turn_of self.old None) turn self.new) }
+        ensures turn { IfOk result (λ turn. Tells (turn_of self.old None) turn self.new) }
         ensures own { (line : LineNo) → IfOk result (λ turn. turn ≢ Done (MediaFault line)) }
         ensures err { OnErr result (self.new ≡ self.old) }
     {
         match self.phase {
             Phase::Check { slot } => self.check_slot(slot),
-            Phase::Decide => Ok(self.decide()),
+            Phase::Decide => self.decide(),
             Phase::DropMagic
             | Phase::Magic
             | Phase::Drop { .. }
@@ -252,17 +260,20 @@ impl Task {
             Part::Superblock => LineNo(1 + line),
             Part::Header => LineNo(LOG_LINE),
             Part::Slot(i) => line_of_slot(&self.params, i, line),
-            Part::File => unreachable!(),
+            Part::File => self.file_line(first_line(&self.cmd) + line),
         }
     }
 
-    /// Goes on in another phase.
-    fn go(&mut self, phase: Phase) -> Turn
-        requires { IsSoundAt phase (record self.old { phase = phase }) }
-        ensures turn { result ≡ Go }
-        ensures new { self.new ≡ record self.old { phase = phase } }
+    /// Line `line` of the file of the entry.
+    fn file_line(&self, line: u64) -> LineNo
+        requires known { HasSuper self.now }
+        requires file { IsFileLine line self.now }
+        ensures line { result.0 ≡ spec.line_of self.now.entry line }
+        ensures within { result.0 < self.now.lines }
     {
-        self.phase = phase;
-        Turn::Go
+        match &self.entry {
+            Some(entry) => file_line(entry, line),
+            None => unreachable!(),
+        }
     }
 }

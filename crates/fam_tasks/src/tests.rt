@@ -1,6 +1,7 @@
 //! Tasks driven by hand: their operations, notes and answers, one by one.
 
 mod driver;
+mod files;
 
 use super::*;
 use driver::{Image, Run, SLOTS_LINE, directory, drive, file, master, mkdir, other};
@@ -187,11 +188,11 @@ fn a_log_of_seven_slots_holds_seven_entries(rt: HostRuntime) -> Result<(), Fail>
 }
 
 #[test]
-fn a_file_is_not_read_yet(rt: HostRuntime) -> Result<(), Fail> {
+fn a_file_has_nothing_below_it(rt: HostRuntime) -> Result<(), Fail> {
     let entries = [directory(b"a")?, file(b"a/b")?, directory(b"c")?];
     let (ops, answer) = told(rt.alloc(), &entries, b"a/b/c")?;
-    assert_eq!(rt; ops, 177);
-    assert!(rt; matches!(answer, Some(Answer::NotYet)));
+    assert_eq!(rt; ops, 251);
+    assert!(rt; matches!(answer, Some(Answer::ParentIsFile)));
     Ok(())
 }
 

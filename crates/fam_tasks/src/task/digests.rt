@@ -1,53 +1,62 @@
-//! Turns of a task that thinks: about the words of a slot, and about what it answers or appends.
+//! Turns of a task that looks at the words of a slot.
 
-ghost use Rattle.std.specs.Prelude.{◌≡◌, [], None, IfOk, OnErr};
-ghost use Rattle.fam_base.specs.declared.cmd.Cmd.TheVariants.{Logplay};
-ghost use Rattle.fam_format.specs.Tree.{replay, tree_fault};
+ghost use Rattle.std.specs.Prelude.{◌≡◌, None, IfOk, OnErr, false, true};
+ghost use Rattle.fam_format.specs.Slot.{entry_of, Proper};
+ghost use Rattle.fam_format.specs.Tree.{join_fault};
 ghost use Rattle.fam_commands.specs.declared.phase.Phase.TheVariants as at;
 ghost use Rattle.fam_commands.specs.Turns as turns;
 ghost use Rattle.fam_commands.specs.Turns.{turn_of};
-ghost use Rattle.fam_tasks.specs.Tells.{Tells, TellsUnless, meets_file};
+ghost use Rattle.fam_tasks.specs.Commands.{is_fsck};
+ghost use Rattle.fam_tasks.specs.Tells.{Tells};
 
 use super::{Task, done, slot_or_decide};
-use crate::answer::{Answer, TaskNote, Turn, refusal_answer};
-use crate::buffer::Buffer;
-use crate::history::History;
+use crate::answer::{Answer, Turn};
+use crate::commands::is_fsck;
 use crate::parts::read_slot;
-use fam_base::{Cmd, Entry, Kind, OutOfMemory};
-use fam_commands::Phase;
-use fam_entry::spell;
-use std::mem::replace;
+use crate::slots::{join, show};
+use fam_base::{Entry, OutOfMemory};
 
 impl Task {
     /// Looks at the words of a slot.
     pub(super) fn check_slot(&mut self, slot: u64) -> Result<Turn, OutOfMemory>
         requires { self.old.phase ≡ at.Check slot }
-        ensures turn { IfOk result (λ turn.
-            TellsUnless (meets_file self.old) (turn_of self.old None) turn self.new) }
+        ensures turn { IfOk result (λ turn. Tells (turn_of self.old None) turn self.new) }
         ensures err { OnErr result (self.new ≡ self.old) }
     {
-        let entry = match read_slot(&self.buffer, slot, &self.params) {
-            Ok(entry) => entry,
-            Err(reason) => {
-                let answer = Answer::BadEntry { seq: slot, reason };
-                return Ok(done(&mut self.phase, answer));
-            }
-        };
-        match entry.kind {
-            Kind::File => Ok(done(&mut self.phase, Answer::NotYet)),
-            Kind::Directory => self.join(slot, &entry),
+        if is_fsck(&self.cmd) {
+            self.show_slot(slot)
+        } else {
+            self.read_entry(slot)
         }
     }
 
-    /// The directory of a slot joins those before it, or not.
-    fn join(&mut self, slot: u64, entry: &Entry) -> Result<Turn, OutOfMemory>
+    /// Reads the entry of a slot.
+    fn read_entry(&mut self, slot: u64) -> Result<Turn, OutOfMemory>
         requires phase { self.old.phase ≡ at.Check slot }
-        requires bare { entry.now.extents ≡ [] }
-        ensures turn { IfOk result (λ turn. Tells (turns.join_turn self.old slot entry.now
-            (tree_fault (replay self.old.entries) entry.now)) turn self.new) }
+        requires other { is_fsck self.old.cmd ≡ false }
+        ensures turn { IfOk result (λ turn. Tells (turns.slot_turn self.old slot
+            (entry_of self.old.params self.old.words slot)) turn self.new) }
         ensures err { OnErr result (self.new ≡ self.old) }
     {
-        match self.history.join(entry)? {
+        match read_slot(&self.buffer, slot, &self.params) {
+            Ok(entry) => self.join(slot, &entry),
+            Err(reason) => {
+                let answer = Answer::BadEntry { seq: slot, reason };
+                Ok(done(&mut self.phase, answer))
+            }
+        }
+    }
+
+    /// The entry of a slot joins those before it, or not.
+    fn join(&mut self, slot: u64, entry: &Entry) -> Result<Turn, OutOfMemory>
+        requires phase { self.old.phase ≡ at.Check slot }
+        requires other { is_fsck self.old.cmd ≡ false }
+        requires proper { Proper self.old.params entry.now }
+        ensures turn { IfOk result (λ turn. Tells (turns.join_turn self.old slot entry.now
+            (join_fault self.old.params self.old.entries entry.now)) turn self.new) }
+        ensures err { OnErr result (self.new ≡ self.old) }
+    {
+        match join(self.alloc, &mut self.plan, &self.params, entry)? {
             Some(reason) => {
                 let answer = Answer::BadEntry { seq: slot, reason };
                 Ok(done(&mut self.phase, answer))
@@ -60,39 +69,17 @@ impl Task {
         }
     }
 
-    /// Decides, with all slots read.
-    pub(super) fn decide(&mut self) -> Turn
-        requires { self.old.phase ≡ at.Decide }
-        ensures { Tells (turn_of self.old None) result self.new }
+    /// Shows the words of a slot to the check of the whole file system.
+    fn show_slot(&mut self, slot: u64) -> Result<Turn, OutOfMemory>
+        requires phase { self.old.phase ≡ at.Check slot }
+        requires fsck { is_fsck self.old.cmd ≡ true }
+        ensures turn { IfOk result (λ turn. Tells (turns.survey_turn self.old slot) turn self.new) }
+        ensures err { OnErr result (self.new ≡ self.old) }
     {
-        match &self.cmd {
-            Cmd::Logplay => self.play(),
-            Cmd::Mkdir { path, attr } => {
-                match self.history.decide(&self.params, &self.me, path, *attr) {
-                    Err(refused) => done(&mut self.phase, refusal_answer(refused)),
-                    Ok(entry) => {
-                        self.entry = Some(entry);
-                        self.buffer = Buffer::of_slot(spell(&entry, self.gate));
-                        self.phase = Phase::StoreSlot { line: 0, word: 0 };
-                        Turn::Note(TaskNote::Writes(self.gate, entry))
-                    }
-                }
-            }
-            _ => unreachable!(),
-        }
-    }
-
-    /// Answers with the tree of all entries.
-    fn play(&mut self) -> Turn
-        requires phase { self.old.phase ≡ at.Decide }
-        ensures { Tells (turns.decide_turn Logplay self.old) result self.new }
-    {
-        let m = self.history.len();
-        let history = replace(&mut self.history, History::new(self.alloc));
-        let answer = Answer::Played {
-            m,
-            tree: history.into_tree(),
-        };
-        done(&mut self.phase, answer)
+        let words = self.buffer.slot();
+        show(self.alloc, &mut self.scan, &self.params, self.gate, &words)?;
+        self.buffer.clear();
+        self.phase = slot_or_decide(slot + 1, self.params.slots);
+        Ok(Turn::Go)
     }
 }

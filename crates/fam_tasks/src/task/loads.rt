@@ -1,37 +1,72 @@
 //! Turns of a task that read: what comes of the words that its loads gave.
 
-ghost use Rattle.std.specs.Prelude.{◌≡◌, ◌<◌, true};
+ghost use Rattle.std.specs.Prelude.{◌≡◌, ◌<◌, None, true};
 ghost use Rattle.fam_format.specs.Log.{gate_fault};
 ghost use Rattle.fam_format.specs.Super.{magic_fault};
 ghost use Rattle.fam_commands.specs.declared.phase.Part.TheVariants as part;
 ghost use Rattle.fam_commands.specs.declared.phase.Phase.TheVariants as at;
 ghost use Rattle.fam_commands.specs.Turns as turns;
+ghost use Rattle.fam_commands.specs.Turns.{turn_of};
 ghost use Rattle.fam_tasks.specs.declared.answer.TaskNote.TheVariants.{Mark};
 ghost use Rattle.fam_tasks.specs.declared.answer.Turn.TheVariants.{Go, Note};
 ghost use Rattle.fam_tasks.specs.Tells.{Tells, is_reading};
 
 use super::{LAST_LINE, Task, done, slot_or_decide};
-use crate::answer::{Answer, TaskNote, Turn, log_answer, super_answer};
+use crate::answer::{Answer, TaskNote, Turn};
+use crate::commands::{appends, slots_told};
 use crate::parts::{is_refused, read_body, read_header};
-use fam_base::Cmd;
+use crate::replies::{log_answer, super_answer};
 use fam_commands::{Part, Phase};
-use fam_format::{LAST_WORD, LINE_BYTES, LogField};
+use fam_format::{LAST_WORD, LINE_BYTES, LogFault, LogField, SuperFault};
 use fam_super::MAGIC;
 
 impl Task {
+    /// Line 0 was dropped.
+    pub(super) fn drop_magic(&mut self) -> Turn
+        requires { self.old.phase ≡ at.DropMagic }
+        ensures { Tells (turn_of self.old None) result self.new }
+    {
+        self.phase = Phase::Magic;
+        Turn::Go
+    }
+
     /// Word 0 of line 0 was loaded.
     pub(super) fn load_magic(&mut self, word: u64) -> Turn
         requires { self.old.phase ≡ at.Magic }
         ensures { Tells (turns.magic_turn self.old (magic_fault word)) result self.new }
     {
         if word != MAGIC {
-            return done(&mut self.phase, Answer::NoSuper(word));
+            let answer = super_answer(&self.cmd, SuperFault::NoSuper(word));
+            return done(&mut self.phase, answer);
         }
         self.buffer.clear();
         self.phase = Phase::Drop {
             part: Part::Superblock,
             line: 0,
         };
+        Turn::Go
+    }
+
+    /// A line of a part was dropped: its first word is loaded next.
+    #[inline(always)]
+    pub(super) fn begin_line(&mut self, part: Part, line: u64)
+        requires { self.old.phase ≡ at.Drop part line }
+        ensures { self.new ≡ record self.old { phase = at.Word part line 0 } }
+    {
+        self.phase = Phase::Word {
+            part,
+            line,
+            word: 0,
+        };
+    }
+
+    /// A line of a part was dropped.
+    pub(super) fn drop_line(&mut self, part: Part, line: u64) -> Turn
+        requires { self.old.phase ≡ at.Drop part line }
+        ensures turn { result ≡ Go }
+        ensures new { self.new ≡ record self.old { phase = at.Word part line 0 } }
+    {
+        self.begin_line(part, line);
         Turn::Go
     }
 
@@ -53,7 +88,7 @@ impl Task {
                 self.load_slot(slot, line, word);
                 Turn::Go
             }
-            Part::File => unreachable!(),
+            Part::File => self.load_file(line, word),
         }
     }
 
@@ -104,7 +139,10 @@ impl Task {
             return Turn::Go;
         }
         match read_body(&self.buffer, LINE_BYTES * self.lines) {
-            Err(fault) => done(&mut self.phase, super_answer(fault)),
+            Err(fault) => {
+                let answer = super_answer(&self.cmd, fault);
+                done(&mut self.phase, answer)
+            }
             Ok(params) => {
                 if is_refused(&self.cmd, &params, &self.me) {
                     let answer = Answer::NotMaster {
@@ -132,7 +170,10 @@ impl Task {
     {
         self.buffer.push(word);
         match read_header(&self.buffer, &self.params) {
-            Err(fault) => done(&mut self.phase, log_answer(fault)),
+            Err(fault) => {
+                let answer = log_answer(&self.cmd, fault);
+                done(&mut self.phase, answer)
+            }
             Ok(()) => {
                 self.buffer.clear();
                 self.phase = Phase::DropGate;
@@ -177,18 +218,20 @@ impl Task {
     {
         let slots = self.params.slots;
         if slots < gate {
-            let answer = Answer::BadLog {
+            let fault = LogFault::BadLog {
                 field: LogField::Gate,
                 found: gate,
                 wanted: slots,
             };
+            let answer = log_answer(&self.cmd, fault);
             return done(&mut self.phase, answer);
         }
         self.gate = gate;
-        self.phase = slot_or_decide(self.first_slot, gate);
-        match self.cmd {
-            Cmd::Mkdir { .. } => Turn::Note(TaskNote::Found(gate)),
-            _ => Turn::Go,
+        self.phase = slot_or_decide(self.first_slot, slots_told(&self.cmd, &self.params, gate));
+        if appends(&self.cmd) {
+            Turn::Note(TaskNote::Found(gate))
+        } else {
+            Turn::Go
         }
     }
 }

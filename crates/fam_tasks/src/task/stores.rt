@@ -1,4 +1,4 @@
-//! Turns of a task that appends: the new slot's words are stored, and its lines are sent.
+//! Turns of a task that appends: the words of the new file and of its slot are stored, and their lines are sent.
 
 ghost use Rattle.std.specs.Prelude.{◌≡◌, None};
 ghost use Rattle.fam_commands.specs.declared.phase.Phase.TheVariants as at;
@@ -11,10 +11,52 @@ use super::{LAST_LINE, Task};
 use crate::answer::Turn;
 use crate::parts::line_of_slot;
 use fam_commands::Phase;
+use fam_extents::lines_of;
 use fam_format::{LAST_WORD, LINE_WORDS};
 use fam_machine::Op;
 
 impl Task {
+    /// The store of a word of a line of the new file.
+    pub(super) fn data_store(&self, line: u64, word: u8) -> Op
+        requires { self.now.phase ≡ at.StoreData line word }
+        ensures op { result ≡ op_of self.now }
+        ensures within { IsWithin self.now.lines result }
+    {
+        let value = self.contents.line()[word as usize];
+        Op::Store(self.file_line(line), word, value)
+    }
+
+    /// A word of a line of the new file was stored.
+    pub(super) fn store_data(&mut self, line: u64, k: u8) -> Turn
+        requires { self.old.phase ≡ at.StoreData line k }
+        ensures { Tells (turn_of self.old None) result self.new }
+    {
+        self.phase = if k < LAST_WORD {
+            Phase::StoreData { line, word: k + 1 }
+        } else {
+            Phase::SendData { line }
+        };
+        Turn::Go
+    }
+
+    /// A line of the new file was sent: the next one is stored, or the slot.
+    pub(super) fn send_data(&mut self, line: u64) -> Turn
+        requires { self.old.phase ≡ at.SendData line }
+        ensures { Tells (turn_of self.old None) result self.new }
+    {
+        let size = self.file_size();
+        if line + 1 < lines_of(size) {
+            self.contents.take(size);
+            self.phase = Phase::StoreData {
+                line: line + 1,
+                word: 0,
+            };
+        } else {
+            self.phase = Phase::StoreSlot { line: 0, word: 0 };
+        }
+        Turn::Go
+    }
+
     /// The store of a word of the new slot.
     pub(super) fn slot_store(&self, line: u64, word: u8) -> Op
         requires { self.now.phase ≡ at.StoreSlot line word }
@@ -51,6 +93,15 @@ impl Task {
         } else {
             Phase::StoreGate
         };
+        Turn::Go
+    }
+
+    /// The gate was stored.
+    pub(super) fn store_gate(&mut self) -> Turn
+        requires { self.old.phase ≡ at.StoreGate }
+        ensures { Tells (turn_of self.old None) result self.new }
+    {
+        self.phase = Phase::SendGate;
         Turn::Go
     }
 }

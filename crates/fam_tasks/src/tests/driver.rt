@@ -1,12 +1,13 @@
 //! Images whose lines are spelled by the crates below, and tasks that are driven over them by hand.
 
-ghost use Rattle.std.specs.Prelude.{IfOk};
-ghost use Rattle.fam_tasks.specs.Sound.{IsServed};
+ghost use Rattle.std.specs.Prelude.{◌≤◌, IfOk};
+ghost use Rattle.fam_base.specs.Commands.{IsSoundCmd};
 
 use crate::answer::{Answer, TaskNote, Turn};
 use crate::task::Task;
 use fam_base::{
-    Attr, BadPath, Cmd, Entry, Extents, Kind, Line, LineNo, MapKind, OutOfMemory, Params, Path,
+    Attr, BadPath, Cmd, Content, Entry, Extent, Extents, Kind, Line, LineNo, MapKind, OutOfMemory,
+    Params, Path,
 };
 use fam_entry::{SLOT_WORDS, spell, spell_log};
 use fam_format::{GATE_LINE, LOG_LINE};
@@ -22,8 +23,21 @@ const LINES: u64 = 65_536;
 /// The first line of the first slot.
 pub const SLOTS_LINE: u64 = 32_776;
 
+/// The first line behind the log.
+pub const DATA_LINE: u64 = 32_832;
+
+/// The first byte behind the log.
+pub const DATA_BYTE: u64 = 2_101_248;
+
 /// More operations than any command here has.
-const MOST_OPS: u64 = 1_000;
+const MOST_OPS: u64 = 2_000;
+
+/// The mode, user and group of every entry.
+pub const ATTR: Attr = Attr {
+    mode: 0o755,
+    uid: 10,
+    gid: 20,
+};
 
 /// The host that the superblock names.
 pub fn master() -> Uuid {
@@ -54,6 +68,8 @@ pub struct Image {
     pub header: Line,
     pub gate: u64,
     pub slots: Vec<[u64; SLOT_WORDS]>,
+    /// The words behind the log.
+    pub data: Vec<u64>,
 }
 
 fn word_of(words: &[u64], i: u64) -> u64 {
@@ -74,6 +90,7 @@ impl Image {
             header: spell_log(&params()),
             gate: seq,
             slots,
+            data: Vec::new(alloc),
         })
     }
 
@@ -91,6 +108,10 @@ impl Image {
                 None => 0,
             };
         }
+        if line >= DATA_LINE {
+            let at = (line - DATA_LINE).wrapping_mul(8);
+            return word_of(self.data.as_slice(), at.wrapping_add(word as u64));
+        }
         let at = line - SLOTS_LINE;
         match self.slots.get((at / 8) as usize) {
             Some(words) => word_of(words, at % 8 * 8 + word as u64),
@@ -105,9 +126,9 @@ pub fn directory(path: &[u8]) -> Result<Entry, BadPath> {
         kind: Kind::Directory,
         path: Path::read(path)?,
         size: 0,
-        mode: 0o755,
-        uid: 10,
-        gid: 20,
+        mode: ATTR.mode,
+        uid: ATTR.uid,
+        gid: ATTR.gid,
         map: MapKind::Empty,
         extents: Extents::new(),
     })
@@ -120,9 +141,21 @@ pub fn file(path: &[u8]) -> Result<Entry, BadPath> {
     Ok(entry)
 }
 
+/// A file of so many bytes, at most 4,096, in one unit.
+pub fn file_at(path: &[u8], size: u64, offset: u64) -> Result<Entry, BadPath> {
+    let mut entry = file(path)?;
+    entry.size = size;
+    entry.map = MapKind::Simple;
+    let _ = entry.extents.push(Extent {
+        offset,
+        length: 4_096,
+    });
+    Ok(entry)
+}
+
 /// A mkdir whose entry is `directory` of that path.
 pub fn mkdir(path: &[u8]) -> Result<Cmd, BadPath>
-    ensures { IfOk result (λ cmd. IsServed cmd) }
+    ensures { IfOk result IsSoundCmd }
 {
     let attr = Attr {
         mode: 0o755,
@@ -132,6 +165,46 @@ pub fn mkdir(path: &[u8]) -> Result<Cmd, BadPath>
     Ok(Cmd::Mkdir {
         path: Path::read(path)?,
         attr,
+    })
+}
+
+/// A creat of so many bytes, anywhere.
+pub fn creat(path: &[u8], size: u64, fill: Content) -> Result<Cmd, BadPath>
+    ensures { IfOk result IsSoundCmd }
+{
+    let attr = Attr {
+        mode: 0o755,
+        uid: 10,
+        gid: 20,
+    };
+    Ok(Cmd::Creat {
+        path: Path::read(path)?,
+        size,
+        attr,
+        stripe: None,
+        fill,
+    })
+}
+
+/// A comparison of a file with a content.
+pub fn verify(path: &[u8], against: Content) -> Result<Cmd, BadPath>
+    ensures { IfOk result IsSoundCmd }
+{
+    Ok(Cmd::Verify {
+        path: Path::read(path)?,
+        against,
+    })
+}
+
+/// A read of so many bytes, at most 4,096.
+pub fn read(path: &[u8], offset: u64, count: u64) -> Result<Cmd, BadPath>
+    requires { count ≤ 4096 }
+    ensures { IfOk result IsSoundCmd }
+{
+    Ok(Cmd::Read {
+        path: Path::read(path)?,
+        offset,
+        count,
     })
 }
 
@@ -158,7 +231,7 @@ pub struct Run {
 
 /// Runs a command to its answer.
 pub fn drive(alloc: Global, image: &Image, cmd: Cmd, me: Uuid) -> Result<Run, Fail>
-    requires { IsServed cmd }
+    requires { IsSoundCmd cmd }
 {
     let mut task = Task::new(alloc, cmd, me, LINES);
     let mut ops = Vec::new(alloc);

@@ -8,17 +8,14 @@ use Rattle.fam_run.proofs.operation.operate.Goals as goal
 
 pub returns-in_ok-word-in_default-clause-turned : goal.returns-in_ok-word-in_default-clause-turned
 returns-in_ok-word-in_default-clause-turned g c =
-    let other : is_digest (op_of c.args.task.now) ≡ false = ap is_digest (sym c.next.ensures.op) ∙ no_digest c.next.result c.in_default.not-Digest in
-    turned c.args.task.now c.feed.new.self c.next.result c.in_ok-word-in_default.word c.feed.result _ _ _ _ c.next.ensures.op other c.in_ok-word-in_default.ensures.operated c.in_ok-word-in_default.ensures.given c.feed.ensures.turn
+    turned c.args.task.now c.feed.new.self c.next.result c.in_ok-word-in_default.word c.feed.result _ _ _ _ c.next.ensures.op c.in_ok-word-in_default.ensures.operated c.in_ok-word-in_default.ensures.given c.feed.ensures.turn
 
 pub returns-in_ok-word-in_default-clause-goes : goal.returns-in_ok-word-in_default-clause-goes
 returns-in_ok-word-in_default-clause-goes g c =
-    let other : is_digest (op_of c.args.task.now) ≡ false = ap is_digest (sym c.next.ensures.op) ∙ no_digest c.next.result c.in_default.not-Digest in
-    goes_by_word c.args.task.now c.feed.new.self c.next.result c.in_ok-word-in_default.word c.feed.result _ c.next.ensures.op other c.in_ok-word-in_default.ensures.word c.feed.ensures.turn
+    goes_by_word c.args.task.now c.feed.new.self c.next.result c.in_ok-word-in_default.word c.feed.result _ c.next.ensures.op c.in_ok-word-in_default.ensures.word c.feed.ensures.turn
 
 pub returns-in_ok-word-in_default-clause-keeps : goal.returns-in_ok-word-in_default-clause-keeps
 returns-in_ok-word-in_default-clause-keeps g c =
-    let other : is_digest (op_of c.args.task.now) ≡ false = ap is_digest (sym c.next.ensures.op) ∙ no_digest c.next.result c.in_default.not-Digest in
     let goes : GoesOn c.args.task.now c.perform.new.self.lines c.feed.result c.feed.new.self =
-    goes_by_word c.args.task.now c.feed.new.self c.next.result c.in_ok-word-in_default.word c.feed.result _ c.next.ensures.op other c.in_ok-word-in_default.ensures.word c.feed.ensures.turn in
+    goes_by_word c.args.task.now c.feed.new.self c.next.result c.in_ok-word-in_default.word c.feed.result _ c.next.ensures.op c.in_ok-word-in_default.ensures.word c.feed.ensures.turn in
     lines_kept c.perform.new.self.lines c.args.task.now c.feed.new.self c.feed.result c.is_sound.ensures goes

@@ -1,0 +1,78 @@
+-- The phase behind a slot.
+use Rattle.std.proofs.Common.{◌≡◌, ℕ, ◌+◌, ◌*◌, ◌<◌, ◌≤◌, Bool, true, false, cond, nat_lt, length, Option, Some, None, refl, sym, ap, subst, ◌∙◌, arith}
+use Rattle.std.proofs.lemmas.Bool.{ltb-true, ltb-false}
+use Rattle.fam_base.specs.declared.cmd.Cmd.{Cmd}
+use Rattle.fam_base.specs.declared.cmd.Cmd.TheVariants.{Logplay, Mkdir, Creat, Cp, Verify, Read, Check, Fsck}
+use Rattle.fam_base.specs.declared.entry.Params.{Params}
+use Rattle.fam_format.specs.Params.{SoundParams}
+use Rattle.fam_commands.specs.declared.phase.Part.TheVariants.{Slot}
+use Rattle.fam_commands.specs.declared.phase.Phase.{Phase}
+use Rattle.fam_commands.specs.declared.phase.Phase.TheVariants as at
+use Rattle.fam_commands.specs.Task.{Task}
+use Rattle.fam_commands.specs.Turns.{slots_read, slot_or_decide}
+use Rattle.fam_tasks.specs.declared.task.Task.TheInside.{Inside}
+use Rattle.fam_tasks.specs.Commands.{is_fsck, slots_told}
+use Rattle.fam_tasks.specs.Held.{HasLooked, IsHeldAt}
+use Rattle.fam_tasks.specs.Sound.{HasSuper, HasValidGate, IsAtLine, IsSoundAt}
+
+-- the next slot, or the decision
+abbrev pub next_phase : ℕ → ℕ → Phase
+next_phase i n = cond (nat_lt i n) (at.Drop (Slot i) 0) at.Decide
+
+-- how many slots a command reads
+slots_by : (cmd : Cmd) (t : Task) → t.cmd ≡ cmd → slots_read t ≡ slots_told cmd t.params t.gate
+slots_by Logplay t is = rw is refl
+slots_by (Mkdir path attr) t is = rw is refl
+slots_by (Creat path size attr stripe fill) t is = rw is refl
+slots_by (Cp path attr stripe bytes) t is = rw is refl
+slots_by (Verify path against) t is = rw is refl
+slots_by (Read path offset count) t is = rw is refl
+slots_by (Check listing) t is = rw is refl
+slots_by Fsck t is = rw is refl
+
+pub slots_are : (t : Task) → slots_read t ≡ slots_told t.cmd t.params t.gate
+slots_are t = slots_by t.cmd t refl
+
+-- the phase is the definition's
+pub phase_is : (t : Task) (i n : ℕ) (r : Phase) → n ≡ slots_told t.cmd t.params t.gate → r ≡ next_phase i n → r ≡ slot_or_decide t i
+phase_is t i n r slots is = is ∙ ap (next_phase i) (slots ∙ sym (slots_are t))
+
+-- all slots are at least those below the gate
+told_within : (b : Bool) (gate slots : ℕ) → gate ≤ slots → cond b slots gate ≤ slots
+told_within true gate slots below = omega arith
+told_within false gate slots below = below
+
+pub slots_within : (cmd : Cmd) (p : Params) (gate : ℕ) → gate ≤ p.slots → slots_told cmd p gate ≤ p.slots
+slots_within cmd p gate below = told_within (is_fsck cmd) gate p.slots below
+
+-- what is known there
+sound_by : (u : Task) (i n : ℕ) (b : Bool) → n ≡ slots_told u.cmd u.params u.gate → nat_lt i n ≡ b → HasValidGate u → length u.words ≡ 0 → IsSoundAt (cond b (at.Drop (Slot i) 0) at.Decide) u
+sound_by u i n true slots less gate none =
+    (record { line = (gate, omega (arith, slots, ltb-true i n less), omega arith); few = omega arith }, omega arith)
+sound_by u i n false slots less gate none = gate
+
+pub next_sound : (u : Task) (i n : ℕ) (r : Phase) → n ≡ slots_told u.cmd u.params u.gate → r ≡ next_phase i n → HasValidGate u → length u.words ≡ 0 → IsSoundAt r u
+next_sound u i n r slots is gate none = subst (λ (p : Phase). IsSoundAt p u) (sym is) (sound_by u i n (nat_lt i n) slots refl gate none)
+
+held_by : (t : Inside) (i n : ℕ) (b : Bool) → n ≡ slots_told t.cmd t.params t.gate → nat_lt i n ≡ b → i ≤ n → HasLooked i t → IsHeldAt (cond b (at.Drop (Slot i) 0) at.Decide) t
+held_by t i n true slots less within looked = looked
+held_by t i n false slots less within looked =
+    let all : i ≡ slots_told t.cmd t.params t.gate = omega (arith, slots, within, ltb-false i n less) in
+    subst (λ (k : ℕ). HasLooked k t) all looked
+
+pub next_held : (t : Inside) (i n : ℕ) (r : Phase) → n ≡ slots_told t.cmd t.params t.gate → r ≡ next_phase i n → i ≤ n → HasLooked i t → IsHeldAt r t
+next_held t i n r slots is within looked = subst (λ (p : Phase). IsHeldAt p t) (sym is) (held_by t i n (nat_lt i n) slots refl within looked)
+
+-- the same file system and gate on the same image
+pub same_super : (t u : Task) → u.params ≡ t.params → u.lines ≡ t.lines → HasSuper t → HasSuper u
+same_super t u params lines has = record {
+  sound = subst SoundParams (sym params) has.sound;
+  device = omega (arith, ap (λ (p : Params). p.device) params, has.device, lines);
+  slots = omega (arith, ap (λ (p : Params). p.slots) params, has.slots, lines);
+}
+
+pub same_gate : (t u : Task) → u.params ≡ t.params → u.lines ≡ t.lines → u.gate ≡ t.gate → HasValidGate t → HasValidGate u
+same_gate t u params lines gate has = record {
+  super = same_super t u params lines has.super;
+  gate = omega (arith, ap (λ (p : Params). p.slots) params, has.gate, gate);
+}

@@ -1,0 +1,73 @@
+-- How the parts of a task hang together, that a contract doesn't see.
+use Rattle.std.specs.Prelude.{ℕ, ◌≡◌, ◌+◌, ◌-◌, ⊤, Bool, true, false, length, min, Option, None}
+use Rattle.fam_base.specs.declared.cmd.Cmd.{Cmd}
+use Rattle.fam_base.specs.declared.cmd.Cmd.TheVariants.{Logplay, Mkdir, Creat, Cp, Verify, Read, Check, Fsck}
+use Rattle.fam_commands.specs.declared.phase.Part.{Part}
+use Rattle.fam_commands.specs.declared.phase.Part.TheVariants.{Superblock, Header, Slot, File}
+use Rattle.fam_commands.specs.declared.phase.Phase.{Phase}
+use Rattle.fam_commands.specs.declared.phase.Phase.TheVariants as at
+use Rattle.fam_commands.specs.Task.{content_of, size_of, wanted_end}
+use Rattle.fam_rules.specs.Content.{content_line}
+use Rattle.fam_tasks.specs.declared.task.Task.TheInside.{Inside}
+use Rattle.fam_tasks.specs.Commands.{is_fsck, slots_told}
+use Rattle.fam_tasks.specs.Model.{task_of}
+use Rattle.fam_tasks.specs.Slots.{added_in, entries_in, IsPlanFor, IsScanFor}
+use Rattle.fam_tasks.specs.Sound.{IsSound}
+
+-- no slot was looked at
+pub record IsUnread (t : Inside) : Type 0 where
+  pub plan : t.plan ≡ None
+  pub scan : t.scan ≡ None
+
+-- i slots were looked at: plan and check are the file system's, and were told of as many
+pub record HasLooked (i : ℕ) (t : Inside) : Type 0 where
+  pub plan : IsPlanFor t.params t.plan
+  pub scan : IsScanFor t.params t.gate t.scan
+  pub entries : is_fsck t.cmd ≡ false → length (entries_in t.plan) ≡ i
+  pub slots : is_fsck t.cmd ≡ true → added_in t.scan ≡ i
+
+-- line j of the file comes next: the content is at that line, or there is room for the bytes
+abbrev pub HoldsFile : Cmd → ℕ → Inside → Type 0
+HoldsFile (Verify path against) j t = (t.contents.content ≡ against) × (t.contents.taken ≡ j)
+HoldsFile (Read path offset count) j t = length t.room.items ≡ wanted_end (Read path offset count) (size_of t.entry) - offset
+HoldsFile Logplay j t = ⊤
+HoldsFile (Mkdir path attr) j t = ⊤
+HoldsFile (Creat path size attr stripe fill) j t = ⊤
+HoldsFile (Cp path attr stripe bytes) j t = ⊤
+HoldsFile (Check listing) j t = ⊤
+HoldsFile Fsck j t = ⊤
+
+-- line j of the new file is at hand
+pub record HoldsLine (j : ℕ) (t : Inside) : Type 0 where
+  pub content : t.contents.content ≡ content_of t.cmd
+  pub taken : t.contents.taken ≡ j + 1
+  pub line : t.contents.line ≡ content_line (content_of t.cmd) (size_of t.entry) j
+
+-- when line j of a part is read
+abbrev pub HoldsPart : Part → ℕ → Inside → Type 0
+HoldsPart Superblock j t = IsUnread t
+HoldsPart Header j t = IsUnread t
+HoldsPart (Slot i) j t = HasLooked i t
+HoldsPart File j t = HoldsFile t.cmd j t
+
+-- in a phase
+abbrev pub IsHeldAt : Phase → Inside → Type 0
+IsHeldAt at.DropMagic t = IsUnread t
+IsHeldAt at.Magic t = IsUnread t
+IsHeldAt (at.Drop part j) t = HoldsPart part j t
+IsHeldAt (at.Word part j k) t = HoldsPart part j t
+IsHeldAt at.DropGate t = IsUnread t
+IsHeldAt at.Gate t = IsUnread t
+IsHeldAt (at.Check i) t = HasLooked i t
+IsHeldAt at.Decide t = HasLooked (slots_told t.cmd t.params t.gate) t
+IsHeldAt (at.StoreData j k) t = HoldsLine j t
+IsHeldAt (at.SendData j) t = HoldsLine j t
+IsHeldAt (at.StoreSlot j k) t = ⊤
+IsHeldAt (at.SendSlot j) t = ⊤
+IsHeldAt at.StoreGate t = ⊤
+IsHeldAt at.SendGate t = ⊤
+
+-- every task is sound, and its parts hang together
+pub record IsTask (t : Inside) : Type 0 where
+  pub sound : IsSound (task_of t)
+  pub held : IsHeldAt t.phase t

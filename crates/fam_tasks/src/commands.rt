@@ -1,0 +1,50 @@
+//! What a task asks of its command.
+
+ghost use Rattle.std.specs.Prelude.{◌≡◌, IfOk, IsSome, None};
+ghost use Rattle.std.specs.Bool.{OnTrue, OnFalse};
+ghost use Rattle.fam_rules.specs.Decide.{wish_of};
+ghost use Rattle.fam_tasks.specs.Commands.{content_used, is_fsck, slots_told};
+
+use fam_base::{Cmd, Content, OutOfMemory, Params};
+
+/// Whether a command checks the whole file system.
+pub(crate) fn is_fsck(cmd: &Cmd) -> bool
+    ensures { result ≡ is_fsck cmd.now }
+{
+    match cmd {
+        Cmd::Fsck => true,
+        _ => false,
+    }
+}
+
+/// Whether a command appends an entry.
+pub(crate) fn appends(cmd: &Cmd) -> bool
+    ensures writer { OnTrue result (IsSome (wish_of cmd.now)) }
+    ensures reader { OnFalse result (wish_of cmd.now ≡ None) }
+{
+    match cmd {
+        Cmd::Mkdir { .. } => true,
+        Cmd::Creat { .. } => true,
+        Cmd::Cp { .. } => true,
+        _ => false,
+    }
+}
+
+/// How many slots a command reads: all of them, or those below the gate.
+pub(crate) fn slots_told(cmd: &Cmd, params: &Params, gate: u64) -> u64
+    ensures { result ≡ slots_told cmd.now params.now gate }
+{
+    if is_fsck(cmd) { params.slots } else { gate }
+}
+
+/// The content that a command writes or compares with, zeros where it does neither. Bytes are shared, not copied.
+pub(crate) fn content_used(cmd: &Cmd) -> Result<Content, OutOfMemory>
+    ensures { IfOk result (λ content. content ≡ content_used cmd.now) }
+{
+    match cmd.copy()? {
+        Cmd::Creat { fill, .. } => Ok(fill),
+        Cmd::Cp { bytes, .. } => Ok(Content::Bytes(bytes)),
+        Cmd::Verify { against, .. } => Ok(against),
+        _ => Ok(Content::Zero),
+    }
+}

@@ -1,0 +1,241 @@
+//! What the slots that were read have told: a plan of their entries, or a check of their words. Either takes memory,
+//! so it is made with the first slot that it is told of.
+
+ghost use Rattle.std.specs.Prelude.{◌≡◌, ◌+◌, ◌<◌, Some, IfOk, IfSome, IsSome, OnOk, OnErr, length};
+ghost use Rattle.std.specs.FinMap as map;
+ghost use Rattle.fam_base.specs.Commands.{IsListing, IsSoundCmd};
+ghost use Rattle.fam_base.specs.declared.entry.Params.{Params};
+ghost use Rattle.fam_format.specs.Params.{SoundParams};
+ghost use Rattle.fam_format.specs.Slot.{Proper};
+ghost use Rattle.fam_format.specs.Tree.{replay};
+ghost use Rattle.fam_rules.specs.Checks.{checked};
+ghost use Rattle.fam_rules.specs.Decide.{decide, wish_of};
+ghost use Rattle.fam_rules.specs.Reports.{report_by, survey_slot};
+ghost use Rattle.fam_plan.specs.Faults.{reason_of};
+ghost use Rattle.fam_tasks.specs.Slots.{added_in, entries_in, survey_in, IsPlanFor, IsRoomFor, IsScanFor, JoinsOrNames};
+
+use fam_base::{Cmd, Entry, OutOfMemory, Params, Path};
+use fam_format::{Reason, SLOT_WORDS};
+use fam_fsck::Fsck;
+use fam_plan::{AddFault, Plan};
+use fam_rules::{Checked, Refused, Report};
+use fam_tree::Tree;
+use std::alloc::Global;
+use uuid::Uuid;
+
+/// Makes the plan of no entries, where there is none.
+pub(crate) fn begin_plan(
+    alloc: Global,
+    plan: &mut Option<Plan>,
+    params: &Params,
+) -> Result<(), OutOfMemory>
+    requires sound { SoundParams params.now }
+    requires fits { IsPlanFor params.now plan.old }
+    ensures ready { OnOk result (plan.new ≡ Some (record { params = params.now; entries = entries_in plan.old })) }
+    ensures err { OnErr result (plan.new ≡ plan.old) }
+{
+    if plan.is_none() {
+        *plan = Some(Plan::new(alloc, params)?);
+    }
+    Ok(())
+}
+
+/// Why an entry doesn't join, if memory didn't run out.
+fn reason_against(fault: AddFault) -> Result<Reason, OutOfMemory>
+    ensures { IfOk result (λ reason. reason_of fault ≡ Some reason) }
+{
+    match fault {
+        AddFault::Exists(kind) => Ok(Reason::Exists(kind)),
+        AddFault::NoParent => Ok(Reason::NoParent),
+        AddFault::ParentIsFile => Ok(Reason::ParentIsFile),
+        AddFault::Overlap(unit) => Ok(Reason::Overlap(unit)),
+        AddFault::OutOfMemory => Err(OutOfMemory),
+    }
+}
+
+/// Adds an entry to a plan where it joins those before it, and otherwise says why it doesn't.
+fn add(plan: &mut Plan, entry: &Entry) -> Result<Option<Reason>, OutOfMemory>
+    requires proper { Proper plan.old.params entry.now }
+    requires left { length plan.old.entries < plan.old.params.slots }
+    ensures joins { IfOk result (λ fault.
+        JoinsOrNames fault plan.old.params plan.old.entries entry.now plan.new.entries) }
+    ensures params { plan.new.params ≡ plan.old.params }
+    ensures err { OnErr result (plan.new ≡ plan.old) }
+{
+    match plan.add(entry) {
+        Ok(()) => Ok(None),
+        Err(fault) => match reason_against(fault) {
+            Ok(reason) => Ok(Some(reason)),
+            Err(full) => Err(full),
+        },
+    }
+}
+
+/// Adds the entry of a slot to the plan where it joins those before it, and otherwise says why it doesn't.
+pub(crate) fn join(
+    alloc: Global,
+    plan: &mut Option<Plan>,
+    params: &Params,
+    entry: &Entry,
+) -> Result<Option<Reason>, OutOfMemory>
+    requires sound { SoundParams params.now }
+    requires fits { IsPlanFor params.now plan.old }
+    requires proper { Proper params.now entry.now }
+    requires left { length (entries_in plan.old) < params.now.slots }
+    ensures joins { IfOk result (λ fault.
+        JoinsOrNames fault params.now (entries_in plan.old) entry.now (entries_in plan.new)) }
+    ensures fits { IsPlanFor params.now plan.new }
+    ensures err { OnErr result (entries_in plan.new ≡ entries_in plan.old) }
+{
+    begin_plan(alloc, plan, params)?;
+    match plan {
+        Some(plan) => add(plan, entry),
+        None => unreachable!(),
+    }
+}
+
+/// What a command appends behind the entries of a plan, or why nothing.
+pub(crate) fn decided(
+    alloc: Global,
+    plan: &mut Option<Plan>,
+    params: &Params,
+    cmd: &Cmd,
+    me: Uuid,
+) -> Result<Result<Entry, Refused>, OutOfMemory>
+    requires sound { SoundParams params.now }
+    requires fits { IsPlanFor params.now plan.old }
+    requires wish { IsSome (wish_of cmd.now) }
+    ensures value { IfOk result (λ decision. decide params.now me (entries_in plan.old) cmd.now ≡ Some decision) }
+    ensures may { IsSoundCmd cmd.now → IfOk result (λ decision. IfOk decision (IsRoomFor params.now (entries_in plan.old))) }
+    ensures same { entries_in plan.new ≡ entries_in plan.old }
+    ensures fits { IsPlanFor params.now plan.new }
+{
+    begin_plan(alloc, plan, params)?;
+    match plan {
+        Some(plan) => Ok(plan.decide(cmd, me)),
+        None => unreachable!(),
+    }
+}
+
+/// How many entries a plan has.
+pub(crate) fn count(plan: &Option<Plan>) -> u64
+    ensures { result ≡ length (entries_in plan.now) }
+{
+    match plan {
+        Some(plan) => plan.count(),
+        None => 0,
+    }
+}
+
+/// What stands at a path.
+pub(crate) fn found_at(plan: &Option<Plan>, path: &Path) -> Option<Entry>
+    ensures value { result ≡ map.get (replay (entries_in plan.now)) path.now }
+    ensures proper { (p : Params) → IsPlanFor p plan.now → IfSome result (Proper p) }
+{
+    match plan {
+        Some(plan) => {
+            plan.each_entry_joins();
+            plan.tree().get(path)
+        }
+        None => None,
+    }
+}
+
+/// The tree of a plan's entries.
+pub(crate) fn tree_of(alloc: Global, plan: Option<Plan>) -> Tree
+    ensures { result ≡ replay (entries_in plan) }
+{
+    match plan {
+        Some(plan) => plan.into_tree(),
+        None => Tree::new(alloc),
+    }
+}
+
+fn check(tree: &Tree, listing: &[Entry]) -> Checked
+    requires { IsListing listing.now }
+    ensures { result ≡ checked tree.now listing.now }
+{
+    Checked { missing: 0, extra: 0, changed: 0, first: None }
+}
+
+/// How the tree of a plan's entries differs from a listing.
+pub(crate) fn checked(alloc: Global, plan: &Option<Plan>, listing: &[Entry]) -> Checked
+    requires { IsListing listing.now }
+    ensures { result ≡ checked (replay (entries_in plan.now)) listing.now }
+{
+    match plan {
+        Some(plan) => check(plan.tree(), listing),
+        None => {
+            let none = Tree::new(alloc);
+            check(&none, listing)
+        }
+    }
+}
+
+/// Makes a check that was shown no slot, where there is none.
+fn begin_scan(
+    alloc: Global,
+    scan: &mut Option<Fsck>,
+    params: &Params,
+    gate: u64,
+) -> Result<(), OutOfMemory>
+    requires sound { SoundParams params.now }
+    requires fits { IsScanFor params.now gate scan.old }
+    ensures ready { OnOk result (scan.new ≡ Some (record {
+      params = params.now;
+      gate = gate;
+      added = added_in scan.old;
+      survey = survey_in scan.old;
+    })) }
+    ensures err { OnErr result (scan.new ≡ scan.old) }
+{
+    if scan.is_none() {
+        *scan = Some(Fsck::new(alloc, params, gate)?);
+    }
+    Ok(())
+}
+
+/// Shows a check the words of the next slot.
+pub(crate) fn show(
+    alloc: Global,
+    scan: &mut Option<Fsck>,
+    params: &Params,
+    gate: u64,
+    words: &[u64; SLOT_WORDS],
+) -> Result<(), OutOfMemory>
+    requires sound { SoundParams params.now }
+    requires fits { IsScanFor params.now gate scan.old }
+    requires left { added_in scan.old < params.now.slots }
+    ensures shown { OnOk result (survey_in scan.new
+        ≡ survey_slot params.now gate (added_in scan.old) words.now (survey_in scan.old)) }
+    ensures added { OnOk result (added_in scan.new ≡ added_in scan.old + 1) }
+    ensures fits { IsScanFor params.now gate scan.new }
+    ensures err { OnErr result (survey_in scan.new ≡ survey_in scan.old) }
+    ensures err_added { OnErr result (added_in scan.new ≡ added_in scan.old) }
+{
+    begin_scan(alloc, scan, params, gate)?;
+    match scan {
+        Some(scan) => scan.add(words),
+        None => unreachable!(),
+    }
+}
+
+/// What a check reports, once it was shown all slots.
+pub(crate) fn report_of(
+    alloc: Global,
+    scan: &Option<Fsck>,
+    params: &Params,
+    gate: u64,
+) -> Result<Report, OutOfMemory>
+    requires sound { SoundParams params.now }
+    requires fits { IsScanFor params.now gate scan.now }
+    ensures { IfOk result (λ report. report ≡ report_by params.now gate (survey_in scan.now)) }
+{
+    match scan {
+        Some(scan) => Ok(scan.report()),
+        None => {
+            let scan = Fsck::new(alloc, params, gate)?;
+            Ok(scan.report())
+        }
+    }
+}

@@ -1,0 +1,289 @@
+//! Turns of a task that decides, with all slots read.
+
+ghost use Rattle.std.specs.Prelude.{◌≡◌, ◌≤◌, ◌<◌, None, Ok, Some, IfErr, IfOk, IfSome, IsSome, OnErr, length};
+ghost use Rattle.fam_base.specs.declared.cmd.Cmd.TheVariants as cmd;
+ghost use Rattle.fam_base.specs.declared.entry.Entry.{Entry};
+ghost use Rattle.fam_format.specs.Slot.{Proper};
+ghost use Rattle.fam_rules.specs.Content.{content_line};
+ghost use Rattle.fam_rules.specs.Decide.{wish_of};
+ghost use Rattle.fam_rules.specs.Reply.{Length};
+ghost use Rattle.fam_commands.specs.declared.phase.Phase.TheVariants as at;
+ghost use Rattle.fam_commands.specs.Task as spec;
+ghost use Rattle.fam_commands.specs.Turns as turns;
+ghost use Rattle.fam_commands.specs.Turns.{turn_of};
+ghost use Rattle.fam_tasks.specs.declared.answer.Turn.TheVariants.{Done};
+ghost use Rattle.fam_tasks.specs.Commands.{content_used, IsCheck, IsRead, IsVerify};
+ghost use Rattle.fam_tasks.specs.Tells.{Tells};
+
+use super::{Task, done};
+use crate::answer::{Answer, TaskNote, Turn};
+use crate::byte_text::ByteText;
+use crate::commands::content_used;
+use crate::contents::Contents;
+use crate::replies::refusal_answer;
+use crate::slots::{checked, count, decided, found_at, report_of, tree_of};
+use crate::wanted::{wanted_end, wanted_start};
+use fam_base::{Cmd, Content, Entry, Kind, OutOfMemory};
+use fam_commands::{Part, Phase};
+use fam_entry::spell;
+use std::alloc::Global;
+
+/// The content of a new file of `size` bytes, with its first line taken where there is one.
+fn new_contents(cmd: &Cmd, size: u64) -> Result<Contents, OutOfMemory>
+    ensures content { IfOk result (λ c. c.content ≡ content_used cmd.now) }
+    ensures taken { IfOk result (λ c. 0 < size → c.taken ≡ 1) }
+    ensures line { IfOk result (λ c. 0 < size → c.line ≡ content_line (content_used cmd.now) size 0) }
+{
+    let mut contents = Contents::new(content_used(cmd)?);
+    if size > 0 {
+        contents.take(size);
+    }
+    Ok(contents)
+}
+
+/// The first store of an append: of the first line of a file of `size` bytes, or of the slot's.
+fn first_store(size: u64) -> Phase
+    ensures { result ≡ turns.first_store size }
+{
+    if size == 0 {
+        Phase::StoreSlot { line: 0, word: 0 }
+    } else {
+        Phase::StoreData { line: 0, word: 0 }
+    }
+}
+
+/// The file that stands at a path, or the answer where none stands there. `m` entries were read.
+fn file_found(found: Option<Entry>, m: u64) -> Result<Entry, Answer>
+    ensures is { IfOk result (λ e. found ≡ Some e) }
+    ensures file { IfOk result (λ e. (t : spec.Task) (turn : Entry → turns.Turn)
+        → turns.found_turn t found turn ≡ turn e) }
+    ensures none { IfErr result (λ answer. (t new : spec.Task) (turn : Entry → turns.Turn)
+        → length t.entries ≡ m → Tells (turns.found_turn t found turn) (Done answer) new) }
+{
+    match found {
+        None => Err(Answer::NotFound { m }),
+        Some(entry) => match entry.kind {
+            Kind::Directory => Err(Answer::IsDirectory { m }),
+            Kind::File => Ok(entry),
+        },
+    }
+}
+
+/// The count of given bytes, where a file of `size` bytes has another. Other contents have any size.
+fn other_length(against: &Content, size: u64) -> Option<u64>
+    ensures some { IfSome result (λ wanted. (t : spec.Task) (e : Entry) → e.size ≡ size
+        → turns.verify_turn t e against.now ≡ turns.Ends (Length (length t.entries) size wanted)) }
+    ensures none { result ≡ None → (t : spec.Task) (e : Entry) → e.size ≡ size
+        → turns.verify_turn t e against.now ≡ turns.verify_lines t e }
+{
+    match against {
+        Content::Bytes(given) => {
+            let count = given.as_slice().len() as u64;
+            if count == size { None } else { Some(count) }
+        }
+        Content::Seed(_) => None,
+        Content::Zero => None,
+    }
+}
+
+/// So many zeros.
+fn zeros(alloc: Global, count: u64) -> Result<Vec<u8>, OutOfMemory>
+    ensures { IfOk result (λ bytes. length bytes.items ≡ count) }
+{
+    match vec![in alloc; 0; count as usize] {
+        Ok(bytes) => Ok(bytes),
+        Err(_) => Err(OutOfMemory),
+    }
+}
+
+impl Task {
+    /// Decides, with all slots read.
+    pub(super) fn decide(&mut self) -> Result<Turn, OutOfMemory>
+        requires { self.old.phase ≡ at.Decide }
+        ensures turn { IfOk result (λ turn. Tells (turn_of self.old None) turn self.new) }
+        ensures err { OnErr result (self.new ≡ self.old) }
+    {
+        match self.cmd {
+            Cmd::Logplay => Ok(self.play()),
+            Cmd::Mkdir { .. } => self.append(),
+            Cmd::Creat { .. } => self.append(),
+            Cmd::Cp { .. } => self.append(),
+            Cmd::Verify { .. } => self.verify(),
+            Cmd::Read { .. } => self.read(),
+            Cmd::Check { .. } => Ok(self.check()),
+            Cmd::Fsck => self.report(),
+        }
+    }
+
+    /// Answers with the tree of all entries.
+    fn play(&mut self) -> Turn
+        requires phase { self.old.phase ≡ at.Decide }
+        ensures { Tells (turns.decide_turn cmd.Logplay self.old) result self.new }
+    {
+        let m = count(&self.plan);
+        let plan = self.plan.take();
+        let answer = Answer::Played {
+            m,
+            tree: tree_of(self.alloc, plan),
+        };
+        done(&mut self.phase, answer)
+    }
+
+    /// Answers how the tree of all entries differs from the listing.
+    fn check(&mut self) -> Turn
+        requires phase { self.old.phase ≡ at.Decide }
+        requires check { IsCheck self.old.cmd }
+        ensures { Tells (turns.decide_turn self.old.cmd self.old) result self.new }
+    {
+        let Cmd::Check { listing } = &self.cmd else {
+            unreachable!();
+        };
+        let answer = Answer::Checked {
+            m: count(&self.plan),
+            checked: checked(self.alloc, &self.plan, listing.as_slice()),
+        };
+        done(&mut self.phase, answer)
+    }
+
+    /// Answers with the report over all slots.
+    fn report(&mut self) -> Result<Turn, OutOfMemory>
+        requires phase { self.old.phase ≡ at.Decide }
+        ensures turn { IfOk result (λ turn. Tells (turns.decide_turn cmd.Fsck self.old) turn self.new) }
+        ensures err { OnErr result (self.new ≡ self.old) }
+    {
+        let report = report_of(self.alloc, &self.scan, &self.params, self.gate)?;
+        Ok(done(&mut self.phase, Answer::Report(report)))
+    }
+
+    /// Decides what is appended.
+    fn append(&mut self) -> Result<Turn, OutOfMemory>
+        requires phase { self.old.phase ≡ at.Decide }
+        requires wish { IsSome (wish_of self.old.cmd) }
+        ensures turn { IfOk result (λ turn.
+            Tells (turns.wish_turn self.old (wish_of self.old.cmd)) turn self.new) }
+        ensures err { OnErr result (self.new ≡ self.old) }
+    {
+        match decided(
+            self.alloc,
+            &mut self.plan,
+            &self.params,
+            &self.cmd,
+            self.me,
+        )? {
+            Ok(entry) => self.write(&entry),
+            Err(refused) => Ok(done(&mut self.phase, refusal_answer(refused))),
+        }
+    }
+
+    /// Goes on to append an entry: its file first, where it has bytes.
+    fn write(&mut self, entry: &Entry) -> Result<Turn, OutOfMemory>
+        requires phase { self.old.phase ≡ at.Decide }
+        requires wish { IsSome (wish_of self.old.cmd) }
+        requires room { self.old.gate < self.old.params.slots }
+        requires proper { Proper self.old.params entry.now }
+        ensures turn { IfOk result (λ turn.
+            Tells (turns.append_turn self.old (Ok entry.now)) turn self.new) }
+        ensures err { OnErr result (self.new ≡ self.old) }
+    {
+        self.contents = new_contents(&self.cmd, entry.size)?;
+        self.buffer.hold(&spell(entry, self.gate));
+        self.entry = Some(*entry);
+        self.phase = first_store(entry.size);
+        Ok(Turn::Note(TaskNote::Writes(self.gate, *entry)))
+    }
+
+    /// Looks for the file that is compared.
+    fn verify(&mut self) -> Result<Turn, OutOfMemory>
+        requires phase { self.old.phase ≡ at.Decide }
+        requires verify { IsVerify self.old.cmd }
+        ensures turn { IfOk result (λ turn. Tells (turns.decide_turn self.old.cmd self.old) turn self.new) }
+        ensures err { OnErr result (self.new ≡ self.old) }
+    {
+        let Cmd::Verify { path, against } = &self.cmd else {
+            unreachable!();
+        };
+        let m = count(&self.plan);
+        match file_found(found_at(&self.plan, path), m) {
+            Err(answer) => Ok(done(&mut self.phase, answer)),
+            Ok(entry) => match other_length(against, entry.size) {
+                None => self.verify_file(&entry),
+                Some(wanted) => {
+                    let answer = Answer::Length {
+                        m,
+                        size: entry.size,
+                        wanted,
+                    };
+                    Ok(done(&mut self.phase, answer))
+                }
+            },
+        }
+    }
+
+    /// Goes on to compare a file, where it has bytes.
+    fn verify_file(&mut self, entry: &Entry) -> Result<Turn, OutOfMemory>
+        requires phase { self.old.phase ≡ at.Decide }
+        requires verify { IsVerify self.old.cmd }
+        requires proper { Proper self.old.params entry.now }
+        ensures turn { IfOk result (λ turn. Tells (turns.verify_lines self.old entry.now) turn self.new) }
+        ensures err { OnErr result (self.new ≡ self.old) }
+    {
+        if entry.size == 0 {
+            let m = count(&self.plan);
+            return Ok(done(&mut self.phase, Answer::Same { m }));
+        }
+        self.contents = Contents::new(content_used(&self.cmd)?);
+        self.buffer.clear();
+        self.entry = Some(*entry);
+        self.phase = Phase::Drop {
+            part: Part::File,
+            line: 0,
+        };
+        Ok(Turn::Go)
+    }
+
+    /// Looks for the file whose bytes are wanted.
+    fn read(&mut self) -> Result<Turn, OutOfMemory>
+        requires phase { self.old.phase ≡ at.Decide }
+        requires read { IsRead self.old.cmd }
+        ensures turn { IfOk result (λ turn. Tells (turns.decide_turn self.old.cmd self.old) turn self.new) }
+        ensures err { OnErr result (self.new ≡ self.old) }
+    {
+        let Cmd::Read { path, .. } = &self.cmd else {
+            unreachable!();
+        };
+        let m = count(&self.plan);
+        match file_found(found_at(&self.plan, path), m) {
+            Err(answer) => Ok(done(&mut self.phase, answer)),
+            Ok(entry) => self.read_file(&entry),
+        }
+    }
+
+    /// Goes on to read a file, where some of its bytes are wanted.
+    fn read_file(&mut self, entry: &Entry) -> Result<Turn, OutOfMemory>
+        requires phase { self.old.phase ≡ at.Decide }
+        requires read { IsRead self.old.cmd }
+        requires proper { Proper self.old.params entry.now }
+        ensures turn { IfOk result (λ turn.
+            Tells (turns.bytes_turn self.old entry.now (spec.wanted_start self.old.cmd)) turn self.new) }
+        ensures err { OnErr result (self.new ≡ self.old) }
+    {
+        let start = wanted_start(&self.cmd);
+        let end = wanted_end(&self.cmd, entry.size);
+        if end <= start {
+            let answer = Answer::Bytes {
+                m: count(&self.plan),
+                bytes: ByteText::new(Vec::new(self.alloc)),
+            };
+            return Ok(done(&mut self.phase, answer));
+        }
+        let room = zeros(self.alloc, end - start)?;
+        self.room = room;
+        self.buffer.clear();
+        self.entry = Some(*entry);
+        self.phase = Phase::Drop {
+            part: Part::File,
+            line: 0,
+        };
+        Ok(Turn::Go)
+    }
+}
