@@ -1,7 +1,8 @@
 -- Operations of a host's task one behind another, up to its answer, meet what the call promises.
 use Prim.Native.Nat.{zero, suc}
 use Rattle.std.proofs.Common.{◌≡◌, ◌⊎◌, ℕ, ◌<◌, ◌≤◌, ◌+◌, ◌-◌, ◌^◌, inl, inr, Bool, true, false, List, [], ◌∷◌, ◌++◌, length, map, Option, Some, None, refl, ap, ap₂, sym, ◌∙◌, subst, arith}
-use Rattle.std.specs.Prelude.{⊤, slice_get, is_some, not, drop, if◌then◌else◌}
+use Rattle.std.specs.Prelude.{IfSome, slice_get, is_some, not, drop, unwrap_or, if◌then◌else◌}
+use Rattle.std.specs.List.{list_any}
 use Rattle.std.proofs.lemmas.Option.{same_Some}
 use Rattle.std.proofs.lemmas.List.{append-nil, append_assoc, length-map}
 use Rattle.fam_base.specs.Image.{Image}
@@ -28,8 +29,24 @@ use Rattle.fam_journal.proofs.Forms.Operations.{forms_both}
 use Rattle.fam_journal.proofs.Forms.Pairs.{pairs_at}
 use Rattle.fam_journal.proofs.Forms.Views.{number_formed, refusal_formed}
 use Rattle.fam_journal.proofs.Runs.Unique.{faults_both}
+use Rattle.fam_commands.specs.Stands.{note_of, task_after, turn_given}
+use Rattle.fam_commands.specs.Table as row
+use Rattle.fam_commands.specs.Task.{op_of}
+use Rattle.fam_commands.specs.Turns.{Turn, Goes, Marks, Finds, Writes, Ends}
+use Rattle.fam_machine.specs.Operations.{given_by}
+use Rattle.fam_tasks.specs.Sound.{IsSound}
+use Rattle.fam_run.proofs.Left.{kept, left}
+use Rattle.fam_journal.specs.Ends.{is_answer_note}
+use Rattle.fam_journal.specs.Machines.{notes_of}
+use Rattle.fam_journal.specs.Members.{changed_at}
+use Rattle.fam_journal.specs.ByWorld.{shown_task}
+use Rattle.fam_world.specs.Steps.{Around, IsCut, IsServed, IsStep}
+use Rattle.fam_world.specs.Finishes.{AreOwn, RanTo, SoFar}
 use Rattle.fam_world.proofs.Answering.{free_answers, hosted_form}
+use Rattle.fam_world.proofs.Deciding.{steps_first}
+use Rattle.fam_world.proofs.Members.{map_at}
 use Rattle.fam_world.proofs.Rows.{first_refusal, row_kept}
+use Rattle.fam_world.proofs.Stepping.{step_call}
 
 -- Operations with one more behind them.
 
@@ -57,11 +74,6 @@ forms_more h hosts (note ∷ notes) more first rest = (first.0, forms_more h (fo
 named_more : (n : ℕ) (notes more : List Note) → AreNamed n notes → AreNamed n more → AreNamed n (notes ++ more)
 named_more n [] more first rest = rest
 named_more n (note ∷ notes) more first rest = (first.0, named_more n notes more first.1 rest)
-
--- none of these notes is a refusal
-abbrev pub AreOwn : List Note → Type 0
-AreOwn [] = ⊤
-AreOwn (note ∷ notes) = (cause_noted note ≡ None) × AreOwn notes
 
 own_more : (notes more : List Note) → AreOwn notes → AreOwn more → AreOwn (notes ++ more)
 own_more [] more first rest = rest
@@ -91,30 +103,6 @@ names_same name (x ∷ xs) (y ∷ ys) i e =
 
 pub number_same : (name : List ℕ) (a b : WorldView) → map heading a.hosts ≡ map heading b.hosts → number_in name a ≡ number_in name b
 number_same name a b e = names_same name a.hosts b.hosts 0 e
-
--- Since the call began.
-
--- on a state for which the world was held
-pub record RanTo (at : ℕ) (start : Image) (state : Machines) (notes : List Note) (cur : WorldView) (told : Option Image) : Type 0 where
-  pub count : ℕ
-  pub left : Machines
-  pub does : DoesOperations at count state notes left
-  pub held : Held start left cur left.memory
-  pub told_is : told ≡ Some left.memory
-
--- operations of host `at` led from the one world to the other
-pub record SoFar (at lines : ℕ) (old : WorldView) (told_old : Option Image) (faults_old : ℕ) (cur : WorldView) (told : Option Image) (faults : ℕ) : Type 0 where
-  pub notes : List Note
-  pub joined : cur.journal ≡ old.journal ++ notes
-  pub own : AreOwn notes
-  pub counted : HasCounted faults_old faults notes
-  pub later : faults_old ≤ faults
-  pub named : AreNamed (length old.hosts) notes
-  pub headings : map heading cur.hosts ≡ map heading old.hosts
-  pub fits : FitsMedia lines old.hosts → FitsMedia lines cur.hosts
-  pub formed : IsFormed old → IsFormed cur
-  pub form : IsFormed old → OperationsForm at (forms_of old.journal) notes
-  pub ran : (start : Image) (state : Machines) → told_old ≡ Some state.memory → Held start state old state.memory → RanTo at start state notes cur told
 
 pub first_so_far : (at lines : ℕ) (old : WorldView) (told : Option Image) (faults : ℕ) → SoFar at lines old told faults old told faults
 first_so_far at lines old told faults = record {
@@ -273,3 +261,84 @@ finish_nothing name lines told faults old = record {
   form = λ is. inl refl;
   parts = λ start state told_is held. record { state = state; notes = []; row = inr (refl, refl); told_is = told_is; joined = sym (append-nil old.journal); held = held };
 }
+
+-- One step more of the host.
+
+own_turn_notes : (h : ℕ) (n : row.RowNote) → AreOwn (notes_of h n)
+own_turn_notes h row.Quiet = tt
+own_turn_notes h row.Mark = (refl, tt)
+own_turn_notes h (row.Found k) = (refl, tt)
+own_turn_notes h (row.Writing seq e) = (refl, tt)
+own_turn_notes h (row.Answer reply) = (refl, tt)
+
+step_own : (at : ℕ) (t : Task) (a : Around) (over : Bool) → (x : IsStep at t a over) → AreOwn x.notes
+step_own at t a over x = by x.how
+  where
+    by : IsServed at t a x.notes over ⊎ IsCut at t a x.notes over → AreOwn x.notes
+    by (inl served) = subst AreOwn (sym served.notes_are) (own_turn_notes at (note_of (turn_given t served.word)))
+    by (inr cut) = subst AreOwn (sym cut.notes_are) (refl, tt)
+
+pub far_on : (name : List ℕ) (at lines : ℕ) (old : WorldView) (told_old : Option Image) (faults_old : ℕ) (cur : WorldView) (told : Option Image) (faults : ℕ) → SoFar at lines old told_old faults_old cur told faults → number_in name old ≡ Some at
+    → (view : HostView) (t : Task) → slice_get cur.hosts at ≡ Some view → view.task ≡ Some t → at < length cur.hosts → IfModelled told (λ image. length image ≡ lines)
+    → (new : WorldView) (next : HostView) (told_new : Option Image) (faults_new : ℕ) → new.hosts ≡ changed_at at (λ v. next) cur.hosts → (over : Bool)
+    → IsStep at t (record { old = view; new = next; before = cur.journal; after = new.journal; told = told; now = told_new; size = lines; faults = faults; faults_now = faults_new }) over
+    → SoFar at lines old told_old faults_old new told_new faults_new
+far_on name at lines old told_old faults_old cur told faults far number_old view t view_is runs within modelled new next told_new faults_new hosts over step =
+    let number : number_in name cur ≡ Some at = number_same name cur old far.headings ∙ number_old in
+    let busy : is_busy_host (slice_get (map shown_host cur.hosts) at) ≡ true = ap is_busy_host (map_at shown_host cur.hosts at view view_is) ∙ ap (λ (o : Option Task). is_some (shown_task o)) runs in
+    let free : refusal_in (call.Steps name) cur lines ≡ None = steps_first cur.hosts cur.journal name lines (Some at) number ∙ ap (λ (b : Bool). when (not b) why.Idle) busy in
+    more_so_far name at lines old told_old faults_old cur told faults far number free modelled over new told_new faults_new
+    (step_call name at lines cur view t number free within view_is runs new next told told_new faults faults_new modelled hosts over step) step.notes step.joined (step_own at t _ over step)
+
+-- it comes nearer to its end
+going : (z : Turn) (h : ℕ) → false ≡ list_any is_answer_note (notes_of h (note_of z)) → (n : Task) × (task_after z ≡ Some n)
+going (Goes n) h e = (n, refl)
+going (Marks n) h e = (n, refl)
+going (Finds k n) h e = (n, refl)
+going (Writes seq x n) h e = (n, refl)
+going (Ends reply) h e = absurd cc
+
+pub left_task : Option Task → ℕ
+left_task None = 0
+left_task (Some t) = left t
+
+pub left_host : Option HostView → ℕ
+left_host None = 0
+left_host (Some view) = left_task view.task
+
+pub step_falls : (at : ℕ) (t : Task) (a : Around) → IsStep at t a false → IfSome (Some t) IsSound → IfSome a.new.task IsSound → left_task a.new.task < left t
+unfolding left_task
+step_falls at t a x sound sound_on = by x.how
+  where
+    by : IsServed at t a x.notes false ⊎ IsCut at t a x.notes false → left_task a.new.task < left t
+    by (inr cut) = absurd (let bad = cut.over_is in cc)
+    by (inl served) =
+        let n = going (turn_given t served.word) at (served.over_is ∙ ap (λ (k : List Note). list_any is_answer_note k) served.notes_are) in
+        let task_is : a.new.task ≡ Some n.0 = served.task ∙ n.1 in
+        let falls = kept t n.0 (unwrap_or (given_by (op_of t) served.word) 0) sound.stands n.1 in
+        subst (λ (o : Option Task). left_task o < left t) (sym task_is) (falls.falls (subst (λ (o : Option Task). IfSome o IsSound) task_is sound_on).stands)
+
+-- Ends, from what the call knows.
+
+pub member_of : {A : Type 0} (xs : List A) (at : ℕ) → at < length xs → (x : A) × (slice_get xs at ≡ Some x)
+member_of [] at below = absurd (omega (arith, below))
+member_of (x ∷ xs) zero below = (x, refl)
+member_of (x ∷ xs) (suc at) below = member_of xs at (omega (arith, below))
+
+-- a finish is refused as a step is
+pub finishes_as_steps : (name : List ℕ) (world : WorldView) (lines : ℕ) (o : Option Refusal) → refusal_in (call.Steps name) world lines ≡ o → refusal_in (call.Finishes name) world lines ≡ o
+unfolding refusal_of
+finishes_as_steps name world lines o is = is
+
+module _ (name : List ℕ) (at lines : ℕ) (old : WorldView) (told_old : Option Image) (faults_old : ℕ) (cur : WorldView) (told : Option Image) (faults : ℕ) (far : SoFar at lines old told_old faults_old cur told faults)
+    (number : number_in name old ≡ Some at) (free : refusal_in (call.Steps name) old lines ≡ None) (within : at < length old.hosts) (modelled : IfModelled told_old (λ image. length image ≡ lines)) where
+  pub finish_done : ((view : HostView) → slice_get cur.hosts at ≡ Some view → view.task ≡ None) → MediaCall (call.Finishes name) lines None told_old told faults_old faults old cur
+  finish_done over =
+      let view = member_of old.hosts at within in
+      let last = member_of cur.hosts at (subst (λ (n : ℕ). at < n) (sym (count_same cur.hosts old.hosts far.headings)) within) in
+      finish_call name at lines old told_old faults_old cur told faults far view.0 number view.1 (finishes_as_steps name old lines None free) modelled last.0 last.1 (over last.0 last.1)
+
+  pub finish_lacks : FinishOutOfMemory name lines told_old told faults_old faults old cur
+  finish_lacks =
+      let view = member_of old.hosts at within in
+      finish_wants name at lines old told_old faults_old cur told faults far view.0 number view.1 (finishes_as_steps name old lines None free) modelled

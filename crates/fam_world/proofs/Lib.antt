@@ -11,3 +11,5 @@ pub mod Making
 pub mod StepForms
 pub mod Stepping
 pub mod Finishing
+pub mod Saying
+pub mod Fits

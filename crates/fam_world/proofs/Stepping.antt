@@ -19,7 +19,7 @@ use Rattle.fam_journal.specs.declared.refusal.Refusal.{Refusal}
 use Rattle.fam_journal.specs.declared.refusal.Refusal.TheVariants as why
 use Rattle.fam_journal.specs.Calls as call
 use Rattle.fam_journal.specs.Calls.{Does}
-use Rattle.fam_journal.specs.CallRecords.{Answers, AnswersStep, CallForm, CallKeeps, DoesRow, FitsMedia, HostFits, StepCall, TaskFits, heading, own_turn, refusal_noted, stepped_world}
+use Rattle.fam_journal.specs.CallRecords.{Answers, AnswersStep, CallForm, CallKeeps, DoesRow, FitsMedia, HostFits, IsLate, MediaCall, StepCall, TaskFits, heading, own_turn, refusal_noted, stepped_world}
 use Rattle.fam_journal.specs.Ends.{HasCounted, faults_of, is_answer_note}
 use Rattle.fam_journal.specs.Forms.{HostForm, HostFormed, IsFormed, Pairs, forms_behind, forms_of}
 use Rattle.fam_journal.specs.Kept.{Held}
@@ -66,6 +66,17 @@ own_named h n row.Mark below = (below, tt)
 own_named h n (row.Found k) below = (below, tt)
 own_named h n (row.Writing seq e) below = (below, tt)
 own_named h n (row.Answer reply) below = (below, tt)
+
+-- nothing is answered
+pub no_cause : (c : call.Call) (cause : Refusal) → None ≡ Some cause → IsLate c cause
+no_cause c cause e = absurd cc
+
+-- a step that is refused at once
+pub step_refused : (name : List ℕ) (lines : ℕ) (old new : WorldView) (cause : Refusal) (told : Option Image) (faults : ℕ) → refusal_in (call.Steps name) old lines ≡ Some cause → MediaCall (call.Steps name) lines (Some cause) told told faults faults old new → StepCall name lines (Some cause) false told told faults faults old new
+step_refused name lines old new cause told faults first x = record {
+  answers = record { answers = x.answers; over_is = ap (λ (n : List Note). list_any is_answer_note n) (sym (x.answers.refused cause first).0) };
+  keeps = x.keeps;
+}
 
 -- the media failed in the operation of a task
 module _ (state : Machines) (h : ℕ) (host : HostState) (host_is : slice_get state.hosts h ≡ Some host) (s : TaskState) (s_is : host.task ≡ Some s) (t : Task) (standing : StandsFor s.cmd s.me (length state.memory) t s.words s.made) where
@@ -145,7 +156,7 @@ module _ (name : List ℕ) (at lines : ℕ) (old : WorldView) (view : HostView) 
             (own_named at (length new.hosts) (note_of z) (subst (λ (n : ℕ). at < n) (sym count_is) within)) (headings same)
             (λ was. subst (FitsMedia lines) (sym hosts) (fits_kept lines at (λ v. next) old.hosts view view_is host_fits was))
             (λ is. subst IsFormed (sym world_is) (world_formed old is at view view_is t runs x.word next.cache))
-            (no_refusal at (note_of z)) free (λ cause e. absurd cc)
+            (no_refusal at (note_of z)) free (no_cause c)
             (λ is. inl (step_formed old is at view view_is t runs x.word next.cache lines name number free))
 
         served_keeps : (start : Image) → CallKeeps c start told now old new
@@ -209,7 +220,7 @@ module _ (name : List ℕ) (at lines : ℕ) (old : WorldView) (view : HostView) 
             free_answers c lines faults faults_now None old new (fault ∷ []) joined_fault (counted x.rose) later
             (subst (λ (n : ℕ). at < n) (sym count_is) within, tt) (headings same)
             (λ was. subst (FitsMedia lines) (sym hosts) (fits_kept lines at (λ v. next) old.hosts view view_is fault_fits was))
-            fault_formed refl free (λ cause e. absurd cc) fault_form
+            fault_formed refl free (no_cause c) fault_form
 
         fault_keeps : (start : Image) → CallKeeps c start told now old new
         fault_keeps start state told_is held =

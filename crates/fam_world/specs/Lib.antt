@@ -4,3 +4,4 @@ pub mod Moves
 pub mod Steps
 pub mod Turns
 pub mod Makes
+pub mod Finishes

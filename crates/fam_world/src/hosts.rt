@@ -5,7 +5,8 @@ ghost use Rattle.std.specs.FinMap as map;
 ghost use Rattle.fam_journal.specs.Members.{changed_at};
 ghost use Rattle.fam_commands.specs.Task.{starting};
 ghost use Rattle.fam_format.specs.Layout.{least_lines};
-ghost use Rattle.fam_tasks.specs.Sound.{IsServed, most_lines};
+ghost use Rattle.fam_base.specs.Commands.{IsSoundCmd};
+ghost use Rattle.fam_tasks.specs.Sound.{most_lines};
 ghost use Rattle.fam_world.specs.View.{views};
 
 use fam_base::{Cmd, HostName};
@@ -29,7 +30,7 @@ pub(crate) struct Host {
 /// Begins a command on a host, on an image of so many lines.
 pub(crate) fn begin_task(alloc: Global, hosts: &mut Vec<Host>, at: usize, lines: u64, cmd: Cmd)
     requires within { at < vec_len hosts.old }
-    requires served { IsServed cmd }
+    requires command { IsSoundCmd cmd }
     requires least { least_lines ≤ lines }
     requires most { lines ≤ most_lines }
     ensures views { views hosts.new.items

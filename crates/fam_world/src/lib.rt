@@ -11,6 +11,7 @@ mod make;
 mod moves;
 mod notes;
 mod quiet;
+mod steps;
 mod world;
 
 pub use fam_journal::{HostId, Refusal};

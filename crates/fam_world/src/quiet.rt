@@ -3,7 +3,8 @@
 ghost use Rattle.std.specs.Prelude.{◌≡◌, ◌+◌, ◌<◌, ◌≤◌, ◌++◌, ◌∷◌, [], ℕ, IsErrOf, IfOk, OnOk, vec_capacity, vec_len};
 ghost use Rattle.fam_journal.specs.Calls.{Begins, Declares, Halts, Stops};
 ghost use Rattle.fam_journal.specs.CallRecords.{WorldCall};
-ghost use Rattle.fam_tasks.specs.Sound.{IsServed, most_lines};
+ghost use Rattle.fam_base.specs.Commands.{IsSoundCmd};
+ghost use Rattle.fam_tasks.specs.Sound.{most_lines};
 ghost use Rattle.fam_world.specs.Answers.{IfAnswered};
 ghost use Rattle.fam_world.specs.View.{host_view, views, world_view};
 
@@ -93,7 +94,7 @@ pub(crate) fn begin_in(
     cmd: &Cmd,
 ) -> Result<(), WorldFault>
     requires few { vec_len hosts.old ≤ MOST_HOSTS }
-    requires served { IsServed cmd.now }
+    requires command { IsSoundCmd cmd.now }
     requires most { lines ≤ most_lines }
     ensures answered { IfAnswered result (λ answered. WorldCall (Begins name.now cmd.now) lines answered
         (world_view hosts.old.items journal.old.items) (world_view hosts.new.items journal.new.items)) }

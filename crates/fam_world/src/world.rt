@@ -4,20 +4,22 @@ ghost use Rattle.std.specs.Prelude.{◌≡◌, ◌≤◌, ℕ, IfOk, IsErrOf, On
 ghost use Rattle.fam_base.specs.declared.cmd.Cmd.{Cmd};
 ghost use Rattle.fam_machine.specs.HostMoves as how;
 ghost use Rattle.fam_journal.specs.ByWorld.{refusal_in};
-ghost use Rattle.fam_journal.specs.Calls.{Begins, Declares, Halts, Makes, Moves, Refuses, Stops};
-ghost use Rattle.fam_journal.specs.CallRecords.{MakeCall, MediaCall, WorldCall};
+ghost use Rattle.fam_journal.specs.Calls.{Begins, Declares, Finishes, Halts, Makes, Moves, Refuses, Stops};
+ghost use Rattle.fam_journal.specs.CallRecords.{FinishOutOfMemory, FitsMedia, MakeCall, MediaCall, StepCall, WorldCall};
 ghost use Rattle.fam_journal.specs.View.{HostView, empty_world};
-ghost use Rattle.fam_tasks.specs.Sound.{IsServed, most_lines};
-ghost use Rattle.fam_world.specs.Answers.{IfAnswered, refusal_told};
+ghost use Rattle.fam_base.specs.Commands.{IsSoundCmd};
+ghost use Rattle.fam_tasks.specs.Sound.{most_lines};
+ghost use Rattle.fam_world.specs.Answers.{IfAnswered, IfStepped, refusal_told};
 ghost use Rattle.fam_world.specs.View.{notes_view};
 
-use crate::fault::WorldFault;
+use crate::fault::{Moved, WorldFault};
 use crate::find;
 use crate::hosts::{Host, MOST_HOSTS};
 use crate::make::mkfs_in;
 use crate::moves::{OwnMove, move_in};
 use crate::notes::{add, make_room};
 use crate::quiet::{begin_in, halt_in, host_in, stop_in};
+use crate::steps::{finish_in, step_in};
 use fam_base::{Cmd, HostName, LineNo, Mask, OutOfMemory};
 use fam_journal::{HostId, Refusal};
 use fam_media::Media;
@@ -89,7 +91,7 @@ impl World {
 
     /// Begins a command on a host, on an image of so many lines. It is refused as `may_begin` says.
     pub fn begin(&mut self, lines: u64, name: &HostName, cmd: &Cmd) -> Result<(), WorldFault>
-        requires served { IsServed cmd.now }
+        requires command { IsSoundCmd cmd.now }
         requires most { lines ≤ most_lines }
 
         ensures answered { IfAnswered result (λ answered.
@@ -104,6 +106,35 @@ impl World {
             name,
             cmd,
         )
+    }
+
+    /// Does one operation of a host's task, on the host's cache and the one memory, and notes what comes of it. `NoHost`,
+    /// or else `Idle` where it has no task. Where the media fails the task answers so, and is gone.
+    ///
+    /// On `OutOfMemory` nothing was done, and the step may be tried again.
+    pub fn step<M: Media>(&mut self, media: &mut M, name: &HostName) -> Result<Moved, WorldFault>
+        requires fits { FitsMedia (M.size media.old) self.old.hosts }
+
+        ensures answered { IfStepped result (λ answered over. StepCall name.now (M.size media.old) answered over
+            (M.image media.old) (M.image media.new) (M.faults media.old) (M.faults media.new) self.old self.new) }
+        ensures undone { IsErrOf result WorldFault.OutOfMemory → media.new ≡ media.old }
+        ensures err { IsErrOf result WorldFault.OutOfMemory → self.new ≡ self.old }
+    {
+        step_in(&mut self.hosts, &mut self.journal, media, name)
+    }
+
+    /// Does operations of a host's task up to its answer. Refused as `step`.
+    ///
+    /// On `OutOfMemory` the operations before were done, and the task may be gone on with.
+    pub fn finish<M: Media>(&mut self, media: &mut M, name: &HostName) -> Result<(), WorldFault>
+        requires fits { FitsMedia (M.size media.old) self.old.hosts }
+
+        ensures answered { IfAnswered result (λ answered. MediaCall (Finishes name.now) (M.size media.old) answered
+            (M.image media.old) (M.image media.new) (M.faults media.old) (M.faults media.new) self.old self.new) }
+        ensures want { IsErrOf result WorldFault.OutOfMemory → FinishOutOfMemory name.now (M.size media.old)
+            (M.image media.old) (M.image media.new) (M.faults media.old) (M.faults media.new) self.old self.new }
+    {
+        finish_in(&mut self.hosts, &mut self.journal, media, name)
     }
 
     /// Ends a host's task; its cache stays. `NoHost`, or else `Idle` where it has none.

@@ -1,0 +1,18 @@
+use Rattle.std.proofs.Common.{◌++◌, ◌∷◌, [], refl, ap, subst, ◌∙◌, None, Some, Option}
+use Rattle.std.specs.Prelude.{IfSome}
+use Rattle.fam_commands.specs.Task.{Task}
+use Rattle.fam_journal.specs.CallRecords.{heading}
+use Rattle.fam_world.specs.Steps.{Around}
+use Rattle.fam_world.specs.View.{host_view, notes_view}
+use Rattle.fam_world.proofs.Saying.{step_cut, step_done}
+use Rattle.fam_world.proofs.steps.step_host.Goals as goal
+
+pub returns-in-Ok-clause-step : goal.returns-in-Ok-clause-step
+returns-in-Ok-clause-step g c = λ t e.
+    step_done c.args.at c.in-Ok.turn _ _ t c.operate_on.new.task e c.operate_on.ensures.runs c.say.ensures.task c.say.ensures.notes refl c.operate_on.ensures.steady.later c.say.ensures.over
+    c.in-Ok.ensures.turned c.in-Ok.ensures.goes c.in-Ok.ensures.keeps c.in-Ok.ensures.cache c.operate_on.ensures.within c.requires.fits
+
+pub returns-in-Err-MediaFault-clause-step : goal.returns-in-Err-MediaFault-clause-step
+returns-in-Err-MediaFault-clause-step g c = λ t e.
+    step_cut c.args.at t _ c.in-Err-MediaFault.line c.add.ensures refl c.operate_on.ensures.steady.later refl c.in-Err-MediaFault.ensures.copies
+    (subst (λ (o : Option Task). IfSome o _) e c.in-Err-MediaFault.ensures.failed) c.in-Err-MediaFault.ensures.rose
