@@ -9,7 +9,7 @@ use Rattle.fam_journal.specs.Names.{NamesCause}
 use Rattle.fam_notes.specs.declared.note.Note.{Note}
 use Rattle.fam_notes.specs.declared.note.Note.TheVariants as note
 
--- what an answer is in a journal: its reply, or the line at which the media failed. That a file can't be read yet is none
+-- what an answer is in a journal: its reply, or the line at which the media failed
 abbrev pub answer_of : Given → Option Answer
 answer_of (given.Ok seq) = option_map Replied (reply_of (given.Ok seq))
 answer_of (given.Played m tree) = option_map Replied (reply_of (given.Played m tree))
@@ -33,7 +33,6 @@ answer_of (given.IsDirectory m) = option_map Replied (reply_of (given.IsDirector
 answer_of (given.Differs m offset found wanted) = option_map Replied (reply_of (given.Differs m offset found wanted))
 answer_of (given.Length m size wanted) = option_map Replied (reply_of (given.Length m size wanted))
 answer_of (given.MediaFault line) = Some (MediaFault line.0)
-answer_of given.NotYet = None
 
 -- the note of a journal that a note stands for
 abbrev pub note_of : Note → Option journal.Note

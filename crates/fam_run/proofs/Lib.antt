@@ -1,4 +1,4 @@
 pub mod Operations
 pub mod Left
 pub mod Running
-pub mod Files
+pub mod Expected

@@ -1,8 +1,7 @@
 -- What comes of an operation, as the machine and the copies say it.
-use Rattle.std.proofs.Common.{ℕ, ◌≡◌, Bool, false, Option, refl, sym, ap, subst, ◌∙◌}
+use Rattle.std.proofs.Common.{ℕ, ◌≡◌, Option, ap, subst, ◌∙◌}
 use Rattle.fam_base.specs.Image.{Image}
 use Rattle.fam_machine.specs.declared.op.Op.{Op}
-use Rattle.fam_machine.specs.declared.op.Op.TheVariants.{Load, Store, WriteBack, Invalidate, Digest}
 use Rattle.fam_machine.specs.Caches.{Cache}
 use Rattle.fam_machine.specs.Cuts.{IsMachine}
 use Rattle.fam_machine.specs.Operations.{machine, operated, given}
@@ -11,7 +10,7 @@ use Rattle.fam_commands.specs.Task.{Task, op_of}
 use Rattle.fam_commands.specs.Turns.{turn_of}
 use Rattle.fam_media.specs.Outside.{IfModelled}
 use Rattle.fam_tasks.specs.declared.answer.Turn.{Turn}
-use Rattle.fam_tasks.specs.Tells.{Tells, is_digest}
+use Rattle.fam_tasks.specs.Tells.{Tells}
 use Rattle.fam_run.specs.Operation.{GoesOn, HasTurned}
 
 -- an operation that was done, and whose word the task was told
@@ -25,11 +24,3 @@ turned task new op word turn modelled left old held is done gives tells image mo
 pub goes_by_word : (task new : Task) (op : Op) (word : Option ℕ) (turn : Turn) (held : Cache) → op ≡ op_of task → word ≡ word_of op held → Tells (turn_of task word) turn new → GoesOn task held turn new
 goes_by_word task new op word turn held is gives tells =
     subst (λ (w : Option ℕ). Tells (turn_of task w) turn new) (gives ∙ ap (λ (o : Op). word_of o held) is) tells
-
--- what is no Digest by its form is none by the test
-pub no_digest : (op : Op) → (op ≡ Digest → ⊥) → is_digest op ≡ false
-no_digest (Load line k) other = refl
-no_digest (Store line k value) other = refl
-no_digest (WriteBack line) other = refl
-no_digest (Invalidate line) other = refl
-no_digest Digest other = absurd (other refl)

@@ -1,18 +1,18 @@
 //! A command that runs alone: one host, whose cache is empty at first.
 
-ghost use Rattle.std.specs.Prelude.{◌≡◌, ◌<◌, ◌≤◌, ℕ, List, None, IfOk, IfSome, OnErr, OnSome};
+ghost use Rattle.std.specs.Prelude.{◌≡◌, ◌<◌, ◌≤◌, ℕ, List, None, Some, IfOk, IfSome, OnErr, OnSome, slice_index};
 ghost use Rattle.std.specs.FinMap as map;
 ghost use Rattle.fam_base.specs.Image.{Image};
 ghost use Rattle.fam_base.specs.declared.cmd.Cmd.{Cmd};
 ghost use Rattle.fam_format.specs.Layout.{least_lines};
 ghost use Rattle.fam_media.specs.Causes.{IsSteady, Rose};
 ghost use Rattle.fam_media.specs.Outside.{IfModelled};
-ghost use Rattle.fam_base.specs.Commands.{mode_limit};
-ghost use Rattle.fam_rules.specs.DecideLaws.{IsAttr};
+ghost use Rattle.fam_base.specs.Commands.{IsSoundCmd, mode_limit};
+ghost use Rattle.fam_rules.specs.Content.{HoldsBytes};
+ghost use Rattle.fam_rules.specs.DecideLaws.{IsSoundWish};
 ghost use Rattle.fam_protocol.specs.Tasks.{IsCommand};
 ghost use Rattle.fam_machine.specs.Operations.{IsWithin};
-ghost use Rattle.fam_tasks.specs.Sound.{IsServed};
-ghost use Rattle.fam_run.specs.Files.{IsExpected, meets_a_file};
+ghost use Rattle.fam_run.specs.Expected.{IsExpected};
 ghost use Rattle.fam_run.specs.Operation.{ended};
 ghost use Rattle.fam_run.specs.Step.{HasOperated};
 ghost use Rattle.fam_machine.specs.Caches.{Cache};
@@ -21,7 +21,7 @@ ghost use Rattle.fam_run.specs.Run.{HasLeft, HasStopped, Ran, Running, fault_of}
 
 use crate::operation::operate;
 use crate::reading::read_next;
-use fam_base::{Attr, Cmd, OutOfMemory};
+use fam_base::{Attr, Cmd, Content, Kind, OutOfMemory, Path, Stripe};
 use fam_cache::{HostCache, OperationFault};
 use fam_media::Media;
 use fam_tasks::{Answer, Task, Turn};
@@ -40,6 +40,39 @@ fn answer_of(turn: Turn) -> Option<Answer>
 }
 
 /// Does the next operation of a command that has not answered, and gives the answer with which it ends, if it does.
+/// It stands apart from the reads, which are most of the operations and have no room for a turn with an entry.
+#[inline(never)]
+fn any_operation<M: Media>(
+    cache: &mut HostCache,
+    task: &mut Task,
+    media: &mut M,
+) -> Result<Option<Answer>, OutOfMemory>
+    requires lines { task.old.lines ≡ M.size media.old }
+
+    ensures operated { IfOk result (HasOperated (record {
+      task = task.old;
+      next = task.new;
+      old = cache.old.lines;
+      new = cache.new.lines;
+      modelled = M.image media.old;
+      left = M.image media.new;
+      size = M.size media.old;
+      before = M.faults media.old;
+      now = M.faults media.new;
+    })) }
+    ensures within { IsWithin task.old.lines (op_of task.old) }
+    ensures undone { OnErr result (media.new ≡ media.old) }
+
+    ensures steady { IsSteady M.size M.faults media.old media.new }
+{
+    match operate(cache, task, media) {
+        Ok(turn) => Ok(answer_of(turn)),
+        Err(OperationFault::MediaFault(line)) => Ok(Some(Answer::MediaFault(line))),
+        Err(OperationFault::OutOfMemory) => Err(OutOfMemory),
+    }
+}
+
+/// As `any_operation`, and tries first whether the operation is a read after which the command reads on.
 #[inline(always)]
 fn go_on<M: Media>(
     cache: &mut HostCache,
@@ -66,11 +99,7 @@ fn go_on<M: Media>(
 {
     match read_next(cache, task, media) {
         Ok(true) => Ok(None),
-        Ok(false) => match operate(cache, task, media) {
-            Ok(turn) => Ok(answer_of(turn)),
-            Err(OperationFault::MediaFault(line)) => Ok(Some(Answer::MediaFault(line))),
-            Err(OperationFault::OutOfMemory) => Err(OutOfMemory),
-        },
+        Ok(false) => any_operation(cache, task, media),
         Err(OperationFault::MediaFault(line)) => Ok(Some(Answer::MediaFault(line))),
         Err(OperationFault::OutOfMemory) => Err(OutOfMemory),
     }
@@ -109,22 +138,77 @@ fn finish<M: Media>(
     }
 }
 
-/// A user and a group fit their words, where the mode is within its limit.
-fn is_attr(attr: Attr)
+/// A directory may be wished for, where its mode is within its limit. A call does nothing.
+fn is_directory_wish(path: &Path, attr: Attr)
     requires mode { attr.mode ≤ mode_limit }
-    ensures { IsAttr attr }
+    ensures { IsSoundWish (record { kind = Kind.Directory; path = path.now; size = 0; attr = attr; stripe = None }) }
 {
-    let _ = attr;
+    // They are a path's.
+    let _ = path.bytes();
 }
 
-/// A command that a task can run is within its limits: its path is one, and its numbers fit their words.
+/// So may a file of any size. A call does nothing.
+fn is_file_wish(path: &Path, size: u64, attr: Attr, stripe: Option<Stripe>)
+    requires mode { attr.mode ≤ mode_limit }
+    ensures { IsSoundWish (record { kind = Kind.File; path = path.now; size = size; attr = attr; stripe = stripe }) }
+{
+    // They are a path's.
+    let _ = path.bytes();
+    let _ = size;
+    let _ = stripe;
+}
+
+/// Bytes are below 256. A call does nothing.
+fn are_bytes(bytes: &[u8])
+    ensures { (i : ℕ) → slice_index bytes.now i < 256 }
+{
+    let _ = bytes;
+}
+
+/// So are those of a content. A call does nothing.
+fn holds_bytes(content: &Content)
+    ensures { HoldsBytes content.now }
+{
+    match content {
+        Content::Bytes(bytes) => are_bytes(bytes.as_slice()),
+        Content::Seed(_) => {}
+        Content::Zero => {}
+    }
+}
+
+/// A sound command is within its limits: its path is one, its numbers fit their words, and its bytes are bytes. A call
+/// does nothing.
 fn is_command(cmd: &Cmd)
-    requires served { IsServed cmd.now }
+    requires command { IsSoundCmd cmd.now }
     ensures { IsCommand cmd.now }
 {
-    if let Cmd::Mkdir { path, attr } = cmd {
-        path.bytes();
-        is_attr(*attr);
+    match cmd {
+        Cmd::Mkdir { path, attr } => is_directory_wish(path, *attr),
+        Cmd::Creat {
+            path,
+            size,
+            attr,
+            stripe,
+            fill,
+        } => {
+            is_file_wish(path, *size, *attr, *stripe);
+            holds_bytes(fill);
+        }
+        Cmd::Cp {
+            path,
+            attr,
+            stripe,
+            bytes,
+        } => {
+            let bytes = bytes.as_slice();
+            is_file_wish(path, bytes.len() as u64, *attr, *stripe);
+            are_bytes(bytes);
+        }
+        Cmd::Logplay => {}
+        Cmd::Verify { .. } => {}
+        Cmd::Read { .. } => {}
+        Cmd::Check { .. } => {}
+        Cmd::Fsck => {}
     }
 }
 
@@ -139,7 +223,7 @@ pub fn run<M: Media>(
     me: Uuid,
     media: &mut M,
 ) -> Result<Answer, OutOfMemory>
-    requires served { IsServed cmd }
+    requires command { IsSoundCmd cmd }
     requires least { least_lines ≤ M.size media.old }
 
     // Where an image is modelled, the command's operations were done on it, one after another, up to the answer or the
@@ -148,9 +232,9 @@ pub fn run<M: Media>(
         (λ image. Ran cmd me image map.empty answer (M.image media.new))) }
     ensures stopped { OnErr result (IfModelled (M.image media.old)
         (λ image. HasStopped cmd me image map.empty (M.image media.new))) }
-    // Without a fault the answer, and what is left, are those of the rules, or NotYet where the command meets a file.
+    // Without a fault the answer, and what is left, are those of the rules.
     ensures expected { IfOk result (λ answer. fault_of answer ≡ None → IfModelled (M.image media.old)
-        (λ image. IsExpected (meets_a_file image me cmd) image me cmd answer (M.image media.new))) }
+        (λ image. IsExpected image me cmd answer (M.image media.new))) }
     // A fault is answered only where there was one.
     ensures failed { IfOk result (λ answer.
         OnSome (fault_of answer) (Rose (M.faults media.old) (M.faults media.new))) }

@@ -9,7 +9,9 @@ use fam_cache::{HostCache, OperationFault};
 use fam_format::{GATE_LINE, LOG_LINE};
 use fam_media::{Media, MemMedia};
 use fam_tasks::{Answer, Task, Turn};
-use images::{LINES, SLOTS_LINE, directory, file, holding, master, mkdir, other, played, ran};
+use images::{
+    LINES, SLOTS_LINE, creat, directory, file, holding, master, mkdir, other, played, ran, verify,
+};
 use std::alloc::Global;
 use std::test::Fail;
 
@@ -44,11 +46,37 @@ fn commands_end_where_they_must(rt: HostRuntime) -> Result<(), Fail> {
     let (mut media, _) = holding(rt.alloc(), &[directory(b"a")?, file(b"a/b")?])?;
     let refused = ran(rt.alloc(), mkdir(b"c")?, other(), &mut media)?;
     assert!(rt; matches!(refused, Answer::NotMaster { .. }));
-    let stopped = ran(rt.alloc(), mkdir(b"c")?, master(), &mut media)?;
-    assert!(rt; matches!(stopped, Answer::NotYet));
+    let below = ran(rt.alloc(), mkdir(b"a/b/c")?, master(), &mut media)?;
+    assert!(rt; matches!(below, Answer::ParentIsFile));
     let mut blank = MemMedia::new(rt.alloc(), LINES)?;
     let none = ran(rt.alloc(), Cmd::Logplay, other(), &mut blank)?;
     assert!(rt; matches!(none, Answer::NoSuper(0)));
+    Ok(())
+}
+
+#[test]
+fn a_file_is_found_by_the_next_command(rt: HostRuntime) -> Result<(), Fail> {
+    let (mut media, _) = holding(rt.alloc(), &[])?;
+    let first = ran(rt.alloc(), creat(b"v", 130)?, master(), &mut media)?;
+    assert!(rt; matches!(first, Answer::Ok(0)));
+    let same = ran(rt.alloc(), verify(b"v", 1)?, other(), &mut media)?;
+    assert!(rt; matches!(same, Answer::Same { m: 1 }));
+    let differs = ran(rt.alloc(), verify(b"v", 0)?, other(), &mut media)?;
+    assert!(rt;
+        matches!(
+            differs,
+            Answer::Differs {
+                m: 1,
+                offset: 0,
+                found: 0x9b,
+                wanted: 0xdf
+            }
+        )
+    );
+    let Answer::Report(report) = ran(rt.alloc(), Cmd::Fsck, other(), &mut media)? else {
+        panic!(rt; "no report");
+    };
+    assert_eq!(rt; report.files, 1);
     Ok(())
 }
 

@@ -160,7 +160,6 @@ pub fn answer_text(alloc: Global, answer: &Answer) -> Result<Vec<u8>, OutOfMemor
             let at = at.0;
             line_of(alloc, format!(in alloc; "media fault {at}"))
         }
-        Answer::NotYet => line(alloc, "not yet"),
         Answer::NoSuper(word) => super_line(alloc, SuperFault::NoSuper(*word)),
         Answer::BadSuper {
             field,

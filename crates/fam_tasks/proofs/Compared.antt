@@ -37,13 +37,13 @@ module _ (words wanted : List ℕ) (against : Content) (size j : ℕ) (holds : H
       elim (cases_eq (byte_in words b) (content_byte against (64 * j + b))) [
         | inl same ↦ not_from_true _ (eq-eqb (byte_in words b) (content_byte against (64 * j + b)) same)
         | inr other ↦ absurd (none (record {
-            from = omega arith;
-            inside = omega arith;
-            below = below;
-            unlike = λ same.
-                let place : (64 * j + b) % 64 ≡ b = omega arith in
-                other (sym (ap (byte_in words) place) ∙ same ∙ ap (byte_in wanted) place ∙ wanted_byte b small below);
-          }))
+          from = omega arith;
+          inside = omega arith;
+          below = below;
+          unlike = λ same.
+              let place : (64 * j + b) % 64 ≡ b = omega arith in
+              other (sym (ap (byte_in words) place) ∙ same ∙ ap (byte_in wanted) place ∙ wanted_byte b small below);
+        }))
       ]
 
   -- no difference is found

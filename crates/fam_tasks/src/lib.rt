@@ -15,9 +15,9 @@ mod parts;
 mod replies;
 mod slots;
 mod task;
-mod wanted;
 #[cfg(test)]
 mod tests;
+mod wanted;
 
 pub use answer::{Answer, TaskNote, Turn};
 pub use byte_text::ByteText;

@@ -16,7 +16,7 @@ ghost use Rattle.fam_tasks.specs.Slots.{added_in, entries_in, survey_in, IsPlanF
 
 use fam_base::{Cmd, Entry, OutOfMemory, Params, Path};
 use fam_format::{Reason, SLOT_WORDS};
-use fam_fsck::Fsck;
+use fam_fsck::{Fsck, check};
 use fam_plan::{AddFault, Plan};
 use fam_rules::{Checked, Refused, Report};
 use fam_tree::Tree;
@@ -149,13 +149,6 @@ pub(crate) fn tree_of(alloc: Global, plan: Option<Plan>) -> Tree
         Some(plan) => plan.into_tree(),
         None => Tree::new(alloc),
     }
-}
-
-fn check(tree: &Tree, listing: &[Entry]) -> Checked
-    requires { IsListing listing.now }
-    ensures { result ≡ checked tree.now listing.now }
-{
-    Checked { missing: 0, extra: 0, changed: 0, first: None }
 }
 
 /// How the tree of a plan's entries differs from a listing.

@@ -1,11 +1,12 @@
 //! Images in memory, whose lines are spelled by the crates below, and commands on them.
 
 ghost use Rattle.std.specs.Prelude.{IfOk};
-ghost use Rattle.fam_tasks.specs.Sound.{IsServed};
+ghost use Rattle.fam_base.specs.Commands.{IsSoundCmd};
 
 use crate::solo::run;
 use fam_base::{
-    Attr, BadPath, Cmd, Entry, Extents, Kind, Line, LineNo, MapKind, OutOfMemory, Params, Path,
+    Attr, BadPath, Cmd, Content, Entry, Extents, Kind, Line, LineNo, MapKind, OutOfMemory, Params,
+    Path,
 };
 use fam_entry::{spell, spell_log};
 use fam_format::{GATE_LINE, LEAST_LINES, LOG_LINE};
@@ -67,7 +68,7 @@ pub fn file(path: &[u8]) -> Result<Entry, BadPath> {
 
 /// A mkdir whose entry is `directory` of that path.
 pub fn mkdir(path: &[u8]) -> Result<Cmd, BadPath>
-    ensures { IfOk result (λ cmd. IsServed cmd) }
+    ensures { IfOk result IsSoundCmd }
 {
     let attr = Attr {
         mode: 0o755,
@@ -77,6 +78,34 @@ pub fn mkdir(path: &[u8]) -> Result<Cmd, BadPath>
     Ok(Cmd::Mkdir {
         path: Path::read(path)?,
         attr,
+    })
+}
+
+/// A creat of so many bytes of the stream of seed 1.
+pub fn creat(path: &[u8], size: u64) -> Result<Cmd, BadPath>
+    ensures { IfOk result IsSoundCmd }
+{
+    let attr = Attr {
+        mode: 0o755,
+        uid: 10,
+        gid: 20,
+    };
+    Ok(Cmd::Creat {
+        path: Path::read(path)?,
+        size,
+        attr,
+        stripe: None,
+        fill: Content::Seed(1),
+    })
+}
+
+/// A comparison with the stream of a seed.
+pub fn verify(path: &[u8], seed: u64) -> Result<Cmd, BadPath>
+    ensures { IfOk result IsSoundCmd }
+{
+    Ok(Cmd::Verify {
+        path: Path::read(path)?,
+        against: Content::Seed(seed),
     })
 }
 
@@ -125,7 +154,7 @@ pub fn holding(alloc: Global, entries: &[Entry]) -> Result<(MemMedia, u64), Fail
 
 /// Runs a command on an image that has a gate.
 pub fn ran(alloc: Global, cmd: Cmd, me: Uuid, media: &mut MemMedia) -> Result<Answer, OutOfMemory>
-    requires { IsServed cmd }
+    requires { IsSoundCmd cmd }
 {
     if media.lines() < LEAST_LINES {
         return Err(OutOfMemory);

@@ -163,13 +163,7 @@ impl Task {
             Tells (turns.wish_turn self.old (wish_of self.old.cmd)) turn self.new) }
         ensures err { OnErr result (self.new ≡ self.old) }
     {
-        match decided(
-            self.alloc,
-            &mut self.plan,
-            &self.params,
-            &self.cmd,
-            self.me,
-        )? {
+        match decided(self.alloc, &mut self.plan, &self.params, &self.cmd, self.me)? {
             Ok(entry) => self.write(&entry),
             Err(refused) => Ok(done(&mut self.phase, refusal_answer(refused))),
         }

@@ -1,5 +1,6 @@
 //! Commands on files, driven by hand.
 
+ghost use Rattle.std.specs.Prelude.{IfOk};
 ghost use Rattle.fam_base.specs.Commands.{IsSoundCmd};
 
 use super::driver::{
@@ -7,7 +8,7 @@ use super::driver::{
     other, read, verify,
 };
 use crate::answer::{Answer, TaskNote};
-use fam_base::{Cmd, Content, Entry, LineNo, MapKind, Path, SharedBytes, Stripe};
+use fam_base::{Cmd, Content, Entry, LineNo, MapKind, Path, SharedBytes, SharedEntries, Stripe};
 use fam_entry::spell;
 use fam_format::GATE_LINE;
 use fam_machine::Op;
@@ -16,6 +17,14 @@ use std::test::Fail;
 
 /// The first word of the stream of seed 0, and that of seed 1: the bytes df 23 0b .. and 9b c2 03 ..
 const OF_SEED_1: u64 = 0xcfc5_d07f_6f03_c29b;
+
+/// A comparison of the tree with a listing of no entries.
+fn check_of_none(alloc: Global) -> Result<Cmd, Fail>
+    ensures { IfOk result IsSoundCmd }
+{
+    let listing = SharedEntries::new(alloc, Vec::new(alloc))?;
+    Ok(Cmd::Check { listing })
+}
 
 /// An image with these entries and these words behind the log.
 fn holding(alloc: Global, entries: &[Entry], words: &[u64]) -> Result<Image, Fail> {
@@ -123,10 +132,10 @@ fn a_read_gives_the_wanted_bytes(rt: HostRuntime) -> Result<(), Fail> {
     let image = holding(rt.alloc(), &entries, &[OF_SEED_1, 9])?;
     let (ops, answer) = asked(rt.alloc(), &image, read(b"v", 0, 4_096)?)?;
     assert_eq!(rt; ops, 187);
-    assert!(rt; bytes_of(&answer) == b"\x9b\xc2\x03\x6f\x7f\xd0\xc5\xcf");
+    assert!(rt; bytes_of(&answer) == b"\x9b\xc2\x03\x6f\x7f\xd0\xc5\xcf".as_slice());
     let (ops, answer) = asked(rt.alloc(), &image, read(b"v", 8, 1)?)?;
     assert_eq!(rt; ops, 178);
-    assert!(rt; bytes_of(&answer) == b"");
+    assert!(rt; bytes_of(&answer) == b"".as_slice());
     let (_, answer) = asked(rt.alloc(), &image, read(b"d", 0, 1)?)?;
     assert!(rt; matches!(answer, Some(Answer::IsDirectory { m: 2 })));
     Ok(())
@@ -145,7 +154,7 @@ fn a_read_begins_at_the_line_of_its_offset(rt: HostRuntime) -> Result<(), Fail> 
     assert_eq!(rt; ops.len(), 123);
     assert!(rt; ops.get(105) == Some(&Op::Invalidate(LineNo(DATA_LINE + 1))));
     assert!(rt; ops.get(114) == Some(&Op::Invalidate(LineNo(DATA_LINE + 2))));
-    assert!(rt; bytes_of(&answer) == b"\x0f\0\0\0\0\0\0\0\x10");
+    assert!(rt; bytes_of(&answer) == b"\x0f\0\0\0\0\0\0\0\x10".as_slice());
     Ok(())
 }
 
@@ -251,5 +260,20 @@ fn a_check_of_all_slots_reports(rt: HostRuntime) -> Result<(), Fail> {
     let (ops, answer) = asked(rt.alloc(), &image, Cmd::Fsck)?;
     assert_eq!(rt; ops, 2);
     assert!(rt; matches!(answer, Some(Answer::Report(report)) if report.used == 0));
+    Ok(())
+}
+
+#[test]
+fn a_tree_is_checked_against_a_listing(rt: HostRuntime) -> Result<(), Fail> {
+    let entries = [directory(b"d")?, file_at(b"d/v", 8, DATA_BYTE)?];
+    let image = Image::new(rt.alloc(), &entries)?;
+    let (ops, answer) = asked(rt.alloc(), &image, check_of_none(rt.alloc())?)?;
+    assert_eq!(rt; ops, 178);
+    let Some(Answer::Checked { m: 2, checked }) = answer else {
+        panic!(rt; "not checked");
+    };
+    assert_eq!(rt; checked.missing, 2);
+    assert_eq!(rt; checked.extra, 0);
+    assert!(rt; checked.first == Some(Path::read(b"d")?));
     Ok(())
 }

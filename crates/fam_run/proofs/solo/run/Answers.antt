@@ -5,7 +5,7 @@ use Rattle.fam_base.specs.Image.{IsNormal}
 use Rattle.fam_machine.proofs.CleanCaches.{clean_empty}
 use Rattle.fam_media.specs.Outside.{IfModelled}
 use Rattle.fam_run.specs.Run.{Running}
-use Rattle.fam_run.proofs.Files.{run_expected}
+use Rattle.fam_run.proofs.Expected.{run_expected}
 use Rattle.fam_run.proofs.Running.{not_begun}
 use Rattle.fam_run.proofs.solo.run.Goals as goal
 
@@ -31,5 +31,5 @@ returns-clause-expected g c =
     IfOk-weaker c.finish.result _ _
     (λ answer ran. λ no_fault image is.
     let count : length image ≡ g.M.Media.size c.args.media.now = g.met.M.Media.modelled c.args.media.now image is in
-    run_expected image c.args.me c.args.cmd map.empty answer (g.M.Media.image c.finish.new.media) (omega (arith, count, c.requires.least)) (omega (arith, count, c.lines.ensures.limit)) (subst IsNormal is (g.met.M.Media.normal c.args.media.now)) clean_empty c.requires.served c.is_command.ensures no_fault (ran c.args.cmd c.args.me image map.empty (begins image is)))
+    run_expected image c.args.me c.args.cmd map.empty answer (g.M.Media.image c.finish.new.media) (omega (arith, count, c.requires.least)) (omega (arith, count, c.lines.ensures.limit)) (subst IsNormal is (g.met.M.Media.normal c.args.media.now)) clean_empty c.is_command.ensures no_fault (ran c.args.cmd c.args.me image map.empty (begins image is)))
     c.finish.ensures.ran
