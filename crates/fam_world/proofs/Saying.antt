@@ -14,6 +14,9 @@ use Rattle.fam_machine.specs.Cuts.{HasFailed, IsMachine}
 use Rattle.fam_machine.specs.OneLine.{IsHeld, brought, words_of}
 use Rattle.fam_machine.specs.Operations.{IsWithin, Machine, given, given_by, machine, op_line, operated}
 use Rattle.fam_machine.proofs.CacheLemmas.{cell_at-with_cell_same}
+use Rattle.fam_cache.specs.declared.fault.OperationFault.{OperationFault}
+use Rattle.fam_cache.specs.declared.fault.OperationFault.TheVariants as operation_fault
+use Rattle.fam_cache.specs.Faults.{IfMediaFault}
 use Rattle.fam_cache.specs.Operations.{LeavesCache, word_of}
 use Rattle.fam_cache.proofs.Performed.{others_left}
 use Rattle.fam_cache.proofs.StoreLemmas.{brought_words}
@@ -187,6 +190,18 @@ step_cut at t a line joined host later task cache failed rose = record {
   later = later;
   how = inr record { line = line; notes_are = refl; task = task; cache = cache; failed = failed; rose = rose; over_is = refl };
 }
+
+-- a fault of the media names its line
+fault_at : (f : OperationFault) (line : LineNo) (P : LineNo → Type 0) → f ≡ operation_fault.MediaFault line → IfMediaFault f P → P line
+fault_at f line P is p = subst (λ (z : OperationFault). IfMediaFault z P) is p
+
+pub step_lost : (at : ℕ) (t : Task) (a : Around) (line : LineNo) (f : OperationFault) → f ≡ operation_fault.MediaFault line → a.old.task ≡ Some t → a.after ≡ a.before ++ Answered at (MediaFault line.0) ∷ [] → heading a.new ≡ heading a.old → a.faults ≤ a.faults_now → a.new.task ≡ None → a.new.cache ≡ a.old.cache
+    → IfMediaFault f (λ line. IfSome a.old.task (λ t. IfModelled a.told (λ image. HasFailed (op_of t) (machine image a.old.cache) line a.now a.new.cache))) → IfMediaFault f (λ line. Rose a.faults a.faults_now) → IsStep at t a true
+step_lost at t a line f is e joined host later task cache failed rose =
+    step_cut at t a line joined host later task cache
+    (subst (λ (o : Option Task). IfSome o (λ t. IfModelled a.told (λ image. HasFailed (op_of t) (machine image a.old.cache) line a.now a.new.cache))) e
+    (fault_at f line (λ line. IfSome a.old.task (λ t. IfModelled a.told (λ image. HasFailed (op_of t) (machine image a.old.cache) line a.now a.new.cache))) is failed))
+    (fault_at f line (λ line. Rose a.faults a.faults_now) is rose)
 
 -- What a host's task is.
 

@@ -161,6 +161,7 @@ pub(crate) fn mkfs_in<M: Media>(
     ensures undone { IsErrOf result WorldFault.OutOfMemory → media.new ≡ media.old }
     ensures hosts { IsErrOf result WorldFault.OutOfMemory
         → world_view hosts.new.items journal.new.items ≡ world_view hosts.old.items journal.old.items }
+    ensures size { M.size media.new ≡ M.size media.old }
     ensures few { vec_len hosts.new ≤ MOST_HOSTS }
 {
     is_uuid(fs);

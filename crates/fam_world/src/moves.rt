@@ -90,6 +90,7 @@ pub(crate) fn move_in<M: Media>(
     ensures undone { IsErrOf result WorldFault.OutOfMemory → media.new ≡ media.old }
     ensures hosts { IsErrOf result WorldFault.OutOfMemory
         → world_view hosts.new.items journal.new.items ≡ world_view hosts.old.items journal.old.items }
+    ensures size { M.size media.new ≡ M.size media.old }
     ensures len { vec_len hosts.new ≡ vec_len hosts.old }
 {
     if make_room(journal).is_err() {

@@ -167,6 +167,7 @@ pub(crate) fn step_in<M: Media>(
     ensures undone { IsErrOf result WorldFault.OutOfMemory → media.new ≡ media.old }
     ensures hosts { IsErrOf result WorldFault.OutOfMemory
         → world_view hosts.new.items journal.new.items ≡ world_view hosts.old.items journal.old.items }
+    ensures size { M.size media.new ≡ M.size media.old }
     ensures few { vec_len hosts.new ≤ MOST_HOSTS }
 {
     if make_room(journal).is_err() {
@@ -202,6 +203,7 @@ fn finish_at<M: Media>(
         (world_view hosts.new.items journal.new.items) (M.image media.new) (M.faults media.new) }
     ensures over { OnOk result ((view : HostView) → slice_get (views hosts.new.items) at ≡ Some view
         → view.task ≡ None) }
+    ensures size { M.size media.new ≡ M.size media.old }
     ensures len { vec_len hosts.new ≡ vec_len hosts.old }
 {
     'operations: loop {
@@ -228,6 +230,7 @@ pub(crate) fn finish_in<M: Media>(
     ensures want { IsErrOf result WorldFault.OutOfMemory → FinishOutOfMemory name.now (M.size media.old)
         (M.image media.old) (M.image media.new) (M.faults media.old) (M.faults media.new)
         (world_view hosts.old.items journal.old.items) (world_view hosts.new.items journal.new.items) }
+    ensures size { M.size media.new ≡ M.size media.old }
     ensures few { vec_len hosts.new ≤ MOST_HOSTS }
 {
     if make_room(journal).is_err() {

@@ -119,6 +119,7 @@ impl World {
             (M.image media.old) (M.image media.new) (M.faults media.old) (M.faults media.new) self.old self.new) }
         ensures undone { IsErrOf result WorldFault.OutOfMemory → media.new ≡ media.old }
         ensures err { IsErrOf result WorldFault.OutOfMemory → self.new ≡ self.old }
+        ensures size { M.size media.new ≡ M.size media.old }
     {
         step_in(&mut self.hosts, &mut self.journal, media, name)
     }
@@ -184,6 +185,7 @@ impl World {
             answered (M.image media.old) (M.image media.new) (M.faults media.old) (M.faults media.new) self.old self.new) }
         ensures undone { IsErrOf result WorldFault.OutOfMemory → media.new ≡ media.old }
         ensures err { IsErrOf result WorldFault.OutOfMemory → self.new ≡ self.old }
+        ensures size { M.size media.new ≡ M.size media.old }
     {
         mkfs_in(
             &mut self.hosts,
@@ -209,6 +211,7 @@ impl World {
             answered (M.image media.old) (M.image media.new) (M.faults media.old) (M.faults media.new) self.old self.new) }
         ensures undone { IsErrOf result WorldFault.OutOfMemory → media.new ≡ media.old }
         ensures err { IsErrOf result WorldFault.OutOfMemory → self.new ≡ self.old }
+        ensures size { M.size media.new ≡ M.size media.old }
     {
         move_in(
             &mut self.hosts,
@@ -232,6 +235,7 @@ impl World {
             answered (M.image media.old) (M.image media.new) (M.faults media.old) (M.faults media.new) self.old self.new) }
         ensures undone { IsErrOf result WorldFault.OutOfMemory → media.new ≡ media.old }
         ensures err { IsErrOf result WorldFault.OutOfMemory → self.new ≡ self.old }
+        ensures size { M.size media.new ≡ M.size media.old }
     {
         move_in(
             &mut self.hosts,
@@ -256,6 +260,7 @@ impl World {
             answered (M.image media.old) (M.image media.new) (M.faults media.old) (M.faults media.new) self.old self.new) }
         ensures undone { IsErrOf result WorldFault.OutOfMemory → media.new ≡ media.old }
         ensures err { IsErrOf result WorldFault.OutOfMemory → self.new ≡ self.old }
+        ensures size { M.size media.new ≡ M.size media.old }
     {
         move_in(
             &mut self.hosts,

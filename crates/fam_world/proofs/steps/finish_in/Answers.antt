@@ -1,5 +1,6 @@
-use Rattle.std.proofs.Common.{◌≡◌, ◌<◌, ◌++◌, ◌∷◌, [], List, length, refl, ap, sym, subst, ◌∙◌, arith}
+use Rattle.std.proofs.Common.{◌++◌, ◌∷◌, [], List, refl, ap, sym, subst, ◌∙◌}
 use Rattle.fam_journal.specs.Calls as call
+use Rattle.fam_journal.specs.CallRecords.{FinishOutOfMemory}
 use Rattle.fam_journal.specs.Notes.{Note, Refused}
 use Rattle.fam_journal.specs.View.{WorldView}
 use Rattle.fam_notes.specs.declared.note.Note.{Note as Kept}
@@ -44,3 +45,14 @@ returns-in-Err-finish_at-clause-want g c = λ _.
     let free = c.in-Ok.ensures.placed size old.journal in
     let far = subst (λ (j : List Note). SoFar at size (record { hosts = views c.args.hosts.now.items; journal = j }) (g.M.Media.image c.args.media.now) (g.M.Media.faults c.args.media.now) (world_view c.finish_at.new.hosts.items c.finish_at.new.journal.items) (g.M.Media.image c.finish_at.new.media) (g.M.Media.faults c.finish_at.new.media)) (ap notes_view c.make_room.ensures.same) c.finish_at.ensures.far in
     finish_lacks c.args.name.now at size old _ _ _ _ _ far free.number free.free free.within (g.met.M.Media.modelled c.args.media.now)
+
+pub returns-then-is_err-clause-want : goal.returns-then-is_err-clause-want
+returns-then-is_err-clause-want g c = λ _.
+    let old : WorldView = world_view c.args.hosts.now.items c.args.journal.now.items in
+    let size = g.M.Media.size c.args.media.now in
+    let told = g.M.Media.image c.args.media.now in
+    let faults = g.M.Media.faults c.args.media.now in
+    subst (λ (j : List Note). FinishOutOfMemory c.args.name.now size told told faults faults old (record { hosts = old.hosts; journal = j })) (sym (ap notes_view c.make_room.ensures.same)) (finish_nothing c.args.name.now size told faults old)
+
+pub finish_at-requires-clause-number : goal.finish_at-requires-clause-number
+finish_at-requires-clause-number g c = (c.in-Ok.ensures.placed (g.M.Media.size c.args.media.now) (notes_view c.make_room.new.journal.items)).number

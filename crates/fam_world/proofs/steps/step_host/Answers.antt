@@ -1,10 +1,5 @@
-use Rattle.std.proofs.Common.{◌++◌, ◌∷◌, [], refl, ap, subst, ◌∙◌, None, Some, Option}
-use Rattle.std.specs.Prelude.{IfSome}
-use Rattle.fam_commands.specs.Task.{Task}
-use Rattle.fam_journal.specs.CallRecords.{heading}
-use Rattle.fam_world.specs.Steps.{Around}
-use Rattle.fam_world.specs.View.{host_view, notes_view}
-use Rattle.fam_world.proofs.Saying.{step_cut, step_done}
+use Rattle.std.proofs.Common.{refl}
+use Rattle.fam_world.proofs.Saying.{step_done, step_lost}
 use Rattle.fam_world.proofs.steps.step_host.Goals as goal
 
 pub returns-in-Ok-clause-step : goal.returns-in-Ok-clause-step
@@ -14,5 +9,5 @@ returns-in-Ok-clause-step g c = λ t e.
 
 pub returns-in-Err-MediaFault-clause-step : goal.returns-in-Err-MediaFault-clause-step
 returns-in-Err-MediaFault-clause-step g c = λ t e.
-    step_cut c.args.at t _ c.in-Err-MediaFault.line c.add.ensures refl c.operate_on.ensures.steady.later refl c.in-Err-MediaFault.ensures.copies
-    (subst (λ (o : Option Task). IfSome o _) e c.in-Err-MediaFault.ensures.failed) c.in-Err-MediaFault.ensures.rose
+    step_lost c.args.at t _ c.in-Err-MediaFault.line c.in-Err-MediaFault.field-0 c.in-Err-MediaFault.field-0-is e c.add.ensures refl c.operate_on.ensures.steady.later refl c.in-Err-MediaFault.ensures.copies
+    c.in-Err-MediaFault.ensures.failed c.in-Err-MediaFault.ensures.rose

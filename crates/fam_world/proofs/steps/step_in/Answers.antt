@@ -51,3 +51,17 @@ returns-in-Ok-step_host-clause-answered g c =
       faults = g.M.Media.faults c.args.media.now;
       faults_now = g.M.Media.faults c.step_host.new.media;
     }) (is_over c.in-Ok-step_host.moved)) (ap notes_view c.make_room.ensures.same) (c.in-Ok-step_host.ensures.step t.0 t.1))
+
+pub step_host-requires-clause-runs : goal.step_host-requires-clause-runs
+step_host-requires-clause-runs g c =
+    let items = c.args.hosts.now.items in
+    let x = c.index_mut.result.now in
+    let at_is = slice_get_read items (length items) c.in-Ok.at x refl (omega (arith, c.in-Ok.ensures.within)) c.index_mut.ensures.value in
+    c.in-Ok.ensures.runs (host_view x) (map_at host_view items c.in-Ok.at x at_is)
+
+pub step_host-requires-clause-fits : goal.step_host-requires-clause-fits
+step_host-requires-clause-fits g c =
+    let items = c.args.hosts.now.items in
+    let x = c.index_mut.result.now in
+    let at_is = slice_get_read items (length items) c.in-Ok.at x refl (omega (arith, c.in-Ok.ensures.within)) c.index_mut.ensures.value in
+    (c.requires.fits c.in-Ok.at (host_view x) (map_at host_view items c.in-Ok.at x at_is)).task
