@@ -12,6 +12,8 @@ mod moves;
 mod notes;
 mod quiet;
 mod steps;
+#[cfg(test)]
+mod tests;
 mod world;
 
 pub use fam_journal::{HostId, Refusal};

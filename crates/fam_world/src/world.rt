@@ -134,6 +134,7 @@ impl World {
             (M.image media.old) (M.image media.new) (M.faults media.old) (M.faults media.new) self.old self.new) }
         ensures want { IsErrOf result WorldFault.OutOfMemory → FinishOutOfMemory name.now (M.size media.old)
             (M.image media.old) (M.image media.new) (M.faults media.old) (M.faults media.new) self.old self.new }
+        ensures size { M.size media.new ≡ M.size media.old }
     {
         finish_in(&mut self.hosts, &mut self.journal, media, name)
     }
