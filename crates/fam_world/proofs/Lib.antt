@@ -1,0 +1,15 @@
+pub mod Places
+pub mod Members
+pub mod Answering
+pub mod Deciding
+pub mod WithoutMedia
+pub mod Rows
+pub mod Moving
+pub mod Shifting
+pub mod MakeForms
+pub mod Making
+pub mod StepForms
+pub mod Stepping
+pub mod Finishing
+pub mod Saying
+pub mod Fits

@@ -1,0 +1,116 @@
+-- The form of what a mkfs adds, by what the journal tells of the hosts.
+use Rattle.std.proofs.Common.{◌≡◌, ℕ, ◌+◌, ◌*◌, ◌<◌, inl, inr, Bool, List, [], ◌∷◌, length, map, Option, Some, None, refl, ap, sym, ◌∙◌, subst, arith}
+use Rattle.std.specs.Prelude.{slice_get, option_map, replicate, is_some}
+use Rattle.std.proofs.lemmas.List.{length-map}
+use Rattle.std.proofs.lemmas.Option.{same_Some}
+use Rattle.fam_format.specs.Stop.{or_else}
+use Rattle.fam_rules.specs.Place.{line_bytes}
+use Rattle.fam_machine.specs.Mkfs.{early_refusal}
+use Rattle.fam_commands.specs.Task.{Task}
+use Rattle.fam_journal.specs.declared.refusal.Refusal.{Refusal}
+use Rattle.fam_journal.specs.declared.refusal.Refusal.TheVariants as why
+use Rattle.fam_journal.specs.Calls as call
+use Rattle.fam_journal.specs.Calls.{busy_refusal, cause_of, dirty_from, dirty_refusal, is_busy, number_of, on_host, refusal_of}
+use Rattle.fam_journal.specs.CallRecords.{CallForm}
+use Rattle.fam_journal.specs.Forms.{ActsForm, AtForm, FormByRefusal, FreeForm, HostForm, HostFormed, IsFormed, OfHostForm, Pairs, TaskForm, TaskFormed, forms_of, makes_told, refusal_told, shown_form, shown_forms, shown_running}
+use Rattle.fam_journal.specs.Members.{index_of}
+use Rattle.fam_journal.specs.Notes.{Note, Refused}
+use Rattle.fam_journal.specs.View.{HostView, WorldView}
+use Rattle.fam_journal.specs.ByWorld.{number_in, refusal_in, shown_host, shown_state, shown_task}
+use Rattle.fam_journal.proofs.Forms.Pairs.{Looks, busy_place, dirty_other, pairs_at, pairs_length}
+use Rattle.fam_journal.proofs.Forms.Views.{number_formed}
+
+view_looks : (me : List ℕ) (t : Option Task) (f : Option TaskForm) → TaskFormed me t f → is_some (shown_task t) ≡ is_some (shown_running f)
+view_looks me None None is = refl
+view_looks me None (Some f) is = absurd is
+view_looks me (Some t) None is = absurd is
+view_looks me (Some t) (Some f) is = refl
+
+views_look : (views : List HostView) (forms : List HostForm) → Pairs HostFormed views forms → Pairs Looks (map shown_host views) (map shown_form forms)
+views_look [] [] all = tt
+views_look [] (f ∷ forms) all = absurd all
+views_look (v ∷ views) [] all = absurd all
+views_look (v ∷ views) (f ∷ forms) all =
+    (record { name = sym all.0.name; uuid = sym all.0.uuid; busy = view_looks v.uuid v.task f.task all.0.task }, views_look views forms all.1)
+
+module _ (name fs : List ℕ) (unit log : ℕ) (force : Bool) (lines : ℕ) (world : WorldView) (is : IsFormed world) where
+  abbrev c : call.Call
+  c = call.Makes name fs unit log force
+
+  abbrev forms : List HostForm
+  forms = forms_of world.journal
+
+  abbrev early : Option Refusal
+  early = option_map cause_of (early_refusal unit log (line_bytes * length (shown_state world lines).memory))
+
+  abbrev busy : Option Refusal
+  busy = busy_refusal (index_of is_busy (map shown_host world.hosts))
+
+  told_number : number_of name (shown_forms lines forms) ≡ number_in name world
+  told_number = sym (number_formed lines world is name)
+
+  told_busy : busy_refusal (index_of is_busy (shown_forms lines forms).hosts) ≡ busy
+  told_busy = ap busy_refusal (sym (busy_place (shown_state world lines) (shown_forms lines forms) (views_look world.hosts forms is) refl))
+
+  -- what the journal tells, by the world's parts
+  told_by : refusal_told c lines forms ≡ on_host (number_in name world) (λ h. or_else early busy)
+  told_by = ap (λ (o : Option ℕ). on_host o (λ h. makes_told unit log (shown_forms lines forms))) told_number ∙ ap (λ (b : Option Refusal). on_host (number_in name world) (λ h. or_else early b)) told_busy
+
+  world_by : refusal_in c world lines ≡ on_host (number_in name world) (λ h. or_else early (or_else busy (dirty_refusal (dirty_from h 0 (map shown_host world.hosts)))))
+  unfolding refusal_of
+  world_by = refl
+
+  -- where the world refuses nothing, the journal tells of no refusal
+  free_parts : (o : Option ℕ) (e b : Option Refusal) (d : ℕ → Option Refusal) → on_host o (λ h. or_else e (or_else b (d h))) ≡ None → on_host o (λ h. or_else e b) ≡ None
+  free_parts None e b d none = absurd cc
+  free_parts (Some h) (Some x) b d none = absurd cc
+  free_parts (Some h) None (Some x) d none = absurd cc
+  free_parts (Some h) None None d none = refl
+
+  pub told_free : refusal_in c world lines ≡ None → refusal_told c lines forms ≡ None
+  told_free free = told_by ∙ free_parts (number_in name world) early busy (λ h. dirty_refusal (dirty_from h 0 (map shown_host world.hosts))) (sym world_by ∙ free)
+
+  -- of the maker
+  pub maker_form : (at : ℕ) (view : HostView) → number_in name world ≡ Some at → slice_get world.hosts at ≡ Some view → refusal_in c world lines ≡ None → (notes : List Note)
+      → ((f : HostForm) → f.uuid ≡ view.uuid → ActsForm c at f lines forms notes) → CallForm c lines forms notes
+  maker_form at view number view_is free notes each =
+      let found = pairs_at HostFormed world.hosts forms at view is view_is in
+      inl (subst (λ (r : Option Refusal). FormByRefusal name r notes (FreeForm c lines forms notes)) (sym (told_free free))
+      (inl
+      (subst (λ (o : Option ℕ). AtForm o forms (λ h f. ActsForm c h f lines forms notes)) (sym (told_number ∙ number))
+      (subst (λ (o : Option HostForm). OfHostForm o (λ f. ActsForm c at f lines forms notes)) (sym found.1) (each found.0 found.2.uuid)))))
+
+  -- where a media fault cuts it
+  pub fault_form : refusal_in c world lines ≡ None → (line : ℕ) → CallForm c lines forms (Refused name (why.MediaFault (record { 0 = line })) ∷ [])
+  fault_form free line = inr (told_free free, (line, refl))
+
+  -- a refusal at once: the journal doesn't tell whose lines are dirty
+  module _ (cause : Refusal) where
+    abbrev notes : List Note
+    notes = Refused name cause ∷ []
+
+    by_dirty : (h : ℕ) → number_in name world ≡ Some h → (o : Option ℕ) → dirty_from h 0 (map shown_host world.hosts) ≡ o → dirty_refusal o ≡ Some cause → FreeForm c lines forms notes
+    by_dirty h number None e first = absurd cc
+    by_dirty h number (Some k) e first =
+        let other = dirty_other h 0 (map shown_host world.hosts) k e in
+        let below : k < 0 + length (map shown_host world.hosts) = other.1 in
+        let count : length (map shown_host world.hosts) ≡ length world.hosts = length-map world.hosts shown_host in
+        let same : length world.hosts ≡ length forms = pairs_length HostFormed world.hosts forms is in
+        inr record {
+          maker = h;
+          number = told_number ∙ number;
+          dirty = k;
+          declared = omega (arith, below, count, same);
+          other = other.0;
+          notes_are = ap (λ (x : Refusal). Refused name x ∷ []) (sym (same_Some (why.Dirty (record { 0 = k })) cause first));
+        }
+
+    by_parts : (o : Option ℕ) → number_in name world ≡ o → (e b : Option Refusal) → on_host o (λ h. or_else e (or_else b (dirty_refusal (dirty_from h 0 (map shown_host world.hosts))))) ≡ Some cause → FormByRefusal name (on_host o (λ h. or_else e b)) notes (FreeForm c lines forms notes)
+    by_parts None number e b first = ap (λ (x : Refusal). Refused name x ∷ []) (sym (same_Some why.NoHost cause first))
+    by_parts (Some h) number (Some x) b first = ap (λ (y : Refusal). Refused name y ∷ []) (sym (same_Some x cause first))
+    by_parts (Some h) number None (Some x) first = ap (λ (y : Refusal). Refused name y ∷ []) (sym (same_Some x cause first))
+    by_parts (Some h) number None None first = by_dirty h number (dirty_from h 0 (map shown_host world.hosts)) refl first
+
+    pub refused_make : refusal_in c world lines ≡ Some cause → CallForm c lines forms notes
+    refused_make first =
+        inl (subst (λ (r : Option Refusal). FormByRefusal name r notes (FreeForm c lines forms notes)) (sym told_by) (by_parts (number_in name world) refl early busy (sym world_by ∙ first)))

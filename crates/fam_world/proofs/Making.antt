@@ -1,0 +1,267 @@
+-- A mkfs at a declared host meets what the call promises.
+use Rattle.std.proofs.Common.{◌≡◌, ◌≢◌, ◌⊎◌, ℕ, ◌<◌, ◌≤◌, ◌+◌, ◌*◌, ◌-◌, ◌^◌, inl, inr, Bool, true, false, List, [], ◌∷◌, ◌++◌, length, map, Option, Some, None, Result, Ok, refl, ap, ap₂, sym, ◌∙◌, subst, arith}
+use Rattle.std.specs.Prelude.{slice_get, option_map}
+use Rattle.std.proofs.lemmas.Bool.{cases_eq}
+use Rattle.std.proofs.lemmas.Option.{same_Some}
+use Rattle.fam_base.specs.declared.entry.Params.{Params}
+use Rattle.fam_base.specs.declared.line.LineNo.{LineNo}
+use Rattle.fam_base.specs.Image.{Image}
+use Rattle.fam_format.specs.Layout.{gate_line, least_lines, log_line}
+use Rattle.fam_format.proofs.UnitPowers.{unit_told}
+use Rattle.fam_format.specs.Params.{IsUuid, is_log_length, is_unit}
+use Rattle.fam_media.specs.Causes.{Rose}
+use Rattle.fam_media.specs.Outside.{IfModelled}
+use Rattle.fam_machine.specs.Caches.{Cache, cell_at}
+use Rattle.fam_machine.specs.Cuts.{HasCut, IsMachine}
+use Rattle.fam_machine.specs.Mkfs.{EarlyRefusal, asked, early_refusal, expected_ops, goes_on, mkfs_ops, read_ops, superblock_found}
+use Rattle.fam_machine.specs.OneLine.{IsHeld}
+use Rattle.fam_machine.specs.Operations.{Machine, machine, operated_all}
+use Rattle.fam_machine.proofs.MkfsOps.{early_free}
+use Rattle.fam_rules.specs.Place.{line_bytes}
+use Rattle.fam_cache.specs.Runs.{over}
+use Rattle.fam_mkfs.specs.declared.make.MkfsEnd.{MkfsEnd}
+use Rattle.fam_mkfs.specs.declared.make.MkfsEnd.TheVariants as ended
+use Rattle.fam_mkfs.specs.Ends.{IsCut, IsFound, IsMadeAsAsked, MkfsEnds, Names}
+use Rattle.fam_mkfs.specs.Refusals.{end_of, refusal}
+use Rattle.fam_mkfs.specs.Parts.{IsElsewhere}
+use Rattle.fam_journal.specs.declared.refusal.Refusal.{Refusal}
+use Rattle.fam_journal.specs.declared.refusal.Refusal.TheVariants as why
+use Rattle.fam_journal.specs.Calls as call
+use Rattle.fam_journal.specs.Calls.{ActsAt, AtNumber, BreaksOff, CutsAt, MakesCut, MakesFileSystem, Meets, OnHost, number_of, refusal_of}
+use Rattle.fam_journal.specs.CallRecords.{Answers, CallBreaks, CallKeeps, FitsMedia, HostFits, IsLateMake, KeepsOrBreaks, MakeCall, heading}
+use Rattle.fam_journal.specs.Ends.{HasCounted, cause_faults}
+use Rattle.fam_journal.specs.Forms.{HostFormed, IsFormed, Pairs, forms_behind, forms_of}
+use Rattle.fam_journal.specs.Kept.{Held}
+use Rattle.fam_journal.specs.Machines.{HostState, Machines, machine_of, with_machine}
+use Rattle.fam_journal.specs.Members.{changed_at}
+use Rattle.fam_journal.specs.Names.{AreNamed}
+use Rattle.fam_journal.specs.Notes.{Made, Note, Refused}
+use Rattle.fam_journal.specs.View.{HostStandsAt, HostView, WorldStands, WorldView}
+use Rattle.fam_journal.specs.ByWorld.{number_in, refusal_in}
+use Rattle.fam_journal.proofs.Calls.Hosts.{stands_changed}
+use Rattle.fam_journal.proofs.Calls.Tests.{both_first}
+use Rattle.fam_journal.proofs.Calls.Shown.{number_shown}
+use Rattle.fam_journal.proofs.JournalLaws.{cut_legal}
+use Rattle.fam_world.specs.declared.fault.WorldFault.{WorldFault}
+use Rattle.fam_world.specs.Answers.{IfAnswered, IsRefused}
+use Rattle.fam_world.specs.Makes.{end_note, end_result}
+use Rattle.fam_world.proofs.Answering.{formed_same, free_answers, refused_answers}
+use Rattle.fam_world.proofs.MakeForms.{fault_form, maker_form, refused_make}
+use Rattle.fam_world.proofs.Members.{fits_kept, forms_kept, map_kept}
+use Rattle.fam_world.proofs.Moving.{with_cache}
+use Rattle.fam_world.proofs.Rows.{first_refusal, found, refused_keeps, row_kept}
+
+-- a line of a mkfs, or another one
+elsewhere : (l : ℕ) (P : Type 0) → ((IsElsewhere l) → P) → ((l ≡ 0) → P) → ((l ≡ 1) → P) → ((l ≡ 2) → P) → ((l ≡ log_line) → P) → ((l ≡ gate_line) → P) → P
+elsewhere l P other magic prefix rest log gate =
+    elim (cases_eq l 0) [
+      | inl e ↦ magic e
+      | inr n0 ↦
+          elim (cases_eq l 1) [
+            | inl e ↦ prefix e
+            | inr n1 ↦
+                elim (cases_eq l 2) [
+                  | inl e ↦ rest e
+                  | inr n2 ↦
+                      elim (cases_eq l log_line) [
+                        | inl e ↦ log e
+                        | inr n3 ↦
+                            elim (cases_eq l gate_line) [
+                              | inl e ↦ gate e
+                              | inr n4 ↦ other (record { magic = n0; prefix = n1; rest = n2; log = n3; gate = n4 })
+                            ]
+                      ]
+                ]
+          ]
+    ]
+
+-- a refusal at once is no cut
+leaves_refused : (cause : Refusal) (c : call.Call) (start : Image) (told now : Option Image) (old new : WorldView) → cause_faults cause ≡ 0 → CallKeeps c start told now old new → KeepsOrBreaks cause c start told now old new
+leaves_refused why.NoHost c start told now old new none keeps = keeps
+leaves_refused (why.SameHost host) c start told now old new none keeps = keeps
+leaves_refused why.TooManyHosts c start told now old new none keeps = keeps
+leaves_refused (why.BadGeometry unit log) c start told now old new none keeps = keeps
+leaves_refused (why.TooSmall need have) c start told now old new none keeps = keeps
+leaves_refused (why.ImageSmall lines) c start told now old new none keeps = keeps
+leaves_refused (why.Busy host) c start told now old new none keeps = keeps
+leaves_refused (why.Dirty host) c start told now old new none keeps = keeps
+leaves_refused (why.HasSuper uuid) c start told now old new none keeps = keeps
+leaves_refused why.Idle c start told now old new none keeps = keeps
+leaves_refused (why.NoLine at lines) c start told now old new none keeps = keeps
+leaves_refused (why.NoFile name) c start told now old new none keeps = keeps
+leaves_refused (why.CopyLimit sum) c start told now old new none keeps = keeps
+leaves_refused (why.BadListing at) c start told now old new none keeps = keeps
+leaves_refused (why.MediaFault at) c start told now old new none keeps = absurd cc
+
+none_before : (o : Option EarlyRefusal) → option_map end_of o ≡ None → o ≡ None
+none_before None e = refl
+none_before (Some x) e = absurd cc
+
+-- where the numbers are no hindrance, the image has a gate
+pub wide_of : (unit log lines : ℕ) → refusal unit log (line_bytes * lines) ≡ None → least_lines ≤ lines
+wide_of unit log lines free =
+    let early = early_free unit log (line_bytes * lines) (none_before (early_refusal unit log (line_bytes * lines)) free) in
+    omega (arith, early.1, (unit_told unit (both_first (is_unit unit) (is_log_length unit log) early.0)).least)
+
+module _ (name fs : List ℕ) (is_uuid : IsUuid fs) (unit log : ℕ) (force : Bool) (lines : ℕ) (old : WorldView) where
+  abbrev c : call.Call
+  c = call.Makes name fs unit log force
+
+  -- it is refused at once
+  pub make_refused : (told : Option Image) (faults : ℕ) (new : WorldView) (cause : Refusal) → IfModelled told (λ image. length image ≡ lines) → IsRefused c lines old cause → new.hosts ≡ old.hosts → new.journal ≡ old.journal ++ Refused name cause ∷ []
+      → MakeCall c lines (Some cause) told told faults faults old new
+  make_refused told faults new cause modelled refused hosts journal = record {
+    answers = refused_answers c lines faults old new cause refused hosts journal (λ is. refused_make name fs unit log force lines old is cause refused.first);
+    leaves = λ start. leaves_refused cause c start told told old new refused.faultless (refused_keeps c lines start told old new cause is_uuid modelled refused.first hosts journal);
+  }
+
+  module _ (at : ℕ) (view : HostView) (number : number_in name old ≡ Some at) (free : refusal_in c old lines ≡ None) (within : at < length old.hosts) (view_is : slice_get old.hosts at ≡ Some view)
+      (told now : Option Image) (faults faults_now : ℕ) (new : WorldView) (modelled : IfModelled told (λ image. length image ≡ lines)) (wide : 32770 ≤ lines) (cache : Cache)
+      (others : (l : ℕ) → IsElsewhere l → cell_at cache l ≡ cell_at view.cache l) (hosts : new.hosts ≡ changed_at at (with_cache cache) old.hosts) (later : faults ≤ faults_now) where
+    abbrev p : Params
+    p = asked unit log fs view.uuid lines
+
+    fits : HostFits lines view → HostFits lines (with_cache cache view)
+    fits was = record {
+      task = was.task;
+      cache = λ l is. elsewhere l (l < lines) (λ other. was.cache l (subst IsHeld (others l other) is)) (λ e. omega (arith, e, wide)) (λ e. omega (arith, e, wide)) (λ e. omega (arith, e, wide)) (λ e. omega (arith, e, wide)) (λ e. omega (arith, e, wide));
+    }
+
+    answers : (answered : Option Refusal) (notes : List Note) → new.journal ≡ old.journal ++ notes → HasCounted faults faults_now notes → AreNamed (length new.hosts) notes → forms_behind (forms_of old.journal) notes ≡ forms_of old.journal
+        → answered ≡ Rattle.fam_journal.specs.CallRecords.refusal_noted notes → ((cause : Refusal) → answered ≡ Some cause → IsLateMake cause) → (IsFormed old → Rattle.fam_journal.specs.CallRecords.CallForm c lines (forms_of old.journal) notes) → Answers c lines answered faults faults_now old new
+    answers answered notes joined counted named same said late form =
+        free_answers c lines faults faults_now answered old new notes joined counted later named
+        (ap (λ (vs : List HostView). map heading vs) hosts ∙ map_kept heading (with_cache cache) (λ v. refl) at old.hosts)
+        (λ was. subst (FitsMedia lines) (sym hosts) (fits_kept lines at (with_cache cache) old.hosts view view_is fits was))
+        (formed_same old new notes same joined (λ forms all. subst (λ (vs : List HostView). Pairs HostFormed vs forms) (sym hosts) (forms_kept (with_cache cache) (λ v f is. record { name = is.name; uuid = is.uuid; task = is.task }) at old.hosts forms all)))
+        said free late form
+
+    count_is : length new.hosts ≡ length old.hosts
+    count_is = ap (λ (vs : List HostView). length vs) hosts ∙ Rattle.fam_world.proofs.Members.length_kept (with_cache cache) at old.hosts
+
+    -- on a state for which the world is held
+    module _ (start : Image) (state : Machines) (told_is : told ≡ Some state.memory) (held : Held start state old state.memory) where
+      abbrev lines_are : length state.memory ≡ lines
+      lines_are = modelled state.memory told_is
+
+      abbrev host : (host : HostState) × (slice_get state.hosts at ≡ Some host) × Rattle.fam_journal.specs.View.HostStands (length start) host view
+      host = found start state old held c lines lines_are at view number free view_is
+
+      params_are : asked unit log fs host.0.uuid (length state.memory) ≡ p
+      params_are = ap₂ (λ (id : List ℕ) (n : ℕ). asked unit log fs id n) host.2.uuid lines_are
+
+      machine_is : machine_of state host.0 ≡ machine state.memory view.cache
+      machine_is = ap (λ (x : Cache). machine state.memory x) host.2.cache
+
+      abbrev left_by : Machine → Machines
+      left_by z = with_machine at z host.0.task state
+
+      stands : (z : Machine) → cache ≡ z.cache → WorldStands (length start) (left_by z) new
+      stands z same k =
+          subst (λ (vs : List HostView). HostStandsAt (length start) (slice_get (left_by z).hosts k) (slice_get vs k)) (sym hosts)
+          (stands_changed at view old.hosts view_is (with_cache cache) (length start) state.hosts host.0 host.1 (λ s. record s { cache = z.cache; task = host.0.task })
+          record { name = host.2.name; uuid = host.2.uuid; cache = sym same; task = host.2.task } held.stands k)
+
+    -- it is made
+    module _ (journal : new.journal ≡ old.journal ++ Made at p ∷ []) (made : IsMadeAsAsked p force (over told view.cache) (over now cache)) where
+      made_keeps : (start : Image) → CallKeeps c start told now old new
+      made_keeps start state told_is held =
+          let h = host start state told_is held in
+          let same = machine_is start state told_is held in
+          let ps = params_are start state told_is held in
+          let m : IsMachine (operated_all (mkfs_ops p) (machine state.memory view.cache)) now cache = made.done.is state.memory told_is in
+          let z : Machine = operated_all (mkfs_ops p) (machine_of state h.0) in
+          let zm : z ≡ operated_all (mkfs_ops p) (machine state.memory view.cache) = ap (λ (x : Machine). operated_all (mkfs_ops p) x) same in
+          let left : Machines = left_by start state told_is held z in
+          let acts : MakesFileSystem at p force h.0 state (Made at p ∷ []) left =
+          record { free = ap (λ (x : Machine). goes_on force (superblock_found p x)) same ∙ made.free state.memory told_is; notes_are = refl; left = refl } in
+          row_kept start state old held c lines (modelled state.memory told_is) at view number free view_is new now (Made at p ∷ []) left (λ x. x)
+          (inl (subst (λ (q : Params). MakesFileSystem at q force h.0 state (Made at p ∷ []) left) (sym ps) acts)) is_uuid
+          (m.image ∙ ap (λ (x : Machine). Some x.image) (sym zm)) journal (stands start state told_is held z (m.cache ∙ ap (λ (x : Machine). x.cache) (sym zm)))
+
+      pub made_call : MakeCall c lines None told now faults faults_now old new
+      made_call = record {
+        answers = answers None (Made at p ∷ []) journal (omega (arith, later)) (subst (λ (n : ℕ). at < n) (sym count_is) within, tt) refl refl (λ cause e. absurd cc)
+            (λ is. maker_form name fs unit log force lines old is at view number view_is free (Made at p ∷ []) (λ f e. inl (ap (λ (id : List ℕ). Made at (asked unit log fs id lines) ∷ []) (sym e))));
+        leaves = made_keeps;
+      }
+
+    -- a superblock stands there
+    module _ (id : List ℕ) (journal : new.journal ≡ old.journal ++ Refused name (why.HasSuper id) ∷ []) (found_is : IsFound p force id (over told view.cache) (over now cache)) where
+      found_keeps : (start : Image) → CallKeeps c start told now old new
+      found_keeps start state told_is held =
+          let h = host start state told_is held in
+          let same = machine_is start state told_is held in
+          let ps = params_are start state told_is held in
+          let m : IsMachine (operated_all read_ops (machine state.memory view.cache)) now cache = found_is.done.is state.memory told_is in
+          let names : Names p (machine state.memory view.cache) id = found_is.names state.memory told_is in
+          let z : Machine = operated_all read_ops (machine_of state h.0) in
+          let zm : z ≡ operated_all read_ops (machine state.memory view.cache) = ap (λ (x : Machine). operated_all read_ops x) same in
+          let left : Machines = left_by start state told_is held z in
+          let notes : List Note = Refused name (why.HasSuper id) ∷ [] in
+          let acts : Meets at p force name h.0 state notes left =
+          record { unforced = found_is.unforced; other = names.other; stands = ap (λ (x : Machine). superblock_found p x) same ∙ names.reads; notes_are = ap (λ (u : List ℕ). Refused name (why.HasSuper u) ∷ []) names.named; left = refl } in
+          row_kept start state old held c lines (modelled state.memory told_is) at view number free view_is new now notes left (λ x. x)
+          (inr (subst (λ (q : Params). Meets at q force name h.0 state notes left) (sym ps) acts)) is_uuid
+          (m.image ∙ ap (λ (x : Machine). Some x.image) (sym zm)) journal (stands start state told_is held z (m.cache ∙ ap (λ (x : Machine). x.cache) (sym zm)))
+
+      pub found_call : MakeCall c lines (Some (why.HasSuper id)) told now faults faults_now old new
+      found_call = record {
+        answers = answers (Some (why.HasSuper id)) (Refused name (why.HasSuper id) ∷ []) journal (omega (arith, later)) (tt, tt) refl refl (λ cause e. subst IsLateMake (same_Some (why.HasSuper id) cause e) tt)
+            (λ is. maker_form name fs unit log force lines old is at view number view_is free (Refused name (why.HasSuper id) ∷ []) (λ f e. inr (record { unforced = found_is.unforced; fs = id; notes_are = refl })));
+        leaves = found_keeps;
+      }
+
+    -- the media failed
+    module _ (line : LineNo) (journal : new.journal ≡ old.journal ++ Refused name (why.MediaFault line) ∷ []) (cut_is : IsCut p force lines line (over told view.cache) (over now cache) faults faults_now) where
+      abbrev notes : List Note
+      notes = Refused name (why.MediaFault line) ∷ []
+
+      cut_breaks : (start : Image) → CallBreaks c start told now old new
+      cut_breaks start state told_is held =
+          let h = host start state told_is held in
+          let same = machine_is start state told_is held in
+          let ps = params_are start state told_is held in
+          let cut : HasCut (expected_ops force p (machine state.memory view.cache)) (machine state.memory view.cache) line now cache = cut_is.cut state.memory told_is in
+          let left : Machines = left_by start state told_is held cut.left in
+          let acts : MakesCut at p force name h.0 state notes left =
+          record { line = line; left = cut.left; cuts = subst (λ (x : Machine). Rattle.fam_machine.specs.Cuts.Cuts (expected_ops force p x) x line cut.left) (sym same) cut.cuts; notes_are = refl; left_is = refl } in
+          let number_is : number_of name state ≡ Some at = number_shown (length start) state old name held.stands ∙ number in
+          let row : BreaksOff c state notes left = (
+            first_refusal start state old held c lines (modelled state.memory told_is) ∙ free,
+            subst (λ (o : Option ℕ). AtNumber o state (λ k host. CutsAt c k host state notes left)) (sym number_is)
+                (subst (λ (o : Option HostState). OnHost o (λ host. CutsAt c at host state notes left)) (sym h.1)
+                (subst (λ (q : Params). MakesCut at q force name h.0 state notes left) (sym ps) acts)),
+          ) in
+          record {
+            state = left;
+            notes = notes;
+            row = row;
+            told_is = cut.is.image;
+            joined = journal;
+            stands = stands start state told_is held cut.left cut.is.cache;
+            legal = subst (λ (j : List Note). Rattle.fam_journal.specs.Legal.Legal start j) (sym journal) (cut_legal start state left old c notes held row);
+          }
+
+      pub cut_call : MakeCall c lines (Some (why.MediaFault line)) told now faults faults_now old new
+      cut_call = record {
+        answers = answers (Some (why.MediaFault line)) notes journal (counted cut_is.rose) (tt, tt) refl refl (λ cause e. subst IsLateMake (same_Some (why.MediaFault line) cause e) tt) (λ is. fault_form name fs unit log force lines old is free line.0);
+        leaves = cut_breaks;
+      }
+        where
+          counted : Rose faults faults_now → HasCounted faults faults_now notes
+          counted (inl less) = omega (arith, less)
+          counted (inr last) = omega (arith, last)
+
+    -- however it ended
+    pub make_ended : (end : MkfsEnd) (given : Result (Unit {0}) WorldFault) → given ≡ end_result end → new.journal ≡ old.journal ++ end_note at name end ∷ []
+        → MkfsEnds p force lines (over told view.cache) (over now cache) faults faults_now end → IfAnswered given (λ answered. MakeCall c lines answered told now faults faults_now old new)
+    make_ended (ended.Made made) given is journal ends =
+        subst (λ (r : Result (Unit {0}) WorldFault). IfAnswered r (λ answered. MakeCall c lines answered told now faults faults_now old new)) (sym is)
+        (made_call (journal ∙ ap (λ (q : Params). old.journal ++ Made at q ∷ []) ends.0) ends.1)
+    make_ended (ended.HasSuper id) given is journal ends =
+        subst (λ (r : Result (Unit {0}) WorldFault). IfAnswered r (λ answered. MakeCall c lines answered told now faults faults_now old new)) (sym is) (found_call id journal ends)
+    make_ended (ended.Failed line) given is journal ends =
+        subst (λ (r : Result (Unit {0}) WorldFault). IfAnswered r (λ answered. MakeCall c lines answered told now faults faults_now old new)) (sym is) (cut_call line journal ends)
+    make_ended (ended.BadGeometry u l) given is journal ends = absurd ends
+    make_ended (ended.TooSmall need have) given is journal ends = absurd ends

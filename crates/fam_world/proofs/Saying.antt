@@ -1,0 +1,228 @@
+-- What a task says of an operation, as notes and as its turn.
+use Rattle.std.proofs.Common.{◌≡◌, ◌≢◌, ◌⊎◌, ℕ, ◌<◌, ◌≤◌, ◌++◌, ◌∷◌, [], inl, inr, Bool, true, false, List, Option, Some, None, refl, ap, sym, ◌∙◌, subst}
+use Rattle.std.specs.Prelude.{⊤, IfSome, is_some, unwrap_or, option_map}
+use Rattle.std.specs.List.{list_any}
+use Rattle.std.proofs.lemmas.Bool.{cases_eq}
+use Rattle.fam_base.specs.declared.line.LineNo.{LineNo}
+use Rattle.fam_base.specs.Image.{Image, line_at}
+use Rattle.fam_media.specs.Causes.{Rose}
+use Rattle.fam_media.specs.Outside.{IfModelled}
+use Rattle.fam_machine.specs.declared.op.Op.{Op}
+use Rattle.fam_machine.specs.declared.op.Op.TheVariants.{Load, Store, WriteBack, Invalidate, Digest}
+use Rattle.fam_machine.specs.Caches.{Cache, cell_at}
+use Rattle.fam_machine.specs.Cuts.{HasFailed, IsMachine}
+use Rattle.fam_machine.specs.OneLine.{IsHeld, brought, words_of}
+use Rattle.fam_machine.specs.Operations.{IsWithin, Machine, given, given_by, machine, op_line, operated}
+use Rattle.fam_machine.proofs.CacheLemmas.{cell_at-with_cell_same}
+use Rattle.fam_cache.specs.declared.fault.OperationFault.{OperationFault}
+use Rattle.fam_cache.specs.declared.fault.OperationFault.TheVariants as operation_fault
+use Rattle.fam_cache.specs.Faults.{IfMediaFault}
+use Rattle.fam_cache.specs.Operations.{LeavesCache, word_of}
+use Rattle.fam_cache.proofs.Performed.{others_left}
+use Rattle.fam_cache.proofs.StoreLemmas.{brought_words}
+use Rattle.fam_commands.specs.Stands.{note_of, task_after, turn_given}
+use Rattle.fam_commands.specs.Task.{Task, op_of}
+use Rattle.fam_commands.specs.Turns as turns
+use Rattle.fam_commands.specs.Turns.{turn_of}
+use Rattle.fam_rules.specs.Reply.{Reply}
+use Rattle.fam_tasks.specs.declared.answer.Answer.{Answer}
+use Rattle.fam_tasks.specs.declared.answer.Answer.TheVariants as answer
+use Rattle.fam_tasks.specs.declared.answer.TaskNote.TheVariants as says
+use Rattle.fam_tasks.specs.declared.answer.Turn.{Turn}
+use Rattle.fam_tasks.specs.declared.answer.Turn.TheVariants as turn
+use Rattle.fam_tasks.specs.Answers.{reply_of}
+use Rattle.fam_tasks.specs.Tells.{Replies, Tells}
+use Rattle.fam_run.specs.Operation.{GoesOn, HasTurned, KeepsLines}
+use Rattle.fam_notes.specs.declared.note.Note.TheVariants as kept
+use Rattle.fam_notes.specs.Notes as notes
+use Rattle.fam_notes.specs.Notes.{answer_of}
+use Rattle.fam_journal.specs.declared.refusal.Refusal.TheVariants as why
+use Rattle.fam_journal.specs.CallRecords.{TaskFits, heading, own_turn}
+use Rattle.fam_journal.specs.Ends.{is_answer_note}
+use Rattle.fam_journal.specs.Machines.{notes_of}
+use Rattle.fam_journal.specs.Notes.{Answered, MediaFault, Note, Refused, Replied}
+use Rattle.fam_journal.specs.Notes as journal
+use Rattle.fam_world.specs.Steps.{Around, IsCut, IsServed, IsStep}
+use Rattle.fam_world.specs.Turns.{is_done, kept_by, turn_notes}
+use Rattle.fam_world.specs.View.{note_view}
+
+-- Words.
+
+-- the word that an operation gave comes back as it was
+given_again : (op : Op) (c : Cache) → given_by op (unwrap_or (word_of op c) 0) ≡ word_of op c
+given_again (Load line k) c = refl
+given_again (Store line k value) c = refl
+given_again (WriteBack line) c = refl
+given_again (Invalidate line) c = refl
+given_again Digest c = refl
+
+-- it is the machine's
+word_is : (op : Op) (m : Machine) → word_of op (operated op m).cache ≡ given op m
+word_is (Load line k) m =
+    ap (λ (ws : List ℕ). Some (Rattle.std.specs.Prelude.slice_index ws k))
+    (ap words_of (cell_at-with_cell_same line.0 (brought (line_at m.image line.0) (cell_at m.cache line.0)) m.cache) ∙ brought_words (line_at m.image line.0) (cell_at m.cache line.0))
+word_is (Store line k value) m = refl
+word_is (WriteBack line) m = refl
+word_is (Invalidate line) m = refl
+word_is Digest m = refl
+
+-- Lines.
+
+at_line : (line : LineNo) (lines l : ℕ) (P : Type 0) → line.0 < lines → (l ≢ line.0 → P) → (l < lines) ⊎ P
+at_line line lines l P below other =
+    elim (cases_eq l line.0) [
+      | inl e ↦ inl (subst (λ (n : ℕ). n < lines) (sym e) below)
+      | inr ne ↦ inr (other ne)
+    ]
+
+not_same : (line : LineNo) (l : ℕ) → l ≢ line.0 → Some line ≢ Some (record { 0 = l })
+not_same line l ne e = ne (sym (ap (λ (o : Option LineNo). unwrap_or (option_map (λ (x : LineNo). x.0) o) 0) e))
+
+-- an operation brings its own line at most
+pub lines_held : (op : Op) (lines : ℕ) (told : Option Image) (old new : Cache) → IsWithin lines op → LeavesCache op told old new → (l : ℕ) → IsHeld (cell_at new l) → (l < lines) ⊎ IsHeld (cell_at old l)
+lines_held (Load line k) lines told old new within leaves l held =
+    at_line line lines l _ within.0 (λ ne. subst IsHeld (others_left (Load line k) told old new leaves l (not_same line l ne)) held)
+lines_held (Store line k value) lines told old new within leaves l held =
+    at_line line lines l _ within.0 (λ ne. subst IsHeld (others_left (Store line k value) told old new leaves l (not_same line l ne)) held)
+lines_held (WriteBack line) lines told old new within leaves l held =
+    at_line line lines l _ within (λ ne. subst IsHeld (others_left (WriteBack line) told old new leaves l (not_same line l ne)) held)
+lines_held (Invalidate line) lines told old new within leaves l held =
+    at_line line lines l _ within (λ ne. subst IsHeld (others_left (Invalidate line) told old new leaves l (not_same line l ne)) held)
+lines_held Digest lines told old new within leaves l held = inr (subst (λ (c : Cache). IsHeld (cell_at c l)) leaves held)
+
+-- Answers.
+
+pub answer_told : (a : Answer) (reply : Reply) → reply_of a ≡ Some reply → answer_of a ≡ Some (Replied reply)
+answer_told (answer.Ok seq) reply is = ap (option_map Replied) is
+answer_told (answer.Played m tree) reply is = ap (option_map Replied) is
+answer_told (answer.Same m) reply is = ap (option_map Replied) is
+answer_told (answer.Bytes m bytes) reply is = ap (option_map Replied) is
+answer_told (answer.Checked m checked) reply is = ap (option_map Replied) is
+answer_told (answer.Report report) reply is = ap (option_map Replied) is
+answer_told (answer.NoSuper word) reply is = ap (option_map Replied) is
+answer_told (answer.BadSuper field found wanted) reply is = ap (option_map Replied) is
+answer_told (answer.BadLog field found wanted) reply is = ap (option_map Replied) is
+answer_told (answer.BadEntry seq reason) reply is = ap (option_map Replied) is
+answer_told (answer.NotMaster me master) reply is = ap (option_map Replied) is
+answer_told answer.BadStripe reply is = ap (option_map Replied) is
+answer_told (answer.Exists kind) reply is = ap (option_map Replied) is
+answer_told answer.NoParent reply is = ap (option_map Replied) is
+answer_told answer.ParentIsFile reply is = ap (option_map Replied) is
+answer_told (answer.LogFull slots) reply is = ap (option_map Replied) is
+answer_told (answer.NoSpace units) reply is = ap (option_map Replied) is
+answer_told (answer.NotFound m) reply is = ap (option_map Replied) is
+answer_told (answer.IsDirectory m) reply is = ap (option_map Replied) is
+answer_told (answer.Differs m offset found wanted) reply is = ap (option_map Replied) is
+answer_told (answer.Length m size wanted) reply is = ap (option_map Replied) is
+answer_told (answer.MediaFault line) reply is = absurd cc
+
+-- what a turn of the definition tells: its notes, the task behind it, and whether it is over
+pub record IsTold (at : ℕ) (said : Turn) (next : Task) (z : turns.Turn) : Type 0 where
+  pub notes : turn_notes at said ≡ notes_of at (note_of z)
+  pub task : kept_by said (Some next) ≡ task_after z
+  pub over : is_done said ≡ list_any is_answer_note (notes_of at (note_of z))
+
+plain_told : (at : ℕ) (said : Turn) (next n : Task) (z : turns.Turn) (wanted : Turn) → said ≡ wanted → next ≡ n → IsTold at wanted n z → IsTold at said next z
+plain_told at said next n z wanted e same told = subst (λ (x : Turn). IsTold at x next z) (sym e) (subst (λ (x : Task). IsTold at wanted x z) (sym same) told)
+
+pub told_by : (at : ℕ) (said : Turn) (next : Task) (z : turns.Turn) → Tells z said next → IsTold at said next z
+told_by at said next (turns.Goes n) tells = plain_told at said next n (turns.Goes n) turn.Go tells.0 tells.1 (record { notes = refl; task = refl; over = refl })
+told_by at said next (turns.Marks n) tells = plain_told at said next n (turns.Marks n) (turn.Note says.Mark) tells.0 tells.1 (record { notes = refl; task = refl; over = refl })
+told_by at said next (turns.Finds k n) tells = plain_told at said next n (turns.Finds k n) (turn.Note (says.Found k)) tells.0 tells.1 (record { notes = refl; task = refl; over = refl })
+told_by at said next (turns.Writes seq e n) tells = plain_told at said next n (turns.Writes seq e n) (turn.Note (says.Writes seq e)) tells.0 tells.1 (record { notes = refl; task = refl; over = refl })
+told_by at turn.Go next (turns.Ends reply) tells = absurd tells
+told_by at (turn.Note note) next (turns.Ends reply) tells = absurd tells
+told_by at (turn.Done given) next (turns.Ends reply) tells = record {
+  notes = ap (λ (o : Option journal.Answer). unwrap_or (option_map (Answered at) o) (Refused [] why.NoHost) ∷ []) (answer_told given reply tells);
+  task = refl;
+  over = refl;
+}
+
+-- An operation that was done.
+
+module _ (at : ℕ) (t next : Task) (said : Turn) (a : Around) (over : Bool) (goes : GoesOn t a.new.cache said next) where
+  abbrev word : ℕ
+  word = unwrap_or (word_of (op_of t) a.new.cache) 0
+
+  turn_is : turn_given t word ≡ turn_of t (word_of (op_of t) a.new.cache)
+  turn_is = ap (turn_of t) (given_again (op_of t) a.new.cache)
+
+  told : IsTold at said next (turn_given t word)
+  told = subst (λ (z : turns.Turn). IsTold at said next z) (sym turn_is) (told_by at said next (turn_of t (word_of (op_of t) a.new.cache)) goes)
+
+  fits_on : (x : Turn) → KeepsLines x t next → TaskFits t.lines (kept_by x (Some next))
+  fits_on turn.Go keeps = keeps refl
+  fits_on (turn.Note note) keeps = keeps refl
+  fits_on (turn.Done given) keeps = tt
+
+  pub step_served : (mid : Option Task) → mid ≡ Some next → a.new.task ≡ kept_by said mid → a.after ≡ a.before ++ turn_notes at said → heading a.new ≡ heading a.old → a.faults ≤ a.faults_now → over ≡ is_done said
+      → IfModelled a.told (λ image. HasTurned t (machine image a.old.cache) said next a.now a.new.cache) → KeepsLines said t next → LeavesCache (op_of t) a.told a.old.cache a.new.cache → IsWithin t.lines (op_of t) → t.lines ≡ a.size
+      → IsStep at t a over
+  step_served mid mid_is task joined host later over_is turned keeps leaves within lines =
+      let task_is : a.new.task ≡ kept_by said (Some next) = task ∙ ap (kept_by said) mid_is in
+      record {
+        notes = turn_notes at said;
+        joined = joined;
+        host = host;
+        later = later;
+        how = inl record {
+          word = word;
+          notes_are = told.notes;
+          task = task_is ∙ told.task;
+          done = λ image is. (turned image is).is;
+          own = λ image is.
+              let m : Machine = machine image a.old.cache in
+              let d : IsMachine (operated (op_of t) m) a.now a.new.cache = (turned image is).is in
+              ap (λ (o : Option ℕ). turn_given t (unwrap_or o 0)) (ap (word_of (op_of t)) d.cache ∙ word_is (op_of t) m);
+          held = lines_held (op_of t) a.size a.told a.old.cache a.new.cache (subst (λ (n : ℕ). IsWithin n (op_of t)) lines within) leaves;
+          fits = subst (TaskFits t.lines) (sym task_is) (fits_on said keeps);
+          over_is = over_is ∙ told.over ∙ ap (λ (n : List Note). list_any is_answer_note n) (sym told.notes);
+        };
+      }
+
+-- the media failed in it
+pub step_cut : (at : ℕ) (t : Task) (a : Around) (line : LineNo) → a.after ≡ a.before ++ Answered at (MediaFault line.0) ∷ [] → heading a.new ≡ heading a.old → a.faults ≤ a.faults_now → a.new.task ≡ None → a.new.cache ≡ a.old.cache
+    → IfModelled a.told (λ image. HasFailed (op_of t) (machine image a.old.cache) line a.now a.new.cache) → Rose a.faults a.faults_now → IsStep at t a true
+step_cut at t a line joined host later task cache failed rose = record {
+  notes = Answered at (MediaFault line.0) ∷ [];
+  joined = joined;
+  host = host;
+  later = later;
+  how = inr record { line = line; notes_are = refl; task = task; cache = cache; failed = failed; rose = rose; over_is = refl };
+}
+
+-- a fault of the media names its line
+fault_at : (f : OperationFault) (line : LineNo) (P : LineNo → Type 0) → f ≡ operation_fault.MediaFault line → IfMediaFault f P → P line
+fault_at f line P is p = subst (λ (z : OperationFault). IfMediaFault z P) is p
+
+pub step_lost : (at : ℕ) (t : Task) (a : Around) (line : LineNo) (f : OperationFault) → f ≡ operation_fault.MediaFault line → a.old.task ≡ Some t → a.after ≡ a.before ++ Answered at (MediaFault line.0) ∷ [] → heading a.new ≡ heading a.old → a.faults ≤ a.faults_now → a.new.task ≡ None → a.new.cache ≡ a.old.cache
+    → IfMediaFault f (λ line. IfSome a.old.task (λ t. IfModelled a.told (λ image. HasFailed (op_of t) (machine image a.old.cache) line a.now a.new.cache))) → IfMediaFault f (λ line. Rose a.faults a.faults_now) → IsStep at t a true
+step_lost at t a line f is e joined host later task cache failed rose =
+    step_cut at t a line joined host later task cache
+    (subst (λ (o : Option Task). IfSome o (λ t. IfModelled a.told (λ image. HasFailed (op_of t) (machine image a.old.cache) line a.now a.new.cache))) e
+    (fault_at f line (λ line. IfSome a.old.task (λ t. IfModelled a.told (λ image. HasFailed (op_of t) (machine image a.old.cache) line a.now a.new.cache))) is failed))
+    (fault_at f line (λ line. Rose a.faults a.faults_now) is rose)
+
+-- What a host's task is.
+
+pub some_of : {A : Type 0} (o : Option A) → is_some o ≡ true → (x : A) × (o ≡ Some x)
+some_of None e = absurd cc
+some_of (Some x) e = (x, refl)
+
+-- of a host that has one
+pub step_done : (at : ℕ) (said : Turn) (a : Around) (over : Bool) (t : Task) (mid : Option Task) → a.old.task ≡ Some t → is_some mid ≡ true → a.new.task ≡ kept_by said mid → a.after ≡ a.before ++ turn_notes at said
+    → heading a.new ≡ heading a.old → a.faults ≤ a.faults_now → over ≡ is_done said
+    → IfSome a.old.task (λ t. IfSome mid (λ next. IfModelled a.told (λ image. HasTurned t (machine image a.old.cache) said next a.now a.new.cache)))
+    → IfSome a.old.task (λ t. IfSome mid (GoesOn t a.new.cache said)) → IfSome a.old.task (λ t. IfSome mid (KeepsLines said t)) → IfSome a.old.task (λ t. LeavesCache (op_of t) a.told a.old.cache a.new.cache)
+    → IfSome a.old.task (λ t. IsWithin t.lines (op_of t)) → TaskFits a.size a.old.task → IsStep at t a over
+step_done at said a over t mid e some task joined host later over_is turned goes keeps leaves within lines =
+    let next = some_of mid some in
+    step_served at t next.0 said a over
+    (subst (λ (o : Option Task). IfSome o (GoesOn t a.new.cache said)) next.1 (subst (λ (o : Option Task). IfSome o (λ t. IfSome mid (GoesOn t a.new.cache said))) e goes))
+    mid next.1 task joined host later over_is
+    (subst (λ (o : Option Task). IfSome o (λ n. IfModelled a.told (λ image. HasTurned t (machine image a.old.cache) said n a.now a.new.cache))) next.1
+    (subst (λ (o : Option Task). IfSome o (λ t. IfSome mid (λ n. IfModelled a.told (λ image. HasTurned t (machine image a.old.cache) said n a.now a.new.cache)))) e turned))
+    (subst (λ (o : Option Task). IfSome o (KeepsLines said t)) next.1 (subst (λ (o : Option Task). IfSome o (λ t. IfSome mid (KeepsLines said t))) e keeps))
+    (subst (λ (o : Option Task). IfSome o (λ t. LeavesCache (op_of t) a.told a.old.cache a.new.cache)) e leaves)
+    (subst (λ (o : Option Task). IfSome o (λ t. IsWithin t.lines (op_of t))) e within)
+    (subst (TaskFits a.size) e lines)

@@ -1,0 +1,98 @@
+use Rattle.std.proofs.Common.{◌≡◌, ◌<◌, length, refl, ap, sym, subst, ◌∙◌, arith, false, true}
+use Rattle.std.proofs.lemmas.List.{length-map}
+use Rattle.std.proofs.lemmas.Option.{same_Some, slice_get_read}
+use Rattle.fam_commands.specs.Task.{Task}
+use Rattle.fam_journal.specs.CallRecords.{TaskFits}
+use Rattle.fam_journal.specs.View.{HostView, WorldView}
+use Rattle.fam_world.specs.Answers.{is_over}
+use Rattle.fam_world.specs.View.{host_view, notes_view, world_view}
+use Rattle.fam_world.specs.declared.fault.Moved.{Moved}
+use Rattle.fam_world.proofs.Finishing.{far_next, first_so_far, going_fits, going_runs, loop_falls, over_none, view_set}
+use Rattle.fam_world.proofs.Members.{map_at, map_set}
+use Rattle.fam_world.proofs.Saying.{some_of}
+use Rattle.fam_world.proofs.steps.finish_at.Goals as goal
+
+pub operations-init : goal.operations-init
+operations-init g c = record {
+  far = first_so_far c.args.at (g.M.Media.size c.args.media.now) (world_view c.args.hosts.now.items c.args.journal.now.items) (g.M.Media.image c.args.media.now) (g.M.Media.faults c.args.media.now);
+  size = refl;
+  len = refl;
+  runs = c.requires.runs;
+  fits = c.requires.fits;
+}
+
+pub step_host-requires-clause-runs : goal.step_host-requires-clause-runs
+step_host-requires-clause-runs g c =
+    let items = c.operations.hosts.items in
+    let x = c.index_mut.result.now in
+    let at_is = slice_get_read items (length items) c.args.at x refl (omega (arith, c.requires.within, c.operations.invariant.len)) c.index_mut.ensures.value in
+    c.operations.invariant.runs (host_view x) (map_at host_view items c.args.at x at_is)
+
+pub step_host-requires-clause-fits : goal.step_host-requires-clause-fits
+step_host-requires-clause-fits g c =
+    let items = c.operations.hosts.items in
+    let x = c.index_mut.result.now in
+    let at_is = slice_get_read items (length items) c.args.at x refl (omega (arith, c.requires.within, c.operations.invariant.len)) c.index_mut.ensures.value in
+    c.operations.invariant.fits (host_view x) (map_at host_view items c.args.at x at_is)
+
+pub operations-smaller : goal.operations-smaller
+operations-smaller g c =
+    let items = c.operations.hosts.items in
+    let x = c.index_mut.result.now in
+    let at_is = slice_get_read items (length items) c.args.at x refl (omega (arith, c.requires.within, c.operations.invariant.len)) c.index_mut.ensures.value in
+    let t = some_of x.task (c.operations.invariant.runs (host_view x) (map_at host_view items c.args.at x at_is)) in
+    loop_falls items c.args.at x c.step_host.new.host t.0 _ (is_over c.in_ok-step_host.field-0) at_is t.1 refl (ap is_over c.in-Going.is) (c.in_ok-step_host.ensures.step t.0 t.1) c.step_host.ensures.sound c.step_host.ensures.sound_on
+
+pub operations-preserved : goal.operations-preserved
+operations-preserved g c =
+    let items = c.operations.hosts.items in
+    let x = c.index_mut.result.now in
+    let y = c.step_host.new.host in
+    let at = c.args.at in
+    let inv = c.operations.invariant in
+    let at_is = slice_get_read items (length items) at x refl (omega (arith, c.requires.within, inv.len)) c.index_mut.ensures.value in
+    let view_is = map_at host_view items at x at_is in
+    let t = some_of x.task (inv.runs (host_view x) view_is) in
+    let step = c.in_ok-step_host.ensures.step t.0 t.1 in
+    let over = is_over c.in_ok-step_host.field-0 in
+    let going = ap is_over c.in-Going.is in
+    let now = view_set items at x y at_is in
+    let lines : t.0.lines ≡ g.M.Media.size c.operations.media = subst (TaskFits (g.M.Media.size c.operations.media)) t.1 (inv.fits (host_view x) view_is) in
+    record {
+      far = far_next c.args.name.now at (g.M.Media.size c.args.media.now) (world_view c.args.hosts.now.items c.args.journal.now.items) (g.M.Media.image c.args.media.now) (g.M.Media.faults c.args.media.now)
+          (world_view items c.operations.journal.items) (g.M.Media.image c.operations.media) (g.M.Media.faults c.operations.media) inv.far c.requires.number (host_view x) t.0 view_is t.1
+          (omega (arith, c.requires.within, inv.len, length-map items host_view)) (λ i is. g.met.M.Media.modelled c.operations.media i is ∙ inv.size)
+          _ (host_view y) (g.M.Media.image c.step_host.new.media) (g.M.Media.faults c.step_host.new.media) (map_set host_view (λ v. host_view y) items at y x at_is refl) over
+          (notes_view c.make_room.new.journal.items) (ap notes_view c.make_room.ensures.same) (g.M.Media.size c.operations.media) inv.size step;
+      size = c.step_host.ensures.size ∙ inv.size;
+      len = inv.len;
+      runs = λ view is. subst (λ (v : HostView). Rattle.std.specs.Prelude.is_some v.task ≡ true) (same_Some (host_view y) view (sym now ∙ is)) (going_runs at t.0 _ over going step);
+      fits = λ view is. subst (λ (v : HostView). TaskFits (g.M.Media.size c.step_host.new.media) v.task) (same_Some (host_view y) view (sym now ∙ is)) (going_fits at t.0 _ over _ going step (lines ∙ sym c.step_host.ensures.size));
+    }
+
+pub returns-in-Answered-clause-far : goal.returns-in-Answered-clause-far
+returns-in-Answered-clause-far g c =
+    let items = c.operations.hosts.items in
+    let x = c.index_mut.result.now in
+    let y = c.step_host.new.host in
+    let at = c.args.at in
+    let inv = c.operations.invariant in
+    let at_is = slice_get_read items (length items) at x refl (omega (arith, c.requires.within, inv.len)) c.index_mut.ensures.value in
+    let view_is = map_at host_view items at x at_is in
+    let t = some_of x.task (inv.runs (host_view x) view_is) in
+    far_next c.args.name.now at (g.M.Media.size c.args.media.now) (world_view c.args.hosts.now.items c.args.journal.now.items) (g.M.Media.image c.args.media.now) (g.M.Media.faults c.args.media.now)
+    (world_view items c.operations.journal.items) (g.M.Media.image c.operations.media) (g.M.Media.faults c.operations.media) inv.far c.requires.number (host_view x) t.0 view_is t.1
+    (omega (arith, c.requires.within, inv.len, length-map items host_view)) (λ i is. g.met.M.Media.modelled c.operations.media i is ∙ inv.size)
+    _ (host_view y) (g.M.Media.image c.step_host.new.media) (g.M.Media.faults c.step_host.new.media) (map_set host_view (λ v. host_view y) items at y x at_is refl) (is_over c.in_ok-step_host.field-0)
+    (notes_view c.make_room.new.journal.items) (ap notes_view c.make_room.ensures.same) (g.M.Media.size c.operations.media) inv.size (c.in_ok-step_host.ensures.step t.0 t.1)
+
+pub returns-in-Answered-clause-over : goal.returns-in-Answered-clause-over
+returns-in-Answered-clause-over g c = λ view is.
+    let items = c.operations.hosts.items in
+    let x = c.index_mut.result.now in
+    let y = c.step_host.new.host in
+    let at = c.args.at in
+    let at_is = slice_get_read items (length items) at x refl (omega (arith, c.requires.within, c.operations.invariant.len)) c.index_mut.ensures.value in
+    let t = some_of x.task (c.operations.invariant.runs (host_view x) (map_at host_view items at x at_is)) in
+    ap (λ (v : HostView). v.task) (sym (same_Some (host_view y) view (sym (view_set items at x y at_is) ∙ is)))
+    ∙ over_none at t.0 _ (is_over c.in_ok-step_host.field-0) (ap is_over c.in-Answered.is) (c.in_ok-step_host.ensures.step t.0 t.1)

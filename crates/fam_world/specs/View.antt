@@ -1,0 +1,36 @@
+-- A world's own hosts and notes, as contracts see them. docs/MODEL.md, "The journal".
+use Rattle.std.specs.Prelude.{ℕ, ◌==◌, ◌&&◌, not, nat_lt, Bool, List, [], map, unwrap_or}
+use Rattle.fam_machine.specs.Caches.{dirty_count}
+use Rattle.fam_journal.specs.declared.refusal.Refusal.TheVariants as why
+use Rattle.fam_journal.specs.ByWorld.{shown_host}
+use Rattle.fam_journal.specs.Machines.{HostState}
+use Rattle.fam_journal.specs.Notes.{Note, Refused}
+use Rattle.fam_journal.specs.View.{HostView, WorldView}
+use Rattle.fam_notes.specs.declared.note.Note.{Note as Kept}
+use Rattle.fam_notes.specs.Notes.{note_of}
+use Rattle.fam_world.specs.declared.hosts.Host.{Host}
+
+-- a host: its task is the one that it runs
+abbrev pub host_view : Host → HostView
+host_view h = record { name = h.name; uuid = h.uuid; cache = h.cache.lines; task = h.task }
+
+abbrev pub views : List Host → List HostView
+views hosts = map host_view hosts
+
+-- what tells refusals of them: names, UUIDs, caches, and who has a task
+abbrev pub shown : List Host → List HostState
+shown hosts = map shown_host (views hosts)
+
+-- a host that isn't the maker holds a line that memory may lack
+abbrev pub is_dirty_other : ℕ → ℕ → HostState → Bool
+is_dirty_other maker at host = not (at == maker) && nat_lt 0 (dirty_count host.cache)
+
+-- a note that a world keeps. Each stands for one of a journal
+abbrev pub note_view : Kept → Note
+note_view note = unwrap_or (note_of note) (Refused [] why.NoHost)
+
+abbrev pub notes_view : List Kept → List Note
+notes_view notes = map note_view notes
+
+abbrev pub world_view : List Host → List Kept → WorldView
+world_view hosts journal = record { hosts = views hosts; journal = notes_view journal }

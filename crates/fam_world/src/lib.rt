@@ -1,0 +1,22 @@
+//! Any number of hosts over one media, operation by operation, and their journal.
+//!
+//! A contract sees a `World` as its hosts, each with its cache and the task that it runs, and the notes of its journal
+//! (`fam_journal/specs/View.antt`). Each call promises the record that `fam_journal/specs/CallRecords.antt` has for it.
+#![tactic(auto)]
+
+mod fault;
+mod find;
+mod hosts;
+mod make;
+mod moves;
+mod notes;
+mod quiet;
+mod steps;
+#[cfg(test)]
+mod tests;
+mod world;
+
+pub use fam_journal::{HostId, Refusal};
+pub use fam_notes::Note;
+pub use fault::{Moved, WorldFault};
+pub use world::World;

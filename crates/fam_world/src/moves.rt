@@ -1,0 +1,108 @@
+//! Moves that a host's cache makes by itself, as the machine may.
+
+ghost use Rattle.std.specs.Prelude.{◌≡◌, ◌⊎◌, ◌<◌, ◌≤◌, ℕ, IsErrOf, OnErr, OnOk, length, vec_len};
+ghost use Rattle.fam_machine.specs.Caches.{cell_at};
+ghost use Rattle.fam_machine.specs.Cuts.{IsMachine};
+ghost use Rattle.fam_machine.specs.HostMoves.{failed_move, moved};
+ghost use Rattle.fam_machine.specs.OneLine.{IsHeld};
+ghost use Rattle.fam_machine.specs.Operations.{machine};
+ghost use Rattle.fam_media.specs.Causes.{IsSteady, Rose};
+ghost use Rattle.fam_media.specs.Outside.{IfModelled};
+ghost use Rattle.fam_cache.specs.Effects.{FailsTo};
+ghost use Rattle.fam_journal.specs.Calls.{Moves};
+ghost use Rattle.fam_journal.specs.CallRecords.{MediaCall};
+ghost use Rattle.fam_world.specs.Answers.{IfAnswered};
+ghost use Rattle.fam_world.specs.Moves.{fault_of, move_of};
+ghost use Rattle.fam_world.specs.View.{world_view};
+
+use crate::fault::WorldFault;
+use crate::find::holder;
+use crate::hosts::Host;
+use crate::notes::{make_room, refused};
+use fam_base::{HostName, LineNo, Mask};
+use fam_cache::{CacheFault, HostCache};
+use fam_journal::Refusal;
+use fam_media::{Failed, Media};
+use fam_notes::Note;
+
+/// What the machine may do to a line of a cache at any time.
+#[derive(Clone, Copy)]
+pub(crate) enum OwnMove {
+    /// A dirty line is sent, and the line is dropped.
+    Evict,
+    /// Masked words of a dirty line are sent, and it stays dirty.
+    Leak(Mask),
+    /// An absent line is brought, or masked words of a clean one are refreshed.
+    Fetch(Mask),
+}
+
+/// That a send failed, as a fault of a cache.
+fn sends(sent: Result<(), Failed>) -> Result<(), CacheFault>
+    ensures { result ≡ fault_of sent }
+{
+    match sent {
+        Ok(()) => Ok(()),
+        Err(_) => Err(CacheFault::Failed),
+    }
+}
+
+/// Does a move. `OutOfMemory` comes where an absent line is to be brought and there is no room for it, and then nothing
+/// was done.
+fn shift<M: Media>(
+    cache: &mut HostCache,
+    media: &mut M,
+    line: LineNo,
+    what: OwnMove,
+) -> Result<(), CacheFault>
+    requires within { line.0 < M.size media.old }
+
+    ensures moved { OnOk result (IfModelled (M.image media.old) (λ image.
+        IsMachine (moved (move_of what) line.0 (machine image cache.old.lines)) (M.image media.new) cache.new.lines)) }
+    ensures failed { IsErrOf result CacheFault.Failed → IfModelled (M.image media.old) (λ image. FailsTo line.0
+        (λ through memory. failed_move (move_of what) through memory (cell_at cache.old.lines line.0))
+        image (M.image media.new)) }
+    ensures held { (l : ℕ) → IsHeld (cell_at cache.new.lines l) → (l ≡ line.0) ⊎ IsHeld (cell_at cache.old.lines l) }
+    ensures err { OnErr result (cache.new.lines ≡ cache.old.lines) }
+    ensures rose { IsErrOf result CacheFault.Failed → Rose (M.faults media.old) (M.faults media.new) }
+    ensures undone { IsErrOf result CacheFault.OutOfMemory → media.new ≡ media.old }
+    ensures unchanged { IsErrOf result CacheFault.OutOfMemory → cache.new ≡ cache.old }
+    ensures steady { IsSteady M.size M.faults media.old media.new }
+{
+    match what {
+        OwnMove::Evict => sends(cache.evict(media, line)),
+        OwnMove::Leak(mask) => sends(cache.leak(media, line, mask)),
+        OwnMove::Fetch(mask) => cache.fetch(media, line, mask),
+    }
+}
+
+/// A host's cache makes a move at a line.
+pub(crate) fn move_in<M: Media>(
+    hosts: &mut Vec<Host>,
+    journal: &mut Vec<Note>,
+    media: &mut M,
+    name: &HostName,
+    line: LineNo,
+    what: OwnMove,
+) -> Result<(), WorldFault>
+    ensures answered { IfAnswered result (λ answered. MediaCall (Moves name.now line.0 (move_of what)) (M.size media.old)
+        answered (M.image media.old) (M.image media.new) (M.faults media.old) (M.faults media.new)
+        (world_view hosts.old.items journal.old.items) (world_view hosts.new.items journal.new.items)) }
+    ensures undone { IsErrOf result WorldFault.OutOfMemory → media.new ≡ media.old }
+    ensures hosts { IsErrOf result WorldFault.OutOfMemory
+        → world_view hosts.new.items journal.new.items ≡ world_view hosts.old.items journal.old.items }
+    ensures size { M.size media.new ≡ M.size media.old }
+    ensures len { vec_len hosts.new ≡ vec_len hosts.old }
+{
+    if make_room(journal).is_err() {
+        return Err(WorldFault::OutOfMemory);
+    }
+    let at = match holder(hosts, name, line, media.lines()) {
+        Ok(at) => at,
+        Err(cause) => return Err(refused(journal, name, cause)),
+    };
+    match shift(&mut hosts[at].cache, media, line, what) {
+        Ok(()) => Ok(()),
+        Err(CacheFault::Failed) => Err(refused(journal, name, Refusal::MediaFault(line))),
+        Err(CacheFault::OutOfMemory) => Err(WorldFault::OutOfMemory),
+    }
+}

@@ -1,0 +1,247 @@
+//! Operations of tasks: one, or all up to the answer.
+
+ghost use Rattle.std.specs.Prelude.{◌≡◌, ◌++◌, ◌<◌, ◌≤◌, IfErr, IfOk, IfSome, IsErrOf, OnErr, OnOk, None, Some, is_some, slice_get, true, vec_capacity, vec_len};
+ghost use Rattle.fam_commands.specs.Task as spec;
+ghost use Rattle.fam_commands.specs.Task.{op_of};
+ghost use Rattle.fam_machine.specs.Cuts.{HasFailed};
+ghost use Rattle.fam_machine.specs.Operations.{IsWithin, machine};
+ghost use Rattle.fam_media.specs.Causes.{IsSteady, Rose};
+ghost use Rattle.fam_media.specs.Outside.{IfModelled};
+ghost use Rattle.fam_cache.specs.Faults.{IfMediaFault};
+ghost use Rattle.fam_cache.specs.Operations.{LeavesCache};
+ghost use Rattle.fam_tasks.specs.Sound.{IsSound};
+ghost use Rattle.fam_run.specs.Operation.{GoesOn, HasTurned, KeepsLines};
+ghost use Rattle.fam_journal.specs.ByWorld.{number_in};
+ghost use Rattle.fam_journal.specs.Calls.{Finishes};
+ghost use Rattle.fam_journal.specs.CallRecords.{FinishOutOfMemory, FitsMedia, MediaCall, StepCall, TaskFits};
+ghost use Rattle.fam_journal.specs.View.{HostView};
+ghost use Rattle.fam_world.specs.Finishes.{SoFar};
+ghost use Rattle.fam_world.specs.Answers.{IfAnswered, IfStepped, is_over};
+ghost use Rattle.fam_world.specs.Steps.{IsStep};
+ghost use Rattle.fam_world.specs.Turns.{is_done, kept_by, task_note, turn_notes};
+ghost use Rattle.fam_world.specs.View.{host_view, note_view, notes_view, views, world_view};
+
+use crate::fault::{Moved, WorldFault};
+use crate::find::running;
+use crate::hosts::{Host, MOST_HOSTS};
+use crate::notes::{add, make_room, refused};
+use fam_base::{HostName, OutOfMemory};
+use fam_cache::{HostCache, OperationFault};
+use fam_journal::HostId;
+use fam_media::Media;
+use fam_notes::Note;
+use fam_run::operate;
+use fam_tasks::{Answer, Task, TaskNote, Turn};
+
+/// A note of a host's task.
+fn note_of(host: HostId, note: TaskNote) -> Note
+    ensures { note_view result ≡ task_note host.0 note }
+{
+    match note {
+        TaskNote::Mark => Note::Mark { host },
+        TaskNote::Found(n) => Note::Found { host, n },
+        TaskNote::Writes(seq, entry) => Note::Writes { host, seq, entry },
+    }
+}
+
+/// Notes what a task says, for which there is room; behind an answer the host has no task.
+fn say(journal: &mut Vec<Note>, task: &mut Option<Task>, host: HostId, turn: Turn) -> Moved
+    requires room { vec_len journal.old < vec_capacity journal.old }
+    ensures notes { notes_view journal.new.items ≡ notes_view journal.old.items ++ turn_notes host.0 turn }
+    ensures task { task.new ≡ kept_by turn task.old }
+    ensures over { is_over result ≡ is_done turn }
+{
+    match turn {
+        Turn::Go => Moved::Going,
+        Turn::Note(note) => {
+            add(journal, note_of(host, note));
+            Moved::Going
+        }
+        Turn::Done(answer) => {
+            *task = None;
+            add(journal, Note::Answered { host, answer });
+            Moved::Answered
+        }
+    }
+}
+
+/// Does an operation of the task that a host runs, which there is.
+fn operate_on<M: Media>(
+    cache: &mut HostCache,
+    task: &mut Option<Task>,
+    media: &mut M,
+) -> Result<Turn, OperationFault>
+    requires runs { is_some task.old ≡ true }
+    requires fits { TaskFits (M.size media.old) task.old }
+
+    ensures runs { is_some task.new ≡ true }
+    ensures turned { IfOk result (λ turn. IfSome task.old (λ t. IfSome task.new (λ next. IfModelled (M.image media.old)
+        (λ image. HasTurned t (machine image cache.old.lines) turn next (M.image media.new) cache.new.lines)))) }
+    ensures failed { IfErr result (λ fault. IfMediaFault fault (λ line. IfSome task.old (λ t.
+        IfModelled (M.image media.old) (λ image.
+        HasFailed (op_of t) (machine image cache.old.lines) line (M.image media.new) cache.new.lines)))) }
+    ensures cache { OnOk result (IfSome task.old (λ t.
+        LeavesCache (op_of t) (M.image media.old) cache.old.lines cache.new.lines)) }
+    ensures goes { IfOk result (λ turn. IfSome task.old (λ t. IfSome task.new (GoesOn t cache.new.lines turn))) }
+    ensures keeps { IfOk result (λ turn. IfSome task.old (λ t. IfSome task.new (KeepsLines turn t))) }
+    ensures copies { OnErr result (cache.new.lines ≡ cache.old.lines) }
+    ensures err { OnErr result (task.new ≡ task.old) }
+    ensures within { IfSome task.old (λ t. IsWithin t.lines (op_of t)) }
+    ensures sound { IfSome task.old IsSound }
+    ensures sound_on { IfSome task.new IsSound }
+    ensures rose { IfErr result (λ fault. IfMediaFault fault (λ line. Rose (M.faults media.old) (M.faults media.new))) }
+    ensures undone { IsErrOf result OperationFault.OutOfMemory → media.new ≡ media.old }
+    ensures unchanged { IsErrOf result OperationFault.OutOfMemory → cache.new ≡ cache.old }
+    ensures steady { IsSteady M.size M.faults media.old media.new }
+{
+    match task {
+        Some(task) => {
+            task.is_sound();
+            let said = operate(cache, task, media);
+            task.is_sound();
+            said
+        }
+        None => unreachable!(),
+    }
+}
+
+/// Does the next operation of a host's task, and notes what comes of it, for which there is room.
+fn step_host<M: Media>(
+    host: &mut Host,
+    journal: &mut Vec<Note>,
+    media: &mut M,
+    at: usize,
+) -> Result<Moved, OutOfMemory>
+    requires runs { is_some host.old.task ≡ true }
+    requires fits { TaskFits (M.size media.old) host.old.task }
+    requires few { at < MOST_HOSTS }
+    requires room { vec_len journal.old < vec_capacity journal.old }
+
+    ensures step { IfOk result (λ moved. (t : spec.Task) → host.old.task ≡ Some t → IsStep at t (record {
+      old = host_view host.old;
+      new = host_view host.new;
+      before = notes_view journal.old.items;
+      after = notes_view journal.new.items;
+      told = M.image media.old;
+      now = M.image media.new;
+      size = M.size media.old;
+      faults = M.faults media.old;
+      faults_now = M.faults media.new;
+    }) (is_over moved)) }
+    ensures sound { IfSome host.old.task IsSound }
+    ensures sound_on { IfSome host.new.task IsSound }
+    ensures size { M.size media.new ≡ M.size media.old }
+    ensures undone { OnErr result (media.new ≡ media.old) }
+    ensures host { OnErr result (host.new ≡ host.old) }
+    ensures journal { OnErr result (journal.new.items ≡ journal.old.items) }
+{
+    match operate_on(&mut host.cache, &mut host.task, media) {
+        Ok(turn) => Ok(say(journal, &mut host.task, HostId(at as u32), turn)),
+        Err(OperationFault::MediaFault(line)) => {
+            host.task = None;
+            add(
+                journal,
+                Note::Answered {
+                    host: HostId(at as u32),
+                    answer: Answer::MediaFault(line),
+                },
+            );
+            Ok(Moved::Answered)
+        }
+        Err(OperationFault::OutOfMemory) => Err(OutOfMemory),
+    }
+}
+
+/// Does one operation of a host's task.
+pub(crate) fn step_in<M: Media>(
+    hosts: &mut Vec<Host>,
+    journal: &mut Vec<Note>,
+    media: &mut M,
+    name: &HostName,
+) -> Result<Moved, WorldFault>
+    requires few { vec_len hosts.old ≤ MOST_HOSTS }
+    requires fits { FitsMedia (M.size media.old) (views hosts.old.items) }
+    ensures answered { IfStepped result (λ answered over. StepCall name.now (M.size media.old) answered over
+        (M.image media.old) (M.image media.new) (M.faults media.old) (M.faults media.new)
+        (world_view hosts.old.items journal.old.items) (world_view hosts.new.items journal.new.items)) }
+    ensures undone { IsErrOf result WorldFault.OutOfMemory → media.new ≡ media.old }
+    ensures hosts { IsErrOf result WorldFault.OutOfMemory
+        → world_view hosts.new.items journal.new.items ≡ world_view hosts.old.items journal.old.items }
+    ensures size { M.size media.new ≡ M.size media.old }
+    ensures few { vec_len hosts.new ≤ MOST_HOSTS }
+{
+    if make_room(journal).is_err() {
+        return Err(WorldFault::OutOfMemory);
+    }
+    let at = match running(hosts, name) {
+        Ok(at) => at,
+        Err(cause) => return Err(refused(journal, name, cause)),
+    };
+    match step_host(&mut hosts[at], journal, media, at) {
+        Ok(moved) => Ok(moved),
+        Err(_) => Err(WorldFault::OutOfMemory),
+    }
+}
+
+/// Does operations of a host's task up to its answer. Where no memory was found those before stand.
+fn finish_at<M: Media>(
+    hosts: &mut Vec<Host>,
+    journal: &mut Vec<Note>,
+    media: &mut M,
+    name: &HostName,
+    at: usize,
+) -> Result<(), OutOfMemory>
+    requires few { at < MOST_HOSTS }
+    requires within { at < vec_len hosts.old }
+    requires number { number_in name.now (world_view hosts.old.items journal.old.items) ≡ Some at }
+    requires runs { (view : HostView) → slice_get (views hosts.old.items) at ≡ Some view → is_some view.task ≡ true }
+    requires fits { (view : HostView) → slice_get (views hosts.old.items) at ≡ Some view
+        → TaskFits (M.size media.old) view.task }
+
+    ensures far { SoFar at (M.size media.old)
+        (world_view hosts.old.items journal.old.items) (M.image media.old) (M.faults media.old)
+        (world_view hosts.new.items journal.new.items) (M.image media.new) (M.faults media.new) }
+    ensures over { OnOk result ((view : HostView) → slice_get (views hosts.new.items) at ≡ Some view
+        → view.task ≡ None) }
+    ensures size { M.size media.new ≡ M.size media.old }
+    ensures len { vec_len hosts.new ≡ vec_len hosts.old }
+{
+    'operations: loop {
+        make_room(journal)?;
+        match step_host(&mut hosts[at], journal, media, at)? {
+            Moved::Going => {}
+            Moved::Answered => return Ok(()),
+        }
+    }
+}
+
+/// Does operations of a host's task up to its answer.
+pub(crate) fn finish_in<M: Media>(
+    hosts: &mut Vec<Host>,
+    journal: &mut Vec<Note>,
+    media: &mut M,
+    name: &HostName,
+) -> Result<(), WorldFault>
+    requires few { vec_len hosts.old ≤ MOST_HOSTS }
+    requires fits { FitsMedia (M.size media.old) (views hosts.old.items) }
+    ensures answered { IfAnswered result (λ answered. MediaCall (Finishes name.now) (M.size media.old) answered
+        (M.image media.old) (M.image media.new) (M.faults media.old) (M.faults media.new)
+        (world_view hosts.old.items journal.old.items) (world_view hosts.new.items journal.new.items)) }
+    ensures want { IsErrOf result WorldFault.OutOfMemory → FinishOutOfMemory name.now (M.size media.old)
+        (M.image media.old) (M.image media.new) (M.faults media.old) (M.faults media.new)
+        (world_view hosts.old.items journal.old.items) (world_view hosts.new.items journal.new.items) }
+    ensures size { M.size media.new ≡ M.size media.old }
+    ensures few { vec_len hosts.new ≤ MOST_HOSTS }
+{
+    if make_room(journal).is_err() {
+        return Err(WorldFault::OutOfMemory);
+    }
+    let at = match running(hosts, name) {
+        Ok(at) => at,
+        Err(cause) => return Err(refused(journal, name, cause)),
+    };
+    match finish_at(hosts, journal, media, name, at) {
+        Ok(()) => Ok(()),
+        Err(_) => Err(WorldFault::OutOfMemory),
+    }
+}
