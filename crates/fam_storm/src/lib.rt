@@ -1,0 +1,13 @@
+//! Large scripts of random events, for storms.
+//!
+//! A storm's script is fixed by its seed and its size: `specs/Storm.antt` has each line by its words.
+#![tactic(auto)]
+
+mod draw;
+mod lines;
+mod script;
+#[cfg(test)]
+mod tests;
+mod turns;
+
+pub use script::storm;
