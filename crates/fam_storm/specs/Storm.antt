@@ -1,4 +1,4 @@
--- The script of a storm: each line by its words. docs/MANUAL.md, "Storms".
+-- The script of a storm: each line by its words.
 use Rattle.std.specs.Prelude.{ℕ, zero, suc, ◌+◌, ◌==◌, nat_lt, if◌then◌else◌, List, [], ◌∷◌, ◌++◌, codes}
 use Rattle.std.specs.Fmt.{decimal}
 use Rattle.std.specs.List.{flat_map, join_with_byte}

@@ -4,10 +4,12 @@
 #![tactic(auto)]
 
 mod draw;
+mod laws;
 mod lines;
 mod script;
 #[cfg(test)]
 mod tests;
 mod turns;
 
+pub use laws::each_line_of_a_storm_is_an_event;
 pub use script::storm;
