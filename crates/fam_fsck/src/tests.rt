@@ -1,13 +1,14 @@
-//! Reports of small logs, with ample memory.
+//! Reports of small logs, and trees beside listings, with ample memory.
 
 ghost use Rattle.std.specs.Prelude.{◌<◌};
 ghost use Rattle.fam_format.specs.Params.{SoundParams};
 
-use crate::Fsck;
+use crate::{Fsck, check};
 use fam_base::{BadPath, Entry, Extent, Extents, Kind, MapKind, OutOfMemory, Params, Path};
 use fam_entry::{SLOT_WORDS, spell};
 use fam_format::Reason;
-use fam_rules::{LogState, Report, SuperState};
+use fam_rules::{Checked, LogState, Report, SuperState};
+use fam_tree::{Tree, read_listing};
 use std::alloc::Global;
 use std::test::Fail;
 use uuid::Uuid;
@@ -75,10 +76,16 @@ fn file(path: &[u8], first: u64, second: u64, number: u64) -> Result<[u64; SLOT_
 }
 
 /// The report of a log that begins with these slots, and whose others are zero.
-fn reported(alloc: Global, slots: &[[u64; SLOT_WORDS]], gate: u64) -> Result<Report, OutOfMemory> {
-    let params = params();
+fn reported(
+    alloc: Global,
+    params: &Params,
+    slots: &[[u64; SLOT_WORDS]],
+    gate: u64,
+) -> Result<Report, OutOfMemory>
+    requires { SoundParams params.now }
+{
     let zeros = [0; SLOT_WORDS];
-    let mut fsck = Fsck::new(alloc, &params, gate)?;
+    let mut fsck = Fsck::new(alloc, params, gate)?;
     for i in 0..params.slots {
         if (i as usize) < slots.len() {
             fsck.add(&slots[i as usize])?;
@@ -114,7 +121,7 @@ fn three_directories_are_sound(rt: HostRuntime) -> Result<(), Fail> {
         directory(b"b", 1)?,
         directory(b"c", 2)?,
     ];
-    assert_eq!(rt; reported(rt.alloc(), &slots, 3)?, sound());
+    assert_eq!(rt; reported(rt.alloc(), &params(), &slots, 3)?, sound());
     Ok(())
 }
 
@@ -130,7 +137,7 @@ fn a_slot_at_the_gate_is_past_it(rt: HostRuntime) -> Result<(), Fail> {
         slots: 127,
     };
     assert_eq!(rt;
-        reported(rt.alloc(), &slots, 2)?,
+        reported(rt.alloc(), &params(), &slots, 2)?,
         Report {
             log,
             directories: 2,
@@ -149,7 +156,10 @@ fn an_entry_that_stands_already_is_bad_and_counts(rt: HostRuntime) -> Result<(),
         directory(b"b/c", 2)?,
     ];
     let bad = Some((1, Reason::Exists(Kind::Directory)));
-    assert_eq!(rt; reported(rt.alloc(), &slots, 3)?, Report { bad, ..sound() });
+    assert_eq!(rt;
+        reported(rt.alloc(), &params(), &slots, 3)?,
+        Report { bad, ..sound() }
+    );
     Ok(())
 }
 
@@ -168,7 +178,7 @@ fn the_pair_of_the_first_entry_that_overlaps_is_told(rt: HostRuntime) -> Result<
         overlap: Some((0, 1)),
         ..sound()
     };
-    assert_eq!(rt; reported(rt.alloc(), &slots, 3)?, report);
+    assert_eq!(rt; reported(rt.alloc(), &params(), &slots, 3)?, report);
     Ok(())
 }
 
@@ -187,7 +197,7 @@ fn an_entry_overlaps_with_itself(rt: HostRuntime) -> Result<(), Fail> {
         overlap: Some((1, 1)),
         ..sound()
     };
-    assert_eq!(rt; reported(rt.alloc(), &slots, 3)?, report);
+    assert_eq!(rt; reported(rt.alloc(), &params(), &slots, 3)?, report);
     Ok(())
 }
 
@@ -251,3 +261,54 @@ fn the_least_earlier_entry_of_a_long_log_is_told(rt: HostRuntime) -> Result<(), 
     assert_eq!(rt; fsck.report(), report);
     Ok(())
 }
+
+/// The tree of a listing.
+fn tree_of(alloc: Global, listing: &[u8]) -> Result<Tree, Fail> {
+    let mut tree = Tree::new(alloc);
+    for entry in &read_listing(alloc, listing)? {
+        tree.apply(entry)?;
+    }
+    Ok(tree)
+}
+
+#[test]
+fn a_tree_is_checked_against_listings(rt: HostRuntime) -> Result<(), Fail> {
+    let own =
+        b"d 0755 0 0 0 - a\nf 0644 0 0 4097 2162688+8192 a/b\nf 0644 0 0 100 2170880+4096 a/c\n";
+    let tree = tree_of(rt.alloc(), own)?;
+    let rows = [
+        (&own[..], 0, 0, 0, None),
+        (&b""[..], 3, 0, 0, Some(Path::read(b"a")?)),
+        (
+            &b"d 0755 0 0 0 - a\nf 0644 0 0 4096 2162688+4096 a/b\nf 0644 0 0 0 - z\n"[..],
+            1,
+            1,
+            1,
+            Some(Path::read(b"a/b")?),
+        ),
+        (
+            &b"d 0755 0 0 0 - B\nd 0755 0 0 0 - a\nf 0644 0 0 4097 2162688+8192 a/b\n"[..],
+            1,
+            1,
+            0,
+            Some(Path::read(b"B")?),
+        ),
+    ];
+    for (text, missing, extra, changed, first) in &rows {
+        let listing = read_listing(rt.alloc(), text)?;
+        let wanted = Checked {
+            missing: *missing,
+            extra: *extra,
+            changed: *changed,
+            first: *first,
+        };
+        assert!(rt;
+            check(&tree, &listing) == wanted,
+            "{missing} {extra} {changed}"
+        );
+    }
+    Ok(())
+}
+
+mod plain;
+mod random;

@@ -3,7 +3,8 @@
 ghost use Rattle.std.specs.Prelude.{◌≡◌, ◌≢◌, ◌≤◌, ◌++◌, [], IfOk, OnErr, ℕ, List, codes, map, string_bytes, vec_capacity};
 ghost use Rattle.fam_base.specs.Commands.{IsSoundCmd};
 ghost use Rattle.fam_media.specs.Causes.{IsSteady};
-ghost use Rattle.fam_journal.specs.declared.status.Status.TheVariants.{Damaged, MediaFault, OutOfMemory, Refused, SourceFault};
+ghost use Rattle.fam_journal.specs.declared.status.Status.TheVariants as status;
+ghost use Rattle.fam_journal.specs.declared.status.Status.TheVariants.{Damaged, MediaFault, Refused, SourceFault};
 ghost use Rattle.fam_journal.specs.Names.{NamesCause};
 ghost use Rattle.fam_journal.specs.Programs.{memory_line, source_line};
 ghost use Rattle.fam_grammar.specs.Sound.{IsSoundAsk};
@@ -220,7 +221,7 @@ fn ask_shown<M: Media, S: Shelf>(
     ensures shows { IfOk result (λ shown. (random : List ℕ) → AskShows (passed M.image M.size M.faults media.old media.new)
         (changed S.files S.faults S.shorts shelf.old shelf.new) me random ask shown.status shown.text.items) }
     ensures out_of_memory { OnErr result ((random : List ℕ) → AskShows (passed M.image M.size M.faults media.old media.new)
-        (changed S.files S.faults S.shorts shelf.old shelf.new) me random ask OutOfMemory memory_line) }
+        (changed S.files S.faults S.shorts shelf.old shelf.new) me random ask status.OutOfMemory memory_line) }
     ensures steady { IsSteady M.size M.faults media.old media.new }
     ensures shelf { IsShelfSteady S.files S.faults S.shorts shelf.old shelf.new }
 {
@@ -258,7 +259,7 @@ fn request_shown<M: Media, S: Shelf>(
     ensures shows { IfOk result (λ shown. RequestShows request (passed M.image M.size M.faults media.old media.new)
         (changed S.files S.faults S.shorts shelf.old shelf.new) me random shown.status shown.text.items) }
     ensures out_of_memory { OnErr result (RequestShows request (passed M.image M.size M.faults media.old media.new)
-        (changed S.files S.faults S.shorts shelf.old shelf.new) me random OutOfMemory memory_line) }
+        (changed S.files S.faults S.shorts shelf.old shelf.new) me random status.OutOfMemory memory_line) }
     ensures steady { IsSteady M.size M.faults media.old media.new }
     ensures shelf { IsShelfSteady S.files S.faults S.shorts shelf.old shelf.new }
 {

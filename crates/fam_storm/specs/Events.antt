@@ -1,0 +1,9 @@
+-- Lines that are events. docs/MANUAL.md, "Scripts".
+use Rattle.std.specs.Prelude.{◌≡◌, Some, Ok}
+use Rattle.fam_journal.specs.declared.event.Event.{Event}
+use Rattle.fam_grammar.specs.Scripts.{line_reads}
+use Rattle.fam_storm.specs.Storm.{Words, line_text}
+
+-- a line is an event, and neither blank nor a comment
+abbrev pub IsEventLine : Words → Type 0
+IsEventLine words = (event : Event) × (line_reads (line_text words) ≡ Ok (Some event))

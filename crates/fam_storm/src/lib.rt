@@ -1,0 +1,15 @@
+//! Large scripts of random events, for storms.
+//!
+//! A storm's script is fixed by its seed and its size: `specs/Storm.antt` has each line by its words.
+#![tactic(auto)]
+
+mod draw;
+mod laws;
+mod lines;
+mod script;
+#[cfg(test)]
+mod tests;
+mod turns;
+
+pub use laws::each_line_of_a_storm_is_an_event;
+pub use script::storm;
