@@ -3,7 +3,8 @@
 ghost use Rattle.std.specs.Prelude.{◌≡◌, ◌≢◌, ◌≤◌, ◌++◌, [], IfOk, OnErr, ℕ, List, codes, map, string_bytes, vec_capacity};
 ghost use Rattle.fam_base.specs.Commands.{IsSoundCmd};
 ghost use Rattle.fam_media.specs.Causes.{IsSteady};
-ghost use Rattle.fam_journal.specs.declared.status.Status.TheVariants.{Damaged, MediaFault, OutOfMemory, Refused, SourceFault};
+ghost use Rattle.fam_journal.specs.declared.status.Status.TheVariants as status;
+ghost use Rattle.fam_journal.specs.declared.status.Status.TheVariants.{Damaged, MediaFault, Refused, SourceFault};
 ghost use Rattle.fam_journal.specs.Names.{NamesCause};
 ghost use Rattle.fam_journal.specs.Programs.{memory_line, source_line};
 ghost use Rattle.fam_grammar.specs.Sound.{IsSoundAsk};
@@ -188,21 +189,26 @@ fn unfit_shown(alloc: Global, cause: &Refusal) -> Result<Shown, OutOfMemory>
     })
 }
 
+/// The line that says how the reading of a source ended early.
+fn end_line(alloc: Global, end: SourceEnd) -> Result<Vec<u8>, OutOfMemory>
+    ensures { IfOk result (λ bytes. bytes.items ≡ source_line (end_of end)) }
+{
+    match end {
+        SourceEnd::Faulted => line(alloc, "source fault"),
+        SourceEnd::Short { size, got } => {
+            line_of(alloc, format!(in alloc; "short source {size} {got}"))
+        }
+    }
+}
+
 /// Says how the reading of a source ended early.
 fn ended_shown(alloc: Global, end: SourceEnd) -> Result<Shown, OutOfMemory>
     ensures status { IfOk result (λ shown. shown.status ≡ SourceFault) }
     ensures text { IfOk result (λ shown. shown.text.items ≡ source_line (end_of end)) }
 {
-    let text = match end {
-        SourceEnd::Faulted => line(alloc, "source fault")?,
-        SourceEnd::Short { size, got } => line_of(
-            alloc,
-            format!(in alloc; "short source {size} {got}"),
-        )?,
-    };
     Ok(Shown {
         status: Status::SourceFault,
-        text,
+        text: end_line(alloc, end)?,
     })
 }
 
@@ -220,7 +226,7 @@ fn ask_shown<M: Media, S: Shelf>(
     ensures shows { IfOk result (λ shown. (random : List ℕ) → AskShows (passed M.image M.size M.faults media.old media.new)
         (changed S.files S.faults S.shorts shelf.old shelf.new) me random ask shown.status shown.text.items) }
     ensures out_of_memory { OnErr result ((random : List ℕ) → AskShows (passed M.image M.size M.faults media.old media.new)
-        (changed S.files S.faults S.shorts shelf.old shelf.new) me random ask OutOfMemory memory_line) }
+        (changed S.files S.faults S.shorts shelf.old shelf.new) me random ask status.OutOfMemory memory_line) }
     ensures steady { IsSteady M.size M.faults media.old media.new }
     ensures shelf { IsShelfSteady S.files S.faults S.shorts shelf.old shelf.new }
 {
@@ -258,7 +264,7 @@ fn request_shown<M: Media, S: Shelf>(
     ensures shows { IfOk result (λ shown. RequestShows request (passed M.image M.size M.faults media.old media.new)
         (changed S.files S.faults S.shorts shelf.old shelf.new) me random shown.status shown.text.items) }
     ensures out_of_memory { OnErr result (RequestShows request (passed M.image M.size M.faults media.old media.new)
-        (changed S.files S.faults S.shorts shelf.old shelf.new) me random OutOfMemory memory_line) }
+        (changed S.files S.faults S.shorts shelf.old shelf.new) me random status.OutOfMemory memory_line) }
     ensures steady { IsSteady M.size M.faults media.old media.new }
     ensures shelf { IsShelfSteady S.files S.faults S.shorts shelf.old shelf.new }
 {
