@@ -1,9 +1,9 @@
 //! Logs that are listed, and words that aren't a command.
 
 use super::images::{call, directory, file, formatted, holding, shows, words};
-use fam_journal::Status;
 use crate::words::image_of;
 use fam_base::Mask;
+use fam_journal::Status;
 use fam_media::{MemMedia, MemSink};
 use std::test::Fail;
 
