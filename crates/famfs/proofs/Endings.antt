@@ -1,9 +1,10 @@
 -- How a call ends: what may be shown, and what was put.
-use Rattle.std.proofs.Common.{◌≡◌, ℕ, List, Option, Some, None, option_map, inl, inr, sym, subst}
+use Rattle.std.proofs.Common.{◌≡◌, ℕ, List, Option, Some, None, option_map, inl, inr, refl, sym, subst}
 use Rattle.fam_media.specs.Outside.{with_piece}
 use Rattle.fam_journal.specs.declared.event.Ask.{Ask}
 use Rattle.fam_journal.specs.declared.status.Status.{Status}
 use Rattle.fam_journal.specs.declared.status.Status.TheVariants.{Done, Refused, Usage, BadScript, MediaFault, SourceFault, SinkFault, OutOfMemory, Damaged}
+use Rattle.fam_journal.specs.Programs.{memory_line}
 use Rattle.fam_sources.specs.Whole.{ShelfChange}
 use Rattle.famfs.specs.declared.request.Request.{Request}
 use Rattle.famfs.specs.declared.request.Request.TheVariants as request
@@ -65,3 +66,7 @@ put_ends m status result text shows put =
 pub shows_by : (m : Invocation) (named : Option Request) (status : Status) (text whole : List ℕ) → m.request ≡ named → whole ≡ text → MayShowBy named m status text → MayShow m status whole
 shows_by m named status text whole same put shows =
     inl (subst (λ (o : Option Request). MayShowBy o m status whole) (sym same) (subst (λ (t : List ℕ). MayShowBy named m status t) (sym put) shows))
+
+-- no memory was left for the words
+pub no_memory : (m : Invocation) (text : List ℕ) → m.media.image_now ≡ m.media.image → text ≡ memory_line → MayShow m OutOfMemory text
+no_memory m text same is = inr (record { status_is = refl; text_is = is; same = same })

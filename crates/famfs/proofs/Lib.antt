@@ -2,3 +2,4 @@ pub mod Shows
 pub mod Endings
 pub mod Answered
 pub mod Making
+pub mod Asks

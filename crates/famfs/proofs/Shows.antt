@@ -13,7 +13,10 @@ use Rattle.fam_journal.specs.declared.status.Status.{Status}
 use Rattle.famfs.specs.declared.top.Shown.{Shown}
 use Rattle.fam_journal.specs.declared.status.Status.TheVariants.{Done, Refused, MediaFault, Damaged}
 use Rattle.famfs.specs.Expected.{Command, CommandCall, Log, Mkfs, IsBroken, IsExpected, IsMkfsBroken, IsMkfsExpected, IsOfCall, IsOfMkfs, IsOfTask, IsStopped, IsTaskBroken, IsTaskExpected, IsTaskStopped, early_of, early_said, fault_said, fs_or, refused_said, small_said}
-use Rattle.famfs.specs.Ends.{CommandShows, IsShown, LeavesImage, MediaChange, ShowsFault, ShowsOutOfMemory}
+use Rattle.fam_sources.specs.Whole.{ShelfChange}
+use Rattle.famfs.specs.declared.request.Request.{Request}
+use Rattle.famfs.specs.declared.request.Request.TheVariants as request_type
+use Rattle.famfs.specs.Ends.{CommandShows, RequestShows, host_or, IsShown, LeavesImage, MediaChange, ShowsFault, ShowsOutOfMemory}
 use Rattle.fam_journal.specs.Statuses.{is_checked_equal}
 use Rattle.fam_journal.specs.Texts.{is_sound_report}
 use Rattle.famfs.specs.CommandResult.{answer_status, said_status, said_text, sound_status}
@@ -150,8 +153,13 @@ pub shows_what : {E : Type 0} (r : Result Shown E) (early : Option CommandResult
 shows_what (Ok shown) early says said holds first status text = record { shown = said; says_it = holds; early_is = first; status_is = status; text_is = text }
 shows_what (Err none) early says said holds first status text = tt
 
--- a call shows what it says it does
-pub on_ok_shows : {E : Type 0} (r : Result Shown E) (P Q : Status → List ℕ → Type 0) → ((status : Status) (text : List ℕ) → P status text → Q status text)
-    → IfOk r (λ shown. P shown.status shown.text.items) → IfOk r (λ shown. Q shown.status shown.text.items)
-on_ok_shows (Ok shown) P Q more p = more shown.status shown.text.items p
-on_ok_shows (Err none) P Q more p = tt
+-- a request to make a file system shows what that says
+pub mkfs_request : {E : Type 0} (r : Result Shown E) (media : MediaChange) (shelf : ShelfChange) (me random : List ℕ) (request : Request) (system fs : Option (List ℕ)) (unit log : ℕ) (force : Bool) → request ≡ request_type.Mkfs system fs unit log force
+    → (id host : List ℕ) → id ≡ fs_or random fs → host ≡ host_or me system → IfOk r (λ shown. ShowsSaid (refused_said unit log media.size) (MkfsSays media host id unit log force) shown.status shown.text.items)
+    → IfOk r (λ shown. RequestShows request media shelf me random shown.status shown.text.items)
+mkfs_request (Err none) media shelf me random request system fs unit log force is id host named on shows = tt
+mkfs_request (Ok shown) media shelf me random request system fs unit log force is id host named on shows =
+    subst (λ (q : Request). RequestShows q media shelf me random shown.status shown.text.items) (sym is)
+    (mkfs_shows media (host_or me system) random fs unit log force shown.status shown.text.items
+    (subst (λ (x : List ℕ). ShowsSaid (refused_said unit log media.size) (MkfsSays media x (fs_or random fs) unit log force) shown.status shown.text.items) on
+    (subst (λ (y : List ℕ). ShowsSaid (refused_said unit log media.size) (MkfsSays media host y unit log force) shown.status shown.text.items) named shows)))

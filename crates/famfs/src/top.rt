@@ -189,21 +189,26 @@ fn unfit_shown(alloc: Global, cause: &Refusal) -> Result<Shown, OutOfMemory>
     })
 }
 
+/// The line that says how the reading of a source ended early.
+fn end_line(alloc: Global, end: SourceEnd) -> Result<Vec<u8>, OutOfMemory>
+    ensures { IfOk result (λ bytes. bytes.items ≡ source_line (end_of end)) }
+{
+    match end {
+        SourceEnd::Faulted => line(alloc, "source fault"),
+        SourceEnd::Short { size, got } => {
+            line_of(alloc, format!(in alloc; "short source {size} {got}"))
+        }
+    }
+}
+
 /// Says how the reading of a source ended early.
 fn ended_shown(alloc: Global, end: SourceEnd) -> Result<Shown, OutOfMemory>
     ensures status { IfOk result (λ shown. shown.status ≡ SourceFault) }
     ensures text { IfOk result (λ shown. shown.text.items ≡ source_line (end_of end)) }
 {
-    let text = match end {
-        SourceEnd::Faulted => line(alloc, "source fault")?,
-        SourceEnd::Short { size, got } => line_of(
-            alloc,
-            format!(in alloc; "short source {size} {got}"),
-        )?,
-    };
     Ok(Shown {
         status: Status::SourceFault,
-        text,
+        text: end_line(alloc, end)?,
     })
 }
 

@@ -164,7 +164,10 @@ fn words_ask_for_a_file_system(rt: HostRuntime) -> Result<(), Fail> {
         ("mkfs img -u=4096", "mkfs - 4096 8388608 false for -"),
         ("mkfs img --unit 4k", "mkfs - 4096 8388608 false for -"),
         ("mkfs img --unit=3m", "mkfs - 3145728 8388608 false for -"),
-        ("mkfs img --loglen 02g", "mkfs - 2097152 2147483648 false for -"),
+        (
+            "mkfs img --loglen 02g",
+            "mkfs - 2097152 2147483648 false for -",
+        ),
         ("mkfs img -f", "mkfs - 2097152 8388608 true for -"),
         ("mkfs img --force -u 0", "mkfs - 0 8388608 true for -"),
         ("mkfs img -fu 1G", "mkfs - 1073741824 8388608 true for -"),
@@ -209,12 +212,18 @@ fn words_ask_for_directories_and_files(rt: HostRuntime) -> Result<(), Fail> {
         ("mkdir img \\x41", "mkdir \\x41 755 0 0 for -"),
         ("mkdir img -- -a", "mkdir -a 755 0 0 for -"),
         ("mkdir img a/b -m 700 -u 3 -g 4", "mkdir a/b 700 3 4 for -"),
-        ("mkdir -m=0007 img --uid=4294967295 a --gid 0", "mkdir a 7 4294967295 0 for -"),
+        (
+            "mkdir -m=0007 img --uid=4294967295 a --gid 0",
+            "mkdir a 7 4294967295 0 for -",
+        ),
         ("mkdir img a -m 7777", "mkdir a 7777 0 0 for -"),
         ("creat img x --size=1", "creat x 1 644 0 0 - zeros for -"),
         ("creat -s1 img x", "creat x 1 644 0 0 - zeros for -"),
         ("creat img -s=1 x", "creat x 1 644 0 0 - zeros for -"),
-        ("creat img x -s 3M -S 7", "creat x 3145728 644 0 0 - seed 7 for -"),
+        (
+            "creat img x -s 3M -S 7",
+            "creat x 3145728 644 0 0 - seed 7 for -",
+        ),
         (
             "creat img x -s 1 --seed=0 -m 600",
             "creat x 1 600 0 0 - seed 0 for -",
@@ -228,10 +237,16 @@ fn words_ask_for_directories_and_files(rt: HostRuntime) -> Result<(), Fail> {
             "creat x 0 644 0 0 0,65,5000 zeros for -",
         ),
         ("cp img s a/b", "cp s a/b 644 0 0 - for -"),
-        ("cp img -m 640 s -N 1 a -B 1 -C 4K", "cp s a 640 0 0 1,1,4096 for -"),
+        (
+            "cp img -m 640 s -N 1 a -B 1 -C 4K",
+            "cp s a 640 0 0 1,1,4096 for -",
+        ),
         ("cp img -- -s -a", "cp -s -a 644 0 0 - for -"),
         ("verify img a", "verify a zeros for -"),
-        ("verify img a -S 18446744073709551615", "verify a seed 18446744073709551615 for -"),
+        (
+            "verify img a -S 18446744073709551615",
+            "verify a seed 18446744073709551615 for -",
+        ),
         ("verify --source s img a", "verify a source s for -"),
         ("read img a 0 4096", "read a 0 4096 for -"),
         ("read img a 007 0", "read a 7 0 for -"),
@@ -241,7 +256,10 @@ fn words_ask_for_directories_and_files(rt: HostRuntime) -> Result<(), Fail> {
         assert!(rt; asks(alloc, line, "img", want)?, "{line}");
     }
     assert!(rt; asks(alloc, "logplay -- -img", "-img", "logplay for -")?);
-    assert!(rt; asks(alloc, "logplay ", "", "logplay for -")?, "an image without a name");
+    assert!(rt;
+        asks(alloc, "logplay ", "", "logplay for -")?,
+        "an image without a name"
+    );
     assert!(rt; asks(alloc, "logplay -", "-", "logplay for -")?);
     Ok(())
 }

@@ -1,10 +1,10 @@
 //! Damaged images: each field and each reason, with its text. The numbers were computed apart from this program.
 
 use super::images::{directory, formatted, holding, mended, params, put, put_slot, shows};
-use fam_journal::Status;
 use fam_base::LineNo;
 use fam_crc::crc_words;
 use fam_entry::{spell, spell_log};
+use fam_journal::Status;
 use fam_media::{Media, MemMedia};
 use fam_super::Super;
 use std::alloc::Global;

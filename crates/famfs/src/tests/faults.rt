@@ -2,8 +2,8 @@
 
 use super::images::{call, directory, holding, shows};
 use super::making::{MADE, MKFS};
-use fam_journal::Status;
 use fam_base::Mask;
+use fam_journal::Status;
 use fam_media::{MemMedia, MemSink};
 use std::alloc::Global;
 use std::test::Fail;

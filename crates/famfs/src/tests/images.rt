@@ -1,10 +1,10 @@
 //! Images in memory, and calls of the program on them.
 
-use fam_journal::Status;
 use crate::top::famfs;
 use fam_base::{Entry, Extent, Extents, Kind, Line, LineNo, MapKind, Params, Path};
 use fam_crc::crc_words;
 use fam_entry::{spell, spell_log};
+use fam_journal::Status;
 use fam_media::{Media, MemMedia, MemShelf, MemSink};
 use fam_super::Super;
 use std::alloc::Global;

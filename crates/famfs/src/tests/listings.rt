@@ -1,9 +1,9 @@
 //! Logs that are listed, and words that aren't a command.
 
 use super::images::{call, directory, file, formatted, holding, shows, words};
-use fam_journal::Status;
 use crate::words::image_of;
 use fam_base::Mask;
+use fam_journal::Status;
 use fam_media::{MemMedia, MemSink};
 use std::test::Fail;
 
@@ -57,7 +57,6 @@ fn words_that_are_no_command_give_the_usage_line(rt: HostRuntime) -> Result<(), 
     for text in [
         "frob",
         "logplay",
-        "logplay -",
         "logplay -x",
         "logplay a b",
         "Logplay a",

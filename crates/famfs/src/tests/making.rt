@@ -1,8 +1,8 @@
 //! File systems and directories that are made, and what refuses them.
 
 use super::images::{Caller, MASTER, OTHER, THE_MASTER, file, formatted, holding, shows, shows_to};
-use fam_journal::Status;
 use fam_base::Mask;
+use fam_journal::Status;
 use fam_media::MemMedia;
 use std::alloc::Global;
 use std::test::Fail;
@@ -214,6 +214,14 @@ fn no_directory_is_made_on_a_damaged_image(rt: HostRuntime) -> Result<(), Fail> 
     let device = "bad superblock device 4194304 2098752\n";
     assert!(rt; shows(alloc, &mut cut, text, Status::Damaged, device)?);
     let mut with_file = holding(alloc, &[file(b"a")?])?;
-    assert!(rt; shows(alloc, &mut with_file, text, Status::Refused, "exists file\n")?);
+    assert!(rt;
+        shows(
+            alloc,
+            &mut with_file,
+            text,
+            Status::Refused,
+            "exists file\n"
+        )?
+    );
     Ok(())
 }

@@ -36,16 +36,25 @@ fn first_other_on_new(alloc: Global, calls: &[Call]) -> Result<Option<&'static s
 
 /// mkfs, a directory, an empty file of a page and a byte, and a copy of 100 bytes.
 const SESSION: [Call; 6] = [
-    ("mkfs|img|-u|4K|-l|64K|--uuid|11111111-1111-4111-8111-111111111111", Status::Done, MADE),
+    (
+        "mkfs|img|-u|4K|-l|64K|--uuid|11111111-1111-4111-8111-111111111111",
+        Status::Done,
+        MADE,
+    ),
     ("mkdir|img|a", Status::Done, "ok 0\n"),
     ("creat|img|a/b|-s|4097", Status::Done, "ok 1\n"),
     ("cp|img|notes 1.txt|a/notes 1.txt", Status::Done, "ok 2\n"),
-    ("verify|img|a/notes 1.txt|--source|notes 1.txt", Status::Done, "same 3\n"),
+    (
+        "verify|img|a/notes 1.txt|--source|notes 1.txt",
+        Status::Done,
+        "same 3\n",
+    ),
     ("logplay|img", Status::Done, LISTING),
 ];
 
 /// What logplay shows of it.
-const LISTING: &str = "played 3\nd 0755 0 0 0 - a\nf 0644 0 0 4097 2162688+8192 a/b\nf 0644 0 0 100 2170880+4096 a/notes\\x201.txt\n";
+const LISTING: &str =
+    "played 3\nd 0755 0 0 0 - a\nf 0644 0 0 4097 2162688+8192 a/b\nf 0644 0 0 100 2170880+4096 a/notes\\x201.txt\n";
 
 /// A shelf with 100 bytes under the session's name, and with listings.
 fn notes(alloc: Global) -> Result<MemShelf, Fail> {
@@ -71,7 +80,11 @@ fn a_session_makes_files_and_finds_them(rt: HostRuntime) -> Result<(), Fail> {
     assert_eq!(rt; first_other(alloc, &mut media, &mut shelf, &SESSION)?, None);
     let found = [
         ("verify|img|a/b", Status::Done, "same 3\n"),
-        ("verify|img|a/b|-S|1", Status::Damaged, "differs 3 0 00 9b\n"),
+        (
+            "verify|img|a/b|-S|1",
+            Status::Damaged,
+            "differs 3 0 00 9b\n",
+        ),
         (
             "verify|img|a/notes 1.txt|--source|other",
             Status::Damaged,
@@ -82,7 +95,11 @@ fn a_session_makes_files_and_finds_them(rt: HostRuntime) -> Result<(), Fail> {
             Status::Damaged,
             "length differs 3 100 101\n",
         ),
-        ("read|img|a/notes 1.txt|98|10", Status::Done, "bytes 3 6e6e\n"),
+        (
+            "read|img|a/notes 1.txt|98|10",
+            Status::Done,
+            "bytes 3 6e6e\n",
+        ),
         ("read|img|a/b|4096|4096", Status::Done, "bytes 3 00\n"),
         (
             "check|img|list",
@@ -117,7 +134,11 @@ fn the_tree_refuses_what_it_must(rt: HostRuntime) -> Result<(), Fail> {
         ("mkdir|img|a/b/c", Status::Refused, "parent is a file\n"),
         ("creat|img|a/b|-s|1", Status::Refused, "exists file\n"),
         ("cp|img|gone|g", Status::Refused, "refused no file gone\n"),
-        ("verify|img|a|--source|go ne", Status::Refused, "refused no file go\\x20ne\n"),
+        (
+            "verify|img|a|--source|go ne",
+            Status::Refused,
+            "refused no file go\\x20ne\n",
+        ),
         ("verify|img|a", Status::Refused, "is a directory 3\n"),
         ("read|img|a|0|1", Status::Refused, "is a directory 3\n"),
         ("verify|img|w", Status::Refused, "not found 3\n"),
@@ -248,13 +269,41 @@ fn strips_stand_in_buckets_of_their_own(rt: HostRuntime) -> Result<(), Fail> {
     ];
     assert_eq!(rt; first_other(alloc, &mut media, &mut shelf, &calls)?, None);
     let bounds = [
-        ("creat|img|s|-s|40000|-N|3|-B|4|-C|8K", Status::Refused, "no space 4\n"),
-        ("creat|img|s|-s|40000|-N|3|-B|2|-C|8K", Status::Refused, "bad stripe\n"),
-        ("creat|img|s|-s|40000|-N|3|-B|4|-C|5000", Status::Refused, "bad stripe\n"),
-        ("creat|img|s|-s|1|-N|0|-B|4|-C|4K", Status::Refused, "bad stripe\n"),
-        ("creat|img|s|-s|1|-N|17|-B|64|-C|4K", Status::Refused, "bad stripe\n"),
-        ("creat|img|s|-s|1|-N|1|-B|65|-C|4K", Status::Refused, "bad stripe\n"),
-        ("creat|img|s|-s|0|-N|1|-B|1|-C|0", Status::Refused, "bad stripe\n"),
+        (
+            "creat|img|s|-s|40000|-N|3|-B|4|-C|8K",
+            Status::Refused,
+            "no space 4\n",
+        ),
+        (
+            "creat|img|s|-s|40000|-N|3|-B|2|-C|8K",
+            Status::Refused,
+            "bad stripe\n",
+        ),
+        (
+            "creat|img|s|-s|40000|-N|3|-B|4|-C|5000",
+            Status::Refused,
+            "bad stripe\n",
+        ),
+        (
+            "creat|img|s|-s|1|-N|0|-B|4|-C|4K",
+            Status::Refused,
+            "bad stripe\n",
+        ),
+        (
+            "creat|img|s|-s|1|-N|17|-B|64|-C|4K",
+            Status::Refused,
+            "bad stripe\n",
+        ),
+        (
+            "creat|img|s|-s|1|-N|1|-B|65|-C|4K",
+            Status::Refused,
+            "bad stripe\n",
+        ),
+        (
+            "creat|img|s|-s|0|-N|1|-B|1|-C|0",
+            Status::Refused,
+            "bad stripe\n",
+        ),
         (
             "creat|img|s|-s|1|-N|1|-B|1|-C|18446744073709547520",
             Status::Refused,
@@ -272,7 +321,11 @@ fn seeds_make_the_bytes_again(rt: HostRuntime) -> Result<(), Fail> {
         ("creat|img|v|-s|8|-S|1", Status::Done, "ok 0\n"),
         ("verify|img|v|-S|1", Status::Done, "same 1\n"),
         ("verify|img|v|-S|0", Status::Damaged, "differs 1 0 9b df\n"),
-        ("read|img|v|0|4096", Status::Done, "bytes 1 9bc2036f7fd0c5cf\n"),
+        (
+            "read|img|v|0|4096",
+            Status::Done,
+            "bytes 1 9bc2036f7fd0c5cf\n",
+        ),
         ("read|img|v|8|1", Status::Done, "bytes 1 -\n"),
         ("read|img|v|3|2", Status::Done, "bytes 1 6f7f\n"),
         ("creat|img|t|-s|3|-S|0", Status::Done, "ok 1\n"),
@@ -304,7 +357,11 @@ fn sources_fail_with_their_cause(rt: HostRuntime) -> Result<(), Fail> {
     ];
     assert_eq!(rt; first_other(alloc, &mut media, &mut shelf, &faults)?, None);
     let mut small = MemMedia::new(alloc, 15_625)?;
-    let few = ("cp|img|gone|x", Status::Damaged, "refused image too small 15625\n");
+    let few = (
+        "cp|img|gone|x",
+        Status::Damaged,
+        "refused image too small 15625\n",
+    );
     assert_eq!(rt; first_other(alloc, &mut small, &mut shelf, &[few])?, None);
     Ok(())
 }

@@ -2,10 +2,10 @@
 
 use super::images::{FS, MASTER, OTHER, directory, params};
 use crate::said::{CommandResult, said_lines, said_status};
-use fam_journal::Status;
 use crate::texts::failure_room;
 use fam_base::{Kind, LineNo};
 use fam_format::{LogField, Reason, SuperField};
+use fam_journal::Status;
 use fam_tasks::Answer;
 use fam_tree::Tree;
 use std::alloc::Global;
