@@ -57,7 +57,6 @@ fn words_that_are_no_command_give_the_usage_line(rt: HostRuntime) -> Result<(), 
     for text in [
         "frob",
         "logplay",
-        "logplay -",
         "logplay -x",
         "logplay a b",
         "Logplay a",
