@@ -1,5 +1,5 @@
 -- What a call promises on every media, from its parts.
-use Rattle.std.proofs.Common.{◌≡◌, ℕ, ◌≤◌, ◌<◌, inl, inr, List, [], ◌∷◌, ◌++◌, length, map, Option, Some, None, refl, ap, sym, ◌∙◌, subst, arith}
+use Rattle.std.proofs.Common.{◌≡◌, ℕ, ◌≤◌, inl, List, [], ◌∷◌, ◌++◌, length, map, Option, Some, None, refl, ap, sym, ◌∙◌, subst, arith}
 use Rattle.std.specs.Prelude.{slice_get}
 use Rattle.std.proofs.lemmas.Option.{same_Some}
 use Rattle.fam_journal.specs.declared.refusal.Refusal.{Refusal}
@@ -7,7 +7,7 @@ use Rattle.fam_journal.specs.Calls as call
 use Rattle.fam_journal.specs.Calls.{Call, name_of, number_of}
 use Rattle.fam_journal.specs.CallRecords.{Answers, CallForm, FitsMedia, IsLate, heading, refusal_noted}
 use Rattle.fam_journal.specs.Ends.{HasCounted}
-use Rattle.fam_journal.specs.Forms.{ActsForm, AtForm, DoesForm, FormByRefusal, FreeForm, HostActsForm, HostForm, HostFormed, IsFormed, OfHostForm, Pairs, forms_behind, forms_of, refusal_told}
+use Rattle.fam_journal.specs.Forms.{ActsForm, AtForm, FormByRefusal, FreeForm, HostActsForm, HostForm, HostFormed, IsFormed, OfHostForm, Pairs, forms_behind, forms_of, refusal_told}
 use Rattle.fam_journal.specs.Names.{AreNamed, NamesCause}
 use Rattle.fam_journal.specs.Notes.{Note, Refused}
 use Rattle.fam_journal.specs.View.{HostView, WorldView}

@@ -1,6 +1,6 @@
 -- The first refusal of a call, by the number of its host and what is known of that.
-use Rattle.std.proofs.Common.{◌≡◌, ℕ, ◌*◌, List, [], length, map, Bool, true, false, Option, Some, None, refl, ap, sym, ◌∙◌, subst}
-use Rattle.std.specs.Prelude.{slice_get, option_map, nat_le, nat_lt, not, replicate}
+use Rattle.std.proofs.Common.{◌≡◌, ℕ, ◌*◌, List, [], length, map, Bool, Option, Some, None, refl, ap, ◌∙◌, subst}
+use Rattle.std.specs.Prelude.{slice_get, option_map, nat_le, nat_lt, not}
 use Rattle.std.proofs.lemmas.List.{length-replicate}
 use Rattle.std.proofs.lemmas.Option.{same_Some}
 use Rattle.fam_base.specs.declared.cmd.Cmd.{Cmd}

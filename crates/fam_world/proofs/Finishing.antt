@@ -1,6 +1,6 @@
 -- Operations of a host's task one behind another, up to its answer, meet what the call promises.
 use Prim.Native.Nat.{zero, suc}
-use Rattle.std.proofs.Common.{◌≡◌, ◌⊎◌, ℕ, ◌<◌, ◌≤◌, ◌+◌, ◌-◌, ◌^◌, inl, inr, set, Bool, true, false, List, [], ◌∷◌, ◌++◌, length, map, Option, Some, None, refl, ap, ap₂, sym, ◌∙◌, subst, arith}
+use Rattle.std.proofs.Common.{◌≡◌, ◌⊎◌, ℕ, ◌<◌, ◌+◌, inl, inr, set, Bool, true, false, List, [], ◌∷◌, ◌++◌, length, map, Option, Some, None, refl, ap, ap₂, sym, ◌∙◌, subst, arith}
 use Rattle.std.specs.Prelude.{IfSome, slice_get, is_some, not, drop, unwrap_or, if◌then◌else◌}
 use Rattle.std.specs.List.{list_any}
 use Rattle.std.proofs.lemmas.Option.{same_Some}
@@ -13,8 +13,7 @@ use Rattle.fam_journal.specs.declared.refusal.Refusal.{Refusal}
 use Rattle.fam_journal.specs.declared.refusal.Refusal.TheVariants as why
 use Rattle.fam_journal.specs.Calls as call
 use Rattle.fam_journal.specs.Calls.{Acts, ByRefusal, Does, DoesOperations, busy_at, has_name, is_busy_host, number_of, on_host, refusal_of, when}
-use Rattle.fam_journal.specs.CallRecords.{CallForm, CallKeeps, FinishOutOfMemory, FitsMedia, MediaCall, StepCall, TaskFits, cause_noted, heading, refusal_noted}
-use Rattle.fam_journal.specs.Ends.{HasCounted}
+use Rattle.fam_journal.specs.CallRecords.{CallForm, CallKeeps, FinishOutOfMemory, MediaCall, StepCall, TaskFits, heading, refusal_noted}
 use Rattle.fam_journal.specs.Forms.{ActsForm, AtForm, FormByRefusal, FreeForm, HostForm, HostFormed, IsFormed, OfHostForm, OperationsForm, TaskForm, TaskFormed, forms_after, forms_behind, forms_of, runs_form}
 use Rattle.fam_journal.specs.Kept.{Held}
 use Rattle.fam_journal.specs.Machines.{HostState, Machines, Operation, TaskState}
@@ -41,7 +40,7 @@ use Rattle.fam_journal.specs.Machines.{notes_of}
 use Rattle.fam_journal.specs.Members.{changed_at}
 use Rattle.fam_journal.specs.ByWorld.{shown_task}
 use Rattle.fam_world.specs.Steps.{Around, IsCut, IsServed, IsStep}
-use Rattle.fam_world.specs.Finishes.{AreOwn, RanTo, SoFar}
+use Rattle.fam_world.specs.Finishes.{AreOwn, SoFar}
 use Rattle.fam_world.proofs.Answering.{free_answers, hosted_form}
 use Rattle.fam_world.proofs.Deciding.{steps_first}
 use Rattle.fam_world.specs.declared.hosts.Host.{Host}

@@ -13,3 +13,4 @@ pub mod Stepping
 pub mod Finishing
 pub mod Saying
 pub mod Fits
+pub mod KeptNotes

@@ -1,10 +1,10 @@
 -- Hosts of which one is written: how they look, and what stays of all of them.
-use Rattle.std.proofs.Common.{◌≡◌, ◌≢◌, ℕ, ◌<◌, inl, inr, set, List, [], ◌∷◌, ◌++◌, length, map, Option, Some, None, refl, ap, sym, ◌∙◌, subst}
+use Rattle.std.proofs.Common.{◌≡◌, ℕ, inl, inr, set, List, [], ◌∷◌, ◌++◌, length, map, Some, refl, ap, sym, ◌∙◌, subst}
 use Prim.Native.Nat.{zero, suc}
-use Rattle.std.specs.Prelude.{⊤, slice_get, option_map}
+use Rattle.std.specs.Prelude.{slice_get, option_map}
 use Rattle.std.proofs.lemmas.Bool.{cases_eq}
 use Rattle.std.proofs.lemmas.Option.{same_Some}
-use Rattle.fam_journal.specs.CallRecords.{FitsMedia, HostFits, heading}
+use Rattle.fam_journal.specs.CallRecords.{FitsMedia, HostFits}
 use Rattle.fam_journal.specs.Forms.{HostForm, HostFormed, Pairs}
 use Rattle.fam_journal.specs.Members.{changed_at}
 use Rattle.fam_journal.specs.View.{HostView}

@@ -15,11 +15,10 @@ use Rattle.fam_journal.specs.declared.refusal.Refusal.{Refusal}
 use Rattle.fam_journal.specs.declared.refusal.Refusal.TheVariants as why
 use Rattle.fam_journal.specs.Calls as call
 use Rattle.fam_journal.specs.CallRecords.{Answers, CallKeeps, HostFits, IsLateMove, IsSoundCall, MediaCall, heading}
-use Rattle.fam_journal.specs.Forms.{HostForm, HostFormed, Pairs}
-use Rattle.fam_journal.specs.Kept.{Held}
-use Rattle.fam_journal.specs.Machines.{HostState, Machines, machine_of, with_machine, with_memory}
+use Rattle.fam_journal.specs.Forms.{HostFormed, Pairs}
+use Rattle.fam_journal.specs.Machines.{Machines, machine_of, with_machine, with_memory}
 use Rattle.fam_journal.specs.Members.{changed_at}
-use Rattle.fam_journal.specs.Notes.{Note, Refused}
+use Rattle.fam_journal.specs.Notes.{Refused}
 use Rattle.fam_journal.specs.View.{HostStandsAt, HostView, WorldStands, WorldView}
 use Rattle.fam_journal.specs.ByWorld.{number_in, refusal_in}
 use Rattle.fam_journal.proofs.Calls.Hosts.{stands_changed}

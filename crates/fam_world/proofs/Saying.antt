@@ -1,5 +1,5 @@
 -- What a task says of an operation, as notes and as its turn.
-use Rattle.std.proofs.Common.{◌≡◌, ◌≢◌, ◌⊎◌, ℕ, ◌<◌, ◌≤◌, ◌++◌, ◌∷◌, [], inl, inr, Bool, true, false, List, Option, Some, None, refl, ap, sym, ◌∙◌, subst}
+use Rattle.std.proofs.Common.{◌≡◌, ◌≢◌, ◌⊎◌, ℕ, ◌<◌, ◌≤◌, ◌++◌, ◌∷◌, [], inl, inr, Bool, true, List, Option, Some, None, refl, ap, sym, ◌∙◌, subst}
 use Rattle.std.specs.Prelude.{⊤, IfSome, is_some, unwrap_or, option_map}
 use Rattle.std.specs.List.{list_any}
 use Rattle.std.proofs.lemmas.Bool.{cases_eq}
@@ -12,7 +12,7 @@ use Rattle.fam_machine.specs.declared.op.Op.TheVariants.{Load, Store, WriteBack,
 use Rattle.fam_machine.specs.Caches.{Cache, cell_at}
 use Rattle.fam_machine.specs.Cuts.{HasFailed, IsMachine}
 use Rattle.fam_machine.specs.OneLine.{IsHeld, brought, words_of}
-use Rattle.fam_machine.specs.Operations.{IsWithin, Machine, given, given_by, machine, op_line, operated}
+use Rattle.fam_machine.specs.Operations.{IsWithin, Machine, given, given_by, machine, operated}
 use Rattle.fam_machine.proofs.CacheLemmas.{cell_at-with_cell_same}
 use Rattle.fam_cache.specs.declared.fault.OperationFault.{OperationFault}
 use Rattle.fam_cache.specs.declared.fault.OperationFault.TheVariants as operation_fault
@@ -31,20 +31,17 @@ use Rattle.fam_tasks.specs.declared.answer.TaskNote.TheVariants as says
 use Rattle.fam_tasks.specs.declared.answer.Turn.{Turn}
 use Rattle.fam_tasks.specs.declared.answer.Turn.TheVariants as turn
 use Rattle.fam_tasks.specs.Answers.{reply_of}
-use Rattle.fam_tasks.specs.Tells.{Replies, Tells}
+use Rattle.fam_tasks.specs.Tells.{Tells}
 use Rattle.fam_run.specs.Operation.{GoesOn, HasTurned, KeepsLines}
-use Rattle.fam_notes.specs.declared.note.Note.TheVariants as kept
-use Rattle.fam_notes.specs.Notes as notes
 use Rattle.fam_notes.specs.Notes.{answer_of}
 use Rattle.fam_journal.specs.declared.refusal.Refusal.TheVariants as why
-use Rattle.fam_journal.specs.CallRecords.{TaskFits, heading, own_turn}
+use Rattle.fam_journal.specs.CallRecords.{TaskFits, heading}
 use Rattle.fam_journal.specs.Ends.{is_answer_note}
 use Rattle.fam_journal.specs.Machines.{notes_of}
 use Rattle.fam_journal.specs.Notes.{Answered, MediaFault, Note, Refused, Replied}
 use Rattle.fam_journal.specs.Notes as journal
-use Rattle.fam_world.specs.Steps.{Around, IsCut, IsServed, IsStep}
+use Rattle.fam_world.specs.Steps.{Around, IsStep}
 use Rattle.fam_world.specs.Turns.{is_done, kept_by, turn_notes}
-use Rattle.fam_world.specs.View.{note_view}
 
 -- Words.
 

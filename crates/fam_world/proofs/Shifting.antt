@@ -1,18 +1,18 @@
 -- A cache's move, as its calls have it, is the machine's.
-use Rattle.std.proofs.Common.{◌≡◌, ◌⊎◌, ℕ, inl, inr, List, Option, Some, Result, Ok, Err, refl, ap, sym, ◌∙◌, subst, arith, map}
-use Rattle.std.specs.Prelude.{⊤, OnErr, OnOk, IsErrOf, IsOk, option_map}
+use Rattle.std.proofs.Common.{◌≡◌, ◌⊎◌, ℕ, inl, inr, List, Option, Some, Result, Ok, Err, refl, ap, sym, ◌∙◌, subst, arith}
+use Rattle.std.specs.Prelude.{OnErr, OnOk, IsErrOf, IsOk, option_map}
 use Rattle.std.proofs.lemmas.Bool.{cases_eq}
 use Rattle.fam_base.specs.declared.line.Mask.{Mask}
-use Rattle.fam_base.specs.Image.{Image, IsNormal, eight, line_at, with_line}
+use Rattle.fam_base.specs.Image.{Image, IsNormal, line_at, with_line}
 use Rattle.fam_base.proofs.ImageLemmas.{with_line-line_at}
 use Rattle.fam_machine.specs.declared.cell.Cell.{Cell}
 use Rattle.fam_machine.specs.declared.cell.Cell.TheVariants.{Absent, Clean, Dirty}
 use Rattle.fam_machine.specs.Caches.{Cache, cell_at, cell_changed, line_changed, with_cell}
 use Rattle.fam_machine.specs.Cuts.{IsMachine}
 use Rattle.fam_machine.specs.HostMoves.{failed_fetch, failed_move, moved}
-use Rattle.fam_machine.specs.OneLine.{IsDirty, IsHeld, fetched, leaked, sent}
+use Rattle.fam_machine.specs.OneLine.{IsDirty, IsHeld, fetched, leaked}
 use Rattle.fam_machine.specs.Operations.{machine}
-use Rattle.fam_machine.proofs.CacheLemmas.{cell_at-with_cell_other, cell_at-with_cell_same, with_cell_own}
+use Rattle.fam_machine.proofs.CacheLemmas.{cell_at-with_cell_other, with_cell_own}
 use Rattle.fam_media.specs.declared.media.Failed.{Failed}
 use Rattle.fam_media.specs.Outside.{IfModelled}
 use Rattle.fam_cache.specs.declared.fault.CacheFault.{CacheFault}

@@ -1,5 +1,5 @@
 -- The form of a media fault in a step.
-use Rattle.std.proofs.Common.{◌≡◌, ℕ, List, [], ◌∷◌, length, Option, Some, None, refl, sym, ◌∙◌, subst, arith}
+use Rattle.std.proofs.Common.{◌≡◌, ℕ, List, [], ◌∷◌, Option, Some, None, refl, sym, ◌∙◌, subst, arith}
 use Rattle.std.specs.Prelude.{slice_get}
 use Rattle.fam_commands.specs.Task.{Task}
 use Rattle.fam_journal.specs.declared.refusal.Refusal.{Refusal}

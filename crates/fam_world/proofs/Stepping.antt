@@ -1,6 +1,6 @@
 -- An operation of a task at a declared host meets what the call promises.
-use Rattle.std.proofs.Common.{◌≡◌, ◌⊎◌, ℕ, ◌<◌, ◌≤◌, ◌+◌, ◌-◌, ◌^◌, inl, inr, Bool, true, false, List, [], ◌∷◌, ◌++◌, length, map, Option, Some, None, refl, ap, ap₂, sym, ◌∙◌, subst, arith}
-use Rattle.std.specs.Prelude.{⊤, slice_get, is_some, not}
+use Rattle.std.proofs.Common.{◌≡◌, ◌⊎◌, ℕ, ◌<◌, ◌≤◌, inl, inr, Bool, false, List, [], ◌∷◌, ◌++◌, length, map, Option, Some, None, refl, ap, ap₂, sym, ◌∙◌, subst, arith}
+use Rattle.std.specs.Prelude.{slice_get}
 use Rattle.std.specs.List.{list_any}
 use Rattle.fam_base.specs.declared.line.LineNo.{LineNo}
 use Rattle.fam_base.specs.Image.{Image}
@@ -16,30 +16,28 @@ use Rattle.fam_commands.specs.Task.{Task, op_of}
 use Rattle.fam_commands.specs.Turns.{Turn}
 use Rattle.fam_commands.proofs.Steps.Standing.{operation_from_start}
 use Rattle.fam_journal.specs.declared.refusal.Refusal.{Refusal}
-use Rattle.fam_journal.specs.declared.refusal.Refusal.TheVariants as why
 use Rattle.fam_journal.specs.Calls as call
 use Rattle.fam_journal.specs.Calls.{Does}
-use Rattle.fam_journal.specs.CallRecords.{Answers, AnswersStep, CallForm, CallKeeps, DoesRow, FitsMedia, HostFits, IsLate, MediaCall, StepCall, TaskFits, heading, own_turn, refusal_noted, stepped_world}
+use Rattle.fam_journal.specs.CallRecords.{Answers, CallForm, CallKeeps, FitsMedia, HostFits, IsLate, MediaCall, StepCall, TaskFits, heading, own_turn, refusal_noted, stepped_world}
 use Rattle.fam_journal.specs.Ends.{HasCounted, faults_of, is_answer_note}
 use Rattle.fam_journal.specs.Forms.{HostForm, HostFormed, IsFormed, Pairs, forms_behind, forms_of}
-use Rattle.fam_journal.specs.Kept.{Held}
 use Rattle.fam_journal.specs.Machines as machines
 use Rattle.fam_journal.specs.Machines.{Fails, HostState, Machines, Operation, TaskState, cut, machine_of, next_op, notes_of, operation, with_machine}
 use Rattle.fam_journal.specs.Members.{changed_at}
 use Rattle.fam_journal.specs.Names.{AreNamed}
 use Rattle.fam_journal.specs.Notes.{Answered, MediaFault, Note}
-use Rattle.fam_journal.specs.View.{HostStands, HostStandsAt, HostView, TaskStands, WorldStands, WorldView}
+use Rattle.fam_journal.specs.View.{HostStandsAt, HostView, TaskStands, WorldStands, WorldView}
 use Rattle.fam_journal.specs.ByWorld.{number_in, refusal_in}
 use Rattle.fam_journal.proofs.Calls.Hosts.{stands_changed}
 use Rattle.fam_journal.proofs.Calls.Members.{changed_alike}
 use Rattle.fam_journal.proofs.Calls.OwnSteps.{own_step}
-use Rattle.fam_journal.proofs.Calls.Stepped.{find_host, find_task}
+use Rattle.fam_journal.proofs.Calls.Stepped.{find_task}
 use Rattle.fam_journal.proofs.Forms.Pairs.{pairs_at, pairs_changed}
 use Rattle.fam_journal.proofs.Forms.Operations.{forms_both}
 use Rattle.fam_journal.proofs.Forms.Views.{step_formed, world_formed}
 use Rattle.fam_journal.proofs.JournalLaws.{kept_on}
 use Rattle.fam_world.specs.Steps.{Around, IsCut, IsServed, IsStep}
-use Rattle.fam_world.proofs.Answering.{free_answers, hosted_form}
+use Rattle.fam_world.proofs.Answering.{free_answers}
 use Rattle.fam_world.proofs.Members.{fits_kept, length_kept, map_kept}
 use Rattle.fam_world.proofs.Rows.{found, row_kept}
 use Rattle.fam_world.proofs.StepForms.{fault_formed_step}

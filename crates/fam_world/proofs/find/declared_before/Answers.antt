@@ -1,4 +1,4 @@
-use Rattle.std.proofs.Common.{refl, sym, ◌≡◌, ◌∙◌, ap, arith, true, false, Bool, length, map}
+use Rattle.std.proofs.Common.{sym, ◌≡◌, ◌∙◌, ap, arith, true, false, Bool, length}
 use Rattle.std.specs.Prelude.{nat_le}
 use Rattle.std.proofs.lemmas.Bool.Decides.{nat_tests}
 use Rattle.std.proofs.lemmas.List.{length-map}

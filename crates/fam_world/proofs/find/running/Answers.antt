@@ -1,4 +1,4 @@
-use Rattle.std.proofs.Common.{refl, sym, ◌≡◌, ◌∙◌, ap, arith, true, false, Bool, length, Some}
+use Rattle.std.proofs.Common.{refl, sym, ◌≡◌, ◌∙◌, ap, arith, true, false, Bool, length}
 use Rattle.std.specs.Prelude.{not, slice_get, is_some}
 use Rattle.std.proofs.lemmas.List.{length-map}
 use Rattle.std.proofs.lemmas.Option.{same_Some, slice_get_read}

@@ -1,11 +1,11 @@
-use Rattle.std.proofs.Common.{◌≡◌, ◌<◌, ◌++◌, ◌∷◌, [], List, Err, length, refl, ap, sym, ◌∙◌, subst, arith}
+use Rattle.std.proofs.Common.{◌<◌, ◌++◌, ◌∷◌, [], List, Err, length, refl, ap, ◌∙◌, subst, arith}
 use Rattle.std.proofs.lemmas.Option.{slice_get_read}
 use Rattle.fam_machine.specs.Caches.{Cache}
 use Rattle.fam_cache.specs.declared.fault.CacheFault.{CacheFault}
 use Rattle.fam_journal.specs.declared.refusal.Refusal.TheVariants as why
 use Rattle.fam_journal.specs.Calls as call
 use Rattle.fam_journal.specs.Notes.{Refused}
-use Rattle.fam_journal.specs.View.{HostView, WorldView}
+use Rattle.fam_journal.specs.View.{WorldView}
 use Rattle.fam_notes.specs.declared.note.Note.{Note as Kept}
 use Rattle.fam_world.specs.Answers.{IsFree, IsRefused}
 use Rattle.fam_world.specs.Moves.{move_of}

@@ -1,12 +1,12 @@
-use Rattle.std.proofs.Common.{◌≡◌, ◌++◌, ◌∷◌, [], List, ℕ, Some, refl, ap, ap₂, sym, ◌∙◌}
+use Rattle.std.proofs.Common.{◌++◌, ◌∷◌, [], List, Some, refl, ap, ap₂, ◌∙◌}
 use Rattle.fam_journal.specs.Calls as call
-use Rattle.fam_journal.specs.Notes.{Note, Refused, Start}
+use Rattle.fam_journal.specs.Notes.{Refused, Start}
 use Rattle.fam_base.specs.declared.cmd.Cmd.{Cmd}
 use Rattle.fam_commands.specs.Task.{starting}
 use Rattle.fam_journal.specs.Members.{changed_at}
 use Rattle.fam_journal.specs.View.{HostView, WorldView}
 use Rattle.fam_notes.specs.declared.note.Note.{Note as Kept}
-use Rattle.fam_world.specs.View.{notes_view, views, world_view}
+use Rattle.fam_world.specs.View.{notes_view, world_view}
 use Rattle.fam_world.proofs.WithoutMedia.{hosted, quiet_done, quiet_refused, refused_told}
 use Rattle.fam_world.proofs.quiet.begin_in.Goals as goal
 

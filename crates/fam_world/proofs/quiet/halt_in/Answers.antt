@@ -1,10 +1,10 @@
-use Rattle.std.proofs.Common.{◌≡◌, ◌++◌, ◌∷◌, [], List, ℕ, None, refl, ap, sym, ◌∙◌}
+use Rattle.std.proofs.Common.{◌++◌, ◌∷◌, [], List, None, refl, ap, ◌∙◌}
 use Rattle.fam_journal.specs.Calls as call
-use Rattle.fam_journal.specs.Notes.{Note, Halt, Refused}
+use Rattle.fam_journal.specs.Notes.{Halt, Refused}
 use Rattle.std.specs.FinMap as finmap
 use Rattle.fam_journal.specs.View.{HostView, WorldView}
 use Rattle.fam_notes.specs.declared.note.Note.{Note as Kept}
-use Rattle.fam_world.specs.View.{notes_view, views, world_view}
+use Rattle.fam_world.specs.View.{notes_view, world_view}
 use Rattle.fam_world.proofs.WithoutMedia.{hosted, quiet_done, quiet_refused, refused_told}
 use Rattle.fam_world.proofs.quiet.halt_in.Goals as goal
 

@@ -1,6 +1,6 @@
-use Rattle.std.proofs.Common.{◌≡◌, ◌++◌, ◌∷◌, [], List, ℕ, None, refl, ap, ap₂, sym, ◌∙◌}
+use Rattle.std.proofs.Common.{◌++◌, ◌∷◌, [], List, None, ap, ap₂, sym, ◌∙◌}
 use Rattle.fam_journal.specs.Calls as call
-use Rattle.fam_journal.specs.Notes.{Note, Host, Refused}
+use Rattle.fam_journal.specs.Notes.{Host, Refused}
 use Rattle.std.specs.FinMap as finmap
 use Rattle.fam_machine.specs.Caches.{Cache}
 use Rattle.fam_journal.specs.View.{HostView, WorldView}

@@ -1,9 +1,9 @@
-use Rattle.std.proofs.Common.{◌≡◌, ◌++◌, ◌∷◌, [], List, ℕ, None, refl, ap, sym, ◌∙◌}
+use Rattle.std.proofs.Common.{◌++◌, ◌∷◌, [], List, None, refl, ap, ◌∙◌}
 use Rattle.fam_journal.specs.Calls as call
-use Rattle.fam_journal.specs.Notes.{Note, Refused, Stop}
+use Rattle.fam_journal.specs.Notes.{Refused, Stop}
 use Rattle.fam_journal.specs.View.{HostView, WorldView}
 use Rattle.fam_notes.specs.declared.note.Note.{Note as Kept}
-use Rattle.fam_world.specs.View.{notes_view, views, world_view}
+use Rattle.fam_world.specs.View.{notes_view, world_view}
 use Rattle.fam_world.proofs.WithoutMedia.{hosted, quiet_done, quiet_refused, refused_told, stops_as_steps}
 use Rattle.fam_world.proofs.quiet.stop_in.Goals as goal
 

@@ -1,12 +1,10 @@
-use Rattle.std.proofs.Common.{◌≡◌, ◌<◌, length, refl, ap, sym, subst, ◌∙◌, arith, false, true}
+use Rattle.std.proofs.Common.{◌≡◌, length, refl, ap, sym, subst, ◌∙◌, arith, true}
 use Rattle.std.proofs.lemmas.List.{length-map}
 use Rattle.std.proofs.lemmas.Option.{same_Some, slice_get_read}
-use Rattle.fam_commands.specs.Task.{Task}
 use Rattle.fam_journal.specs.CallRecords.{TaskFits}
-use Rattle.fam_journal.specs.View.{HostView, WorldView}
+use Rattle.fam_journal.specs.View.{HostView}
 use Rattle.fam_world.specs.Answers.{is_over}
 use Rattle.fam_world.specs.View.{host_view, notes_view, world_view}
-use Rattle.fam_world.specs.declared.fault.Moved.{Moved}
 use Rattle.fam_world.proofs.Finishing.{far_next, first_so_far, going_fits, going_runs, loop_falls, over_none, view_set}
 use Rattle.fam_world.proofs.Members.{map_at, map_set}
 use Rattle.fam_world.proofs.Saying.{some_of}
