@@ -1,8 +1,10 @@
 //! What no clause says: outside numbers, whole texts, and real files.
 
+mod checks;
 mod commands;
 mod damage;
 mod faults;
+mod file_faults;
 mod files;
 mod images;
 mod listings;

@@ -5,7 +5,7 @@ use fam_base::{Entry, Extent, Extents, Kind, Line, LineNo, MapKind, Params, Path
 use fam_crc::crc_words;
 use fam_entry::{spell, spell_log};
 use fam_journal::Status;
-use fam_media::{Media, MemMedia, MemShelf, MemSink};
+use fam_media::{Media, MemMedia, MemShelf, MemSink, Shelf};
 use fam_super::Super;
 use std::alloc::Global;
 use std::test::Fail;
@@ -167,10 +167,10 @@ pub fn call_by<M: Media>(
 }
 
 /// Whether a call of the master with words between bars, and with this shelf, ends with this status and text.
-pub fn gives<M: Media>(
+pub fn gives<M: Media, S: Shelf>(
     alloc: Global,
     media: &mut M,
-    shelf: &mut MemShelf,
+    shelf: &mut S,
     text: &str,
     status: Status,
     want: &str,

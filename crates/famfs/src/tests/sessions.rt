@@ -5,18 +5,18 @@ use super::making::MADE;
 use fam_base::{Entry, Extent, Extents, Kind, MapKind, Path};
 use fam_entry::spell;
 use fam_journal::Status;
-use fam_media::{MemMedia, MemShelf};
+use fam_media::{Media, MemMedia, MemShelf, Shelf};
 use std::alloc::Global;
 use std::test::Fail;
 
 /// A call: its words between bars, the status, and the text.
-type Call = (&'static str, Status, &'static str);
+pub type Call = (&'static str, Status, &'static str);
 
 /// The first call whose status or text is another one, of calls one after another on a media.
-fn first_other(
+pub fn first_other<M: Media, S: Shelf>(
     alloc: Global,
-    media: &mut MemMedia,
-    shelf: &mut MemShelf,
+    media: &mut M,
+    shelf: &mut S,
     calls: &[Call],
 ) -> Result<Option<&'static str>, Fail> {
     for (words, status, text) in calls {
