@@ -36,7 +36,7 @@ fn the_session_of_mkfs(rt: HostRuntime) -> Result<(), Fail> {
 }
 
 #[test]
-fn the_session_of_mkdir(rt: HostRuntime) -> Result<(), Fail> {
+fn the_session_of_files(rt: HostRuntime) -> Result<(), Fail> {
     let alloc = rt.alloc();
     let mut disk = MemMedia::new(alloc, 65_536)?;
     let words = "mkfs disk -u 4k -l 64k --uuid 11111111-1111-4111-8111-111111111111";
@@ -46,7 +46,21 @@ fn the_session_of_mkdir(rt: HostRuntime) -> Result<(), Fail> {
         ("mkdir disk a", Status::Done, "ok 0\n"),
         ("mkdir disk a", Status::Refused, "exists directory\n"),
         ("mkdir disk x/y", Status::Refused, "no parent\n"),
-        ("logplay disk", Status::Done, "played 1\nd 0755 0 0 0 - a\n"),
+        ("creat disk a/b -s 4097", Status::Done, "ok 1\n"),
+        ("creat disk v -s 8 -S 1", Status::Done, "ok 2\n"),
+        (
+            "logplay disk",
+            Status::Done,
+            "played 3\nd 0755 0 0 0 - a\nf 0644 0 0 4097 2162688+8192 a/b\nf 0644 0 0 8 2170880+4096 v\n",
+        ),
+        ("verify disk v -S 1", Status::Done, "same 3\n"),
+        ("verify disk v -S 0", Status::Damaged, "differs 3 0 9b df\n"),
+        ("read disk v 3 2", Status::Done, "bytes 3 6f7f\n"),
+        (
+            "fsck disk",
+            Status::Done,
+            "fsck sound\nsuperblock sound\nlog sound 3 of 127\nfiles 2 directories 1\nunits used 531 free 493\noverlap none\nbad entry none\npast gate 0\n",
+        ),
     ] {
         assert!(rt; shows(alloc, &mut disk, words, status, want)?);
     }
