@@ -1,6 +1,6 @@
 //! Sources of a shelf in memory.
 
-use crate::{Resolved, SourceEnd, Sourced, WholeFault, read_whole, sourced};
+use crate::{Resolved, SourceEnd, Sourced, WholeFault, read_whole, resolve};
 use fam_base::{Attr, Cmd, NameText, Path};
 use fam_journal::{Ask, Refusal};
 use fam_media::MemShelf;
@@ -22,7 +22,7 @@ fn a_file_is_read_whole(rt: HostRuntime) -> Result<(), Fail> {
     let alloc = rt.alloc();
     let mut shelf = shelf(alloc)?;
     let read = read_whole(alloc, &mut shelf, "s", 0, 10);
-    assert!(rt; matches!(&read, Ok(bytes) if bytes.as_slice() == b"0123456789"));
+    assert!(rt; matches!(&read, Ok(bytes) if bytes.as_slice() == b"0123456789".as_slice()));
     let read = read_whole(alloc, &mut shelf, "none", 7, 7);
     assert!(rt; matches!(&read, Ok(bytes) if bytes.is_empty()));
     let read = read_whole(alloc, &mut shelf, "gone", 0, 10);
@@ -82,7 +82,7 @@ fn asks_come_to_commands(rt: HostRuntime) -> Result<(), Fail> {
     let mut shelf = shelf(alloc)?;
     let made = resolve(alloc, &mut shelf, cp(alloc, "s")?, 5)?;
     let is_cp =
-        matches!(&made.sourced, Sourced::Ready(Cmd::Cp { bytes, .. }) if bytes.as_slice() == b"0123456789");
+        matches!(&made.sourced, Sourced::Ready(Cmd::Cp { bytes, .. }) if bytes.as_slice() == b"0123456789".as_slice());
     assert!(rt; is_cp && has_read(&made, 15));
     let made = resolve(alloc, &mut shelf, check(alloc, "list")?, 5)?;
     let is_check =
