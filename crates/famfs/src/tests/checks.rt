@@ -1,7 +1,6 @@
 //! What fsck reports, on sound, damaged and strange images.
 
 use super::images::{directory, file, formatted, holding, mended, put, put_slot, shows};
-use fam_crc::crc_words;
 use fam_entry::spell;
 use fam_journal::Status;
 use fam_media::MemMedia;
@@ -70,41 +69,6 @@ fn strange_images_are_reported(rt: HostRuntime) -> Result<(), Fail> {
             )?
         );
     }
-    Ok(())
-}
-
-#[test]
-fn a_damaged_slot_is_reported(rt: HostRuntime) -> Result<(), Fail> {
-    let alloc = rt.alloc();
-    let mut media = holding(alloc, &[directory(b"a")?, directory(b"b")?])?;
-    put(&mut media, 32_769, &[3, 0, 0, 0, 0, 0, 0, 0])?;
-    let mut words = spell(&directory(b"c")?, 2);
-    let stored = words[63];
-    words[42] = 100;
-    put_slot(&mut media, 2, &words)?;
-    let wanted = crc_words(&words[..63]);
-    let want = format!(in alloc;
-        "fsck damaged\nsuperblock sound\nlog sound 3 of 127\nfiles 0 directories 2\nunits used 528 free 496\noverlap none\nbad entry 2 crc {stored} {wanted}\npast gate 0\n"
-    )?;
-    assert!(rt;
-        shows(
-            alloc,
-            &mut media,
-            "fsck img",
-            Status::Damaged,
-            want.as_str()
-        )?
-    );
-    let want = format!(in alloc; "bad entry 2 crc {stored} {wanted}\n")?;
-    assert!(rt;
-        shows(
-            alloc,
-            &mut media,
-            "logplay img",
-            Status::Damaged,
-            want.as_str()
-        )?
-    );
     Ok(())
 }
 
