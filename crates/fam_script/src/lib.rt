@@ -16,6 +16,6 @@ mod tests;
 
 pub use answers::answer_text;
 pub use fam_grammar::{LineFault, read_line};
-pub use notes::print_note;
+pub use notes::{note_text, print_note};
 pub use refusals::refusal_line;
 pub use reports::is_sound;

@@ -37,8 +37,8 @@ fn writes_line(alloc: Global, seq: u64, entry: &Entry) -> Result<Vec<u8>, OutOfM
     line_with(alloc, prefix.as_str(), entry.as_slice())
 }
 
-/// The text of a note without its host's name, with its line feeds.
-fn note_text(alloc: Global, note: &Note, names: &[HostName]) -> Result<Vec<u8>, OutOfMemory>
+/// The text of a note without its host's name, with its line feeds. `names` are those of the hosts declared so far.
+pub fn note_text(alloc: Global, note: &Note, names: &[HostName]) -> Result<Vec<u8>, OutOfMemory>
     requires { NamesHosts (length names.now) note.now }
     ensures { IfOk result (λ bytes. PrintsText names.now (note_of note.now) bytes.items) }
 {

@@ -1,19 +1,17 @@
 -- Words of letters and digits.
-use Rattle.std.proofs.Common.{◌≡◌, ◌≢◌, ℕ, ◌+◌, ◌^◌, ◌<◌, ◌≤◌, ◌/◌, ◌%◌, Bool, true, false, cond, List, [], ◌∷◌, ◌++◌, Some, length, refl, ap, ap₂, sym, subst, ◌∙◌, arith, rules}
+use Rattle.std.proofs.Common.{◌≡◌, ℕ, ◌^◌, ◌<◌, ◌≤◌, ◌/◌, ◌%◌, Bool, true, false, cond, List, [], ◌∷◌, ◌++◌, Some, length, refl, ap, ap₂, sym, ◌∙◌, arith}
 use Rattle.std.specs.Prelude.{◌&&◌, ◌||◌, ◌==◌, not, nat_le, nat_lt, All}
 use Rattle.std.specs.Fmt.{decimal}
-use Rattle.std.specs.List.{flat_map, list_all, slice_split}
+use Rattle.std.specs.List.{list_all}
 use Rattle.std.specs.Str.{all_ascii_digits}
-use Rattle.std.proofs.lemmas.Bool.{and_parts, and_from, le-leb, ne_eqb}
+use Rattle.std.proofs.lemmas.Bool.{and_from, le-leb}
 use Rattle.std.proofs.lemmas.Bool.Decides.{nat_tests}
-use Rattle.std.proofs.lemmas.Fmt.{decimal_nonempty, digits_decimal, length-decimal-le}
+use Rattle.std.proofs.lemmas.Fmt.{digits_decimal, length-decimal-le}
 use Rattle.std.proofs.lemmas.List.Elements.{All-cons, All-nil}
 use Rattle.std.proofs.lemmas.List.Splits.{slice_split_none}
-use Rattle.fam_base.specs.Escapes.{escaped, escaped_byte, is_plain, hex_digit}
+use Rattle.fam_base.specs.Escapes.{escaped, is_plain, hex_digit}
 use Rattle.fam_base.specs.Paths.{has_no_nul, is_name, is_path, is_slash, names}
 use Rattle.fam_grammar.specs.Spellings.{path_of}
-use Rattle.fam_grammar.specs.Words.{is_blank}
-use Rattle.fam_grammar.proofs.Joined.{HasNoBlank, IsOneWord}
 use Rattle.fam_grammar.proofs.Respelled.{own, path-escaped}
 
 -- a letter or a digit

@@ -1,5 +1,5 @@
 -- Lines that are events. docs/MANUAL.md, "Scripts".
-use Rattle.std.specs.Prelude.{◌≡◌, Some, Ok}
+use Rattle.std.specs.Prelude.{ℕ, ◌≡◌, List, length, Some, Result, Ok}
 use Rattle.fam_journal.specs.declared.event.Event.{Event}
 use Rattle.fam_grammar.specs.Scripts.{line_reads}
 use Rattle.fam_storm.specs.Storm.{Words, line_text}
@@ -7,3 +7,7 @@ use Rattle.fam_storm.specs.Storm.{Words, line_text}
 -- a line is an event, and neither blank nor a comment
 abbrev pub IsEventLine : Words → Type 0
 IsEventLine words = (event : Event) × (line_reads (line_text words) ≡ Ok (Some event))
+
+-- a script is so many events
+abbrev pub IsSoManyEvents : ℕ → Result (List Event) (ℕ × ℕ) → Type 0
+IsSoManyEvents count said = (events : List Event) × (said ≡ Ok events) × (length events ≡ count)

@@ -11,5 +11,5 @@ mod script;
 mod tests;
 mod turns;
 
-pub use laws::each_line_of_a_storm_is_an_event;
+pub use laws::{a_storm_is_an_event_for_each_line, each_line_of_a_storm_is_an_event};
 pub use script::storm;

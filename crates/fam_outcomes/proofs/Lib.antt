@@ -1,0 +1,6 @@
+pub mod Slashes
+pub mod Settling
+pub mod Lasts
+pub mod Printing
+pub mod Counting
+pub mod StormTexts
