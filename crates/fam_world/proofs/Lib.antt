@@ -14,3 +14,4 @@ pub mod Finishing
 pub mod Saying
 pub mod Fits
 pub mod KeptNotes
+pub mod Kept
