@@ -1,5 +1,5 @@
 -- What one operation of the machine's table does on a host's cache over any media, whose image may be modelled or not.
-use Rattle.std.specs.Prelude.{ℕ, ◌≡◌, ⊤, Option, Some, None, slice_index}
+use Rattle.std.specs.Prelude.{ℕ, ◌≡◌, ⊤, List, [], ◌∷◌, Option, Some, None, slice_index}
 use Rattle.fam_base.specs.Image.{Image}
 use Rattle.fam_machine.specs.declared.cell.Cell.TheVariants.{Absent}
 use Rattle.fam_machine.specs.declared.op.Op.{Op}
@@ -40,3 +40,7 @@ LeavesCache (Store line k value) modelled old new = FromMemory modelled line.0 (
 LeavesCache (WriteBack line) modelled old new = new ≡ cell_changed line.0 cleaned old
 LeavesCache (Invalidate line) modelled old new = new ≡ with_cell line.0 Absent old
 LeavesCache Digest modelled old new = new ≡ old
+
+-- the words of a line, once those of others behind the first one were stored there
+abbrev pub rest_stored : List ℕ → List ℕ → List ℕ
+rest_stored words old = slice_index old 0 ∷ slice_index words 1 ∷ slice_index words 2 ∷ slice_index words 3 ∷ slice_index words 4 ∷ slice_index words 5 ∷ slice_index words 6 ∷ slice_index words 7 ∷ []

@@ -1,6 +1,6 @@
 //! A host's cache, as a task and the machine use it.
 
-ghost use Rattle.std.specs.Prelude.{◌≡◌, ◌+◌, ◌-◌, ◌<◌, ◌≤◌, IsTrue, IsOk, IfOk, OnOk, OnErr, IsErrOf, slice_index, vec_len, vec_capacity};
+ghost use Rattle.std.specs.Prelude.{◌≡◌, ◌+◌, ◌-◌, ◌<◌, ◌≤◌, IsTrue, IsOk, IfOk, IfSome, OnOk, OnErr, IsErrOf, length, slice_index, vec_len, vec_capacity, true, false};
 ghost use Rattle.std.specs.Option.{option_map};
 ghost use Rattle.std.specs.Ordering.{nat_cmp};
 ghost use Rattle.std.specs.FinMap as map;
@@ -11,15 +11,16 @@ ghost use Rattle.fam_machine.specs.OneLine.{IsDirty, IsHeld, brought, cleaned, f
 ghost use Rattle.fam_media.specs.Causes.{HasCause, IsSteady, Rose};
 ghost use Rattle.fam_media.specs.Outside.{IfModelled};
 ghost use Rattle.fam_cache.specs.Effects.{FailsTo, FromMemory};
+ghost use Rattle.fam_cache.specs.Operations.{rest_stored};
 ghost use Rattle.fam_cache.specs.Places.{IsPlaceOf, cache_of};
 
 use crate::copies::{bring_copy, fetch_copy, leak_copy, send_copy};
 use crate::fault::CacheFault;
 use crate::places::{
-    clean_copy, copy, dirty_lines_of, drop_copy, held_word, make_room, place_of, put_copy, seek,
-    set_word, word_at,
+    clean_copy, copy, dirty_lines_of, drop_copy, held_line, held_word, make_room, place_of,
+    put_copy, seek, set_rest, set_word, word_at,
 };
-use fam_base::{LineNo, Mask, OutOfMemory};
+use fam_base::{Line, LineNo, Mask, OutOfMemory};
 use fam_machine::Cell;
 use fam_media::{Failed, Media};
 use std::alloc::Global;
@@ -361,6 +362,35 @@ impl HostCache {
         self.last = bring(&mut self.places, self.last, media, line)?;
         set_word(&mut self.places, self.last, line.0, word, value);
         Ok(())
+    }
+
+    /// The words of the line of the last access, where it is this line and is held. It asks nothing of memory.
+    #[inline]
+    pub fn held(&self, line: LineNo) -> Option<Line>
+        ensures held { IfSome result (λ words. IsHeld (cell_at self.now.lines line.0)) }
+        ensures value { IfSome result (λ words. words ≡ words_of (cell_at self.now.lines line.0)) }
+    {
+        held_line(&self.places, self.last, line.0)
+    }
+
+    /// Sets the words behind the first one of the line of the last access, where it is this line and is held: the line
+    /// is dirty then. It asks nothing of memory. Of another line nothing is done, and the answer is that.
+    #[inline]
+    pub fn store_rest(&mut self, line: LineNo, words: &Line) -> bool
+        ensures held { result ≡ true → IsHeld (cell_at self.old.lines line.0) }
+        ensures whole { result ≡ true → length (words_of (cell_at self.old.lines line.0)) ≡ 8 }
+        ensures stored { result ≡ true → self.new.lines ≡ with_cell line.0
+            (Cell.Dirty (rest_stored words.now (words_of (cell_at self.old.lines line.0)))) self.old.lines }
+        ensures other { result ≡ false → self.new ≡ self.old }
+        ensures spare { self.new.spare ≡ self.old.spare }
+    {
+        match held_line(&self.places, self.last, line.0) {
+            Some(old) => {
+                set_rest(&mut self.places, self.last, line.0, &old, words);
+                true
+            }
+            None => false,
+        }
     }
 
     /// Fetches a line early, as the machine may: an absent line is brought whole, and a clean one has its

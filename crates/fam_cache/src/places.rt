@@ -10,6 +10,7 @@ ghost use Rattle.fam_base.specs.Image.{eight};
 ghost use Rattle.fam_machine.specs.Caches.{cell_at, dirty_count, with_cell};
 ghost use Rattle.fam_machine.specs.OneLine.{IsHeld, cleaned, is_dirty, words_of};
 ghost use Rattle.fam_machine.specs.declared.cell.Cell.{Cell};
+ghost use Rattle.fam_cache.specs.Operations.{rest_stored};
 ghost use Rattle.fam_cache.specs.Places.{Before, IsSpot, IsPlaceOf, EndsAbsent, cache_of, is_gap, normal, number_at};
 
 use fam_base::{Line, OutOfMemory};
@@ -302,6 +303,63 @@ pub(crate) fn held_word(places: &Vec<(u64, Cell)>, last: usize, line: u64, word:
     } else {
         None
     }
+}
+
+/// The words of a copy that is there.
+fn line_in(copy: &Cell) -> Option<Line>
+    ensures held { IfSome result (λ words. IsHeld (normal copy.now)) }
+    ensures value { IfSome result (λ words. eight words ≡ words_of (normal copy.now)) }
+{
+    match copy {
+        Cell::Absent => None,
+        Cell::Clean(words) => Some(*words),
+        Cell::Dirty(words) => Some(*words),
+    }
+}
+
+/// The words of the line's copy, where the line is held and its place is that of the last access.
+#[inline]
+pub(crate) fn held_line(places: &Vec<(u64, Cell)>, last: usize, line: u64) -> Option<Line>
+    requires sorted { IsTrue (is_sorted nat_cmp places.now.items) }
+    ensures stands { IfSome result (λ words. IsPlaceOf places.now.items last line) }
+    ensures held { IfSome result (λ words. IsHeld (cell_at (cache_of places.now.items) line)) }
+    ensures value { IfSome result
+        (λ words. eight words ≡ words_of (cell_at (cache_of places.now.items) line)) }
+{
+    if stands(places, last, line) {
+        line_in(&places[last].1)
+    } else {
+        None
+    }
+}
+
+/// A line with other words behind its first one.
+fn with_rest(old: &Line, words: &Line) -> Line
+    ensures { result ≡ rest_stored words.now (eight old.now) }
+{
+    [
+        old[0], words[1], words[2], words[3], words[4], words[5], words[6], words[7],
+    ]
+}
+
+/// Sets the words behind the first one of the copy in a place, whose words are these. The copy is dirty then.
+pub(crate) fn set_rest(
+    places: &mut Vec<(u64, Cell)>,
+    at: usize,
+    line: u64,
+    old: &Line,
+    words: &Line,
+)
+    requires sorted { IsTrue (is_sorted nat_cmp places.old.items) }
+    requires stands { IsPlaceOf places.old.items at line }
+    ensures cache { cache_of places.new.items
+        ≡ with_cell line (Cell.Dirty (rest_stored words.now (eight old.now))) (cache_of places.old.items) }
+    ensures sorted { IsTrue (is_sorted nat_cmp places.new.items) }
+    ensures len { vec_len places.new ≡ vec_len places.old }
+    ensures capacity { vec_capacity places.new ≡ vec_capacity places.old }
+{
+    let stored = with_rest(old, words);
+    set_copy(places, at, line, Cell::Dirty(stored));
 }
 
 /// A word of the copy in a place.

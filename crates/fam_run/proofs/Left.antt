@@ -1,8 +1,7 @@
 -- A task that goes on comes nearer to its end.
-use Rattle.std.proofs.Common.{ℕ, ◌≡◌, ◌+◌, ◌-◌, ◌*◌, ◌/◌, ◌%◌, ◌^◌, ◌<◌, ◌≤◌, Bool, true, false, cond, [], ◌∷◌, ◌++◌, Option, Some, None, Result, Ok, Err, refl, sym, ap, subst, ◌∙◌, arith}
-use Rattle.std.specs.Prelude.{⊤, length, min, nat_le, nat_lt, ◌==◌}
+use Rattle.std.proofs.Common.{ℕ, ◌≡◌, ◌+◌, ◌-◌, ◌*◌, ◌^◌, ◌<◌, ◌≤◌, Bool, true, false, cond, [], ◌∷◌, ◌++◌, Option, Some, None, Result, Ok, Err, refl, ap, subst, ◌∙◌, arith}
+use Rattle.std.specs.Prelude.{⊤, length, nat_le, nat_lt, ◌==◌}
 use Rattle.std.specs.FinMap as finmap
-use Rattle.std.specs.Int.{div_ceil}
 use Rattle.std.proofs.lemmas.Grind.{div_ceil_times}
 use Rattle.std.proofs.lemmas.Option.{same_Some}
 use Rattle.fam_base.specs.declared.cmd.Cmd.{Cmd}
@@ -32,13 +31,13 @@ use Rattle.fam_commands.specs.declared.phase.Phase.TheVariants as at
 use Rattle.fam_commands.specs.Counts.{line_steps, slot_steps}
 use Rattle.fam_commands.specs.Stands.{task_after}
 use Rattle.fam_commands.specs.Task.{Task, first_line, size_of, wanted_end, wanted_lines, wanted_start}
-use Rattle.fam_commands.specs.Turns.{Turn, Goes, Marks, Finds, Writes, Ends, turn_at, magic_turn, super_turn, host_turn, host_refusal, header_turn, gate_turn, finds_or_goes, gate_loaded, slot_or_decide, slots_read, check_turn, slot_turn, survey_turn, join_turn, decide_turn, wish_turn, append_turn, read_file, verify_lines, verify_turn, bytes_turn, kind_turn, found_turn, compare_turn, file_turn, line_difference, line_turn, word_turn, with_word, data_or_slot, slot_or_gate}
+use Rattle.fam_commands.specs.Turns.{Turn, Goes, Marks, Finds, Writes, Ends, turn_at, magic_turn, super_turn, host_turn, host_refusal, header_turn, gate_turn, finds_or_goes, gate_loaded, slot_or_decide, check_turn, slot_turn, survey_turn, join_turn, decide_turn, wish_turn, append_turn, read_file, verify_lines, verify_turn, bytes_turn, kind_turn, found_turn, compare_turn, file_turn, line_difference, line_turn, word_turn, with_word, data_or_slot, slot_or_gate}
 use Rattle.fam_format.specs.Layout.{geometry}
 use Rattle.fam_format.specs.Line.{line_words}
 use Rattle.fam_tasks.specs.Commands.{slots_told, LooksAtFile}
-use Rattle.fam_tasks.specs.Sound.{HasSuper, HasValidGate, IsFileLine, IsLine, IsProperFor, IsSoundAt, IsWantedLine}
+use Rattle.fam_tasks.specs.Sound.{HasSuper, HasValidGate, IsLine, IsProperFor, IsSoundAt, IsWantedLine}
 use Rattle.fam_tasks.proofs.Found.{size_fits}
-use Rattle.fam_tasks.proofs.Phases.{slots_are, slots_within}
+use Rattle.fam_tasks.proofs.Phases.{slots_within}
 use Rattle.fam_tasks.proofs.FileLines.{end_within}
 
 -- how many operations may still come behind a decision, at most: a size is below 2 ^ 64

@@ -1,4 +1,6 @@
 pub mod Operations
 pub mod Left
 pub mod Running
+pub mod Held
+pub mod Compared
 pub mod Expected

@@ -4,11 +4,14 @@
 //! `specs/Run.antt` what a command that runs alone has done when it ends.
 #![tactic(auto)]
 
+mod comparing;
 mod operation;
 mod reading;
+mod rest;
 mod solo;
 
 pub use operation::operate;
+pub use rest::operate_held;
 pub use solo::run;
 
 #[cfg(test)]

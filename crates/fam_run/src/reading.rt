@@ -1,4 +1,5 @@
-//! Operations of a task that reads a slot's lines, without a turn to look at: nearly all of a long log's are such.
+//! Operations behind which a task just goes on among the lines that it reads or writes, without a turn to look at: nearly
+//! all of a long log's and of a large file's are such.
 
 ghost use Rattle.std.specs.Prelude.{◌≡◌, ◌<◌, IfErr, IfOk, IsErrOf, OnErr, false, true};
 ghost use Rattle.fam_machine.specs.Cuts.{HasFailed};

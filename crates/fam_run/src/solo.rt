@@ -19,8 +19,10 @@ ghost use Rattle.fam_machine.specs.Caches.{Cache};
 ghost use Rattle.fam_commands.specs.Task.{op_of};
 ghost use Rattle.fam_run.specs.Run.{HasLeft, HasStopped, Ran, Running, fault_of};
 
+use crate::comparing::compare_next;
 use crate::operation::operate;
 use crate::reading::read_next;
+use crate::rest::operate_held;
 use fam_base::{Attr, Cmd, Content, Kind, OutOfMemory, Path, Stripe};
 use fam_cache::{HostCache, OperationFault};
 use fam_media::Media;
@@ -72,7 +74,39 @@ fn any_operation<M: Media>(
     }
 }
 
-/// As `any_operation`, and tries first whether the operation is a read after which the command reads on.
+/// As `any_operation`, and does a load of the last word of a line that is compared with no turn.
+#[inline(never)]
+fn other_operation<M: Media>(
+    cache: &mut HostCache,
+    task: &mut Task,
+    media: &mut M,
+) -> Result<Option<Answer>, OutOfMemory>
+    requires lines { task.old.lines ≡ M.size media.old }
+
+    ensures operated { IfOk result (HasOperated (record {
+      task = task.old;
+      next = task.new;
+      old = cache.old.lines;
+      new = cache.new.lines;
+      modelled = M.image media.old;
+      left = M.image media.new;
+      size = M.size media.old;
+      before = M.faults media.old;
+      now = M.faults media.new;
+    })) }
+    ensures within { IsWithin task.old.lines (op_of task.old) }
+    ensures undone { OnErr result (media.new ≡ media.old) }
+
+    ensures steady { IsSteady M.size M.faults media.old media.new }
+{
+    if task.compares() {
+        compare_next(cache, task, media)
+    } else {
+        any_operation(cache, task, media)
+    }
+}
+
+/// As `other_operation`, and tries first whether the operation is one after which the command just goes on.
 #[inline(always)]
 fn go_on<M: Media>(
     cache: &mut HostCache,
@@ -99,7 +133,7 @@ fn go_on<M: Media>(
 {
     match read_next(cache, task, media) {
         Ok(true) => Ok(None),
-        Ok(false) => any_operation(cache, task, media),
+        Ok(false) => other_operation(cache, task, media),
         Err(OperationFault::MediaFault(line)) => Ok(Some(Answer::MediaFault(line))),
         Err(OperationFault::OutOfMemory) => Err(OutOfMemory),
     }
@@ -134,6 +168,8 @@ fn finish<M: Media>(
         if let Some(answer) = go_on(cache, task, media)? {
             return Ok(answer);
         }
+        task.is_sound();
+        operate_held(cache, task);
         task.is_sound();
     }
 }

@@ -1,8 +1,7 @@
 -- Which lines of a file are read.
-use Rattle.std.proofs.Common.{◌≡◌, ℕ, ◌+◌, ◌-◌, ◌*◌, ◌/◌, ◌%◌, ◌<◌, ◌≤◌, Bool, true, false, cond, nat_lt, [], length, Option, Some, None, refl, sym, ap, subst, ◌∙◌, inl, inr, arith}
-use Rattle.std.specs.Prelude.{⊤, nat_le, min}
-use Rattle.std.specs.Int.{div_ceil}
-use Rattle.std.proofs.lemmas.Bool.{cases_lt, leb-true, leb-false}
+use Rattle.std.proofs.Common.{◌≡◌, ℕ, ◌+◌, ◌-◌, ◌*◌, ◌/◌, ◌<◌, ◌≤◌, Bool, true, false, cond, [], length, Option, Some, None, refl, sym, ap, subst, arith}
+use Rattle.std.specs.Prelude.{nat_le, min}
+use Rattle.std.proofs.lemmas.Bool.{leb-true}
 use Rattle.std.proofs.lemmas.Grind.{div_ceil_times}
 use Rattle.fam_base.specs.declared.cmd.Cmd.{Cmd}
 use Rattle.fam_base.specs.declared.cmd.Cmd.TheVariants.{Logplay, Mkdir, Creat, Cp, Verify, Read, Check, Fsck}
@@ -19,7 +18,7 @@ use Rattle.fam_commands.specs.Turns.{Ends, compare_turn, file_turn, line_differe
 use Rattle.fam_tasks.specs.declared.task.Task.TheInside.{Inside}
 use Rattle.fam_tasks.specs.Commands.{content_used, kept_of_file, IsRead, IsVerify, LooksAtFile}
 use Rattle.fam_tasks.specs.Held.{HoldsFile}
-use Rattle.fam_tasks.specs.Sound.{HasValidGate, IsAtLine, IsProperFor, IsWantedLine}
+use Rattle.fam_tasks.specs.Sound.{HasValidGate, IsAtLine, IsProperFor}
 
 -- the wanted bytes end where the file ends, or before
 pub end_within : (cmd : Cmd) (size : ℕ) → wanted_end cmd size ≤ size

@@ -1,5 +1,5 @@
 -- What comes of a line of a file that was loaded.
-use Rattle.std.proofs.Common.{◌≡◌, ℕ, ◌+◌, ◌-◌, ◌*◌, ◌%◌, ◌<◌, ◌≤◌, Bool, true, cond, nat_lt, List, [], ◌∷◌, ◌++◌, length, get_or, slice_range, Option, Some, None, refl, sym, ap, subst, ◌∙◌, arith, length-append}
+use Rattle.std.proofs.Common.{◌≡◌, ℕ, ◌+◌, ◌-◌, ◌*◌, ◌%◌, ◌<◌, ◌≤◌, nat_lt, List, [], length, get_or, slice_range, Option, Some, None, refl, sym, ap, subst, ◌∙◌, arith}
 use Rattle.std.specs.Prelude.{find, not, ◌==◌, min}
 use Rattle.std.specs.List.{range_with_len}
 use Rattle.std.proofs.lemmas.Bool.{cond-true, cond-false, lt-ltb, le-ltb}
@@ -8,7 +8,7 @@ use Rattle.std.proofs.lemmas.List.FromFn.{fill_by_all}
 use Rattle.fam_base.specs.declared.cmd.Cmd.{Cmd}
 use Rattle.fam_base.specs.declared.cmd.Content.{Content}
 use Rattle.fam_rules.specs.Content.{byte_in, content_byte, content_line, HoldsBytes}
-use Rattle.fam_rules.specs.Reply.{Reply, Bytes, Differs, Same}
+use Rattle.fam_rules.specs.Reply.{Reply, Same}
 use Rattle.fam_commands.specs.declared.phase.Part.TheVariants.{File}
 use Rattle.fam_commands.specs.declared.phase.Phase.TheVariants as at
 use Rattle.fam_commands.specs.Task.{Task, size_of, wanted_end, wanted_lines, wanted_start}
@@ -20,10 +20,10 @@ use Rattle.fam_tasks.specs.declared.answer.Answer.TheVariants as answer
 use Rattle.fam_tasks.specs.declared.answer.Turn.{Turn}
 use Rattle.fam_tasks.specs.declared.answer.Turn.TheVariants.{Go, Done}
 use Rattle.fam_tasks.specs.Answers.{reply_of}
-use Rattle.fam_tasks.specs.Commands.{content_used, IsRead, IsVerify}
+use Rattle.fam_tasks.specs.Commands.{content_used, IsVerify}
 use Rattle.fam_tasks.specs.Tells.{Replies, Tells}
 use Rattle.fam_tasks.proofs.Compared.{Differing, nothing_differs, something_differs}
-use Rattle.fam_tasks.proofs.FileLines.{differs_turn, read_turn, same_turn}
+use Rattle.fam_tasks.proofs.FileLines.{differs_turn, same_turn}
 
 -- eight words are one line
 pub one_line : (words line : List ℕ) → length words ≡ 8 → line ≡ slice_range words 0 8 → line ≡ words

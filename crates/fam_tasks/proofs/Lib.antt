@@ -4,3 +4,4 @@ pub mod Compared
 pub mod FileLines
 pub mod Phases
 pub mod FileTurns
+pub mod Rest

@@ -1,5 +1,5 @@
 -- The phase behind a slot.
-use Rattle.std.proofs.Common.{◌≡◌, ℕ, ◌+◌, ◌*◌, ◌<◌, ◌≤◌, Bool, true, false, cond, nat_lt, length, Option, Some, None, refl, sym, ap, subst, ◌∙◌, arith}
+use Rattle.std.proofs.Common.{◌≡◌, ℕ, ◌≤◌, Bool, true, false, cond, nat_lt, length, refl, sym, ap, subst, ◌∙◌, arith}
 use Rattle.std.proofs.lemmas.Bool.{ltb-true, ltb-false}
 use Rattle.fam_base.specs.declared.cmd.Cmd.{Cmd}
 use Rattle.fam_base.specs.declared.cmd.Cmd.TheVariants.{Logplay, Mkdir, Creat, Cp, Verify, Read, Check, Fsck}
@@ -13,7 +13,7 @@ use Rattle.fam_commands.specs.Turns.{slots_read, slot_or_decide}
 use Rattle.fam_tasks.specs.declared.task.Task.TheInside.{Inside}
 use Rattle.fam_tasks.specs.Commands.{is_fsck, slots_told}
 use Rattle.fam_tasks.specs.Held.{HasLooked, IsHeldAt}
-use Rattle.fam_tasks.specs.Sound.{HasSuper, HasValidGate, IsAtLine, IsSoundAt}
+use Rattle.fam_tasks.specs.Sound.{HasSuper, HasValidGate, IsSoundAt}
 
 -- the next slot, or the decision
 abbrev pub next_phase : ℕ → ℕ → Phase

@@ -1,5 +1,4 @@
 -- How the parts of a content's lines hang together.
-use Rattle.std.specs.Prelude.{ℕ}
 use Rattle.fam_rules.specs.Content.{HoldsBytes}
 use Rattle.fam_content.specs.Stream.{StreamStandsFor}
 use Rattle.fam_tasks.specs.declared.contents.Contents.TheInside.{Inside}

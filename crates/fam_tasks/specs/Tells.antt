@@ -1,5 +1,5 @@
 -- How a turn that a call gives tells the one of the definition.
-use Rattle.std.specs.Prelude.{◌≡◌, ◌||◌, nat_lt, Bool, true, false, Some}
+use Rattle.std.specs.Prelude.{ℕ, ◌≡◌, ◌||◌, nat_lt, Bool, true, false, Option, Some, None}
 use Rattle.fam_format.specs.Line.{last_word}
 use Rattle.fam_rules.specs.Reply.{Reply}
 use Rattle.fam_machine.specs.declared.op.Op.{Op}
@@ -10,10 +10,12 @@ use Rattle.fam_commands.specs.declared.phase.Phase.{Phase}
 use Rattle.fam_commands.specs.declared.phase.Phase.TheVariants as at
 use Rattle.fam_commands.specs.Task.{Task}
 use Rattle.fam_commands.specs.Turns as turns
+use Rattle.fam_tasks.specs.declared.answer.Answer.{Answer}
 use Rattle.fam_tasks.specs.declared.answer.Turn.{Turn}
 use Rattle.fam_tasks.specs.declared.answer.Turn.TheVariants.{Go, Note, Done}
 use Rattle.fam_tasks.specs.declared.answer.TaskNote.TheVariants.{Mark, Found, Writes}
 use Rattle.fam_tasks.specs.Answers.{reply_of}
+use Rattle.fam_tasks.specs.Commands.{IsVerify}
 
 -- the task is done, with this reply
 abbrev pub Replies : Turn → Reply → Type 0
@@ -45,7 +47,7 @@ is_slot part.Header = false
 is_slot (part.Slot i) = true
 is_slot part.File = false
 
--- a phase in which the next operation leads on among the lines that are read, whatever it gives
+-- a phase in which the next operation leads on among the lines that are read or written, whatever it gives
 abbrev pub is_reading : Phase → Bool
 is_reading (at.Drop part j) = true
 is_reading (at.Word part j k) = nat_lt k last_word || is_slot part
@@ -55,9 +57,20 @@ is_reading at.DropGate = false
 is_reading at.Gate = false
 is_reading (at.Check i) = false
 is_reading at.Decide = false
-is_reading (at.StoreData j k) = false
-is_reading (at.SendData j) = false
-is_reading (at.StoreSlot j k) = false
-is_reading (at.SendSlot j) = false
-is_reading at.StoreGate = false
+is_reading (at.StoreData j k) = true
+is_reading (at.SendData j) = true
+is_reading (at.StoreSlot j k) = true
+is_reading (at.SendSlot j) = true
+is_reading at.StoreGate = true
 is_reading at.SendGate = false
+
+-- the turn of a task that ends with this answer, or just goes on
+abbrev pub turn_by : Option Answer → Turn
+turn_by None = Go
+turn_by (Some answer) = Done answer
+
+-- the next operation loads the last word of a line of a file that is compared
+pub record IsCompared (t : Task) : Type 0 where
+  pub j : ℕ
+  pub phase : t.phase ≡ at.Word part.File j last_word
+  pub verify : IsVerify t.cmd

@@ -19,6 +19,7 @@ mod decide;
 mod digests;
 mod file_loads;
 mod loads;
+mod rest;
 mod stores;
 
 use crate::answer::{Answer, Turn};
@@ -192,19 +193,25 @@ impl Task {
         }
     }
 
-    /// Whether the task only reads on among the lines that it reads, once the next operation is done.
+    /// Whether the task just goes on once the next operation is done, among the lines that it reads or writes, whatever
+    /// the operation gives.
     #[inline(always)]
     pub fn reads_on(&self) -> bool
         ensures { result ≡ is_reading self.now.phase }
     {
         match self.phase {
-            Phase::Drop { .. } => true,
+            Phase::Drop { .. }
+            | Phase::StoreData { .. }
+            | Phase::SendData { .. }
+            | Phase::StoreSlot { .. }
+            | Phase::SendSlot { .. }
+            | Phase::StoreGate => true,
             Phase::Word { part, word, .. } => word < LAST_WORD || matches!(part, Part::Slot(_)),
             _ => false,
         }
     }
 
-    /// Does what `feed` does, of a task that reads on: its turn is to go on.
+    /// Does what `feed` does, of a task that goes on so: its turn is to go on.
     #[inline(always)]
     pub fn read_on(&mut self, word: Option<u64>)
         requires { is_reading self.old.phase ≡ true }
@@ -218,6 +225,11 @@ impl Task {
                 line,
                 word: k,
             } => self.load_on(part, line, k, word.unwrap_or(0)),
+            Phase::StoreData { line, word: k } => self.data_stored(line, k),
+            Phase::SendData { line } => self.data_sent(line),
+            Phase::StoreSlot { line, word: k } => self.slot_stored(line, k),
+            Phase::SendSlot { line } => self.slot_sent(line),
+            Phase::StoreGate => self.gate_stored(),
             _ => unreachable!(),
         }
     }

@@ -308,6 +308,11 @@ pub left_host : Option HostView → ℕ
 left_host None = 0
 left_host (Some view) = left_task view.task
 
+-- of a host that runs this task
+pub left_running : (view : HostView) (t : Task) → view.task ≡ Some t → left_host (Some view) ≡ left t
+unfolding left_host left_task
+left_running view t is = ap left_task is
+
 pub step_falls : (at : ℕ) (t : Task) (a : Around) → IsStep at t a false → IfSome (Some t) IsSound → IfSome a.new.task IsSound → left_task a.new.task < left t
 unfolding left_task
 step_falls at t a x sound sound_on = by x.how

@@ -11,6 +11,7 @@ pub mod Making
 pub mod StepForms
 pub mod Stepping
 pub mod Finishing
+pub mod HeldOn
 pub mod Saying
 pub mod Fits
 pub mod KeptNotes

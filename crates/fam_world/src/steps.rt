@@ -10,10 +10,11 @@ ghost use Rattle.fam_media.specs.Outside.{IfModelled};
 ghost use Rattle.fam_cache.specs.Faults.{IfMediaFault};
 ghost use Rattle.fam_cache.specs.Operations.{LeavesCache};
 ghost use Rattle.fam_tasks.specs.Sound.{IsSound};
+ghost use Rattle.fam_run.specs.Held.{HeldRun};
 ghost use Rattle.fam_run.specs.Operation.{GoesOn, HasTurned, KeepsLines};
 ghost use Rattle.fam_journal.specs.ByWorld.{number_in};
 ghost use Rattle.fam_journal.specs.Calls.{Finishes};
-ghost use Rattle.fam_journal.specs.CallRecords.{FinishOutOfMemory, FitsMedia, MediaCall, StepCall, TaskFits};
+ghost use Rattle.fam_journal.specs.CallRecords.{FinishOutOfMemory, FitsMedia, MediaCall, StepCall, TaskFits, heading};
 ghost use Rattle.fam_journal.specs.View.{HostView};
 ghost use Rattle.fam_world.specs.Finishes.{SoFar};
 ghost use Rattle.fam_world.specs.Answers.{IfAnswered, IfStepped, is_over};
@@ -30,7 +31,7 @@ use fam_cache::{HostCache, OperationFault};
 use fam_journal::HostId;
 use fam_media::Media;
 use fam_notes::Note;
-use fam_run::operate;
+use fam_run::{operate, operate_held};
 use fam_tasks::{Answer, Task, TaskNote, Turn};
 
 /// A note of a host's task.
@@ -183,6 +184,35 @@ pub(crate) fn step_in<M: Media>(
     }
 }
 
+/// Does operations of a task that a host runs on the line that it holds, as long as they come next.
+fn held_by(cache: &mut HostCache, task: &mut Option<Task>)
+    requires runs { is_some task.old ≡ true }
+    ensures runs { is_some task.new ≡ true }
+    ensures held { IfSome task.old (λ t. IfSome task.new (λ next.
+        HeldRun t cache.old.lines next cache.new.lines)) }
+    ensures sound_on { IfSome task.new IsSound }
+{
+    match task {
+        Some(task) => {
+            operate_held(cache, task);
+            task.is_sound();
+        }
+        None => unreachable!(),
+    }
+}
+
+/// Does operations of a host's task on the line that it holds, as long as they come next: none of them is noted.
+fn held_on(host: &mut Host)
+    requires runs { is_some host.old.task ≡ true }
+    ensures runs { is_some host.new.task ≡ true }
+    ensures held { IfSome host.old.task (λ t. IfSome host.new.task (λ next.
+        HeldRun t host.old.cache.lines next host.new.cache.lines)) }
+    ensures heading { heading (host_view host.new) ≡ heading (host_view host.old) }
+    ensures sound_on { IfSome host.new.task IsSound }
+{
+    held_by(&mut host.cache, &mut host.task);
+}
+
 /// Does operations of a host's task up to its answer. Where no memory was found those before stand.
 fn finish_at<M: Media>(
     hosts: &mut Vec<Host>,
@@ -209,7 +239,7 @@ fn finish_at<M: Media>(
     'operations: loop {
         make_room(journal)?;
         match step_host(&mut hosts[at], journal, media, at)? {
-            Moved::Going => {}
+            Moved::Going => held_on(&mut hosts[at]),
             Moved::Answered => return Ok(()),
         }
     }

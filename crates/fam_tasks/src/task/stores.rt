@@ -5,6 +5,7 @@ ghost use Rattle.fam_commands.specs.declared.phase.Phase.TheVariants as at;
 ghost use Rattle.fam_commands.specs.Task.{op_of};
 ghost use Rattle.fam_commands.specs.Turns.{turn_of};
 ghost use Rattle.fam_machine.specs.Operations.{IsWithin};
+ghost use Rattle.fam_tasks.specs.declared.answer.Turn.TheVariants.{Go};
 ghost use Rattle.fam_tasks.specs.Tells.{Tells};
 
 use super::{LAST_LINE, Task};
@@ -27,22 +28,32 @@ impl Task {
     }
 
     /// A word of a line of the new file was stored.
-    pub(super) fn store_data(&mut self, line: u64, k: u8) -> Turn
+    #[inline(always)]
+    pub(super) fn data_stored(&mut self, line: u64, k: u8)
         requires { self.old.phase ≡ at.StoreData line k }
-        ensures { Tells (turn_of self.old None) result self.new }
+        ensures { Tells (turn_of self.old None) Go self.new }
     {
         self.phase = if k < LAST_WORD {
             Phase::StoreData { line, word: k + 1 }
         } else {
             Phase::SendData { line }
         };
+    }
+
+    /// A word of a line of the new file was stored.
+    pub(super) fn store_data(&mut self, line: u64, k: u8) -> Turn
+        requires { self.old.phase ≡ at.StoreData line k }
+        ensures { Tells (turn_of self.old None) result self.new }
+    {
+        self.data_stored(line, k);
         Turn::Go
     }
 
     /// A line of the new file was sent: the next one is stored, or the slot.
-    pub(super) fn send_data(&mut self, line: u64) -> Turn
+    #[inline(always)]
+    pub(super) fn data_sent(&mut self, line: u64)
         requires { self.old.phase ≡ at.SendData line }
-        ensures { Tells (turn_of self.old None) result self.new }
+        ensures { Tells (turn_of self.old None) Go self.new }
     {
         let size = self.file_size();
         if line + 1 < lines_of(size) {
@@ -54,6 +65,14 @@ impl Task {
         } else {
             self.phase = Phase::StoreSlot { line: 0, word: 0 };
         }
+    }
+
+    /// A line of the new file was sent: the next one is stored, or the slot.
+    pub(super) fn send_data(&mut self, line: u64) -> Turn
+        requires { self.old.phase ≡ at.SendData line }
+        ensures { Tells (turn_of self.old None) result self.new }
+    {
+        self.data_sent(line);
         Turn::Go
     }
 
@@ -68,22 +87,32 @@ impl Task {
     }
 
     /// A word of the new slot was stored.
-    pub(super) fn store_slot(&mut self, line: u64, k: u8) -> Turn
+    #[inline(always)]
+    pub(super) fn slot_stored(&mut self, line: u64, k: u8)
         requires { self.old.phase ≡ at.StoreSlot line k }
-        ensures { Tells (turn_of self.old None) result self.new }
+        ensures { Tells (turn_of self.old None) Go self.new }
     {
         self.phase = if k < LAST_WORD {
             Phase::StoreSlot { line, word: k + 1 }
         } else {
             Phase::SendSlot { line }
         };
+    }
+
+    /// A word of the new slot was stored.
+    pub(super) fn store_slot(&mut self, line: u64, k: u8) -> Turn
+        requires { self.old.phase ≡ at.StoreSlot line k }
+        ensures { Tells (turn_of self.old None) result self.new }
+    {
+        self.slot_stored(line, k);
         Turn::Go
     }
 
     /// A line of the new slot was sent.
-    pub(super) fn send_slot(&mut self, line: u64) -> Turn
+    #[inline(always)]
+    pub(super) fn slot_sent(&mut self, line: u64)
         requires { self.old.phase ≡ at.SendSlot line }
-        ensures { Tells (turn_of self.old None) result self.new }
+        ensures { Tells (turn_of self.old None) Go self.new }
     {
         self.phase = if line < LAST_LINE {
             Phase::StoreSlot {
@@ -93,7 +122,24 @@ impl Task {
         } else {
             Phase::StoreGate
         };
+    }
+
+    /// A line of the new slot was sent.
+    pub(super) fn send_slot(&mut self, line: u64) -> Turn
+        requires { self.old.phase ≡ at.SendSlot line }
+        ensures { Tells (turn_of self.old None) result self.new }
+    {
+        self.slot_sent(line);
         Turn::Go
+    }
+
+    /// The gate was stored.
+    #[inline(always)]
+    pub(super) fn gate_stored(&mut self)
+        requires { self.old.phase ≡ at.StoreGate }
+        ensures { Tells (turn_of self.old None) Go self.new }
+    {
+        self.phase = Phase::SendGate;
     }
 
     /// The gate was stored.
@@ -101,7 +147,7 @@ impl Task {
         requires { self.old.phase ≡ at.StoreGate }
         ensures { Tells (turn_of self.old None) result self.new }
     {
-        self.phase = Phase::SendGate;
+        self.gate_stored();
         Turn::Go
     }
 }

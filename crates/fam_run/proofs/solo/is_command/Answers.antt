@@ -1,4 +1,4 @@
-use Rattle.std.proofs.Common.{ℕ, ◌<◌, List, length, None, refl, sym, subst}
+use Rattle.std.proofs.Common.{ℕ, ◌<◌, List, length, refl, sym, subst}
 use Rattle.std.specs.Prelude.{slice_index}
 use Rattle.fam_base.specs.declared.cmd.Cmd.TheVariants.{Mkdir, Creat, Cp}
 use Rattle.fam_base.specs.declared.entry.Kind.TheVariants.{File}

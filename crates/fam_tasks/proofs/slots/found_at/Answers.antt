@@ -1,4 +1,4 @@
-use Rattle.std.proofs.Common.{◌≡◌, sym, ap, subst, ◌∙◌, Option}
+use Rattle.std.proofs.Common.{sym, ap, subst, ◌∙◌, Option}
 use Rattle.std.specs.FinMap as map
 use Rattle.fam_format.specs.Tree.{Tree, replay}
 use Rattle.fam_plan.specs.State.{PlanState}

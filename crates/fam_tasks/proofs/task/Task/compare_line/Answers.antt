@@ -1,4 +1,4 @@
-use Rattle.std.proofs.Common.{◌≡◌, ℕ, ◌+◌, List, ◌∷◌, ◌++◌, ◌*◌, ◌<◌, [], Some, length, ap, sym, subst, refl, ◌∙◌, arith, length-append}
+use Rattle.std.proofs.Common.{◌≡◌, ℕ, ◌+◌, List, ◌∷◌, ◌++◌, ◌*◌, [], Some, length, ap, sym, subst, refl, ◌∙◌, arith, length-append}
 use Rattle.fam_base.specs.declared.cmd.Content.{Content}
 use Rattle.fam_rules.specs.Content.{content_line, HoldsBytes}
 use Rattle.fam_rules.specs.Reply.{Same}
@@ -6,15 +6,15 @@ use Rattle.fam_commands.specs.declared.phase.Part.TheVariants.{File}
 use Rattle.fam_commands.specs.declared.phase.Phase.{Phase}
 use Rattle.fam_commands.specs.declared.phase.Phase.TheVariants as at
 use Rattle.fam_commands.specs.Task.{Task, size_of, wanted_lines}
-use Rattle.fam_commands.specs.Turns.{Ends, Turn, file_turn, line_or, with_word}
+use Rattle.fam_commands.specs.Turns.{Ends, file_turn, line_or, with_word}
 use Rattle.fam_content.specs.Difference.{DiffersAt, IsFirst}
 use Rattle.fam_tasks.specs.declared.answer.Answer.TheVariants as answer
+use Rattle.fam_tasks.specs.declared.answer.Turn.TheVariants.{Done}
 use Rattle.fam_tasks.specs.Commands.{content_used, IsVerify}
 use Rattle.fam_tasks.specs.Contents.{ContentsState}
 use Rattle.fam_tasks.specs.Held.{IsHeldAt}
 use Rattle.fam_tasks.specs.Model.{task_of}
 use Rattle.fam_tasks.specs.Sound.{IsSoundAt}
-use Rattle.fam_tasks.specs.Tells.{Tells}
 use Rattle.fam_tasks.proofs.FileLines.{same_proper, verify_held, verify_holds, verify_kept, wanted_line}
 use Rattle.fam_tasks.proofs.FileTurns.{differs_told, goes, last_line, next_line, one_line, replies, same_told}
 use Rattle.fam_tasks.proofs.Phases.{same_gate}
@@ -67,7 +67,7 @@ returns-in-Some c =
     let count : c.count-m.result ≡ length c.args.self.now.entries = c.count-m.ensures ∙ ap (λ (u : Task). length u.entries) c.self.view_is in
     let first : IsFirst c.line-found.result c.line.result.now (64 * c.args.line) c.file_size-size.result c.in-Some.offset c.in-Some.found c.in-Some.wanted = c.in-Some.ensures in
     differs_told (with_word c.args.self.now c.args.word) c.args.self.now.cmd c.args.line c.file_size-size.result c.line-found.result c.line.result.now c.requires.verify words size wanted bytes
-    c.in-Some.offset c.in-Some.found c.in-Some.wanted c.count-m.result c.done.result _ first count c.done.ensures.turn
+    c.in-Some.offset c.in-Some.found c.in-Some.wanted c.count-m.result (Done (answer.Differs c.count-m.result c.in-Some.offset c.in-Some.found c.in-Some.wanted)) _ first count refl
 
 pub returns-then-line-lines : goal.returns-then-line-lines
 returns-then-line-lines c =
@@ -119,6 +119,6 @@ returns-else-line-lines c =
     let none : (o : ℕ) → DiffersAt c.line-found.result c.line.result.now (64 * c.args.line) c.file_size-size.result o → ⊥ = c.in-None.ensures in
     let told : file_turn c.args.self.now.cmd (with_word c.args.self.now c.args.word) c.args.line ≡ line_or (record (with_word c.args.self.now c.args.word) { words = [] }) File c.args.line (Ends (Same (length c.args.self.now.entries))) =
     same_told (with_word c.args.self.now c.args.word) c.args.self.now.cmd c.args.line c.file_size-size.result c.line-found.result c.line.result.now c.requires.verify words size wanted bytes none in
-    replies _ c.done-else-line-lines.result _ (Same (length c.args.self.now.entries)) (answer.Same c.count-m.result)
+    replies _ (Done (answer.Same c.count-m.result)) _ (Same (length c.args.self.now.entries)) (answer.Same c.count-m.result)
     (told ∙ last_line (record (with_word c.args.self.now c.args.word) { words = [] }) c.args.line c.wanted_lines-lines.result _ lines c.if-line-lines.false)
-    c.done-else-line-lines.ensures.turn (ap (λ (n : ℕ). Some (Same n)) count)
+    refl (ap (λ (n : ℕ). Some (Same n)) count)

@@ -1,4 +1,4 @@
-use Rattle.std.proofs.Common.{◌≡◌, ℕ, ◌+◌, ◌-◌, ◌%◌, ◌<◌, List, ◌∷◌, ◌++◌, [], Some, length, take, get_or, ap, sym, subst, refl, ◌∙◌, arith, length-append}
+use Rattle.std.proofs.Common.{◌≡◌, ℕ, ◌+◌, ◌-◌, ◌%◌, List, ◌∷◌, ◌++◌, [], Some, length, ap, sym, subst, refl, ◌∙◌, arith, length-append}
 use Rattle.std.proofs.lemmas.List.{take_all, take-append-le}
 use Rattle.fam_rules.specs.Content.{byte_in}
 use Rattle.fam_rules.specs.Reply.{Bytes}
@@ -6,7 +6,7 @@ use Rattle.fam_commands.specs.declared.phase.Part.TheVariants.{File}
 use Rattle.fam_commands.specs.declared.phase.Phase.{Phase}
 use Rattle.fam_commands.specs.declared.phase.Phase.TheVariants as at
 use Rattle.fam_commands.specs.Task.{Task, size_of, wanted_end, wanted_lines, wanted_start}
-use Rattle.fam_commands.specs.Turns.{Ends, Turn, file_turn, line_or, loaded_bytes, with_word}
+use Rattle.fam_commands.specs.Turns.{loaded_bytes, with_word}
 use Rattle.fam_tasks.specs.declared.answer.Answer.TheVariants as answer
 use Rattle.fam_tasks.specs.Commands.{IsRead}
 use Rattle.fam_tasks.specs.Held.{IsHeldAt}

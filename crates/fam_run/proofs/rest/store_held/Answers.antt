@@ -1,0 +1,17 @@
+use Rattle.std.proofs.Common.{refl, sym, subst}
+use Rattle.fam_cache.specs.States.{CacheState}
+use Rattle.fam_run.specs.Held.{HeldRun, none}
+use Rattle.fam_run.proofs.Held.{stores_held}
+use Rattle.fam_run.proofs.rest.store_held.Goals as goal
+
+pub returns-then-store_rest : goal.returns-then-store_rest
+returns-then-store_rest c =
+    let e = c.if-store_rest.ensures in
+    stores_held c.in-Some.rest.0 c.in-Some.rest.1 c.args.task.now c.store_rest-then-store_rest.new.self c.args.cache.now.lines c.store_rest.new.self.lines (e.held refl) (e.whole refl) (e.stored refl) c.store_rest-then-store_rest.ensures
+
+pub returns-else-store_rest : goal.returns-else-store_rest
+returns-else-store_rest c =
+    subst (λ (s : CacheState). HeldRun c.args.task.now c.args.cache.now.lines c.args.task.now s.lines) (sym (c.if-store_rest.ensures.other refl)) none
+
+pub returns-in_default : goal.returns-in_default
+returns-in_default c = none

@@ -1,0 +1,64 @@
+-- The rest of a line, whose first word a task has loaded or stored: the operations up to its last word, as a whole.
+use Rattle.std.specs.Prelude.{ℕ, suc, ◌≡◌, ◌+◌, ◌*◌, ◌<◌, ◌⊎◌, List, Some, None, slice_index}
+use Rattle.fam_base.specs.declared.line.LineNo.{LineNo}
+use Rattle.fam_format.specs.Layout.{slot_line}
+use Rattle.fam_format.specs.Line.{line_words}
+use Rattle.fam_machine.specs.declared.op.Op.TheVariants.{Load, Store}
+use Rattle.fam_machine.specs.Operations.{IsWithin}
+use Rattle.fam_commands.specs.declared.phase.Part.{Part}
+use Rattle.fam_commands.specs.declared.phase.Phase.{Phase}
+use Rattle.fam_commands.specs.declared.phase.Phase.TheVariants as at
+use Rattle.fam_commands.specs.Task.{Task, data_words, line_of, op_of, part_line}
+use Rattle.fam_commands.specs.Turns.{Goes, turn_of}
+use Rattle.fam_tasks.specs.Sound.{IsSound}
+
+-- word 1 of this line of a part is loaded next
+pub record IsRest (line : LineNo) (t : Task) : Type 0 where
+  pub part : Part
+  pub j : ℕ
+  pub phase : t.phase ≡ at.Word part j 1
+  pub is : line.0 ≡ part_line t part j
+  pub within : line.0 < t.lines
+
+-- the first task loads words of this line, one after another, which are among these, and goes on up to the last task
+pub data Loads (line : LineNo) (words : List ℕ) : Task → Task → Type 0 where
+  none : {t : Task} → Loads line words t t
+  more : {t mid next : Task} → Loads line words t mid → IsSound mid → (k : ℕ) → op_of mid ≡ Load line k → IsWithin mid.lines (op_of mid) → turn_of mid (Some (slice_index words k)) ≡ Goes next → Loads line words t next
+
+-- the words of line j of a part were loaded up to word k, which comes next
+pub record Taken (line : LineNo) (words : List ℕ) (part : Part) (j : ℕ) (t now : Task) (k : ℕ) : Type 0 where
+  pub loads : Loads line words t now
+  pub phase : now.phase ≡ at.Word part j k
+  pub is : line.0 ≡ part_line now part j
+  pub within : line.0 < now.lines
+
+-- word 1 of this line of the new file is stored next, and these are the line's words
+pub record IsFileRest (line : LineNo) (words : List ℕ) (t : Task) : Type 0 where
+  pub j : ℕ
+  pub phase : t.phase ≡ at.StoreData j 1
+  pub is : line.0 ≡ line_of t.entry j
+  pub words_are : (k : ℕ) → k < 8 → slice_index words k ≡ slice_index (data_words t j) k
+  pub within : line.0 < t.lines
+
+-- word 1 of this line of the new slot is stored next, and these are the line's words
+pub record IsSlotRest (line : LineNo) (words : List ℕ) (t : Task) : Type 0 where
+  pub j : ℕ
+  pub phase : t.phase ≡ at.StoreSlot j 1
+  pub is : line.0 ≡ slot_line t.params t.gate j
+  pub words_are : (k : ℕ) → k < 8 → slice_index words k ≡ slice_index t.words (line_words * j + k)
+  pub within : line.0 < t.lines
+
+-- one or the other
+abbrev pub IsStoreRest : LineNo → List ℕ → Task → Type 0
+IsStoreRest line words t = IsFileRest line words t ⊎ IsSlotRest line words t
+
+-- the first task stores so many of these words of this line, one after another, from word 1 on, and goes on up to the
+-- last task
+pub data Stores (line : LineNo) (words : List ℕ) : Task → Task → ℕ → Type 0 where
+  begins : {t : Task} → Stores line words t t 0
+  stores : {t mid next : Task} {n : ℕ} → Stores line words t mid n → IsSound mid → op_of mid ≡ Store line (suc n) (slice_index words (suc n)) → IsWithin mid.lines (op_of mid) → turn_of mid None ≡ Goes next → Stores line words t next (suc n)
+
+-- so many words were stored, and the next one comes next, in this phase
+pub record Stored (line : LineNo) (words : List ℕ) (phase_at : ℕ → Phase) (t now : Task) (n : ℕ) : Type 0 where
+  pub stored : Stores line words t now n
+  pub same : now ≡ record t { phase = phase_at (suc n) }
