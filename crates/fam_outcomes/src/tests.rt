@@ -64,7 +64,9 @@ fn has_text(rt: &impl Abort, made: Result<Vec<u8>, OutOfMemory>, expected: &str)
 fn comes_of(rt: &impl Abort, alloc: Global, notes: &[Note])
     requires { NameDeclared 0 (notes_view notes.now) }
 {
-    has_text(rt, print_notes(alloc, notes, &[]), LINES);
+    let mut names = Vec::new(alloc);
+    has_text(rt, print_notes(alloc, notes, &mut names), LINES);
+    assert!(rt; names.len() == 1);
     has_text(rt, shown(alloc, notes), "refused no host\n");
     let crc = text_crc(alloc, notes).expect(rt, "memory");
     let counts = count_notes(notes);

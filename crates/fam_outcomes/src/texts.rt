@@ -63,30 +63,20 @@ fn next_line(alloc: Global, note: &Note, names: &mut Vec<HostName>) -> Result<Ve
     Ok(line)
 }
 
-/// The names of hosts, as a list that grows.
-fn copied(alloc: Global, names: &[HostName]) -> Result<Vec<HostName>, OutOfMemory>
-    ensures { IfOk result (λ copy. copy.items ≡ names.now) }
-{
-    match Vec::from_slice(alloc, names) {
-        Ok(copy) => Ok(copy),
-        Err(_) => Err(OutOfMemory),
-    }
-}
-
 /// Notes in print, one behind another. `names` are those of the hosts that were declared before them, in their order;
-/// the notes may declare more.
+/// the notes may declare more, which are added. On `OutOfMemory` some may be added.
 pub fn print_notes(
     alloc: Global,
     notes: &[Note],
-    names: &[HostName],
+    names: &mut Vec<HostName>,
 ) -> Result<Vec<u8>, OutOfMemory>
-    requires { NameDeclared (length names.now) (notes_view notes.now) }
-    ensures { IfOk result (λ lines. lines.items ≡ text.render_behind names.now (notes_view notes.now)) }
+    requires { NameDeclared (length names.old.items) (notes_view notes.now) }
+    ensures lines { IfOk result (λ lines. lines.items ≡ text.render_behind names.old.items (notes_view notes.now)) }
+    ensures names { OnOk result (names.new.items ≡ text.names_behind names.old.items (notes_view notes.now)) }
 {
-    let mut declared = copied(alloc, names)?;
     let mut lines = Vec::new(alloc);
     'notes: for note in notes {
-        let line = next_line(alloc, note, &mut declared)?;
+        let line = next_line(alloc, note, names)?;
         put(line.as_slice(), &mut lines)?;
     }
     Ok(lines)

@@ -97,7 +97,7 @@ module _ (change : ShelfChange) (copied : ℕ) (name : List ℕ) where
   short size got less within rose holds what is = record {
     name = name;
     source = is;
-    cause = rose;
+    cause = (rose, less);
     short = λ files at. let h = holds files at in (h.0, h.1, h.2, less, within);
   }
 

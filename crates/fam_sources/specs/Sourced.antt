@@ -1,6 +1,6 @@
 -- What an ask comes to: the command that holds its source's bytes, or why there is none. The rules are those of the
 -- journal's events; here they are tied to what a shelf's calls tell, modelled or not.
-use Rattle.std.specs.Prelude.{ℕ, ⊤, ◌≡◌, ◌+◌, ◌≤◌, List, length, Some, Ok, Err}
+use Rattle.std.specs.Prelude.{ℕ, ⊤, ◌≡◌, ◌+◌, ◌<◌, ◌≤◌, List, length, Some, Ok, Err}
 use Rattle.std.specs.FinMap as map
 use Rattle.fam_base.specs.declared.cmd.Cmd.{Cmd}
 use Rattle.fam_base.specs.declared.cmd.Cmd.TheVariants.{Check}
@@ -30,10 +30,10 @@ abbrev pub end_of : SourceEnd → journal.SourceEnd
 end_of Faulted = journal.Faulted
 end_of (Short size got) = journal.Short size got
 
--- the count that tells of an end
+-- the count that tells of an end; a short source gave fewer bytes than it has
 abbrev pub HasEndCause : ShelfChange → SourceEnd → Type 0
 HasEndCause change Faulted = Rose change.faults change.faults_now
-HasEndCause change (Short size got) = Rose change.shorts change.shorts_now
+HasEndCause change (Short size got) = Rose change.shorts change.shorts_now × (got < size)
 
 -- the command holds the bytes of the source, or the entries of its listing
 pub record IsReady (change : ShelfChange) (copied : ℕ) (what : Ask) (now : ℕ) (cmd : Cmd) : Type 0 where

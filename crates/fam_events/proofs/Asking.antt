@@ -1,0 +1,308 @@
+-- Telling a host to begin what it is asked for.
+use Rattle.std.proofs.Common.{◌≡◌, ℕ, inl, inr, true, List, [], ◌∷◌, length, map, Option, Some, None, Result, Ok, Err, refl, ap, sym, ◌∙◌, subst}
+use Rattle.std.specs.Prelude.{IfErr, IfOk, OnErr, option_map, slice_get}
+use Rattle.fam_base.specs.declared.cmd.Cmd.{Cmd}
+use Rattle.fam_base.specs.declared.cmd.Cmd.TheVariants.{Logplay}
+use Rattle.fam_base.specs.Image.{Image}
+use Rattle.fam_media.specs.Files.{Files}
+use Rattle.fam_media.specs.Outside.{IfModelled}
+use Rattle.fam_protocol.specs.Tasks.{IsCommand}
+use Rattle.fam_sources.specs.declared.sourced.SourceEnd.{SourceEnd}
+use Rattle.fam_sources.specs.declared.sourced.Sourced.{Sourced as Came}
+use Rattle.fam_sources.specs.declared.sourced.Sourced.TheVariants as came_of
+use Rattle.fam_sources.specs.Sourced.{IsEnded, IsReady, IsSourced, IsUnfit, HasEndCause}
+use Rattle.fam_sources.specs.Whole.{ShelfChange}
+use Rattle.fam_journal.specs.declared.event.Ask.{Ask}
+use Rattle.fam_journal.specs.declared.event.Event.TheVariants.{Begin}
+use Rattle.fam_journal.specs.declared.refusal.Refusal.{Refusal}
+use Rattle.fam_journal.specs.declared.refusal.Refusal.TheVariants as why
+use Rattle.fam_journal.specs.Calls as call
+use Rattle.fam_journal.specs.Calls.{Does, IsOfSource, MayBeRefused, begins_refusal, may_begin, number_of, on_host, refusal_of}
+use Rattle.fam_journal.specs.CallRecords.{FitsMedia, WorldCall, heading}
+use Rattle.fam_journal.specs.EventForms.{NoMore, StartForm, UnfitForm}
+use Rattle.fam_journal.specs.Events.{event_source, named_source}
+use Rattle.fam_journal.specs.Forms as form
+use Rattle.fam_journal.specs.Forms.{AtForm, DoesForm, FormByRefusal, FreeForm, HostForm, IsFormed, OfHostForm, forms_after, forms_behind, forms_of, runs_form, shown_forms}
+use Rattle.fam_journal.specs.Kept.{Held}
+use Rattle.fam_journal.specs.Machines.{Machines}
+use Rattle.fam_journal.specs.Notes.{Note, Refused, Start}
+use Rattle.fam_journal.specs.View.{HostView, WorldView}
+use Rattle.fam_journal.specs.ByWorld.{acted_by, number_in, refusal_in, with_host}
+use Rattle.fam_journal.proofs.Calls.Members.{changed_here}
+use Rattle.fam_journal.proofs.Forms.Operations.{forms_both}
+use Rattle.fam_journal.proofs.Forms.Views.{number_formed, refusal_formed}
+use Rattle.fam_world.proofs.Finishing.{number_same}
+use Rattle.fam_world.proofs.Members.{map_kept}
+use Rattle.fam_world.proofs.Rows.{first_refusal}
+use Rattle.fam_events.specs.Around.{AddsForm, Around, asking, session}
+use Rattle.fam_events.specs.declared.asks.Asked.{Asked}
+use Rattle.fam_events.specs.declared.fault.EventFault.{EventFault}
+use Rattle.fam_events.specs.declared.fault.EventFault.TheVariants as fault
+use Rattle.fam_events.specs.Begins.{AskBegun, AskRefused, AskSays, AskUndone, Nothing, RefusedForm}
+use Rattle.fam_events.specs.Happens.{EventEnded, IsToSource, SourceForm}
+use Rattle.fam_events.proofs.OverMedia.{count_kept}
+use Rattle.fam_events.proofs.Quiet.{quiet_adds, quiet_row, still_adds, still_keeps}
+use Rattle.fam_events.proofs.Running.{finish_as_step, runs_free}
+
+-- a cause of a source
+of_source : (what : Ask) (cause : Refusal) → UnfitForm what cause → IsOfSource cause
+of_source what why.NoHost is = absurd is
+of_source what (why.SameHost host) is = absurd is
+of_source what why.TooManyHosts is = absurd is
+of_source what (why.BadGeometry unit log) is = absurd is
+of_source what (why.TooSmall need have) is = absurd is
+of_source what (why.ImageSmall lines) is = absurd is
+of_source what (why.Busy host) is = absurd is
+of_source what (why.Dirty host) is = absurd is
+of_source what (why.HasSuper uuid) is = absurd is
+of_source what why.Idle is = absurd is
+of_source what (why.NoLine at lines) is = absurd is
+of_source what (why.NoFile name) is = tt
+of_source what (why.CopyLimit sum) is = tt
+of_source what (why.BadListing at) is = tt
+of_source what (why.MediaFault at) is = absurd is
+
+-- the notes of a call that refuses
+refuses_form : (name : List ℕ) (cause : Refusal) (lines : ℕ) (hosts : List HostForm) (notes : List Note) → DoesForm (call.Refuses name cause) lines hosts notes → notes ≡ Refused name cause ∷ []
+unfolding refusal_of
+refuses_form name cause lines hosts notes form = form.0
+
+refuses_row : (name : List ℕ) (cause : Refusal) (old new : Machines) (notes : List Note) → Does (call.Refuses name cause) old notes new → (notes ≡ Refused name cause ∷ []) × (new ≡ old)
+unfolding refusal_of
+refuses_row name cause old new notes row = (row.0, row.1)
+
+-- a command may begin by its host alone
+begins_as : (name : List ℕ) (cmd : Cmd) (m : Machines) → refusal_of (call.Begins name cmd) m ≡ may_begin name m
+unfolding refusal_of
+begins_as name cmd m = refl
+
+module _ (name : List ℕ) (what : Ask) (lines : ℕ) (old : WorldView) (formed : IsFormed old) (fits : FitsMedia lines old.hosts) (told : Option Image) (modelled : IfModelled told (λ image. length image ≡ lines)) (faults : ℕ) (files : Option Files) (copied : ℕ) where
+  abbrev forms : List HostForm
+  forms = forms_of old.journal
+
+  abbrev first : Option Refusal
+  first = refusal_in (call.Begins name Logplay) old lines
+
+  told_first : may_begin name (shown_forms lines forms) ≡ first
+  told_first = sym (refusal_formed lines old formed (call.Begins name Logplay) tt ∙ begins_as name Logplay (shown_forms lines forms))
+
+  state_first : (start : Image) (state : Machines) → Held start state old state.memory → length state.memory ≡ lines → may_begin name state ≡ first
+  state_first start state held lines_are = sym (begins_as name Logplay state) ∙ first_refusal start state old held (call.Begins name Logplay) lines lines_are
+
+  -- no memory was left
+  pub undone : (now : ℕ) → AskUndone (asking lines old old told faults files copied now)
+  undone now = record {
+    adds = still_adds (asking lines old old told faults files copied now) record { world = refl; media = refl; count = refl } (λ lines hosts notes. notes ≡ []) formed fits refl;
+    keeps = still_keeps (asking lines old old told faults files copied now) record { world = refl; media = refl; count = refl } (λ files. Nothing) (λ files_now start state files_are told_is held. (refl, refl));
+  }
+
+  -- nothing may begin there
+  pub may_not : (new : WorldView) (cause : Refusal) → first ≡ Some cause → WorldCall (call.Refuses name cause) lines None old new → AskRefused name what (asking lines old new told faults files copied copied)
+  may_not new cause is w = record {
+    adds = of_form (quiet_adds (call.Refuses name cause) lines None old new w (inr is) formed fits told faults files copied copied);
+    keeps = λ start files_now state files_are told_is held.
+        let d = quiet_row (call.Refuses name cause) lines None old new w (inr is) tt start state held (modelled state.memory told_is) in
+        let r = refuses_row name cause state d.state d.notes d.row in
+        record {
+          comes = record {
+            last = session d.state copied;
+            notes = d.notes;
+            does = (inl record { cause = cause; first = state_first start state held (modelled state.memory told_is) ∙ is; notes_are = r.0; same = ap (λ (m : Machines). session m copied) r.1 }, refl);
+            told_is = told_is ∙ d.told_is;
+            joined = d.joined;
+          };
+          held = d.held;
+        };
+  }
+    where
+      of_form : AddsForm (DoesForm (call.Refuses name cause)) (asking lines old new told faults files copied copied) → AddsForm (RefusedForm name what) (asking lines old new told faults files copied copied)
+      of_form x = record {
+        notes = x.notes;
+        joined = x.joined;
+        named = x.named;
+        counted = x.counted;
+        later = x.later;
+        fits = x.fits;
+        formed = x.formed;
+        form = subst (λ (o : Option Refusal). FormByRefusal name o x.notes (Rattle.fam_journal.specs.EventForms.UnfitNotes name what x.notes)) (sym (told_first ∙ is)) (refuses_form name cause lines forms x.notes x.form);
+      }
+
+  module _ (free : first ≡ None) where
+    -- the source makes no command
+    pub unfit : (new : WorldView) (cause : Refusal) (change : ShelfChange) (now : ℕ) → change.files ≡ files → IsUnfit change copied what now cause → WorldCall (call.Refuses name cause) lines None old new → AskRefused name what (asking lines old new told faults files copied now)
+    unfit new cause change now same u w = record {
+      adds = of_form (quiet_adds (call.Refuses name cause) lines None old new w (inl (of_source what cause u.form)) formed fits told faults files copied now);
+      keeps = λ start files_now state files_are told_is held.
+          let d = quiet_row (call.Refuses name cause) lines None old new w (inl (of_source what cause u.form)) tt start state held (modelled state.memory told_is) in
+          record {
+            comes = record {
+              last = session d.state now;
+              notes = d.notes;
+              does = (
+                inr record {
+                  free = state_first start state held (modelled state.memory told_is) ∙ free;
+                  cause = cause;
+                  copied = now;
+                  says = u.says files_now (same ∙ files_are);
+                  does = d.row;
+                  copied_is = refl;
+                },
+                refl,
+              );
+              told_is = told_is ∙ d.told_is;
+              joined = d.joined;
+            };
+            held = d.held;
+          };
+    }
+      where
+        of_form : AddsForm (DoesForm (call.Refuses name cause)) (asking lines old new told faults files copied now) → AddsForm (RefusedForm name what) (asking lines old new told faults files copied now)
+        of_form x = record {
+          notes = x.notes;
+          joined = x.joined;
+          named = x.named;
+          counted = x.counted;
+          later = x.later;
+          fits = x.fits;
+          formed = x.formed;
+          form = subst (λ (o : Option Refusal). FormByRefusal name o x.notes (Rattle.fam_journal.specs.EventForms.UnfitNotes name what x.notes)) (sym (told_first ∙ free))
+              record { why = cause; unfit = u.form; notes_are = refuses_form name cause lines forms x.notes x.form };
+        }
+
+    -- the reading of its source ended early
+    pub ended : (end : SourceEnd) (change : ShelfChange) → change.files ≡ files → IsEnded change copied what end → EventEnded (Begin name what) end (asking lines old old told faults files copied copied) × HasEndCause change end
+    ended end change same e = (
+      record {
+        adds = still_adds (asking lines old old told faults files copied copied) record { world = refl; media = refl; count = refl } (SourceForm (Begin name what)) formed fits
+            record { none = refl; host = name; source = e.name; reads = reads; free = told_first ∙ free };
+        keeps = still_keeps (asking lines old old told faults files copied copied) record { world = refl; media = refl; count = refl } (IsToSource (Begin name what) end)
+            (λ files_now start state files_are told_is held. (
+              record {
+                host = name;
+                source = e.name;
+                reads = reads;
+                free = state_first start state held (modelled state.memory told_is) ∙ free;
+                ends = e.short files_now (same ∙ files_are);
+              },
+              refl,
+              refl,
+            ));
+      },
+      e.cause,
+    )
+      where
+        reads : event_source (Begin name what) ≡ Some (name, e.name)
+        reads = ap (λ (o : Option (List ℕ)). named_source name o) e.source
+
+    -- the command begins
+    module _ (cmd : Cmd) (fits_words : IsCommand cmd) (new : WorldView) (change : ShelfChange) (now : ℕ) (same : change.files ≡ files) (ready : IsReady change copied what now cmd) (w : WorldCall (call.Begins name cmd) lines None old new) where
+      abbrev a : Around
+      a = asking lines old new told faults files copied now
+
+      record Placed (notes : List Note) : Type 0 where
+        host : ℕ
+        number : number_of name (shown_forms lines forms) ≡ Some host
+        form : HostForm
+        form_is : slice_get forms host ≡ Some form
+        notes_are : notes ≡ Start host cmd ∷ []
+
+      placed : (notes : List Note) → DoesForm (call.Begins name cmd) lines forms notes → Placed notes
+      unfolding refusal_of
+      placed notes form = by_number (number_of name (shown_forms lines forms)) refl (subst (λ (o : Option Refusal). FormByRefusal name o notes (FreeForm (call.Begins name cmd) lines forms notes)) (told_first ∙ free) form)
+        where
+          by_host : (h : ℕ) → number_of name (shown_forms lines forms) ≡ Some h → (o : Option HostForm) → slice_get forms h ≡ o → OfHostForm o (λ f. notes ≡ Start h cmd ∷ []) → Placed notes
+          by_host h number None is x = absurd x
+          by_host h number (Some f) is x = record { host = h; number = number; form = f; form_is = is; notes_are = x }
+
+          by_number : (o : Option ℕ) → number_of name (shown_forms lines forms) ≡ o → AtForm o forms (λ h f. notes ≡ Start h cmd ∷ []) → Placed notes
+          by_number None is x = absurd x
+          by_number (Some h) is x = by_host h is (slice_get forms h) refl x
+
+      x : AddsForm (DoesForm (call.Begins name cmd)) a
+      x = quiet_adds (call.Begins name cmd) lines None old new w tt formed fits told faults files copied now
+
+      p : Placed x.notes
+      p = placed x.notes x.form
+
+      -- hosts keep their names
+      headings : map heading new.hosts ≡ map heading old.hosts
+      headings =
+          ap (λ (z : WorldView). map heading z.hosts) w.after
+          ∙ ap (λ (o : Option Refusal). map heading (acted_by o (call.Begins name cmd) lines old).hosts) (sym w.said)
+          ∙ by_number (number_in name old) _ _
+        where
+          by_number : (o : Option ℕ) (task : HostView → _) (note : ℕ → Note) → map heading (with_host o (λ v. record v { task = task v }) note old).hosts ≡ map heading old.hosts
+          by_number None task note = refl
+          by_number (Some h) task note = map_kept heading (λ v. record v { task = task v }) (λ v. refl) h old.hosts
+
+      number_kept : number_in name new ≡ number_in name old
+      number_kept = number_same name new old headings
+
+      abbrev starts : HostForm → HostForm
+      starts host = record host { task = Some (record { cmd = cmd; stage = form.Begun }) }
+
+      runs : runs_form (slice_get (forms_of new.journal) p.host) ≡ true
+      runs =
+          ap (λ (j : List Note). runs_form (slice_get (forms_of j) p.host)) x.joined
+          ∙ ap (λ (fs : List HostForm). runs_form (slice_get fs p.host)) (forms_both [] old.journal x.notes)
+          ∙ ap (λ (ns : List Note). runs_form (slice_get (forms_behind forms ns) p.host)) p.notes_are
+          ∙ ap runs_form (changed_here p.host starts forms)
+          ∙ ap (λ (o : Option HostForm). runs_form (option_map starts o)) p.form_is
+
+      pub begun : AskBegun name what a
+      begun = record {
+        adds = record {
+          notes = x.notes;
+          joined = x.joined;
+          named = x.named;
+          counted = x.counted;
+          later = x.later;
+          fits = x.fits;
+          formed = x.formed;
+          form = record {
+            free = told_first ∙ free;
+            starts = record { host = p.host; number = p.number; cmd = cmd; asked = ready.form; rest = []; notes_are = p.notes_are; follow = refl };
+          };
+        };
+        keeps = λ start files_now state files_are told_is held.
+            let d = quiet_row (call.Begins name cmd) lines None old new w tt fits_words start state held (modelled state.memory told_is) in
+            record {
+              comes = record {
+                last = session d.state now;
+                notes = d.notes;
+                does = (
+                  record {
+                    free = state_first start state held (modelled state.memory told_is) ∙ free;
+                    cmd = cmd;
+                    copied = now;
+                    says = ready.says files_now (same ∙ files_are);
+                    fits = fits_words;
+                    does = d.row;
+                    copied_is = refl;
+                  },
+                  refl,
+                );
+                told_is = told_is ∙ d.told_is;
+                joined = d.joined;
+              };
+              held = d.held;
+            };
+        number = number_kept;
+        count_is = count_kept new.hosts old.hosts headings;
+        runs = finish_as_step name new lines ∙ runs_free lines new x.formed name p.host (number_kept ∙ number_formed lines old formed name ∙ p.number) runs;
+      }
+
+-- a call that refuses or begins, or finds no memory
+pub asked_as : (name : List ℕ) (what : Ask) (shelf : ShelfChange) (a : Around) (r : Result Asked EventFault) (W X : Type 0) (want : Asked) → IfOk r (λ asked. (asked ≡ want) × W) → IfErr r (λ f. f ≡ fault.OutOfMemory) → OnErr r X
+    → (W → AskSays name what shelf a (Ok want)) → (X → AskUndone a) → AskSays name what shelf a r
+asked_as name what shelf b (Ok asked) W X want done err undone if_done if_not = subst (λ (z : Asked). AskSays name what shelf b (Ok z)) (sym done.0) (if_done done.1)
+asked_as name what shelf b (Err f) W X want done err undone if_done if_not = subst (λ (z : EventFault). AskSays name what shelf b (Err z)) (sym err) (if_not undone)
+
+-- what a source comes to, where its value was moved
+pub ready_of : (change : ShelfChange) (copied : ℕ) (what : Ask) (now : ℕ) (came : Came) (cmd moved : Cmd) → came ≡ came_of.Ready cmd → moved ≡ cmd → IsSourced change copied what now came → IsReady change copied what now moved
+ready_of change copied what now came cmd moved is same says =
+    subst (λ (z : Cmd). IsReady change copied what now z) (sym same) (subst (λ (z : Came). IsSourced change copied what now z) is says)
+
+pub unfit_of : (change : ShelfChange) (copied : ℕ) (what : Ask) (now : ℕ) (came : Came) (cause moved : Refusal) → came ≡ came_of.Unfit cause → moved ≡ cause → IsSourced change copied what now came → IsUnfit change copied what now moved
+unfit_of change copied what now came cause moved is same says =
+    subst (λ (z : Refusal). IsUnfit change copied what now z) (sym same) (subst (λ (z : Came). IsSourced change copied what now z) is says)

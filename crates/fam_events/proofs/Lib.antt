@@ -1,0 +1,8 @@
+pub mod Lists
+pub mod Refusals
+pub mod Quiet
+pub mod OverMedia
+pub mod Running
+pub mod Asking
+pub mod Stepping
+pub mod Events

@@ -1,0 +1,217 @@
+-- A call over a media, as a part of an event.
+use Rattle.std.proofs.Common.{◌≡◌, ◌*◌, ℕ, inl, inr, Bool, List, length, map, Option, Some, None, Result, Ok, Err, refl, ap, sym, ◌∙◌, subst}
+use Rattle.std.specs.Prelude.{⊤, IsErrOf, slice_get, option_map}
+use Rattle.std.proofs.lemmas.List.{length-map}
+use Rattle.std.proofs.lemmas.Option.{same_Some}
+use Rattle.fam_base.specs.declared.line.LineNo.{LineNo}
+use Rattle.fam_format.specs.Stop.{or_else}
+use Rattle.fam_machine.specs.Mkfs as early
+use Rattle.fam_machine.specs.Mkfs.{EarlyRefusal, early_refusal}
+use Rattle.fam_rules.specs.Place.{line_bytes}
+use Rattle.fam_journal.specs.Members.{index_of}
+use Rattle.fam_base.specs.Image.{Image}
+use Rattle.fam_journal.specs.declared.refusal.Refusal.{Refusal}
+use Rattle.fam_journal.specs.declared.refusal.Refusal.TheVariants as why
+use Rattle.fam_journal.specs.Calls as call
+use Rattle.fam_journal.specs.Calls.{BreaksOff, Call, Does, busy_refusal, cause_of, is_busy, number_of, on_host}
+use Rattle.fam_journal.specs.CallRecords.{Adds, Answers, CallForm, CallKeeps, CallBreaks, CallParts, FinishOutOfMemory, FitsMedia, MakeCall, MediaCall, heading, refusal_noted}
+use Rattle.fam_journal.specs.Ends.{cause_faults}
+use Rattle.fam_journal.specs.Forms.{ActsForm, AtForm, BreaksForm, DoesForm, FormByRefusal, FreeForm, HostForm, IsFormed, OfHostForm, PartForm, forms_of, makes_told, refusal_told, shown_forms}
+use Rattle.fam_journal.specs.Names.{AreNamed}
+use Rattle.fam_journal.specs.Notes.{Note}
+use Rattle.fam_journal.specs.View.{HostView}
+use Rattle.fam_journal.proofs.Forms.Pairs.{IsNoMake}
+use Rattle.fam_world.specs.Answers.{IfAnswered}
+use Rattle.fam_world.specs.declared.fault.WorldFault.{WorldFault}
+use Rattle.fam_world.specs.declared.fault.WorldFault.TheVariants as fault
+use Rattle.fam_events.specs.Around.{AddsForm, Around, Breaks, Keeps, Told, session}
+use Rattle.fam_events.specs.Calls.{CallDone, CallPart, CallSays, CallsBreak, CallsPart, broken_by, make_outcome, outcome}
+use Rattle.fam_events.specs.Steps.{IsStill}
+use Rattle.fam_events.proofs.Quiet.{still_part}
+
+-- as many hosts
+pub count_kept : (a b : List HostView) → map heading a ≡ map heading b → length a ≡ length b
+count_kept a b e = sym (length-map a heading) ∙ ap (λ hs. length hs) e ∙ length-map b heading
+
+-- nothing but a mkfs is cut by a media fault
+no_break : (c : Call) (lines : ℕ) (hosts : List HostForm) (notes : List Note) → IsNoMake c → BreaksForm c lines hosts notes → DoesForm c lines hosts notes
+no_break (call.Declares name uuid) lines hosts notes other is = absurd is
+no_break (call.Makes name fs unit log force) lines hosts notes other is = absurd other
+no_break (call.Begins name cmd) lines hosts notes other is = absurd is
+no_break (call.Steps name) lines hosts notes other is = absurd is
+no_break (call.Finishes name) lines hosts notes other is = absurd is
+no_break (call.Stops name) lines hosts notes other is = absurd is
+no_break (call.Halts name) lines hosts notes other is = absurd is
+no_break (call.Moves name line move) lines hosts notes other is = absurd is
+no_break (call.Refuses name cause) lines hosts notes other is = absurd is
+
+module _ (c : Call) (a : Around) (formed : IsFormed a.old) (fits : FitsMedia a.lines a.old.hosts) where
+  -- notes that are added, of a form
+  pub added : (form : ℕ → List HostForm → List Note → Type 0) (adds : Adds a.lines a.faults a.faults_now a.old a.new) → form a.lines (forms_of a.old.journal) adds.notes → AddsForm form a
+  added form adds is = record {
+    notes = adds.notes;
+    joined = adds.joined;
+    named = subst (λ (n : ℕ). AreNamed n adds.notes) (count_kept a.new.hosts a.old.hosts adds.hosts) adds.named;
+    counted = adds.counted;
+    later = adds.later;
+    fits = adds.fits fits;
+    formed = adds.formed formed;
+    form = is;
+  }
+
+  -- it did its row, on every media
+  pub answers_form : IsNoMake c → (answered : Option Refusal) (x : Answers c a.lines answered a.faults a.faults_now a.old a.new) → AddsForm (DoesForm c) a
+  answers_form whole answered x = added (DoesForm c) x.adds (by_form (x.form formed))
+    where
+      by_form : CallForm c a.lines (forms_of a.old.journal) x.adds.notes → DoesForm c a.lines (forms_of a.old.journal) x.adds.notes
+      by_form (inl is) = is
+      by_form (inr none) = no_break c a.lines (forms_of a.old.journal) x.adds.notes whole none
+
+  module _ (same : a.copied_now ≡ a.copied) where
+    -- and where the image is modelled
+    pub row_kept : ((start : Image) → CallKeeps c start a.told a.told_now a.old a.new) → Told (λ files start. Keeps (Rattle.fam_journal.specs.Events.Calls c) start) a
+    row_kept keeps start files state files_are told_is held =
+        let d = keeps start state told_is held in
+        record {
+          comes = record { last = session d.state a.copied; notes = d.notes; does = (d.row, refl); told_is = d.told_is; joined = d.joined };
+          held = d.held;
+        }
+
+    pub part_kept : ((start : Image) → CallParts c start a.told a.told_now a.old a.new) → Told (λ files start. Keeps (CallsPart c) start) a
+    part_kept keeps start files state files_are told_is held =
+        let d = keeps start state told_is held in
+        record {
+          comes = record { last = session d.state a.copied; notes = d.notes; does = (d.row, refl); told_is = d.told_is; joined = d.joined };
+          held = d.held;
+        }
+
+    pub broken_kept : ((start : Image) → CallBreaks c start a.told a.told_now a.old a.new) → Told (λ files start. Breaks (CallsBreak c) start) a
+    broken_kept keeps start files state files_are told_is held =
+        let d = keeps start state told_is held in
+        record {
+          comes = record { last = session d.state a.copied; notes = d.notes; does = (d.row, refl); told_is = d.told_is; joined = d.joined };
+          legal = d.legal;
+        }
+
+    pub call_done : IsNoMake c → (answered : Option Refusal) → MediaCall c a.lines answered a.told a.told_now a.faults a.faults_now a.old a.new → CallDone c a
+    call_done whole answered x = record { adds = answers_form whole answered x.answers; keeps = row_kept x.keeps }
+
+    pub media_says : IsNoMake c → (called : Result (Unit {0}) WorldFault) → IfAnswered called (λ answered. MediaCall c a.lines answered a.told a.told_now a.faults a.faults_now a.old a.new)
+        → (IsErrOf called fault.OutOfMemory → CallPart c a) → CallSays c a (outcome called)
+    media_says whole (Ok x) w part = call_done whole None w
+    media_says whole (Err (fault.Refused cause)) w part = call_done whole (Some cause) w
+    media_says whole (Err fault.OutOfMemory) w part = part refl
+
+-- a finish that found no memory
+pub finish_part : (name : List ℕ) (a : Around) → IsFormed a.old → FitsMedia a.lines a.old.hosts → a.copied_now ≡ a.copied → FinishOutOfMemory name a.lines a.told a.told_now a.faults a.faults_now a.old a.new → CallPart (call.Finishes name) a
+finish_part name a formed fits same x = record {
+  adds = added (call.Finishes name) a formed fits (PartForm (call.Finishes name)) x.adds (x.form formed);
+  keeps = part_kept (call.Finishes name) a formed fits same x.parts;
+}
+
+-- A mkfs.
+
+abbrev IfFaultless : Option Refusal → Type 0
+IfFaultless None = ⊤
+IfFaultless (Some cause) = cause_faults cause ≡ 0
+
+clean_or : (a b : Option Refusal) → IfFaultless a → IfFaultless b → IfFaultless (or_else a b)
+clean_or None b x y = y
+clean_or (Some cause) b x y = x
+
+clean_early : (o : Option EarlyRefusal) → IfFaultless (option_map cause_of o)
+clean_early None = tt
+clean_early (Some (early.BadGeometry unit log)) = refl
+clean_early (Some (early.TooSmall needed have)) = refl
+
+clean_busy : (o : Option ℕ) → IfFaultless (busy_refusal o)
+clean_busy None = tt
+clean_busy (Some h) = refl
+
+clean_on : (o : Option ℕ) (f : ℕ → Option Refusal) → ((h : ℕ) → IfFaultless (f h)) → IfFaultless (on_host o f)
+clean_on None f each = refl
+clean_on (Some h) f each = each h
+
+-- what a media fault isn't
+no_fault : (o : Option Refusal) (at : LineNo) → IfFaultless o → o ≡ Some (why.MediaFault at) → ⊥
+no_fault None at clean is = absurd cc
+no_fault (Some cause) at clean is = absurd (let same : cause ≡ why.MediaFault at = same_Some cause (why.MediaFault at) is in let one : 1 ≡ 0 = ap cause_faults (sym same) ∙ clean in cc)
+
+module _ (name fs : List ℕ) (unit log : ℕ) (force : Bool) (a : Around) (formed : IsFormed a.old) (fits : FitsMedia a.lines a.old.hosts) (same : a.copied_now ≡ a.copied) where
+  abbrev c : Call
+  c = call.Makes name fs unit log force
+
+  abbrev forms : List HostForm
+  forms = forms_of a.old.journal
+
+  -- the numbers, or a host with a task: no fault
+  told_clean : IfFaultless (refusal_told c a.lines forms)
+  told_clean =
+      let early = early_refusal unit log (line_bytes * length (shown_forms a.lines forms).memory) in
+      let busy = index_of is_busy (shown_forms a.lines forms).hosts in
+      clean_on (number_of name (shown_forms a.lines forms)) (λ h. makes_told unit log (shown_forms a.lines forms)) (λ h. clean_or (option_map cause_of early) (busy_refusal busy) (clean_early early) (clean_busy busy))
+
+  -- a fault is no row of its own
+  by_acts : (notes : List Note) (at : LineNo) (h : ℕ) (f : HostForm) → ActsForm c h f a.lines forms notes → refusal_noted notes ≡ Some (why.MediaFault at) → ⊥
+  by_acts notes at h f (inl made) said = absurd (let none : None ≡ Some (why.MediaFault at) = ap refusal_noted (sym made) ∙ said in cc)
+  by_acts notes at h f (inr x) said = absurd (let other : Some (why.HasSuper x.fs) ≡ Some (why.MediaFault at) = ap refusal_noted (sym x.notes_are) ∙ said in cc)
+
+  by_host : (notes : List Note) (at : LineNo) (h : ℕ) (o : Option HostForm) → OfHostForm o (λ f. ActsForm c h f a.lines forms notes) → refusal_noted notes ≡ Some (why.MediaFault at) → ⊥
+  by_host notes at h None x said = x
+  by_host notes at h (Some f) x said = by_acts notes at h f x said
+
+  by_number : (notes : List Note) (at : LineNo) (o : Option ℕ) → AtForm o forms (λ h f. ActsForm c h f a.lines forms notes) → refusal_noted notes ≡ Some (why.MediaFault at) → ⊥
+  by_number notes at None x said = x
+  by_number notes at (Some h) x said = by_host notes at h (slice_get forms h) x said
+
+  by_free : (notes : List Note) (at : LineNo) → FreeForm c a.lines forms notes → refusal_noted notes ≡ Some (why.MediaFault at) → ⊥
+  by_free notes at (inl x) said = by_number notes at (number_of name (shown_forms a.lines forms)) x said
+  by_free notes at (inr x) said = absurd (let other : Some (why.Dirty (record { 0 = x.dirty })) ≡ Some (why.MediaFault at) = ap refusal_noted (sym x.notes_are) ∙ said in cc)
+
+  by_refusal : (notes : List Note) (at : LineNo) (o : Option Refusal) → IfFaultless o → FormByRefusal name o notes (FreeForm c a.lines forms notes) → refusal_noted notes ≡ Some (why.MediaFault at) → ⊥
+  by_refusal notes at None clean x said = by_free notes at x said
+  by_refusal notes at (Some cause) clean x said = no_fault (Some cause) at clean (ap refusal_noted (sym x) ∙ said)
+
+  -- a fault that is answered cuts it
+  broken_form : (at : LineNo) (notes : List Note) → CallForm c a.lines forms notes → Some (why.MediaFault at) ≡ refusal_noted notes → BreaksForm c a.lines forms notes
+  broken_form at notes (inr x) said = x
+  broken_form at notes (inl x) said = absurd (by_refusal notes at (refusal_told c a.lines forms) told_clean x (sym said))
+
+  -- and another answer doesn't
+  whole_form : (answered : Option Refusal) (notes : List Note) → IfFaultless answered → CallForm c a.lines forms notes → answered ≡ refusal_noted notes → DoesForm c a.lines forms notes
+  whole_form answered notes clean (inl x) said = x
+  whole_form answered notes clean (inr x) said = absurd (no_fault answered (record { 0 = x.1.0 }) clean (said ∙ ap refusal_noted x.1.1))
+
+  make_done : (answered : Option Refusal) → IfFaultless answered → Answers c a.lines answered a.faults a.faults_now a.old a.new → ((start : Image) → CallKeeps c start a.told a.told_now a.old a.new) → CallDone c a
+  make_done answered clean x keeps = record {
+    adds = added c a formed fits (DoesForm c) x.adds (whole_form answered x.adds.notes clean (x.form formed) x.said);
+    keeps = row_kept c a formed fits same keeps;
+  }
+
+  abbrev Made : Option Refusal → Type 0
+  Made answered = MakeCall c a.lines answered a.told a.told_now a.faults a.faults_now a.old a.new
+
+  refused_says : (cause : Refusal) → Made (Some cause) → CallSays c a (broken_by cause)
+  refused_says why.NoHost w = make_done (Some why.NoHost) refl w.answers w.leaves
+  refused_says (why.SameHost host) w = make_done (Some (why.SameHost host)) refl w.answers w.leaves
+  refused_says why.TooManyHosts w = make_done (Some why.TooManyHosts) refl w.answers w.leaves
+  refused_says (why.BadGeometry unit log) w = make_done (Some (why.BadGeometry unit log)) refl w.answers w.leaves
+  refused_says (why.TooSmall need have) w = make_done (Some (why.TooSmall need have)) refl w.answers w.leaves
+  refused_says (why.ImageSmall lines) w = make_done (Some (why.ImageSmall lines)) refl w.answers w.leaves
+  refused_says (why.Busy host) w = make_done (Some (why.Busy host)) refl w.answers w.leaves
+  refused_says (why.Dirty host) w = make_done (Some (why.Dirty host)) refl w.answers w.leaves
+  refused_says (why.HasSuper uuid) w = make_done (Some (why.HasSuper uuid)) refl w.answers w.leaves
+  refused_says why.Idle w = make_done (Some why.Idle) refl w.answers w.leaves
+  refused_says (why.NoLine at lines) w = make_done (Some (why.NoLine at lines)) refl w.answers w.leaves
+  refused_says (why.NoFile name) w = make_done (Some (why.NoFile name)) refl w.answers w.leaves
+  refused_says (why.CopyLimit sum) w = make_done (Some (why.CopyLimit sum)) refl w.answers w.leaves
+  refused_says (why.BadListing at) w = make_done (Some (why.BadListing at)) refl w.answers w.leaves
+  refused_says (why.MediaFault at) w = record {
+    adds = added c a formed fits (BreaksForm c) w.answers.adds (broken_form at w.answers.adds.notes (w.answers.form formed) w.answers.said);
+    keeps = broken_kept c a formed fits same w.leaves;
+  }
+
+  pub make_says : (called : Result (Unit {0}) WorldFault) → IfAnswered called Made → (IsErrOf called fault.OutOfMemory → IsStill a) → CallSays c a (make_outcome called)
+  make_says (Ok x) w still = make_done None tt w.answers w.leaves
+  make_says (Err (fault.Refused cause)) w still = refused_says cause w
+  make_says (Err fault.OutOfMemory) w still = still_part a (still refl) c formed fits

@@ -1,0 +1,103 @@
+-- What stands around an event: the world, the media, the shelf, and how many bytes of sources were read, before and after it.
+use Rattle.std.specs.Prelude.{ℕ, ◌≡◌, ◌≤◌, ◌++◌, List, length, Option, Some}
+use Rattle.fam_base.specs.Image.{Image}
+use Rattle.fam_media.specs.Files.{Files}
+use Rattle.fam_journal.specs.CallRecords.{FitsMedia}
+use Rattle.fam_journal.specs.Ends.{HasCounted}
+use Rattle.fam_journal.specs.Events.{Session}
+use Rattle.fam_journal.specs.Forms.{HostForm, IsFormed, forms_of}
+use Rattle.fam_journal.specs.Kept.{Held}
+use Rattle.fam_journal.specs.Legal.{Legal}
+use Rattle.fam_journal.specs.Machines.{Machines}
+use Rattle.fam_journal.specs.Names.{AreNamed}
+use Rattle.fam_journal.specs.Notes.{Note}
+use Rattle.fam_journal.specs.View.{WorldView}
+
+-- the media's image and the shelf's files are told where they are modelled; the media's number of lines and its count of
+-- faults always
+pub record Around : Type 0 where
+  pub lines : ℕ
+  pub old : WorldView
+  pub new : WorldView
+  pub told : Option Image
+  pub told_now : Option Image
+  pub faults : ℕ
+  pub faults_now : ℕ
+  pub files : Option Files
+  pub copied : ℕ
+  pub copied_now : ℕ
+
+-- the world may change, and bytes of sources may be read
+abbrev pub asking : ℕ → WorldView → WorldView → Option Image → ℕ → Option Files → ℕ → ℕ → Around
+asking lines old new told faults files copied copied_now = record {
+  lines = lines;
+  old = old;
+  new = new;
+  told = told;
+  told_now = told;
+  faults = faults;
+  faults_now = faults;
+  files = files;
+  copied = copied;
+  copied_now = copied_now;
+}
+
+-- nothing but the world may change
+abbrev pub still : ℕ → WorldView → WorldView → Option Image → ℕ → Option Files → ℕ → Around
+still lines old new told faults files copied = asking lines old new told faults files copied copied
+
+-- a media and a world, from one state to another, by what the media tells of each
+abbrev pub around : {M : Type 0} → (M → Option Image) → (M → ℕ) → (M → ℕ) → M → M → WorldView → WorldView → Option Files → ℕ → ℕ → Around
+around image size faults media media_now old new files copied copied_now = record {
+  lines = size media;
+  old = old;
+  new = new;
+  told = image media;
+  told_now = image media_now;
+  faults = faults media;
+  faults_now = faults media_now;
+  files = files;
+  copied = copied;
+  copied_now = copied_now;
+}
+
+-- On every media and shelf: notes of a form are added, which name hosts that were declared; the media's count rose by as many
+-- faults as they tell; tasks and cached lines are those of the media; and hosts are what the journal tells.
+pub record AddsForm (P : ℕ → List HostForm → List Note → Type 0) (a : Around) : Type 0 where
+  pub notes : List Note
+  pub joined : a.new.journal ≡ a.old.journal ++ notes
+  pub named : AreNamed (length a.old.hosts) notes
+  pub counted : HasCounted a.faults a.faults_now notes
+  pub later : a.faults ≤ a.faults_now
+  pub fits : FitsMedia a.lines a.new.hosts
+  pub formed : IsFormed a.new
+  pub form : P a.lines (forms_of a.old.journal) notes
+
+-- Where image and files are modelled: on a state at which the world was held a relation of sessions holds, with the notes that
+-- are added, and the media has its last image.
+
+abbrev pub session : Machines → ℕ → Session
+session machines copied = record { machines = machines; copied = copied }
+
+pub record Comes (P : Session → List Note → Session → Type 0) (a : Around) (state : Machines) : Type 0 where
+  pub last : Session
+  pub notes : List Note
+  pub does : P (session state a.copied) notes last
+  pub told_is : a.told_now ≡ Some last.machines.memory
+  pub joined : a.new.journal ≡ a.old.journal ++ notes
+
+-- and the world is held again, at the last state
+pub record Keeps (P : Session → List Note → Session → Type 0) (start : Image) (a : Around) (state : Machines) : Type 0 where
+  pub comes : Comes P a state
+  pub held : Held start comes.last.machines a.new comes.last.machines.memory
+
+-- or the journal is legal, and no more is held
+pub record Breaks (P : Session → List Note → Session → Type 0) (start : Image) (a : Around) (state : Machines) : Type 0 where
+  pub comes : Comes P a state
+  pub legal : Legal start a.new.journal
+
+-- from every state that the image tells, with the shelf's files
+abbrev pub Told : (Files → Image → Around → Machines → Type 0) → Around → Type 0
+Told Q a =
+    (start : Image) (files : Files) (state : Machines) → a.files ≡ Some files → a.told ≡ Some state.memory → Held start state a.old state.memory
+    → Q files start a state

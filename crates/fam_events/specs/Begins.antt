@@ -1,0 +1,61 @@
+-- What comes of telling a host to begin what it is asked for.
+use Rattle.std.specs.Prelude.{ℕ, ◌≡◌, List, [], length, None, Result, Ok, Err}
+use Rattle.fam_media.specs.Files.{Files}
+use Rattle.fam_sources.specs.Sourced.{HasEndCause}
+use Rattle.fam_sources.specs.Whole.{ShelfChange}
+use Rattle.fam_journal.specs.declared.event.Ask.{Ask}
+use Rattle.fam_journal.specs.declared.event.Event.TheVariants.{Begin}
+use Rattle.fam_journal.specs.Calls.{may_begin}
+use Rattle.fam_journal.specs.EventForms.{NoMore, StartForm, UnfitNotes}
+use Rattle.fam_journal.specs.Events.{IsBegun, RefusesEvent, Session}
+use Rattle.fam_journal.specs.Forms.{FormByRefusal, HostForm, shown_forms}
+use Rattle.fam_journal.specs.Notes.{Note}
+use Rattle.fam_journal.specs.ByWorld.{number_in, refusal_in}
+use Rattle.fam_journal.specs.Calls as call
+use Rattle.fam_events.specs.declared.asks.Asked.{Asked}
+use Rattle.fam_events.specs.declared.asks.Asked.TheVariants.{Begun, Refused}
+use Rattle.fam_events.specs.declared.fault.EventFault.{EventFault}
+use Rattle.fam_events.specs.declared.fault.EventFault.TheVariants as fault
+use Rattle.fam_events.specs.Around.{AddsForm, Around, Keeps, Told}
+use Rattle.fam_events.specs.Happens.{EventEnded}
+
+-- nothing may begin there, or the source is none
+abbrev pub RefusedForm : List ℕ → Ask → ℕ → List HostForm → List Note → Type 0
+RefusedForm name what lines hosts notes = FormByRefusal name (may_begin name (shown_forms lines hosts)) notes (UnfitNotes name what notes)
+
+abbrev pub Refuses : List ℕ → Ask → ℕ → Files → Session → List Note → Session → Type 0
+Refuses name what copied files old notes new = RefusesEvent files name what old notes new × (new.copied ≡ copied)
+
+pub record AskRefused (name : List ℕ) (what : Ask) (a : Around) : Type 0 where
+  pub adds : AddsForm (RefusedForm name what) a
+  pub keeps : Told (λ files start. Keeps (Refuses name what a.copied_now files) start) a
+
+-- the command begins: nothing stood against it, and now it runs
+pub record BegunForm (name : List ℕ) (what : Ask) (lines : ℕ) (hosts : List HostForm) (notes : List Note) : Type 0 where
+  pub free : may_begin name (shown_forms lines hosts) ≡ None
+  pub starts : StartForm NoMore name what lines hosts notes
+
+abbrev pub Starts : List ℕ → Ask → ℕ → Files → Session → List Note → Session → Type 0
+Starts name what copied files old notes new = IsBegun files name what old notes new × (new.copied ≡ copied)
+
+pub record AskBegun (name : List ℕ) (what : Ask) (a : Around) : Type 0 where
+  pub adds : AddsForm (BegunForm name what) a
+  pub keeps : Told (λ files start. Keeps (Starts name what a.copied_now files) start) a
+  pub number : number_in name a.new ≡ number_in name a.old
+  pub count_is : length a.new.hosts ≡ length a.old.hosts
+  pub runs : refusal_in (call.Finishes name) a.new a.lines ≡ None
+
+-- nothing was done
+abbrev pub Nothing : Session → List Note → Session → Type 0
+Nothing old notes new = (notes ≡ []) × (new ≡ old)
+
+pub record AskUndone (a : Around) : Type 0 where
+  pub adds : AddsForm (λ lines hosts notes. notes ≡ []) a
+  pub keeps : Told (λ files start. Keeps Nothing start) a
+
+abbrev pub AskSays : List ℕ → Ask → ShelfChange → Around → Result Asked EventFault → Type 0
+AskSays name what shelf a (Ok Begun) = AskBegun name what a
+AskSays name what shelf a (Ok Refused) = AskRefused name what a
+AskSays name what shelf a (Err fault.MkfsFailed) = ⊥
+AskSays name what shelf a (Err (fault.SourceEnded end)) = EventEnded (Begin name what) end a × HasEndCause shelf end
+AskSays name what shelf a (Err fault.OutOfMemory) = AskUndone a

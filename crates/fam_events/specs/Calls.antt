@@ -1,0 +1,72 @@
+-- What calls of the world come to, as parts of events.
+use Rattle.std.specs.Prelude.{◌≡◌, List, Result, Ok, Err}
+use Rattle.fam_journal.specs.declared.refusal.Refusal.{Refusal}
+use Rattle.fam_journal.specs.declared.refusal.Refusal.TheVariants as why
+use Rattle.fam_journal.specs.Calls.{BreaksOff, Call}
+use Rattle.fam_journal.specs.CallRecords.{DoesPart}
+use Rattle.fam_journal.specs.Events.{Calls, Session}
+use Rattle.fam_journal.specs.Forms.{BreaksForm, DoesForm, PartForm}
+use Rattle.fam_journal.specs.Notes.{Note}
+use Rattle.fam_events.specs.Around.{Around, AddsForm, Breaks, Keeps, Told}
+use Rattle.fam_events.specs.declared.fault.EventFault.{EventFault}
+use Rattle.fam_events.specs.declared.fault.EventFault.TheVariants as fault
+use Rattle.fam_world.specs.declared.fault.WorldFault.{WorldFault}
+use Rattle.fam_world.specs.declared.fault.WorldFault.TheVariants as world
+
+-- a refused call has noted that, and the run goes on
+abbrev pub outcome : Result (Unit {0}) WorldFault → Result (Unit {0}) EventFault
+outcome (Ok x) = Ok x
+outcome (Err (world.Refused cause)) = Ok tt
+outcome (Err world.OutOfMemory) = Err fault.OutOfMemory
+
+-- but behind a mkfs in which the media failed nothing goes on
+abbrev pub broken_by : Refusal → Result (Unit {0}) EventFault
+broken_by why.NoHost = Ok tt
+broken_by (why.SameHost host) = Ok tt
+broken_by why.TooManyHosts = Ok tt
+broken_by (why.BadGeometry unit log) = Ok tt
+broken_by (why.TooSmall need have) = Ok tt
+broken_by (why.ImageSmall lines) = Ok tt
+broken_by (why.Busy host) = Ok tt
+broken_by (why.Dirty host) = Ok tt
+broken_by (why.HasSuper uuid) = Ok tt
+broken_by why.Idle = Ok tt
+broken_by (why.NoLine at lines) = Ok tt
+broken_by (why.NoFile name) = Ok tt
+broken_by (why.CopyLimit sum) = Ok tt
+broken_by (why.BadListing at) = Ok tt
+broken_by (why.MediaFault at) = Err fault.MkfsFailed
+
+abbrev pub make_outcome : Result (Unit {0}) WorldFault → Result (Unit {0}) EventFault
+make_outcome (Ok x) = Ok x
+make_outcome (Err (world.Refused cause)) = broken_by cause
+make_outcome (Err world.OutOfMemory) = Err fault.OutOfMemory
+
+-- the row of a call, of sessions
+abbrev pub CallsPart : Call → Session → List Note → Session → Type 0
+CallsPart c old notes new = DoesPart c old.machines notes new.machines × (new.copied ≡ old.copied)
+
+abbrev pub CallsBreak : Call → Session → List Note → Session → Type 0
+CallsBreak c old notes new = BreaksOff c old.machines notes new.machines × (new.copied ≡ old.copied)
+
+-- the call did its row
+pub record CallDone (c : Call) (a : Around) : Type 0 where
+  pub adds : AddsForm (DoesForm c) a
+  pub keeps : Told (λ files start. Keeps (Calls c) start) a
+
+-- a mkfs was cut
+pub record CallBroken (c : Call) (a : Around) : Type 0 where
+  pub adds : AddsForm (BreaksForm c) a
+  pub keeps : Told (λ files start. Breaks (CallsBreak c) start) a
+
+-- no memory was left
+pub record CallPart (c : Call) (a : Around) : Type 0 where
+  pub adds : AddsForm (PartForm c) a
+  pub keeps : Told (λ files start. Keeps (CallsPart c) start) a
+
+-- by how it went
+abbrev pub CallSays : Call → Around → Result (Unit {0}) EventFault → Type 0
+CallSays c a (Ok x) = CallDone c a
+CallSays c a (Err fault.MkfsFailed) = CallBroken c a
+CallSays c a (Err (fault.SourceEnded end)) = ⊥
+CallSays c a (Err fault.OutOfMemory) = CallPart c a

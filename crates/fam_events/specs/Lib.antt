@@ -1,0 +1,5 @@
+pub mod Around
+pub mod Calls
+pub mod Happens
+pub mod Begins
+pub mod Steps

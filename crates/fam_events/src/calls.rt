@@ -1,0 +1,173 @@
+//! Calls of the world as parts of events: what was refused is noted, and the run goes on.
+
+ghost use Rattle.std.specs.Prelude.{◌≡◌, length, ℕ, Option};
+ghost use Rattle.fam_base.specs.Image.{Image};
+ghost use Rattle.fam_format.specs.Params.{IsUuid};
+ghost use Rattle.fam_journal.specs.Calls.{Declares, Finishes, Halts, Makes, Moves, Stops};
+ghost use Rattle.fam_journal.specs.CallRecords.{FitsMedia};
+ghost use Rattle.fam_journal.specs.Forms.{IsFormed};
+ghost use Rattle.fam_machine.specs.HostMoves as how;
+ghost use Rattle.fam_media.specs.Files.{Files};
+ghost use Rattle.fam_media.specs.Outside.{IfModelled};
+ghost use Rattle.fam_events.specs.Around.{around, still};
+ghost use Rattle.fam_events.specs.Calls.{CallSays, make_outcome, outcome};
+
+use crate::fault::EventFault;
+use fam_base::{HostName, LineNo, Mask};
+use fam_journal::Refusal;
+use fam_media::Media;
+use fam_world::{World, WorldFault};
+use uuid::Uuid;
+
+/// What a call comes to.
+pub(crate) fn noted(called: Result<(), WorldFault>) -> Result<(), EventFault>
+    ensures { result ≡ outcome called }
+{
+    match called {
+        Ok(()) => Ok(()),
+        Err(WorldFault::Refused(_)) => Ok(()),
+        Err(WorldFault::OutOfMemory) => Err(EventFault::OutOfMemory),
+    }
+}
+
+/// What a mkfs comes to: nothing goes on behind one in which the media failed.
+fn made(called: Result<(), WorldFault>) -> Result<(), EventFault>
+    ensures { result ≡ make_outcome called }
+{
+    match called {
+        Ok(()) => Ok(()),
+        Err(WorldFault::Refused(Refusal::MediaFault(_))) => Err(EventFault::MkfsFailed),
+        Err(WorldFault::Refused(_)) => Ok(()),
+        Err(WorldFault::OutOfMemory) => Err(EventFault::OutOfMemory),
+    }
+}
+
+/// Sixteen bytes may be those of a UUID.
+fn are_bytes(bytes: [u8; 16])
+    ensures { IsUuid bytes }
+{
+    let _ = bytes[0];
+}
+
+/// A UUID has sixteen bytes.
+fn is_uuid(id: Uuid)
+    ensures { IsUuid id }
+{
+    are_bytes(id.into_bytes());
+}
+
+/// Declares a host.
+pub(crate) fn declare(world: &mut World, name: &HostName, uuid: Uuid) -> Result<(), EventFault>
+    requires formed { IsFormed world.old }
+    ensures says { (lines : ℕ) (told : Option Image) (faults : ℕ) (files : Option Files) (copied : ℕ)
+        → IfModelled told (λ image. length image ≡ lines) → FitsMedia lines world.old.hosts
+        → CallSays (Declares name.now uuid) (still lines world.old world.new told faults files copied) result }
+{
+    is_uuid(uuid);
+    noted(world.host(name, uuid))
+}
+
+/// Ends a host's task.
+pub(crate) fn stop(world: &mut World, name: &HostName) -> Result<(), EventFault>
+    requires formed { IsFormed world.old }
+    ensures says { (lines : ℕ) (told : Option Image) (faults : ℕ) (files : Option Files) (copied : ℕ)
+        → IfModelled told (λ image. length image ≡ lines) → FitsMedia lines world.old.hosts
+        → CallSays (Stops name.now) (still lines world.old world.new told faults files copied) result }
+{
+    noted(world.stop(name))
+}
+
+/// Ends a host's task, and loses its cache.
+pub(crate) fn halt(world: &mut World, name: &HostName) -> Result<(), EventFault>
+    requires formed { IsFormed world.old }
+    ensures says { (lines : ℕ) (told : Option Image) (faults : ℕ) (files : Option Files) (copied : ℕ)
+        → IfModelled told (λ image. length image ≡ lines) → FitsMedia lines world.old.hosts
+        → CallSays (Halts name.now) (still lines world.old world.new told faults files copied) result }
+{
+    noted(world.halt(name))
+}
+
+/// A host makes a file system.
+pub(crate) fn make<M: Media>(
+    world: &mut World,
+    media: &mut M,
+    name: &HostName,
+    fs: Uuid,
+    unit: u64,
+    log: u64,
+    force: bool,
+) -> Result<(), EventFault>
+    requires formed { IsFormed world.old }
+    requires fits { FitsMedia (M.size media.old) world.old.hosts }
+    ensures says { (files : Option Files) (copied : ℕ) → CallSays (Makes name.now fs unit log force) (around M.image M.size M.faults
+        media.old media.new world.old world.new files copied copied) result }
+    ensures size { M.size media.new ≡ M.size media.old }
+{
+    is_uuid(fs);
+    made(world.mkfs(media, name, fs, unit, log, force))
+}
+
+/// A host's task runs to its answer.
+pub(crate) fn finish<M: Media>(
+    world: &mut World,
+    media: &mut M,
+    name: &HostName,
+) -> Result<(), EventFault>
+    requires formed { IsFormed world.old }
+    requires fits { FitsMedia (M.size media.old) world.old.hosts }
+    ensures says { (files : Option Files) (copied : ℕ) → CallSays (Finishes name.now) (around M.image M.size M.faults
+        media.old media.new world.old world.new files copied copied) result }
+    ensures size { M.size media.new ≡ M.size media.old }
+{
+    noted(world.finish(media, name))
+}
+
+/// A host's cache sends a line and drops it.
+pub(crate) fn evict<M: Media>(
+    world: &mut World,
+    media: &mut M,
+    name: &HostName,
+    line: LineNo,
+) -> Result<(), EventFault>
+    requires formed { IsFormed world.old }
+    requires fits { FitsMedia (M.size media.old) world.old.hosts }
+    ensures says { (files : Option Files) (copied : ℕ) → CallSays (Moves name.now line.0 how.Evict) (around M.image M.size M.faults
+        media.old media.new world.old world.new files copied copied) result }
+    ensures size { M.size media.new ≡ M.size media.old }
+{
+    noted(world.evict(media, name, line))
+}
+
+/// A host's cache sends some words of a line.
+pub(crate) fn leak<M: Media>(
+    world: &mut World,
+    media: &mut M,
+    name: &HostName,
+    line: LineNo,
+    mask: Mask,
+) -> Result<(), EventFault>
+    requires formed { IsFormed world.old }
+    requires fits { FitsMedia (M.size media.old) world.old.hosts }
+    ensures says { (files : Option Files) (copied : ℕ) → CallSays (Moves name.now line.0 (how.Leak mask.0)) (around M.image M.size M.faults
+        media.old media.new world.old world.new files copied copied) result }
+    ensures size { M.size media.new ≡ M.size media.old }
+{
+    noted(world.leak(media, name, line, mask))
+}
+
+/// A host's cache brings a line, or refreshes some words of it.
+pub(crate) fn fetch<M: Media>(
+    world: &mut World,
+    media: &mut M,
+    name: &HostName,
+    line: LineNo,
+    mask: Mask,
+) -> Result<(), EventFault>
+    requires formed { IsFormed world.old }
+    requires fits { FitsMedia (M.size media.old) world.old.hosts }
+    ensures says { (files : Option Files) (copied : ℕ) → CallSays (Moves name.now line.0 (how.Fetch mask.0)) (around M.image M.size M.faults
+        media.old media.new world.old world.new files copied copied) result }
+    ensures size { M.size media.new ≡ M.size media.old }
+{
+    noted(world.fetch(media, name, line, mask))
+}

@@ -1,0 +1,112 @@
+//! One event of a run.
+
+ghost use Rattle.std.specs.Prelude.{◌≡◌, ℕ, Option};
+ghost use Rattle.fam_base.specs.Image.{Image};
+ghost use Rattle.fam_grammar.specs.Sound.{IsSoundAsk, IsSoundEvent};
+ghost use Rattle.fam_journal.specs.declared.event.Event.TheVariants as event;
+ghost use Rattle.fam_journal.specs.CallRecords.{FitsMedia};
+ghost use Rattle.fam_journal.specs.Forms.{IsFormed};
+ghost use Rattle.fam_sources.specs.Whole.{IsShelfSteady, changed};
+ghost use Rattle.fam_events.specs.Around.{around};
+ghost use Rattle.fam_events.specs.Happens.{EventSays};
+
+use crate::asks::{Asked, ask};
+use crate::calls::{declare, evict, fetch, finish, halt, leak, make, stop};
+use crate::fault::EventFault;
+use crate::steps::step;
+use fam_base::HostName;
+use fam_journal::{Ask, Event};
+use fam_media::{Media, Shelf};
+use fam_world::World;
+use std::alloc::Global;
+
+/// A host begins what it is asked for.
+fn begin<M: Media, S: Shelf>(
+    alloc: Global,
+    world: &mut World,
+    media: &mut M,
+    shelf: &mut S,
+    copied: &mut u64,
+    name: HostName,
+    what: Ask,
+) -> Result<(), EventFault>
+    requires sound { IsSoundAsk what }
+    requires formed { IsFormed world.old }
+    requires fits { FitsMedia (M.size media.old) world.old.hosts }
+    ensures says { EventSays (event.Begin name what) (changed S.files S.faults S.shorts shelf.old shelf.new)
+        (around M.image M.size M.faults media.old media.new world.old world.new (S.files shelf.old) copied.old copied.new) result }
+    ensures same { media.new ≡ media.old }
+    ensures steady { IsShelfSteady S.files S.faults S.shorts shelf.old shelf.new }
+{
+    match ask(alloc, world, shelf, copied, media.lines(), &name, what) {
+        Ok(_) => Ok(()),
+        Err(fault) => Err(fault),
+    }
+}
+
+/// A host begins what it is asked for, and runs it to its answer.
+fn run<M: Media, S: Shelf>(
+    alloc: Global,
+    world: &mut World,
+    media: &mut M,
+    shelf: &mut S,
+    copied: &mut u64,
+    name: HostName,
+    what: Ask,
+) -> Result<(), EventFault>
+    requires sound { IsSoundAsk what }
+    requires formed { IsFormed world.old }
+    requires fits { FitsMedia (M.size media.old) world.old.hosts }
+    ensures says { EventSays (event.Run name what) (changed S.files S.faults S.shorts shelf.old shelf.new)
+        (around M.image M.size M.faults media.old media.new world.old world.new (S.files shelf.old) copied.old copied.new) result }
+    ensures size { M.size media.new ≡ M.size media.old }
+    ensures steady { IsShelfSteady S.files S.faults S.shorts shelf.old shelf.new }
+{
+    match ask(alloc, world, shelf, copied, media.lines(), &name, what) {
+        Ok(Asked::Refused) => Ok(()),
+        Ok(Asked::Begun) => finish(world, media, &name),
+        Err(fault) => Err(fault),
+    }
+}
+
+/// Does an event on a world, its media and the files of a shelf, and notes what comes of it. What is refused is noted
+/// too, and the run goes on. `copied` bytes of sources were read before, and are told behind it.
+///
+/// `MkfsFailed` comes where the media failed while a file system was made; `SourceEnded` where the shelf failed, or a
+/// source was short; `OutOfMemory` where no memory was left, and then an event that does operations may have done some.
+pub fn happen<M: Media, S: Shelf>(
+    alloc: Global,
+    world: &mut World,
+    media: &mut M,
+    shelf: &mut S,
+    copied: &mut u64,
+    event: Event,
+) -> Result<(), EventFault>
+    requires sound { IsSoundEvent event }
+    requires formed { IsFormed world.old }
+    requires fits { FitsMedia (M.size media.old) world.old.hosts }
+    ensures says { EventSays event (changed S.files S.faults S.shorts shelf.old shelf.new)
+        (around M.image M.size M.faults media.old media.new world.old world.new (S.files shelf.old) copied.old copied.new) result }
+    ensures size { M.size media.new ≡ M.size media.old }
+    ensures steady { IsShelfSteady S.files S.faults S.shorts shelf.old shelf.new }
+{
+    match event {
+        Event::Host(name, uuid) => declare(world, &name, uuid),
+        Event::Mkfs {
+            name,
+            fs,
+            unit,
+            log,
+            force,
+        } => make(world, media, &name, fs, unit, log, force),
+        Event::Begin(name, what) => begin(alloc, world, media, shelf, copied, name, what),
+        Event::Run(name, what) => run(alloc, world, media, shelf, copied, name, what),
+        Event::Step(name, count) => step(world, media, &name, count),
+        Event::Finish(name) => finish(world, media, &name),
+        Event::Stop(name) => stop(world, &name),
+        Event::Halt(name) => halt(world, &name),
+        Event::Evict(name, line) => evict(world, media, &name, line),
+        Event::Leak(name, line, mask) => leak(world, media, &name, line, mask),
+        Event::Fetch(name, line, mask) => fetch(world, media, &name, line, mask),
+    }
+}

@@ -1,0 +1,41 @@
+//! So many operations of a host's task.
+
+ghost use Rattle.std.specs.Prelude.{◌≡◌, ◌<◌, ℕ, Option, Ok};
+ghost use Rattle.fam_base.specs.Image.{Image};
+ghost use Rattle.fam_journal.specs.declared.event.Event.TheVariants.{Step};
+ghost use Rattle.fam_journal.specs.CallRecords.{FitsMedia};
+ghost use Rattle.fam_journal.specs.Forms.{IsFormed};
+ghost use Rattle.fam_media.specs.Files.{Files};
+ghost use Rattle.fam_sources.specs.Whole.{ShelfChange};
+ghost use Rattle.fam_events.specs.Around.{around};
+ghost use Rattle.fam_events.specs.Happens.{EventSays};
+
+use crate::fault::EventFault;
+use fam_base::HostName;
+use fam_media::Media;
+use fam_world::{Moved, World, WorldFault};
+
+/// Does so many operations of a host's task, or fewer where it answers.
+pub(crate) fn step<M: Media>(
+    world: &mut World,
+    media: &mut M,
+    name: &HostName,
+    count: u64,
+) -> Result<(), EventFault>
+    requires some { 0 < count }
+    requires formed { IsFormed world.old }
+    requires fits { FitsMedia (M.size media.old) world.old.hosts }
+    ensures says { (shelf : ShelfChange) (files : Option Files) (copied : ℕ) → EventSays (Step name.now count) shelf
+        (around M.image M.size M.faults media.old media.new world.old world.new files copied copied) result }
+    ensures size { M.size media.new ≡ M.size media.old }
+{
+    'operations: for _ in 0..count {
+        match world.step(media, name) {
+            Ok(Moved::Going) => {}
+            Ok(Moved::Answered) => return Ok(()),
+            Err(WorldFault::Refused(_)) => return Ok(()),
+            Err(WorldFault::OutOfMemory) => return Err(EventFault::OutOfMemory),
+        }
+    }
+    Ok(())
+}
