@@ -1,0 +1,9 @@
+pub mod Following
+pub mod Going
+pub mod Ending
+pub mod Putting
+pub mod Scripting
+pub mod Naming
+pub mod Loops
+pub mod Turning
+pub mod Reading

@@ -1,0 +1,5 @@
+pub mod Far
+pub mod Runs
+pub mod Puts
+pub mod Reading
+pub mod Scripts

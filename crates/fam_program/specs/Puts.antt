@@ -1,0 +1,41 @@
+-- What is put behind what was put before.
+use Rattle.std.specs.Prelude.{ℕ, ◌≡◌, ◌⊎◌, List, Option, option_map}
+use Rattle.fam_media.specs.Causes.{Rose}
+use Rattle.fam_media.specs.Outside.{IsPartlyPut, with_piece}
+use Rattle.fam_journal.specs.declared.status.Status.{Status}
+use Rattle.fam_journal.specs.declared.status.Status.TheVariants as status
+use Rattle.fam_journal.specs.Programs.{memory_line, source_line}
+use Rattle.fam_sources.specs.Sourced.{end_of}
+use Rattle.fam_events.specs.declared.fault.EventFault.{EventFault}
+use Rattle.fam_events.specs.declared.fault.EventFault.TheVariants as fault
+
+-- a sink from one state to another: the bytes, where they are modelled, and its count of faults
+pub record SinkChange : Type 0 where
+  pub bytes : Option (List ℕ)
+  pub bytes_now : Option (List ℕ)
+  pub faults : ℕ
+  pub faults_now : ℕ
+
+abbrev pub sink_changed : {K : Type 0} → (K → Option (List ℕ)) → (K → ℕ) → K → K → SinkChange
+sink_changed bytes faults old now = record { bytes = bytes old; bytes_now = bytes now; faults = faults old; faults_now = faults now }
+
+-- a text was put whole
+abbrev pub PutWhole : List ℕ → SinkChange → Type 0
+PutWhole text s = s.bytes_now ≡ option_map (with_piece text) s.bytes
+
+-- or a part of it, where the sink failed
+pub record PutPart (text : List ℕ) (s : SinkChange) : Type 0 where
+  pub part : IsPartlyPut s.bytes s.bytes_now text
+  pub rose : Rose s.faults s.faults_now
+
+-- with its own status, or with that of a sink that failed
+abbrev pub Put : Status → List ℕ → SinkChange → Status → Type 0
+Put own text s given = ((given ≡ own) × PutWhole text s) ⊎ ((given ≡ status.SinkFault) × PutPart text s)
+
+-- What is put where an event ends the run: the notes of a mkfs in which the media failed, or how a source ended; or that no memory
+-- was left, in place of either.
+abbrev pub StopSays : EventFault → List ℕ → SinkChange → Status → Type 0
+StopSays fault.MkfsFailed notes s given = Put status.MediaFault notes s given ⊎ Put status.OutOfMemory memory_line s given
+StopSays (fault.SourceEnded end) notes s given =
+    Put status.SourceFault (source_line (end_of end)) s given ⊎ Put status.OutOfMemory memory_line s given
+StopSays fault.OutOfMemory notes s given = Put status.OutOfMemory memory_line s given

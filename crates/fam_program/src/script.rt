@@ -1,0 +1,80 @@
+//! Scripts: events are run in their order, and the notes of each are put when it is done.
+
+ghost use Rattle.std.specs.Prelude.{◌≡◌, ◌≤◌};
+ghost use Rattle.fam_media.specs.Causes.{IsSteady};
+ghost use Rattle.fam_sources.specs.Whole.{IsShelfSteady, changed};
+ghost use Rattle.fam_media.specs.Outside.{IfModelled};
+ghost use Rattle.fam_journal.specs.Laws.{IsImage};
+ghost use Rattle.fam_journal.specs.Statuses.{good_status, is_good};
+ghost use Rattle.fam_program.specs.Far.{AreSoundEvents};
+ghost use Rattle.fam_program.specs.Scripts.{ScriptRan};
+ghost use Rattle.fam_program.specs.Runs.{outside_of};
+ghost use Rattle.fam_program.specs.Puts.{sink_changed};
+
+use crate::fault::PutFault;
+use crate::lines::MEMORY;
+use crate::puts::{put_line, put_notes, put_stop};
+use fam_events::happen;
+use fam_journal::{Event, Status};
+use fam_media::{Media, Shelf, Sink};
+use fam_outcomes::is_good;
+use fam_world::World;
+use std::alloc::Global;
+
+/// The status of events that were run to their end.
+fn end_status(world: &World) -> Status
+    ensures { result ≡ good_status (is_good world.now.journal) }
+{
+    if is_good(world.journal()) {
+        Status::Done
+    } else {
+        Status::Refused
+    }
+}
+
+/// An image has at most 1 TiB, and lines of eight words. A call does nothing.
+fn is_image<M: Media>(media: &M)
+    ensures { IfModelled (M.image media.now) IsImage }
+{
+    let _ = media.lines();
+}
+
+/// Runs events in their order on a media, with sources from a shelf, and puts the notes of each event in one piece when
+/// it is done.
+///
+/// The run ends early where the media fails in a mkfs, a source can't be read to its end, no memory is left, or the
+/// sink fails; the text says so behind the notes, but for a sink that failed.
+pub fn run_script<M: Media, S: Shelf, K: Sink>(
+    alloc: Global,
+    events: Vec<Event>,
+    media: &mut M,
+    shelf: &mut S,
+    out: &mut K,
+) -> Status
+    requires sound { AreSoundEvents events.items }
+    ensures ran { ScriptRan events.items (outside_of M.size M.image M.faults media.old media.new
+        (changed S.files S.faults S.shorts shelf.old shelf.new) (sink_changed K.bytes K.faults out.old out.new)) result }
+    ensures steady { IsSteady M.size M.faults media.old media.new }
+    ensures shelf { IsShelfSteady S.files S.faults S.shorts shelf.old shelf.new }
+    ensures later { K.faults out.old ≤ K.faults out.new }
+{
+    is_image(media);
+    let mut world = World::new(alloc);
+    let mut copied = 0;
+    let mut names = Vec::new(alloc);
+    'events: for event in events {
+        let from = world.journal().len();
+        match happen(alloc, &mut world, media, shelf, &mut copied, event) {
+            Ok(()) => {}
+            Err(fault) => return put_stop(alloc, &world, from, &mut names, fault, out),
+        }
+        match put_notes(alloc, &world, from, &mut names, out) {
+            Ok(()) => {}
+            Err(PutFault::Sink) => return Status::SinkFault,
+            Err(PutFault::OutOfMemory) => {
+                return put_line(out, Status::OutOfMemory, MEMORY.as_bytes());
+            }
+        }
+    }
+    end_status(&world)
+}
