@@ -3,4 +3,5 @@ pub mod Left
 pub mod Running
 pub mod Held
 pub mod Compared
+pub mod Checked
 pub mod Expected

@@ -41,7 +41,10 @@ pub(crate) fn compare_next<M: Media>(
     task.is_sound();
     let op = task.next();
     match cache.perform(media, op) {
-        Ok(word) => Ok(task.compare(word)),
+        Ok(word) => match task.compare(word) {
+            None => Ok(None),
+            Some(ended) => Ok(Some(ended.answer())),
+        },
         Err(OperationFault::MediaFault(line)) => Ok(Some(Answer::MediaFault(line))),
         Err(OperationFault::OutOfMemory) => Err(OutOfMemory),
     }

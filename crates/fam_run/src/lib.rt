@@ -4,6 +4,7 @@
 //! `specs/Run.antt` what a command that runs alone has done when it ends.
 #![tactic(auto)]
 
+mod checking;
 mod comparing;
 mod operation;
 mod reading;

@@ -19,6 +19,7 @@ ghost use Rattle.fam_machine.specs.Caches.{Cache};
 ghost use Rattle.fam_commands.specs.Task.{op_of};
 ghost use Rattle.fam_run.specs.Run.{HasLeft, HasStopped, Ran, Running, fault_of};
 
+use crate::checking::check_next;
 use crate::comparing::compare_next;
 use crate::operation::operate;
 use crate::reading::read_next;
@@ -74,7 +75,8 @@ fn any_operation<M: Media>(
     }
 }
 
-/// As `any_operation`, and does a load of the last word of a line that is compared with no turn.
+/// As `any_operation`, and does a load of the last word of a line that is compared, and the Digest of a slot, with no
+/// turn.
 #[inline(never)]
 fn other_operation<M: Media>(
     cache: &mut HostCache,
@@ -100,9 +102,11 @@ fn other_operation<M: Media>(
     ensures steady { IsSteady M.size M.faults media.old media.new }
 {
     if task.compares() {
-        compare_next(cache, task, media)
-    } else {
-        any_operation(cache, task, media)
+        return compare_next(cache, task, media);
+    }
+    match task.checked() {
+        Some(slot) => check_next(cache, task, media, slot),
+        None => any_operation(cache, task, media),
     }
 }
 

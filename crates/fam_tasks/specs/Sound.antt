@@ -75,7 +75,7 @@ pub record IsAtLine (part : Part) (j : ℕ) (t : Task) : Type 0 where
   pub line : IsLine part j t
   pub few : kept_before t.cmd part j + line_words ≤ most_words
 
--- what is known in a phase. A task that has answered stands in the last phase
+-- what is known in a phase. A task that has answered is asked for nothing more, whatever its phase is
 abbrev pub IsSoundAt : Phase → Task → Type 0
 IsSoundAt at.DropMagic t = ⊤
 IsSoundAt at.Magic t = ⊤

@@ -1,6 +1,7 @@
 -- How a turn that a call gives tells the one of the definition.
 use Rattle.std.specs.Prelude.{ℕ, ◌≡◌, ◌||◌, nat_lt, Bool, true, false, Option, Some, None}
 use Rattle.fam_format.specs.Line.{last_word}
+use Rattle.fam_format.specs.declared.faults.Reason.{Reason}
 use Rattle.fam_rules.specs.Reply.{Reply}
 use Rattle.fam_machine.specs.declared.op.Op.{Op}
 use Rattle.fam_machine.specs.declared.op.Op.TheVariants.{Load, Store, WriteBack, Invalidate, Digest}
@@ -11,6 +12,9 @@ use Rattle.fam_commands.specs.declared.phase.Phase.TheVariants as at
 use Rattle.fam_commands.specs.Task.{Task}
 use Rattle.fam_commands.specs.Turns as turns
 use Rattle.fam_tasks.specs.declared.answer.Answer.{Answer}
+use Rattle.fam_tasks.specs.declared.answer.Answer.TheVariants as answer
+use Rattle.fam_tasks.specs.declared.answer.Verified.{Verified}
+use Rattle.fam_tasks.specs.declared.answer.Verified.TheVariants as verified
 use Rattle.fam_tasks.specs.declared.answer.Turn.{Turn}
 use Rattle.fam_tasks.specs.declared.answer.Turn.TheVariants.{Go, Note, Done}
 use Rattle.fam_tasks.specs.declared.answer.TaskNote.TheVariants.{Mark, Found, Writes}
@@ -64,13 +68,23 @@ is_reading (at.SendSlot j) = true
 is_reading at.StoreGate = true
 is_reading at.SendGate = false
 
+-- the answer of a file that was compared to its end
+abbrev pub answer_by : Verified → Answer
+answer_by (verified.Same m) = answer.Same m
+answer_by (verified.Differs m offset found wanted) = answer.Differs m offset found wanted
+
 -- the turn of a task that ends with this answer, or just goes on
-abbrev pub turn_by : Option Answer → Turn
+abbrev pub turn_by : Option Verified → Turn
 turn_by None = Go
-turn_by (Some answer) = Done answer
+turn_by (Some ended) = Done (answer_by ended)
 
 -- the next operation loads the last word of a line of a file that is compared
 pub record IsCompared (t : Task) : Type 0 where
   pub j : ℕ
   pub phase : t.phase ≡ at.Word part.File j last_word
   pub verify : IsVerify t.cmd
+
+-- the turn of a task that ends with slot i for this reason, or just goes on
+abbrev pub slot_turn_by : ℕ → Option Reason → Turn
+slot_turn_by i None = Go
+slot_turn_by i (Some reason) = Done (answer.BadEntry i reason)

@@ -19,7 +19,7 @@ mod task;
 mod tests;
 mod wanted;
 
-pub use answer::{Answer, TaskNote, Turn};
+pub use answer::{Answer, TaskNote, Turn, Verified};
 pub use byte_text::ByteText;
 pub use fam_machine::Op;
 pub use task::Task;

@@ -1,6 +1,6 @@
 //! A task: a command, its phase, and what it has read. Its turns stand in the files of `task/`.
 
-ghost use Rattle.std.specs.Prelude.{◌≡◌, ◌≢◌, ◌≤◌, ◌<◌, nat_lt, if◌then◌else◌, true, false, None, IfOk, OnErr};
+ghost use Rattle.std.specs.Prelude.{◌≡◌, ◌≢◌, ◌≤◌, ◌<◌, nat_lt, if◌then◌else◌, true, false, None, IfOk, IfSome, OnErr};
 ghost use Rattle.fam_base.specs.Commands.{IsSoundCmd};
 ghost use Rattle.fam_base.specs.declared.line.LineNo.{LineNo};
 ghost use Rattle.fam_format.specs.Layout.{least_lines};
@@ -244,7 +244,7 @@ impl Task {
         ensures err { OnErr result (self.new ≡ self.old) }
     {
         match self.phase {
-            Phase::Check { slot } => self.check_slot(slot),
+            Phase::Check { slot } => self.digest_slot(slot),
             Phase::Decide => self.decide(),
             Phase::DropMagic
             | Phase::Magic
@@ -258,6 +258,17 @@ impl Task {
             | Phase::SendSlot { .. }
             | Phase::StoreGate
             | Phase::SendGate => unreachable!(),
+        }
+    }
+
+    /// The slot whose words the next operation looks at, if it does.
+    #[inline(always)]
+    pub fn checked(&self) -> Option<u64>
+        ensures { IfSome result (λ slot. self.now.phase ≡ at.Check slot) }
+    {
+        match self.phase {
+            Phase::Check { slot } => Some(slot),
+            _ => None,
         }
     }
 

@@ -11,7 +11,7 @@ ghost use Rattle.fam_tasks.specs.Commands.{IsRead, IsVerify};
 ghost use Rattle.fam_tasks.specs.Tells.{IsCompared, Tells, turn_by};
 
 use super::{Task, done};
-use crate::answer::{Answer, Turn};
+use crate::answer::{Answer, Turn, Verified};
 use crate::byte_text::ByteText;
 use crate::slots::count;
 use crate::wanted::{wanted_lines, wanted_start};
@@ -22,11 +22,11 @@ use fam_format::{LAST_WORD, LINE_BYTES};
 use std::mem::replace;
 
 /// The turn of a task that ends with this answer, or just goes on.
-fn turn_with(answer: Option<Answer>) -> Turn
-    ensures { result ≡ turn_by answer }
+fn turn_with(ended: Option<Verified>) -> Turn
+    ensures { result ≡ turn_by ended }
 {
-    match answer {
-        Some(answer) => Turn::Done(answer),
+    match ended {
+        Some(ended) => Turn::Done(ended.answer()),
         None => Turn::Go,
     }
 }
@@ -49,7 +49,7 @@ impl Task {
 
     /// Does what `feed` does with that word: the task ends with the answer, if there is one, and else it goes on.
     #[inline(always)]
-    pub fn compare(&mut self, word: Option<u64>) -> Option<Answer>
+    pub fn compare(&mut self, word: Option<u64>) -> Option<Verified>
         requires { IsCompared self.old }
         ensures { Tells (turn_of self.old word) (turn_by result) self.new }
     {
@@ -84,7 +84,7 @@ impl Task {
     }
 
     /// A line of a file that is compared was loaded: the answer, where the task ends with it.
-    pub(super) fn compare_line(&mut self, line: u64, word: u64) -> Option<Answer>
+    pub(super) fn compare_line(&mut self, line: u64, word: u64) -> Option<Verified>
         requires phase { self.old.phase ≡ at.Word part.File line last_word }
         requires verify { IsVerify self.old.cmd }
         ensures { Tells (turns.file_turn self.old.cmd (turns.with_word self.old word) line)
@@ -99,7 +99,7 @@ impl Task {
         match compare(&found, self.contents.line(), LINE_BYTES * line, size) {
             Some((offset, found, wanted)) => {
                 self.phase = Phase::SendGate;
-                Some(Answer::Differs {
+                Some(Verified::Differs {
                     m,
                     offset,
                     found,
@@ -116,7 +116,7 @@ impl Task {
                     None
                 } else {
                     self.phase = Phase::SendGate;
-                    Some(Answer::Same { m })
+                    Some(Verified::Same { m })
                 }
             }
         }

@@ -1,20 +1,22 @@
-use Rattle.std.proofs.Common.{inl, inr}
+use Rattle.std.proofs.Common.{Option, Some, None, inr, subst}
 use Rattle.fam_commands.specs.Turns.{turn_of}
-use Rattle.fam_tasks.specs.Tells.{turn_by}
-use Rattle.fam_run.proofs.Compared.{ended_by, fault_answered, told_no_fault}
-use Rattle.fam_run.proofs.Operations.{goes_by_word, turned}
+use Rattle.fam_tasks.specs.declared.answer.Verified.{Verified}
+use Rattle.fam_tasks.specs.Tells.{Tells, turn_by}
+use Rattle.fam_run.proofs.Compared.{compared, fault_answered}
 use Rattle.fam_run.proofs.comparing.compare_next.Goals as goal
 
-pub returns-in-Ok-clause-operated : goal.returns-in-Ok-clause-operated
-returns-in-Ok-clause-operated g c =
-    let turn = turn_by c.compare.result in
-    inl record {
-      turn = turn;
-      ends = ended_by c.compare.result;
-      turned = turned c.args.task.now c.compare.new.self c.next-op.result c.in-Ok.word turn _ _ _ _ c.next-op.ensures.op c.in-Ok.ensures.operated c.in-Ok.ensures.given c.compare.ensures;
-      goes = goes_by_word c.args.task.now c.compare.new.self c.next-op.result c.in-Ok.word turn _ c.next-op.ensures.op c.in-Ok.ensures.word c.compare.ensures;
-      own = told_no_fault (turn_of c.args.task.now c.in-Ok.word) turn c.compare.new.self c.compare.ensures;
-    }
+pub returns-in-None-clause-operated : goal.returns-in-None-clause-operated
+returns-in-None-clause-operated g c =
+    let ok = c.in-Ok in
+    compared c.args.task.now c.compare.new.self c.next-op.result ok.word None _ _ _ _ _ _ _ c.next-op.ensures.op ok.ensures.operated ok.ensures.given ok.ensures.word
+    (subst (λ (v : Option Verified). Tells (turn_of c.args.task.now c.in-Ok.word) (turn_by v) c.compare.new.self) c.in-None.is c.compare.ensures)
+
+pub returns-in-Some-clause-operated : goal.returns-in-Some-clause-operated
+returns-in-Some-clause-operated g c =
+    let ok = c.in-Ok in
+    rw c.answer.ensures
+    (compared c.args.task.now c.compare.new.self c.next-op.result ok.word (Some c.in-Some.ended) _ _ _ _ _ _ _ c.next-op.ensures.op ok.ensures.operated ok.ensures.given ok.ensures.word
+    (subst (λ (v : Option Verified). Tells (turn_of c.args.task.now c.in-Ok.word) (turn_by v) c.compare.new.self) c.in-Some.is c.compare.ensures))
 
 pub returns-in-Err-MediaFault-clause-operated : goal.returns-in-Err-MediaFault-clause-operated
 returns-in-Err-MediaFault-clause-operated g c =
