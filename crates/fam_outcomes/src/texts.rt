@@ -52,8 +52,13 @@ fn declare(note: &Note, names: &mut Vec<HostName>) -> Result<(), OutOfMemory>
     }
 }
 
-/// A note in print, and the name of the host that it declares behind those declared before.
-fn next_line(alloc: Global, note: &Note, names: &mut Vec<HostName>) -> Result<Vec<u8>, OutOfMemory>
+/// A note in print, with its further lines. `names` are those of the hosts that were declared before it, in their order;
+/// the name of a host that it declares is added. On `OutOfMemory` nothing is said of them.
+pub fn note_line(
+    alloc: Global,
+    note: &Note,
+    names: &mut Vec<HostName>,
+) -> Result<Vec<u8>, OutOfMemory>
     requires { IsNamed (length names.old.items) (note_view note.now) }
     ensures line { IfOk result (λ line. line.items ≡ text.note_line names.old.items (note_view note.now)) }
     ensures names { OnOk result (names.new.items ≡ text.names_after names.old.items (note_view note.now)) }
@@ -76,7 +81,7 @@ pub fn print_notes(
 {
     let mut lines = Vec::new(alloc);
     'notes: for note in notes {
-        let line = next_line(alloc, note, names)?;
+        let line = note_line(alloc, note, names)?;
         put(line.as_slice(), &mut lines)?;
     }
     Ok(lines)
@@ -90,7 +95,7 @@ pub fn text_crc(alloc: Global, notes: &[Note]) -> Result<u32, OutOfMemory>
     let mut names = Vec::new(alloc);
     let mut crc = 0;
     'notes: for note in notes {
-        let line = next_line(alloc, note, &mut names)?;
+        let line = note_line(alloc, note, &mut names)?;
         crc = crc_more(crc, line.as_slice());
     }
     Ok(crc)

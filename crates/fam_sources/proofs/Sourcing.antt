@@ -81,10 +81,10 @@ module _ (change : ShelfChange) (copied : ℕ) (name : List ℕ) where
   no_file none what is = record { form = is; says = λ files at. absent_says files name copied what is (none files at) }
 
   -- it has too many bytes
-  pub too_long : (sum : ℕ) → copy_limit < sum → HoldsBytes change.files name (λ bytes. sum ≡ sum_of copied (length bytes)) → IsAbsent change copied name (why.CopyLimit sum)
+  pub too_long : (sum : ℕ) → copy_limit < sum → HoldsBytes change.files name (λ bytes. (sum ≡ sum_of copied (length bytes)) × (length bytes < 2 ^ 64)) → IsAbsent change copied name (why.CopyLimit sum)
   too_long sum over holds what is = record {
     form = (name, is);
-    says = λ files at. let h = holds files at in long_says files name h.0 copied sum what is h.1 h.2 over;
+    says = λ files at. let h = holds files at in long_says files name h.0 copied sum what is h.1 h.2.0 over;
   }
 
   -- the shelf failed

@@ -34,13 +34,14 @@ HoldsBytes files name P = IfModelled files (λ files. (bytes : List ℕ) × (map
 abbrev pub sum_of : ℕ → ℕ → ℕ
 sum_of copied size = min (copied + size) (2 ^ 64 - 1)
 
--- the bytes are the file's, and within the limit; or each fault has its cause
+-- the bytes are the file's, and within the limit; or each fault has its cause. A file has fewer than 2 ^ 64 bytes, so with none of
+-- others the sum is its size
 abbrev pub WholeSays : ShelfChange → Wanted → Result (List ℕ) WholeFault → Type 0
 WholeSays change w (Ok bytes) =
     (w.copied + length bytes ≤ w.limit) × IfModelled change.files (λ files. map.get files w.name ≡ Some bytes)
 WholeSays change w (Err NoFile) = IfModelled change.files (λ files. map.get files w.name ≡ None)
 WholeSays change w (Err (TooLong sum)) =
-    (w.limit < sum) × HoldsBytes change.files w.name (λ bytes. sum ≡ sum_of w.copied (length bytes))
+    (w.limit < sum) × HoldsBytes change.files w.name (λ bytes. (sum ≡ sum_of w.copied (length bytes)) × (length bytes < 2 ^ 64))
 WholeSays change w (Err Faulted) = Rose change.faults change.faults_now
 WholeSays change w (Err (Short size got)) =
     (got < size) × (w.copied + size ≤ w.limit) × Rose change.shorts change.shorts_now

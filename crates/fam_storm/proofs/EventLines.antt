@@ -13,6 +13,7 @@ use Rattle.fam_base.specs.HostNames.{is_host_name}
 use Rattle.fam_journal.specs.declared.event.Ask.TheVariants as ask
 use Rattle.fam_journal.specs.declared.event.Event.{Event}
 use Rattle.fam_journal.specs.declared.event.Event.TheVariants as event
+use Rattle.fam_journal.specs.Events.{event_source}
 use Rattle.fam_grammar.specs.Keywords.{event_word, command_word}
 use Rattle.fam_grammar.specs.Lines.{ask_line, creat_takes, event_line}
 use Rattle.fam_rules.specs.Content.{stream_state}
@@ -151,18 +152,20 @@ event_of first rest e good plain reads =
           ∙ ap event_or_column (reads end),
     )
 
--- such a line, in which no line feed ends it early
+-- such a line, in which no line feed ends it early; and its event reads no source
 pub record IsWholeLine (words : Words) : Type 0 where
   pub event : IsEventLine words
   pub feed : No 10 (line_text words)
+  pub source : event_source event.0 ≡ None
 
 abbrev Begins : Words → Type 0
 Begins [] = ⊥
 Begins (first ∷ rest) = (slice_index first 0 == 35) ≡ false
 
-event_is : (words : Words) (e : Event) → AreGood words → Begins words → ((end : ℕ) → event_line end (placed 1 words) ≡ Reads e []) → IsWholeLine words
-event_is [] e good begins reads = absurd begins
-event_is (first ∷ rest) e good begins reads = record { event = event_of first rest e good begins reads; feed = no_feed (first ∷ rest) good }
+event_is : (words : Words) (e : Event) → AreGood words → Begins words → event_source e ≡ None → ((end : ℕ) → event_line end (placed 1 words) ≡ Reads e []) → IsWholeLine words
+unfolding event_of
+event_is [] e good begins source reads = absurd begins
+event_is (first ∷ rest) e good begins source reads = record { event = event_of first rest e good begins reads; feed = no_feed (first ∷ rest) good; source = source }
 
 -- The master's lines.
 
@@ -170,7 +173,7 @@ mkdir_line : (i : ℕ) → i < 2 ^ 64 → IsWholeLine (mkdir_words i)
 unfolding event_line event_word ask_line command_word is_host_name AreGood
 mkdir_line i small =
     event_is (mkdir_words i) (event.Run (codes "m") (ask.Plain (cmd.Mkdir (codes "d" ++ decimal i) (record { mode = 0x1ed; uid = 0; gid = 0 }))))
-    (literal _ _ refl, (literal _ _ refl, (literal _ _ refl, (numbered 100 [] i refl small, tt)))) refl
+    (literal _ _ refl, (literal _ _ refl, (literal _ _ refl, (numbered 100 [] i refl small, tt)))) refl refl
     (λ end. rw (path_read 100 i refl small) refl)
 
 -- an option's word fits, or it doesn't
@@ -189,14 +192,14 @@ creat_line : (i size : ℕ) → i < 2 ^ 64 → size < 2 ^ 64 → IsWholeLine (cr
 unfolding event_line event_word ask_line command_word is_host_name file_option_of AreGood
 creat_line i size small short =
     event_is (creat_words i size) (event.Run (codes "m") (ask.Plain (cmd.Creat (codes "f" ++ decimal i) size (record { mode = 0x1a4; uid = 0; gid = 0 }) None (content.Seed i))))
-    (literal _ _ refl, (literal _ _ refl, (literal _ _ refl, (numbered 102 [] i refl small, (number size short, (numbered 115 (codes "eed=") i refl small, tt)))))) refl
+    (literal _ _ refl, (literal _ _ refl, (literal _ _ refl, (numbered 102 [] i refl small, (number size short, (numbered 115 (codes "eed=") i refl small, tt)))))) refl refl
     (λ end. rw (path_read 102 i refl small, size-decimal size short, seed_read (13 + length (102 ∷ decimal i) + 1 + length (decimal size) + 1) i small) refl)
 
 begun_line : (i size : ℕ) → i < 2 ^ 64 → size < 2 ^ 64 → IsWholeLine (begun_words i size)
 unfolding event_line event_word ask_line command_word is_host_name file_option_of AreGood
 begun_line i size small short =
     event_is (begun_words i size) (event.Begin (codes "m") (ask.Plain (cmd.Creat (codes "g" ++ decimal i) size (record { mode = 0x1a4; uid = 0; gid = 0 }) None (content.Seed i))))
-    (literal _ _ refl, (literal _ _ refl, (literal _ _ refl, (numbered 103 [] i refl small, (number size short, (numbered 115 (codes "eed=") i refl small, tt)))))) refl
+    (literal _ _ refl, (literal _ _ refl, (literal _ _ refl, (numbered 103 [] i refl small, (number size short, (numbered 115 (codes "eed=") i refl small, tt)))))) refl refl
     (λ end. rw (path_read 103 i refl small, size-decimal size short, seed_read (15 + length (103 ∷ decimal i) + 1 + length (decimal size) + 1) i small) refl)
 
 some_steps : (count : ℕ) → (count == 0) ≡ false → count < 1000000001 → steps_of (decimal count) ≡ Some count
@@ -206,7 +209,7 @@ step_line : (count : ℕ) → (count == 0) ≡ false → count < 1000000001 → 
 unfolding event_line event_word is_host_name AreGood
 step_line count some few =
     event_is (step_words count) (event.Step (codes "m") count)
-    (literal _ _ refl, (literal _ _ refl, (number count (omega (arith, few)), tt))) refl
+    (literal _ _ refl, (literal _ _ refl, (number count (omega (arith, few)), tt))) refl refl
     (λ end. rw (some_steps count some few) refl)
 
 small_mask : (mask : ℕ) → mask < 256 → mask_of (decimal mask) ≡ Some mask
@@ -216,27 +219,27 @@ leak_line : (line mask : ℕ) → line < 2 ^ 64 → mask < 256 → IsWholeLine (
 unfolding event_line event_word is_host_name AreGood
 leak_line line mask small few =
     event_is (leak_words line mask) (event.Leak (codes "m") (record { 0 = line }) (record { 0 = mask }))
-    (literal _ _ refl, (literal _ _ refl, (number line small, (number mask (omega (arith, few)), tt)))) refl
+    (literal _ _ refl, (literal _ _ refl, (number line small, (number mask (omega (arith, few)), tt)))) refl refl
     (λ end. rw (number-decimal line small, small_mask mask few) refl)
 
 evict_line : (line : ℕ) → line < 2 ^ 64 → IsWholeLine (evict_words line)
 unfolding event_line event_word is_host_name AreGood
 evict_line line small =
     event_is (evict_words line) (event.Evict (codes "m") (record { 0 = line }))
-    (literal _ _ refl, (literal _ _ refl, (number line small, tt))) refl
+    (literal _ _ refl, (literal _ _ refl, (number line small, tt))) refl refl
     (λ end. rw (number-decimal line small) refl)
 
 stop_line : IsWholeLine (codes "stop" ∷ codes "m" ∷ [])
 unfolding event_line event_word is_host_name AreGood
-stop_line = event_is (codes "stop" ∷ codes "m" ∷ []) (event.Stop (codes "m")) (literal _ _ refl, (literal _ _ refl, tt)) refl (λ end. refl)
+stop_line = event_is (codes "stop" ∷ codes "m" ∷ []) (event.Stop (codes "m")) (literal _ _ refl, (literal _ _ refl, tt)) refl refl (λ end. refl)
 
 halt_line : IsWholeLine (codes "halt" ∷ codes "m" ∷ [])
 unfolding event_line event_word is_host_name AreGood
-halt_line = event_is (codes "halt" ∷ codes "m" ∷ []) (event.Halt (codes "m")) (literal _ _ refl, (literal _ _ refl, tt)) refl (λ end. refl)
+halt_line = event_is (codes "halt" ∷ codes "m" ∷ []) (event.Halt (codes "m")) (literal _ _ refl, (literal _ _ refl, tt)) refl refl (λ end. refl)
 
 gate_line : IsWholeLine (codes "evict" ∷ codes "m" ∷ codes "32769" ∷ [])
 unfolding event_line event_word is_host_name number_of_text AreGood
-gate_line = event_is (codes "evict" ∷ codes "m" ∷ codes "32769" ∷ []) (event.Evict (codes "m") (record { 0 = 32769 })) (literal _ _ refl, (literal _ _ refl, (literal _ _ refl, tt))) refl (λ end. refl)
+gate_line = event_is (codes "evict" ∷ codes "m" ∷ codes "32769" ∷ []) (event.Evict (codes "m") (record { 0 = 32769 })) (literal _ _ refl, (literal _ _ refl, (literal _ _ refl, tt))) refl refl (λ end. refl)
 
 -- Clients' lines.
 
@@ -261,40 +264,40 @@ logplay_line : (j : ℕ) → j < 3 → IsWholeLine (logplay_words j)
 unfolding event_line event_word ask_line command_word AreGood
 logplay_line j few =
     event_is (logplay_words j) (event.Run (client j) (ask.Plain cmd.Logplay))
-    (literal _ _ refl, (client_good j few, (literal _ _ refl, tt))) refl
+    (literal _ _ refl, (client_good j few, (literal _ _ refl, tt))) refl refl
     (λ end. rw (client_name j few) refl)
 
 begin_line : (j : ℕ) → j < 3 → IsWholeLine (begin_words j)
 unfolding event_line event_word ask_line command_word AreGood
 begin_line j few =
     event_is (begin_words j) (event.Begin (client j) (ask.Plain cmd.Logplay))
-    (literal _ _ refl, (client_good j few, (literal _ _ refl, tt))) refl
+    (literal _ _ refl, (client_good j few, (literal _ _ refl, tt))) refl refl
     (λ end. rw (client_name j few) refl)
 
 fetch_line : (j line mask : ℕ) → j < 3 → line < 2 ^ 64 → mask < 256 → IsWholeLine (fetch_words j line mask)
 unfolding event_line event_word AreGood
 fetch_line j line mask few small less =
     event_is (fetch_words j line mask) (event.Fetch (client j) (record { 0 = line }) (record { 0 = mask }))
-    (literal _ _ refl, (client_good j few, (number line small, (number mask (omega (arith, less)), tt)))) refl
+    (literal _ _ refl, (client_good j few, (number line small, (number mask (omega (arith, less)), tt)))) refl refl
     (λ end. rw (client_name j few, number-decimal line small, small_mask mask less) refl)
 
 client_step_line : (j count : ℕ) → j < 3 → (count == 0) ≡ false → count < 1000000001 → IsWholeLine (client_step_words j count)
 unfolding event_line event_word AreGood
 client_step_line j count few some less =
     event_is (client_step_words j count) (event.Step (client j) count)
-    (literal _ _ refl, (client_good j few, (number count (omega (arith, less)), tt))) refl
+    (literal _ _ refl, (client_good j few, (number count (omega (arith, less)), tt))) refl refl
     (λ end. rw (client_name j few, some_steps count some less) refl)
 
 finish_line : (j : ℕ) → j < 3 → IsWholeLine (finish_words j)
 unfolding event_line event_word AreGood
 finish_line j few =
-    event_is (finish_words j) (event.Finish (client j)) (literal _ _ refl, (client_good j few, tt)) refl (λ end. rw (client_name j few) refl)
+    event_is (finish_words j) (event.Finish (client j)) (literal _ _ refl, (client_good j few, tt)) refl refl (λ end. rw (client_name j few) refl)
 
 verify_line : (j i : ℕ) → j < 3 → i < 2 ^ 64 → IsWholeLine (verify_words j i)
 unfolding event_line event_word ask_line command_word AreGood
 verify_line j i few small =
     event_is (verify_words j i) (event.Run (client j) (ask.Plain (cmd.Verify (codes "f" ++ decimal i) (content.Seed i))))
-    (literal _ _ refl, (client_good j few, (literal _ _ refl, (numbered 102 [] i refl small, (numbered 115 (codes "eed=") i refl small, tt))))) refl
+    (literal _ _ refl, (client_good j few, (literal _ _ refl, (numbered 102 [] i refl small, (numbered 115 (codes "eed=") i refl small, tt))))) refl refl
     (λ end. rw (client_name j few, path_read 102 i refl small, number-decimal i small) refl)
 
 -- The front.
@@ -318,35 +321,35 @@ host_line_0 : IsWholeLine (codes "host" ∷ codes "m" ∷ codes "00000000-0000-0
 unfolding event_line event_word is_host_name by_index AreGood
 host_line_0 =
     event_is (codes "host" ∷ codes "m" ∷ codes "00000000-0000-0000-0000-000000000001" ∷ []) (event.Host (codes "m") (0 ∷ 0 ∷ 0 ∷ 0 ∷ 0 ∷ 0 ∷ 0 ∷ 0 ∷ 0 ∷ 0 ∷ 0 ∷ 0 ∷ 0 ∷ 0 ∷ 0 ∷ 1 ∷ []))
-    (literal _ _ refl, (literal _ _ refl, (literal _ _ refl, tt))) refl
+    (literal _ _ refl, (literal _ _ refl, (literal _ _ refl, tt))) refl refl
     (λ end. rw (uuid_read (codes "00000000-0000-0000-0000-000000000001") (0 ∷ 0 ∷ 0 ∷ 0 ∷ 0 ∷ 0 ∷ 0 ∷ 0 ∷ 0 ∷ 0 ∷ 0 ∷ 0 ∷ 0 ∷ 0 ∷ 0 ∷ 1 ∷ []) refl refl) refl)
 
 host_line_1 : IsWholeLine (codes "host" ∷ codes "c0" ∷ codes "00000000-0000-0000-0000-000000000002" ∷ [])
 unfolding event_line event_word is_host_name by_index AreGood
 host_line_1 =
     event_is (codes "host" ∷ codes "c0" ∷ codes "00000000-0000-0000-0000-000000000002" ∷ []) (event.Host (codes "c0") (0 ∷ 0 ∷ 0 ∷ 0 ∷ 0 ∷ 0 ∷ 0 ∷ 0 ∷ 0 ∷ 0 ∷ 0 ∷ 0 ∷ 0 ∷ 0 ∷ 0 ∷ 2 ∷ []))
-    (literal _ _ refl, (literal _ _ refl, (literal _ _ refl, tt))) refl
+    (literal _ _ refl, (literal _ _ refl, (literal _ _ refl, tt))) refl refl
     (λ end. rw (uuid_read (codes "00000000-0000-0000-0000-000000000002") (0 ∷ 0 ∷ 0 ∷ 0 ∷ 0 ∷ 0 ∷ 0 ∷ 0 ∷ 0 ∷ 0 ∷ 0 ∷ 0 ∷ 0 ∷ 0 ∷ 0 ∷ 2 ∷ []) refl refl) refl)
 
 host_line_2 : IsWholeLine (codes "host" ∷ codes "c1" ∷ codes "00000000-0000-0000-0000-000000000003" ∷ [])
 unfolding event_line event_word is_host_name by_index AreGood
 host_line_2 =
     event_is (codes "host" ∷ codes "c1" ∷ codes "00000000-0000-0000-0000-000000000003" ∷ []) (event.Host (codes "c1") (0 ∷ 0 ∷ 0 ∷ 0 ∷ 0 ∷ 0 ∷ 0 ∷ 0 ∷ 0 ∷ 0 ∷ 0 ∷ 0 ∷ 0 ∷ 0 ∷ 0 ∷ 3 ∷ []))
-    (literal _ _ refl, (literal _ _ refl, (literal _ _ refl, tt))) refl
+    (literal _ _ refl, (literal _ _ refl, (literal _ _ refl, tt))) refl refl
     (λ end. rw (uuid_read (codes "00000000-0000-0000-0000-000000000003") (0 ∷ 0 ∷ 0 ∷ 0 ∷ 0 ∷ 0 ∷ 0 ∷ 0 ∷ 0 ∷ 0 ∷ 0 ∷ 0 ∷ 0 ∷ 0 ∷ 0 ∷ 3 ∷ []) refl refl) refl)
 
 host_line_3 : IsWholeLine (codes "host" ∷ codes "c2" ∷ codes "00000000-0000-0000-0000-000000000004" ∷ [])
 unfolding event_line event_word is_host_name by_index AreGood
 host_line_3 =
     event_is (codes "host" ∷ codes "c2" ∷ codes "00000000-0000-0000-0000-000000000004" ∷ []) (event.Host (codes "c2") (0 ∷ 0 ∷ 0 ∷ 0 ∷ 0 ∷ 0 ∷ 0 ∷ 0 ∷ 0 ∷ 0 ∷ 0 ∷ 0 ∷ 0 ∷ 0 ∷ 0 ∷ 4 ∷ []))
-    (literal _ _ refl, (literal _ _ refl, (literal _ _ refl, tt))) refl
+    (literal _ _ refl, (literal _ _ refl, (literal _ _ refl, tt))) refl refl
     (λ end. rw (uuid_read (codes "00000000-0000-0000-0000-000000000004") (0 ∷ 0 ∷ 0 ∷ 0 ∷ 0 ∷ 0 ∷ 0 ∷ 0 ∷ 0 ∷ 0 ∷ 0 ∷ 0 ∷ 0 ∷ 0 ∷ 0 ∷ 4 ∷ []) refl refl) refl)
 
 mkfs_line : IsWholeLine (codes "mkfs" ∷ codes "m" ∷ codes "00000000-0000-0000-0000-0000000000ff" ∷ codes "unit=4096" ∷ codes "log=65536" ∷ codes "force" ∷ [])
 unfolding event_line event_word is_host_name by_index mkfs_option_of size_of_text number_of_text AreGood
 mkfs_line =
     event_is (codes "mkfs" ∷ codes "m" ∷ codes "00000000-0000-0000-0000-0000000000ff" ∷ codes "unit=4096" ∷ codes "log=65536" ∷ codes "force" ∷ []) (event.Mkfs (codes "m") (0 ∷ 0 ∷ 0 ∷ 0 ∷ 0 ∷ 0 ∷ 0 ∷ 0 ∷ 0 ∷ 0 ∷ 0 ∷ 0 ∷ 0 ∷ 0 ∷ 0 ∷ 255 ∷ []) 4096 65536 true)
-    (literal _ _ refl, (literal _ _ refl, (literal _ _ refl, (literal _ _ refl, (literal _ _ refl, (literal _ _ refl, tt)))))) refl
+    (literal _ _ refl, (literal _ _ refl, (literal _ _ refl, (literal _ _ refl, (literal _ _ refl, (literal _ _ refl, tt)))))) refl refl
     (λ end. rw (uuid_read (codes "00000000-0000-0000-0000-0000000000ff") (0 ∷ 0 ∷ 0 ∷ 0 ∷ 0 ∷ 0 ∷ 0 ∷ 0 ∷ 0 ∷ 0 ∷ 0 ∷ 0 ∷ 0 ∷ 0 ∷ 0 ∷ 255 ∷ []) refl refl) refl)
 
 -- Many lines.

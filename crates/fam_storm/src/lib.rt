@@ -11,5 +11,7 @@ mod script;
 mod tests;
 mod turns;
 
-pub use laws::{a_storm_is_an_event_for_each_line, each_line_of_a_storm_is_an_event};
+pub use laws::{
+    a_storm_is_an_event_for_each_line, a_storm_reads_no_source, each_line_of_a_storm_is_an_event,
+};
 pub use script::storm;
