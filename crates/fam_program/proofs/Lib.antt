@@ -7,3 +7,9 @@ pub mod Naming
 pub mod Loops
 pub mod Turning
 pub mod Reading
+pub mod Filing
+pub mod Quietly
+pub mod Tops
+pub mod Stopping
+pub mod Answering
+pub mod Prefixing

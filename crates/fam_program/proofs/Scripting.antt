@@ -27,7 +27,7 @@ use Rattle.fam_events.specs.declared.fault.EventFault.{EventFault}
 use Rattle.fam_events.specs.declared.fault.EventFault.TheVariants as fault
 use Rattle.fam_events.specs.Happens.{EventBroken, EventDone, EventEnded, EventPart, EventSays}
 use Rattle.fam_program.specs.Far.{Base, Far, Now}
-use Rattle.fam_program.specs.Puts.{Put, PutPart, SinkChange, StopSays}
+use Rattle.fam_program.specs.Puts.{Put, PutPart, PutShort, SinkChange, StopSays}
 use Rattle.fam_program.specs.Runs.{HasEnded}
 use Rattle.fam_program.specs.Scripts.{ScriptRan}
 use Rattle.fam_program.proofs.Following.{follows_more, take_next}
@@ -149,29 +149,38 @@ module _ (b : Base) (shelf : ShelfChange) (sink sink_now : ℕ) (bytes bytes_now
       }
 
   module _ (s : SinkChange) (now_is : bytes_now ≡ s.bytes_now) (sink_is : sink_now ≡ s.faults_now) (later : sink ≤ s.faults) (n : Now) (mid : s.bytes ≡ option_map (with_piece (render n.world.journal)) bytes) (given : Status) where
-    -- no memory was left, with the notes of some first events put
+    -- behind the notes of some first events those of one more that were put, and the line that says that no memory is left
+    abbrev short_text : ℕ → List Note → List ℕ
+    short_text count more = render_behind (names_behind [] n.world.journal) (take count more) ++ memory_line
+
+    short_is : (m : Now) (more : List Note) → m.world.journal ≡ n.world.journal ++ more → (count : ℕ) → render n.world.journal ++ short_text count more ≡ render (take (length n.world.journal + count) m.world.journal) ++ memory_line
+    short_is m more joined count =
+        sym (append_assoc (render n.world.journal) (render_behind (names_behind [] n.world.journal) (take count more)) memory_line)
+        ∙ ap (λ (t : List ℕ). t ++ memory_line)
+        (sym (render_more n.world.journal (take count more))
+        ∙ ap render (sym (ap (take (length n.world.journal + count)) joined ∙ Rattle.std.proofs.Math.Seq.take-append-add n.world.journal more count)))
+
     wants : (m : Now) (more : List Note) → m.world.journal ≡ n.world.journal ++ more → HasEnded EndsOutOfMemory (out_at m) b.events m.world.journal
-        → PutsTold EndsOutOfMemory b.events m.world.journal (out_at m) → Put status.OutOfMemory memory_line s given → ScriptRan b.events (out_at m) given
+        → PutsTold EndsOutOfMemory b.events m.world.journal (out_at m) → PutShort (names_behind [] n.world.journal) more s given → ScriptRan b.events (out_at m) given
     wants m more joined x each put = record {
-      text = render n.world.journal ++ memory_line;
+      text = render n.world.journal ++ short_text put.0 more;
       own = status.OutOfMemory;
       ending = EndsOutOfMemory;
-      run = to_run EndsOutOfMemory (out_at m) b.events m.world.journal (render n.world.journal ++ memory_line) status.OutOfMemory x
-          (length n.world.journal, ap (λ (j : List Note). render j ++ memory_line) (sym (ap (take (length n.world.journal)) joined ∙ Rattle.std.proofs.Math.Seq.take-append_seam n.world.journal more))) refl;
+      run = to_run EndsOutOfMemory (out_at m) b.events m.world.journal (render n.world.journal ++ short_text put.0 more) status.OutOfMemory x (length n.world.journal + put.0, short_is m more joined put.0) refl;
       whole = λ e. absurd cc;
       each = each;
-      put = put_both (out_at m) (render n.world.journal) memory_line s now_is sink_is later mid status.OutOfMemory given memory_own put;
+      put = put_both (out_at m) (render n.world.journal) (short_text put.0 more) s now_is sink_is later mid status.OutOfMemory given memory_own put.1;
     }
 
-    abbrev put_before : (m : Now) → Put status.OutOfMemory memory_line s given → HasPut (out_at m) (render n.world.journal)
-    put_before m put = has_put (out_at m) (render n.world.journal) memory_line s now_is sink_is later mid status.OutOfMemory given put
+    abbrev put_before : (m : Now) (more : List Note) → PutShort (names_behind [] n.world.journal) more s given → HasPut (out_at m) (render n.world.journal)
+    put_before m more put = has_put (out_at m) (render n.world.journal) (short_text put.0 more) s now_is sink_is later mid status.OutOfMemory given put.1
 
     module _ (count : ℕ) (far : Far b count n) (e : Event) (is : slice_get b.events count ≡ Some e) (m : Now) where
       abbrev a : Around
       a = next_of b n m
 
       -- behind an event that is done
-      pub want_script : EventDone e a → Far b (suc count) m → Put status.OutOfMemory memory_line s given → ScriptRan b.events (out_at m) given
+      pub want_script : (x : EventDone e a) → Far b (suc count) m → PutShort (names_behind [] n.world.journal) x.adds.notes s given → ScriptRan b.events (out_at m) given
       want_script x far_m put = wants m x.adds.notes x.adds.joined (prefix_ended b (suc count) m far_m shelf sink sink_now bytes bytes_now) each put
         where
           each : PutsTold EndsOutOfMemory b.events m.world.journal (out_at m)
@@ -184,7 +193,7 @@ module _ (b : Base) (shelf : ShelfChange) (sink sink_now : ℕ) (bytes bytes_now
                   left = r.left;
                   reads = held_reads_as start r.last.machines m.world r.last.machines.memory r.held;
                 },
-                inr (inl (r.follows, subst (λ (ns : List Note). HasPut (out_at m) (render ns)) (sym r.whole) (put_before m put))),
+                inr (inl (r.follows, subst (λ (ns : List Note). HasPut (out_at m) (render ns)) (sym r.whole) (put_before m x.adds.notes put))),
               )
 
       more_text : (notes : List Note) → m.world.journal ≡ n.world.journal ++ notes → render m.world.journal ≡ render n.world.journal ++ render_behind (names_behind [] n.world.journal) notes
@@ -207,20 +216,20 @@ module _ (b : Base) (shelf : ShelfChange) (sink sink_now : ℕ) (bytes bytes_now
         put = put_both (out_at m) (render n.world.journal) text s now_is sink_is later mid status.MediaFault given media_own put;
       }
 
-      broken_want_script : (x : EventBroken e a) → Put status.OutOfMemory memory_line s given → ScriptRan b.events (out_at m) given
+      broken_want_script : (x : EventBroken e a) → PutShort (names_behind [] n.world.journal) x.adds.notes s given → ScriptRan b.events (out_at m) given
       broken_want_script x put = record {
-        text = render n.world.journal ++ memory_line;
+        text = render n.world.journal ++ short_text put.0 x.adds.notes;
         own = status.OutOfMemory;
         ending = EndsOutOfMemoryBroken;
-        run = to_run EndsOutOfMemoryBroken (out_at m) b.events m.world.journal (render n.world.journal ++ memory_line) status.OutOfMemory (broken_wants b count n m far e is shelf sink sink_now bytes bytes_now x)
-            (length n.world.journal, ap (λ (j : List Note). render j ++ memory_line) (sym (ap (take (length n.world.journal)) x.adds.joined ∙ Rattle.std.proofs.Math.Seq.take-append_seam n.world.journal x.adds.notes))) refl;
+        run = to_run EndsOutOfMemoryBroken (out_at m) b.events m.world.journal (render n.world.journal ++ short_text put.0 x.adds.notes) status.OutOfMemory (broken_wants b count n m far e is shelf sink sink_now bytes bytes_now x)
+            (length n.world.journal + put.0, short_is m x.adds.notes x.adds.joined put.0) refl;
         whole = λ e. absurd cc;
         each = λ start told_is files files_are.
             let r = broken_on b count n m far e is shelf sink sink_now bytes bytes_now x start files told_is files_are in (
               record { last = r.last; legal = r.legal; follows = r.follows; left = r.left; reads = tt },
-              subst (λ (ns : List Note). HasPut (out_at m) (render ns)) (sym r.whole) (put_before m put),
+              subst (λ (ns : List Note). HasPut (out_at m) (render ns)) (sym r.whole) (put_before m x.adds.notes put),
             );
-        put = put_both (out_at m) (render n.world.journal) memory_line s now_is sink_is later mid status.OutOfMemory given memory_own put;
+        put = put_both (out_at m) (render n.world.journal) (short_text put.0 x.adds.notes) s now_is sink_is later mid status.OutOfMemory given memory_own put.1;
       }
 
       -- a source ended early: nothing is noted
@@ -243,7 +252,7 @@ module _ (b : Base) (shelf : ShelfChange) (sink sink_now : ℕ) (bytes bytes_now
           same = x.adds.joined ∙ ap (λ (ns : List Note). n.world.journal ++ ns) x.adds.form.none ∙ append-nil n.world.journal
 
       -- no memory was left for the event
-      part_script : (x : EventPart e a) → Put status.OutOfMemory memory_line s given → ScriptRan b.events (out_at m) given
+      part_script : (x : EventPart e a) → PutShort (names_behind [] n.world.journal) x.adds.notes s given → ScriptRan b.events (out_at m) given
       part_script x put = wants m x.adds.notes x.adds.joined (part_ended b count n m far e is shelf sink sink_now bytes bytes_now x) each put
         where
           each : PutsTold EndsOutOfMemory b.events m.world.journal (out_at m)
@@ -266,13 +275,13 @@ module _ (b : Base) (shelf : ShelfChange) (sink sink_now : ℕ) (bytes bytes_now
                   left = left;
                   reads = reads;
                 },
-                inr (inr (record { count = count; event = e; is = is; mid = old; whole_notes = n.world.journal; part_notes = notes; whole = follows; part = part; joined = joined }, put_before m put)),
+                inr (inr (record { count = count; event = e; is = is; mid = old; whole_notes = n.world.journal; part_notes = notes; whole = follows; part = part; joined = joined }, put_before m x.adds.notes put)),
               )
               part_each start files old follows last notes joined legal left reads (inl none) =
                   let same : m.world.journal ≡ n.world.journal = joined ∙ ap (λ (ns : List Note). n.world.journal ++ ns) none.0 ∙ append-nil n.world.journal in
                   let here : Follows files (take count b.events) (first_session start) m.world.journal last =
                   subst (λ (j : List Note). Follows files (take count b.events) (first_session start) j last) (sym same) (subst (λ (z : Session). Follows files (take count b.events) (first_session start) n.world.journal z) (sym none.1) follows) in
-                  let each = prefix_each count m start files last here (subst (λ (j : List Note). HasPut (out_at m) (render j)) (sym same) (put_before m put)) in
+                  let each = prefix_each count m start files last here (subst (λ (j : List Note). HasPut (out_at m) (render j)) (sym same) (put_before m x.adds.notes put)) in
                   (record { last = last; legal = legal; follows = inl record { count = count; follows = here }; left = left; reads = reads }, by_each last here each)
                 where
                   by_each : (last : Session) (here : Follows files (take count b.events) (first_session start) m.world.journal last)
@@ -295,14 +304,21 @@ module _ (b : Base) (shelf : ShelfChange) (sink sink_now : ℕ) (bytes bytes_now
 
       -- and no memory for the line that says how a source ended
       source_want_script : (end : SourceEnd) (x : EventEnded e end a) → Put status.OutOfMemory memory_line s given → ScriptRan b.events (out_at m) given
-      source_want_script end x put = part_script (ended_part end x) put
+      source_want_script end x put = part_script (ended_part end x) (0, put)
 
-      pub stop_script : (x : EventFault) → EventSays e shelf a (Err x) → (text : List ℕ) → ((notes : List Note) → m.world.journal ≡ n.world.journal ++ notes → text ≡ render_behind (names_behind [] n.world.journal) notes) → StopSays x text s given → ScriptRan b.events (out_at m) given
-      stop_script fault.MkfsFailed says text text_is (inl put) = broken_script says text (text_is says.adds.notes says.adds.joined) put
-      stop_script fault.MkfsFailed says text text_is (inr put) = broken_want_script says put
-      stop_script (fault.SourceEnded end) says text text_is (inl put) = source_script end says.0 says.1 put
-      stop_script (fault.SourceEnded end) says text text_is (inr put) = source_want_script end says.0 put
-      stop_script fault.OutOfMemory says text text_is put = part_script says put
+      -- the names and notes that are said are those of the journal
+      short_as : (names : List (List ℕ)) → names ≡ names_behind [] n.world.journal → (more notes : List Note) → more ≡ notes → PutShort names more s given → PutShort (names_behind [] n.world.journal) notes s given
+      short_as names names_are more notes same put =
+          subst (λ (ns : List Note). PutShort (names_behind [] n.world.journal) ns s given) same (subst (λ (ns : List (List ℕ)). PutShort ns more s given) names_are put)
+
+      pub stop_script : (x : EventFault) → EventSays e shelf a (Err x) → (names : List (List ℕ)) → names ≡ names_behind [] n.world.journal → (more : List Note) → ((notes : List Note) → m.world.journal ≡ n.world.journal ++ notes → more ≡ notes)
+          → StopSays x names more s given → ScriptRan b.events (out_at m) given
+      stop_script fault.MkfsFailed says names names_are more more_is (inl put) =
+          broken_script says (render_behind names more) (ap (λ (ns : List (List ℕ)). render_behind ns more) names_are ∙ ap (render_behind (names_behind [] n.world.journal)) (more_is says.adds.notes says.adds.joined)) put
+      stop_script fault.MkfsFailed says names names_are more more_is (inr put) = broken_want_script says (short_as names names_are more says.adds.notes (more_is says.adds.notes says.adds.joined) put)
+      stop_script (fault.SourceEnded end) says names names_are more more_is (inl put) = source_script end says.0 says.1 put
+      stop_script (fault.SourceEnded end) says names names_are more more_is (inr put) = source_want_script end says.0 put
+      stop_script fault.OutOfMemory says names names_are more more_is put = part_script says (short_as names names_are more says.adds.notes (more_is says.adds.notes says.adds.joined) put)
 
   -- the sink failed behind an event that is done
   module _ (s : SinkChange) (now_is : bytes_now ≡ s.bytes_now) (sink_is : sink_now ≡ s.faults_now) (later : sink ≤ s.faults) (n m : Now) (mid : s.bytes ≡ option_map (with_piece (render n.world.journal)) bytes) (count : ℕ) (far : Far b count n) (e : Event) (is : slice_get b.events count ≡ Some e) where

@@ -19,7 +19,7 @@ use Rattle.fam_events.specs.declared.fault.EventFault.TheVariants as fault
 use Rattle.fam_events.specs.Happens.{EventSays}
 
 -- a count that rose since it was read last has risen since it was read first
-rose_more : (first mid now : ℕ) → first ≤ mid → Rose mid now → Rose first now
+pub rose_more : (first mid now : ℕ) → first ≤ mid → Rose mid now → Rose first now
 rose_more first mid now later (inl less) = inl (omega (arith, later, less))
 rose_more first mid now later (inr full) = inr full
 

@@ -3,3 +3,5 @@ pub mod Runs
 pub mod Puts
 pub mod Reading
 pub mod Scripts
+pub mod Files
+pub mod Quiet

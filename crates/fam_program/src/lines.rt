@@ -1,33 +1,54 @@
 //! Lines that end a run early. fam_journal's `specs/Programs.antt` has them.
 
-ghost use Rattle.std.specs.Prelude.{◌≡◌, ◌++◌, IfOk, List, codes, string_bytes, ℕ};
+ghost use Rattle.std.specs.Prelude.{◌≡◌, ◌++◌, IfOk, OnOk, List, codes, string_bytes, ℕ};
 ghost use Rattle.fam_journal.specs.Programs.{source_line};
 ghost use Rattle.fam_journal.specs.Texts as text;
 ghost use Rattle.fam_sources.specs.Sourced.{end_of};
 
-use fam_base::OutOfMemory;
+use fam_base::{OutOfMemory, escape};
 use fam_sources::SourceEnd;
 use std::alloc::{AllocError, Global};
 
 /// What is printed where no memory is left.
 pub(crate) const MEMORY: &str = "out of memory\n";
 
+/// Adds bytes to a text.
+fn add(bytes: &[u8], into: &mut Vec<u8>) -> Result<(), OutOfMemory>
+    ensures { OnOk result (into.new.items ≡ into.old.items ++ bytes.now) }
+{
+    match into.extend_from_slice(bytes) {
+        Ok(()) => Ok(()),
+        Err(_) => Err(OutOfMemory),
+    }
+}
+
 /// A text as a line.
 fn line(alloc: Global, words: &str) -> Result<Vec<u8>, OutOfMemory>
     ensures { IfOk result (λ bytes. bytes.items ≡ text.line words.now) }
 {
     let mut bytes = Vec::new(alloc);
-    if bytes.extend_from_slice(words.as_bytes()).is_err() {
-        return Err(OutOfMemory);
-    }
-    match bytes.push(b'\n') {
-        Ok(()) => Ok(bytes),
-        Err(_) => Err(OutOfMemory),
-    }
+    add(words.as_bytes(), &mut bytes)?;
+    add(b"\n", &mut bytes)?;
+    Ok(bytes)
+}
+
+/// The line of a text with a file's name at its end, behind a space; the name is printed with escapes.
+pub(crate) fn line_with_name(alloc: Global, words: &str, name: &str) -> Result<Vec<u8>, OutOfMemory>
+    ensures { IfOk result (λ bytes. bytes.items ≡ text.line (words.now ++ text.name_text name.now)) }
+{
+    let mut bytes = Vec::new(alloc);
+    add(words.as_bytes(), &mut bytes)?;
+    add(b" ", &mut bytes)?;
+    escape(name.as_bytes(), &mut bytes)?;
+    add(b"\n", &mut bytes)?;
+    Ok(bytes)
 }
 
 /// The line of a text that may have found no memory.
-fn line_of(alloc: Global, made: Result<String, AllocError>) -> Result<Vec<u8>, OutOfMemory>
+pub(crate) fn line_of(
+    alloc: Global,
+    made: Result<String, AllocError>,
+) -> Result<Vec<u8>, OutOfMemory>
     ensures { (want : List ℕ) → IfOk made (λ s. string_bytes s ≡ want) →
         IfOk result (λ bytes. bytes.items ≡ text.line want) }
 {

@@ -1,10 +1,12 @@
 //! What is put of a run: the notes of each event, and the line that ends it early.
 
-ghost use Rattle.std.specs.Prelude.{◌≡◌, ◌≤◌, ◌++◌, [], IsErrOf, OnErr, OnOk, drop, length, take};
-ghost use Rattle.fam_media.specs.Causes.{Rose};
-ghost use Rattle.fam_journal.specs.Names.{NameDeclared};
-ghost use Rattle.fam_journal.specs.Texts.{names_behind, render_behind};
-ghost use Rattle.fam_program.specs.Puts.{Put, PutPart, PutWhole, StopSays, sink_changed};
+ghost use Rattle.std.specs.Prelude.{◌≡◌, ◌≤◌, [], IsErrOf, OnOk, drop, length, take};
+ghost use Rattle.fam_journal.specs.Names.{IsNamed, NameDeclared};
+ghost use Rattle.fam_journal.specs.Programs.{memory_line};
+ghost use Rattle.fam_journal.specs.declared.status.Status.TheVariants as status;
+ghost use Rattle.fam_journal.specs.Texts as text;
+ghost use Rattle.fam_world.specs.View.{note_view, notes_view};
+ghost use Rattle.fam_program.specs.Puts.{Put, PutPart, PutSome, PutWhole, StopSays, sink_changed};
 
 use crate::fault::PutFault;
 use crate::lines::{MEMORY, end_line};
@@ -12,7 +14,8 @@ use fam_base::HostName;
 use fam_events::EventFault;
 use fam_journal::Status;
 use fam_media::Sink;
-use fam_outcomes::print_notes;
+use fam_notes::Note;
+use fam_outcomes::note_line;
 use fam_world::World;
 use std::alloc::Global;
 
@@ -27,8 +30,69 @@ pub(crate) fn put_line<K: Sink>(out: &mut K, own: Status, text: &[u8]) -> Status
     }
 }
 
-/// Puts the notes from `from` on, in one piece. `names` are those of the hosts that the notes before them declare, and
-/// behind it those of all.
+/// Puts that no memory is left.
+pub(crate) fn put_memory<K: Sink>(out: &mut K) -> Status
+    ensures put { Put status.OutOfMemory memory_line (sink_changed K.bytes K.faults out.old out.new) result }
+    ensures later { K.faults out.old ≤ K.faults out.new }
+{
+    put_line(out, Status::OutOfMemory, MEMORY.as_bytes())
+}
+
+/// Puts one note, with its further lines. `names` are those of the hosts that are declared before it; that of a host
+/// which it declares is added.
+fn put_note<K: Sink>(
+    alloc: Global,
+    note: &Note,
+    names: &mut Vec<HostName>,
+    out: &mut K,
+) -> Result<(), PutFault>
+    requires { IsNamed (length names.old.items) (note_view note.now) }
+    ensures put { OnOk result (PutWhole (text.note_line names.old.items (note_view note.now))
+        (sink_changed K.bytes K.faults out.old out.new)) }
+    ensures names { OnOk result (names.new.items ≡ text.names_after names.old.items (note_view note.now)) }
+    ensures part { IsErrOf result PutFault.Sink → PutPart (text.note_line names.old.items (note_view note.now))
+        (sink_changed K.bytes K.faults out.old out.new) }
+    ensures undone { IsErrOf result PutFault.OutOfMemory → out.new ≡ out.old }
+    ensures later { K.faults out.old ≤ K.faults out.new }
+{
+    let Ok(line) = note_line(alloc, note, names) else {
+        return Err(PutFault::OutOfMemory);
+    };
+    match out.put(line.as_slice()) {
+        Ok(()) => Ok(()),
+        Err(_) => Err(PutFault::Sink),
+    }
+}
+
+/// Puts notes in their order, each by one put. Where no memory is left for one of them, those before it were put; where
+/// a put failed, those before it and a part of it.
+fn put_each<K: Sink>(
+    alloc: Global,
+    notes: &[Note],
+    names: &mut Vec<HostName>,
+    out: &mut K,
+) -> Result<(), PutFault>
+    requires { NameDeclared (length names.old.items) (notes_view notes.now) }
+    ensures put { OnOk result (PutWhole (text.render_behind names.old.items (notes_view notes.now))
+        (sink_changed K.bytes K.faults out.old out.new)) }
+    ensures names { OnOk result (names.new.items ≡ text.names_behind names.old.items (notes_view notes.now)) }
+    ensures part { IsErrOf result PutFault.Sink → PutPart (text.render_behind names.old.items (notes_view notes.now))
+        (sink_changed K.bytes K.faults out.old out.new) }
+    ensures some { IsErrOf result PutFault.OutOfMemory → PutSome names.old.items (notes_view notes.now)
+        (sink_changed K.bytes K.faults out.old out.new) }
+    ensures later { K.faults out.old ≤ K.faults out.new }
+{
+    'notes: for note in notes {
+        match put_note(alloc, note, names, out) {
+            Ok(()) => {}
+            Err(fault) => return Err(fault),
+        }
+    }
+    Ok(())
+}
+
+/// Puts the notes from `from` on, each by one put. `names` are those of the hosts that the notes before them declare,
+/// and behind it those of all.
 pub(crate) fn put_notes<K: Sink>(
     alloc: Global,
     world: &World,
@@ -38,26 +102,22 @@ pub(crate) fn put_notes<K: Sink>(
 ) -> Result<(), PutFault>
     requires within { from ≤ length world.now.journal }
     requires named { NameDeclared 0 world.now.journal }
-    requires names { names.old.items ≡ names_behind [] (take from world.now.journal) }
+    requires names { names.old.items ≡ text.names_behind [] (take from world.now.journal) }
 
-    ensures put { OnOk result (PutWhole (render_behind names.old.items (drop from world.now.journal))
+    ensures put { OnOk result (PutWhole (text.render_behind names.old.items (drop from world.now.journal))
         (sink_changed K.bytes K.faults out.old out.new)) }
-    ensures names { OnOk result (names.new.items ≡ names_behind [] world.now.journal) }
-    ensures part { IsErrOf result PutFault.Sink → PutPart (render_behind names.old.items (drop from world.now.journal))
+    ensures names { OnOk result (names.new.items ≡ text.names_behind [] world.now.journal) }
+    ensures part { IsErrOf result PutFault.Sink → PutPart (text.render_behind names.old.items (drop from world.now.journal))
         (sink_changed K.bytes K.faults out.old out.new) }
-    ensures undone { IsErrOf result PutFault.OutOfMemory → out.new ≡ out.old }
+    ensures some { IsErrOf result PutFault.OutOfMemory → PutSome names.old.items (drop from world.now.journal)
+        (sink_changed K.bytes K.faults out.old out.new) }
     ensures later { K.faults out.old ≤ K.faults out.new }
 {
-    let Ok(text) = print_notes(alloc, &world.journal()[from..], names) else {
-        return Err(PutFault::OutOfMemory);
-    };
-    match out.put(text.as_slice()) {
-        Ok(()) => Ok(()),
-        Err(_) => Err(PutFault::Sink),
-    }
+    put_each(alloc, &world.journal()[from..], names, out)
 }
 
-/// Puts the notes of a mkfs in which the media failed.
+/// Puts the notes of a mkfs in which the media failed; where no memory is left for their text, that line behind those
+/// that were put.
 fn put_broken<K: Sink>(
     alloc: Global,
     world: &World,
@@ -67,20 +127,43 @@ fn put_broken<K: Sink>(
 ) -> Status
     requires within { from ≤ length world.now.journal }
     requires named { NameDeclared 0 world.now.journal }
-    requires names { names.old.items ≡ names_behind [] (take from world.now.journal) }
+    requires names { names.old.items ≡ text.names_behind [] (take from world.now.journal) }
 
-    ensures says { StopSays EventFault.MkfsFailed (render_behind names.old.items (drop from world.now.journal))
+    ensures says { StopSays EventFault.MkfsFailed names.old.items (drop from world.now.journal)
         (sink_changed K.bytes K.faults out.old out.new) result }
     ensures later { K.faults out.old ≤ K.faults out.new }
 {
     match put_notes(alloc, world, from, names, out) {
         Ok(()) => Status::MediaFault,
         Err(PutFault::Sink) => Status::SinkFault,
-        Err(PutFault::OutOfMemory) => put_line(out, Status::OutOfMemory, MEMORY.as_bytes()),
+        Err(PutFault::OutOfMemory) => put_memory(out),
     }
 }
 
-/// Puts how an event has ended the run, and gives the status.
+/// Puts the notes that came of an event before no memory was left, as many as find memory, and that line behind them.
+fn put_cut<K: Sink>(
+    alloc: Global,
+    world: &World,
+    from: usize,
+    names: &mut Vec<HostName>,
+    out: &mut K,
+) -> Status
+    requires within { from ≤ length world.now.journal }
+    requires named { NameDeclared 0 world.now.journal }
+    requires names { names.old.items ≡ text.names_behind [] (take from world.now.journal) }
+
+    ensures says { StopSays EventFault.OutOfMemory names.old.items (drop from world.now.journal)
+        (sink_changed K.bytes K.faults out.old out.new) result }
+    ensures later { K.faults out.old ≤ K.faults out.new }
+{
+    match put_notes(alloc, world, from, names, out) {
+        Ok(()) => put_memory(out),
+        Err(PutFault::Sink) => Status::SinkFault,
+        Err(PutFault::OutOfMemory) => put_memory(out),
+    }
+}
+
+/// Puts how an event has ended the run, behind the notes that came of it, and gives the status.
 pub(crate) fn put_stop<K: Sink>(
     alloc: Global,
     world: &World,
@@ -91,9 +174,9 @@ pub(crate) fn put_stop<K: Sink>(
 ) -> Status
     requires within { from ≤ length world.now.journal }
     requires named { NameDeclared 0 world.now.journal }
-    requires names { names.old.items ≡ names_behind [] (take from world.now.journal) }
+    requires names { names.old.items ≡ text.names_behind [] (take from world.now.journal) }
 
-    ensures says { StopSays fault (render_behind names.old.items (drop from world.now.journal))
+    ensures says { StopSays fault names.old.items (drop from world.now.journal)
         (sink_changed K.bytes K.faults out.old out.new) result }
     ensures later { K.faults out.old ≤ K.faults out.new }
 {
@@ -101,8 +184,8 @@ pub(crate) fn put_stop<K: Sink>(
         EventFault::MkfsFailed => put_broken(alloc, world, from, names, out),
         EventFault::SourceEnded(end) => match end_line(alloc, end) {
             Ok(line) => put_line(out, Status::SourceFault, line.as_slice()),
-            Err(_) => put_line(out, Status::OutOfMemory, MEMORY.as_bytes()),
+            Err(_) => put_memory(out),
         },
-        EventFault::OutOfMemory => put_line(out, Status::OutOfMemory, MEMORY.as_bytes()),
+        EventFault::OutOfMemory => put_cut(alloc, world, from, names, out),
     }
 }

@@ -12,8 +12,7 @@ ghost use Rattle.fam_program.specs.Runs.{outside_of};
 ghost use Rattle.fam_program.specs.Puts.{sink_changed};
 
 use crate::fault::PutFault;
-use crate::lines::MEMORY;
-use crate::puts::{put_line, put_notes, put_stop};
+use crate::puts::{put_memory, put_notes, put_stop};
 use fam_events::happen;
 use fam_journal::{Event, Status};
 use fam_media::{Media, Shelf, Sink};
@@ -33,17 +32,17 @@ fn end_status(world: &World) -> Status
 }
 
 /// An image has at most 1 TiB, and lines of eight words. A call does nothing.
-fn is_image<M: Media>(media: &M)
+pub(crate) fn is_image<M: Media>(media: &M)
     ensures { IfModelled (M.image media.now) IsImage }
 {
     let _ = media.lines();
 }
 
-/// Runs events in their order on a media, with sources from a shelf, and puts the notes of each event in one piece when
-/// it is done.
+/// Runs events in their order on a media, with sources from a shelf, and puts the notes of each event when it is done,
+/// each note by one put.
 ///
 /// The run ends early where the media fails in a mkfs, a source can't be read to its end, no memory is left, or the
-/// sink fails; the text says so behind the notes, but for a sink that failed.
+/// sink fails; the text says so behind the notes, also those of an event that was cut, but for a sink that failed.
 pub fn run_script<M: Media, S: Shelf, K: Sink>(
     alloc: Global,
     events: Vec<Event>,
@@ -71,9 +70,7 @@ pub fn run_script<M: Media, S: Shelf, K: Sink>(
         match put_notes(alloc, &world, from, &mut names, out) {
             Ok(()) => {}
             Err(PutFault::Sink) => return Status::SinkFault,
-            Err(PutFault::OutOfMemory) => {
-                return put_line(out, Status::OutOfMemory, MEMORY.as_bytes());
-            }
+            Err(PutFault::OutOfMemory) => return put_memory(out),
         }
     }
     end_status(&world)

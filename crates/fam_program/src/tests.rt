@@ -1,6 +1,6 @@
 //! Scripts that are run over a media in memory, with the text that they put.
 
-use crate::{read_script, run_script};
+use crate::{read_script, run_script, run_script_file};
 use fam_base::Mask;
 use fam_grammar::LineFault;
 use fam_journal::Status;
@@ -13,6 +13,7 @@ const LINES: u64 = 65_536;
 
 const SESSION: &str = "# a master and a client
 host m 00000000-0000-0000-0000-000000000001
+evict m 5
 host c 00000000-0000-0000-0000-000000000002
 
 mkfs m 00000000-0000-0000-0000-0000000000ff unit=4096 log=65536
@@ -77,7 +78,7 @@ fn a_bad_line_is_named(rt: HostRuntime) -> Result<(), Fail> {
 }
 
 #[test]
-fn each_put_may_fail(rt: HostRuntime) -> Result<(), Fail> {
+fn an_event_without_notes_puts_nothing(rt: HostRuntime) -> Result<(), Fail> {
     let alloc = rt.alloc();
     let mut media = MemMedia::new(alloc, LINES)?;
     let mut shelf = MemShelf::new(alloc);
@@ -86,6 +87,19 @@ fn each_put_may_fail(rt: HostRuntime) -> Result<(), Fail> {
     let status = play(alloc, SESSION, &mut media, &mut shelf, &mut out);
     assert!(rt; status == Status::SinkFault);
     assert!(rt; out.bytes() == &TEXT.as_bytes()[..44 + 7]);
+    Ok(())
+}
+
+#[test]
+fn each_note_is_one_put(rt: HostRuntime) -> Result<(), Fail> {
+    let alloc = rt.alloc();
+    let mut media = MemMedia::new(alloc, LINES)?;
+    let mut shelf = MemShelf::new(alloc);
+    let mut out = MemSink::new(alloc, 65_536)?;
+    out.fail(4, 3)?;
+    let status = play(alloc, SESSION, &mut media, &mut shelf, &mut out);
+    assert!(rt; status == Status::SinkFault);
+    assert!(rt; out.bytes() == &TEXT.as_bytes()[..205 + 3]);
     Ok(())
 }
 
@@ -116,5 +130,29 @@ fn a_source_that_fails_ends_the_run(rt: HostRuntime) -> Result<(), Fail> {
         out.bytes()
             .ends_with(b"c refused idle\nshort source 10 4\n")
     );
+    Ok(())
+}
+
+#[test]
+fn the_script_of_a_file_is_run_or_a_line_says_why_not(rt: HostRuntime) -> Result<(), Fail> {
+    let alloc = rt.alloc();
+    let mut media = MemMedia::new(alloc, LINES)?;
+    let mut shelf = MemShelf::new(alloc);
+    shelf.add("session", SESSION.as_bytes())?;
+    shelf.add("bad", b"halt m\nhalt m n\n")?;
+    shelf.add("cut", b"halt m\n")?;
+    shelf.cut("cut", 4)?;
+    let mut out = MemSink::new(alloc, 65_536)?;
+    let gone = run_script_file(alloc, "my script", &mut media, &mut shelf, &mut out);
+    assert!(rt; gone == Status::Refused);
+    let bad = run_script_file(alloc, "bad", &mut media, &mut shelf, &mut out);
+    assert!(rt; bad == Status::BadScript);
+    let short = run_script_file(alloc, "cut", &mut media, &mut shelf, &mut out);
+    assert!(rt; short == Status::SourceFault);
+    let expected = "no file my\\x20script\nbad line 2 8\nshort source 7 4\n";
+    assert!(rt; out.bytes() == expected.as_bytes());
+    let status = run_script_file(alloc, "session", &mut media, &mut shelf, &mut out);
+    assert!(rt; status == Status::Refused);
+    assert!(rt; out.bytes().ends_with(TEXT.as_bytes()));
     Ok(())
 }

@@ -3,22 +3,22 @@ use Rattle.std.proofs.lemmas.List.{nil_from_length}
 use Rattle.fam_media.specs.Outside.{with_piece}
 use Rattle.fam_sources.specs.Whole.{ShelfChange, changed}
 use Rattle.fam_journal.specs.declared.event.Event.{Event}
-use Rattle.fam_journal.specs.declared.status.Status.TheVariants as status
 use Rattle.fam_journal.specs.CallRecords.{FitsMedia}
+use Rattle.fam_journal.specs.Notes.{Note}
 use Rattle.fam_journal.specs.View.{WorldView}
 use Rattle.fam_journal.specs.Texts.{names_behind, render, render_behind}
 use Rattle.fam_journal.proofs.Texts.Names.{render_more}
 use Rattle.fam_events.specs.Around.{around}
 use Rattle.fam_events.specs.Happens.{EventSays}
 use Rattle.fam_program.specs.Far.{AreSoundEvents, Base, Far, Now}
-use Rattle.fam_program.specs.Puts.{Put, SinkChange, sink_changed}
+use Rattle.fam_program.specs.Puts.{PutShort, SinkChange, sink_changed}
 use Rattle.fam_program.specs.Runs.{outside_of}
 use Rattle.fam_program.specs.Scripts.{ScriptRan}
 use Rattle.fam_program.proofs.Going.{first_far, more_far, named_more, next_of}
 use Rattle.fam_program.proofs.Loops.{all_taken, next_is, none_put, one_more, rest_is}
-use Rattle.fam_program.proofs.Putting.{pieces}
+use Rattle.fam_program.proofs.Putting.{pieces, short_some}
 use Rattle.fam_program.proofs.Scripting.{all_script, sink_script, stop_script, want_script}
-use Rattle.fam_program.proofs.Turning.{before, noted, says_from, text_is, within}
+use Rattle.fam_program.proofs.Turning.{before, noted, rest, says_from, text_is, within}
 use Rattle.fam_program.proofs.script.run_script.Goals as goal
 
 pub events-init : goal.events-init
@@ -99,7 +99,7 @@ returns-in-Err-clause-ran g c =
     let says : EventSays e shelf (next_of b n m) (Err c.in-Err.fault) = says_from e (changed g.S.Shelf.files g.S.Shelf.faults g.S.Shelf.shorts c.events.shelf c.happen.new.shelf) shelf (around g.M.Media.image g.M.Media.size g.M.Media.faults c.events.media c.happen.new.media c.events.world c.happen.new.world (g.S.Shelf.files c.events.shelf) c.events.copied c.happen.new.copied) b.lines b.files (Err c.in-Err.fault) inv.size inv.shelf.same (record { faults = inv.shelf.faults_later; faults_now = refl; shorts = inv.shelf.shorts_later; shorts_now = refl }) c.in-Err.ensures.says in
     let noted_is = noted e shelf (next_of b n m) (Err c.in-Err.fault) says in
     stop_script b shelf (g.K.Sink.faults c.args.out.now) (g.K.Sink.faults c.put_stop.new.out) (g.K.Sink.bytes c.args.out.now) (g.K.Sink.bytes c.put_stop.new.out) (sink_changed g.K.Sink.bytes g.K.Sink.faults c.events.out c.put_stop.new.out) refl refl inv.later n inv.put c.put_stop.result count inv.far e is m c.in-Err.fault says
-    (render_behind c.events.names.items (drop (length c.journal-from.result.now) m.world.journal)) (λ notes joined. text_is c.journal-from.result.now n.world.journal m.world.journal c.journal-from.ensures notes joined c.events.names.items inv.names) c.put_stop.ensures.says
+    c.events.names.items inv.names (drop (length c.journal-from.result.now) m.world.journal) (λ notes joined. rest c.journal-from.result.now n.world.journal m.world.journal c.journal-from.ensures notes joined) c.put_stop.ensures.says
 
 pub returns-in-Err-clause-steady : goal.returns-in-Err-clause-steady
 returns-in-Err-clause-steady g c =
@@ -282,10 +282,13 @@ returns-in-Err-OutOfMemory-clause-ran g c =
     let is = next_is c.args.events.items c.events.yielded c.events.event-iterator.rest.items c.next.new.self.rest.items e inv.rest c.in-Some.ensures.steps.0 in
     let says : EventSays e shelf (next_of b n m) (Ok tt) = says_from e (changed g.S.Shelf.files g.S.Shelf.faults g.S.Shelf.shorts c.events.shelf c.happen.new.shelf) shelf (around g.M.Media.image g.M.Media.size g.M.Media.faults c.events.media c.happen.new.media c.events.world c.happen.new.world (g.S.Shelf.files c.events.shelf) c.events.copied c.happen.new.copied) b.lines b.files (Ok tt) inv.size inv.shelf.same (record { faults = inv.shelf.faults_later; faults_now = refl; shorts = inv.shelf.shorts_later; shorts_now = refl }) c.in-Ok.ensures.says in
     let noted_is = noted e shelf (next_of b n m) (Ok tt) says in
-    let undone = c.put_notes.ensures.undone (c.in-Err-OutOfMemory.is ∙ ap Err c.in-Err-OutOfMemory.field-0-is) in
-    let s : SinkChange = sink_changed g.K.Sink.bytes g.K.Sink.faults c.put_notes.new.out c.put_line.new.out in
-    want_script b shelf (g.K.Sink.faults c.args.out.now) (g.K.Sink.faults c.put_line.new.out) (g.K.Sink.bytes c.args.out.now) (g.K.Sink.bytes c.put_line.new.out) s refl refl (let x = inv.later in let y = c.put_notes.ensures.later in omega (arith, x, y)) n (ap g.K.Sink.bytes undone ∙ inv.put) c.put_line.result count inv.far e is m says (more_far b count n m inv.far e is says)
-    (subst (λ (t : List ℕ). Put status.OutOfMemory t s c.put_line.result) c.as_bytes.ensures.value c.put_line.ensures.put)
+    let s : SinkChange = sink_changed g.K.Sink.bytes g.K.Sink.faults c.events.out c.put_memory.new.out in
+    let more : List Note = drop (length c.journal-from.result.now) m.world.journal in
+    let short : PutShort c.events.names.items more s c.put_memory.result =
+    short_some c.events.names.items more (g.K.Sink.bytes c.events.out) (g.K.Sink.bytes c.put_notes.new.out) (g.K.Sink.bytes c.put_memory.new.out) (g.K.Sink.faults c.events.out) (g.K.Sink.faults c.put_notes.new.out) (g.K.Sink.faults c.put_memory.new.out) c.put_notes.ensures.later c.put_memory.result (c.put_notes.ensures.some (c.in-Err-OutOfMemory.is ∙ ap Err c.in-Err-OutOfMemory.field-0-is)) c.put_memory.ensures.put in
+    want_script b shelf (g.K.Sink.faults c.args.out.now) (g.K.Sink.faults c.put_memory.new.out) (g.K.Sink.bytes c.args.out.now) (g.K.Sink.bytes c.put_memory.new.out) s refl refl inv.later n inv.put c.put_memory.result count inv.far e is m says (more_far b count n m inv.far e is says)
+    (subst (λ (ns : List Note). PutShort (names_behind [] n.world.journal) ns s c.put_memory.result) (rest c.journal-from.result.now n.world.journal m.world.journal c.journal-from.ensures says.adds.notes says.adds.joined)
+    (subst (λ (ns : List (List ℕ)). PutShort ns more s c.put_memory.result) inv.names short))
 
 pub returns-in-Err-OutOfMemory-clause-steady : goal.returns-in-Err-OutOfMemory-clause-steady
 returns-in-Err-OutOfMemory-clause-steady g c =
@@ -327,7 +330,7 @@ returns-in-Err-OutOfMemory-clause-later g c =
     let is = next_is c.args.events.items c.events.yielded c.events.event-iterator.rest.items c.next.new.self.rest.items e inv.rest c.in-Some.ensures.steps.0 in
     let says : EventSays e shelf (next_of b n m) (Ok tt) = says_from e (changed g.S.Shelf.files g.S.Shelf.faults g.S.Shelf.shorts c.events.shelf c.happen.new.shelf) shelf (around g.M.Media.image g.M.Media.size g.M.Media.faults c.events.media c.happen.new.media c.events.world c.happen.new.world (g.S.Shelf.files c.events.shelf) c.events.copied c.happen.new.copied) b.lines b.files (Ok tt) inv.size inv.shelf.same (record { faults = inv.shelf.faults_later; faults_now = refl; shorts = inv.shelf.shorts_later; shorts_now = refl }) c.in-Ok.ensures.says in
     let noted_is = noted e shelf (next_of b n m) (Ok tt) says in
-    let x = inv.later in let y = c.put_notes.ensures.later in let z = c.put_line.ensures.later in omega (arith, x, y, z)
+    let x = inv.later in let y = c.put_notes.ensures.later in let z = c.put_memory.ensures.later in omega (arith, x, y, z)
 
 pub returns-clause-ran : goal.returns-clause-ran
 returns-clause-ran g c =

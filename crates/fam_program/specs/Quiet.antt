@@ -1,0 +1,53 @@
+-- Events that are run with nothing put of them: how they ended, whatever is put then.
+use Rattle.std.specs.Prelude.{ℕ, ⊤, ◌≡◌, false, List, [], ◌∷◌, take, None, Result, Ok, Err}
+use Rattle.std.specs.List.{list_any}
+use Rattle.fam_journal.specs.declared.event.Event.{Event}
+use Rattle.fam_journal.specs.declared.event.Event.TheVariants as event
+use Rattle.fam_journal.specs.Ends.{AllDone}
+use Rattle.fam_journal.specs.Events.{source_of}
+use Rattle.fam_journal.specs.Notes.{Note}
+use Rattle.fam_journal.specs.Programs.{without_last}
+use Rattle.fam_journal.specs.Runs.{Outside}
+use Rattle.fam_journal.specs.Statuses.{last_stops, note_stops}
+use Rattle.fam_events.specs.declared.fault.EventFault.{EventFault}
+use Rattle.fam_program.specs.Runs.{HasEnded, ending_of}
+
+-- all of them are done, or one ended the run early
+abbrev pub EventsEnded : Result (Unit {0}) EventFault → Outside → List Event → List Note → Type 0
+EventsEnded (Ok x) out events journal = HasEnded AllDone out events journal
+EventsEnded (Err fault) out events journal = HasEnded (ending_of fault) out events journal
+
+-- Events of which the last note may stop the run: a host is declared, or a command without a source is run.
+
+abbrev pub IsShotEvent : Event → Type 0
+IsShotEvent (event.Host name uuid) = ⊤
+IsShotEvent (event.Mkfs name fs unit log force) = ⊥
+IsShotEvent (event.Begin name what) = ⊥
+IsShotEvent (event.Run name what) = source_of what ≡ None
+IsShotEvent (event.Step name count) = ⊥
+IsShotEvent (event.Finish name) = ⊥
+IsShotEvent (event.Stop name) = ⊥
+IsShotEvent (event.Halt name) = ⊥
+IsShotEvent (event.Evict name line) = ⊥
+IsShotEvent (event.Leak name line mask) = ⊥
+IsShotEvent (event.Fetch name line mask) = ⊥
+
+abbrev pub AreShotEvents : List Event → Type 0
+AreShotEvents [] = ⊤
+AreShotEvents (event ∷ events) = IsShotEvent event × AreShotEvents events
+
+-- no note but the last one stops
+abbrev pub GoesOn : List Note → Type 0
+GoesOn journal = list_any note_stops (without_last journal) ≡ false
+
+-- the first ones are done, up to a note that stops; where none does, all are
+pub record HasStopped (out : Outside) (events : List Event) (journal : List Note) : Type 0 where
+  pub count : ℕ
+  pub ended : HasEnded AllDone out (take count events) journal
+  pub goes_on : GoesOn journal
+  pub all : last_stops journal ≡ false → take count events ≡ events
+
+-- or one of them ended the run early
+abbrev pub ShotEnded : Result (Unit {0}) EventFault → Outside → List Event → List Note → Type 0
+ShotEnded (Ok x) out events journal = HasStopped out events journal
+ShotEnded (Err fault) out events journal = HasEnded (ending_of fault) out events journal × GoesOn journal

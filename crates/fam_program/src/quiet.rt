@@ -1,0 +1,78 @@
+//! Events that are run with nothing put of them.
+
+ghost use Rattle.std.specs.Prelude.{◌≡◌};
+ghost use Rattle.fam_media.specs.Causes.{IsSteady};
+ghost use Rattle.fam_sources.specs.Whole.{IsShelfSteady, changed};
+ghost use Rattle.fam_journal.specs.View.{empty_world};
+ghost use Rattle.fam_program.specs.Far.{AreSoundEvents};
+ghost use Rattle.fam_program.specs.Puts.{SinkChange};
+ghost use Rattle.fam_program.specs.Quiet.{AreShotEvents, EventsEnded, ShotEnded};
+ghost use Rattle.fam_program.specs.Runs.{outside_of};
+
+use crate::script::is_image;
+use fam_events::{EventFault, happen};
+use fam_journal::Event;
+use fam_media::{Media, Shelf};
+use fam_outcomes::last_stops;
+use fam_world::World;
+use std::alloc::Global;
+
+/// Runs events in their order on a media, with sources from a shelf. The world has no host and no note before, and
+/// keeps the notes of the run.
+///
+/// The run ends early where the media fails in a mkfs, a source can't be read to its end, or no memory is left.
+pub(crate) fn run_events<M: Media, S: Shelf>(
+    alloc: Global,
+    world: &mut World,
+    events: Vec<Event>,
+    media: &mut M,
+    shelf: &mut S,
+) -> Result<(), EventFault>
+    requires fresh { world.old ≡ empty_world }
+    requires sound { AreSoundEvents events.items }
+    ensures ended { (sink : SinkChange) → EventsEnded result (outside_of M.size M.image M.faults media.old media.new
+        (changed S.files S.faults S.shorts shelf.old shelf.new) sink) events.items world.new.journal }
+    ensures steady { IsSteady M.size M.faults media.old media.new }
+    ensures shelf { IsShelfSteady S.files S.faults S.shorts shelf.old shelf.new }
+{
+    is_image(media);
+    let mut copied = 0;
+    'events: for event in events {
+        match happen(alloc, world, media, shelf, &mut copied, event) {
+            Ok(()) => {}
+            Err(fault) => return Err(fault),
+        }
+    }
+    Ok(())
+}
+
+/// Runs events in their order up to the first note that stops them, as the making of directories along a path stops.
+/// Else it is as `run_events`.
+pub(crate) fn run_until_stop<M: Media, S: Shelf>(
+    alloc: Global,
+    world: &mut World,
+    events: Vec<Event>,
+    media: &mut M,
+    shelf: &mut S,
+) -> Result<(), EventFault>
+    requires fresh { world.old ≡ empty_world }
+    requires sound { AreSoundEvents events.items }
+    requires shot { AreShotEvents events.items }
+    ensures ended { (sink : SinkChange) → ShotEnded result (outside_of M.size M.image M.faults media.old media.new
+        (changed S.files S.faults S.shorts shelf.old shelf.new) sink) events.items world.new.journal }
+    ensures steady { IsSteady M.size M.faults media.old media.new }
+    ensures shelf { IsShelfSteady S.files S.faults S.shorts shelf.old shelf.new }
+{
+    is_image(media);
+    let mut copied = 0;
+    'events: for event in events {
+        match happen(alloc, world, media, shelf, &mut copied, event) {
+            Ok(()) => {}
+            Err(fault) => return Err(fault),
+        }
+        if last_stops(world.journal()) {
+            return Ok(());
+        }
+    }
+    Ok(())
+}

@@ -1,0 +1,126 @@
+//! The script of a file: it is read from the shelf, and its events are run.
+
+ghost use Rattle.std.specs.Prelude.{◌≡◌, ◌≤◌, [], IfErr, IfOk, Some};
+ghost use Rattle.fam_media.specs.Causes.{IsSteady};
+ghost use Rattle.fam_sources.specs.Whole.{IsShelfSteady, changed};
+ghost use Rattle.fam_journal.specs.Programs.{Script, TopEnds};
+ghost use Rattle.fam_journal.specs.Programs as program;
+ghost use Rattle.fam_grammar.specs.Scripts.{script_events};
+ghost use Rattle.fam_storm.specs.Storm.{storm};
+ghost use Rattle.fam_program.specs.Far.{AreSoundEvents};
+ghost use Rattle.fam_program.specs.Files.{HoldsEvents, HoldsScript, IsUnread, PutsEarly, early_of};
+ghost use Rattle.fam_program.specs.Runs.{outside_of};
+ghost use Rattle.fam_program.specs.Puts.{sink_changed};
+
+use crate::fault::ScriptFault;
+use crate::lines::{end_line, line_of, line_with_name};
+use crate::puts::{put_line, put_memory};
+use crate::read::read_script;
+use crate::script::run_script;
+use fam_base::OutOfMemory;
+use fam_grammar::LineFault;
+use fam_journal::{Event, Status};
+use fam_media::{Media, Shelf, Sink};
+use fam_sources::{SourceEnd, WholeFault, read_whole};
+use std::alloc::Global;
+
+/// The most bytes of a script: 16 MiB.
+pub const SCRIPT_LIMIT: u64 = 16_777_216;
+
+/// The bytes of a script.
+fn script_bytes<S: Shelf>(alloc: Global, shelf: &mut S, name: &str) -> Result<Vec<u8>, ScriptFault>
+    ensures bytes { IfOk result (λ bytes. HoldsScript (changed S.files S.faults S.shorts shelf.old shelf.new) name.now bytes.items) }
+    ensures fault { IfErr result (IsUnread (changed S.files S.faults S.shorts shelf.old shelf.new) name.now) }
+    ensures steady { IsShelfSteady S.files S.faults S.shorts shelf.old shelf.new }
+{
+    match read_whole(alloc, shelf, name, 0, SCRIPT_LIMIT) {
+        Ok(bytes) => Ok(bytes),
+        Err(WholeFault::NoFile) => Err(ScriptFault::NoFile),
+        Err(WholeFault::TooLong(size)) => Err(ScriptFault::TooLong(size)),
+        Err(WholeFault::Faulted) => Err(ScriptFault::Ended(SourceEnd::Faulted)),
+        Err(WholeFault::Short { size, got }) => {
+            Err(ScriptFault::Ended(SourceEnd::Short { size, got }))
+        }
+        Err(WholeFault::OutOfMemory) => Err(ScriptFault::OutOfMemory),
+    }
+}
+
+/// The events of a script.
+fn events_of<S: Shelf>(alloc: Global, shelf: &mut S, name: &str) -> Result<Vec<Event>, ScriptFault>
+    ensures read { IfOk result (λ events. HoldsEvents (changed S.files S.faults S.shorts shelf.old shelf.new) name.now events.items) }
+    ensures sound { IfOk result (λ events. AreSoundEvents events.items) }
+    ensures fault { IfErr result (IsUnread (changed S.files S.faults S.shorts shelf.old shelf.new) name.now) }
+    ensures steady { IsShelfSteady S.files S.faults S.shorts shelf.old shelf.new }
+{
+    let bytes = script_bytes(alloc, shelf, name)?;
+    match read_script(alloc, bytes.as_slice()) {
+        Ok(events) => Ok(events),
+        Err(LineFault::BadLine { line, column }) => Err(ScriptFault::BadLine { line, column }),
+        Err(LineFault::OutOfMemory) => Err(ScriptFault::OutOfMemory),
+    }
+}
+
+/// The line that says why a script isn't run.
+fn fault_line(alloc: Global, name: &str, fault: ScriptFault) -> Result<Vec<u8>, OutOfMemory>
+    ensures { IfOk result (λ line. line.items ≡ program.early_text (early_of name.now fault)) }
+{
+    match fault {
+        ScriptFault::NoFile => line_with_name(alloc, "no file", name),
+        ScriptFault::TooLong(size) => {
+            line_of(alloc, format!(in alloc; "script too long {size}"))
+        }
+        ScriptFault::Ended(end) => end_line(alloc, end),
+        ScriptFault::BadLine { line, column } => {
+            line_of(alloc, format!(in alloc; "bad line {line} {column}"))
+        }
+        ScriptFault::OutOfMemory => Err(OutOfMemory),
+    }
+}
+
+/// The status of a script that isn't run.
+fn fault_status(fault: ScriptFault) -> Status
+    ensures { result ≡ program.early_status (early_of [] fault) }
+{
+    match fault {
+        ScriptFault::NoFile => Status::Refused,
+        ScriptFault::TooLong(_) => Status::BadScript,
+        ScriptFault::Ended(_) => Status::SourceFault,
+        ScriptFault::BadLine { .. } => Status::BadScript,
+        ScriptFault::OutOfMemory => Status::OutOfMemory,
+    }
+}
+
+/// Puts why a script isn't run, or that no memory is left to say so, and gives the status.
+fn put_fault<K: Sink>(alloc: Global, name: &str, fault: ScriptFault, out: &mut K) -> Status
+    ensures put { PutsEarly (early_of name.now fault) (sink_changed K.bytes K.faults out.old out.new) result }
+    ensures later { K.faults out.old ≤ K.faults out.new }
+{
+    match fault_line(alloc, name, fault) {
+        Ok(line) => put_line(out, fault_status(fault), line.as_slice()),
+        Err(_) => put_memory(out),
+    }
+}
+
+/// Runs the script of a file of the shelf, on a media, with the other files of the shelf as sources; puts the notes of
+/// each event when it is done, and gives the status of the run.
+///
+/// No event is run where there is no such file, it has more than [`SCRIPT_LIMIT`] bytes, it can't be read to its end, a
+/// line of it is bad, or no memory is left for it: a line says so, and the media is left as it was.
+pub fn run_script_file<M: Media, S: Shelf, K: Sink>(
+    alloc: Global,
+    name: &str,
+    media: &mut M,
+    shelf: &mut S,
+    out: &mut K,
+) -> Status
+    ensures ends { TopEnds script_events storm (Some (Script name.now)) (outside_of M.size M.image M.faults media.old media.new
+        (changed S.files S.faults S.shorts shelf.old shelf.new) (sink_changed K.bytes K.faults out.old out.new)) result }
+    ensures steady { IsSteady M.size M.faults media.old media.new }
+    ensures shelf { IsShelfSteady S.files S.faults S.shorts shelf.old shelf.new }
+    ensures later { K.faults out.old ≤ K.faults out.new }
+{
+    match events_of(alloc, shelf, name) {
+        Ok(events) => run_script(alloc, events, media, shelf, out),
+        Err(fault) => put_fault(alloc, name, fault, out),
+    }
+}

@@ -1,0 +1,136 @@
+//! Storms: a script of random events is run, with one line for the whole run; or it is put as it is.
+
+ghost use Rattle.std.specs.Prelude.{◌≡◌, ◌≤◌, ◌⊎◌, IfOk, List, Ok, Some, length};
+ghost use Rattle.fam_grammar.specs.Scripts.{script_events};
+ghost use Rattle.fam_journal.specs.declared.event.Event.{Event as Happening};
+ghost use Rattle.fam_journal.specs.declared.status.Status.TheVariants.{OutOfMemory as WantsMemory};
+ghost use Rattle.fam_journal.specs.Names.{NameDeclared};
+ghost use Rattle.fam_journal.specs.Programs.{Storm, TopEnds, memory_line};
+ghost use Rattle.fam_journal.specs.Programs as program;
+ghost use Rattle.fam_program.specs.Far.{AreSoundEvents};
+ghost use Rattle.fam_program.specs.Puts.{Put, sink_changed};
+ghost use Rattle.fam_program.specs.Runs.{outside_of};
+ghost use Rattle.fam_media.specs.Causes.{IsSteady};
+ghost use Rattle.fam_sources.specs.Whole.{IsShelfSteady, changed};
+ghost use Rattle.fam_storm.specs.Events.{ReadNoSource};
+ghost use Rattle.fam_storm.specs.Storm.{storm as storm_text};
+
+use crate::lines::MEMORY;
+use crate::puts::put_line;
+use crate::quiet::run_events;
+use crate::read::read_script;
+use fam_base::OutOfMemory;
+use fam_events::EventFault;
+use fam_grammar::LineFault;
+use fam_journal::{Event, Status};
+use fam_media::{Media, Shelf, Sink};
+use fam_outcomes::{count_notes, storm_line, text_crc};
+use fam_storm::{a_storm_is_an_event_for_each_line, a_storm_reads_no_source, storm};
+use fam_world::World;
+use std::alloc::Global;
+
+/// The events of a storm's script. Each line is one, and none of them reads a source.
+fn storm_events(
+    alloc: Global,
+    seed: u64,
+    size: u64,
+    script: &[u8],
+) -> Result<Vec<Event>, OutOfMemory>
+    requires small { size ≤ 100000 }
+    requires script { script.now ≡ storm_text seed size }
+    ensures read { IfOk result (λ events. script_events (storm_text seed size) ≡ Ok events.items) }
+    ensures sound { IfOk result (λ events. AreSoundEvents events.items) }
+    ensures sources { IfOk result (λ events. ReadNoSource events.items) }
+{
+    a_storm_is_an_event_for_each_line();
+    a_storm_reads_no_source();
+    match read_script(alloc, script) {
+        Ok(events) => Ok(events),
+        Err(LineFault::OutOfMemory) => Err(OutOfMemory),
+        Err(LineFault::BadLine { .. }) => unreachable!(),
+    }
+}
+
+/// The line of a storm that was run, with so many events in its script.
+fn summary(
+    alloc: Global,
+    seed: u64,
+    size: u64,
+    events: u64,
+    world: &World,
+) -> Result<Vec<u8>, OutOfMemory>
+    requires named { NameDeclared 0 world.now.journal }
+    ensures { (all : List Happening) → events ≡ length all
+        → IfOk result (λ line. line.items ≡ program.storm_line seed size all world.now.journal) }
+{
+    let notes = world.journal();
+    let counts = count_notes(notes);
+    let crc = text_crc(alloc, notes)?;
+    storm_line(alloc, seed, size, events, &counts, crc)
+}
+
+/// Puts the line of a storm that was run, with so many events in its script, and gives the status that it ended with.
+fn put_summary<K: Sink>(
+    alloc: Global,
+    seed: u64,
+    size: u64,
+    events: u64,
+    world: &World,
+    own: Status,
+    out: &mut K,
+) -> Status
+    requires named { NameDeclared 0 world.now.journal }
+    ensures put { (all : List Happening) → events ≡ length all
+        → Put own (program.storm_line seed size all world.now.journal) (sink_changed K.bytes K.faults out.old out.new) result
+        ⊎ Put WantsMemory memory_line (sink_changed K.bytes K.faults out.old out.new) result }
+    ensures later { K.faults out.old ≤ K.faults out.new }
+{
+    match summary(alloc, seed, size, events, world) {
+        Ok(line) => put_line(out, own, line.as_slice()),
+        Err(_) => put_line(out, Status::OutOfMemory, MEMORY.as_bytes()),
+    }
+}
+
+/// Runs the storm of a seed and a size, of at most 100,000 turns, on a media, and puts its line: how many events its
+/// script has, what is counted of the notes, and the CRC-32 of their text. With `prints` its script is put, and nothing
+/// is run.
+///
+/// The run ends early where the media fails in a mkfs, and the line is put all the same; or where no memory is left,
+/// which is then put alone. No event of a storm reads a source.
+pub fn run_storm<M: Media, S: Shelf, K: Sink>(
+    alloc: Global,
+    seed: u64,
+    size: u64,
+    prints: bool,
+    media: &mut M,
+    shelf: &mut S,
+    out: &mut K,
+) -> Status
+    requires small { size ≤ 100000 }
+    ensures ends { TopEnds script_events storm_text (Some (Storm seed size prints)) (outside_of M.size M.image M.faults
+        media.old media.new (changed S.files S.faults S.shorts shelf.old shelf.new)
+        (sink_changed K.bytes K.faults out.old out.new)) result }
+    ensures steady { IsSteady M.size M.faults media.old media.new }
+    ensures shelf { IsShelfSteady S.files S.faults S.shorts shelf.old shelf.new }
+    ensures later { K.faults out.old ≤ K.faults out.new }
+{
+    let Ok(script) = storm(alloc, seed, size) else {
+        return put_line(out, Status::OutOfMemory, MEMORY.as_bytes());
+    };
+    if prints {
+        return put_line(out, Status::Done, script.as_slice());
+    }
+    let Ok(events) = storm_events(alloc, seed, size, script.as_slice()) else {
+        return put_line(out, Status::OutOfMemory, MEMORY.as_bytes());
+    };
+    let count = events.len() as u64;
+    let mut world = World::new(alloc);
+    match run_events(alloc, &mut world, events, media, shelf) {
+        Ok(()) => put_summary(alloc, seed, size, count, &world, Status::Done, out),
+        Err(EventFault::MkfsFailed) => {
+            put_summary(alloc, seed, size, count, &world, Status::MediaFault, out)
+        }
+        Err(EventFault::SourceEnded(_)) => unreachable!(),
+        Err(EventFault::OutOfMemory) => put_line(out, Status::OutOfMemory, MEMORY.as_bytes()),
+    }
+}
