@@ -7,3 +7,4 @@ pub mod Finish
 pub mod Exact
 pub mod Twins
 pub mod Struck
+pub mod Files

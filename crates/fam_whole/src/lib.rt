@@ -1,11 +1,17 @@
 //! Scripts of whole commands: hosts that run one tool at a time. Laws with empty bodies.
 #![tactic(auto)]
 
-ghost use Rattle.std.specs.Prelude.{◌≡◌, true, List};
-ghost use Rattle.fam_base.specs.Image.{Image};
-ghost use Rattle.fam_journal.specs.Events.{DoesEvent, Session};
+ghost use Rattle.std.specs.Prelude.{◌≡◌, ℕ, true, List, Option, None, Some, slice_get};
+ghost use Rattle.fam_base.specs.declared.entry.Params.{Params};
+ghost use Rattle.fam_base.specs.Image.{Image, line_at};
+ghost use Rattle.fam_rules.specs.Asks.{File, entries_of};
+ghost use Rattle.fam_rules.specs.Place.{StandsAt};
+ghost use Rattle.fam_rules.specs.Solo.{held_file};
+ghost use Rattle.fam_journal.specs.Events.{DoesEvent, Session, first_session};
+ghost use Rattle.fam_journal.specs.Follows.{Follows};
 ghost use Rattle.fam_journal.specs.Laws.{AreSound, IsImage};
 ghost use Rattle.fam_journal.specs.Notes.{Note};
+ghost use Rattle.fam_journal.specs.Past.{Sound, past_of, with_pending};
 ghost use Rattle.fam_journal.specs.declared.event.Event.{Event};
 ghost use Rattle.fam_media.specs.Files.{Files};
 ghost use Rattle.fam_whole.specs.Whole.{AreAlike, AreRefusals, IsExact, WholeRun, commands_in, is_move};
@@ -28,4 +34,21 @@ pub fn moves_between_commands_change_nothing()
         → (a : WholeRun files one start) (b : WholeRun files other start) → AreAlike a b }
     ensures moves { (files : Files) (event : Event) (old new : Session) (notes : List Note) → is_move event ≡ true
         → DoesEvent files event old notes new → AreRefusals notes }
+{}
+
+/// Whatever the run, also where hosts' steps interleave: at its end no byte of the device is a byte of two files, nor
+/// twice one of one, of the files that are settled and the one that is pending (`apart`). Where each command ends before
+/// the next one begins, and the media doesn't fail, the image has at their places the bytes that the journal tells of each
+/// file: those that its command put there, or that the first image had (`held`).
+pub fn no_byte_is_in_two_files()
+    ensures apart { (files : Files) (events : List Event) (start : Image) (journal : List Note) (last : Session)
+        (p : Params) (history : List File) (pending : Option File) → IsImage start → AreSound events
+        → Follows files events (first_session start) journal last
+        → (past_of start journal).state ≡ Sound p history pending
+        → (i j a b byte : ℕ) → StandsAt (entries_of (with_pending history pending)) i a byte
+        → StandsAt (entries_of (with_pending history pending)) j b byte → (i ≡ j) × (a ≡ b) }
+    ensures held { (files : Files) (events : List Event) (start : Image) (p : Params) (history : List File)
+        → IsImage start → AreSound events → (run : WholeRun files events start)
+        → (past_of start run.journal).state ≡ Sound p history None
+        → (i : ℕ) (f : File) → slice_get history i ≡ Some f → f ≡ held_file (line_at run.last.machines.memory) f.entry }
 {}
