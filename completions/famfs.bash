@@ -4,10 +4,12 @@
 _famfs_options() {
     case $1 in
         mkfs) echo "-u --unit -l --loglen -f --force --uuid --system" ;;
-        mkdir) echo "-m --mode -u --uid -g --gid --system" ;;
+        mkdir) echo "-p --parents -m --mode -u --uid -g --gid --system" ;;
         creat) echo "-s --size -S --seed -m --mode -u --uid -g --gid -N --nstrips -B --nbuckets -C --chunksize --system" ;;
         cp) echo "-m --mode -u --uid -g --gid -N --nstrips -B --nbuckets -C --chunksize --system" ;;
         verify) echo "-S --seed --source --system" ;;
+        storm) echo "-p --print" ;;
+        script) ;;
         *) echo "--system" ;;
     esac
 }
@@ -17,7 +19,7 @@ _famfs() {
     COMPREPLY=()
     if [ "$name" = famfs ]; then
         if [ "$COMP_CWORD" = 1 ]; then
-            mapfile -t COMPREPLY < <(compgen -W "mkfs logplay mkdir creat cp verify read check fsck" -- "$word")
+            mapfile -t COMPREPLY < <(compgen -W "mkfs logplay mkdir creat cp verify read check fsck script storm" -- "$word")
             return
         fi
         command=${COMP_WORDS[1]}

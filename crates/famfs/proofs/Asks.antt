@@ -9,7 +9,7 @@ use Rattle.fam_sources.specs.declared.sourced.Sourced.{Sourced}
 use Rattle.fam_sources.specs.declared.sourced.Sourced.TheVariants as sourced
 use Rattle.fam_sources.specs.Sourced.{IsSourced}
 use Rattle.fam_sources.specs.Whole.{ShelfChange}
-use Rattle.famfs.specs.declared.top.Shown.{Shown}
+use Rattle.famfs.specs.declared.single.Shown.{Shown}
 use Rattle.famfs.specs.Ends.{AskShows, LeavesImage, MediaChange, Run}
 use Rattle.famfs.specs.Expected.{IsTaskStopped, small_said}
 use Rattle.famfs.specs.Says.{ShowsSaid, TaskSays}

@@ -10,13 +10,10 @@ use Rattle.fam_tasks.specs.declared.answer.Answer.TheVariants as answer
 use Rattle.famfs.specs.declared.said.CommandResult.{CommandResult}
 use Rattle.famfs.specs.declared.said.CommandResult.TheVariants as said
 use Rattle.fam_journal.specs.declared.status.Status.{Status}
-use Rattle.famfs.specs.declared.top.Shown.{Shown}
+use Rattle.famfs.specs.declared.single.Shown.{Shown}
 use Rattle.fam_journal.specs.declared.status.Status.TheVariants.{Done, Refused, MediaFault, Damaged}
 use Rattle.famfs.specs.Expected.{Command, CommandCall, Log, Mkfs, IsBroken, IsExpected, IsMkfsBroken, IsMkfsExpected, IsOfCall, IsOfMkfs, IsOfTask, IsStopped, IsTaskBroken, IsTaskExpected, IsTaskStopped, early_of, early_said, fault_said, fs_or, refused_said, small_said}
-use Rattle.fam_sources.specs.Whole.{ShelfChange}
-use Rattle.famfs.specs.declared.request.Request.{Request}
-use Rattle.famfs.specs.declared.request.Request.TheVariants as request_type
-use Rattle.famfs.specs.Ends.{CommandShows, RequestShows, host_or, IsShown, LeavesImage, MediaChange, ShowsFault, ShowsOutOfMemory}
+use Rattle.famfs.specs.Ends.{CommandShows, IsShown, LeavesImage, MediaChange, ShowsFault, ShowsOutOfMemory}
 use Rattle.fam_journal.specs.Statuses.{is_checked_equal}
 use Rattle.fam_journal.specs.Texts.{is_sound_report}
 use Rattle.famfs.specs.CommandResult.{answer_status, said_status, said_text, sound_status}
@@ -153,13 +150,11 @@ pub shows_what : {E : Type 0} (r : Result Shown E) (early : Option CommandResult
 shows_what (Ok shown) early says said holds first status text = record { shown = said; says_it = holds; early_is = first; status_is = status; text_is = text }
 shows_what (Err none) early says said holds first status text = tt
 
--- a request to make a file system shows what that says
-pub mkfs_request : {E : Type 0} (r : Result Shown E) (media : MediaChange) (shelf : ShelfChange) (me random : List ℕ) (request : Request) (system fs : Option (List ℕ)) (unit log : ℕ) (force : Bool) → request ≡ request_type.Mkfs system fs unit log force
-    → (id host : List ℕ) → id ≡ fs_or random fs → host ≡ host_or me system → IfOk r (λ shown. ShowsSaid (refused_said unit log media.size) (MkfsSays media host id unit log force) shown.status shown.text.items)
-    → IfOk r (λ shown. RequestShows request media shelf me random shown.status shown.text.items)
-mkfs_request (Err none) media shelf me random request system fs unit log force is id host named on shows = tt
-mkfs_request (Ok shown) media shelf me random request system fs unit log force is id host named on shows =
-    subst (λ (q : Request). RequestShows q media shelf me random shown.status shown.text.items) (sym is)
-    (mkfs_shows media (host_or me system) random fs unit log force shown.status shown.text.items
-    (subst (λ (x : List ℕ). ShowsSaid (refused_said unit log media.size) (MkfsSays media x (fs_or random fs) unit log force) shown.status shown.text.items) on
-    (subst (λ (y : List ℕ). ShowsSaid (refused_said unit log media.size) (MkfsSays media host y unit log force) shown.status shown.text.items) named shows)))
+-- making the file system that is asked for shows what that says
+pub mkfs_asked : {E : Type 0} (r : Result Shown E) (media : MediaChange) (me random : List ℕ) (fs : Option (List ℕ)) (unit log : ℕ) (force : Bool)
+    → (id : List ℕ) → id ≡ fs_or random fs → IfOk r (λ shown. ShowsSaid (refused_said unit log media.size) (MkfsSays media me id unit log force) shown.status shown.text.items)
+    → IfOk r (λ shown. CommandShows media (record { command = Mkfs fs unit log force; me = me; random = random }) shown.status shown.text.items)
+mkfs_asked (Err none) media me random fs unit log force id named shows = tt
+mkfs_asked (Ok shown) media me random fs unit log force id named shows =
+    mkfs_shows media me random fs unit log force shown.status shown.text.items
+    (subst (λ (y : List ℕ). ShowsSaid (refused_said unit log media.size) (MkfsSays media me y unit log force) shown.status shown.text.items) named shows)

@@ -1,4 +1,4 @@
--- How a call of the program ends: the one clause of the top call, by its status.
+-- What a command of its own shows, leaves and puts.
 use Rattle.std.specs.Prelude.{ℕ, ◌≡◌, ◌≤◌, ◌<◌, ◌⊎◌, List, [], ◌++◌, codes, Option, Some, None, option_map}
 use Rattle.fam_base.specs.declared.cmd.Cmd.{Cmd}
 use Rattle.fam_base.specs.declared.line.LineNo.{LineNo}
@@ -11,12 +11,11 @@ use Rattle.fam_journal.specs.declared.refusal.Refusal.{Refusal}
 use Rattle.fam_journal.specs.declared.status.Status.{Status}
 use Rattle.fam_journal.specs.declared.status.Status.TheVariants.{Done, Refused, Usage, BadScript, MediaFault, SourceFault, SinkFault, OutOfMemory, Damaged}
 use Rattle.fam_journal.specs.Programs.{memory_line, source_line, usage_line}
+use Rattle.fam_journal.specs.Runs.{Outside}
 use Rattle.fam_journal.specs.Texts.{line, refusal_text}
 use Rattle.fam_sources.specs.declared.sourced.SourceEnd.{SourceEnd}
 use Rattle.fam_sources.specs.Sourced.{IsEnded, IsReady, IsUnfit, end_of}
 use Rattle.fam_sources.specs.Whole.{ShelfChange}
-use Rattle.famfs.specs.declared.request.Request.{Request}
-use Rattle.famfs.specs.declared.request.Request.TheVariants as request
 use Rattle.famfs.specs.declared.said.CommandResult.{CommandResult}
 use Rattle.famfs.specs.declared.said.CommandResult.TheVariants as said
 use Rattle.famfs.specs.Expected.{CommandCall, IsBroken, IsExpected, IsOfCall, IsStopped, Log, Mkfs, early_of, early_said, fault_said}
@@ -35,17 +34,12 @@ abbrev pub passed : {S : Type 0} → (S → Option Image) → (S → ℕ) → (S
 passed image size faults old now =
     record { image = image old; image_now = image now; size = size old; faults = faults old; faults_now = faults now }
 
--- what the call meets: what the words ask for, its host and random bytes, and media, shelf and sink before and after it
-pub record Invocation : Type 0 where
-  pub request : Option Request
-  pub me : List ℕ
-  pub random : List ℕ
-  pub media : MediaChange
-  pub shelf : ShelfChange
-  pub sink_before : ℕ
-  pub sink_now : ℕ
-  pub put_before : Option (List ℕ)
-  pub put_now : Option (List ℕ)
+-- of what a call meets and leaves, what its media and its shelf tell
+abbrev pub media_of : Outside → MediaChange
+media_of out = record { image = out.image; image_now = out.image_now; size = out.lines; faults = out.faults; faults_now = out.faults_now }
+
+abbrev pub shelf_of : Outside → ShelfChange
+shelf_of out = record { files = out.files; faults = out.shelf; faults_now = out.shelf_now; shorts = out.shorts; shorts_now = out.shorts_now }
 
 -- where an image is modelled, the call leaves one that meets P beside it
 abbrev pub LeavesImage : MediaChange → (Image → Image → Type 0) → Type 0
@@ -138,51 +132,37 @@ pub data AskShows (media : MediaChange) (shelf : ShelfChange) (me random : List 
   Ended : ShowsEnded media shelf what status text → AskShows media shelf me random what status text
   NoMemory : ShowsNoMemory media status text → AskShows media shelf me random what status text
 
--- the UUID of the host
-abbrev pub host_or : List ℕ → Option (List ℕ) → List ℕ
-host_or me None = me
-host_or me (Some system) = system
+-- What is put.
 
--- what a request may show, for a host of this UUID where it names no other, and with these random bytes
-abbrev pub RequestShows : Request → MediaChange → ShelfChange → List ℕ → List ℕ → Status → List ℕ → Type 0
-RequestShows (request.Log system ask) media shelf me random status text =
-    AskShows media shelf (host_or me system) random ask status text
-RequestShows (request.Mkfs system fs unit log force) media shelf me random status text =
-    CommandShows media (record { command = Mkfs fs unit log force; me = host_or me system; random = random }) status text
-
-abbrev pub MayShowBy : Option Request → Invocation → Status → List ℕ → Type 0
-MayShowBy None m status text = UsageShows m.media status text
-MayShowBy (Some request) m status text = RequestShows request m.media m.shelf m.me m.random status text
-
--- or no memory was left for the words
-abbrev pub MayShow : Invocation → Status → List ℕ → Type 0
-MayShow m status text = MayShowBy m.request m status text ⊎ ShowsNoMemory m.media status text
+-- what may be shown, by its status and its text; or no memory was left before anything was done
+abbrev pub OrNoMemory : MediaChange → (Status → List ℕ → Type 0) → Status → List ℕ → Type 0
+OrNoMemory media Shows status text = Shows status text ⊎ ShowsNoMemory media status text
 
 -- the whole text was put behind what stood there
-pub record PutsWhole (m : Invocation) (status : Status) : Type 0 where
+pub record PutsWhole (Shows : Status → List ℕ → Type 0) (out : Outside) (status : Status) : Type 0 where
   pub text : List ℕ
-  pub shows : MayShow m status text
-  pub put : m.put_now ≡ option_map (with_piece text) m.put_before
+  pub shows : OrNoMemory (media_of out) Shows status text
+  pub put : out.bytes_now ≡ option_map (with_piece text) out.bytes
 
 -- the sink failed: its count rose, and what was put is a prefix of a text that may be shown
-pub record PutsPrefix (m : Invocation) : Type 0 where
-  pub rose : Rose m.sink_before m.sink_now
+pub record PutsPrefix (Shows : Status → List ℕ → Type 0) (out : Outside) : Type 0 where
+  pub rose : Rose out.sink out.sink_now
   pub status : Status
   pub text : List ℕ
-  pub shows : MayShow m status text
-  pub put : IsPartlyPut m.put_before m.put_now text
+  pub shows : OrNoMemory (media_of out) Shows status text
+  pub put : IsPartlyPut out.bytes out.bytes_now text
 
--- what a call leaves, by the status with which it ends
-abbrev pub CallEnds : Invocation → Status → Type 0
-CallEnds m SinkFault = PutsPrefix m
-CallEnds m Done = PutsWhole m Done
-CallEnds m Refused = PutsWhole m Refused
-CallEnds m Usage = PutsWhole m Usage
-CallEnds m BadScript = PutsWhole m BadScript
-CallEnds m SourceFault = PutsWhole m SourceFault
-CallEnds m MediaFault = PutsWhole m MediaFault
-CallEnds m OutOfMemory = PutsWhole m OutOfMemory
-CallEnds m Damaged = PutsWhole m Damaged
+-- what is shown is put, by the status with which the call ends
+abbrev pub PutsShown : (Status → List ℕ → Type 0) → Outside → Status → Type 0
+PutsShown Shows out SinkFault = PutsPrefix Shows out
+PutsShown Shows out Done = PutsWhole Shows out Done
+PutsShown Shows out Refused = PutsWhole Shows out Refused
+PutsShown Shows out Usage = PutsWhole Shows out Usage
+PutsShown Shows out BadScript = PutsWhole Shows out BadScript
+PutsShown Shows out SourceFault = PutsWhole Shows out SourceFault
+PutsShown Shows out MediaFault = PutsWhole Shows out MediaFault
+PutsShown Shows out OutOfMemory = PutsWhole Shows out OutOfMemory
+PutsShown Shows out Damaged = PutsWhole Shows out Damaged
 
 -- a text was put whole and the status is its own, or the sink failed
 pub record PutAs (status : Status) (text : List ℕ) (before now : ℕ) (put_before put_now : Option (List ℕ)) (result : Status) : Type 0 where

@@ -3,4 +3,5 @@ pub mod Words
 pub mod CommandResult
 pub mod Expected
 pub mod Ends
+pub mod Calls
 pub mod Says

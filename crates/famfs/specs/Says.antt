@@ -1,5 +1,5 @@
 -- What the parts of a call promise: what is said, with what it leaves of the media.
-use Rattle.std.specs.Prelude.{ℕ, Bool, ◌≡◌, ◌<◌, List, Option}
+use Rattle.std.specs.Prelude.{ℕ, Bool, ◌≡◌, ◌<◌, List, Option, Result, Ok, Err}
 use Rattle.fam_base.specs.declared.cmd.Cmd.{Cmd}
 use Rattle.fam_base.specs.declared.line.LineNo.{LineNo}
 use Rattle.fam_base.specs.Image.{Image}
@@ -11,7 +11,10 @@ use Rattle.famfs.specs.declared.said.CommandResult.{CommandResult}
 use Rattle.famfs.specs.declared.said.CommandResult.TheVariants as said
 use Rattle.famfs.specs.Expected.{IsMkfsBroken, IsMkfsExpected, IsTaskBroken, IsTaskExpected, IsTaskStopped, early_of}
 use Rattle.fam_journal.specs.declared.status.Status.{Status}
-use Rattle.famfs.specs.Ends.{LeavesImage, MediaChange}
+use Rattle.famfs.specs.declared.single.Shown.{Shown}
+use Rattle.fam_journal.specs.declared.status.Status.TheVariants.{OutOfMemory}
+use Rattle.fam_journal.specs.Programs.{memory_line}
+use Rattle.famfs.specs.Ends.{LeavesImage, MediaChange, PutAs}
 use Rattle.famfs.specs.CommandResult.{said_status, said_text}
 
 -- what is expected, by the operations that it takes
@@ -77,3 +80,8 @@ pub record ShowsSaid (early : Option CommandResult) (says : CommandResult → Ty
   pub early_is : early ≡ early_of shown
   pub status_is : status ≡ said_status shown
   pub text_is : text ≡ said_text shown
+
+-- what a command shows is put, or that no memory was left
+abbrev pub PutAsShown : {E : Type 0} → Result Shown E → (before now : ℕ) (put_before put_now : Option (List ℕ)) → Status → Type 0
+PutAsShown (Ok shown) before now put_before put_now result = PutAs shown.status shown.text.items before now put_before put_now result
+PutAsShown (Err fault) before now put_before put_now result = PutAs OutOfMemory memory_line before now put_before put_now result

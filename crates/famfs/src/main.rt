@@ -5,8 +5,8 @@
 mod file_media;
 mod file_shelf;
 mod fresh;
-mod request;
 mod said;
+mod single;
 mod std_sink;
 mod texts;
 mod top;

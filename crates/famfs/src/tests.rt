@@ -11,5 +11,7 @@ mod listings;
 mod making;
 mod manual;
 mod outside;
+mod scripts;
 mod sessions;
+mod storms;
 mod texts;

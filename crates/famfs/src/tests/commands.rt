@@ -2,10 +2,10 @@
 
 use super::images::words;
 use crate::fresh::version4;
-use crate::request::Request;
-use crate::words::{image_of, request};
+use crate::words::{image_of, order};
 use fam_base::{Attr, Cmd, Content, Stripe};
 use fam_journal::Ask;
+use fam_words::{Order, Shot};
 use std::alloc::Global;
 use std::str::from_utf8;
 use std::test::Fail;
@@ -112,22 +112,39 @@ fn uuid_text(alloc: Global, uuid: &Option<Uuid>) -> Result<String, Fail> {
     }
 }
 
-/// What is asked for, and for which host.
-fn request_text(alloc: Global, request: &Request) -> Result<String, Fail> {
-    match request {
-        Request::Log { system, ask } => {
-            let (ask, system) = (ask_text(alloc, ask)?, uuid_text(alloc, system)?);
-            Ok(format!(in alloc; "{ask} for {system}")?)
-        }
-        Request::Mkfs {
-            system,
+/// A command of its own.
+fn shot_text(alloc: Global, shot: &Shot) -> Result<String, Fail> {
+    match shot {
+        Shot::Run(ask) => ask_text(alloc, ask),
+        Shot::Mkfs {
             fs,
             unit,
             log,
             force,
         } => {
-            let (fs, system) = (uuid_text(alloc, fs)?, uuid_text(alloc, system)?);
-            Ok(format!(in alloc; "mkfs {fs} {unit} {log} {force} for {system}")?)
+            let fs = uuid_text(alloc, fs)?;
+            Ok(format!(in alloc; "mkfs {fs} {unit} {log} {force}")?)
+        }
+        Shot::Parents { path, attr } => {
+            let (path, attr) = (text(path.bytes()), attr_text(alloc, attr)?);
+            Ok(format!(in alloc; "mkdir -p {path} {attr}")?)
+        }
+    }
+}
+
+/// What is asked for, and for which host.
+fn order_text(alloc: Global, order: &Order) -> Result<String, Fail> {
+    match order {
+        Order::Single { system, shot } => {
+            let (shot, system) = (shot_text(alloc, shot)?, uuid_text(alloc, system)?);
+            Ok(format!(in alloc; "{shot} for {system}")?)
+        }
+        Order::Script { file } => {
+            let file = file.text();
+            Ok(format!(in alloc; "script {file}")?)
+        }
+        Order::Storm { seed, size, prints } => {
+            Ok(format!(in alloc; "storm {seed} {size} {prints}")?)
         }
     }
 }
@@ -139,8 +156,8 @@ fn asks(alloc: Global, line: &str, image: &str, want: &str) -> Result<bool, Fail
         Some(name) => name.text() == image,
         None => false,
     };
-    let asked = match request(alloc, &words)? {
-        Some(request) => request_text(alloc, &request)?.as_str() == want,
+    let asked = match order(alloc, &words)? {
+        Some(order) => order_text(alloc, &order)?.as_str() == want,
         None => false,
     };
     Ok(named && asked)
@@ -149,7 +166,7 @@ fn asks(alloc: Global, line: &str, image: &str, want: &str) -> Result<bool, Fail
 /// Whether the words are no command.
 fn are_none(alloc: Global, line: &str) -> Result<bool, Fail> {
     let words = words(alloc, line)?;
-    Ok(image_of(alloc, &words)?.is_none() && request(alloc, &words)?.is_none())
+    Ok(image_of(alloc, &words)?.is_none() && order(alloc, &words)?.is_none())
 }
 
 #[test]
@@ -316,6 +333,25 @@ fn values_are_spelled_as_they_should_be(rt: HostRuntime) -> Result<(), Fail> {
 }
 
 #[test]
+fn words_ask_for_scripts_storms_and_directories_along_a_path(rt: HostRuntime) -> Result<(), Fail> {
+    let alloc = rt.alloc();
+    for (line, want) in [
+        ("script f img", "script f"),
+        ("storm 7 2000 img", "storm 7 2000 false"),
+        ("storm 7 100000 img -p", "storm 7 100000 true"),
+        ("storm --print 07 1 img", "storm 7 1 true"),
+        ("mkdir img -p a", "mkdir -p a 755 0 0 for -"),
+        (
+            "mkdir --parents img a/b -m 700",
+            "mkdir -p a/b 700 0 0 for -",
+        ),
+    ] {
+        assert!(rt; asks(alloc, line, "img", want)?, "{line}");
+    }
+    Ok(())
+}
+
+#[test]
 fn other_words_are_no_command(rt: HostRuntime) -> Result<(), Fail> {
     let alloc = rt.alloc();
     for line in [
@@ -344,7 +380,6 @@ fn other_words_are_no_command(rt: HostRuntime) -> Result<(), Fail> {
         "mkdir img a -- -p",
         "mkdir img a -m --",
         "mkdir img -p -p a",
-        "mkdir img -p a",
         "creat img x",
         "creat img x -s",
         "creat img x -s 1 -s 1",
@@ -359,8 +394,13 @@ fn other_words_are_no_command(rt: HostRuntime) -> Result<(), Fail> {
         "check img",
         "fsck",
         "fsck img -f",
-        "script f img",
-        "storm 0 1 img",
+        "script f",
+        "script f img -p",
+        "storm 0 img",
+        "storm 0 0 img",
+        "storm 0 100001 img",
+        "storm -1 1 img",
+        "storm 0 1 img -p -p",
     ] {
         assert!(rt; are_none(alloc, line)?, "{line}");
     }

@@ -1,7 +1,7 @@
 use Rattle.std.proofs.Common.{◌≡◌, Ok, ap, sym, subst}
 use Rattle.fam_base.specs.Image.{IsNormal}
 use Rattle.famfs.proofs.Making.{made_early, made_says}
-use Rattle.famfs.proofs.top.make.Goals as goal
+use Rattle.famfs.proofs.single.make.Goals as goal
 use Rattle.famfs.specs.Ends.{MediaChange, passed}
 use Rattle.famfs.specs.Expected.{early_of, refused_said}
 use Rattle.famfs.specs.Says.{MkfsSays}

@@ -1,7 +1,7 @@
 use Rattle.std.proofs.lemmas.Result.{on_err_weaker}
 use Rattle.famfs.proofs.Making.{mkfs_out_of_memory}
 use Rattle.famfs.proofs.Shows.{shows_what}
-use Rattle.famfs.proofs.top.make_shown.Goals as goal
+use Rattle.famfs.proofs.single.make_shown.Goals as goal
 use Rattle.famfs.specs.Ends.{MediaChange, passed}
 use Rattle.famfs.specs.Says.{MkfsSays}
 

@@ -4,7 +4,7 @@ use Rattle.fam_journal.specs.Programs.{source_line}
 use Rattle.fam_journal.specs.Texts.{number}
 use Rattle.fam_sources.specs.declared.sourced.SourceEnd.{SourceEnd}
 use Rattle.fam_sources.specs.Sourced.{end_of}
-use Rattle.famfs.proofs.top.end_line.Goals as goal
+use Rattle.famfs.proofs.single.end_line.Goals as goal
 
 pub returns-in-Short : goal.returns-in-Short
 returns-in-Short c =

@@ -1,7 +1,7 @@
 use Rattle.std.proofs.Common.{refl}
 use Rattle.fam_cache.proofs.StoreLemmas.{on_err_too}
 use Rattle.famfs.proofs.Answered.{on_err_more, said_stopped, untouched_stopped}
-use Rattle.famfs.proofs.top.task_shown.Goals as goal
+use Rattle.famfs.proofs.single.task_shown.Goals as goal
 use Rattle.famfs.specs.Ends.{MediaChange, passed}
 
 -- src/top.rt:105:16

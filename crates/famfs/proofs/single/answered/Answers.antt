@@ -1,7 +1,7 @@
 use Rattle.std.proofs.Common.{ℕ, refl, sym, subst, arith}
 use Rattle.fam_cache.proofs.StoreLemmas.{on_err_too}
 use Rattle.famfs.proofs.Answered.{says_answer, says_small, says_stopped}
-use Rattle.famfs.proofs.top.answered.Goals as goal
+use Rattle.famfs.proofs.single.answered.Goals as goal
 use Rattle.famfs.specs.declared.said.CommandResult.TheVariants as said
 use Rattle.famfs.specs.Ends.{MediaChange, passed}
 use Rattle.famfs.specs.Says.{TaskSays}

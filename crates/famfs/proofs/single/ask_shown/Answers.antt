@@ -1,7 +1,7 @@
 use Rattle.fam_sources.specs.Whole.{ShelfChange, changed}
 use Rattle.famfs.specs.Ends.{MediaChange, passed}
 use Rattle.famfs.proofs.Asks.{run_shows, run_stopped}
-use Rattle.famfs.proofs.top.ask_shown.Goals as goal
+use Rattle.famfs.proofs.single.ask_shown.Goals as goal
 
 -- the command has its source's bytes
 pub returns-in-Ready-clause-shows : goal.returns-in-Ready-clause-shows
