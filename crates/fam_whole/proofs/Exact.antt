@@ -18,6 +18,8 @@ use Rattle.fam_media.specs.Files.{Files}
 use Rattle.fam_machine.proofs.MkfsOps.{all_sent, clean_formats, read_image, read_sent}
 use Rattle.fam_protocol.specs.Tasks.{IsCommand}
 use Rattle.fam_rules.specs.Place.{line_bytes}
+use Rattle.fam_rules.specs.Reply.{Reply}
+use Rattle.fam_rules.specs.Solo.{solo_image, solo_reply}
 use Rattle.fam_journal.specs.declared.event.Ask.{Ask}
 use Rattle.fam_journal.specs.declared.event.Event.{Event}
 use Rattle.fam_journal.specs.declared.event.Event.TheVariants as event
@@ -33,7 +35,7 @@ use Rattle.fam_machine.specs.HostMoves.{Evict, Fetch, Leak, Move, moved, moved_c
 use Rattle.fam_journal.specs.Machines.{HostState, Machines, machine_of, task_begun, unused, with_machine, with_task}
 use Rattle.fam_journal.specs.Members.{changed_at}
 use Rattle.fam_machine.specs.Mkfs as here
-use Rattle.fam_journal.specs.Notes.{Note, Refused, Start}
+use Rattle.fam_journal.specs.Notes.{Answered, Note, Refused, Replied, Start}
 use Rattle.fam_journal.specs.Past.{Past, first_past, first_state, past_behind, past_of}
 use Rattle.fam_journal.proofs.Calls.Cases.{by_host, by_refusal, place_same}
 use Rattle.fam_journal.proofs.Calls.Declares.{member_before, member_last}
@@ -43,7 +45,7 @@ use Rattle.fam_journal.proofs.Calls.Members.{changed_at_member, changed_here, ch
 use Rattle.fam_journal.proofs.Calls.Tests.{at_most, no_when, or_first}
 use Rattle.fam_journal.proofs.Runs.Unique.{clean_prefix, clean_rest, not_clean}
 use Rattle.fam_whole.specs.Whole.{AreWhole, AreWholeNotes, IsExact, HasNothingPending, IsWholeEvent, WholeRun, image_behind}
-use Rattle.fam_whole.proofs.Finish.{Finished, finished}
+use Rattle.fam_whole.proofs.Finish.{Finished, finished, left_is, reply_is}
 use Rattle.fam_whole.proofs.Folds.{first_sure, image_both, whole_both}
 use Rattle.fam_whole.proofs.Rests.{HostRests, Rested, rest_state}
 use Rattle.fam_whole.proofs.Running.{Ended, run_solo}
@@ -245,6 +247,35 @@ module _ (start : Image) (files : Files) (old : Machines) (journal : List Note) 
               image = g.image;
               whole = (tt, g.whole);
               sure = g.sure;
+            }
+
+    -- its notes end in the rules' answer, and it leaves what they say
+    pub record Solo : Type 0 where
+      pub h : ℕ
+      pub host : HostState
+      pub is : slice_get old.hosts h ≡ Some host
+      pub front : List Note
+      pub notes_are : notes ≡ front ++ Answered h (Replied (solo_reply old.memory host.uuid cmd)) ∷ []
+      pub left : new.machines.memory ≡ solo_image old.memory host.uuid cmd
+
+    pub solo_run : Solo
+    solo_run = from through
+      where
+        from : Through → Solo
+        from t =
+            let j : List Note = journal ++ Start t.h cmd ∷ [] in
+            let settled : (past_of start j).state ≡ first_state old.memory = ap (λ (w : Past). w.state) (past_both (first_past start) journal (Start t.h cmd ∷ [])) ∙ rest_state start old journal kept rests sure in
+            let limit : line_bytes * length old.memory ≤ device_limit = subst (λ (n : ℕ). line_bytes * n ≤ device_limit) (sym kept.held.lines) kept.held.limit in
+            record {
+              h = t.h;
+              host = t.host;
+              is = t.is;
+              front = Start t.h cmd ∷ t.ended.before;
+              notes_are =
+                  t.joined
+                  ∙ ap (λ (z : List Note). Start t.h cmd ∷ z) (t.ended.notes_are ∙ ap (λ (r : Reply). t.ended.before ++ Answered t.h (Replied r) ∷ [])
+                  (reply_is start t.h old t.host t.is cmd j t.sure_then settled t.enough limit normal (rests t.h t.host t.is).clean command new.machines t.rest t.ended));
+              left = left_is start t.h old t.host t.is cmd j t.sure_then settled t.enough limit normal (rests t.h t.host t.is).clean command new.machines t.rest t.ended;
             }
 
   -- an event

@@ -1,12 +1,11 @@
 -- Files of a run: their bytes are apart, and stand where the journal has them.
-use Rattle.std.proofs.Common.{◌≡◌, ℕ, ◌*◌, Bool, true, false, List, length, map, take, Option, Some, None, refl, ap, sym, ◌∙◌, subst}
+use Rattle.std.proofs.Common.{◌≡◌, ℕ, Bool, true, false, List, length, map, take, Option, Some, None, ap, sym, ◌∙◌, subst}
 use Rattle.std.specs.Prelude.{nat_lt, if◌then◌else◌, slice_get}
 use Rattle.std.proofs.lemmas.List.{take-map}
 use Rattle.fam_base.specs.declared.entry.Params.{Params}
 use Rattle.fam_base.specs.declared.entry.Entry.{Entry}
 use Rattle.fam_base.specs.Image.{Image, line_at}
 use Rattle.fam_format.specs.Layout.{least_lines}
-use Rattle.fam_format.specs.Params.{SoundParams}
 use Rattle.fam_format.specs.Reading as read
 use Rattle.fam_format.specs.Reading.{Reading, reading}
 use Rattle.fam_format.proofs.JoinLaws.{joins_from}

@@ -8,3 +8,9 @@ pub mod Exact
 pub mod Twins
 pub mod Struck
 pub mod Files
+pub mod Scripts
+pub mod Declared
+pub mod Shots
+pub mod Alone
+pub mod Makes
+pub mod Fronts

@@ -1,10 +1,11 @@
 -- Scripts of whole commands: hosts are declared, make file systems and run commands, one event after another, and caches
 -- move by themselves between them. While the media doesn't fail nothing interrupts a command. What then holds of the machine
 -- of all hosts and of its journal.
-use Rattle.std.specs.Prelude.{ℕ, ⊤, ◌≡◌, ◌*◌, if◌then◌else◌, Bool, true, false, List, [], ◌∷◌, ◌++◌, length, slice_get, Some, None}
+use Rattle.std.specs.Prelude.{ℕ, ⊤, ◌≡◌, ◌⊎◌, ◌*◌, if◌then◌else◌, Bool, true, false, List, [], ◌∷◌, ◌++◌, length, slice_get, take, Option, Some, None, option_map}
 use Rattle.fam_base.specs.declared.cmd.Cmd.{Cmd}
 use Rattle.fam_base.specs.Image.{Image, line_at}
 use Rattle.fam_media.specs.Files.{Files}
+use Rattle.fam_media.specs.Outside.{with_piece}
 use Rattle.fam_rules.specs.Solo.{solo_reply}
 use Rattle.fam_rules.specs.Place.{line_bytes}
 use Rattle.fam_rules.specs.Reply as reply
@@ -13,12 +14,18 @@ use Rattle.fam_rules.specs.Reports.{report_of}
 use Rattle.fam_rules.specs.Written.{formatted, written}
 use Rattle.fam_journal.specs.declared.event.Event.{Event}
 use Rattle.fam_journal.specs.declared.event.Event.TheVariants as event
-use Rattle.fam_journal.specs.Ends.{IsFaultless}
-use Rattle.fam_journal.specs.Events.{Session, first_session}
+use Rattle.fam_journal.specs.declared.status.Status.{Status}
+use Rattle.fam_journal.specs.Complete.{RunsEnd}
+use Rattle.fam_journal.specs.Ends.{AllDone, Ending, EndsOutOfMemory, IsFaultless, ReadsAs}
+use Rattle.fam_journal.specs.Events.{PartOf, Session, first_session}
 use Rattle.fam_journal.specs.Follows.{Follows}
 use Rattle.fam_journal.specs.Legal.{OfHost}
 use Rattle.fam_journal.specs.Notes.{Answer, Replied, MediaFault, Note, Host, Made, Start, Mark, Found, Writes, Answered, Stop, Halt, Refused}
 use Rattle.fam_journal.specs.Past.{HostPast, Past, State, Bad, Sound, count_of, first_past, first_state, past_after, past_of, settled_length}
+use Rattle.fam_journal.specs.Programs.{Command, EndsEarly, Grammar, ScriptPuts, Storms, script_status}
+use Rattle.fam_journal.specs.Runs.{IsPut, Outside}
+use Rattle.fam_journal.specs.Statuses.{good_status, is_good}
+use Rattle.fam_journal.specs.Texts.{render}
 
 -- an event that no other host's step interrupts
 abbrev pub IsWholeEvent : Event → Type 0
@@ -204,3 +211,57 @@ IsRefusal (Refused name cause) = ⊤
 abbrev pub AreRefusals : List Note → Type 0
 AreRefusals [] = ⊤
 AreRefusals (note ∷ notes) = IsRefusal note × AreRefusals notes
+
+-- The program's top call.
+
+-- how a call ended: this text was put behind the bytes that stood there, this image is left, and this status was given
+pub record EndsAs (out : Outside) (given : Status) (text : List ℕ) (left : Image) (own : Status) : Type 0 where
+  pub put : out.bytes_now ≡ option_map (with_piece text) out.bytes
+  pub left_is : out.image_now ≡ Some left
+  pub status_is : given ≡ own
+
+-- a script's events were all run, each command to its answer or refusal, and the run is exact. Its notes were put; the image
+-- that is left is their fold; and the status is Done where every note alone is, and else Refused
+pub record EndsExact (files : Files) (events : List Event) (start : Image) (out : Outside) (given : Status) : Type 0 where
+  pub run : WholeRun files events start
+  pub exact : IsExact run
+  pub answered : RunsEnd files events (first_session start) run.journal run.last run.follows
+  pub ends : EndsAs out given (render run.journal) (image_behind (first_past start) start run.journal) (good_status (is_good run.journal))
+
+-- The same while sink and shelf may fail and memory run out: events behind that weren't run.
+
+-- no event was run, so the image is as it was; and why
+pub record EndsNone (grammar : Grammar) (storms : Storms) (command : Option Command) (out : Outside) (given : Status) : Type 0 where
+  pub text : List ℕ
+  pub own : Status
+  pub early : EndsEarly grammar storms command out text own
+  pub put : IsPut own given text out
+
+-- memory ran out in the command behind these notes, which noted a part of its own: the image that is left reads as what all of
+-- them settle
+pub record IsCut (files : Files) (event : Event) (start : Image) (notes part : List Note) (before : Session) (left : Image) : Type 0 where
+  pub last : Session
+  pub does : PartOf files event before part last
+  pub left_is : left ≡ last.machines.memory
+  pub reads : ReadsAs (past_of start (notes ++ part)).state left
+
+-- the image is the fold of the notes, and there is no part; or memory ran out in the command of this place
+abbrev pub IsLeft : Ending → (files : Files) (events : List Event) (start : Image) (count : ℕ) → WholeRun files (take count events) start → List Note → Image → Type 0
+IsLeft ending files events start count run part left =
+    ((part ≡ []) × (left ≡ image_behind (first_past start) start run.journal)) ⊎ ((ending ≡ EndsOutOfMemory) × (event : Event) × (slice_get events count ≡ Some event) × IsCut files event start run.journal part run.last left)
+
+-- the first events were run, all of them where nothing ended it early, and the run is exact. What was put is the text of its
+-- notes, and of that part, and the line that ends it early; or a front of this where the sink failed
+pub record EndsFront (files : Files) (events : List Event) (start : Image) (out : Outside) (given : Status) : Type 0 where
+  pub count : ℕ
+  pub run : WholeRun files (take count events) start
+  pub exact : IsExact run
+  pub part : List Note
+  pub ending : Ending
+  pub all : ending ≡ AllDone → take count events ≡ events
+  pub left : Image
+  pub image : out.image_now ≡ Some left
+  pub is_left : IsLeft ending files events start count run part left
+  pub text : List ℕ
+  pub shows : ScriptPuts ending (run.journal ++ part) text
+  pub put : IsPut (script_status ending (run.journal ++ part)) given text out

@@ -1,9 +1,13 @@
 //! Scripts of whole commands: hosts that run one tool at a time. Laws with empty bodies.
 #![tactic(auto)]
 
-ghost use Rattle.std.specs.Prelude.{◌≡◌, ℕ, true, List, Option, None, Some, slice_get};
+ghost use Rattle.std.specs.FinMap as finmap;
+ghost use Rattle.std.specs.Prelude.{◌≡◌, ◌⊎◌, ◌≤◌, ℕ, Bool, true, List, Ok, Option, None, Some, length, slice_get};
+ghost use Rattle.fam_base.specs.declared.cmd.Attr.{Attr};
+ghost use Rattle.fam_base.specs.declared.cmd.Cmd.{Cmd};
 ghost use Rattle.fam_base.specs.declared.entry.Params.{Params};
 ghost use Rattle.fam_base.specs.Image.{Image, line_at};
+ghost use Rattle.fam_format.specs.Params.{IsUuid};
 ghost use Rattle.fam_rules.specs.Asks.{File, entries_of};
 ghost use Rattle.fam_rules.specs.Place.{StandsAt};
 ghost use Rattle.fam_rules.specs.Solo.{held_file};
@@ -12,9 +16,16 @@ ghost use Rattle.fam_journal.specs.Follows.{Follows};
 ghost use Rattle.fam_journal.specs.Laws.{AreSound, IsImage};
 ghost use Rattle.fam_journal.specs.Notes.{Note};
 ghost use Rattle.fam_journal.specs.Past.{Sound, past_of, with_pending};
+ghost use Rattle.fam_journal.specs.declared.event.Ask.{Ask};
+ghost use Rattle.fam_journal.specs.declared.event.Ask.TheVariants as ask;
 ghost use Rattle.fam_journal.specs.declared.event.Event.{Event};
+ghost use Rattle.fam_journal.specs.declared.status.Status.{Status};
+ghost use Rattle.fam_journal.specs.declared.status.Status.TheVariants.{OutOfMemory};
+ghost use Rattle.fam_journal.specs.Programs.{Grammar, Makes, MakesParents, Runs, Script, Single, Storms, TopEnds, script_limit};
+ghost use Rattle.fam_journal.specs.Runs.{HasRisen, NoneRose, Outside};
 ghost use Rattle.fam_media.specs.Files.{Files};
-ghost use Rattle.fam_whole.specs.Whole.{AreAlike, AreRefusals, IsExact, WholeRun, commands_in, is_move};
+ghost use Rattle.fam_whole.specs.Alone.{AskEnds, CommandEnds, MkfsEnds, ParentsEnd};
+ghost use Rattle.fam_whole.specs.Whole.{AreAlike, AreRefusals, AreWhole, EndsExact, EndsFront, EndsNone, IsExact, WholeRun, commands_in, is_move};
 
 /// Where each command ends before the next one begins, and the media doesn't fail, the image after the events is the
 /// fold of new file systems and acknowledged entries. Nothing is pending, and what the notes settle is what the image
@@ -51,4 +62,51 @@ pub fn no_byte_is_in_two_files()
         → IsImage start → AreSound events → (run : WholeRun files events start)
         → (past_of start run.journal).state ≡ Sound p history None
         → (i : ℕ) (f : File) → slice_get history i ≡ Some f → f ≡ held_file (line_at run.last.machines.memory) f.entry }
+{}
+
+/// What the program's top call leaves of a script of whole commands, where no count rose, of media, shelf and sink, and
+/// the shelf holds the script. Each event was run; the notes of the run were put, and it is exact: the image that is left
+/// is the fold of new file systems and acknowledged entries, and each answer is the rules' answer on the image that its
+/// command began with. Or there was no memory (`whole`). Where the media alone didn't fail, so it is of some first events,
+/// and no others were run (`front`); but that memory may have run out in one more command.
+pub fn a_program_of_whole_commands_is_exact()
+    ensures whole { (grammar : Grammar) (storms : Storms) (out : Outside) (given : Status) (name : List ℕ) (files : Files)
+        (bytes : List ℕ) (events : List Event) (start : Image) → NoneRose out
+        → TopEnds grammar storms (Some (Script name)) out given → out.image ≡ Some start → out.files ≡ Some files
+        → finmap.get files name ≡ Some bytes → length bytes ≤ script_limit → grammar bytes ≡ Ok events → IsImage start
+        → AreSound events → AreWhole events → (given ≡ OutOfMemory) ⊎ EndsExact files events start out given }
+    ensures front { (grammar : Grammar) (storms : Storms) (out : Outside) (given : Status) (name : List ℕ) (files : Files)
+        (bytes : List ℕ) (events : List Event) (start : Image) → (HasRisen out.faults out.faults_now → ⊥)
+        → TopEnds grammar storms (Some (Script name)) out given → out.image ≡ Some start → out.files ≡ Some files
+        → finmap.get files name ≡ Some bytes → grammar bytes ≡ Ok events → IsImage start
+        → AreSound events → AreWhole events → EndsNone grammar storms (Some (Script name)) out given
+        ⊎ EndsFront files events start out given }
+{}
+
+/// What the program's top call leaves of a command of its own, where no count rose: or there was no memory. The rules'
+/// answer on the image is put, and the image that they leave is left (`command`); so all that the protocol and the caches
+/// do comes to the rules alone. So it is with a source, once the shelf says what it comes to (`asks`). A new file system
+/// is made as it was asked for, or refused by its numbers or by the superblock that stands there (`mkfs`). Directories
+/// along a path are made one after another, each exactly (`parents`).
+pub fn a_command_of_its_own_is_exact()
+    ensures command { (grammar : Grammar) (storms : Storms) (out : Outside) (given : Status) (me : List ℕ) (cmd : Cmd)
+        (files : Files) (start : Image) → NoneRose out
+        → TopEnds grammar storms (Some (Single me (Runs (ask.Plain cmd)))) out given → out.image ≡ Some start
+        → out.files ≡ Some files → IsImage start → IsUuid me
+        → (given ≡ OutOfMemory) ⊎ CommandEnds start me cmd out given }
+    ensures asks { (grammar : Grammar) (storms : Storms) (out : Outside) (given : Status) (me : List ℕ) (what : Ask)
+        (files : Files) (start : Image) → NoneRose out
+        → TopEnds grammar storms (Some (Single me (Runs what))) out given → out.image ≡ Some start
+        → out.files ≡ Some files → IsImage start → IsUuid me
+        → (given ≡ OutOfMemory) ⊎ AskEnds files start me what out given }
+    ensures mkfs { (grammar : Grammar) (storms : Storms) (out : Outside) (given : Status) (me fs : List ℕ) (unit log : ℕ)
+        (force : Bool) (files : Files) (start : Image) → NoneRose out
+        → TopEnds grammar storms (Some (Single me (Makes fs unit log force))) out given → out.image ≡ Some start
+        → out.files ≡ Some files → IsImage start → IsUuid me → IsUuid fs
+        → (given ≡ OutOfMemory) ⊎ MkfsEnds start me fs unit log force out given }
+    ensures parents { (grammar : Grammar) (storms : Storms) (out : Outside) (given : Status) (me path : List ℕ) (attr : Attr)
+        (files : Files) (start : Image) → NoneRose out
+        → TopEnds grammar storms (Some (Single me (MakesParents path attr))) out given → out.image ≡ Some start
+        → out.files ≡ Some files → IsImage start → IsUuid me
+        → (given ≡ OutOfMemory) ⊎ ParentsEnd files start me path attr out given }
 {}
