@@ -1,15 +1,16 @@
 //! A host's cache, as a task and the machine use it.
 
-ghost use Rattle.std.specs.Prelude.{◌≡◌, ◌+◌, ◌-◌, ◌<◌, ◌≤◌, IsTrue, IsOk, IfOk, IfSome, OnOk, OnErr, IsErrOf, length, slice_index, vec_len, vec_capacity, true, false};
+ghost use Rattle.std.specs.Prelude.{◌≡◌, ◌+◌, ◌-◌, ◌<◌, ◌≤◌, IsTrue, IsOk, IfOk, IfSome, OnOk, OnErr, IsErrOf, None, length, slice_index, vec_len, vec_capacity, true, false};
 ghost use Rattle.std.specs.Option.{option_map};
 ghost use Rattle.std.specs.Ordering.{nat_cmp};
 ghost use Rattle.std.specs.FinMap as map;
 ghost use Rattle.std.specs.FinMap.{is_sorted};
+ghost use Rattle.fam_base.specs.Image.{eight, line_at, with_line};
 ghost use Rattle.fam_machine.specs.declared.cell.Cell.{Cell};
 ghost use Rattle.fam_machine.specs.Caches.{cell_at, cell_changed, dirty_count, line_changed, with_cell};
 ghost use Rattle.fam_machine.specs.OneLine.{IsDirty, IsHeld, brought, cleaned, failed_leak, failed_send, fetched, leaked, sent, stored, words_of};
 ghost use Rattle.fam_media.specs.Causes.{HasCause, IsSteady, Rose};
-ghost use Rattle.fam_media.specs.Outside.{IfModelled};
+ghost use Rattle.fam_media.specs.Outside.{IfModelled, IsTorn};
 ghost use Rattle.fam_cache.specs.Effects.{FailsTo, FromMemory};
 ghost use Rattle.fam_cache.specs.Operations.{rest_stored};
 ghost use Rattle.fam_cache.specs.Places.{IsPlaceOf, cache_of};
@@ -390,6 +391,111 @@ impl HostCache {
                 true
             }
             None => false,
+        }
+    }
+
+    /// Brings a line from memory, where the host holds no copy of it, and gives its words: the copy is clean. Of a line
+    /// that is held nothing is done, and the answer is None.
+    ///
+    /// Room is taken first, so where it is missing nothing was done.
+    #[inline]
+    pub fn bring_line<M: Media>(
+        &mut self,
+        media: &mut M,
+        line: LineNo,
+    ) -> Result<Option<Line>, CacheFault>
+        requires within { line.0 < M.size media.old }
+
+        ensures absent { IfOk result (λ brought. IfSome brought (λ words.
+            cell_at self.old.lines line.0 ≡ Cell.Absent)) }
+        ensures words { IfOk result (λ brought. IfSome brought (λ words.
+            IfModelled (M.image media.old) (λ image. eight words ≡ line_at image line.0))) }
+        ensures cache { IfOk result (λ brought. IfSome brought (λ words.
+            self.new.lines ≡ with_cell line.0 (Cell.Clean (eight words)) self.old.lines)) }
+        ensures other { IfOk result (λ brought. brought ≡ None → self.new ≡ self.old) }
+        ensures same { IfOk result (λ brought. brought ≡ None → media.new ≡ media.old) }
+
+        ensures err { OnErr result (self.new.lines ≡ self.old.lines) }
+        ensures failed { IsErrOf result CacheFault.Failed → Rose (M.faults media.old) (M.faults media.new) }
+        ensures failed_absent { IsErrOf result CacheFault.Failed → cell_at self.old.lines line.0 ≡ Cell.Absent }
+        ensures room { IsErrOf result CacheFault.OutOfMemory → self.old.spare ≡ 0 }
+        ensures undone { IsErrOf result CacheFault.OutOfMemory → media.new ≡ media.old }
+        ensures unchanged { IsErrOf result CacheFault.OutOfMemory → self.new ≡ self.old }
+
+        ensures image { M.image media.new ≡ M.image media.old }
+        ensures steady { IsSteady M.size M.faults media.old media.new }
+        ensures spare { self.old.spare ≤ self.new.spare + 1 }
+        ensures err_spare { OnErr result (self.old.spare ≤ self.new.spare) }
+    {
+        let spot = seek(&self.places, self.last, line.0);
+        match copy(&self.places, spot, line.0) {
+            Cell::Absent => {}
+            _ => return Ok(None),
+        }
+        if make_room(&mut self.places, spot).is_err() {
+            return Err(CacheFault::OutOfMemory);
+        }
+        match media.read(line) {
+            Ok(words) => {
+                self.last = put_copy(&mut self.places, spot, line.0, Cell::Clean(words));
+                Ok(Some(words))
+            }
+            Err(_) => Err(CacheFault::Failed),
+        }
+    }
+
+    /// Writes all words of a line to memory, where the host holds no copy of it, and the host holds none then: what
+    /// stores of its eight words and its invalidation do. Of a line that is held nothing is done, and the answer is that.
+    ///
+    /// Room for a copy is taken first, so where it is missing nothing was done. A write that fails leaves each word of
+    /// this line old or new, and the host has a dirty copy.
+    #[inline]
+    pub fn put_line<M: Media>(
+        &mut self,
+        media: &mut M,
+        line: LineNo,
+        words: &Line,
+    ) -> Result<bool, CacheFault>
+        requires within { line.0 < M.size media.old }
+
+        ensures absent { IfOk result (λ put. put ≡ true → cell_at self.old.lines line.0 ≡ Cell.Absent) }
+        ensures lines { OnOk result (self.new.lines ≡ self.old.lines) }
+        ensures memory { IfOk result (λ put. put ≡ true →
+            M.image media.new ≡ option_map (with_line line.0 words.now) (M.image media.old)) }
+        ensures other { IfOk result (λ put. put ≡ false → self.new ≡ self.old) }
+        ensures same { IfOk result (λ put. put ≡ false → media.new ≡ media.old) }
+
+        ensures failed { IsErrOf result CacheFault.Failed → Rose (M.faults media.old) (M.faults media.new) }
+        ensures failed_absent { IsErrOf result CacheFault.Failed → cell_at self.old.lines line.0 ≡ Cell.Absent }
+        ensures failed_lines { IsErrOf result CacheFault.Failed →
+            self.new.lines ≡ with_cell line.0 (Cell.Dirty (eight words.now)) self.old.lines }
+        ensures torn { IsErrOf result CacheFault.Failed →
+            IsTorn (M.image media.old) (M.image media.new) line.0 words.now }
+
+        ensures room { IsErrOf result CacheFault.OutOfMemory → self.old.spare ≡ 0 }
+        ensures undone { IsErrOf result CacheFault.OutOfMemory → media.new ≡ media.old }
+        ensures unchanged { IsErrOf result CacheFault.OutOfMemory → self.new ≡ self.old }
+
+        ensures steady { IsSteady M.size M.faults media.old media.new }
+        ensures spare { self.old.spare ≤ self.new.spare + 1 }
+    {
+        let spot = seek(&self.places, self.last, line.0);
+        match copy(&self.places, spot, line.0) {
+            Cell::Absent => {}
+            _ => return Ok(false),
+        }
+        if make_room(&mut self.places, spot).is_err() {
+            return Err(CacheFault::OutOfMemory);
+        }
+        match media.write(line, words) {
+            Ok(()) => {
+                self.last = place_of(spot);
+                Ok(true)
+            }
+            Err(_) => {
+                self.last = put_copy(&mut self.places, spot, line.0, Cell::Dirty(*words));
+                Err(CacheFault::Failed)
+            }
         }
     }
 

@@ -15,7 +15,6 @@ use Rattle.fam_cache.specs.Operations.{word_of}
 use Rattle.fam_commands.specs.Task.{Task, op_of}
 use Rattle.fam_commands.specs.Turns as turns
 use Rattle.fam_commands.specs.Turns.{Goes, Marks, Finds, Writes, Ends, turn_of}
-use Rattle.fam_tasks.specs.declared.answer.Answer.{Answer}
 use Rattle.fam_tasks.specs.declared.answer.Answer.TheVariants as answer
 use Rattle.fam_tasks.specs.declared.answer.Turn.{Turn}
 use Rattle.fam_tasks.specs.declared.answer.Turn.TheVariants.{Go, Done}

@@ -139,7 +139,7 @@ held_leaves (WriteBack line) modelled now after of is = absurd of
 held_leaves (Invalidate line) modelled now after of is = absurd of
 held_leaves Digest modelled now after of is = absurd of
 
-tells_go : (wanted : turns.Turn) (next : Task) → wanted ≡ Goes next → Tells wanted Go next
+pub tells_go : (wanted : turns.Turn) (next : Task) → wanted ≡ Goes next → Tells wanted Go next
 tells_go wanted next is = subst (λ (w : turns.Turn). Tells w Go next) (sym is) (refl, refl)
 
 module _ (mid next : Task) (now after : Cache) (of : IsOfHeld (op_of mid) now) (is : after ≡ held_after (op_of mid) now) (turn : turn_of mid (word_of (op_of mid) now) ≡ Goes next) where

@@ -5,3 +5,6 @@ pub mod Held
 pub mod Compared
 pub mod Checked
 pub mod Expected
+pub mod Led
+pub mod Come
+pub mod Stored

@@ -1,5 +1,6 @@
 pub mod Operation
 pub mod Step
 pub mod Held
+pub mod Led
 pub mod Run
 pub mod Expected

@@ -10,10 +10,12 @@ mod operation;
 mod reading;
 mod rest;
 mod solo;
+mod storing;
 
 pub use operation::operate;
 pub use rest::operate_held;
 pub use solo::run;
+pub use storing::store_next;
 
 #[cfg(test)]
 mod tests;

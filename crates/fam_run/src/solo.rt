@@ -13,6 +13,7 @@ ghost use Rattle.fam_rules.specs.DecideLaws.{IsSoundWish};
 ghost use Rattle.fam_protocol.specs.Tasks.{IsCommand};
 ghost use Rattle.fam_machine.specs.Operations.{IsWithin};
 ghost use Rattle.fam_run.specs.Expected.{IsExpected};
+ghost use Rattle.fam_run.specs.Led.{HasCome};
 ghost use Rattle.fam_run.specs.Operation.{ended};
 ghost use Rattle.fam_run.specs.Step.{HasOperated};
 ghost use Rattle.fam_machine.specs.Caches.{Cache};
@@ -24,6 +25,7 @@ use crate::comparing::compare_next;
 use crate::operation::operate;
 use crate::reading::read_next;
 use crate::rest::operate_held;
+use crate::storing::store_next;
 use fam_base::{Attr, Cmd, Content, Kind, OutOfMemory, Path, Stripe};
 use fam_cache::{HostCache, OperationFault};
 use fam_media::Media;
@@ -143,6 +145,39 @@ fn go_on<M: Media>(
     }
 }
 
+/// As `go_on`, and does the operations on a line of a new file as one.
+#[inline(always)]
+fn advance<M: Media>(
+    cache: &mut HostCache,
+    task: &mut Task,
+    media: &mut M,
+) -> Result<Option<Answer>, OutOfMemory>
+    requires lines { task.old.lines ≡ M.size media.old }
+
+    ensures come { IfOk result (HasCome (record {
+      task = task.old;
+      next = task.new;
+      old = cache.old.lines;
+      new = cache.new.lines;
+      modelled = M.image media.old;
+      left = M.image media.new;
+      size = M.size media.old;
+      before = M.faults media.old;
+      now = M.faults media.new;
+    })) }
+    ensures undone { OnErr result (media.new ≡ media.old) }
+
+    ensures steady { IsSteady M.size M.faults media.old media.new }
+{
+    task.is_sound();
+    match store_next(cache, task, media) {
+        Ok(true) => Ok(None),
+        Ok(false) => go_on(cache, task, media),
+        Err(OperationFault::MediaFault(line)) => Ok(Some(Answer::MediaFault(line))),
+        Err(OperationFault::OutOfMemory) => Err(OutOfMemory),
+    }
+}
+
 /// Does the operations of a command that has not answered, up to its answer.
 fn finish<M: Media>(
     cache: &mut HostCache,
@@ -168,8 +203,7 @@ fn finish<M: Media>(
     ensures steady { IsSteady M.size M.faults media.old media.new }
 {
     'operations: loop {
-        task.is_sound();
-        if let Some(answer) = go_on(cache, task, media)? {
+        if let Some(answer) = advance(cache, task, media)? {
             return Ok(answer);
         }
         task.is_sound();

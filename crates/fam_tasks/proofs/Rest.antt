@@ -12,7 +12,7 @@ use Rattle.fam_commands.specs.declared.phase.Phase.{Phase}
 use Rattle.fam_commands.specs.declared.phase.Phase.TheVariants as at
 use Rattle.fam_commands.specs.Task.{Task, data_words, line_of, op_at, op_of, part_line}
 use Rattle.fam_commands.specs.Turns.{Goes, Turn, line_turn, store_or_send, turn_at, turn_of, with_word, word_turn}
-use Rattle.fam_tasks.specs.Rest.{IsRest, IsStoreRest, Loads, Stored, Stores, Taken, begins, none, more, stores}
+use Rattle.fam_tasks.specs.Rest.{IsRest, IsStoreRest, Loads, Stored, Stores, StoresFileRest, Taken, begins, none, more, stores}
 use Rattle.fam_tasks.specs.Sound.{IsSound}
 use Rattle.fam_tasks.specs.declared.answer.Turn as answer
 use Rattle.fam_tasks.specs.Tells.{Tells}
@@ -131,6 +131,15 @@ next_stored line words phase_at send n k t now next turn number small rest at_wo
 pub last_stored : (line : LineNo) (words : List ℕ) (phase_at : ℕ → Phase) (mid : Task) (t now next : Task) (turn : answer.Turn) → IsStoreRest line words t → StoresAt line words phase_at t → IsSound now → turn_of now None ≡ Goes mid → Tells (turn_of now None) turn next → Stored line words phase_at t now 6 → Stores line words t next 7
 last_stored line words phase_at mid t now next turn rest at_words sound wanted tells stored =
     more_stored line words phase_at 6 t now next rest at_words sound (omega arith) (told_goes (turn_of now None) mid next turn wanted tells).0 stored
+
+-- and the line of the file is sent next
+pub file_sent : (line : LineNo) (words : List ℕ) (j : ℕ) (t now next : Task) (turn : answer.Turn) → t.phase ≡ at.StoreData j 1 → IsStoreRest line words t → IsSound now → now.phase ≡ at.StoreData j 7 → Tells (turn_of now None) turn next → Stored line words (at.StoreData j) t now 6 → StoresFileRest line words j t next
+file_sent line words j t now next turn phase rest sound last tells stored =
+    let told = told_goes (turn_of now None) _ next turn (file_goes now j 7 last) tells in
+    record {
+      stores = more_stored line words (at.StoreData j) 6 t now next rest (file_stores line words j t phase rest) sound (omega arith) told.0 stored;
+      same = told.1 ∙ ap (λ (u : Task). record u { phase = at.SendData j }) stored.same;
+    }
 
 -- the last word of a line of a slot was taken
 pub last_taken : (line : LineNo) (words : List ℕ) (part : Part) (slot j : ℕ) (t now next : Task) (turn : answer.Turn) → part ≡ Slot slot → IsSound now → Tells (line_turn (with_word now (slice_index words 7)) (Slot slot) j) turn next → Taken line words part j t now 7 → Loads line words t next

@@ -1,9 +1,10 @@
--- The rest of a line, whose first word a task has loaded or stored: the operations up to its last word, as a whole.
-use Rattle.std.specs.Prelude.{ℕ, suc, ◌≡◌, ◌+◌, ◌*◌, ◌<◌, ◌⊎◌, List, Some, None, slice_index}
+-- The rest of a line, whose first word a task has loaded or stored: the operations up to its last word, as a whole. And
+-- a line of the new file, whose words are all stored.
+use Rattle.std.specs.Prelude.{ℕ, suc, ◌≡◌, ◌+◌, ◌*◌, ◌<◌, ◌⊎◌, true, List, Some, None, slice_index}
 use Rattle.fam_base.specs.declared.line.LineNo.{LineNo}
 use Rattle.fam_format.specs.Layout.{slot_line}
 use Rattle.fam_format.specs.Line.{line_words}
-use Rattle.fam_machine.specs.declared.op.Op.TheVariants.{Load, Store}
+use Rattle.fam_machine.specs.declared.op.Op.TheVariants.{Load, Store, Invalidate}
 use Rattle.fam_machine.specs.Operations.{IsWithin}
 use Rattle.fam_commands.specs.declared.phase.Part.{Part}
 use Rattle.fam_commands.specs.declared.phase.Phase.{Phase}
@@ -11,6 +12,7 @@ use Rattle.fam_commands.specs.declared.phase.Phase.TheVariants as at
 use Rattle.fam_commands.specs.Task.{Task, data_words, line_of, op_of, part_line}
 use Rattle.fam_commands.specs.Turns.{Goes, turn_of}
 use Rattle.fam_tasks.specs.Sound.{IsSound}
+use Rattle.fam_tasks.specs.Tells.{is_reading}
 
 -- word 1 of this line of a part is loaded next
 pub record IsRest (line : LineNo) (t : Task) : Type 0 where
@@ -57,6 +59,30 @@ IsStoreRest line words t = IsFileRest line words t ⊎ IsSlotRest line words t
 pub data Stores (line : LineNo) (words : List ℕ) : Task → Task → ℕ → Type 0 where
   begins : {t : Task} → Stores line words t t 0
   stores : {t mid next : Task} {n : ℕ} → Stores line words t mid n → IsSound mid → op_of mid ≡ Store line (suc n) (slice_index words (suc n)) → IsWithin mid.lines (op_of mid) → turn_of mid None ≡ Goes next → Stores line words t next (suc n)
+
+-- the other words of line j of the new file were stored, and the line is sent next
+pub record StoresFileRest (line : LineNo) (words : List ℕ) (j : ℕ) (t next : Task) : Type 0 where
+  pub stores : Stores line words t next 7
+  pub same : next ≡ record t { phase = at.SendData j }
+
+-- word 0 of this line of the new file is stored next, and these are the line's words
+pub record IsFileLineDue (line : LineNo) (words : List ℕ) (t : Task) : Type 0 where
+  pub j : ℕ
+  pub phase : t.phase ≡ at.StoreData j 0
+  pub is : line.0 ≡ line_of t.entry j
+  pub words_are : (k : ℕ) → k < 8 → slice_index words k ≡ slice_index (data_words t j) k
+  pub within : line.0 < t.lines
+
+-- the first task stores all words of this line, one after another, and goes on up to the last task, which sends the line
+pub record StoresFileLine (line : LineNo) (words : List ℕ) (t next : Task) : Type 0 where
+  pub begun : Task
+  pub op : op_of t ≡ Store line 0 (slice_index words 0)
+  pub within : line.0 < t.lines
+  pub turn : turn_of t None ≡ Goes begun
+  pub rest : Stores line words begun next 7
+  pub sends : op_of next ≡ Invalidate line
+  pub reads_on : is_reading next.phase ≡ true
+  pub lines : next.lines ≡ t.lines
 
 -- so many words were stored, and the next one comes next, in this phase
 pub record Stored (line : LineNo) (words : List ℕ) (phase_at : ℕ → Phase) (t now : Task) (n : ℕ) : Type 0 where

@@ -4,7 +4,7 @@ ghost use Rattle.std.specs.Prelude.{ℕ, suc, ◌≡◌, ◌+◌, ◌<◌, IfSom
 ghost use Rattle.fam_base.specs.declared.line.LineNo.{LineNo};
 ghost use Rattle.fam_commands.specs.declared.phase.Phase.TheVariants as at;
 ghost use Rattle.fam_commands.specs.Task as spec;
-ghost use Rattle.fam_tasks.specs.Rest.{IsFileRest, IsRest, IsSlotRest, IsStoreRest, Loads, Stored, Stores, Taken};
+ghost use Rattle.fam_tasks.specs.Rest.{IsFileLineDue, IsFileRest, IsRest, IsSlotRest, IsStoreRest, Loads, Stored, Stores, StoresFileLine, StoresFileRest, Taken};
 
 use super::Task;
 use crate::parts::line_of_slot;
@@ -137,7 +137,7 @@ impl Task {
     fn store_file_rest(&mut self, line: LineNo, number: u64, words: &Line)
         requires phase { self.old.phase ≡ at.StoreData number 1 }
         requires rest { IsStoreRest line words.now self.old }
-        ensures { Stores line words.now self.old self.new 7 }
+        ensures { StoresFileRest line words.now number self.old self.new }
     {
         self.store_file_word(line, number, 1, words);
         self.store_file_word(line, number, 2, words);
@@ -147,6 +147,42 @@ impl Task {
         self.store_file_word(line, number, 6, words);
         self.is_sound();
         self.data_stored(number, LAST_WORD);
+    }
+
+    /// The line of the new file of which the task stores word 0 next, if it does, and all words of that line.
+    #[inline(always)]
+    pub fn line_stored(&self) -> Option<(LineNo, Line)>
+        ensures { IfSome result (λ due. IsFileLineDue due.0 due.1 self.now) }
+    {
+        match self.phase {
+            Phase::StoreData { line, word: 0 } => Some(self.line_due(line)),
+            _ => None,
+        }
+    }
+
+    /// A line of the new file, of which word 0 is stored next, and its words.
+    #[inline(always)]
+    fn line_due(&self, line: u64) -> (LineNo, Line)
+        requires { self.now.phase ≡ at.StoreData line 0 }
+        ensures { IsFileLineDue result.0 result.1 self.now }
+    {
+        self.is_sound();
+        (self.file_line(line), *self.contents.line())
+    }
+
+    /// All words of the line of which word 0 is stored next were stored: the line is sent next.
+    #[inline(always)]
+    pub fn store_line(&mut self, line: LineNo, words: &Line)
+        requires due { IsFileLineDue line words.now self.old }
+        ensures { StoresFileLine line words.now self.old self.new }
+    {
+        match self.phase {
+            Phase::StoreData { line: number, .. } => {
+                self.data_stored(number, 0);
+                self.store_file_rest(line, number, words);
+            }
+            _ => unreachable!(),
+        }
     }
 
     /// Word `k` of a line of the new file was stored, which isn't the last.

@@ -1,0 +1,43 @@
+-- Operations of a task that are done as a whole: those that leave memory's image, and one behind them.
+use Rattle.std.specs.Prelude.{◌≡◌, Option, Some, None}
+use Rattle.fam_base.specs.Image.{Image}
+use Rattle.fam_base.specs.declared.line.LineNo.{LineNo}
+use Rattle.fam_machine.specs.Caches.{Cache}
+use Rattle.fam_machine.specs.Operations.{IsWithin, machine}
+use Rattle.fam_cache.specs.Operations.{LeavesCache}
+use Rattle.fam_commands.specs.Task.{Task, op_of}
+use Rattle.fam_media.specs.Outside.{IfModelled}
+use Rattle.fam_tasks.specs.declared.answer.Answer.{Answer}
+use Rattle.fam_tasks.specs.declared.answer.Answer.TheVariants.{MediaFault}
+use Rattle.fam_tasks.specs.declared.answer.Turn.TheVariants.{Go}
+use Rattle.fam_tasks.specs.Sound.{IsSound}
+use Rattle.fam_run.specs.Operation.{GoesOn, HasTurned}
+use Rattle.fam_run.specs.Step.{Around, HasOperated}
+
+-- one operation that leaves memory's image, behind which the task just goes on
+pub record IsQuiet (modelled : Option Image) (task : Task) (held : Cache) (next : Task) (after : Cache) : Type 0 where
+  pub sound : IsSound task
+  pub within : IsWithin task.lines (op_of task)
+  pub leaves : LeavesCache (op_of task) modelled held after
+  pub goes : GoesOn task after Go next
+  pub turned : IfModelled modelled (λ image. HasTurned task (machine image held) Go next modelled after)
+
+-- the task and its host's cache, and what such operations leave of both
+pub data Led (modelled : Option Image) : Task → Cache → Task → Cache → Type 0 where
+  none : {task : Task} {held : Cache} → Led modelled task held task held
+  more : {task mid next : Task} {held now after : Cache} → Led modelled task held mid now → IsQuiet modelled mid now next after → Led modelled task held next after
+
+-- behind such operations one more was done, or the media failed in it
+pub record HasCome (a : Around) (answer : Option Answer) : Type 0 where
+  pub task : Task
+  pub held : Cache
+  pub led : Led a.modelled a.task a.old task held
+  pub sound : IsSound task
+  pub within : IsWithin task.lines (op_of task)
+  pub did : HasOperated (record a { task = task; old = held }) answer
+
+-- the last of them leaves of the cache what the machine's table has, or a fault the copies
+pub record HasComeBy (a : Around) (answer : Option Answer) : Type 0 where
+  pub come : HasCome a answer
+  pub leaves : answer ≡ None → LeavesCache (op_of come.task) a.modelled come.held a.new
+  pub copies : (line : LineNo) → answer ≡ Some (MediaFault line) → a.new ≡ come.held
