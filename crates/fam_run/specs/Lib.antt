@@ -1,4 +1,5 @@
 pub mod Operation
+pub mod Looked
 pub mod Step
 pub mod Held
 pub mod Led

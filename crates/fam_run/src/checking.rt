@@ -1,45 +1,45 @@
 //! The Digest of a slot, without a turn to look at: of a long log there is one a slot.
 
-ghost use Rattle.std.specs.Prelude.{◌≡◌, IfOk, OnErr};
-ghost use Rattle.fam_machine.specs.Operations.{IsWithin};
+ghost use Rattle.std.specs.Prelude.{◌≡◌, ◌≢◌, IfOk, IsErrOf, IsOk, OnErr};
+ghost use Rattle.fam_machine.specs.Operations.{IsWithin, machine};
 ghost use Rattle.fam_commands.specs.declared.phase.Phase.TheVariants as at;
 ghost use Rattle.fam_commands.specs.Task.{op_of};
-ghost use Rattle.fam_run.specs.Step.{HasOperated};
+ghost use Rattle.fam_media.specs.Outside.{IfModelled};
+ghost use Rattle.fam_cache.specs.Operations.{LeavesCache};
+ghost use Rattle.fam_run.specs.Looked.{IfDone};
+ghost use Rattle.fam_run.specs.Operation.{GoesOn, HasTurned, IsNoFault, KeepsLines};
 
+use crate::looking::Looked;
 use fam_base::OutOfMemory;
 use fam_cache::HostCache;
 use fam_media::Media;
 use fam_tasks::{Answer, Task};
 
-/// Looks at the words of a slot, and gives the answer with which the command ends, if it does. It asks nothing of cache
-/// or media.
+/// Looks at the words of a slot. It asks nothing of cache or media.
 #[inline(always)]
 pub(crate) fn check_next<M: Media>(
     cache: &HostCache,
     task: &mut Task,
     media: &M,
     slot: u64,
-) -> Result<Option<Answer>, OutOfMemory>
+) -> Result<Looked, OutOfMemory>
     requires { task.old.phase ≡ at.Check slot }
 
-    ensures operated { IfOk result (HasOperated (record {
-      task = task.old;
-      next = task.new;
-      old = cache.now.lines;
-      new = cache.now.lines;
-      modelled = M.image media.now;
-      left = M.image media.now;
-      size = M.size media.now;
-      before = M.faults media.now;
-      now = M.faults media.now;
-    })) }
+    ensures turned { IfOk result (λ looked. IfDone looked (λ turn. IfModelled (M.image media.now) (λ image.
+        HasTurned task.old (machine image cache.now.lines) turn task.new (M.image media.now) cache.now.lines))) }
+    ensures cache { LeavesCache (op_of task.old) (M.image media.now) cache.now.lines cache.now.lines }
+    ensures goes { IfOk result (λ looked. IfDone looked (λ turn. GoesOn task.old cache.now.lines turn task.new)) }
+    ensures keeps { IfOk result (λ looked. IfDone looked (λ turn. KeepsLines turn task.old task.new)) }
+    ensures own { IfOk result (λ looked. IfDone looked IsNoFault) }
+    ensures done { IfOk result (λ looked. looked ≢ Looked.Other) }
+    ensures err { OnErr result (task.new ≡ task.old) }
     ensures within { IsWithin task.old.lines (op_of task.old) }
 {
     let _ = cache;
     let _ = media;
-    match task.check_slot(slot) {
-        Ok(None) => Ok(None),
-        Ok(Some(reason)) => Ok(Some(Answer::BadEntry { seq: slot, reason })),
-        Err(full) => Err(full),
+    task.is_sound();
+    match task.check_slot(slot)? {
+        None => Ok(Looked::Going),
+        Some(reason) => Ok(Looked::Ended(Answer::BadEntry { seq: slot, reason })),
     }
 }

@@ -1,51 +1,57 @@
 //! The last word of a line that is compared, without a turn to look at: of a verify there is one a line.
 
-ghost use Rattle.std.specs.Prelude.{◌≡◌, IfOk, OnErr};
-ghost use Rattle.fam_machine.specs.Operations.{IsWithin};
+ghost use Rattle.std.specs.Prelude.{◌≡◌, ◌≢◌, ◌<◌, IfErr, IfOk, IsErrOf, OnErr, OnOk};
+ghost use Rattle.fam_machine.specs.Cuts.{HasFailed};
+ghost use Rattle.fam_machine.specs.Operations.{IsWithin, machine};
 ghost use Rattle.fam_commands.specs.Task.{op_of};
-ghost use Rattle.fam_media.specs.Causes.{IsSteady};
+ghost use Rattle.fam_media.specs.Causes.{IsSteady, Rose};
+ghost use Rattle.fam_media.specs.Outside.{IfModelled};
+ghost use Rattle.fam_cache.specs.Faults.{IfMediaFault};
+ghost use Rattle.fam_cache.specs.Operations.{LeavesCache};
 ghost use Rattle.fam_tasks.specs.Tells.{IsCompared};
-ghost use Rattle.fam_run.specs.Step.{HasOperated};
+ghost use Rattle.fam_run.specs.Looked.{IfDone};
+ghost use Rattle.fam_run.specs.Operation.{GoesOn, HasTurned, IsNoFault, KeepsLines};
 
-use fam_base::OutOfMemory;
+use crate::looking::Looked;
 use fam_cache::{HostCache, OperationFault};
 use fam_media::Media;
-use fam_tasks::{Answer, Task};
+use fam_tasks::Task;
 
-/// Loads the last word of a line that is compared, and gives the answer with which the command ends, if it does.
+/// Loads the last word of a line that is compared.
 #[inline(always)]
 pub(crate) fn compare_next<M: Media>(
     cache: &mut HostCache,
     task: &mut Task,
     media: &mut M,
-) -> Result<Option<Answer>, OutOfMemory>
+) -> Result<Looked, OperationFault>
     requires lines { task.old.lines ≡ M.size media.old }
     requires compared { IsCompared task.old }
 
-    ensures operated { IfOk result (HasOperated (record {
-      task = task.old;
-      next = task.new;
-      old = cache.old.lines;
-      new = cache.new.lines;
-      modelled = M.image media.old;
-      left = M.image media.new;
-      size = M.size media.old;
-      before = M.faults media.old;
-      now = M.faults media.new;
-    })) }
+    ensures turned { IfOk result (λ looked. IfDone looked (λ turn. IfModelled (M.image media.old) (λ image.
+        HasTurned task.old (machine image cache.old.lines) turn task.new (M.image media.new) cache.new.lines))) }
+    ensures failed { IfErr result (λ fault. IfMediaFault fault (λ line. IfModelled (M.image media.old) (λ image.
+        HasFailed (op_of task.old) (machine image cache.old.lines) line (M.image media.new) cache.new.lines))) }
+    ensures cache { OnOk result (LeavesCache (op_of task.old) (M.image media.old) cache.old.lines cache.new.lines) }
+    ensures goes { IfOk result (λ looked. IfDone looked (λ turn. GoesOn task.old cache.new.lines turn task.new)) }
+    ensures keeps { IfOk result (λ looked. IfDone looked (λ turn. KeepsLines turn task.old task.new)) }
+    ensures own { IfOk result (λ looked. IfDone looked IsNoFault) }
+    ensures done { IfOk result (λ looked. looked ≢ Looked.Other) }
+    ensures copies { OnErr result (cache.new.lines ≡ cache.old.lines) }
+    ensures err { OnErr result (task.new ≡ task.old) }
+    ensures inside { IfErr result (λ fault. IfMediaFault fault (λ line. line.0 < M.size media.old)) }
+    ensures rose { IfErr result (λ fault. IfMediaFault fault (λ line.
+        Rose (M.faults media.old) (M.faults media.new))) }
     ensures within { IsWithin task.old.lines (op_of task.old) }
-    ensures undone { OnErr result (media.new ≡ media.old) }
 
+    ensures undone { IsErrOf result OperationFault.OutOfMemory → media.new ≡ media.old }
+    ensures unchanged { IsErrOf result OperationFault.OutOfMemory → cache.new ≡ cache.old }
     ensures steady { IsSteady M.size M.faults media.old media.new }
 {
     task.is_sound();
     let op = task.next();
-    match cache.perform(media, op) {
-        Ok(word) => match task.compare(word) {
-            None => Ok(None),
-            Some(ended) => Ok(Some(ended.answer())),
-        },
-        Err(OperationFault::MediaFault(line)) => Ok(Some(Answer::MediaFault(line))),
-        Err(OperationFault::OutOfMemory) => Err(OutOfMemory),
+    let word = cache.perform(media, op)?;
+    match task.compare(word) {
+        None => Ok(Looked::Going),
+        Some(ended) => Ok(Looked::Ended(ended.answer())),
     }
 }

@@ -6,13 +6,16 @@
 
 mod checking;
 mod comparing;
+mod looking;
 mod operation;
 mod reading;
 mod rest;
 mod solo;
 mod storing;
 
+pub use looking::{Looked, look_next};
 pub use operation::operate;
+pub use reading::read_next;
 pub use rest::operate_held;
 pub use solo::run;
 pub use storing::store_next;

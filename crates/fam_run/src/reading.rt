@@ -8,7 +8,8 @@ ghost use Rattle.fam_commands.specs.Task.{op_of};
 ghost use Rattle.fam_media.specs.Causes.{IsSteady, Rose};
 ghost use Rattle.fam_media.specs.Outside.{IfModelled};
 ghost use Rattle.fam_cache.specs.Faults.{IfMediaFault};
-ghost use Rattle.fam_run.specs.Operation.{GoesOn, HasTurned};
+ghost use Rattle.fam_cache.specs.Operations.{LeavesCache};
+ghost use Rattle.fam_run.specs.Operation.{GoesOn, HasTurned, KeepsLines};
 ghost use Rattle.fam_tasks.specs.declared.answer.Turn.TheVariants.{Go};
 
 use fam_cache::{HostCache, OperationFault};
@@ -19,7 +20,7 @@ use fam_tasks::Task;
 /// that may do more is left as it is. Of a million operations of a long log nearly all only read on, and what comes of
 /// them has no room for a turn.
 #[inline(always)]
-pub(crate) fn read_next<M: Media>(
+pub fn read_next<M: Media>(
     cache: &mut HostCache,
     task: &mut Task,
     media: &mut M,
@@ -28,7 +29,10 @@ pub(crate) fn read_next<M: Media>(
 
     ensures turned { IfOk result (λ reads. reads ≡ true → IfModelled (M.image media.old) (λ image.
         HasTurned task.old (machine image cache.old.lines) Go task.new (M.image media.new) cache.new.lines)) }
+    ensures cache { IfOk result (λ reads. reads ≡ true →
+        LeavesCache (op_of task.old) (M.image media.old) cache.old.lines cache.new.lines) }
     ensures goes { IfOk result (λ reads. reads ≡ true → GoesOn task.old cache.new.lines Go task.new) }
+    ensures keeps { IfOk result (λ reads. reads ≡ true → KeepsLines Go task.old task.new) }
     ensures failed { IfErr result (λ fault. IfMediaFault fault (λ line. IfModelled (M.image media.old) (λ image.
         HasFailed (op_of task.old) (machine image cache.old.lines) line (M.image media.new) cache.new.lines))) }
     ensures inside { IfErr result (λ fault. IfMediaFault fault (λ line. line.0 < M.size media.old)) }
@@ -40,8 +44,10 @@ pub(crate) fn read_next<M: Media>(
     ensures other_cache { IfOk result (λ reads. reads ≡ false → cache.new ≡ cache.old) }
     ensures other_task { IfOk result (λ reads. reads ≡ false → task.new ≡ task.old) }
 
+    ensures copies { OnErr result (cache.new.lines ≡ cache.old.lines) }
     ensures err { OnErr result (task.new ≡ task.old) }
     ensures undone { IsErrOf result OperationFault.OutOfMemory → media.new ≡ media.old }
+    ensures unchanged { IsErrOf result OperationFault.OutOfMemory → cache.new ≡ cache.old }
     ensures steady { IsSteady M.size M.faults media.old media.new }
 {
     task.is_sound();

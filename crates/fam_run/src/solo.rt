@@ -20,8 +20,7 @@ ghost use Rattle.fam_machine.specs.Caches.{Cache};
 ghost use Rattle.fam_commands.specs.Task.{op_of};
 ghost use Rattle.fam_run.specs.Run.{HasLeft, HasStopped, Ran, Running, fault_of};
 
-use crate::checking::check_next;
-use crate::comparing::compare_next;
+use crate::looking::{Looked, look_next};
 use crate::operation::operate;
 use crate::reading::read_next;
 use crate::rest::operate_held;
@@ -77,8 +76,7 @@ fn any_operation<M: Media>(
     }
 }
 
-/// As `any_operation`, and does a load of the last word of a line that is compared, and the Digest of a slot, with no
-/// turn.
+/// As `any_operation`, and does one that looks at what was read with no turn.
 #[inline(never)]
 fn other_operation<M: Media>(
     cache: &mut HostCache,
@@ -103,12 +101,12 @@ fn other_operation<M: Media>(
 
     ensures steady { IsSteady M.size M.faults media.old media.new }
 {
-    if task.compares() {
-        return compare_next(cache, task, media);
-    }
-    match task.checked() {
-        Some(slot) => check_next(cache, task, media, slot),
-        None => any_operation(cache, task, media),
+    match look_next(cache, task, media) {
+        Ok(Looked::Going) => Ok(None),
+        Ok(Looked::Ended(answer)) => Ok(Some(answer)),
+        Ok(Looked::Other) => any_operation(cache, task, media),
+        Err(OperationFault::MediaFault(line)) => Ok(Some(Answer::MediaFault(line))),
+        Err(OperationFault::OutOfMemory) => Err(OutOfMemory),
     }
 }
 

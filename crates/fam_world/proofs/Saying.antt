@@ -32,6 +32,9 @@ use Rattle.fam_tasks.specs.declared.answer.Turn.{Turn}
 use Rattle.fam_tasks.specs.declared.answer.Turn.TheVariants as turn
 use Rattle.fam_tasks.specs.Answers.{reply_of}
 use Rattle.fam_tasks.specs.Tells.{Tells}
+use Rattle.fam_run.specs.declared.looking.Looked.{Looked}
+use Rattle.fam_run.specs.declared.looking.Looked.TheVariants as looked
+use Rattle.fam_run.specs.Looked.{IfDone}
 use Rattle.fam_run.specs.Operation.{GoesOn, HasTurned, KeepsLines}
 use Rattle.fam_notes.specs.Notes.{answer_of}
 use Rattle.fam_journal.specs.declared.refusal.Refusal.TheVariants as why
@@ -199,6 +202,16 @@ step_lost at t a line f is e joined host later task cache failed rose =
     (subst (λ (o : Option Task). IfSome o (λ t. IfModelled a.told (λ image. HasFailed (op_of t) (machine image a.old.cache) line a.now a.new.cache))) e
     (fault_at f line (λ line. IfSome a.old.task (λ t. IfModelled a.told (λ image. HasFailed (op_of t) (machine image a.old.cache) line a.now a.new.cache))) is failed))
     (fault_at f line (λ line. Rose a.faults a.faults_now) is rose)
+
+-- What came of an operation that looks at what was read.
+
+-- of one behind which the task goes on
+pub going_turn : (l : Looked) (P : Turn → Type 0) → l ≡ looked.Going → IfDone l P → P turn.Go
+going_turn l P is done = subst (λ (x : Looked). IfDone x P) is done
+
+-- of one with which it ends
+pub ended_turn : (l : Looked) (given : Answer) (P : Turn → Type 0) → l ≡ looked.Ended given → IfDone l P → P (turn.Done given)
+ended_turn l given P is done = subst (λ (x : Looked). IfDone x P) is done
 
 -- What a host's task is.
 

@@ -1,6 +1,6 @@
 //! Operations of tasks: one, or all up to the answer.
 
-ghost use Rattle.std.specs.Prelude.{◌≡◌, ◌++◌, ◌<◌, ◌≤◌, IfErr, IfOk, IfSome, IsErrOf, OnErr, OnOk, None, Some, is_some, slice_get, true, vec_capacity, vec_len};
+ghost use Rattle.std.specs.Prelude.{◌≡◌, ◌++◌, ◌∷◌, ◌<◌, ◌≤◌, [], IfErr, IfOk, IfSome, IsErrOf, OnErr, OnOk, None, Some, false, is_some, slice_get, true, vec_capacity, vec_len};
 ghost use Rattle.fam_commands.specs.Task as spec;
 ghost use Rattle.fam_commands.specs.Task.{op_of};
 ghost use Rattle.fam_machine.specs.Cuts.{HasFailed};
@@ -10,11 +10,14 @@ ghost use Rattle.fam_media.specs.Outside.{IfModelled};
 ghost use Rattle.fam_cache.specs.Faults.{IfMediaFault};
 ghost use Rattle.fam_cache.specs.Operations.{LeavesCache};
 ghost use Rattle.fam_tasks.specs.Sound.{IsSound};
+ghost use Rattle.fam_tasks.specs.declared.answer.Turn.TheVariants.{Go};
 ghost use Rattle.fam_run.specs.Held.{HeldRun};
+ghost use Rattle.fam_run.specs.Looked.{IfDone};
 ghost use Rattle.fam_run.specs.Operation.{GoesOn, HasTurned, KeepsLines};
 ghost use Rattle.fam_journal.specs.ByWorld.{number_in};
 ghost use Rattle.fam_journal.specs.Calls.{Finishes};
 ghost use Rattle.fam_journal.specs.CallRecords.{FinishOutOfMemory, FitsMedia, MediaCall, StepCall, TaskFits, heading};
+ghost use Rattle.fam_journal.specs.Notes.{Answered, MediaFault};
 ghost use Rattle.fam_journal.specs.View.{HostView};
 ghost use Rattle.fam_world.specs.Finishes.{SoFar};
 ghost use Rattle.fam_world.specs.Answers.{IfAnswered, IfStepped, is_over};
@@ -26,12 +29,12 @@ use crate::fault::{Moved, WorldFault};
 use crate::find::running;
 use crate::hosts::{Host, MOST_HOSTS};
 use crate::notes::{add, make_room, refused};
-use fam_base::{HostName, OutOfMemory};
+use fam_base::{HostName, LineNo, OutOfMemory};
 use fam_cache::{HostCache, OperationFault};
 use fam_journal::HostId;
 use fam_media::Media;
 use fam_notes::Note;
-use fam_run::{operate, operate_held};
+use fam_run::{Looked, look_next, operate, operate_held, read_next};
 use fam_tasks::{Answer, Task, TaskNote, Turn};
 
 /// A note of a host's task.
@@ -63,6 +66,115 @@ fn say(journal: &mut Vec<Note>, task: &mut Option<Task>, host: HostId, turn: Tur
             add(journal, Note::Answered { host, answer });
             Moved::Answered
         }
+    }
+}
+
+/// Ends a host's task, in whose operation the media failed at this line, and notes it, for which there is room.
+fn end_at_fault(journal: &mut Vec<Note>, task: &mut Option<Task>, host: HostId, line: LineNo)
+    requires room { vec_len journal.old < vec_capacity journal.old }
+    ensures notes { notes_view journal.new.items
+        ≡ notes_view journal.old.items ++ Answered host.0 (MediaFault line.0) ∷ [] }
+    ensures task { task.new ≡ None }
+{
+    *task = None;
+    add(
+        journal,
+        Note::Answered {
+            host,
+            answer: Answer::MediaFault(line),
+        },
+    );
+}
+
+/// Does an operation of the task that a host runs, which there is, if the task just goes on behind it.
+#[inline(always)]
+fn read_on<M: Media>(
+    cache: &mut HostCache,
+    task: &mut Option<Task>,
+    media: &mut M,
+) -> Result<bool, OperationFault>
+    requires runs { is_some task.old ≡ true }
+    requires fits { TaskFits (M.size media.old) task.old }
+
+    ensures runs { is_some task.new ≡ true }
+    ensures turned { IfOk result (λ reads. reads ≡ true → IfSome task.old (λ t. IfSome task.new (λ next.
+        IfModelled (M.image media.old) (λ image.
+        HasTurned t (machine image cache.old.lines) Go next (M.image media.new) cache.new.lines)))) }
+    ensures failed { IfErr result (λ fault. IfMediaFault fault (λ line. IfSome task.old (λ t.
+        IfModelled (M.image media.old) (λ image.
+        HasFailed (op_of t) (machine image cache.old.lines) line (M.image media.new) cache.new.lines)))) }
+    ensures cache { IfOk result (λ reads. reads ≡ true → IfSome task.old (λ t.
+        LeavesCache (op_of t) (M.image media.old) cache.old.lines cache.new.lines)) }
+    ensures goes { IfOk result (λ reads. reads ≡ true → IfSome task.old (λ t.
+        IfSome task.new (GoesOn t cache.new.lines Go))) }
+    ensures keeps { IfOk result (λ reads. reads ≡ true → IfSome task.old (λ t. IfSome task.new (KeepsLines Go t))) }
+    ensures copies { OnErr result (cache.new.lines ≡ cache.old.lines) }
+    ensures err { OnErr result (task.new ≡ task.old) }
+    ensures within { IfSome task.old (λ t. IsWithin t.lines (op_of t)) }
+    ensures sound { IfSome task.old IsSound }
+    ensures sound_on { IfSome task.new IsSound }
+    ensures rose { IfErr result (λ fault. IfMediaFault fault (λ line. Rose (M.faults media.old) (M.faults media.new))) }
+    ensures other { IfOk result (λ reads. reads ≡ false → media.new ≡ media.old) }
+    ensures other_cache { IfOk result (λ reads. reads ≡ false → cache.new ≡ cache.old) }
+    ensures other_task { IfOk result (λ reads. reads ≡ false → task.new ≡ task.old) }
+    ensures undone { IsErrOf result OperationFault.OutOfMemory → media.new ≡ media.old }
+    ensures unchanged { IsErrOf result OperationFault.OutOfMemory → cache.new ≡ cache.old }
+    ensures steady { IsSteady M.size M.faults media.old media.new }
+{
+    match task {
+        Some(task) => {
+            task.is_sound();
+            let reads = read_next(cache, task, media);
+            task.is_sound();
+            reads
+        }
+        None => unreachable!(),
+    }
+}
+
+/// Does an operation of the task that a host runs, which there is, if it looks at what was read.
+fn look_on<M: Media>(
+    cache: &mut HostCache,
+    task: &mut Option<Task>,
+    media: &mut M,
+) -> Result<Looked, OperationFault>
+    requires runs { is_some task.old ≡ true }
+    requires fits { TaskFits (M.size media.old) task.old }
+
+    ensures runs { is_some task.new ≡ true }
+    ensures turned { IfOk result (λ looked. IfDone looked (λ turn. IfSome task.old (λ t. IfSome task.new (λ next.
+        IfModelled (M.image media.old) (λ image.
+        HasTurned t (machine image cache.old.lines) turn next (M.image media.new) cache.new.lines))))) }
+    ensures failed { IfErr result (λ fault. IfMediaFault fault (λ line. IfSome task.old (λ t.
+        IfModelled (M.image media.old) (λ image.
+        HasFailed (op_of t) (machine image cache.old.lines) line (M.image media.new) cache.new.lines)))) }
+    ensures cache { IfOk result (λ looked. IfDone looked (λ turn. IfSome task.old (λ t.
+        LeavesCache (op_of t) (M.image media.old) cache.old.lines cache.new.lines))) }
+    ensures goes { IfOk result (λ looked. IfDone looked (λ turn. IfSome task.old (λ t.
+        IfSome task.new (GoesOn t cache.new.lines turn)))) }
+    ensures keeps { IfOk result (λ looked. IfDone looked (λ turn. IfSome task.old (λ t.
+        IfSome task.new (KeepsLines turn t)))) }
+    ensures copies { OnErr result (cache.new.lines ≡ cache.old.lines) }
+    ensures err { OnErr result (task.new ≡ task.old) }
+    ensures within { IfSome task.old (λ t. IsWithin t.lines (op_of t)) }
+    ensures sound { IfSome task.old IsSound }
+    ensures sound_on { IfSome task.new IsSound }
+    ensures rose { IfErr result (λ fault. IfMediaFault fault (λ line. Rose (M.faults media.old) (M.faults media.new))) }
+    ensures other { IfOk result (λ looked. looked ≡ Looked.Other → media.new ≡ media.old) }
+    ensures other_cache { IfOk result (λ looked. looked ≡ Looked.Other → cache.new ≡ cache.old) }
+    ensures other_task { IfOk result (λ looked. looked ≡ Looked.Other → task.new ≡ task.old) }
+    ensures undone { IsErrOf result OperationFault.OutOfMemory → media.new ≡ media.old }
+    ensures unchanged { IsErrOf result OperationFault.OutOfMemory → cache.new ≡ cache.old }
+    ensures steady { IsSteady M.size M.faults media.old media.new }
+{
+    match task {
+        Some(task) => {
+            task.is_sound();
+            let looked = look_next(cache, task, media);
+            task.is_sound();
+            looked
+        }
+        None => unreachable!(),
     }
 }
 
@@ -107,7 +219,8 @@ fn operate_on<M: Media>(
 }
 
 /// Does the next operation of a host's task, and notes what comes of it, for which there is room.
-fn step_host<M: Media>(
+#[inline(never)]
+fn turn_host<M: Media>(
     host: &mut Host,
     journal: &mut Vec<Note>,
     media: &mut M,
@@ -139,14 +252,96 @@ fn step_host<M: Media>(
     match operate_on(&mut host.cache, &mut host.task, media) {
         Ok(turn) => Ok(say(journal, &mut host.task, HostId(at as u32), turn)),
         Err(OperationFault::MediaFault(line)) => {
-            host.task = None;
-            add(
-                journal,
-                Note::Answered {
-                    host: HostId(at as u32),
-                    answer: Answer::MediaFault(line),
-                },
-            );
+            end_at_fault(journal, &mut host.task, HostId(at as u32), line);
+            Ok(Moved::Answered)
+        }
+        Err(OperationFault::OutOfMemory) => Err(OutOfMemory),
+    }
+}
+
+/// As `turn_host`, and does one that looks at what was read with no turn.
+#[inline(never)]
+fn look_host<M: Media>(
+    host: &mut Host,
+    journal: &mut Vec<Note>,
+    media: &mut M,
+    at: usize,
+) -> Result<Moved, OutOfMemory>
+    requires runs { is_some host.old.task ≡ true }
+    requires fits { TaskFits (M.size media.old) host.old.task }
+    requires few { at < MOST_HOSTS }
+    requires room { vec_len journal.old < vec_capacity journal.old }
+
+    ensures step { IfOk result (λ moved. (t : spec.Task) → host.old.task ≡ Some t → IsStep at t (record {
+      old = host_view host.old;
+      new = host_view host.new;
+      before = notes_view journal.old.items;
+      after = notes_view journal.new.items;
+      told = M.image media.old;
+      now = M.image media.new;
+      size = M.size media.old;
+      faults = M.faults media.old;
+      faults_now = M.faults media.new;
+    }) (is_over moved)) }
+    ensures sound { IfSome host.old.task IsSound }
+    ensures sound_on { IfSome host.new.task IsSound }
+    ensures size { M.size media.new ≡ M.size media.old }
+    ensures undone { OnErr result (media.new ≡ media.old) }
+    ensures host { OnErr result (host.new ≡ host.old) }
+    ensures journal { OnErr result (journal.new.items ≡ journal.old.items) }
+{
+    match look_on(&mut host.cache, &mut host.task, media) {
+        Ok(Looked::Going) => Ok(Moved::Going),
+        Ok(Looked::Ended(answer)) => Ok(say(
+            journal,
+            &mut host.task,
+            HostId(at as u32),
+            Turn::Done(answer),
+        )),
+        Ok(Looked::Other) => turn_host(host, journal, media, at),
+        Err(OperationFault::MediaFault(line)) => {
+            end_at_fault(journal, &mut host.task, HostId(at as u32), line);
+            Ok(Moved::Answered)
+        }
+        Err(OperationFault::OutOfMemory) => Err(OutOfMemory),
+    }
+}
+
+/// As `look_host`, and tries first whether the operation is one behind which the task just goes on, as nearly all are.
+fn step_host<M: Media>(
+    host: &mut Host,
+    journal: &mut Vec<Note>,
+    media: &mut M,
+    at: usize,
+) -> Result<Moved, OutOfMemory>
+    requires runs { is_some host.old.task ≡ true }
+    requires fits { TaskFits (M.size media.old) host.old.task }
+    requires few { at < MOST_HOSTS }
+    requires room { vec_len journal.old < vec_capacity journal.old }
+
+    ensures step { IfOk result (λ moved. (t : spec.Task) → host.old.task ≡ Some t → IsStep at t (record {
+      old = host_view host.old;
+      new = host_view host.new;
+      before = notes_view journal.old.items;
+      after = notes_view journal.new.items;
+      told = M.image media.old;
+      now = M.image media.new;
+      size = M.size media.old;
+      faults = M.faults media.old;
+      faults_now = M.faults media.new;
+    }) (is_over moved)) }
+    ensures sound { IfSome host.old.task IsSound }
+    ensures sound_on { IfSome host.new.task IsSound }
+    ensures size { M.size media.new ≡ M.size media.old }
+    ensures undone { OnErr result (media.new ≡ media.old) }
+    ensures host { OnErr result (host.new ≡ host.old) }
+    ensures journal { OnErr result (journal.new.items ≡ journal.old.items) }
+{
+    match read_on(&mut host.cache, &mut host.task, media) {
+        Ok(true) => Ok(Moved::Going),
+        Ok(false) => look_host(host, journal, media, at),
+        Err(OperationFault::MediaFault(line)) => {
+            end_at_fault(journal, &mut host.task, HostId(at as u32), line);
             Ok(Moved::Answered)
         }
         Err(OperationFault::OutOfMemory) => Err(OutOfMemory),
