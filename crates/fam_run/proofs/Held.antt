@@ -102,7 +102,7 @@ current_held (Clean words) is memory = refl
 current_held (Dirty words) is memory = refl
 
 -- it leaves memory, and the cache that was said
-machine_after : (op : Op) (image : Image) (now : Cache) → IsOfHeld op now → operated op (machine image now) ≡ machine image (held_after op now)
+pub machine_after : (op : Op) (image : Image) (now : Cache) → IsOfHeld op now → operated op (machine image now) ≡ machine image (held_after op now)
 machine_after (Load line k) image now is =
     ap (machine image) (ap (λ (cell : Cell). with_cell line.0 cell now) (held_still (cell_at now line.0) is (line_at image line.0)) ∙ with_cell_own line.0 now)
 machine_after (Store line k value) image now is =

@@ -12,6 +12,7 @@ mod reading;
 mod rest;
 mod solo;
 mod storing;
+mod verifying;
 
 pub use looking::{Looked, look_next};
 pub use operation::operate;
@@ -19,6 +20,7 @@ pub use reading::read_next;
 pub use rest::operate_held;
 pub use solo::run;
 pub use storing::store_next;
+pub use verifying::{Compared, compare_whole};
 
 #[cfg(test)]
 mod tests;

@@ -1,5 +1,5 @@
 -- What comes of a line of a file that was loaded.
-use Rattle.std.proofs.Common.{◌≡◌, ℕ, ◌+◌, ◌-◌, ◌*◌, ◌%◌, ◌<◌, ◌≤◌, nat_lt, List, [], length, get_or, slice_range, Option, Some, None, refl, sym, ap, subst, ◌∙◌, arith}
+use Rattle.std.proofs.Common.{◌≡◌, ℕ, ◌+◌, ◌-◌, ◌*◌, ◌%◌, ◌<◌, ◌≤◌, nat_lt, List, [], ◌∷◌, length, get_or, slice_range, Option, Some, None, refl, sym, ap, subst, ◌∙◌, arith}
 use Rattle.std.specs.Prelude.{find, not, ◌==◌, min}
 use Rattle.std.specs.List.{range_with_len}
 use Rattle.std.proofs.lemmas.Bool.{cond-true, cond-false, lt-ltb, le-ltb}
@@ -28,6 +28,11 @@ use Rattle.fam_tasks.proofs.FileLines.{differs_turn, same_turn}
 -- eight words are one line
 pub one_line : (words line : List ℕ) → length words ≡ 8 → line ≡ slice_range words 0 8 → line ≡ words
 one_line words line count is = is ∙ take_all 8 words (omega arith)
+
+-- no words are none
+pub no_words : (words : List ℕ) → length words ≡ 0 → words ≡ []
+no_words [] none = refl
+no_words (word ∷ words) none = absurd cc
 
 -- the task answers
 pub replies : (wanted : turns.Turn) (turn : Turn) (new : Task) (reply : Reply) (given : Answer) → wanted ≡ Ends reply → turn ≡ Done given → reply_of given ≡ Some reply → Tells wanted turn new

@@ -5,3 +5,4 @@ pub mod FileLines
 pub mod Phases
 pub mod FileTurns
 pub mod Rest
+pub mod WholeLine

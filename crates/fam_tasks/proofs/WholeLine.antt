@@ -1,5 +1,5 @@
 -- A line of a file that is compared: it is dropped, and its eight words are loaded.
-use Rattle.std.proofs.Common.{ℕ, ◌≡◌, ◌+◌, ◌<◌, List, [], ◌∷◌, ◌++◌, length, length-append, Option, Some, None, refl, sym, ap, subst, ◌∙◌, arith}
+use Rattle.std.proofs.Common.{ℕ, ◌≡◌, ◌+◌, ◌<◌, List, [], ◌∷◌, ◌++◌, length-append, Option, Some, None, refl, sym, ap, subst, ◌∙◌, arith}
 use Rattle.std.specs.Prelude.{slice_index}
 use Rattle.fam_base.specs.Image.{eight}
 use Rattle.fam_base.specs.declared.line.LineNo.{LineNo}
@@ -8,10 +8,10 @@ use Rattle.fam_machine.specs.Operations.{line_no}
 use Rattle.fam_commands.specs.declared.phase.Part.TheVariants.{File}
 use Rattle.fam_commands.specs.declared.phase.Phase.{Phase}
 use Rattle.fam_commands.specs.declared.phase.Phase.TheVariants as at
-use Rattle.fam_commands.specs.Task.{Task, op_at, op_of, part_line}
-use Rattle.fam_commands.specs.Turns.{Goes, file_turn, turn_at, turn_of, with_word}
+use Rattle.fam_commands.specs.Task.{Task, op_at, part_line}
+use Rattle.fam_commands.specs.Turns.{Goes, file_turn, turn_of, with_word}
 use Rattle.fam_tasks.specs.declared.answer.Verified.{Verified}
-use Rattle.fam_tasks.specs.Rest.{ComparesLine, IsComparedLine, IsRest, Loads, Taken}
+use Rattle.fam_tasks.specs.Rest.{ComparesLine, DropsLine, IsComparedLine, Taken}
 use Rattle.fam_tasks.specs.Sound.{IsSound, IsSoundAt, IsWantedLine}
 use Rattle.fam_tasks.specs.Tells.{Tells, turn_by}
 use Rattle.fam_tasks.proofs.FileLines.{same_proper, verify_kept}
@@ -119,21 +119,28 @@ module _ (line : LineNo) (words : List ℕ) (j : ℕ) (t : Task) (sound : IsSoun
       ap (λ (held : List ℕ). record t { phase = at.Word File j 7; words = (((((((held ++ slice_index words 0 ∷ []) ++ slice_index words 1 ∷ []) ++ slice_index words 2 ∷ []) ++ slice_index words 3 ∷ []) ++ slice_index words 4 ∷ []) ++ slice_index words 5 ∷ []) ++ slice_index words 6 ∷ []) ++ slice_index words 7 ∷ [] }) none_held
       ∙ ap (λ (held : List ℕ). record t { phase = at.Word File j 7; words = held }) (sym same)
 
+  -- the drop alone
+  pub line_dropped : DropsLine line t (dropped j t)
+  line_dropped = record {
+    within = compared.within;
+    op = ap (op_at t) phase ∙ ap (λ (l : ℕ). Invalidate (line_no l)) (sym is);
+    turn = turn_in t (at.Drop File j) None phase;
+    loads = ap (λ (l : ℕ). Load (line_no l) 0) (sym is);
+    lines = refl;
+  }
+
+  -- and all loads
   pub line_compared : (found : List ℕ) (next : Task) (ending : Option Verified) → found ≡ eight words → ((p : Phase) → Tells (file_turn t.cmd (record t { phase = p; words = found }) j) (turn_by ending) next) → ComparesLine line words t next ending
   line_compared found next ending same tells = record {
     dropped = dropped j t;
-    begun = first;
-    due = due;
-    within = compared.within;
-    drops = ap (op_at t) phase ∙ ap (λ (l : ℕ). Invalidate (line_no l)) (sym is);
-    drop_turn = turn_in t (at.Drop File j) None phase;
+    drops = line_dropped;
     dropped_sound = drop_sound t j phase sound;
-    dropped_lines = refl;
-    first = ap (λ (l : ℕ). Load (line_no l) 0) (sym is);
-    first_turn = word_turn_goes (dropped j t) j 0 words (omega arith) refl;
+    begun = first;
+    turn = word_turn_goes (dropped j t) j 0 words (omega arith) refl;
+    due = due;
     loads = reads.taken.loads;
     due_sound = reads.sound;
     due_lines = refl;
     last = ap (λ (l : ℕ). Load (line_no l) 7) (sym is);
-    last_tells = subst (λ (u : Task). Tells (file_turn t.cmd u j) (turn_by ending) next) (sym (all_read found same)) (tells (at.Word File j 7));
+    tells = subst (λ (u : Task). Tells (file_turn t.cmd u j) (turn_by ending) next) (sym (all_read found same)) (tells (at.Word File j 7));
   }

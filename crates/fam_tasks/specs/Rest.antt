@@ -1,18 +1,21 @@
 -- The rest of a line, whose first word a task has loaded or stored: the operations up to its last word, as a whole. And
--- a line of the new file, whose words are all stored.
-use Rattle.std.specs.Prelude.{ℕ, suc, ◌≡◌, ◌+◌, ◌*◌, ◌<◌, ◌⊎◌, true, List, Some, None, slice_index}
+-- a line of the new file, whose words are all stored, and one that is compared, whose words are all loaded.
+use Rattle.std.specs.Prelude.{ℕ, suc, ◌≡◌, ◌+◌, ◌*◌, ◌<◌, ◌⊎◌, true, List, Option, Some, None, slice_index}
 use Rattle.fam_base.specs.declared.line.LineNo.{LineNo}
 use Rattle.fam_format.specs.Layout.{slot_line}
-use Rattle.fam_format.specs.Line.{line_words}
+use Rattle.fam_format.specs.Line.{last_word, line_words}
 use Rattle.fam_machine.specs.declared.op.Op.TheVariants.{Load, Store, Invalidate}
 use Rattle.fam_machine.specs.Operations.{IsWithin}
 use Rattle.fam_commands.specs.declared.phase.Part.{Part}
+use Rattle.fam_commands.specs.declared.phase.Part.TheVariants.{File}
 use Rattle.fam_commands.specs.declared.phase.Phase.{Phase}
 use Rattle.fam_commands.specs.declared.phase.Phase.TheVariants as at
 use Rattle.fam_commands.specs.Task.{Task, data_words, line_of, op_of, part_line}
 use Rattle.fam_commands.specs.Turns.{Goes, turn_of}
 use Rattle.fam_tasks.specs.Sound.{IsSound}
-use Rattle.fam_tasks.specs.Tells.{is_reading}
+use Rattle.fam_tasks.specs.declared.answer.Verified.{Verified}
+use Rattle.fam_tasks.specs.Commands.{IsVerify}
+use Rattle.fam_tasks.specs.Tells.{Tells, is_reading, turn_by}
 
 -- word 1 of this line of a part is loaded next
 pub record IsRest (line : LineNo) (t : Task) : Type 0 where
@@ -83,6 +86,39 @@ pub record StoresFileLine (line : LineNo) (words : List ℕ) (t next : Task) : T
   pub sends : op_of next ≡ Invalidate line
   pub reads_on : is_reading next.phase ≡ true
   pub lines : next.lines ≡ t.lines
+
+-- this line of a file that is compared is dropped next
+pub record IsComparedLine (line : LineNo) (t : Task) : Type 0 where
+  pub j : ℕ
+  pub phase : t.phase ≡ at.Drop File j
+  pub verify : IsVerify t.cmd
+  pub is : line.0 ≡ part_line t File j
+  pub within : line.0 < t.lines
+
+-- the first task drops the line, and the other loads its first word next
+pub record DropsLine (line : LineNo) (t next : Task) : Type 0 where
+  pub within : line.0 < t.lines
+  pub op : op_of t ≡ Invalidate line
+  pub turn : turn_of t None ≡ Goes next
+  pub loads : op_of next ≡ Load line 0
+  pub lines : next.lines ≡ t.lines
+
+-- the first task drops the line and loads its words, which are these: the last task is what the last one leaves, and
+-- ends with this answer, if with any
+pub record ComparesLine (line : LineNo) (words : List ℕ) (t next : Task) (ending : Option Verified) : Type 0 where
+  pub dropped : Task
+  pub drops : DropsLine line t dropped
+  pub dropped_sound : IsSound dropped
+  -- behind the first word
+  pub begun : Task
+  pub turn : turn_of dropped (Some (slice_index words 0)) ≡ Goes begun
+  -- before the last one
+  pub due : Task
+  pub loads : Loads line words begun due
+  pub due_sound : IsSound due
+  pub due_lines : due.lines ≡ t.lines
+  pub last : op_of due ≡ Load line last_word
+  pub tells : Tells (turn_of due (Some (slice_index words last_word))) (turn_by ending) next
 
 -- so many words were stored, and the next one comes next, in this phase
 pub record Stored (line : LineNo) (words : List ℕ) (phase_at : ℕ → Phase) (t now : Task) (n : ℕ) : Type 0 where

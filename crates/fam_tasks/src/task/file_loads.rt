@@ -3,6 +3,7 @@
 ghost use Rattle.std.specs.Prelude.{◌≡◌, true};
 ghost use Rattle.fam_format.specs.Line.{last_word};
 ghost use Rattle.fam_commands.specs.declared.phase.Part.TheVariants as part;
+ghost use Rattle.fam_commands.specs.declared.phase.Phase.{Phase};
 ghost use Rattle.fam_commands.specs.declared.phase.Phase.TheVariants as at;
 ghost use Rattle.fam_commands.specs.Task as spec;
 ghost use Rattle.fam_commands.specs.Turns as turns;
@@ -15,7 +16,7 @@ use crate::answer::{Answer, Turn, Verified};
 use crate::byte_text::ByteText;
 use crate::slots::count;
 use crate::wanted::{wanted_lines, wanted_start};
-use fam_base::Cmd;
+use fam_base::{Cmd, Line};
 use fam_commands::{Part, Phase};
 use fam_content::compare;
 use fam_format::{LAST_WORD, LINE_BYTES};
@@ -90,13 +91,29 @@ impl Task {
         ensures { Tells (turns.file_turn self.old.cmd (turns.with_word self.old word) line)
             (turn_by result) self.new }
     {
+        self.buffer.push(word);
+        let found = self.buffer.line(0);
+        self.buffer.clear();
+        self.phase = Phase::Drop {
+            part: Part::File,
+            line,
+        };
+        self.compare_found(line, &found)
+    }
+
+    /// Compares these words of a line, of which none is held: the answer, where the task ends with it.
+    #[inline(always)]
+    pub(super) fn compare_found(&mut self, line: u64, found: &Line) -> Option<Verified>
+        requires phase { self.old.phase ≡ at.Drop part.File line }
+        requires verify { IsVerify self.old.cmd }
+        ensures { (phase : Phase) → Tells (turns.file_turn self.old.cmd
+            (record self.old { phase = phase; words = found.now }) line) (turn_by result) self.new }
+    {
         let size = self.file_size();
         let lines = wanted_lines(&self.cmd, size);
         let m = count(&self.plan);
-        self.buffer.push(word);
         self.contents.take(size);
-        let found = self.buffer.line(0);
-        match compare(&found, self.contents.line(), LINE_BYTES * line, size) {
+        match compare(found, self.contents.line(), LINE_BYTES * line, size) {
             Some((offset, found, wanted)) => {
                 self.phase = Phase::SendGate;
                 Some(Verified::Differs {
@@ -107,7 +124,6 @@ impl Task {
                 })
             }
             None => {
-                self.buffer.clear();
                 if line + 1 < lines {
                     self.phase = Phase::Drop {
                         part: Part::File,

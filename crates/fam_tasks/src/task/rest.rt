@@ -1,14 +1,18 @@
 //! The rest of a line of which a task has loaded or stored the first word: the operations on its other words as a whole.
+//! And lines of a file of which none was: all operations on one that is stored, or compared.
 
 ghost use Rattle.std.specs.Prelude.{ℕ, suc, ◌≡◌, ◌+◌, ◌<◌, IfSome};
+ghost use Rattle.fam_base.specs.Image.{eight};
 ghost use Rattle.fam_base.specs.declared.line.LineNo.{LineNo};
+ghost use Rattle.fam_commands.specs.declared.phase.Part.TheVariants as part;
 ghost use Rattle.fam_commands.specs.declared.phase.Phase.TheVariants as at;
 ghost use Rattle.fam_commands.specs.Task as spec;
-ghost use Rattle.fam_tasks.specs.Rest.{IsFileLineDue, IsFileRest, IsRest, IsSlotRest, IsStoreRest, Loads, Stored, Stores, StoresFileLine, StoresFileRest, Taken};
+ghost use Rattle.fam_tasks.specs.Rest.{ComparesLine, DropsLine, IsComparedLine, IsFileLineDue, IsFileRest, IsRest, IsSlotRest, IsStoreRest, Loads, Stored, Stores, StoresFileLine, StoresFileRest, Taken};
 
 use super::Task;
+use crate::answer::Verified;
 use crate::parts::line_of_slot;
-use fam_base::{Line, LineNo};
+use fam_base::{Cmd, Line, LineNo};
 use fam_commands::{Part, Phase};
 use fam_format::{LAST_WORD, LINE_WORDS};
 
@@ -86,6 +90,62 @@ impl Task {
         let _ = line;
         self.is_sound();
         self.load_within(part, number, k, words[k as usize]);
+    }
+
+    /// The line of a file that is compared which the task drops next, if it does.
+    #[inline(always)]
+    pub fn line_compared(&self) -> Option<LineNo>
+        ensures { IfSome result (λ line. IsComparedLine line self.now) }
+    {
+        match self.phase {
+            Phase::Drop {
+                part: Part::File,
+                line,
+            } => self.compared(line),
+            _ => None,
+        }
+    }
+
+    /// A line of a file that is dropped next, where the file is compared.
+    #[inline(always)]
+    fn compared(&self, line: u64) -> Option<LineNo>
+        requires { self.now.phase ≡ at.Drop part.File line }
+        ensures { IfSome result (λ line. IsComparedLine line self.now) }
+    {
+        self.is_sound();
+        match self.cmd {
+            Cmd::Verify { .. } => Some(self.wanted_line(line)),
+            _ => None,
+        }
+    }
+
+    /// The line that is dropped next was dropped: its first word is loaded next.
+    pub fn drop_compared(&mut self, line: LineNo)
+        requires compared { IsComparedLine line self.old }
+        ensures { DropsLine line self.old self.new }
+    {
+        let _ = line;
+        match self.phase {
+            Phase::Drop { part, line: number } => self.begin_line(part, number),
+            _ => unreachable!(),
+        }
+    }
+
+    /// The line that is dropped next was dropped, and all its words were loaded: the answer, where the task ends with it.
+    #[inline(always)]
+    pub fn compare_whole(&mut self, line: LineNo, words: &Line) -> Option<Verified>
+        requires compared { IsComparedLine line self.old }
+        ensures { ComparesLine line (eight words.now) self.old self.new result }
+    {
+        let _ = line;
+        self.is_sound();
+        let found = [
+            words[0], words[1], words[2], words[3], words[4], words[5], words[6], words[7],
+        ];
+        match self.phase {
+            Phase::Drop { line: number, .. } => self.compare_found(number, &found),
+            _ => unreachable!(),
+        }
     }
 
     /// The line of which the task stores word 1 next, if it does, and all words of that line.

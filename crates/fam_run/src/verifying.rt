@@ -1,0 +1,88 @@
+//! A line of a file that is compared, all of it: its drop and the loads of its eight words by one read. Of a verify
+//! nearly all operations are such.
+
+ghost use Rattle.std.specs.Prelude.{◌≡◌, ◌∷◌, None, Some, IfErr, IfOk, IsErrOf};
+ghost use Rattle.fam_media.specs.Causes.{IsSteady};
+ghost use Rattle.fam_cache.specs.Faults.{IfMediaFault};
+ghost use Rattle.fam_tasks.specs.declared.answer.Answer.TheVariants.{MediaFault};
+ghost use Rattle.fam_run.specs.Compared.{IfCompared};
+ghost use Rattle.fam_run.specs.Led.{HasComeBy};
+
+use fam_cache::{CacheFault, HostCache, OperationFault};
+use fam_media::Media;
+use fam_tasks::{Task, Verified};
+
+/// What came of a line of a file that is compared.
+#[derive(Clone, Copy)]
+pub enum Compared {
+    /// No such line comes next, or the cache holds it, and nothing was done.
+    Other,
+    /// The line was compared, and the task goes on.
+    Going,
+    /// The line was compared, and the command ends with this answer.
+    Ended(Verified),
+}
+
+/// Drops the line of a file that is compared which the task drops next, loads its words, and compares them. Where none
+/// comes next, or the cache holds the line, nothing is done.
+///
+/// `MediaFault` names the line: the task stands before its first load. `OutOfMemory` comes where the cache has no room
+/// for one more line, and then nothing was done.
+#[inline(always)]
+pub fn compare_whole<M: Media>(
+    cache: &mut HostCache,
+    task: &mut Task,
+    media: &mut M,
+) -> Result<Compared, OperationFault>
+    requires lines { task.old.lines ≡ M.size media.old }
+
+    ensures compared { IfOk result (λ compared. IfCompared compared (HasComeBy (record {
+      task = task.old;
+      next = task.new;
+      old = cache.old.lines;
+      new = cache.new.lines;
+      modelled = M.image media.old;
+      left = M.image media.new;
+      size = M.size media.old;
+      before = M.faults media.old;
+      now = M.faults media.new;
+    }))) }
+    ensures failed { IfErr result (λ fault. IfMediaFault fault (λ line. HasComeBy (record {
+      task = task.old;
+      next = task.new;
+      old = cache.old.lines;
+      new = cache.new.lines;
+      modelled = M.image media.old;
+      left = M.image media.new;
+      size = M.size media.old;
+      before = M.faults media.old;
+      now = M.faults media.new;
+    }) (Some (MediaFault line)))) }
+
+    ensures other { IfOk result (λ compared. compared ≡ Compared.Other → media.new ≡ media.old) }
+    ensures other_cache { IfOk result (λ compared. compared ≡ Compared.Other → cache.new ≡ cache.old) }
+    ensures other_task { IfOk result (λ compared. compared ≡ Compared.Other → task.new ≡ task.old) }
+
+    ensures undone { IsErrOf result OperationFault.OutOfMemory → media.new ≡ media.old }
+    ensures unchanged { IsErrOf result OperationFault.OutOfMemory → cache.new ≡ cache.old }
+    ensures unmoved { IsErrOf result OperationFault.OutOfMemory → task.new ≡ task.old }
+    ensures steady { IsSteady M.size M.faults media.old media.new }
+{
+    task.is_sound();
+    let Some(line) = task.line_compared() else {
+        return Ok(Compared::Other);
+    };
+    match cache.bring_line(media, line) {
+        Ok(None) => Ok(Compared::Other),
+        Ok(Some(words)) => match task.compare_whole(line, &words) {
+            None => Ok(Compared::Going),
+            Some(ended) => Ok(Compared::Ended(ended)),
+        },
+        Err(CacheFault::Failed) => {
+            task.drop_compared(line);
+            task.is_sound();
+            Err(OperationFault::MediaFault(line))
+        }
+        Err(CacheFault::OutOfMemory) => Err(OperationFault::OutOfMemory),
+    }
+}
