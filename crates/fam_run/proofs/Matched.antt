@@ -1,6 +1,6 @@
 -- A line of a file that is compared is dropped and loaded whole: nine operations, by one read.
-use Rattle.std.proofs.Common.{ℕ, ◌≡◌, ◌<◌, inl, inr, List, [], length, Option, Some, None, refl, sym, ap, subst, ◌∙◌, arith}
-use Rattle.std.specs.Prelude.{slice_index}
+use Rattle.std.proofs.Common.{ℕ, ◌≡◌, ◌<◌, inl, inr, List, Option, Some, None, refl, sym, ap, subst, ◌∙◌, arith}
+use Rattle.std.specs.Prelude.{IfSome, slice_index}
 use Rattle.fam_base.specs.Image.{Image, IsNormal, eight, line_at, with_line}
 use Rattle.fam_base.specs.declared.line.LineNo.{LineNo}
 use Rattle.fam_base.proofs.ImageLemmas.{with_line-line_at}
@@ -21,16 +21,18 @@ use Rattle.fam_media.specs.Outside.{IfModelled}
 use Rattle.fam_tasks.specs.declared.answer.Answer.TheVariants as answer
 use Rattle.fam_tasks.specs.declared.answer.Verified.{Verified}
 use Rattle.fam_tasks.specs.declared.answer.Verified.TheVariants as verified
-use Rattle.fam_tasks.specs.declared.answer.Turn.TheVariants.{Go}
 use Rattle.fam_tasks.specs.Rest.{ComparesLine, DropsLine}
 use Rattle.fam_tasks.specs.Sound.{IsSound}
 use Rattle.fam_tasks.specs.Tells.{Tells, turn_by}
 use Rattle.fam_run.specs.Held.{IsOfHeld, held_after}
 use Rattle.fam_run.specs.Led.{HasComeBy, IsQuiet, Led, none, more}
 use Rattle.fam_run.specs.Operation.{IsNoFault, ended}
-use Rattle.fam_run.specs.Step.{Around}
 use Rattle.fam_run.proofs.Held.{given_held, held_leaves, loads_held, machine_after, tells_go}
 use Rattle.fam_run.proofs.Stored.{held_led}
+
+-- what holds of what is there
+pub of_some : (o : Option (List ℕ)) (words : List ℕ) (P : List ℕ → Type 0) → o ≡ Some words → IfSome o P → P words
+of_some o words P is holds = subst (λ (x : Option (List ℕ)). IfSome x P) is holds
 
 -- no answer of a comparison is that the media failed
 compared_own : (ending : Option Verified) → IsNoFault (turn_by ending)

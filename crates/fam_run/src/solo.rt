@@ -25,6 +25,7 @@ use crate::operation::operate;
 use crate::reading::read_next;
 use crate::rest::operate_held;
 use crate::storing::store_next;
+use crate::verifying::{Compared, compare_whole};
 use fam_base::{Attr, Cmd, Content, Kind, OutOfMemory, Path, Stripe};
 use fam_cache::{HostCache, OperationFault};
 use fam_media::Media;
@@ -143,7 +144,41 @@ fn go_on<M: Media>(
     }
 }
 
-/// As `go_on`, and does the operations on a line of a new file as one.
+/// As `go_on`, and does the operations on a line of a file that is compared as one.
+#[inline(always)]
+fn compare_on<M: Media>(
+    cache: &mut HostCache,
+    task: &mut Task,
+    media: &mut M,
+) -> Result<Option<Answer>, OutOfMemory>
+    requires lines { task.old.lines ≡ M.size media.old }
+
+    ensures come { IfOk result (HasCome (record {
+      task = task.old;
+      next = task.new;
+      old = cache.old.lines;
+      new = cache.new.lines;
+      modelled = M.image media.old;
+      left = M.image media.new;
+      size = M.size media.old;
+      before = M.faults media.old;
+      now = M.faults media.new;
+    })) }
+    ensures undone { OnErr result (media.new ≡ media.old) }
+
+    ensures steady { IsSteady M.size M.faults media.old media.new }
+{
+    task.is_sound();
+    match compare_whole(cache, task, media) {
+        Ok(Compared::Going) => Ok(None),
+        Ok(Compared::Ended(ended)) => Ok(Some(ended.answer())),
+        Ok(Compared::Other) => go_on(cache, task, media),
+        Err(OperationFault::MediaFault(line)) => Ok(Some(Answer::MediaFault(line))),
+        Err(OperationFault::OutOfMemory) => Err(OutOfMemory),
+    }
+}
+
+/// As `compare_on`, and does the operations on a line of a new file as one.
 #[inline(always)]
 fn advance<M: Media>(
     cache: &mut HostCache,
@@ -167,10 +202,9 @@ fn advance<M: Media>(
 
     ensures steady { IsSteady M.size M.faults media.old media.new }
 {
-    task.is_sound();
     match store_next(cache, task, media) {
         Ok(true) => Ok(None),
-        Ok(false) => go_on(cache, task, media),
+        Ok(false) => compare_on(cache, task, media),
         Err(OperationFault::MediaFault(line)) => Ok(Some(Answer::MediaFault(line))),
         Err(OperationFault::OutOfMemory) => Err(OutOfMemory),
     }
