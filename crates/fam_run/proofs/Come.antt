@@ -1,14 +1,27 @@
 -- A command that runs alone, by operations that leave memory's image and one behind them.
-use Rattle.std.proofs.Common.{ℕ, ◌≡◌, List, length, Option, Some, None, sym, ◌∙◌, arith}
+use Rattle.std.proofs.Common.{ℕ, ◌≡◌, inl, inr, List, length, Option, Some, None, refl, sym, subst, ◌∙◌, arith}
 use Rattle.fam_base.specs.Image.{Image}
 use Rattle.fam_base.specs.declared.cmd.Cmd.{Cmd}
 use Rattle.fam_machine.specs.Caches.{Cache}
 use Rattle.fam_machine.specs.Operations.{IsWithin}
 use Rattle.fam_commands.specs.Task.{op_of}
 use Rattle.fam_media.specs.Outside.{IfModelled}
+use Rattle.fam_base.specs.declared.line.LineNo.{LineNo}
 use Rattle.fam_tasks.specs.declared.answer.Answer.{Answer}
+use Rattle.fam_tasks.specs.declared.answer.Answer.TheVariants.{MediaFault}
+use Rattle.fam_tasks.specs.declared.answer.Turn.{Turn}
+use Rattle.fam_tasks.specs.declared.answer.Turn.TheVariants.{Go, Done}
+use Rattle.fam_tasks.specs.declared.answer.Verified.{Verified}
+use Rattle.fam_tasks.specs.Tells.{answer_by}
+use Rattle.fam_cache.specs.declared.fault.OperationFault.{OperationFault}
+use Rattle.fam_cache.specs.declared.fault.OperationFault.TheVariants as fault
+use Rattle.fam_cache.specs.Faults.{IfMediaFault}
+use Rattle.fam_run.specs.declared.whole.WholeLine.{WholeLine}
+use Rattle.fam_run.specs.declared.whole.WholeLine.TheVariants as whole
+use Rattle.fam_run.specs.Whole.{IfWhole}
 use Rattle.fam_tasks.specs.Sound.{IsSound}
-use Rattle.fam_run.specs.Led.{HasCome, none}
+use Rattle.fam_run.specs.Led.{HasBrokenOff, HasCome, HasDone, none}
+use Rattle.fam_run.specs.Operation.{ended}
 use Rattle.fam_run.specs.Run.{HasLeft, Ran, Running, fault_of}
 use Rattle.fam_run.specs.Step.{Around, HasOperated, IsDone}
 use Rattle.fam_run.proofs.Left.{Kept, left}
@@ -18,6 +31,38 @@ use Rattle.fam_run.proofs.Running.{answered, done_on, kept_on, left_behind, runn
 -- one operation, with none before it
 pub come_alone : (a : Around) (answer : Option Answer) → IsSound a.task → IsWithin a.task.lines (op_of a.task) → HasOperated a answer → HasCome a answer
 come_alone a answer sound within did = record { task = a.task; held = a.old; led = none; sound = sound; within = within; did = did }
+
+-- What came of a line that may be done whole.
+
+pub going_done : (w : WholeLine) (P : Turn → Type 0) → w ≡ whole.Going → IfWhole w P → P Go
+going_done w P is done = subst (λ (x : WholeLine). IfWhole x P) is done
+
+pub ended_done : (w : WholeLine) (given : Verified) (P : Turn → Type 0) → w ≡ whole.Ended given → IfWhole w P → P (Done (answer_by given))
+ended_done w given P is done = subst (λ (x : WholeLine). IfWhole x P) is done
+
+pub fault_at : (f : OperationFault) (line : LineNo) (P : LineNo → Type 0) → f ≡ fault.MediaFault line → IfMediaFault f P → P line
+fault_at f line P is p = subst (λ (z : OperationFault). IfMediaFault z P) is p
+
+-- as one operation with those before it
+pub done_come : (a : Around) (turn : Turn) → HasDone a turn → HasCome a (ended turn)
+done_come a turn done = record {
+  task = done.task;
+  held = done.held;
+  led = done.led;
+  sound = done.sound;
+  within = done.within;
+  did = inl record { turn = turn; ends = refl; turned = done.turned; goes = done.goes; own = done.own };
+}
+
+pub broken_come : (a : Around) (line : LineNo) → HasBrokenOff a line → HasCome a (Some (MediaFault line))
+broken_come a line broken = record {
+  task = broken.task;
+  held = broken.held;
+  led = broken.led;
+  sound = broken.sound;
+  within = broken.within;
+  did = inr record { line = line; answers = refl; failed = broken.failed; rose = broken.rose; within = broken.inside };
+}
 
 -- the task goes on
 pub come_stands : (a : Around) → HasCome a None → Kept (left a.task) a.task a.next

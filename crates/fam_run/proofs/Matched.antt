@@ -1,5 +1,5 @@
 -- A line of a file that is compared is dropped and loaded whole: nine operations, by one read.
-use Rattle.std.proofs.Common.{ℕ, ◌≡◌, ◌<◌, inl, inr, List, Option, Some, None, refl, sym, ap, subst, ◌∙◌, arith}
+use Rattle.std.proofs.Common.{ℕ, ◌≡◌, ◌<◌, List, Option, Some, None, refl, sym, ap, subst, ◌∙◌, arith}
 use Rattle.std.specs.Prelude.{IfSome, slice_index}
 use Rattle.fam_base.specs.Image.{Image, IsNormal, eight, line_at, with_line}
 use Rattle.fam_base.specs.declared.line.LineNo.{LineNo}
@@ -18,15 +18,14 @@ use Rattle.fam_commands.specs.Task.{Task, op_of}
 use Rattle.fam_commands.specs.Turns.{turn_of}
 use Rattle.fam_media.specs.Causes.{Rose}
 use Rattle.fam_media.specs.Outside.{IfModelled}
-use Rattle.fam_tasks.specs.declared.answer.Answer.TheVariants as answer
 use Rattle.fam_tasks.specs.declared.answer.Verified.{Verified}
 use Rattle.fam_tasks.specs.declared.answer.Verified.TheVariants as verified
 use Rattle.fam_tasks.specs.Rest.{ComparesLine, DropsLine}
 use Rattle.fam_tasks.specs.Sound.{IsSound}
 use Rattle.fam_tasks.specs.Tells.{Tells, turn_by}
 use Rattle.fam_run.specs.Held.{IsOfHeld, held_after}
-use Rattle.fam_run.specs.Led.{HasComeBy, IsQuiet, Led, none, more}
-use Rattle.fam_run.specs.Operation.{IsNoFault, ended}
+use Rattle.fam_run.specs.Led.{HasBrokenOff, HasDone, IsQuiet, Led, none, more}
+use Rattle.fam_run.specs.Operation.{IsNoFault}
 use Rattle.fam_run.proofs.Held.{given_held, held_leaves, loads_held, machine_after, tells_go}
 use Rattle.fam_run.proofs.Stored.{held_led}
 
@@ -71,24 +70,17 @@ module _ (line : LineNo) (t dropped : Task) (modelled : Option Image) (old : Cac
   dropped_within = subst (IsWithin dropped.lines) (sym drops.loads) (subst (λ (n : ℕ). line.0 < n) (sym drops.lines) drops.within, omega arith)
 
   -- the line can't be brought
-  pub line_unread : (dropped_sound : IsSound dropped) (size before now : ℕ) (new : Cache) (shown : Option Image) → shown ≡ modelled → new ≡ old → Rose before now → line.0 < size → HasComeBy (record { task = t; next = dropped; old = old; new = new; modelled = modelled; left = shown; size = size; before = before; now = now }) (Some (answer.MediaFault line))
-  line_unread dropped_sound size before now new shown same copies rose within = record {
-    come = record {
-      task = dropped;
-      held = old;
-      led = more none is_dropped;
-      sound = dropped_sound;
-      within = dropped_within;
-      did = inr record {
-        line = line;
-        answers = refl;
-        failed = load_failed (op_of dropped) line 0 modelled shown old new drops.loads (λ held. absurd (let no : is_held Absent ≡ is_held (cell_at old line.0) = sym (ap is_held absent) in cc)) same copies;
-        rose = rose;
-        within = within;
-      };
-    };
-    leaves = λ is. absurd cc;
-    copies = λ l is. copies;
+  pub line_unread : (dropped_sound : IsSound dropped) (size before now : ℕ) (new : Cache) (shown : Option Image) → shown ≡ modelled → new ≡ old → Rose before now → line.0 < size → HasBrokenOff (record { task = t; next = dropped; old = old; new = new; modelled = modelled; left = shown; size = size; before = before; now = now }) line
+  line_unread dropped_sound size before now new shown same copies rose inside = record {
+    task = dropped;
+    held = old;
+    led = more none is_dropped;
+    sound = dropped_sound;
+    within = dropped_within;
+    copies = copies;
+    failed = load_failed (op_of dropped) line 0 modelled shown old new drops.loads (λ held. absurd (let no : is_held Absent ≡ is_held (cell_at old line.0) = sym (ap is_held absent) in cc)) same copies;
+    rose = rose;
+    inside = inside;
   }
 
 -- Its words are read.
@@ -152,30 +144,23 @@ module _ (line : LineNo) (words : List ℕ) (t next : Task) (ending : Option Ver
   after_last : (image : Image) → operated (op_of compares.due) (machine image full) ≡ machine image full
   after_last image = ap (λ (o : Op). operated o (machine image full)) compares.last ∙ machine_after (Load line 7) image full there
 
-  pub line_matched : (size before now : ℕ) (new : Cache) (shown : Option Image) → shown ≡ modelled → new ≡ full → HasComeBy (record { task = t; next = next; old = old; new = new; modelled = modelled; left = shown; size = size; before = before; now = now }) (ended (turn_by ending))
+  pub line_matched : (size before now : ℕ) (new : Cache) (shown : Option Image) → shown ≡ modelled → new ≡ full → HasDone (record { task = t; next = next; old = old; new = new; modelled = modelled; left = shown; size = size; before = before; now = now }) (turn_by ending)
   line_matched size before now new shown same copy = record {
-    come = record {
-      task = compares.due;
-      held = full;
-      led = led;
-      sound = compares.due_sound;
-      within = due_within;
-      did = inl record {
-        turn = turn_by ending;
-        ends = refl;
-        turned = λ image is. record {
-          is = record {
-            image = same ∙ is ∙ sym (ap (λ m. Some m.image) (after_last image));
-            cache = copy ∙ sym (ap (λ m. m.cache) (after_last image));
-          };
-          tells = subst (λ (w : Option ℕ). Tells (turn_of compares.due w) (turn_by ending) next) (sym (given_held (op_of compares.due) image full of_held ∙ last_word_is)) compares.tells;
-        };
-        goes = subst (λ (c : Cache). Tells (turn_of compares.due (word_of (op_of compares.due) c)) (turn_by ending) next) (sym copy)
-            (subst (λ (w : Option ℕ). Tells (turn_of compares.due w) (turn_by ending) next) (sym last_word_is) compares.tells);
-        own = compared_own ending;
-      };
-    };
-    leaves = λ _. held_leaves (op_of compares.due) modelled full new of_held
+    task = compares.due;
+    held = full;
+    led = led;
+    sound = compares.due_sound;
+    within = due_within;
+    leaves = held_leaves (op_of compares.due) modelled full new of_held
         (copy ∙ sym (subst (λ (o : Op). held_after o full ≡ full) (sym compares.last) refl));
-    copies = λ l is. copy;
+    goes = subst (λ (c : Cache). Tells (turn_of compares.due (word_of (op_of compares.due) c)) (turn_by ending) next) (sym copy)
+        (subst (λ (w : Option ℕ). Tells (turn_of compares.due w) (turn_by ending) next) (sym last_word_is) compares.tells);
+    turned = λ image is. record {
+      is = record {
+        image = same ∙ is ∙ sym (ap (λ m. Some m.image) (after_last image));
+        cache = copy ∙ sym (ap (λ m. m.cache) (after_last image));
+      };
+      tells = subst (λ (w : Option ℕ). Tells (turn_of compares.due w) (turn_by ending) next) (sym (given_held (op_of compares.due) image full of_held ∙ last_word_is)) compares.tells;
+    };
+    own = compared_own ending;
   }

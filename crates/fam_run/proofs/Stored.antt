@@ -1,5 +1,5 @@
 -- A line of the new file is stored whole and sent: nine operations, by one write.
-use Rattle.std.proofs.Common.{ℕ, ◌≡◌, ◌<◌, inl, inr, List, [], length, Option, Some, None, refl, sym, ap, subst, ◌∙◌, arith}
+use Rattle.std.proofs.Common.{ℕ, ◌≡◌, ◌<◌, List, [], length, Option, Some, None, refl, sym, ap, subst, ◌∙◌, arith}
 use Rattle.std.specs.Prelude.{⊤, slice_index, slice_set}
 use Rattle.std.specs.Option.{option_map}
 use Rattle.fam_base.specs.Image.{Image, eight, line_at, with_line}
@@ -20,14 +20,13 @@ use Rattle.fam_commands.specs.Task.{Task, op_of}
 use Rattle.fam_commands.specs.Turns.{turn_of}
 use Rattle.fam_media.specs.Causes.{Rose}
 use Rattle.fam_media.specs.Outside.{IfModelled, IsTorn}
-use Rattle.fam_tasks.specs.declared.answer.Answer.TheVariants as answer
 use Rattle.fam_tasks.specs.declared.answer.Turn.TheVariants.{Go}
 use Rattle.fam_tasks.specs.Rest.{StoresFileLine}
 use Rattle.fam_tasks.specs.Sound.{IsSound}
 use Rattle.fam_tasks.specs.Tells.{Tells}
 use Rattle.fam_run.specs.Held.{HeldRun}
 use Rattle.fam_run.specs.Held as held
-use Rattle.fam_run.specs.Led.{HasComeBy, IsQuiet, Led, none, more}
+use Rattle.fam_run.specs.Led.{HasBrokenOff, HasDone, IsQuiet, Led, none, more}
 use Rattle.fam_run.specs.Step.{Around}
 use Rattle.fam_run.proofs.Held.{held_goes, held_leaves, held_turned, stores_held, tells_go}
 
@@ -126,57 +125,43 @@ module _ (line : LineNo) (words : List ℕ) (t u : Task) (modelled : Option Imag
     around = record { task = t; next = after; old = old; new = new; modelled = modelled; left = shown; size = size; before = before; now = now }
 
     -- the line was sent
-    pub line_sent : new ≡ old → shown ≡ option_map (with_line line.0 words) modelled → Tells (turn_of u None) Go after → HasComeBy around None
+    pub line_sent : new ≡ old → shown ≡ option_map (with_line line.0 words) modelled → Tells (turn_of u None) Go after → HasDone around Go
     line_sent same written tells =
         let sends = stores.sends in
         record {
-          come = record {
-            task = u;
-            held = full;
-            led = led;
-            sound = u_sound;
-            within = u_within;
-            did = inl record {
-              turn = Go;
-              ends = refl;
-              turned = λ image is. record {
-                is = record {
-                  image =
-                      written ∙ ap (option_map (with_line line.0 words)) is
-                      ∙ sym (ap (λ (o : Op). Some (operated o (machine image full)).image) sends ∙ ap (λ (i : Image). Some i) (sent_image image));
-                  cache = same ∙ sym (ap (λ (o : Op). (operated o (machine image full)).cache) sends ∙ none_left image);
-                };
-                tells = subst (λ (o : Op). Tells (turn_of u (given o (machine image full))) Go after) (sym sends) tells;
-              };
-              goes = subst (λ (o : Op). Tells (turn_of u (word_of o new)) Go after) (sym sends) tells;
-              own = λ l is. absurd cc;
+          task = u;
+          held = full;
+          led = led;
+          sound = u_sound;
+          within = u_within;
+          leaves = subst (λ (o : Op). LeavesCache o modelled full new) (sym sends) (same ∙ sym (none_left []));
+          goes = subst (λ (o : Op). Tells (turn_of u (word_of o new)) Go after) (sym sends) tells;
+          turned = λ image is. record {
+            is = record {
+              image =
+                  written ∙ ap (option_map (with_line line.0 words)) is
+                  ∙ sym (ap (λ (o : Op). Some (operated o (machine image full)).image) sends ∙ ap (λ (i : Image). Some i) (sent_image image));
+              cache = same ∙ sym (ap (λ (o : Op). (operated o (machine image full)).cache) sends ∙ none_left image);
             };
+            tells = subst (λ (o : Op). Tells (turn_of u (given o (machine image full))) Go after) (sym sends) tells;
           };
-          leaves = λ _. subst (λ (o : Op). LeavesCache o modelled full new) (sym sends) (same ∙ sym (none_left []));
-          copies = λ l is. absurd cc;
+          own = λ l is. absurd cc;
         }
 
     -- the media failed in it
-    pub line_torn : new ≡ full → IsTorn modelled shown line.0 words → Rose before now → line.0 < size → HasComeBy around (Some (answer.MediaFault line))
-    line_torn same torn rose within = record {
-      come = record {
-        task = u;
-        held = full;
-        led = led;
-        sound = u_sound;
-        within = u_within;
-        did = inr record {
-          line = line;
-          answers = refl;
-          failed =
-              invalidate_failed (op_of u) line modelled shown full new stores.sends
-              (subst (λ (c : Cell). IfModelled modelled (λ image. FailsTo line.0 (λ through memory. failed_send through memory c) image shown)) (sym full_cell)
-              (torn_send modelled shown line.0 words (Dirty words) refl torn))
-              same;
-          rose = rose;
-          within = within;
-        };
-      };
-      leaves = λ is. absurd cc;
-      copies = λ l is. same;
+    pub line_torn : new ≡ full → IsTorn modelled shown line.0 words → Rose before now → line.0 < size → HasBrokenOff around line
+    line_torn same torn rose inside = record {
+      task = u;
+      held = full;
+      led = led;
+      sound = u_sound;
+      within = u_within;
+      copies = same;
+      failed =
+          invalidate_failed (op_of u) line modelled shown full new stores.sends
+          (subst (λ (c : Cell). IfModelled modelled (λ image. FailsTo line.0 (λ through memory. failed_send through memory c) image shown)) (sym full_cell)
+          (torn_send modelled shown line.0 words (Dirty words) refl torn))
+          same;
+      rose = rose;
+      inside = inside;
     }

@@ -1,17 +1,19 @@
 -- Operations of a task that are done as a whole: those that leave memory's image, and one behind them.
-use Rattle.std.specs.Prelude.{◌≡◌, Option, Some, None}
+use Rattle.std.specs.Prelude.{◌≡◌, ◌<◌, Option}
 use Rattle.fam_base.specs.Image.{Image}
 use Rattle.fam_base.specs.declared.line.LineNo.{LineNo}
 use Rattle.fam_machine.specs.Caches.{Cache}
+use Rattle.fam_machine.specs.Cuts.{HasFailed}
 use Rattle.fam_machine.specs.Operations.{IsWithin, machine}
 use Rattle.fam_cache.specs.Operations.{LeavesCache}
 use Rattle.fam_commands.specs.Task.{Task, op_of}
+use Rattle.fam_media.specs.Causes.{Rose}
 use Rattle.fam_media.specs.Outside.{IfModelled}
 use Rattle.fam_tasks.specs.declared.answer.Answer.{Answer}
-use Rattle.fam_tasks.specs.declared.answer.Answer.TheVariants.{MediaFault}
+use Rattle.fam_tasks.specs.declared.answer.Turn.{Turn}
 use Rattle.fam_tasks.specs.declared.answer.Turn.TheVariants.{Go}
 use Rattle.fam_tasks.specs.Sound.{IsSound}
-use Rattle.fam_run.specs.Operation.{GoesOn, HasTurned}
+use Rattle.fam_run.specs.Operation.{GoesOn, HasTurned, IsNoFault}
 use Rattle.fam_run.specs.Step.{Around, HasOperated}
 
 -- one operation that leaves memory's image, behind which the task just goes on
@@ -36,8 +38,26 @@ pub record HasCome (a : Around) (answer : Option Answer) : Type 0 where
   pub within : IsWithin task.lines (op_of task)
   pub did : HasOperated (record a { task = task; old = held }) answer
 
--- the last of them leaves of the cache what the machine's table has, or a fault the copies
-pub record HasComeBy (a : Around) (answer : Option Answer) : Type 0 where
-  pub come : HasCome a answer
-  pub leaves : answer ≡ None → LeavesCache (op_of come.task) a.modelled come.held a.new
-  pub copies : (line : LineNo) → answer ≡ Some (MediaFault line) → a.new ≡ come.held
+-- behind such operations one more was done, and with it the task takes this turn
+pub record HasDone (a : Around) (turn : Turn) : Type 0 where
+  pub task : Task
+  pub held : Cache
+  pub led : Led a.modelled a.task a.old task held
+  pub sound : IsSound task
+  pub within : IsWithin task.lines (op_of task)
+  pub leaves : LeavesCache (op_of task) a.modelled held a.new
+  pub goes : GoesOn task a.new turn a.next
+  pub turned : IfModelled a.modelled (λ image. HasTurned task (machine image held) turn a.next a.left a.new)
+  pub own : IsNoFault turn
+
+-- behind such operations the media failed in one more, at this line
+pub record HasBrokenOff (a : Around) (line : LineNo) : Type 0 where
+  pub task : Task
+  pub held : Cache
+  pub led : Led a.modelled a.task a.old task held
+  pub sound : IsSound task
+  pub within : IsWithin task.lines (op_of task)
+  pub copies : a.new ≡ held
+  pub failed : IfModelled a.modelled (λ image. HasFailed (op_of task) (machine image held) line a.left a.new)
+  pub rose : Rose a.before a.now
+  pub inside : line.0 < a.size

@@ -3,6 +3,6 @@ pub mod Looked
 pub mod Step
 pub mod Held
 pub mod Led
-pub mod Compared
+pub mod Whole
 pub mod Run
 pub mod Expected

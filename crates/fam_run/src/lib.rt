@@ -13,14 +13,14 @@ mod rest;
 mod solo;
 mod storing;
 mod verifying;
+mod whole;
 
 pub use looking::{Looked, look_next};
 pub use operation::operate;
 pub use reading::read_next;
 pub use rest::operate_held;
 pub use solo::run;
-pub use storing::store_next;
-pub use verifying::{Compared, compare_whole};
+pub use whole::{WholeLine, whole_next};
 
 #[cfg(test)]
 mod tests;

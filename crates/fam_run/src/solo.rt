@@ -24,8 +24,7 @@ use crate::looking::{Looked, look_next};
 use crate::operation::operate;
 use crate::reading::read_next;
 use crate::rest::operate_held;
-use crate::storing::store_next;
-use crate::verifying::{Compared, compare_whole};
+use crate::whole::{WholeLine, whole_next};
 use fam_base::{Attr, Cmd, Content, Kind, OutOfMemory, Path, Stripe};
 use fam_cache::{HostCache, OperationFault};
 use fam_media::Media;
@@ -144,41 +143,7 @@ fn go_on<M: Media>(
     }
 }
 
-/// As `go_on`, and does the operations on a line of a file that is compared as one.
-#[inline(always)]
-fn compare_on<M: Media>(
-    cache: &mut HostCache,
-    task: &mut Task,
-    media: &mut M,
-) -> Result<Option<Answer>, OutOfMemory>
-    requires lines { task.old.lines ≡ M.size media.old }
-
-    ensures come { IfOk result (HasCome (record {
-      task = task.old;
-      next = task.new;
-      old = cache.old.lines;
-      new = cache.new.lines;
-      modelled = M.image media.old;
-      left = M.image media.new;
-      size = M.size media.old;
-      before = M.faults media.old;
-      now = M.faults media.new;
-    })) }
-    ensures undone { OnErr result (media.new ≡ media.old) }
-
-    ensures steady { IsSteady M.size M.faults media.old media.new }
-{
-    task.is_sound();
-    match compare_whole(cache, task, media) {
-        Ok(Compared::Going) => Ok(None),
-        Ok(Compared::Ended(ended)) => Ok(Some(ended.answer())),
-        Ok(Compared::Other) => go_on(cache, task, media),
-        Err(OperationFault::MediaFault(line)) => Ok(Some(Answer::MediaFault(line))),
-        Err(OperationFault::OutOfMemory) => Err(OutOfMemory),
-    }
-}
-
-/// As `compare_on`, and does the operations on a line of a new file as one.
+/// As `go_on`, and does the operations on a line of a file as one.
 #[inline(always)]
 fn advance<M: Media>(
     cache: &mut HostCache,
@@ -202,9 +167,11 @@ fn advance<M: Media>(
 
     ensures steady { IsSteady M.size M.faults media.old media.new }
 {
-    match store_next(cache, task, media) {
-        Ok(true) => Ok(None),
-        Ok(false) => compare_on(cache, task, media),
+    task.is_sound();
+    match whole_next(cache, task, media) {
+        Ok(WholeLine::Going) => Ok(None),
+        Ok(WholeLine::Ended(ended)) => Ok(Some(ended.answer())),
+        Ok(WholeLine::Other) => go_on(cache, task, media),
         Err(OperationFault::MediaFault(line)) => Ok(Some(Answer::MediaFault(line))),
         Err(OperationFault::OutOfMemory) => Err(OutOfMemory),
     }

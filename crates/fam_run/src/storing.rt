@@ -1,11 +1,11 @@
 //! A line of the new file that is stored whole: its eight stores and its sending by one write, with no read before it. Of
 //! a creat and a copy nearly all operations are such.
 
-ghost use Rattle.std.specs.Prelude.{◌≡◌, None, Some, IfErr, IfOk, IsErrOf, false, true};
+ghost use Rattle.std.specs.Prelude.{◌≡◌, IfErr, IfOk, IsErrOf, false, true};
 ghost use Rattle.fam_media.specs.Causes.{IsSteady};
 ghost use Rattle.fam_cache.specs.Faults.{IfMediaFault};
-ghost use Rattle.fam_tasks.specs.declared.answer.Answer.TheVariants.{MediaFault};
-ghost use Rattle.fam_run.specs.Led.{HasComeBy};
+ghost use Rattle.fam_tasks.specs.declared.answer.Turn.TheVariants.{Go};
+ghost use Rattle.fam_run.specs.Led.{HasBrokenOff, HasDone};
 
 use fam_cache::{CacheFault, HostCache, OperationFault};
 use fam_media::Media;
@@ -17,14 +17,14 @@ use fam_tasks::Task;
 /// `MediaFault` names the line: its words are stored and not sent, and the task stands before the sending. `OutOfMemory`
 /// comes where the cache has no room for one more line, and then nothing was done.
 #[inline(always)]
-pub fn store_next<M: Media>(
+pub(crate) fn store_next<M: Media>(
     cache: &mut HostCache,
     task: &mut Task,
     media: &mut M,
 ) -> Result<bool, OperationFault>
     requires lines { task.old.lines ≡ M.size media.old }
 
-    ensures stored { IfOk result (λ stored. stored ≡ true → HasComeBy (record {
+    ensures stored { IfOk result (λ stored. stored ≡ true → HasDone (record {
       task = task.old;
       next = task.new;
       old = cache.old.lines;
@@ -34,8 +34,8 @@ pub fn store_next<M: Media>(
       size = M.size media.old;
       before = M.faults media.old;
       now = M.faults media.new;
-    }) None) }
-    ensures failed { IfErr result (λ fault. IfMediaFault fault (λ line. HasComeBy (record {
+    }) Go) }
+    ensures failed { IfErr result (λ fault. IfMediaFault fault (HasBrokenOff (record {
       task = task.old;
       next = task.new;
       old = cache.old.lines;
@@ -45,7 +45,7 @@ pub fn store_next<M: Media>(
       size = M.size media.old;
       before = M.faults media.old;
       now = M.faults media.new;
-    }) (Some (MediaFault line)))) }
+    }))) }
 
     ensures other { IfOk result (λ stored. stored ≡ false → media.new ≡ media.old) }
     ensures other_cache { IfOk result (λ stored. stored ≡ false → cache.new ≡ cache.old) }

@@ -1,27 +1,16 @@
 //! A line of a file that is compared, all of it: its drop and the loads of its eight words by one read. Of a verify
 //! nearly all operations are such.
 
-ghost use Rattle.std.specs.Prelude.{◌≡◌, ◌∷◌, None, Some, IfErr, IfOk, IsErrOf};
+ghost use Rattle.std.specs.Prelude.{◌≡◌, IfErr, IfOk, IsErrOf};
 ghost use Rattle.fam_media.specs.Causes.{IsSteady};
 ghost use Rattle.fam_cache.specs.Faults.{IfMediaFault};
-ghost use Rattle.fam_tasks.specs.declared.answer.Answer.TheVariants.{MediaFault};
-ghost use Rattle.fam_run.specs.Compared.{IfCompared};
-ghost use Rattle.fam_run.specs.Led.{HasComeBy};
+ghost use Rattle.fam_run.specs.Led.{HasBrokenOff, HasDone};
+ghost use Rattle.fam_run.specs.Whole.{IfWhole};
 
+use crate::whole::WholeLine;
 use fam_cache::{CacheFault, HostCache, OperationFault};
 use fam_media::Media;
-use fam_tasks::{Task, Verified};
-
-/// What came of a line of a file that is compared.
-#[derive(Clone, Copy)]
-pub enum Compared {
-    /// No such line comes next, or the cache holds it, and nothing was done.
-    Other,
-    /// The line was compared, and the task goes on.
-    Going,
-    /// The line was compared, and the command ends with this answer.
-    Ended(Verified),
-}
+use fam_tasks::Task;
 
 /// Drops the line of a file that is compared which the task drops next, loads its words, and compares them. Where none
 /// comes next, or the cache holds the line, nothing is done.
@@ -29,14 +18,14 @@ pub enum Compared {
 /// `MediaFault` names the line: the task stands before its first load. `OutOfMemory` comes where the cache has no room
 /// for one more line, and then nothing was done.
 #[inline(always)]
-pub fn compare_whole<M: Media>(
+pub(crate) fn compare_whole<M: Media>(
     cache: &mut HostCache,
     task: &mut Task,
     media: &mut M,
-) -> Result<Compared, OperationFault>
+) -> Result<WholeLine, OperationFault>
     requires lines { task.old.lines ≡ M.size media.old }
 
-    ensures compared { IfOk result (λ compared. IfCompared compared (HasComeBy (record {
+    ensures compared { IfOk result (λ whole. IfWhole whole (HasDone (record {
       task = task.old;
       next = task.new;
       old = cache.old.lines;
@@ -47,7 +36,7 @@ pub fn compare_whole<M: Media>(
       before = M.faults media.old;
       now = M.faults media.new;
     }))) }
-    ensures failed { IfErr result (λ fault. IfMediaFault fault (λ line. HasComeBy (record {
+    ensures failed { IfErr result (λ fault. IfMediaFault fault (HasBrokenOff (record {
       task = task.old;
       next = task.new;
       old = cache.old.lines;
@@ -57,11 +46,11 @@ pub fn compare_whole<M: Media>(
       size = M.size media.old;
       before = M.faults media.old;
       now = M.faults media.new;
-    }) (Some (MediaFault line)))) }
+    }))) }
 
-    ensures other { IfOk result (λ compared. compared ≡ Compared.Other → media.new ≡ media.old) }
-    ensures other_cache { IfOk result (λ compared. compared ≡ Compared.Other → cache.new ≡ cache.old) }
-    ensures other_task { IfOk result (λ compared. compared ≡ Compared.Other → task.new ≡ task.old) }
+    ensures other { IfOk result (λ whole. whole ≡ WholeLine.Other → media.new ≡ media.old) }
+    ensures other_cache { IfOk result (λ whole. whole ≡ WholeLine.Other → cache.new ≡ cache.old) }
+    ensures other_task { IfOk result (λ whole. whole ≡ WholeLine.Other → task.new ≡ task.old) }
 
     ensures undone { IsErrOf result OperationFault.OutOfMemory → media.new ≡ media.old }
     ensures unchanged { IsErrOf result OperationFault.OutOfMemory → cache.new ≡ cache.old }
@@ -70,13 +59,13 @@ pub fn compare_whole<M: Media>(
 {
     task.is_sound();
     let Some(line) = task.line_compared() else {
-        return Ok(Compared::Other);
+        return Ok(WholeLine::Other);
     };
     match cache.bring_line(media, line) {
-        Ok(None) => Ok(Compared::Other),
+        Ok(None) => Ok(WholeLine::Other),
         Ok(Some(words)) => match task.compare_whole(line, &words) {
-            None => Ok(Compared::Going),
-            Some(ended) => Ok(Compared::Ended(ended)),
+            None => Ok(WholeLine::Going),
+            Some(ended) => Ok(WholeLine::Ended(ended)),
         },
         Err(CacheFault::Failed) => {
             task.drop_compared(line);

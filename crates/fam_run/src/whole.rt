@@ -1,0 +1,76 @@
+//! A line of a file, with all operations of a task on it: one that is stored whole, or compared whole.
+
+ghost use Rattle.std.specs.Prelude.{◌≡◌, IfErr, IfOk, IsErrOf};
+ghost use Rattle.fam_media.specs.Causes.{IsSteady};
+ghost use Rattle.fam_cache.specs.Faults.{IfMediaFault};
+ghost use Rattle.fam_run.specs.Led.{HasBrokenOff, HasDone};
+ghost use Rattle.fam_run.specs.Whole.{IfWhole};
+
+use crate::storing::store_next;
+use crate::verifying::compare_whole;
+use fam_cache::{HostCache, OperationFault};
+use fam_media::Media;
+use fam_tasks::{Task, Verified};
+
+/// What came of a line of a file that may be stored or compared whole.
+#[derive(Clone, Copy)]
+pub enum WholeLine {
+    /// No such line comes next, or the cache holds it, and nothing was done.
+    Other,
+    /// The operations on the line were done, and the task goes on.
+    Going,
+    /// They were done, and the command ends with this answer.
+    Ended(Verified),
+}
+
+/// Does the operations on the line of a file that a task stores or compares next: all of them, by one call of the
+/// media. Where no such line comes next, or the cache holds it, nothing is done.
+///
+/// `MediaFault` names the line: the operations before the one that failed were done. `OutOfMemory` comes where the cache
+/// has no room for one more line, and then nothing was done.
+#[inline(always)]
+pub fn whole_next<M: Media>(
+    cache: &mut HostCache,
+    task: &mut Task,
+    media: &mut M,
+) -> Result<WholeLine, OperationFault>
+    requires lines { task.old.lines ≡ M.size media.old }
+
+    ensures done { IfOk result (λ whole. IfWhole whole (HasDone (record {
+      task = task.old;
+      next = task.new;
+      old = cache.old.lines;
+      new = cache.new.lines;
+      modelled = M.image media.old;
+      left = M.image media.new;
+      size = M.size media.old;
+      before = M.faults media.old;
+      now = M.faults media.new;
+    }))) }
+    ensures failed { IfErr result (λ fault. IfMediaFault fault (HasBrokenOff (record {
+      task = task.old;
+      next = task.new;
+      old = cache.old.lines;
+      new = cache.new.lines;
+      modelled = M.image media.old;
+      left = M.image media.new;
+      size = M.size media.old;
+      before = M.faults media.old;
+      now = M.faults media.new;
+    }))) }
+
+    ensures other { IfOk result (λ whole. whole ≡ WholeLine.Other → media.new ≡ media.old) }
+    ensures other_cache { IfOk result (λ whole. whole ≡ WholeLine.Other → cache.new ≡ cache.old) }
+    ensures other_task { IfOk result (λ whole. whole ≡ WholeLine.Other → task.new ≡ task.old) }
+
+    ensures undone { IsErrOf result OperationFault.OutOfMemory → media.new ≡ media.old }
+    ensures unchanged { IsErrOf result OperationFault.OutOfMemory → cache.new ≡ cache.old }
+    ensures unmoved { IsErrOf result OperationFault.OutOfMemory → task.new ≡ task.old }
+    ensures steady { IsSteady M.size M.faults media.old media.new }
+{
+    match store_next(cache, task, media) {
+        Ok(true) => Ok(WholeLine::Going),
+        Ok(false) => compare_whole(cache, task, media),
+        Err(fault) => Err(fault),
+    }
+}
