@@ -308,6 +308,11 @@ pub left_host : Option HostView → ℕ
 left_host None = 0
 left_host (Some view) = left_task view.task
 
+-- of a host that is there
+pub left_of : (view : HostView) → left_host (Some view) ≡ left_task view.task
+unfolding left_host
+left_of view = refl
+
 -- of a host that runs this task
 pub left_running : (view : HostView) (t : Task) → view.task ≡ Some t → left_host (Some view) ≡ left t
 unfolding left_host left_task

@@ -1,71 +1,32 @@
 -- Operations of a host's task on a line that it holds, one behind another.
-use Rattle.std.proofs.Common.{◌≡◌, ℕ, zero, suc, ◌<◌, ◌≤◌, ◌∷◌, [], List, length, Option, Some, false, true, set, refl, ap, ap₂, sym, subst, ◌∙◌, arith, append-nil}
+use Rattle.std.proofs.Common.{◌≡◌, ℕ, ◌<◌, ◌≤◌, List, length, Option, Some, true, set, ap, ap₂, sym, subst, ◌∙◌, arith}
 use Rattle.std.specs.Prelude.{IfSome, is_some, slice_get}
-use Rattle.std.proofs.lemmas.Option.{same_Some}
 use Rattle.fam_base.specs.Image.{Image}
 use Rattle.fam_machine.specs.Caches.{Cache}
-use Rattle.fam_commands.specs.Task.{Task, op_of}
+use Rattle.fam_commands.specs.Task.{Task}
 use Rattle.fam_media.specs.Outside.{IfModelled}
-use Rattle.fam_tasks.specs.declared.answer.Turn.TheVariants.{Go}
-use Rattle.fam_run.specs.Held.{HeldRun, none, more}
-use Rattle.fam_run.proofs.Held.{held_goes, held_leaves, held_left, held_lines, held_turned}
+use Rattle.fam_run.specs.Held.{HeldRun}
+use Rattle.fam_run.specs.Led.{none}
+use Rattle.fam_run.proofs.Held.{held_left, held_lines}
+use Rattle.fam_run.proofs.Stored.{held_led}
 use Rattle.fam_run.proofs.Left.{left}
-use Rattle.fam_run.proofs.Running.{kept_on}
 use Rattle.fam_tasks.specs.Sound.{IsSound}
 use Rattle.fam_journal.specs.ByWorld.{number_in}
 use Rattle.fam_journal.specs.CallRecords.{TaskFits, heading}
-use Rattle.fam_journal.specs.Members.{changed_at}
 use Rattle.fam_journal.specs.View.{HostView, WorldView}
-use Rattle.fam_journal.proofs.Calls.Members.{changed_at_member}
 use Rattle.fam_world.specs.Finishes.{SoFar}
-use Rattle.fam_world.specs.Steps.{IsStep}
 use Rattle.fam_notes.specs.declared.note.Note.{Note as Kept}
 use Rattle.fam_world.specs.View.{host_view, notes_view, views, world_view}
 use Rattle.fam_world.specs.declared.hosts.Host.{Host}
-use Rattle.fam_world.proofs.Finishing.{far_on, left_host, left_running, view_set}
-use Rattle.fam_world.proofs.Members.{length_kept, map_at, map_set}
-use Rattle.fam_world.proofs.Saying.{some_of, step_done}
-
--- a host whose task and cache are others
-abbrev pub host_held : HostView → Task → Cache → HostView
-host_held view next after = record view { task = Some next; cache = after }
-
--- the world with that host
-abbrev pub world_held : ℕ → HostView → WorldView → Task → Cache → WorldView
-world_held at view cur next after = record cur { hosts = changed_at at (λ v. host_held view next after) cur.hosts }
-
--- a member that is put where it stands
-put_own : {A : Type 0} (at : ℕ) (x : A) (xs : List A) → slice_get xs at ≡ Some x → changed_at at (λ v. x) xs ≡ xs
-put_own at x [] is = refl
-put_own {A = A} zero x (y ∷ xs) is = ap (λ (z : A). z ∷ xs) (sym (same_Some y x is))
-put_own {A = A} (suc at) x (y ∷ xs) is = ap (λ (zs : List A). y ∷ zs) (put_own at x xs is)
-
--- of two that are put behind each other the second stays
-put_twice : {A : Type 0} (at : ℕ) (x y : A) (xs : List A) → changed_at at (λ v. y) (changed_at at (λ v. x) xs) ≡ changed_at at (λ v. y) xs
-put_twice at x y [] = refl
-put_twice zero x y (z ∷ xs) = refl
-put_twice {A = A} (suc at) x y (z ∷ xs) = ap (λ (zs : List A). z ∷ zs) (put_twice at x y xs)
+use Rattle.fam_world.proofs.Finishing.{left_host, left_running, view_set}
+use Rattle.fam_world.proofs.LedOn.{far_led, host_held, world_held}
+use Rattle.fam_world.proofs.Members.{map_at, map_set}
+use Rattle.fam_world.proofs.Saying.{some_of}
 
 module _ (name : List ℕ) (at lines : ℕ) (old : WorldView) (told_old : Option Image) (faults_old : ℕ) (number_old : number_in name old ≡ Some at) (told : Option Image) (faults : ℕ) (modelled : IfModelled told (λ image. length image ≡ lines)) (cur : WorldView) (far : SoFar at lines old told_old faults_old cur told faults) (view : HostView) (view_is : slice_get cur.hosts at ≡ Some view) (within : at < length cur.hosts) where
   pub far_held : (t next : Task) (held after : Cache) → HeldRun t held next after → view.task ≡ Some t → view.cache ≡ held → t.lines ≡ lines → SoFar at lines old told_old faults_old (world_held at view cur next after) told faults
-  far_held t _ held _ none runs cache_is fits =
-      let same : host_held view t held ≡ view = ap₂ (λ (o : Option Task) (c : Cache). record view { task = o; cache = c }) (sym runs) (sym cache_is) in
-      subst (λ (w : WorldView). SoFar at lines old told_old faults_old w told faults)
-      (sym (ap (λ (hosts : List HostView). record cur { hosts = hosts }) (ap (λ (v : HostView). changed_at at (λ _. v) cur.hosts) same ∙ put_own at view cur.hosts view_is)))
-      far
-  far_held t next held after (more {mid = mid} {now = now} before sound inside of is turn) runs cache_is fits =
-      let mid_view : HostView = host_held view mid now in
-      let next_view : HostView = host_held view next after in
-      let goes = held_goes mid next now after of is turn in
-      let mid_lines : mid.lines ≡ lines = held_lines t mid held now before ∙ fits in
-      let step : IsStep at mid (record { old = mid_view; new = next_view; before = cur.journal; after = cur.journal; told = told; now = told; size = lines; faults = faults; faults_now = faults }) false =
-      step_done at Go _ false mid (Some next) refl refl refl (sym (append-nil cur.journal)) refl (omega arith) refl
-      (held_turned mid next now after of is turn told) goes (λ on. (kept_on after mid next Go refl sound goes).lines)
-      (held_leaves (op_of mid) told now after of is) inside mid_lines in
-      far_on name at lines old told_old faults_old (world_held at view cur mid now) told faults (far_held t mid held now before runs cache_is fits) number_old
-      mid_view mid (changed_at_member at (λ v. mid_view) cur.hosts view view_is) refl
-      (subst (λ (n : ℕ). at < n) (sym (length_kept (λ v. mid_view) at cur.hosts)) within) modelled
-      (world_held at view cur next after) next_view told faults (sym (put_twice at mid_view next_view cur.hosts)) false step
+  far_held t next held after run =
+      far_led name at lines old told_old faults_old number_old told faults modelled cur far view view_is within t next held after (held_led told t next held after t held none run)
 
 -- The host of a world that was written so.
 

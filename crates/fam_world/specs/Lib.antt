@@ -5,3 +5,4 @@ pub mod Steps
 pub mod Turns
 pub mod Makes
 pub mod Finishes
+pub mod Whole

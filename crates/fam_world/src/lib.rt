@@ -14,6 +14,7 @@ mod quiet;
 mod steps;
 #[cfg(test)]
 mod tests;
+mod whole;
 mod world;
 
 pub use fam_journal::{HostId, Refusal};

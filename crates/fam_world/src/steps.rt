@@ -29,6 +29,7 @@ use crate::fault::{Moved, WorldFault};
 use crate::find::running;
 use crate::hosts::{Host, MOST_HOSTS};
 use crate::notes::{add, make_room, refused};
+use crate::whole::whole_host;
 use fam_base::{HostName, LineNo, OutOfMemory};
 use fam_cache::{HostCache, OperationFault};
 use fam_journal::HostId;
@@ -49,7 +50,12 @@ fn note_of(host: HostId, note: TaskNote) -> Note
 }
 
 /// Notes what a task says, for which there is room; behind an answer the host has no task.
-fn say(journal: &mut Vec<Note>, task: &mut Option<Task>, host: HostId, turn: Turn) -> Moved
+pub(crate) fn say(
+    journal: &mut Vec<Note>,
+    task: &mut Option<Task>,
+    host: HostId,
+    turn: Turn,
+) -> Moved
     requires room { vec_len journal.old < vec_capacity journal.old }
     ensures notes { notes_view journal.new.items ≡ notes_view journal.old.items ++ turn_notes host.0 turn }
     ensures task { task.new ≡ kept_by turn task.old }
@@ -70,7 +76,12 @@ fn say(journal: &mut Vec<Note>, task: &mut Option<Task>, host: HostId, turn: Tur
 }
 
 /// Ends a host's task, in whose operation the media failed at this line, and notes it, for which there is room.
-fn end_at_fault(journal: &mut Vec<Note>, task: &mut Option<Task>, host: HostId, line: LineNo)
+pub(crate) fn end_at_fault(
+    journal: &mut Vec<Note>,
+    task: &mut Option<Task>,
+    host: HostId,
+    line: LineNo,
+)
     requires room { vec_len journal.old < vec_capacity journal.old }
     ensures notes { notes_view journal.new.items
         ≡ notes_view journal.old.items ++ Answered host.0 (MediaFault line.0) ∷ [] }
@@ -308,7 +319,7 @@ fn look_host<M: Media>(
 }
 
 /// As `look_host`, and tries first whether the operation is one behind which the task just goes on, as nearly all are.
-fn step_host<M: Media>(
+pub(crate) fn step_host<M: Media>(
     host: &mut Host,
     journal: &mut Vec<Note>,
     media: &mut M,
@@ -433,7 +444,7 @@ fn finish_at<M: Media>(
 {
     'operations: loop {
         make_room(journal)?;
-        match step_host(&mut hosts[at], journal, media, at)? {
+        match whole_host(&mut hosts[at], journal, media, at)? {
             Moved::Going => held_on(&mut hosts[at]),
             Moved::Answered => return Ok(()),
         }

@@ -7,8 +7,9 @@ use Rattle.fam_journal.specs.View.{HostView, WorldView}
 use Rattle.fam_world.specs.Answers.{is_over}
 use Rattle.fam_world.specs.Finishes.{SoFar}
 use Rattle.fam_world.specs.View.{host_view, notes_view, world_view}
-use Rattle.fam_world.proofs.Finishing.{far_next, first_so_far, going_fits, going_runs, loop_falls, over_none, view_set}
+use Rattle.fam_world.proofs.Finishing.{first_so_far, view_set}
 use Rattle.fam_world.proofs.HeldOn.{falls_on, far_held, held_fits, held_host, held_nearer, held_runs, held_world}
+use Rattle.fam_world.proofs.LedOn.{come_falls, come_fits, come_over, come_runs, far_come}
 use Rattle.fam_world.proofs.Members.{map_at, map_set}
 use Rattle.fam_world.proofs.Saying.{some_of}
 use Rattle.fam_world.proofs.steps.finish_at.Goals as goal
@@ -22,15 +23,15 @@ operations-init g c = record {
   fits = c.requires.fits;
 }
 
-pub step_host-requires-clause-runs : goal.step_host-requires-clause-runs
-step_host-requires-clause-runs g c =
+pub whole_host-requires-clause-runs : goal.whole_host-requires-clause-runs
+whole_host-requires-clause-runs g c =
     let items = c.operations.hosts.items in
     let x = c.index_mut.result.now in
     let at_is = slice_get_read items (length items) c.args.at x refl (omega (arith, c.requires.within, c.operations.invariant.len)) c.index_mut.ensures.value in
     c.operations.invariant.runs (host_view x) (map_at host_view items c.args.at x at_is)
 
-pub step_host-requires-clause-fits : goal.step_host-requires-clause-fits
-step_host-requires-clause-fits g c =
+pub whole_host-requires-clause-fits : goal.whole_host-requires-clause-fits
+whole_host-requires-clause-fits g c =
     let items = c.operations.hosts.items in
     let x = c.index_mut.result.now in
     let at_is = slice_get_read items (length items) c.args.at x refl (omega (arith, c.requires.within, c.operations.invariant.len)) c.index_mut.ensures.value in
@@ -40,119 +41,120 @@ pub held_on-requires : goal.held_on-requires
 held_on-requires g c =
     let items = c.operations.hosts.items in
     let x = c.index_mut.result.now in
-    let y = c.step_host.new.host in
+    let y = c.whole_host.new.host in
     let at = c.args.at in
     let inv = c.operations.invariant in
     let at_is = slice_get_read items (length items) at x refl (omega (arith, c.requires.within, inv.len)) c.index_mut.ensures.value in
     let view_is = map_at host_view items at x at_is in
     let t = some_of x.task (inv.runs (host_view x) view_is) in
-    let step = c.in_ok-step_host.ensures.step t.0 t.1 in
-    let over = is_over c.in_ok-step_host.field-0 in
+    let step = c.in_ok-whole_host.ensures.step t.0 t.1 in
+    let over = is_over c.in_ok-whole_host.field-0 in
     let going = ap is_over c.in-Going.is in
     let items_then = set items at y in
     let x_then = c.index_mut-in-Going.result.now in
     let then_is = slice_get_read items_then (length items_then) at x_then refl (omega (arith, c.requires.within, inv.len, length-set items at y)) c.index_mut-in-Going.ensures.value in
     let then_view = map_at host_view items_then at x_then then_is in
     let task_then : y.task ≡ x_then.task = ap (λ (v : HostView). v.task) (same_Some (host_view y) (host_view x_then) (sym (view_set items at x y at_is) ∙ then_view)) in
-    let runs_then = sym (ap is_some task_then) ∙ going_runs at t.0 _ over going step in
+    let runs_then = sym (ap is_some task_then) ∙ come_runs at t.0 _ over going step in
     record { runs = runs_then }
 
 pub operations-smaller : goal.operations-smaller
 operations-smaller g c =
     let items = c.operations.hosts.items in
     let x = c.index_mut.result.now in
-    let y = c.step_host.new.host in
+    let y = c.whole_host.new.host in
     let at = c.args.at in
     let inv = c.operations.invariant in
     let at_is = slice_get_read items (length items) at x refl (omega (arith, c.requires.within, inv.len)) c.index_mut.ensures.value in
     let view_is = map_at host_view items at x at_is in
     let t = some_of x.task (inv.runs (host_view x) view_is) in
-    let step = c.in_ok-step_host.ensures.step t.0 t.1 in
-    let over = is_over c.in_ok-step_host.field-0 in
+    let step = c.in_ok-whole_host.ensures.step t.0 t.1 in
+    let over = is_over c.in_ok-whole_host.field-0 in
     let going = ap is_over c.in-Going.is in
     let items_then = set items at y in
     let x_then = c.index_mut-in-Going.result.now in
     let then_is = slice_get_read items_then (length items_then) at x_then refl (omega (arith, c.requires.within, inv.len, length-set items at y)) c.index_mut-in-Going.ensures.value in
     let then_view = map_at host_view items_then at x_then then_is in
     let task_then : y.task ≡ x_then.task = ap (λ (v : HostView). v.task) (same_Some (host_view y) (host_view x_then) (sym (view_set items at x y at_is) ∙ then_view)) in
-    let runs_then = sym (ap is_some task_then) ∙ going_runs at t.0 _ over going step in
+    let runs_then = sym (ap is_some task_then) ∙ come_runs at t.0 _ over going step in
     let z = c.held_on.new.host in
     let held = held_host x_then z runs_then c.held_on.ensures.runs c.held_on.ensures.held c.held_on.ensures.sound_on in
     falls_on _ _ _
-    (loop_falls items at x y t.0 _ over at_is t.1 refl going step c.step_host.ensures.sound c.step_host.ensures.sound_on)
+    (come_falls items at x y t.0 _ over at_is t.1 refl going step c.whole_host.ensures.sound_on)
     (held_nearer items_then at x_then z then_is held)
 
 pub operations-preserved : goal.operations-preserved
 operations-preserved g c =
     let items = c.operations.hosts.items in
     let x = c.index_mut.result.now in
-    let y = c.step_host.new.host in
+    let y = c.whole_host.new.host in
     let at = c.args.at in
     let inv = c.operations.invariant in
     let at_is = slice_get_read items (length items) at x refl (omega (arith, c.requires.within, inv.len)) c.index_mut.ensures.value in
     let view_is = map_at host_view items at x at_is in
     let t = some_of x.task (inv.runs (host_view x) view_is) in
-    let step = c.in_ok-step_host.ensures.step t.0 t.1 in
-    let over = is_over c.in_ok-step_host.field-0 in
+    let step = c.in_ok-whole_host.ensures.step t.0 t.1 in
+    let over = is_over c.in_ok-whole_host.field-0 in
     let going = ap is_over c.in-Going.is in
     let items_then = set items at y in
     let x_then = c.index_mut-in-Going.result.now in
     let then_is = slice_get_read items_then (length items_then) at x_then refl (omega (arith, c.requires.within, inv.len, length-set items at y)) c.index_mut-in-Going.ensures.value in
     let then_view = map_at host_view items_then at x_then then_is in
     let task_then : y.task ≡ x_then.task = ap (λ (v : HostView). v.task) (same_Some (host_view y) (host_view x_then) (sym (view_set items at x y at_is) ∙ then_view)) in
-    let runs_then = sym (ap is_some task_then) ∙ going_runs at t.0 _ over going step in
+    let runs_then = sym (ap is_some task_then) ∙ come_runs at t.0 _ over going step in
     let z = c.held_on.new.host in
     let held = held_host x_then z runs_then c.held_on.ensures.runs c.held_on.ensures.held c.held_on.ensures.sound_on in
     let lines : t.0.lines ≡ g.M.Media.size c.operations.media = subst (TaskFits (g.M.Media.size c.operations.media)) t.1 (inv.fits (host_view x) view_is) in
     let size = g.M.Media.size c.args.media.now in
-    let journal = c.step_host.new.journal.items in
+    let journal = c.whole_host.new.journal.items in
     let then_world = world_view items_then journal in
-    let same_size : g.M.Media.size c.step_host.new.media ≡ size = c.step_host.ensures.size ∙ inv.size in
-    let fits_then : TaskFits (g.M.Media.size c.step_host.new.media) x_then.task =
-    subst (TaskFits (g.M.Media.size c.step_host.new.media)) task_then (going_fits at t.0 _ over _ going step (lines ∙ sym c.step_host.ensures.size)) in
-    let old_fits : held.old.lines ≡ g.M.Media.size c.step_host.new.media = subst (TaskFits (g.M.Media.size c.step_host.new.media)) held.old_is fits_then in
-    let far = far_next c.args.name.now at size (world_view c.args.hosts.now.items c.args.journal.now.items) (g.M.Media.image c.args.media.now) (g.M.Media.faults c.args.media.now)
-    (world_view items c.operations.journal.items) (g.M.Media.image c.operations.media) (g.M.Media.faults c.operations.media) inv.far c.requires.number (host_view x) t.0 view_is t.1
+    let same_size : g.M.Media.size c.whole_host.new.media ≡ size = c.whole_host.ensures.size ∙ inv.size in
+    let fits_then : TaskFits (g.M.Media.size c.whole_host.new.media) x_then.task =
+    subst (TaskFits (g.M.Media.size c.whole_host.new.media)) task_then (come_fits at t.0 _ over _ going step (lines ∙ sym c.whole_host.ensures.size)) in
+    let old_fits : held.old.lines ≡ g.M.Media.size c.whole_host.new.media = subst (TaskFits (g.M.Media.size c.whole_host.new.media)) held.old_is fits_then in
+    let far = far_come c.args.name.now at size (world_view c.args.hosts.now.items c.args.journal.now.items) (g.M.Media.image c.args.media.now) (g.M.Media.faults c.args.media.now)
+    (world_view items c.operations.journal.items) (g.M.Media.image c.operations.media) (g.M.Media.faults c.operations.media) inv.far c.requires.number (host_view x) t.0 view_is t.1 (lines ∙ inv.size)
     (omega (arith, c.requires.within, inv.len, length-map items host_view)) (λ i is. g.met.M.Media.modelled c.operations.media i is ∙ inv.size)
-    then_world (host_view y) (g.M.Media.image c.step_host.new.media) (g.M.Media.faults c.step_host.new.media) (map_set host_view (λ v. host_view y) items at y x at_is refl) over
+    then_world (host_view y) (g.M.Media.image c.whole_host.new.media) (g.M.Media.faults c.whole_host.new.media) (map_set host_view (λ v. host_view y) items at y x at_is refl) over
     (notes_view c.make_room.new.journal.items) (ap notes_view c.make_room.ensures.same) (g.M.Media.size c.operations.media) inv.size step in
     let far_then = far_held c.args.name.now at size (world_view c.args.hosts.now.items c.args.journal.now.items) (g.M.Media.image c.args.media.now) (g.M.Media.faults c.args.media.now) c.requires.number
-    (g.M.Media.image c.step_host.new.media) (g.M.Media.faults c.step_host.new.media) (λ i is. g.met.M.Media.modelled c.step_host.new.media i is ∙ same_size)
+    (g.M.Media.image c.whole_host.new.media) (g.M.Media.faults c.whole_host.new.media) (λ i is. g.met.M.Media.modelled c.whole_host.new.media i is ∙ same_size)
     then_world far (host_view x_then) then_view (omega (arith, c.requires.within, inv.len, length-set items at y, length-map items_then host_view))
     held.old held.new x_then.cache.lines z.cache.lines held.run held.old_is refl (old_fits ∙ same_size) in
     let now = view_set items_then at x_then z then_is in
     record {
-      far = subst (λ (w : WorldView). SoFar at size (world_view c.args.hosts.now.items c.args.journal.now.items) (g.M.Media.image c.args.media.now) (g.M.Media.faults c.args.media.now) w (g.M.Media.image c.step_host.new.media) (g.M.Media.faults c.step_host.new.media))
+      far = subst (λ (w : WorldView). SoFar at size (world_view c.args.hosts.now.items c.args.journal.now.items) (g.M.Media.image c.args.media.now) (g.M.Media.faults c.args.media.now) w (g.M.Media.image c.whole_host.new.media) (g.M.Media.faults c.whole_host.new.media))
           (sym (held_world items_then at x_then z then_is held journal c.held_on.ensures.heading)) far_then;
       size = same_size;
       len = inv.len;
       runs = λ view is. subst (λ (v : HostView). is_some v.task ≡ true) (same_Some (host_view z) view (sym now ∙ is)) (held_runs items_then at x_then z then_is held);
-      fits = λ view is. subst (λ (v : HostView). TaskFits (g.M.Media.size c.step_host.new.media) v.task) (same_Some (host_view z) view (sym now ∙ is)) (held_fits items_then at x_then z then_is held (g.M.Media.size c.step_host.new.media) fits_then);
+      fits = λ view is. subst (λ (v : HostView). TaskFits (g.M.Media.size c.whole_host.new.media) v.task) (same_Some (host_view z) view (sym now ∙ is)) (held_fits items_then at x_then z then_is held (g.M.Media.size c.whole_host.new.media) fits_then);
     }
 
 pub returns-in-Answered-clause-far : goal.returns-in-Answered-clause-far
 returns-in-Answered-clause-far g c =
     let items = c.operations.hosts.items in
     let x = c.index_mut.result.now in
-    let y = c.step_host.new.host in
+    let y = c.whole_host.new.host in
     let at = c.args.at in
     let inv = c.operations.invariant in
     let at_is = slice_get_read items (length items) at x refl (omega (arith, c.requires.within, inv.len)) c.index_mut.ensures.value in
     let view_is = map_at host_view items at x at_is in
     let t = some_of x.task (inv.runs (host_view x) view_is) in
-    far_next c.args.name.now at (g.M.Media.size c.args.media.now) (world_view c.args.hosts.now.items c.args.journal.now.items) (g.M.Media.image c.args.media.now) (g.M.Media.faults c.args.media.now)
-    (world_view items c.operations.journal.items) (g.M.Media.image c.operations.media) (g.M.Media.faults c.operations.media) inv.far c.requires.number (host_view x) t.0 view_is t.1
+    let lines : t.0.lines ≡ g.M.Media.size c.operations.media = subst (TaskFits (g.M.Media.size c.operations.media)) t.1 (inv.fits (host_view x) view_is) in
+    far_come c.args.name.now at (g.M.Media.size c.args.media.now) (world_view c.args.hosts.now.items c.args.journal.now.items) (g.M.Media.image c.args.media.now) (g.M.Media.faults c.args.media.now)
+    (world_view items c.operations.journal.items) (g.M.Media.image c.operations.media) (g.M.Media.faults c.operations.media) inv.far c.requires.number (host_view x) t.0 view_is t.1 (lines ∙ inv.size)
     (omega (arith, c.requires.within, inv.len, length-map items host_view)) (λ i is. g.met.M.Media.modelled c.operations.media i is ∙ inv.size)
-    _ (host_view y) (g.M.Media.image c.step_host.new.media) (g.M.Media.faults c.step_host.new.media) (map_set host_view (λ v. host_view y) items at y x at_is refl) (is_over c.in_ok-step_host.field-0)
-    (notes_view c.make_room.new.journal.items) (ap notes_view c.make_room.ensures.same) (g.M.Media.size c.operations.media) inv.size (c.in_ok-step_host.ensures.step t.0 t.1)
+    _ (host_view y) (g.M.Media.image c.whole_host.new.media) (g.M.Media.faults c.whole_host.new.media) (map_set host_view (λ v. host_view y) items at y x at_is refl) (is_over c.in_ok-whole_host.field-0)
+    (notes_view c.make_room.new.journal.items) (ap notes_view c.make_room.ensures.same) (g.M.Media.size c.operations.media) inv.size (c.in_ok-whole_host.ensures.step t.0 t.1)
 
 pub returns-in-Answered-clause-over : goal.returns-in-Answered-clause-over
 returns-in-Answered-clause-over g c = λ view is.
     let items = c.operations.hosts.items in
     let x = c.index_mut.result.now in
-    let y = c.step_host.new.host in
+    let y = c.whole_host.new.host in
     let at = c.args.at in
     let at_is = slice_get_read items (length items) at x refl (omega (arith, c.requires.within, c.operations.invariant.len)) c.index_mut.ensures.value in
     let t = some_of x.task (c.operations.invariant.runs (host_view x) (map_at host_view items at x at_is)) in
     ap (λ (v : HostView). v.task) (sym (same_Some (host_view y) view (sym (view_set items at x y at_is) ∙ is)))
-    ∙ over_none at t.0 _ (is_over c.in_ok-step_host.field-0) (ap is_over c.in-Answered.is) (c.in_ok-step_host.ensures.step t.0 t.1)
+    ∙ come_over at t.0 _ (is_over c.in_ok-whole_host.field-0) (ap is_over c.in-Answered.is) (c.in_ok-whole_host.ensures.step t.0 t.1)

@@ -1,0 +1,127 @@
+//! Operations of a host's task on a line of a file, as a whole: of a large file nearly all are such.
+
+ghost use Rattle.std.specs.Prelude.{◌≡◌, ◌<◌, IfErr, IfOk, IfSome, IsErrOf, OnErr, Some, is_some, true, vec_capacity, vec_len};
+ghost use Rattle.fam_commands.specs.Task as spec;
+ghost use Rattle.fam_media.specs.Causes.{IsSteady};
+ghost use Rattle.fam_cache.specs.Faults.{IfMediaFault};
+ghost use Rattle.fam_tasks.specs.Sound.{IsSound};
+ghost use Rattle.fam_run.specs.Led.{HasBrokenOff, HasDone};
+ghost use Rattle.fam_run.specs.Whole.{IfWhole};
+ghost use Rattle.fam_journal.specs.CallRecords.{TaskFits};
+ghost use Rattle.fam_world.specs.Answers.{is_over};
+ghost use Rattle.fam_world.specs.View.{host_view, notes_view};
+ghost use Rattle.fam_world.specs.Whole.{IsLedStep};
+
+use crate::fault::Moved;
+use crate::hosts::{Host, MOST_HOSTS};
+use crate::steps::{end_at_fault, say, step_host};
+use fam_base::OutOfMemory;
+use fam_cache::{HostCache, OperationFault};
+use fam_journal::HostId;
+use fam_media::Media;
+use fam_notes::Note;
+use fam_run::{WholeLine, whole_next};
+use fam_tasks::{Task, Turn};
+
+/// Does the operations on a line of a file as a whole, of the task that a host runs, which there is, if they come next.
+#[inline(always)]
+fn whole_on<M: Media>(
+    cache: &mut HostCache,
+    task: &mut Option<Task>,
+    media: &mut M,
+) -> Result<WholeLine, OperationFault>
+    requires runs { is_some task.old ≡ true }
+    requires fits { TaskFits (M.size media.old) task.old }
+
+    ensures runs { is_some task.new ≡ true }
+    ensures done { IfOk result (λ whole. IfWhole whole (λ turn. IfSome task.old (λ t. IfSome task.new (λ next.
+        HasDone (record {
+          task = t;
+          next = next;
+          old = cache.old.lines;
+          new = cache.new.lines;
+          modelled = M.image media.old;
+          left = M.image media.new;
+          size = M.size media.old;
+          before = M.faults media.old;
+          now = M.faults media.new;
+        }) turn)))) }
+    ensures failed { IfErr result (λ fault. IfMediaFault fault (λ line. IfSome task.old (λ t. IfSome task.new (λ next.
+        HasBrokenOff (record {
+          task = t;
+          next = next;
+          old = cache.old.lines;
+          new = cache.new.lines;
+          modelled = M.image media.old;
+          left = M.image media.new;
+          size = M.size media.old;
+          before = M.faults media.old;
+          now = M.faults media.new;
+        }) line)))) }
+    ensures sound { IfSome task.old IsSound }
+    ensures sound_on { IfSome task.new IsSound }
+    ensures other { IfOk result (λ whole. whole ≡ WholeLine.Other → media.new ≡ media.old) }
+    ensures other_cache { IfOk result (λ whole. whole ≡ WholeLine.Other → cache.new ≡ cache.old) }
+    ensures other_task { IfOk result (λ whole. whole ≡ WholeLine.Other → task.new ≡ task.old) }
+    ensures undone { IsErrOf result OperationFault.OutOfMemory → media.new ≡ media.old }
+    ensures unchanged { IsErrOf result OperationFault.OutOfMemory → cache.new ≡ cache.old }
+    ensures unmoved { IsErrOf result OperationFault.OutOfMemory → task.new ≡ task.old }
+    ensures steady { IsSteady M.size M.faults media.old media.new }
+{
+    match task {
+        Some(task) => {
+            task.is_sound();
+            let whole = whole_next(cache, task, media);
+            task.is_sound();
+            whole
+        }
+        None => unreachable!(),
+    }
+}
+
+/// As `step_host`, and does the operations on a line of a file as one.
+pub(crate) fn whole_host<M: Media>(
+    host: &mut Host,
+    journal: &mut Vec<Note>,
+    media: &mut M,
+    at: usize,
+) -> Result<Moved, OutOfMemory>
+    requires runs { is_some host.old.task ≡ true }
+    requires fits { TaskFits (M.size media.old) host.old.task }
+    requires few { at < MOST_HOSTS }
+    requires room { vec_len journal.old < vec_capacity journal.old }
+
+    ensures step { IfOk result (λ moved. (t : spec.Task) → host.old.task ≡ Some t → IsLedStep at t (record {
+      old = host_view host.old;
+      new = host_view host.new;
+      before = notes_view journal.old.items;
+      after = notes_view journal.new.items;
+      told = M.image media.old;
+      now = M.image media.new;
+      size = M.size media.old;
+      faults = M.faults media.old;
+      faults_now = M.faults media.new;
+    }) (is_over moved)) }
+    ensures sound { IfSome host.old.task IsSound }
+    ensures sound_on { IfSome host.new.task IsSound }
+    ensures size { M.size media.new ≡ M.size media.old }
+    ensures undone { OnErr result (media.new ≡ media.old) }
+    ensures host { OnErr result (host.new ≡ host.old) }
+    ensures journal { OnErr result (journal.new.items ≡ journal.old.items) }
+{
+    match whole_on(&mut host.cache, &mut host.task, media) {
+        Ok(WholeLine::Going) => Ok(Moved::Going),
+        Ok(WholeLine::Ended(ended)) => Ok(say(
+            journal,
+            &mut host.task,
+            HostId(at as u32),
+            Turn::Done(ended.answer()),
+        )),
+        Ok(WholeLine::Other) => step_host(host, journal, media, at),
+        Err(OperationFault::MediaFault(line)) => {
+            end_at_fault(journal, &mut host.task, HostId(at as u32), line);
+            Ok(Moved::Answered)
+        }
+        Err(OperationFault::OutOfMemory) => Err(OutOfMemory),
+    }
+}
