@@ -12,9 +12,9 @@ use uuid::Uuid;
 /// Calls of the media that make an empty file system.
 const FORMATTED_CALLS: u64 = 5;
 
-/// Calls of a creat or a cp of 100 bytes as the first entry: five lines that are read; a read and a write for each of
-/// two lines of the file and eight of the slot; and the write of the gate.
-const APPEND_CALLS: u64 = 26;
+/// Calls of a creat or a cp of 100 bytes as the first entry: five lines that are read; a write for each of two lines of
+/// the file; a read and a write for each of eight of the slot; and the write of the gate.
+const APPEND_CALLS: u64 = 24;
 
 /// Calls of a verify of 100 bytes: five lines, the slot's eight and the file's two.
 const VERIFY_CALLS: u64 = 15;
@@ -100,7 +100,7 @@ fn an_append_makes_no_other_call(rt: HostRuntime) -> Result<(), Fail> {
     for append in ["creat|img|f|-s|100|-S|1", "cp|img|s|f"] {
         let mut media = formatted(alloc, 65_536, 0)?;
         let mut shelf = source(alloc)?;
-        media.fail(31, Mask(0))?;
+        media.fail(FORMATTED_CALLS.wrapping_add(APPEND_CALLS), Mask(0))?;
         let status = status_of(alloc, &mut media, &mut shelf, append)?;
         assert!(rt; status == Status::Done, "{append}");
         let status = status_of(alloc, &mut media, &mut shelf, "logplay|img")?;
