@@ -11,6 +11,9 @@ use Rattle.fam_machine.specs.declared.op.Op.TheVariants.{Load, Store, WriteBack,
 use Rattle.fam_machine.specs.Caches.{Cache}
 use Rattle.fam_machine.specs.Operations.{Machine, given, machine, operated, IsInImage, IsWithin}
 use Rattle.fam_machine.specs.Cuts.{HasFailed}
+use Rattle.fam_cache.specs.declared.fault.OperationFault.{OperationFault}
+use Rattle.fam_cache.specs.declared.fault.OperationFault.TheVariants.{MediaFault}
+use Rattle.fam_cache.specs.Faults.{IfMediaFault}
 use Rattle.fam_cache.specs.Operations.{word_of}
 use Rattle.fam_commands.specs.Solo.{SoloRun, starts, goes, turn_on}
 use Rattle.fam_commands.specs.Stands.{task_after, with_given}
@@ -76,6 +79,13 @@ running_on cmd me image cache task new held after modelled now turn on sound wen
           (goes run.ran inside next);
       modelled_is = done.is.image;
     }
+
+-- where nothing was done
+pub still_running : (cmd : Cmd) (me : List ℕ) (image : Image) (cache : Cache) (task same : Task) (held after : Cache) (modelled now : Option Image) → same ≡ task → after ≡ held → now ≡ modelled → Running cmd me image cache task held modelled → Running cmd me image cache same after now
+still_running cmd me image cache task same held after modelled now task_is cache_is image_is run =
+    subst (λ (t : Task). Running cmd me image cache t after now) (sym task_is)
+    (subst (λ (c : Cache). Running cmd me image cache task c now) (sym cache_is)
+    (subst (λ (i : Option Image). Running cmd me image cache task held i) (sym image_is) run))
 
 abbrev reached : (cmd : Cmd) (me : List ℕ) (image : Image) (cache : Cache) (task : Task) (held : Cache) (modelled : Option Image) → Running cmd me image cache task held modelled → Reached cmd me image cache
 reached cmd me image cache task held modelled run = record { task = task; words = run.words; made = run.made; machine = record { image = run.now; cache = held }; ran = run.ran }
@@ -153,6 +163,12 @@ pub left_behind : (cmd : Cmd) (me : List ℕ) (image : Image) (cache : Cache) (a
 left_behind cmd me image cache a given (inl done) none within count run = turn_left cmd me image cache a.task a.next a.old a.new a.modelled a.left done.turn given done.ends within count done.turned run
 left_behind cmd me image cache a given (inr fault) none within count run =
     absurd (let named : fault_of given ≡ Some fault.line = ap fault_of (same_Some given (answer.MediaFault fault.line) fault.answers) in cc)
+
+-- the media failed in it
+pub fault_ran : (cmd : Cmd) (me : List ℕ) (image : Image) (cache : Cache) (task : Task) (held after : Cache) (modelled now : Option Image) (fault : OperationFault) (line : LineNo) → fault ≡ MediaFault line → IfMediaFault fault (λ l. IfModelled modelled (λ (i : Image). HasFailed (op_of task) (machine i held) l now after)) → Running cmd me image cache task held modelled → Ran cmd me image cache (answer.MediaFault line) now
+fault_ran cmd me image cache task held after modelled now fault line is failed run =
+    failed_ran cmd me image cache task held after modelled now line
+    (subst (λ (f : OperationFault). IfMediaFault f (λ l. IfModelled modelled (λ (i : Image). HasFailed (op_of task) (machine i held) l now after))) is failed) run
 
 -- the operation was done where the command goes on
 pub done_on : (a : Around) → HasOperated a None → IsDone a None

@@ -12,7 +12,7 @@ mod reading;
 mod rest;
 mod solo;
 
-pub use looking::{Looked, look_next};
+pub use looking::{Ending, Looked, look_next};
 pub use operation::operate;
 pub use reading::read_next;
 pub use rest::operate_held;

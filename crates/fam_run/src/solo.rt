@@ -10,9 +10,11 @@ ghost use Rattle.fam_media.specs.Outside.{IfModelled};
 ghost use Rattle.fam_base.specs.Commands.{IsSoundCmd, mode_limit};
 ghost use Rattle.fam_rules.specs.Content.{HoldsBytes};
 ghost use Rattle.fam_rules.specs.DecideLaws.{IsSoundWish};
+ghost use Rattle.fam_tasks.specs.Sound.{IsSound};
 ghost use Rattle.fam_protocol.specs.Tasks.{IsCommand};
 ghost use Rattle.fam_machine.specs.Operations.{IsWithin};
 ghost use Rattle.fam_run.specs.Expected.{IsExpected};
+ghost use Rattle.fam_run.specs.Held.{HeldRun};
 ghost use Rattle.fam_run.specs.Operation.{ended};
 ghost use Rattle.fam_run.specs.Step.{HasOperated};
 ghost use Rattle.fam_machine.specs.Caches.{Cache};
@@ -101,47 +103,27 @@ fn other_operation<M: Media>(
 {
     match look_next(cache, task, media) {
         Ok(Looked::Going) => Ok(None),
-        Ok(Looked::Ended(answer)) => Ok(Some(answer)),
+        Ok(Looked::Ended(ending)) => Ok(Some(ending.answer())),
         Ok(Looked::Other) => any_operation(cache, task, media),
         Err(OperationFault::MediaFault(line)) => Ok(Some(Answer::MediaFault(line))),
         Err(OperationFault::OutOfMemory) => Err(OutOfMemory),
     }
 }
 
-/// As `other_operation`, and tries first whether the operation is one after which the command just goes on.
+/// Does the operations that come next and ask nothing of the media.
 #[inline(always)]
-fn go_on<M: Media>(
-    cache: &mut HostCache,
-    task: &mut Task,
-    media: &mut M,
-) -> Result<Option<Answer>, OutOfMemory>
-    requires lines { task.old.lines ≡ M.size media.old }
-
-    ensures operated { IfOk result (HasOperated (record {
-      task = task.old;
-      next = task.new;
-      old = cache.old.lines;
-      new = cache.new.lines;
-      modelled = M.image media.old;
-      left = M.image media.new;
-      size = M.size media.old;
-      before = M.faults media.old;
-      now = M.faults media.new;
-    })) }
-    ensures within { IsWithin task.old.lines (op_of task.old) }
-    ensures undone { OnErr result (media.new ≡ media.old) }
-
-    ensures steady { IsSteady M.size M.faults media.old media.new }
+fn held_operations(cache: &mut HostCache, task: &mut Task)
+    ensures run { HeldRun task.old cache.old.lines task.new cache.new.lines }
+    ensures sound { IsSound task.old }
+    ensures sound_on { IsSound task.new }
 {
-    match read_next(cache, task, media) {
-        Ok(true) => Ok(None),
-        Ok(false) => other_operation(cache, task, media),
-        Err(OperationFault::MediaFault(line)) => Ok(Some(Answer::MediaFault(line))),
-        Err(OperationFault::OutOfMemory) => Err(OutOfMemory),
-    }
+    task.is_sound();
+    operate_held(cache, task);
+    task.is_sound();
 }
 
-/// Does the operations of a command that has not answered, up to its answer.
+/// Does the operations of a command that has not answered, up to its answer. Nearly all operations of a long log are
+/// those of `read_next`, so what comes of the others, which may be an answer, has no room on their way.
 fn finish<M: Media>(
     cache: &mut HostCache,
     task: &mut Task,
@@ -167,12 +149,15 @@ fn finish<M: Media>(
 {
     'operations: loop {
         task.is_sound();
-        if let Some(answer) = go_on(cache, task, media)? {
-            return Ok(answer);
+        match read_next(cache, task, media) {
+            Ok(true) => held_operations(cache, task),
+            Ok(false) => match other_operation(cache, task, media)? {
+                Some(answer) => return Ok(answer),
+                None => held_operations(cache, task),
+            },
+            Err(OperationFault::MediaFault(line)) => return Ok(Answer::MediaFault(line)),
+            Err(OperationFault::OutOfMemory) => return Err(OutOfMemory),
         }
-        task.is_sound();
-        operate_held(cache, task);
-        task.is_sound();
     }
 }
 

@@ -1,8 +1,8 @@
--- Operations of a host's task on a line that it holds, one behind another.
+-- Operations of a host's task on its copies alone, one behind another.
 use Rattle.std.proofs.Common.{◌≡◌, ℕ, zero, suc, ◌<◌, ◌≤◌, ◌∷◌, [], List, length, Option, Some, false, true, set, refl, ap, ap₂, sym, subst, ◌∙◌, arith, append-nil}
 use Rattle.std.specs.Prelude.{IfSome, is_some, slice_get}
 use Rattle.std.proofs.lemmas.Option.{same_Some}
-use Rattle.fam_base.specs.Image.{Image}
+use Rattle.fam_base.specs.Image.{Image, IsNormal}
 use Rattle.fam_machine.specs.Caches.{Cache}
 use Rattle.fam_commands.specs.Task.{Task, op_of}
 use Rattle.fam_media.specs.Outside.{IfModelled}
@@ -46,7 +46,7 @@ put_twice at x y [] = refl
 put_twice zero x y (z ∷ xs) = refl
 put_twice {A = A} (suc at) x y (z ∷ xs) = ap (λ (zs : List A). z ∷ zs) (put_twice at x y xs)
 
-module _ (name : List ℕ) (at lines : ℕ) (old : WorldView) (told_old : Option Image) (faults_old : ℕ) (number_old : number_in name old ≡ Some at) (told : Option Image) (faults : ℕ) (modelled : IfModelled told (λ image. length image ≡ lines)) (cur : WorldView) (far : SoFar at lines old told_old faults_old cur told faults) (view : HostView) (view_is : slice_get cur.hosts at ≡ Some view) (within : at < length cur.hosts) where
+module _ (name : List ℕ) (at lines : ℕ) (old : WorldView) (told_old : Option Image) (faults_old : ℕ) (number_old : number_in name old ≡ Some at) (told : Option Image) (faults : ℕ) (normal : IsNormal told) (modelled : IfModelled told (λ image. length image ≡ lines)) (cur : WorldView) (far : SoFar at lines old told_old faults_old cur told faults) (view : HostView) (view_is : slice_get cur.hosts at ≡ Some view) (within : at < length cur.hosts) where
   pub far_held : (t next : Task) (held after : Cache) → HeldRun t held next after → view.task ≡ Some t → view.cache ≡ held → t.lines ≡ lines → SoFar at lines old told_old faults_old (world_held at view cur next after) told faults
   far_held t _ held _ none runs cache_is fits =
       let same : host_held view t held ≡ view = ap₂ (λ (o : Option Task) (c : Cache). record view { task = o; cache = c }) (sym runs) (sym cache_is) in
@@ -60,7 +60,7 @@ module _ (name : List ℕ) (at lines : ℕ) (old : WorldView) (told_old : Option
       let mid_lines : mid.lines ≡ lines = held_lines t mid held now before ∙ fits in
       let step : IsStep at mid (record { old = mid_view; new = next_view; before = cur.journal; after = cur.journal; told = told; now = told; size = lines; faults = faults; faults_now = faults }) false =
       step_done at Go _ false mid (Some next) refl refl refl (sym (append-nil cur.journal)) refl (omega arith) refl
-      (held_turned mid next now after of is turn told) goes (λ on. (kept_on after mid next Go refl sound goes).lines)
+      (held_turned mid next now after of is turn told normal) goes (λ on. (kept_on after mid next Go refl sound goes).lines)
       (held_leaves (op_of mid) told now after of is) inside mid_lines in
       far_on name at lines old told_old faults_old (world_held at view cur mid now) told faults (far_held t mid held now before runs cache_is fits) number_old
       mid_view mid (changed_at_member at (λ v. mid_view) cur.hosts view view_is) refl
