@@ -1,5 +1,5 @@
 -- The cache that places stand for.
-use Rattle.std.proofs.Common.{◌≡◌, ◌≢◌, ℕ, zero, suc, ◌-◌, ◌<◌, Bool, true, cond, inl, inr, List, [], ◌∷◌, ◌++◌, length, get_or, set, take, option_to_list, Option, Some, None, refl, sym, ap, ◌∙◌, arith}
+use Rattle.std.proofs.Common.{◌≡◌, ◌≢◌, ℕ, zero, suc, ◌-◌, ◌<◌, Bool, false, true, cond, inl, inr, List, [], ◌∷◌, ◌++◌, length, get_or, set, take, option_to_list, Option, Some, None, refl, sym, ap, ◌∙◌, arith}
 use Rattle.std.proofs.lemmas.Bool.{false≢true, and_parts, cases_order, cases_eq}
 use Rattle.std.specs.Ordering.{nat_cmp, is_lt}
 use Rattle.std.specs.Cmp.{nat_cmp_total}
@@ -9,6 +9,7 @@ use Rattle.std.specs.FinMap.Entries.{below_all, find-put}
 use Rattle.fam_machine.specs.declared.cell.Cell.{Cell}
 use Rattle.fam_machine.specs.declared.cell.Cell.TheVariants.{Absent, Clean, Dirty}
 use Rattle.fam_machine.specs.Caches.{cell_at, with_cell}
+use Rattle.fam_machine.specs.OneLine.{IsHeld, is_dirty, is_held}
 use Rattle.fam_machine.proofs.CacheLemmas.{greater, equal, same_key, other_key, cell_at-empty, cell_at-with_cell_same, cell_at-with_cell_other, same_cells, with_cell_own}
 use Rattle.fam_machine.proofs.WideLines.{eight_whole}
 use Rattle.fam_cache.specs.Places.{Places, normal, cache_of, no_place, number_at, copy_in_place, Before, IsPlaceOf, IsGap, is_absent, EndsAbsent}
@@ -120,6 +121,30 @@ sorted_take (suc i) (e ∷ es) h =
 pub cell_read : (es : Places) (k i : ℕ) (x : ℕ × Cell) → is_sorted nat_cmp es ≡ true → IsPlaceOf es i k → x ≡ get_or es i x → cell_at (cache_of es) k ≡ normal x.1
 cell_read es k i x sorted at read =
     cell_placed es k sorted i at ∙ sym (ap (λ (e : ℕ × Cell). normal e.1) (read ∙ get_or_default es i x no_place at.within))
+
+held_normal : (copy : Cell) → is_held (normal copy) ≡ is_held copy
+held_normal Absent = refl
+held_normal (Clean words) = refl
+held_normal (Dirty words) = refl
+
+-- it is held where its place holds a copy
+pub held_read : (es : Places) (k i : ℕ) (x : ℕ × Cell) → is_sorted nat_cmp es ≡ true → IsPlaceOf es i k → x ≡ get_or es i x → true ≡ is_held x.1 → IsHeld (cell_at (cache_of es) k)
+held_read es k i x sorted at read is = ap is_held (cell_read es k i x sorted at read) ∙ held_normal x.1 ∙ sym is
+
+unheld : (copy : Cell) → false ≡ is_held copy → normal copy ≡ Absent
+unheld Absent is = refl
+unheld (Clean words) is = absurd (false≢true is)
+unheld (Dirty words) is = absurd (false≢true is)
+
+-- and absent where it holds none
+pub absent_read : (es : Places) (k i : ℕ) (x : ℕ × Cell) → is_sorted nat_cmp es ≡ true → IsPlaceOf es i k → x ≡ get_or es i x → false ≡ is_held x.1 → cell_at (cache_of es) k ≡ Absent
+absent_read es k i x sorted at read is = cell_read es k i x sorted at read ∙ unheld x.1 is
+
+-- it is dirty where its place is
+pub dirty_normal : (copy : Cell) → is_dirty (normal copy) ≡ is_dirty copy
+dirty_normal Absent = refl
+dirty_normal (Clean words) = refl
+dirty_normal (Dirty words) = refl
 
 -- an absent place that was taken from the end
 pub given_up : (es new : Places) (last : Option (ℕ × Cell)) (n : ℕ) → EndsAbsent es → n ≡ length es → es ≡ new ++ option_to_list last → last ≡ Some (get_or es (n - 1) no_place) → cache_of new ≡ cache_of es

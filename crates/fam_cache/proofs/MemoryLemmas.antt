@@ -6,7 +6,7 @@ use Rattle.fam_base.proofs.ImageLemmas.{with_line-line_at}
 use Rattle.fam_machine.specs.declared.cell.Cell.{Cell}
 use Rattle.fam_machine.specs.declared.cell.Cell.TheVariants.{Absent, Clean, Dirty}
 use Rattle.fam_machine.specs.Caches.{Cache, cell_at, cell_changed, line_changed, with_cell}
-use Rattle.fam_machine.proofs.CacheLemmas.{with_cell_own}
+use Rattle.fam_machine.proofs.CacheLemmas.{cell_at-with_cell_same, with_cell_own}
 use Rattle.fam_machine.specs.OneLine.{IsHeld, IsDirty, brought, fetched, leaked, failed_send, failed_leak}
 use Rattle.fam_media.specs.Outside.{IfModelled, IsTorn}
 use Rattle.fam_cache.specs.Effects.{FromMemory, FailsTo}
@@ -56,6 +56,20 @@ pub held_same : (modelled : Option Image) (line : ℕ) (cache : Cache) → IsHel
 held_same modelled line cache is =
     from_any modelled line (λ memory. cache ≡ cell_changed line (brought memory) cache)
     (λ memory. sym (ap (λ (cell : Cell). with_cell line cell cache) (held_still (cell_at cache line) is memory) ∙ with_cell_own line cache))
+
+-- an absent line is clean behind it, with memory's words
+pub brought_absent : (modelled : Option Image) (line : ℕ) (words : List ℕ) (old new : Cache) → cell_at old line ≡ Absent → IfModelled modelled (λ lines. eight words ≡ line_at lines line) → new ≡ with_cell line (Clean (eight words)) old → FromMemory modelled line (λ memory. new ≡ cell_changed line (brought memory) old)
+brought_absent modelled line words old new absent read is = record {
+  memory = eight words;
+  whole = refl;
+  modelled_is = read;
+  is = is ∙ sym (ap (λ (cell : Cell). with_cell line (brought (eight words) cell) old) absent);
+}
+
+pub clean_held : (line : ℕ) (words : List ℕ) (old new : Cache) → new ≡ with_cell line (Clean words) old → IsHeld (cell_at new line)
+clean_held line words old new is =
+    let cell : Cell = Clean words in
+    subst IsHeld {x = cell} (sym (ap (λ (cache : Cache). cell_at cache line) is ∙ cell_at-with_cell_same line cell old)) refl
 
 -- a dirty line is not refreshed
 pub dirty_kept : (modelled : Option Image) (line mask : ℕ) (copy : Cell) → IsDirty (normal copy) → FromMemory modelled line (λ memory. normal copy ≡ fetched mask memory (normal copy))

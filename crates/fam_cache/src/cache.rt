@@ -13,19 +13,61 @@ ghost use Rattle.fam_media.specs.Causes.{HasCause, IsSteady, Rose};
 ghost use Rattle.fam_media.specs.Outside.{IfModelled, IsTorn};
 ghost use Rattle.fam_cache.specs.Effects.{FailsTo, FromMemory};
 ghost use Rattle.fam_cache.specs.Operations.{rest_stored};
-ghost use Rattle.fam_cache.specs.Places.{IsPlaceOf, cache_of};
+ghost use Rattle.fam_cache.specs.Places.{IsPlaceOf, IsSpot, cache_of};
 
-use crate::copies::{bring_copy, fetch_copy, leak_copy, send_copy};
+use crate::copies::{fetch_copy, leak_copy, send_copy};
 use crate::fault::CacheFault;
 use crate::places::{
-    clean_copy, copy, dirty_lines_of, drop_copy, held_line, held_word, make_room, place_of,
-    put_copy, seek, set_rest, set_word, word_at,
+    Spot, clean_copy, copy, dirty_lines_of, drop_copy, held_at, held_line, held_word, is_dirty_at,
+    make_room, place_of, put_copy, seek, set_rest, set_word, word_at,
 };
 use fam_base::{Line, LineNo, Mask, OutOfMemory};
 use fam_machine::Cell;
 use fam_media::{Failed, Media};
 use std::alloc::Global;
 use std::marker::Model;
+
+/// The place of an absent line, which is brought from memory. Room is taken first.
+#[inline(always)]
+fn bring_absent<M: Media>(
+    places: &mut Vec<(u64, Cell)>,
+    spot: Spot,
+    media: &mut M,
+    line: LineNo,
+) -> Result<usize, CacheFault>
+    requires sorted { IsTrue (is_sorted nat_cmp places.old.items) }
+    requires spot { IsSpot places.old.items spot line.0 }
+    requires absent { cell_at (cache_of places.old.items) line.0 ≡ Cell.Absent }
+    requires within { line.0 < M.size media.old }
+
+    ensures cache { OnOk result (FromMemory (M.image media.old) line.0
+        (λ memory. cache_of places.new.items ≡ cell_changed line.0 (brought memory) (cache_of places.old.items))) }
+    ensures stands { IfOk result (λ at. IsPlaceOf places.new.items at line.0) }
+    ensures held { OnOk result (IsHeld (cell_at (cache_of places.new.items) line.0)) }
+    ensures err { OnErr result (cache_of places.new.items ≡ cache_of places.old.items) }
+
+    ensures failed { IsErrOf result CacheFault.Failed → Rose (M.faults media.old) (M.faults media.new) }
+    ensures full { IsErrOf result CacheFault.OutOfMemory →
+        vec_capacity places.old ≤ vec_len places.old }
+    ensures undone { IsErrOf result CacheFault.OutOfMemory → media.new ≡ media.old }
+    ensures unmoved { IsErrOf result CacheFault.OutOfMemory →
+        vec_capacity places.new ≡ vec_capacity places.old }
+
+    ensures image { M.image media.new ≡ M.image media.old }
+    ensures steady { IsSteady M.size M.faults media.old media.new }
+    ensures sorted { IsTrue (is_sorted nat_cmp places.new.items) }
+    ensures capacity { vec_capacity places.old ≤ vec_capacity places.new }
+    ensures one { vec_len places.new ≤ vec_len places.old + 1 }
+    ensures kept { OnErr result (vec_len places.new ≡ vec_len places.old) }
+{
+    if make_room(places, spot).is_err() {
+        return Err(CacheFault::OutOfMemory);
+    }
+    match media.read(line) {
+        Ok(words) => Ok(put_copy(places, spot, line.0, Cell::Clean(words))),
+        Err(_) => Err(CacheFault::Failed),
+    }
+}
 
 /// The place of a line, which is brought from memory where it is absent. Room is taken first.
 fn bring<M: Media>(
@@ -62,13 +104,9 @@ fn bring<M: Media>(
     ensures kept { OnErr result (vec_len places.new ≡ vec_len places.old) }
 {
     let spot = seek(places, last, line.0);
-    if make_room(places, spot).is_err() {
-        return Err(CacheFault::OutOfMemory);
-    }
-    let held = copy(places, spot, line.0);
-    match bring_copy(held, media, line) {
-        Ok(brought) => Ok(put_copy(places, spot, line.0, brought)),
-        Err(_) => Err(CacheFault::Failed),
+    match held_at(places, spot, line.0) {
+        Some(at) => Ok(at),
+        None => bring_absent(places, spot, media, line),
     }
 }
 
@@ -589,6 +627,24 @@ impl HostCache {
     {
         self.last = drop_line(&mut self.places, self.last, media, line)?;
         Ok(())
+    }
+
+    /// Makes a line absent that isn't dirty. It asks nothing of memory. Of a dirty line nothing is done, and the answer
+    /// is that.
+    #[inline]
+    pub fn drop_clean(&mut self, line: LineNo) -> bool
+        ensures clean { result ≡ true → ¬ (IsDirty (cell_at self.old.lines line.0)) }
+        ensures cache { result ≡ true → self.new.lines ≡ with_cell line.0 Cell.Absent self.old.lines }
+        ensures other { result ≡ false → self.new ≡ self.old }
+        ensures spare { self.old.spare ≤ self.new.spare }
+    {
+        let spot = seek(&self.places, self.last, line.0);
+        if is_dirty_at(&self.places, spot, line.0) {
+            return false;
+        }
+        drop_copy(&mut self.places, spot, line.0);
+        self.last = place_of(spot).min(self.places.len().saturating_sub(1));
+        true
     }
 
     /// Drops a line, as the machine may: a dirty one is sent whole to memory first.

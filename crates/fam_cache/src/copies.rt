@@ -14,7 +14,7 @@ use fam_machine::Cell;
 use fam_media::{Failed, Media};
 
 /// The copy after a load or before a store: an absent line is brought from memory.
-pub(crate) fn bring_copy<M: Media>(copy: Cell, media: &mut M, line: LineNo) -> Result<Cell, Failed>
+fn bring_copy<M: Media>(copy: Cell, media: &mut M, line: LineNo) -> Result<Cell, Failed>
     requires within { line.0 < M.size media.old }
     ensures copy { IfOk result (λ new. FromMemory (M.image media.old) line.0
         (λ memory. normal new ≡ brought memory (normal copy))) }

@@ -3,12 +3,12 @@
 //! A place stays when its line becomes absent, so that a line that is brought again finds its place, moves
 //! nothing and takes no room. Absent places at the end are given up.
 
-ghost use Rattle.std.specs.Prelude.{◌≡◌, ◌==◌, ℕ, ◌+◌, ◌-◌, ◌<◌, ◌≤◌, IsTrue, ◌↔◌, IfSome, OnOk, OnErr, length, count_by, slice_index, slice_set, vec_len, vec_capacity, true, false};
+ghost use Rattle.std.specs.Prelude.{◌≡◌, ◌==◌, ℕ, ◌+◌, ◌-◌, ◌<◌, ◌≤◌, IsTrue, ◌↔◌, IfSome, None, OnOk, OnErr, length, count_by, slice_index, slice_set, vec_len, vec_capacity, true, false};
 ghost use Rattle.std.specs.Ordering.{nat_cmp};
 ghost use Rattle.std.specs.FinMap.{is_sorted};
 ghost use Rattle.fam_base.specs.Image.{eight};
 ghost use Rattle.fam_machine.specs.Caches.{cell_at, dirty_count, with_cell};
-ghost use Rattle.fam_machine.specs.OneLine.{IsHeld, cleaned, is_dirty, words_of};
+ghost use Rattle.fam_machine.specs.OneLine.{IsHeld, cleaned, is_dirty, is_held, words_of};
 ghost use Rattle.fam_machine.specs.declared.cell.Cell.{Cell};
 ghost use Rattle.fam_cache.specs.Operations.{rest_stored};
 ghost use Rattle.fam_cache.specs.Places.{Before, IsSpot, IsPlaceOf, EndsAbsent, cache_of, is_gap, normal, number_at};
@@ -134,6 +134,36 @@ pub(crate) fn copy(places: &Vec<(u64, Cell)>, spot: Spot, line: u64) -> Cell
     }
 }
 
+/// Whether there is a copy.
+fn is_held_copy(copy: &Cell) -> bool
+    ensures { result ≡ is_held copy.now }
+{
+    match copy {
+        Cell::Absent => false,
+        _ => true,
+    }
+}
+
+/// The place at a spot, where its line is held.
+pub(crate) fn held_at(places: &Vec<(u64, Cell)>, spot: Spot, line: u64) -> Option<usize>
+    requires sorted { IsTrue (is_sorted nat_cmp places.now.items) }
+    requires spot { IsSpot places.now.items spot line }
+    ensures stands { IfSome result (λ at. IsPlaceOf places.now.items at line) }
+    ensures held { IfSome result (λ at. IsHeld (cell_at (cache_of places.now.items) line)) }
+    ensures absent { result ≡ None → cell_at (cache_of places.now.items) line ≡ Cell.Absent }
+{
+    match spot {
+        Spot::Place(at) => {
+            if is_held_copy(&places[at].1) {
+                Some(at)
+            } else {
+                None
+            }
+        }
+        Spot::Gap(_) => None,
+    }
+}
+
 /// Makes room for one more place, where the spot needs it.
 pub(crate) fn make_room(places: &mut Vec<(u64, Cell)>, spot: Spot) -> Result<(), OutOfMemory>
     ensures room { OnOk result (is_gap spot ≡ true → vec_len places.new < vec_capacity places.new) }
@@ -186,7 +216,11 @@ pub(crate) fn put_copy(places: &mut Vec<(u64, Cell)>, spot: Spot, line: u64, cop
             at
         }
         Spot::Gap(at) => {
-            let _ = places.insert(at, (line, copy));
+            if at == places.len() {
+                places.push_reserved((line, copy));
+            } else {
+                let _ = places.insert(at, (line, copy));
+            }
             at
         }
     }
@@ -402,6 +436,18 @@ pub(crate) fn set_word(places: &mut Vec<(u64, Cell)>, at: usize, line: u64, word
     let words = words_in(places[at].1);
     let stored = with_word(&words, word, value);
     set_copy(places, at, line, Cell::Dirty(stored));
+}
+
+/// Whether the host stored into the copy at a spot.
+pub(crate) fn is_dirty_at(places: &Vec<(u64, Cell)>, spot: Spot, line: u64) -> bool
+    requires sorted { IsTrue (is_sorted nat_cmp places.now.items) }
+    requires spot { IsSpot places.now.items spot line }
+    ensures { result ≡ is_dirty (cell_at (cache_of places.now.items) line) }
+{
+    match spot {
+        Spot::Place(at) => is_dirty_copy(&places[at].1),
+        Spot::Gap(_) => false,
+    }
 }
 
 /// Whether the host stored into the copy.

@@ -1,15 +1,15 @@
--- Operations of a task on a line that its host holds.
-use Rattle.std.proofs.Common.{ℕ, zero, suc, ◌≡◌, ◌≤◌, List, [], ◌∷◌, length, Option, Some, refl, sym, ap, subst, ◌∙◌, arith}
+-- Operations of a task on copies of its host alone.
+use Rattle.std.proofs.Common.{ℕ, zero, suc, ◌≡◌, ◌≤◌, List, [], ◌∷◌, length, Option, Some, None, refl, sym, ap, subst, ◌∙◌, arith}
 use Rattle.std.specs.Prelude.{slice_index, slice_set}
-use Rattle.fam_base.specs.Image.{Image, line_at}
-use Rattle.fam_base.specs.declared.cmd.Cmd.{Cmd}
+use Rattle.fam_base.specs.Image.{Image, IsNormal, line_at, with_line}
+use Rattle.fam_base.proofs.ImageLemmas.{with_line-line_at}
 use Rattle.fam_base.specs.declared.line.LineNo.{LineNo}
 use Rattle.fam_machine.specs.declared.cell.Cell.{Cell}
 use Rattle.fam_machine.specs.declared.cell.Cell.TheVariants.{Absent, Clean, Dirty}
 use Rattle.fam_machine.specs.declared.op.Op.{Op}
 use Rattle.fam_machine.specs.declared.op.Op.TheVariants.{Load, Store, WriteBack, Invalidate, Digest}
 use Rattle.fam_machine.specs.Caches.{Cache, cell_at, cell_changed, with_cell}
-use Rattle.fam_machine.specs.OneLine.{IsHeld, brought, current, stored, words_of}
+use Rattle.fam_machine.specs.OneLine.{IsDirty, IsHeld, brought, current, sent, stored, words_of}
 use Rattle.fam_machine.specs.Operations.{given, machine, operated}
 use Rattle.fam_machine.proofs.CacheLemmas.{cell_at-with_cell_same, with_cell_own, with_cell_twice}
 use Rattle.fam_cache.specs.Operations.{LeavesCache, rest_stored, word_of}
@@ -19,15 +19,15 @@ use Rattle.fam_commands.specs.Turns as turns
 use Rattle.fam_commands.specs.Turns.{Goes, turn_of}
 use Rattle.fam_media.specs.Outside.{IfModelled}
 use Rattle.fam_tasks.specs.declared.answer.Turn.TheVariants.{Go}
+use Rattle.fam_tasks.specs.Begins.{IsDrop}
 use Rattle.fam_tasks.specs.Rest.{Loads, Stores}
 use Rattle.fam_tasks.specs.Rest as rest
 use Rattle.fam_tasks.specs.Sound.{IsSound}
 use Rattle.fam_tasks.specs.Tells.{Tells}
 use Rattle.fam_run.specs.Held.{HeldRun, IsOfHeld, held_after, none, more}
 use Rattle.fam_run.specs.Operation.{GoesOn, HasTurned}
-use Rattle.fam_run.specs.Run.{Running}
 use Rattle.fam_run.proofs.Left.{left}
-use Rattle.fam_run.proofs.Running.{kept_on, running_on}
+use Rattle.fam_run.proofs.Running.{kept_on}
 
 -- loads of a line that the cache holds
 pub loads_held : (line : LineNo) (words : List ℕ) (t next : Task) (held : Cache) → IsHeld (cell_at held line.0) → words ≡ words_of (cell_at held line.0) → Loads line words t next → HeldRun t held next held
@@ -101,22 +101,30 @@ current_held Absent is memory = absurd cc
 current_held (Clean words) is memory = refl
 current_held (Dirty words) is memory = refl
 
+-- a line that isn't dirty is not sent
+not_sent : (cell : Cell) → ¬ (IsDirty cell) → (memory : List ℕ) → sent memory cell ≡ memory
+not_sent Absent is memory = refl
+not_sent (Clean words) is memory = refl
+not_sent (Dirty words) is memory = absurd (is refl)
+
 -- it leaves memory, and the cache that was said
-pub machine_after : (op : Op) (image : Image) (now : Cache) → IsOfHeld op now → operated op (machine image now) ≡ machine image (held_after op now)
-machine_after (Load line k) image now is =
+pub machine_after : (op : Op) (image : Image) (now : Cache) → IsNormal (Some image) → IsOfHeld op now → operated op (machine image now) ≡ machine image (held_after op now)
+machine_after (Load line k) image now normal is =
     ap (machine image) (ap (λ (cell : Cell). with_cell line.0 cell now) (held_still (cell_at now line.0) is (line_at image line.0)) ∙ with_cell_own line.0 now)
-machine_after (Store line k value) image now is =
+machine_after (Store line k value) image now normal is =
     ap (λ (words : List ℕ). machine image (with_cell line.0 (Dirty (slice_set words k value)) now)) (current_held (cell_at now line.0) is (line_at image line.0))
-machine_after (WriteBack line) image now is = absurd is
-machine_after (Invalidate line) image now is = absurd is
-machine_after Digest image now is = absurd is
+machine_after (WriteBack line) image now normal is = absurd is
+machine_after (Invalidate line) image now normal is =
+    ap (λ (words : List ℕ). machine (with_line line.0 words image) (with_cell line.0 Absent now)) (not_sent (cell_at now line.0) is (line_at image line.0))
+    ∙ ap (λ (i : Image). machine i (with_cell line.0 Absent now)) (with_line-line_at image normal line.0)
+machine_after Digest image now normal is = absurd is
 
 -- the machine gives the word of the copy
 pub given_held : (op : Op) (image : Image) (now : Cache) → IsOfHeld op now → given op (machine image now) ≡ word_of op now
 given_held (Load line k) image now is = ap (λ (words : List ℕ). Some (slice_index words k)) (current_held (cell_at now line.0) is (line_at image line.0))
 given_held (Store line k value) image now is = refl
 given_held (WriteBack line) image now is = absurd is
-given_held (Invalidate line) image now is = absurd is
+given_held (Invalidate line) image now is = refl
 given_held Digest image now is = absurd is
 
 -- and the copy has it still
@@ -124,7 +132,7 @@ word_after : (op : Op) (now : Cache) → IsOfHeld op now → word_of op (held_af
 word_after (Load line k) now is = refl
 word_after (Store line k value) now is = refl
 word_after (WriteBack line) now is = absurd is
-word_after (Invalidate line) now is = absurd is
+word_after (Invalidate line) now is = refl
 word_after Digest now is = absurd is
 
 -- on any media
@@ -136,7 +144,7 @@ held_leaves (Store line k value) modelled now after of is =
     from_any modelled line.0 (λ memory. after ≡ cell_changed line.0 (stored k value memory) now)
     (λ memory. is ∙ ap (λ (words : List ℕ). with_cell line.0 (Dirty (slice_set words k value)) now) (sym (current_held (cell_at now line.0) of memory)))
 held_leaves (WriteBack line) modelled now after of is = absurd of
-held_leaves (Invalidate line) modelled now after of is = absurd of
+held_leaves (Invalidate line) modelled now after of is = is
 held_leaves Digest modelled now after of is = absurd of
 
 pub tells_go : (wanted : turns.Turn) (next : Task) → wanted ≡ Goes next → Tells wanted Go next
@@ -148,15 +156,28 @@ module _ (mid next : Task) (now after : Cache) (of : IsOfHeld (op_of mid) now) (
       tells_go (turn_of mid (word_of (op_of mid) after)) next
       (ap (λ (c : Cache). turn_of mid (word_of (op_of mid) c)) is ∙ ap (turn_of mid) (word_after (op_of mid) now of) ∙ turn)
 
-  pub held_turned : (modelled : Option Image) → IfModelled modelled (λ (i : Image). HasTurned mid (machine i now) Go next modelled after)
-  held_turned modelled image modelled_is =
-      let left = machine_after (op_of mid) image now of in
+  pub held_turned : (modelled : Option Image) → IsNormal modelled → IfModelled modelled (λ (i : Image). HasTurned mid (machine i now) Go next modelled after)
+  held_turned modelled normal image modelled_is =
+      let left = machine_after (op_of mid) image now (subst IsNormal modelled_is normal) of in
       record {
         is = record { image = modelled_is ∙ sym (ap (λ m. Some m.image) left); cache = is ∙ sym (ap (λ m. m.cache) left) };
         tells = tells_go (turn_of mid (given (op_of mid) (machine image now))) next (ap (turn_of mid) (given_held (op_of mid) image now of) ∙ turn);
       }
 
 -- All of them.
+
+-- some behind others
+pub held_both : (t mid next : Task) (held now after : Cache) → HeldRun t held mid now → HeldRun mid now next after → HeldRun t held next after
+held_both t mid _ held now _ first none = first
+held_both t mid next held now after first (more before sound within of is turn) = more (held_both t mid _ held now _ first before) sound within of is turn
+
+-- the drop of a line that isn't dirty
+pub drop_held : (line : LineNo) (t next : Task) (held after : Cache) → IsSound t → IsDrop line t → ¬ (IsDirty (cell_at held line.0)) → after ≡ with_cell line.0 Absent held → turn_of t None ≡ Goes next → HeldRun t held next after
+drop_held line t next held after sound drop clean is turn =
+    more none sound drop.within
+    (subst (λ (o : Op). IsOfHeld o held) (sym drop.op) clean)
+    (is ∙ sym (ap (λ (o : Op). held_after o held) drop.op))
+    (ap (λ (o : Op). turn_of t (word_of o held)) drop.op ∙ turn)
 
 pub held_lines : (t next : Task) (held after : Cache) → HeldRun t held next after → next.lines ≡ t.lines
 held_lines t _ held _ none = refl
@@ -170,12 +191,3 @@ held_left t next held after (more {mid = mid} {now = now} before sound within of
     let here = (kept_on after mid next Go refl sound (held_goes mid next now after of is turn)).falls sound_next.stands in
     let up_to = held_left t mid held now before sound in
     omega (arith, here, up_to)
-
--- a solo command stands on
-pub held_running : (cmd : Cmd) (me : List ℕ) (image : Image) (cache : Cache) (t next : Task) (held after : Cache) (modelled : Option Image) → HeldRun t held next after → IfModelled modelled (λ (i : Image). length i ≡ t.lines) → Running cmd me image cache t held modelled → Running cmd me image cache next after modelled
-held_running cmd me image cache t _ held _ modelled none count run = run
-held_running cmd me image cache t next held after modelled (more {mid = mid} {now = now} before sound within of is turn) count run =
-    running_on cmd me image cache mid next now after modelled modelled Go refl sound (held_goes mid next now after of is turn) within
-    (λ i modelled_is. count i modelled_is ∙ sym (held_lines t mid held now before))
-    (held_turned mid next now after of is turn modelled)
-    (held_running cmd me image cache t mid held now modelled before count run)

@@ -1,16 +1,13 @@
 -- Operations of a task that leave memory's image, one behind another.
 use Rattle.std.proofs.Common.{ℕ, ◌≡◌, ◌≤◌, List, length, Option, refl, sym, ◌∙◌, arith}
 use Rattle.fam_base.specs.Image.{Image}
-use Rattle.fam_base.specs.declared.cmd.Cmd.{Cmd}
 use Rattle.fam_machine.specs.Caches.{Cache}
 use Rattle.fam_commands.specs.Task.{Task}
-use Rattle.fam_media.specs.Outside.{IfModelled}
 use Rattle.fam_tasks.specs.declared.answer.Turn.TheVariants.{Go}
 use Rattle.fam_tasks.specs.Sound.{IsSound}
 use Rattle.fam_run.specs.Led.{Led, none, more}
-use Rattle.fam_run.specs.Run.{Running}
 use Rattle.fam_run.proofs.Left.{left}
-use Rattle.fam_run.proofs.Running.{kept_on, running_on}
+use Rattle.fam_run.proofs.Running.{kept_on}
 
 pub led_lines : (modelled : Option Image) (t next : Task) (held after : Cache) → Led modelled t held next after → next.lines ≡ t.lines
 led_lines modelled t _ held _ none = refl
@@ -24,12 +21,3 @@ led_left modelled t next held after (more {mid = mid} {now = now} before quiet) 
     let here = (kept_on after mid next Go refl quiet.sound quiet.goes).falls sound_next.stands in
     let up_to = led_left modelled t mid held now before quiet.sound in
     omega (arith, here, up_to)
-
--- a solo command stands on
-pub led_running : (cmd : Cmd) (me : List ℕ) (image : Image) (cache : Cache) (modelled : Option Image) (t next : Task) (held after : Cache) → Led modelled t held next after → IfModelled modelled (λ (i : Image). length i ≡ t.lines) → Running cmd me image cache t held modelled → Running cmd me image cache next after modelled
-led_running cmd me image cache modelled t _ held _ none count run = run
-led_running cmd me image cache modelled t next held after (more {mid = mid} {now = now} before quiet) count run =
-    running_on cmd me image cache mid next now after modelled modelled Go refl quiet.sound quiet.goes quiet.within
-    (λ i modelled_is. count i modelled_is ∙ sym (led_lines modelled t mid held now before))
-    quiet.turned
-    (led_running cmd me image cache modelled t mid held now before count run)

@@ -2,7 +2,6 @@ pub mod Operations
 pub mod Left
 pub mod Running
 pub mod Held
-pub mod Expected
 pub mod Led
 pub mod Come
 pub mod Stored

@@ -127,7 +127,7 @@ module _ (line : LineNo) (words : List ℕ) (t next : Task) (ending : Option Ver
 
   led : Led modelled t old compares.due full
   led =
-      held_led modelled compares.begun compares.due full full t old
+      held_led modelled normal compares.begun compares.due full full t old
       (more (more none (is_dropped line t compares.dropped modelled old normal sound compares.drops absent)) begins)
       (loads_held line (eight words) compares.begun compares.due full there (sym (ap words_of full_cell)) compares.loads)
 

@@ -2,7 +2,7 @@
 use Rattle.std.proofs.Common.{ℕ, ◌≡◌, ◌<◌, List, [], length, Option, Some, None, refl, sym, ap, subst, ◌∙◌, arith}
 use Rattle.std.specs.Prelude.{⊤, slice_index, slice_set}
 use Rattle.std.specs.Option.{option_map}
-use Rattle.fam_base.specs.Image.{Image, eight, line_at, with_line}
+use Rattle.fam_base.specs.Image.{Image, IsNormal, eight, line_at, with_line}
 use Rattle.fam_base.specs.declared.line.LineNo.{LineNo}
 use Rattle.fam_machine.specs.declared.cell.Cell.{Cell}
 use Rattle.fam_machine.specs.declared.cell.Cell.TheVariants.{Absent, Dirty}
@@ -31,22 +31,22 @@ use Rattle.fam_run.specs.Step.{Around}
 use Rattle.fam_run.proofs.Held.{held_goes, held_leaves, held_turned, stores_held, tells_go}
 
 -- operations on a line that is held leave memory
-pub held_led : (modelled : Option Image) (t next : Task) (now after : Cache) (u : Task) (before : Cache) → Led modelled u before t now → HeldRun t now next after → Led modelled u before next after
-held_led modelled t _ now _ u before led held.none = led
-held_led modelled t next now after u before led (held.more {mid = mid} {now = mid_held} run sound within of is turn) =
-    more (held_led modelled t mid now mid_held u before led run) (record {
+pub held_led : (modelled : Option Image) → IsNormal modelled → (t next : Task) (now after : Cache) (u : Task) (before : Cache) → Led modelled u before t now → HeldRun t now next after → Led modelled u before next after
+held_led modelled normal t _ now _ u before led held.none = led
+held_led modelled normal t next now after u before led (held.more {mid = mid} {now = mid_held} run sound within of is turn) =
+    more (held_led modelled normal t mid now mid_held u before led run) (record {
       sound = sound;
       within = within;
       leaves = held_leaves (op_of mid) modelled mid_held after of is;
       goes = held_goes mid next mid_held after of is turn;
-      turned = held_turned mid next mid_held after of is turn modelled;
+      turned = held_turned mid next mid_held after of is turn modelled normal;
     })
 
 -- a line has its own words, once they were stored into it one by one
 words_stored : (words memory : List ℕ) → rest_stored words (slice_set (eight memory) 0 (slice_index words 0)) ≡ eight words
 words_stored words memory = refl
 
-module _ (line : LineNo) (words : List ℕ) (t u : Task) (modelled : Option Image) (old : Cache) (stores : StoresFileLine line words t u) (absent : cell_at old line.0 ≡ Absent) (sound : IsSound t) where
+module _ (line : LineNo) (words : List ℕ) (t u : Task) (modelled : Option Image) (old : Cache) (normal : IsNormal modelled) (stores : StoresFileLine line words t u) (absent : cell_at old line.0 ≡ Absent) (sound : IsSound t) where
   -- memory's words, as far as it is modelled
   from : FromMemory modelled line.0 (λ memory. ⊤)
   from = from_any modelled line.0 (λ memory. ⊤) (λ memory. tt)
@@ -97,7 +97,7 @@ module _ (line : LineNo) (words : List ℕ) (t u : Task) (modelled : Option Imag
 
   led : Led modelled t old u full
   led =
-      held_led modelled stores.begun u first full t old (more none begins)
+      held_led modelled normal stores.begun u first full t old (more none begins)
       (stores_held line words stores.begun u first full
       (subst IsHeld {x = Dirty (slice_set (eight from.memory) 0 (slice_index words 0))} (sym first_cell) refl)
       (ap (λ (c : Cell). length (words_of c)) first_cell)

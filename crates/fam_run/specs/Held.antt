@@ -1,30 +1,32 @@
--- Operations of a task on a line that its host holds, one after another: they ask nothing of the media, and can't fail.
+-- Operations of a task on copies of its host alone, one after another: they ask nothing of the media, and can't fail.
 use Rattle.std.specs.Prelude.{◌≡◌, slice_set}
-use Rattle.fam_machine.specs.declared.cell.Cell.TheVariants.{Dirty}
+use Rattle.fam_machine.specs.declared.cell.Cell.TheVariants.{Absent, Dirty}
 use Rattle.fam_machine.specs.declared.op.Op.{Op}
 use Rattle.fam_machine.specs.declared.op.Op.TheVariants.{Load, Store, WriteBack, Invalidate, Digest}
 use Rattle.fam_machine.specs.Caches.{Cache, cell_at, with_cell}
-use Rattle.fam_machine.specs.OneLine.{IsHeld, words_of}
+use Rattle.fam_machine.specs.OneLine.{IsDirty, IsHeld, words_of}
 use Rattle.fam_machine.specs.Operations.{IsWithin}
 use Rattle.fam_cache.specs.Operations.{word_of}
 use Rattle.fam_commands.specs.Task.{Task, op_of}
 use Rattle.fam_commands.specs.Turns.{Goes, turn_of}
 use Rattle.fam_tasks.specs.Sound.{IsSound}
 
--- the operation loads a word of a line that the host holds, or stores into one
+-- the operation loads a word of a line that the host holds, or stores into one, or drops a line of which memory lacks
+-- nothing
 abbrev pub IsOfHeld : Op → Cache → Type 0
 IsOfHeld (Load line k) held = IsHeld (cell_at held line.0)
 IsOfHeld (Store line k value) held = IsHeld (cell_at held line.0)
 IsOfHeld (WriteBack line) held = ⊥
-IsOfHeld (Invalidate line) held = ⊥
+IsOfHeld (Invalidate line) held = ¬ (IsDirty (cell_at held line.0))
 IsOfHeld Digest held = ⊥
 
--- what such an operation leaves of the cache: a load all, a store another word in the line's copy, which is dirty
+-- what such an operation leaves of the cache: a load all, a store another word in the line's copy, which is dirty, and a
+-- drop all but the line
 abbrev pub held_after : Op → Cache → Cache
 held_after (Load line k) held = held
 held_after (Store line k value) held = with_cell line.0 (Dirty (slice_set (words_of (cell_at held line.0)) k value)) held
 held_after (WriteBack line) held = held
-held_after (Invalidate line) held = held
+held_after (Invalidate line) held = with_cell line.0 Absent held
 held_after Digest held = held
 
 -- the task and its host's cache, and what such operations leave of both: behind each of them the task just goes on, a

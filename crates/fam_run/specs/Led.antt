@@ -9,12 +9,11 @@ use Rattle.fam_cache.specs.Operations.{LeavesCache}
 use Rattle.fam_commands.specs.Task.{Task, op_of}
 use Rattle.fam_media.specs.Causes.{Rose}
 use Rattle.fam_media.specs.Outside.{IfModelled}
-use Rattle.fam_tasks.specs.declared.answer.Answer.{Answer}
 use Rattle.fam_tasks.specs.declared.answer.Turn.{Turn}
 use Rattle.fam_tasks.specs.declared.answer.Turn.TheVariants.{Go}
 use Rattle.fam_tasks.specs.Sound.{IsSound}
 use Rattle.fam_run.specs.Operation.{GoesOn, HasTurned, IsNoFault}
-use Rattle.fam_run.specs.Step.{Around, HasOperated}
+use Rattle.fam_run.specs.Step.{Around}
 
 -- one operation that leaves memory's image, behind which the task just goes on
 pub record IsQuiet (modelled : Option Image) (task : Task) (held : Cache) (next : Task) (after : Cache) : Type 0 where
@@ -28,15 +27,6 @@ pub record IsQuiet (modelled : Option Image) (task : Task) (held : Cache) (next 
 pub data Led (modelled : Option Image) : Task → Cache → Task → Cache → Type 0 where
   none : {task : Task} {held : Cache} → Led modelled task held task held
   more : {task mid next : Task} {held now after : Cache} → Led modelled task held mid now → IsQuiet modelled mid now next after → Led modelled task held next after
-
--- behind such operations one more was done, or the media failed in it
-pub record HasCome (a : Around) (answer : Option Answer) : Type 0 where
-  pub task : Task
-  pub held : Cache
-  pub led : Led a.modelled a.task a.old task held
-  pub sound : IsSound task
-  pub within : IsWithin task.lines (op_of task)
-  pub did : HasOperated (record a { task = task; old = held }) answer
 
 -- behind such operations one more was done, and with it the task takes this turn
 pub record HasDone (a : Around) (turn : Turn) : Type 0 where

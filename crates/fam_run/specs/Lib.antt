@@ -4,5 +4,3 @@ pub mod Step
 pub mod Held
 pub mod Led
 pub mod Whole
-pub mod Run
-pub mod Expected

@@ -9,11 +9,11 @@ ghost use Rattle.fam_cache.specs.Operations.{LeavesCache};
 ghost use Rattle.fam_run.specs.Looked.{IfDone};
 ghost use Rattle.fam_run.specs.Operation.{GoesOn, HasTurned, IsNoFault, KeepsLines};
 
-use crate::looking::Looked;
+use crate::looking::{Ending, Looked};
 use fam_base::OutOfMemory;
 use fam_cache::HostCache;
 use fam_media::Media;
-use fam_tasks::{Answer, Task};
+use fam_tasks::Task;
 
 /// Looks at the words of a slot. It asks nothing of cache or media.
 #[inline(always)]
@@ -40,6 +40,6 @@ pub(crate) fn check_next<M: Media>(
     task.is_sound();
     match task.check_slot(slot)? {
         None => Ok(Looked::Going),
-        Some(reason) => Ok(Looked::Ended(Answer::BadEntry { seq: slot, reason })),
+        Some(reason) => Ok(Looked::Ended(Ending::BadEntry { seq: slot, reason })),
     }
 }

@@ -12,7 +12,7 @@ ghost use Rattle.fam_tasks.specs.Tells.{IsCompared};
 ghost use Rattle.fam_run.specs.Looked.{IfDone};
 ghost use Rattle.fam_run.specs.Operation.{GoesOn, HasTurned, IsNoFault, KeepsLines};
 
-use crate::looking::Looked;
+use crate::looking::{Ending, Looked};
 use fam_cache::{HostCache, OperationFault};
 use fam_media::Media;
 use fam_tasks::Task;
@@ -52,6 +52,6 @@ pub(crate) fn compare_next<M: Media>(
     let word = cache.perform(media, op)?;
     match task.compare(word) {
         None => Ok(Looked::Going),
-        Some(ended) => Ok(Looked::Ended(ended.answer())),
+        Some(verified) => Ok(Looked::Ended(Ending::Compared(verified))),
     }
 }

@@ -1,7 +1,7 @@
-//! Running tasks over a host's cache and the one memory: one operation at a time, or a command alone to its answer.
+//! Running tasks over a host's cache and the one memory: one operation at a time, or those on a line as a whole.
 //!
 //! `specs/Operation.antt` says what one operation does, by the machine of `fam_machine/specs/Operations.antt`, and
-//! `specs/Run.antt` what a command that runs alone has done when it ends.
+//! `specs/Held.antt` and `specs/Led.antt` what several are that come one behind another.
 #![tactic(auto)]
 
 mod checking;
@@ -10,17 +10,12 @@ mod looking;
 mod operation;
 mod reading;
 mod rest;
-mod solo;
 mod storing;
 mod verifying;
 mod whole;
 
-pub use looking::{Looked, look_next};
+pub use looking::{Ending, Looked, look_next};
 pub use operation::operate;
 pub use reading::read_next;
 pub use rest::operate_held;
-pub use solo::run;
 pub use whole::{WholeLine, whole_next};
-
-#[cfg(test)]
-mod tests;

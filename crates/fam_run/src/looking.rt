@@ -9,24 +9,46 @@ ghost use Rattle.fam_media.specs.Causes.{IsSteady, Rose};
 ghost use Rattle.fam_media.specs.Outside.{IfModelled};
 ghost use Rattle.fam_cache.specs.Faults.{IfMediaFault};
 ghost use Rattle.fam_cache.specs.Operations.{LeavesCache};
-ghost use Rattle.fam_run.specs.Looked.{IfDone};
+ghost use Rattle.fam_run.specs.Looked.{IfDone, ending_answer};
 ghost use Rattle.fam_run.specs.Operation.{GoesOn, HasTurned, IsNoFault, KeepsLines};
 
 use crate::checking::check_next;
 use crate::comparing::compare_next;
 use fam_cache::{HostCache, OperationFault};
+use fam_format::Reason;
 use fam_media::Media;
-use fam_tasks::{Answer, Task};
+use fam_tasks::{Answer, Task, Verified};
+
+/// How a command ends with an operation that looks at what was read. It takes far less room than an answer.
+#[derive(Clone, Copy)]
+pub enum Ending {
+    /// As a file was compared.
+    Compared(Verified),
+    /// The slot of this number is no entry, or its entry doesn't join those before it.
+    BadEntry { seq: u64, reason: Reason },
+}
+
+impl Ending {
+    /// The answer that says so.
+    pub fn answer(self) -> Answer
+        ensures { result ≡ ending_answer self }
+    {
+        match self {
+            Ending::Compared(verified) => verified.answer(),
+            Ending::BadEntry { seq, reason } => Answer::BadEntry { seq, reason },
+        }
+    }
+}
 
 /// What came of an operation that looks at what was read.
-#[derive(Drop)]
+#[derive(Clone, Copy)]
 pub enum Looked {
     /// The operation that comes next is no such one, and nothing was done.
     Other,
     /// The operation was done, and the task goes on.
     Going,
-    /// The operation was done, and the command ends with this answer.
-    Ended(Answer),
+    /// The operation was done, and the command ends.
+    Ended(Ending),
 }
 
 /// Does the next operation of a task that looks at what was read, as `operate` does. A task that does anything else is

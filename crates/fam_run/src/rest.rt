@@ -1,5 +1,5 @@
-//! Operations of a task on the line that its host has just brought, as a whole: the loads of its other words, or the
-//! stores into them.
+//! Operations of a task on copies of its host alone: on the line that the host has just brought, the loads of its other
+//! words or the stores into them, and the drop of the line that comes next.
 
 ghost use Rattle.std.specs.Prelude.{◌≡◌, false};
 ghost use Rattle.fam_run.specs.Held.{HeldRun};
@@ -9,14 +9,37 @@ use fam_tasks::Task;
 
 /// Does the operations that come next of a task, as long as they are the rest of a line of which the task has loaded or
 /// stored the first word, and which the cache holds: all of a slot's line and of one that is stored, and up to the last
-/// load of another, behind which a task may end. They ask nothing of the media and can't fail. Where none of them comes
-/// next, nothing is done.
+/// load of another, behind which a task may end. Then does the drop of a slot's line that is to be loaded, if that comes
+/// next and memory has all words of it. They ask nothing of the media and can't fail. Where none of them comes next, nothing
+/// is done.
 #[inline(always)]
 pub fn operate_held(cache: &mut HostCache, task: &mut Task)
     ensures { HeldRun task.old cache.old.lines task.new cache.new.lines }
 {
+    rest_held(cache, task);
+    drop_held(cache, task);
+}
+
+/// Does those on the rest of a line.
+#[inline(always)]
+fn rest_held(cache: &mut HostCache, task: &mut Task)
+    ensures { HeldRun task.old cache.old.lines task.new cache.new.lines }
+{
     if !load_held(cache, task) {
         store_held(cache, task);
+    }
+}
+
+/// Does the drop of a line.
+#[inline(always)]
+fn drop_held(cache: &mut HostCache, task: &mut Task)
+    ensures { HeldRun task.old cache.old.lines task.new cache.new.lines }
+{
+    if let Some(line) = task.dropped() {
+        task.is_sound();
+        if cache.drop_clean(line) {
+            task.begin_dropped(line);
+        }
     }
 }
 

@@ -4,6 +4,7 @@ pub mod Contents
 pub mod ContentsHeld
 pub mod Slots
 pub mod Tells
+pub mod Begins
 pub mod Rest
 pub mod Sound
 pub mod Model

@@ -56,6 +56,25 @@ impl Buffer {
         self.len += 1;
     }
 
+    /// How many words there are.
+    #[inline(always)]
+    pub(crate) fn count(&self) -> usize
+        ensures { result ≡ length self.now }
+    {
+        self.as_slice().len()
+    }
+
+    /// Adds a word behind the others, whose count this is. Of some in a row only the last one's count is written.
+    #[inline(always)]
+    pub(crate) fn push_behind(&mut self, count: usize, word: u64)
+        requires count { count ≡ length self.old }
+        requires room { count < MOST_WORDS }
+        ensures { self.new ≡ self.old ++ word ∷ [] }
+    {
+        self.words[count] = word;
+        self.len = count + 1;
+    }
+
     /// Forgets the words.
     pub(crate) fn clear(&mut self)
         ensures { self.new ≡ [] }

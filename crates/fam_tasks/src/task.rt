@@ -15,6 +15,7 @@ ghost use Rattle.fam_tasks.specs.declared.answer.Turn.TheVariants.{Done, Go};
 ghost use Rattle.fam_tasks.specs.Sound.{most_lines, HasSuper, IsFileLine, IsLine, IsSound, IsWantedLine};
 ghost use Rattle.fam_tasks.specs.Tells.{Tells, is_digest, is_reading};
 
+mod begins;
 mod decide;
 mod digests;
 mod file_loads;

@@ -1,7 +1,7 @@
 -- Operations of a host's task on a line that it holds, one behind another.
 use Rattle.std.proofs.Common.{◌≡◌, ℕ, ◌<◌, ◌≤◌, List, length, Option, Some, true, set, ap, ap₂, sym, subst, ◌∙◌, arith}
 use Rattle.std.specs.Prelude.{IfSome, is_some, slice_get}
-use Rattle.fam_base.specs.Image.{Image}
+use Rattle.fam_base.specs.Image.{Image, IsNormal}
 use Rattle.fam_machine.specs.Caches.{Cache}
 use Rattle.fam_commands.specs.Task.{Task}
 use Rattle.fam_media.specs.Outside.{IfModelled}
@@ -23,10 +23,10 @@ use Rattle.fam_world.proofs.LedOn.{far_led, host_held, world_held}
 use Rattle.fam_world.proofs.Members.{map_at, map_set}
 use Rattle.fam_world.proofs.Saying.{some_of}
 
-module _ (name : List ℕ) (at lines : ℕ) (old : WorldView) (told_old : Option Image) (faults_old : ℕ) (number_old : number_in name old ≡ Some at) (told : Option Image) (faults : ℕ) (modelled : IfModelled told (λ image. length image ≡ lines)) (cur : WorldView) (far : SoFar at lines old told_old faults_old cur told faults) (view : HostView) (view_is : slice_get cur.hosts at ≡ Some view) (within : at < length cur.hosts) where
+module _ (name : List ℕ) (at lines : ℕ) (old : WorldView) (told_old : Option Image) (faults_old : ℕ) (number_old : number_in name old ≡ Some at) (told : Option Image) (faults : ℕ) (normal : IsNormal told) (modelled : IfModelled told (λ image. length image ≡ lines)) (cur : WorldView) (far : SoFar at lines old told_old faults_old cur told faults) (view : HostView) (view_is : slice_get cur.hosts at ≡ Some view) (within : at < length cur.hosts) where
   pub far_held : (t next : Task) (held after : Cache) → HeldRun t held next after → view.task ≡ Some t → view.cache ≡ held → t.lines ≡ lines → SoFar at lines old told_old faults_old (world_held at view cur next after) told faults
   far_held t next held after run =
-      far_led name at lines old told_old faults_old number_old told faults modelled cur far view view_is within t next held after (held_led told t next held after t held none run)
+      far_led name at lines old told_old faults_old number_old told faults modelled cur far view view_is within t next held after (held_led told normal t next held after t held none run)
 
 -- The host of a world that was written so.
 

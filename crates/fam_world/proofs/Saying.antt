@@ -32,9 +32,10 @@ use Rattle.fam_tasks.specs.declared.answer.Turn.{Turn}
 use Rattle.fam_tasks.specs.declared.answer.Turn.TheVariants as turn
 use Rattle.fam_tasks.specs.Answers.{reply_of}
 use Rattle.fam_tasks.specs.Tells.{Tells}
+use Rattle.fam_run.specs.declared.looking.Ending.{Ending}
 use Rattle.fam_run.specs.declared.looking.Looked.{Looked}
 use Rattle.fam_run.specs.declared.looking.Looked.TheVariants as looked
-use Rattle.fam_run.specs.Looked.{IfDone}
+use Rattle.fam_run.specs.Looked.{IfDone, ending_answer}
 use Rattle.fam_run.specs.Operation.{GoesOn, HasTurned, KeepsLines}
 use Rattle.fam_notes.specs.Notes.{answer_of}
 use Rattle.fam_journal.specs.declared.refusal.Refusal.TheVariants as why
@@ -210,8 +211,8 @@ pub going_turn : (l : Looked) (P : Turn → Type 0) → l ≡ looked.Going → I
 going_turn l P is done = subst (λ (x : Looked). IfDone x P) is done
 
 -- of one with which it ends
-pub ended_turn : (l : Looked) (given : Answer) (P : Turn → Type 0) → l ≡ looked.Ended given → IfDone l P → P (turn.Done given)
-ended_turn l given P is done = subst (λ (x : Looked). IfDone x P) is done
+pub ended_turn : (l : Looked) (ending : Ending) (given : Answer) (P : Turn → Type 0) → l ≡ looked.Ended ending → given ≡ ending_answer ending → IfDone l P → P (turn.Done given)
+ended_turn l ending given P is said done = subst (λ (a : Answer). P (turn.Done a)) (sym said) (subst (λ (x : Looked). IfDone x P) is done)
 
 -- What a host's task is.
 

@@ -303,11 +303,11 @@ fn look_host<M: Media>(
 {
     match look_on(&mut host.cache, &mut host.task, media) {
         Ok(Looked::Going) => Ok(Moved::Going),
-        Ok(Looked::Ended(answer)) => Ok(say(
+        Ok(Looked::Ended(ending)) => Ok(say(
             journal,
             &mut host.task,
             HostId(at as u32),
-            Turn::Done(answer),
+            Turn::Done(ending.answer()),
         )),
         Ok(Looked::Other) => turn_host(host, journal, media, at),
         Err(OperationFault::MediaFault(line)) => {
@@ -390,7 +390,7 @@ pub(crate) fn step_in<M: Media>(
     }
 }
 
-/// Does operations of a task that a host runs on the line that it holds, as long as they come next.
+/// Does operations of a task that a host runs on its copies alone, as long as they come next.
 fn held_by(cache: &mut HostCache, task: &mut Option<Task>)
     requires runs { is_some task.old ≡ true }
     ensures runs { is_some task.new ≡ true }
@@ -407,7 +407,7 @@ fn held_by(cache: &mut HostCache, task: &mut Option<Task>)
     }
 }
 
-/// Does operations of a host's task on the line that it holds, as long as they come next: none of them is noted.
+/// Does operations of a host's task on its copies alone, as long as they come next: none of them is noted.
 fn held_on(host: &mut Host)
     requires runs { is_some host.old.task ≡ true }
     ensures runs { is_some host.new.task ≡ true }

@@ -1,6 +1,6 @@
 //! Turns of a task that read: what comes of the words that its loads gave.
 
-ghost use Rattle.std.specs.Prelude.{◌≡◌, ◌<◌, None, true};
+ghost use Rattle.std.specs.Prelude.{◌≡◌, ◌+◌, ◌<◌, None, length, true};
 ghost use Rattle.fam_format.specs.Log.{gate_fault};
 ghost use Rattle.fam_format.specs.Super.{magic_fault};
 ghost use Rattle.fam_commands.specs.declared.phase.Part.TheVariants as part;
@@ -99,7 +99,20 @@ impl Task {
         requires within { k < LAST_WORD }
         ensures { Tells (turns.word_turn (turns.with_word self.old word) part line k) Go self.new }
     {
-        self.buffer.push(word);
+        let count = self.buffer.count();
+        self.load_behind(part, line, k, count, word);
+    }
+
+    /// The same, where so many words are held.
+    #[inline(always)]
+    pub(super) fn load_behind(&mut self, part: Part, line: u64, k: u8, count: usize, word: u64)
+        requires phase { self.old.phase ≡ at.Word part line k }
+        requires within { k < LAST_WORD }
+        requires count { count ≡ length self.old.words }
+        ensures turn { Tells (turns.word_turn (turns.with_word self.old word) part line k) Go self.new }
+        ensures count { length self.new.words ≡ count + 1 }
+    {
+        self.buffer.push_behind(count, word);
         self.phase = Phase::Word {
             part,
             line,

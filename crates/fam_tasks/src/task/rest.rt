@@ -1,7 +1,7 @@
 //! The rest of a line of which a task has loaded or stored the first word: the operations on its other words as a whole.
 //! And lines of a file of which none was: all operations on one that is stored, or compared.
 
-ghost use Rattle.std.specs.Prelude.{ℕ, suc, ◌≡◌, ◌+◌, ◌<◌, IfSome};
+ghost use Rattle.std.specs.Prelude.{ℕ, suc, ◌≡◌, ◌+◌, ◌<◌, IfSome, length};
 ghost use Rattle.fam_base.specs.Image.{eight};
 ghost use Rattle.fam_base.specs.declared.line.LineNo.{LineNo};
 ghost use Rattle.fam_commands.specs.declared.phase.Part.TheVariants as part;
@@ -70,26 +70,29 @@ impl Task {
         requires rest { IsRest line self.old }
         ensures { Taken line words.now part number self.old self.new 7 }
     {
-        self.load_one(line, part, number, 1, words);
-        self.load_one(line, part, number, 2, words);
-        self.load_one(line, part, number, 3, words);
-        self.load_one(line, part, number, 4, words);
-        self.load_one(line, part, number, 5, words);
-        self.load_one(line, part, number, 6, words);
+        let count = self.buffer.count();
+        self.load_one(line, part, number, 1, count, words);
+        self.load_one(line, part, number, 2, count + 1, words);
+        self.load_one(line, part, number, 3, count + 2, words);
+        self.load_one(line, part, number, 4, count + 3, words);
+        self.load_one(line, part, number, 5, count + 4, words);
+        self.load_one(line, part, number, 6, count + 5, words);
     }
 
-    /// Takes word `k` of a line of a part, which isn't the last.
+    /// Takes word `k` of a line of a part, which isn't the last. So many words are held.
     #[inline(always)]
-    fn load_one(&mut self, line: LineNo, part: Part, number: u64, k: u8, words: &Line)
+    fn load_one(&mut self, line: LineNo, part: Part, number: u64, k: u8, count: usize, words: &Line)
         requires phase { self.old.phase ≡ at.Word part number k }
         requires within { k < LAST_WORD }
+        requires count { count ≡ length self.old.words }
         ensures phase { self.new.phase ≡ at.Word part number (k + 1) }
+        ensures count { length self.new.words ≡ count + 1 }
         ensures taken { (t : spec.Task) → Taken line words.now part number t self.old k
             → Taken line words.now part number t self.new (k + 1) }
     {
         let _ = line;
         self.is_sound();
-        self.load_within(part, number, k, words[k as usize]);
+        self.load_behind(part, number, k, count, words[k as usize]);
     }
 
     /// The line of a file that is compared which the task drops next, if it does.

@@ -118,7 +118,7 @@ operations-preserved g c =
     then_world (host_view y) (g.M.Media.image c.whole_host.new.media) (g.M.Media.faults c.whole_host.new.media) (map_set host_view (λ v. host_view y) items at y x at_is refl) over
     (notes_view c.make_room.new.journal.items) (ap notes_view c.make_room.ensures.same) (g.M.Media.size c.operations.media) inv.size step in
     let far_then = far_held c.args.name.now at size (world_view c.args.hosts.now.items c.args.journal.now.items) (g.M.Media.image c.args.media.now) (g.M.Media.faults c.args.media.now) c.requires.number
-    (g.M.Media.image c.whole_host.new.media) (g.M.Media.faults c.whole_host.new.media) (λ i is. g.met.M.Media.modelled c.whole_host.new.media i is ∙ same_size)
+    (g.M.Media.image c.whole_host.new.media) (g.M.Media.faults c.whole_host.new.media) (g.met.M.Media.normal c.whole_host.new.media) (λ i is. g.met.M.Media.modelled c.whole_host.new.media i is ∙ same_size)
     then_world far (host_view x_then) then_view (omega (arith, c.requires.within, inv.len, length-set items at y, length-map items_then host_view))
     held.old held.new x_then.cache.lines z.cache.lines held.run held.old_is refl (old_fits ∙ same_size) in
     let now = view_set items_then at x_then z then_is in

@@ -17,11 +17,13 @@ returns-in-Ok-Going-clause-step g c = λ t e.
 pub returns-in-Ok-Ended-clause-step : goal.returns-in-Ok-Ended-clause-step
 returns-in-Ok-Ended-clause-step g c = λ t e.
     let ok = c.in-Ok-Ended in
-    let turned = ended_turn ok.field-0 ok.answer _ ok.field-0-is ok.ensures.turned in
-    let goes = ended_turn ok.field-0 ok.answer _ ok.field-0-is ok.ensures.goes in
-    let keeps = ended_turn ok.field-0 ok.answer _ ok.field-0-is ok.ensures.keeps in
-    let cache = ended_turn ok.field-0 ok.answer _ ok.field-0-is ok.ensures.cache in
-    step_done c.args.at (Done ok.answer) _ _ t c.look_on.new.task e c.look_on.ensures.runs c.say.ensures.task c.say.ensures.notes refl c.look_on.ensures.steady.later c.say.ensures.over
+    let given = c.answer.result in
+    let said = c.answer.ensures in
+    let turned = ended_turn ok.field-0 ok.ending given _ ok.field-0-is said ok.ensures.turned in
+    let goes = ended_turn ok.field-0 ok.ending given _ ok.field-0-is said ok.ensures.goes in
+    let keeps = ended_turn ok.field-0 ok.ending given _ ok.field-0-is said ok.ensures.keeps in
+    let cache = ended_turn ok.field-0 ok.ending given _ ok.field-0-is said ok.ensures.cache in
+    step_done c.args.at (Done given) _ _ t c.look_on.new.task e c.look_on.ensures.runs c.say.ensures.task c.say.ensures.notes refl c.look_on.ensures.steady.later c.say.ensures.over
     turned goes keeps cache c.look_on.ensures.within c.requires.fits
 
 pub returns-in-Err-MediaFault-clause-step : goal.returns-in-Err-MediaFault-clause-step

@@ -1,0 +1,16 @@
+use Rattle.std.proofs.Common.{◌∙◌, ap}
+use Rattle.fam_machine.specs.declared.cell.Cell.TheVariants.{Clean}
+use Rattle.fam_machine.specs.Caches.{with_cell}
+use Rattle.fam_base.specs.Image.{eight}
+use Rattle.fam_cache.specs.Places.{Places, cache_of}
+use Rattle.fam_cache.proofs.MemoryLemmas.{brought_absent, clean_held}
+use Rattle.fam_cache.proofs.cache.bring_absent.Goals as goal
+
+pub returns-in-Ok-clause-cache : goal.returns-in-Ok-clause-cache
+returns-in-Ok-clause-cache g c =
+    brought_absent (g.M.Media.image c.args.media.now) c.args.line.0 c.in-Ok.words (cache_of c.args.places.now.items) (cache_of c.put_copy.new.places.items) c.requires.absent c.in-Ok.ensures.words
+    (c.put_copy.ensures.cache ∙ ap (λ (es : Places). with_cell c.args.line.0 (Clean (eight c.in-Ok.words)) (cache_of es)) c.make_room.ensures.same)
+
+pub returns-in-Ok-clause-held : goal.returns-in-Ok-clause-held
+returns-in-Ok-clause-held g c =
+    clean_held c.args.line.0 (eight c.in-Ok.words) (cache_of c.make_room.new.places.items) (cache_of c.put_copy.new.places.items) c.put_copy.ensures.cache
