@@ -48,7 +48,8 @@ fn take_back(tree: &mut Tree, fault: &Option<Reason>, path: &Path)
 }
 
 /// The entry as it is found.
-pub fn found_entry(number: u64, entry: &Entry, fault: &Option<Reason>) -> Found
+#[inline(always)]
+fn found_entry(number: u64, entry: &Entry, fault: &Option<Reason>) -> Found
     ensures { result ≡ found_as number entry.now fault.now }
 {
     match fault {
