@@ -52,17 +52,10 @@ fn take_back(tree: &mut Tree, fault: &Option<Reason>, path: &Path)
 fn found_entry(number: u64, entry: &Entry, fault: &Option<Reason>) -> Found
     ensures { result ≡ found_as number entry.now fault.now }
 {
-    match fault {
-        None => Found {
-            number,
-            entry: *entry,
-            applies: true,
-        },
-        Some(_) => Found {
-            number,
-            entry: *entry,
-            applies: false,
-        },
+    Found {
+        number,
+        entry: *entry,
+        applies: fault.is_none(),
     }
 }
 
