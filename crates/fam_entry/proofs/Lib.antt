@@ -3,3 +3,4 @@ pub mod ExtentsRead
 pub mod Ranges
 pub mod Found
 pub mod Strays
+pub mod PathField

@@ -1,8 +1,10 @@
 -- A word of zero is no stray.
-use Rattle.std.proofs.Common.{◌≡◌, ◌==◌, ◌&&◌, ◌+◌, ◌-◌, ◌*◌, ◌^◌, ◌%◌, ℕ, Bool, true, false, cond, not, nat_le, List, slice_index, refl, ap, ◌∙◌}
+use Rattle.std.proofs.Common.{◌≡◌, ◌==◌, ◌&&◌, ◌+◌, ◌-◌, ◌*◌, ◌^◌, ◌%◌, ◌<◌, ◌≤◌, ℕ, Bool, true, false, cond, not, nat_le, List, slice_index, length, take, drop, refl, sym, ap, ◌∙◌, arith}
 use Rattle.std.specs.Prelude.{nat_lt}
 use Rattle.std.specs.List.{list_any, range_with_len}
 use Rattle.std.proofs.Math.Nat.{zero-div}
+use Rattle.std.proofs.lemmas.Bool.Decides.{nat_tests}
+use Rattle.std.proofs.lemmas.List.{get_or-take, get_or-drop, length-take}
 use Rattle.fam_base.specs.Image.{byte_of}
 use Rattle.fam_format.specs.Slot.{extents_word, is_stray, is_stray_byte, path_word}
 use Rattle.fam_format.proofs.Stops.{any_false}
@@ -27,3 +29,16 @@ zero_is_none words i is =
     by_part (nat_lt i path_word) (past && not (slice_index words i == 0)) (list_any (is_stray_byte words i) (range_with_len 0 8))
     (ap (λ (word : ℕ). past && not (word == 0)) is ∙ and_false past)
     (any_false (is_stray_byte words i) 0 8 (λ k low below. no_stray words i k is))
+
+-- nor has a word of the path, which has eight bytes or more from its first on
+pub inside : (words : List ℕ) (i b : ℕ) → 8 * (i - path_word) + 8 ≤ slice_index words 6 → b < 8 → is_stray_byte words i b ≡ false
+inside words i b full below =
+    let before : nat_le (slice_index words 6) (8 * (i - path_word) + b) ≡ false = grind (arith, nat_tests) in
+    ap (λ (past : Bool). past && not (byte_of (slice_index words i) b == 0)) before
+
+-- a word of eight in a part that are 0
+pub zero_within : (words : List ℕ) (i n k : ℕ) → i ≤ k → k < i + 8 → 8 ≤ length (take n (drop i words)) → ((j : ℕ) → j < 8 → slice_index (take n (drop i words)) j ≡ 0) → slice_index words k ≡ 0
+zero_within words i n k from below long zeros =
+    let place : i + (k - i) ≡ k = omega arith in
+    let room : k - i < n = omega (arith, length-take n (drop i words)) in
+    sym (get_or-take n (drop i words) (k - i) 0 room ∙ get_or-drop i words (k - i) 0 ∙ ap (λ (m : ℕ). slice_index words m) place) ∙ zeros (k - i) (omega arith)

@@ -1,7 +1,14 @@
 -- Tests that a reader makes.
-use Rattle.std.specs.Prelude.{◌≡◌, Option, Some, None, Result, Ok, Err}
+use Rattle.std.specs.Prelude.{ℕ, ◌≡◌, Option, Some, None, Result, Ok, Err, List, slice_index, take}
+use Rattle.fam_base.specs.Paths.{IsPathField}
+use Rattle.fam_format.specs.Slot.{path_of}
 
 -- a test passes where there is no fault, and otherwise names the fault
 abbrev pub NamesFault : {T E : Type 0} → Result T E → Option E → Type 0
 NamesFault (Ok x) fault = fault ≡ None
 NamesFault (Err reason) fault = fault ≡ Some reason
+
+-- a field holds the path that a slot's words tell
+pub record HasPath (words bytes : List ℕ) : Type 0 where
+  pub field : IsPathField bytes (slice_index words 6)
+  pub path : take (slice_index words 6) bytes ≡ path_of words

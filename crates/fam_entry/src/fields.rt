@@ -1,9 +1,10 @@
 //! The fields that the words of a slot tell, whatever its checksum and its unused words are.
 
-ghost use Rattle.std.specs.Prelude.{◌≡◌, ◌<◌, ◌≤◌, ◌^◌, take, slice_index, MatchResult, Some, None};
+ghost use Rattle.std.specs.Prelude.{◌≡◌, ◌*◌, ◌<◌, ◌≤◌, ◌^◌, ℕ, slice_index, OnOk};
 ghost use Rattle.fam_format.specs.Layout.{first_format};
-ghost use Rattle.fam_format.specs.Words.{bytes_from};
+ghost use Rattle.fam_format.specs.Words.{byte_from};
 ghost use Rattle.fam_format.specs.Slot as slots;
+ghost use Rattle.fam_entry.specs.Tests.{HasPath, NamesFault};
 
 use crate::places::{
     CHUNK_WORD, COUNT_WORD, EMPTY_MAP, EXTENT_LIMIT, EXTENTS_WORD, FILE_KIND, GID_WORD, KIND_WORD,
@@ -33,6 +34,7 @@ fn map_of(word: u64, chunk: u64) -> MapKind
     }
 }
 
+#[inline(always)]
 fn extents_of(words: &[u64; SLOT_WORDS], count: usize) -> Extents
     requires { count ≤ EXTENT_LIMIT }
     ensures { result ≡ slots.extents_of words.now count }
@@ -47,38 +49,57 @@ fn extents_of(words: &[u64; SLOT_WORDS], count: usize) -> Extents
     extents
 }
 
-fn path_field(words: &[u64; SLOT_WORDS], len: usize) -> [u8; PATH_LIMIT]
-    requires { len ≤ PATH_LIMIT }
-    ensures { take len result ≡ bytes_from slots.path_word words.now len }
+/// Puts so many whole words of the path into its field.
+fn put_words(words: &[u64; SLOT_WORDS], count: usize, field: &mut [u8; PATH_LIMIT])
+    requires { count ≤ 21 }
+    ensures bytes { (k : ℕ) → k < 8 * count → slice_index field.new k ≡ byte_from slots.path_word words.now k }
+    ensures behind { (k : ℕ) → 8 * count ≤ k → slice_index field.new k ≡ slice_index field.old k }
 {
-    let mut bytes = [0; PATH_LIMIT];
-    for i in 0..len {
-        bytes[i] = byte_of(words[PATH_WORD + i / 8], i % 8);
+    for i in 0..count {
+        let bytes = words[PATH_WORD + i].to_le_bytes();
+        field[8 * i..8 * i + 8].copy_from_slice(&bytes);
     }
-    bytes
 }
 
-/// The path, where the length is that of one and the bytes are one.
-pub(crate) fn path_of(words: &[u64; SLOT_WORDS]) -> Result<Path, Reason>
-    ensures { MatchResult result
-        (λ path. (slots.path_fault first_format words.now ≡ None) × (path ≡ slots.path_of words.now))
-        (λ reason. slots.path_fault first_format words.now ≡ Some reason) }
+/// Puts the bytes of the path into a field of zeros.
+fn put_path(words: &[u64; SLOT_WORDS], len: usize, field: &mut [u8; PATH_LIMIT])
+    requires few { len ≤ PATH_LIMIT }
+    requires empty { (k : ℕ) → slice_index field.old k ≡ 0 }
+    ensures bytes { (k : ℕ) → k < len → slice_index field.new k ≡ byte_from slots.path_word words.now k }
+    ensures behind { (k : ℕ) → len ≤ k → slice_index field.new k ≡ 0 }
+{
+    put_words(words, len / 8, field);
+    for i in 8 * (len / 8)..len {
+        field[i] = byte_of(words[PATH_WORD + i / 8], i % 8);
+    }
+}
+
+/// Whether the length is that of a path and the bytes are one, which are put into a field of zeros.
+pub(crate) fn check_path(
+    words: &[u64; SLOT_WORDS],
+    field: &mut [u8; PATH_LIMIT],
+) -> Result<(), Reason>
+    requires { (k : ℕ) → slice_index field.old k ≡ 0 }
+    ensures first { NamesFault result (slots.path_fault first_format words.now) }
+    ensures field { OnOk result (HasPath words.now field.new) }
 {
     let len = words[PATH_LENGTH_WORD];
     if len > PATH_LIMIT as u64 {
         return Err(Reason::BadPath);
     }
-    let field = path_field(words, len as usize);
-    match Path::read(&field[..len as usize]) {
-        Ok(path) => Ok(path),
-        Err(_) => Err(Reason::BadPath),
+    put_path(words, len as usize, field);
+    if Path::is_path(&field[..len as usize]) {
+        Ok(())
+    } else {
+        Err(Reason::BadPath)
     }
 }
 
-/// The entry that the fields tell, with this path.
+/// The entry that the fields tell, whose path lies in a field.
+#[inline(always)]
 #[tactic(auto, unfolding(fam_format::specs::Slot::fields_of))]
-pub(crate) fn fields_of(words: &[u64; SLOT_WORDS], path: Path) -> Entry
-    requires path { path ≡ slots.path_of words.now }
+pub(crate) fn fields_of(words: &[u64; SLOT_WORDS], field: &[u8; PATH_LIMIT]) -> Entry
+    requires path { HasPath words.now field.now }
     requires few { slice_index words.now COUNT_WORD ≤ EXTENT_LIMIT }
     requires mode { slice_index words.now MODE_WORD < 2 ^ 32 }
     requires uid { slice_index words.now UID_WORD < 2 ^ 32 }
@@ -87,7 +108,7 @@ pub(crate) fn fields_of(words: &[u64; SLOT_WORDS], path: Path) -> Entry
 {
     Entry {
         kind: kind_of(words[KIND_WORD]),
-        path,
+        path: Path::in_field(field, words[PATH_LENGTH_WORD] as usize),
         size: words[SIZE_WORD],
         mode: words[MODE_WORD] as u32,
         uid: words[UID_WORD] as u32,

@@ -1,6 +1,6 @@
 //! Reading of a slot: a test for each reason, in the order of the reasons. The first that fails decides.
 
-ghost use Rattle.std.specs.Prelude.{◌≡◌, ◌<◌, ◌≤◌, ◌^◌, MatchResult, IfOk, OnOk, Ok, Some, None, slice_index};
+ghost use Rattle.std.specs.Prelude.{◌≡◌, ◌<◌, ◌≤◌, ◌^◌, ℕ, IfOk, OnOk, Ok, length, slice_index};
 ghost use Rattle.std.specs.Bool.{OnTrue};
 ghost use Rattle.std.specs.List.{list_any, range_with_len};
 ghost use Rattle.fam_format.specs.Layout.{first_format};
@@ -10,15 +10,15 @@ ghost use Rattle.fam_format.specs.SuperLaws.{IsWords};
 ghost use Rattle.fam_base.specs.declared.entry.Entry.{Entry};
 ghost use Rattle.fam_entry.specs.Tests.{NamesFault};
 
-use crate::fields::{fields_of, path_of};
+use crate::fields::{check_path, fields_of};
 use crate::map_rule::is_map;
 use crate::places::{
     CHUNK_WORD, COUNT_WORD, CRC_WORD, DIRECTORY_KIND, EXTENT_LIMIT, EXTENTS_WORD, FILE_KIND,
-    GID_WORD, ID_LIMIT, KIND_WORD, MAP_WORD, MODE_LIMIT, MODE_WORD, PATH_LENGTH_WORD, PATH_WORD,
-    SEQ_WORD, SLOT_WORDS, STRIPED_MAP, UID_WORD,
+    GID_WORD, ID_LIMIT, KIND_WORD, MAP_WORD, MODE_LIMIT, MODE_WORD, PATH_LENGTH_WORD, PATH_LIMIT,
+    PATH_WORD, SEQ_WORD, SLOT_WORDS, STRIPED_MAP, UID_WORD,
 };
 use crate::slot::checksum;
-use fam_base::{Entry, Params, Path};
+use fam_base::{Entry, Params};
 use fam_format::{Reason, byte_of};
 
 fn check_crc(words: &[u64; SLOT_WORDS]) -> Result<(), Reason>
@@ -85,27 +85,6 @@ fn are_map_words(words: &[u64; SLOT_WORDS]) -> bool
     words[CHUNK_WORD] == 0
 }
 
-fn mapped(words: &[u64; SLOT_WORDS], path: Path, params: &Params) -> Result<Entry, Reason>
-    requires sound { SoundParams params.now }
-    requires path { path ≡ slots.path_of words.now }
-    requires mode { slice_index words.now MODE_WORD < 2 ^ 32 }
-    requires uid { slice_index words.now UID_WORD < 2 ^ 32 }
-    requires gid { slice_index words.now GID_WORD < 2 ^ 32 }
-    ensures { MatchResult result
-        (λ e. (slots.map_fault params.now words.now ≡ None) × (e ≡ slots.fields_of words.now))
-        (λ reason. slots.map_fault params.now words.now ≡ Some reason) }
-{
-    if !are_map_words(words) {
-        return Err(Reason::Map);
-    }
-    let entry = fields_of(words, path);
-    if is_map(params, &entry) {
-        Ok(entry)
-    } else {
-        Err(Reason::Map)
-    }
-}
-
 fn is_stray_byte(words: &[u64; SLOT_WORDS], i: usize, b: usize) -> bool
     requires from { slots.path_word ≤ i }
     requires below { i < CRC_WORD }
@@ -122,6 +101,9 @@ fn has_stray_byte(words: &[u64; SLOT_WORDS], i: usize) -> bool
     ensures { result ≡ list_any (slots.is_stray_byte words.now i) (range_with_len 0 8) }
 {
     if words[i] == 0 {
+        return false;
+    }
+    if words[PATH_LENGTH_WORD] >= 8 * (i - PATH_WORD) as u64 + 8 {
         return false;
     }
     for b in 0..8 {
@@ -159,17 +141,35 @@ fn is_stray_there(words: &[u64; SLOT_WORDS], i: usize) -> bool
     has_stray_byte(words, i)
 }
 
+/// Whether words begin with eight of 0.
+#[inline(always)]
+fn begin_with_zeros(words: &[u64]) -> bool
+    ensures long { OnTrue result (8 ≤ length words.now) }
+    ensures zeros { OnTrue result ((k : ℕ) → k < 8 → slice_index words.now k ≡ 0) }
+{
+    match words {
+        [0, 0, 0, 0, 0, 0, 0, 0, ..] => true,
+        _ => false,
+    }
+}
+
 fn check_rest(words: &[u64; SLOT_WORDS]) -> Result<(), Reason>
     ensures { NamesFault result (slots.rest_fault first_format words.now) }
 {
-    for i in EXTENTS_WORD..CRC_WORD {
-        if is_stray(words, i) {
+    let mut i = EXTENTS_WORD;
+    while i < CRC_WORD {
+        if begin_with_zeros(&words[i..CRC_WORD]) {
+            i += 8;
+        } else if is_stray(words, i) {
             return Err(Reason::Rest(i as u64));
+        } else {
+            i += 1;
         }
     }
     Ok(())
 }
 
+#[inline(always)]
 #[tactic(auto, unfolding(fam_format::specs::Slot::entry_of))]
 fn reading(words: &[u64; SLOT_WORDS], seq: u64, params: &Params) -> Result<Entry, Reason>
     requires { SoundParams params.now }
@@ -180,8 +180,15 @@ fn reading(words: &[u64; SLOT_WORDS], seq: u64, params: &Params) -> Result<Entry
     check_seq(words, seq)?;
     check_kind(words)?;
     check_attributes(words)?;
-    let path = path_of(words)?;
-    let entry = mapped(words, path, params)?;
+    let mut field = [0; PATH_LIMIT];
+    check_path(words, &mut field)?;
+    if !are_map_words(words) {
+        return Err(Reason::Map);
+    }
+    let entry = fields_of(words, &field);
+    if !is_map(params, &entry) {
+        return Err(Reason::Map);
+    }
     check_rest(words)?;
     Ok(entry)
 }

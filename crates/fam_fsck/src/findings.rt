@@ -8,8 +8,8 @@ ghost use Rattle.fam_format.specs.Tree.{replay, tree_fault};
 ghost use Rattle.fam_rules.specs.Reports.{is_directory, is_file, overlap_of, used_count};
 ghost use Rattle.fam_fsck.specs.Found.{applied_of, entries_of, first_finds, found_as, pairs_of, with_found};
 
-use crate::found::{Found, count_directories, count_files, least_overlap};
-use crate::joining::{found_entry, join};
+use crate::found::{Found, count_directories, count_files, last_of, least_overlap};
+use crate::joining::join;
 use fam_alloc::UsedUnits;
 use fam_base::{Entry, OutOfMemory, Params};
 use fam_format::{LOG_OFFSET, Reason};
@@ -72,12 +72,11 @@ impl Findings {
         ensures err { OnErr result (self.new ≡ self.old) }
     {
         let fault = join(&mut self.tree, &mut self.found, number, entry)?;
-        let last = found_entry(number, entry, &fault);
         self.overlap = least_overlap(
             self.overlap,
             &self.used,
             &self.found,
-            &last,
+            last_of(&self.found),
             self.params.unit,
         );
         self.used.cover(&entry.extents, self.params.unit);

@@ -52,6 +52,14 @@ fn partner(found: &Vec<Found>, last: &Found, unit: u64, units: u64) -> Option<u6
     None
 }
 
+/// The entry that came last.
+pub fn last_of(found: &Vec<Found>) -> &Found
+    requires { 0 < length found.now.items }
+    ensures { (before : List Found) (last : Found) → found.now.items ≡ before ++ last ∷ [] → result.now ≡ last }
+{
+    &found[found.len() - 1]
+}
+
 /// The least pair of entries that overlap, where `last` came behind entries whose least pair and whose units are
 /// known. Only the first entry that overlaps is looked at beside each one before it.
 pub fn least_overlap(

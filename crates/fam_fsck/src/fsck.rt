@@ -73,22 +73,22 @@ impl Fsck {
     }
 
     /// What a slot below the gate reads as.
-    fn add_below(&mut self, read: Result<Entry, Reason>) -> Result<(), OutOfMemory>
+    fn add_below(&mut self, read: &Result<Entry, Reason>) -> Result<(), OutOfMemory>
         requires fewer { self.old.added < self.old.params.slots }
-        requires proper { IfOk read (λ e. Proper self.old.params e) }
+        requires proper { IfOk read.now (λ e. Proper self.old.params e) }
         ensures slot { OnOk result
-            (self.new ≡ with_survey self.old (below_gate self.old.survey self.old.added read)) }
+            (self.new ≡ with_survey self.old (below_gate self.old.survey self.old.added read.now)) }
         ensures err { OnErr result (self.new ≡ self.old) }
     {
         match read {
             Ok(entry) => {
-                let fault = self.findings.add(self.added, &entry)?;
+                let fault = self.findings.add(self.added, entry)?;
                 self.bad = first_bad(self.bad, self.added, fault);
                 self.added += 1;
                 Ok(())
             }
             Err(reason) => {
-                self.bad = first_bad(self.bad, self.added, Some(reason));
+                self.bad = first_bad(self.bad, self.added, Some(*reason));
                 self.added += 1;
                 Ok(())
             }
@@ -96,9 +96,9 @@ impl Fsck {
     }
 
     /// What a slot at or past the gate reads as.
-    fn add_past(&mut self, read: Result<Entry, Reason>)
+    fn add_past(&mut self, read: &Result<Entry, Reason>)
         requires fewer { self.old.added < self.old.params.slots }
-        ensures { self.new ≡ with_survey self.old (past_gate self.old.survey read) }
+        ensures { self.new ≡ with_survey self.old (past_gate self.old.survey read.now) }
     {
         self.added += 1;
         if read.is_ok() {
@@ -114,9 +114,9 @@ impl Fsck {
     {
         let read = read_entry(words, self.added, self.findings.params());
         if self.added < self.gate {
-            return self.add_below(read);
+            return self.add_below(&read);
         }
-        self.add_past(read);
+        self.add_past(&read);
         Ok(())
     }
 

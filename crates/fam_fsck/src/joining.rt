@@ -48,20 +48,14 @@ fn take_back(tree: &mut Tree, fault: &Option<Reason>, path: &Path)
 }
 
 /// The entry as it is found.
-pub fn found_entry(number: u64, entry: &Entry, fault: &Option<Reason>) -> Found
+#[inline(always)]
+fn found_entry(number: u64, entry: &Entry, fault: &Option<Reason>) -> Found
     ensures { result ≡ found_as number entry.now fault.now }
 {
-    match fault {
-        None => Found {
-            number,
-            entry: *entry,
-            applies: true,
-        },
-        Some(_) => Found {
-            number,
-            entry: *entry,
-            applies: false,
-        },
+    Found {
+        number,
+        entry: *entry,
+        applies: fault.is_none(),
     }
 }
 

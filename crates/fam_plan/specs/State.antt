@@ -1,5 +1,7 @@
 -- What a contract sees of a plan: the parameters, and the entries that were added, in order.
-use Rattle.std.specs.Prelude.{ℕ, ◌≡◌, ◌<◌, ◌≤◌, Bool, List, length, take, slice_get, Some, None, refl}
+use Rattle.std.specs.Prelude.{ℕ, ◌≡◌, ◌<◌, ◌≤◌, Bool, List, length, take, slice_get, Some, None, IsSome, refl}
+use Rattle.std.specs.List.{AllByRecursion, filter_map}
+use Rattle.std.specs.FinMap as finmap
 use Rattle.std.specs.Coded.{Coded, code_by, coded×, coded_list}
 use Rattle.fam_base.specs.declared.entry.Params.{Params}
 use Rattle.fam_base.specs.declared.entry.Entry.{Entry}
@@ -43,3 +45,16 @@ pub record IsPlan (s : PlanState) (held : Tree) (map : List Bool) : Type 0 where
   pub tree : held ≡ replay s.entries
   pub units : length map ≡ device_units s.params
   pub used : (u : ℕ) → u < device_units s.params → is_taken map u ≡ is_used s.params s.entries u
+
+-- what stands at the paths, in their order
+abbrev pub entries_at : Tree → List (List ℕ) → List Entry
+entries_at held order = filter_map (λ path. finmap.get held path) order
+
+-- something stands at each of the paths
+abbrev pub AreHeld : Tree → List (List ℕ) → Type 0
+AreHeld held order = AllByRecursion (λ path. IsSome (finmap.get held path)) order
+
+-- a plan's fields, where its entries are those of the tree at these paths
+pub record IsPlanAt (s : PlanState) (tree : Tree) (order : List (List ℕ)) (map : List Bool) : Type 0 where
+  pub plan : IsPlan s tree map
+  pub held : AreHeld tree order

@@ -94,7 +94,7 @@ impl Plan {
         ensures { MatchResult result (λ _. full_refusal self.now.params self.now.entries ≡ None)
             (λ refused. full_refusal self.now.params self.now.entries ≡ Some refused) }
     {
-        if self.params.slots <= self.entries.len() as u64 {
+        if self.params.slots <= self.count() {
             Err(Refused::LogFull(self.params.slots))
         } else {
             Ok(())

@@ -14,32 +14,33 @@ ghost use Rattle.fam_plan.specs.State.{IsHistory};
 
 use crate::fault::AddFault;
 use fam_alloc::{AllocMap, TakeFault};
-use fam_base::{Entry, OutOfMemory, Params};
+use fam_base::{Entry, OutOfMemory, Params, Path};
 use fam_format::LOG_OFFSET;
 use fam_tree::{ApplyFault, Tree};
 use std::alloc::Global;
 use std::marker::Model;
 
-/// The entries of a log in their order, their tree and the units that they use. A contract sees the parameters of the
-/// file system and the list of entries, in which each entry joins those before it.
+/// The entries of a log in their tree, the order of their paths and the units that they use. A contract sees the
+/// parameters of the file system and the list of entries, in which each entry joins those before it.
 #[derive(Drop)]
 pub struct Plan {
     pub(crate) params: Params,
-    pub(crate) entries: Vec<Entry>,
     pub(crate) tree: Tree,
+    pub(crate) order: Vec<Path>,
     pub(crate) used: AllocMap,
 }
 
 impl Model for Plan {
-    ghost use Rattle.fam_plan.specs.State.{PlanState, state_code, IsPlan};
+    ghost use Rattle.fam_plan.specs.State.{PlanState, state_code, IsPlanAt, entries_at};
 
     ghost Value = { PlanState };
 
     ghost coded = { state_code };
 
-    ghost view = { λ p. record { params = p.params; entries = p.entries.items } };
+    ghost view = { λ p. record { params = p.params; entries = entries_at p.tree p.order.items } };
 
-    ghost invariant = { λ p. IsPlan (record { params = p.params; entries = p.entries.items }) p.tree p.used };
+    ghost invariant = { λ p. IsPlanAt (record { params = p.params; entries = entries_at p.tree p.order.items })
+        p.tree p.order.items p.used };
 }
 
 /// The overlap that keeps an entry from joining, and out of memory where there is none.
@@ -90,36 +91,50 @@ fn take_units(used: &mut AllocMap, entry: &Entry, unit: u64) -> Result<(), AddFa
     }
 }
 
-/// Puts an entry behind a list and takes its units, or does neither.
+/// Puts an entry's path behind others and takes its units, or does neither.
 fn append(
-    entries: &mut Vec<Entry>,
+    order: &mut Vec<Path>,
     used: &mut AllocMap,
     entry: &Entry,
     unit: u64,
 ) -> Result<(), AddFault>
     requires unit { 0 < unit }
     requires within { LieWithin unit (length used.old) entry.now.extents }
-    ensures added { OnOk result (entries.new.items ≡ entries.old.items ++ entry.now ∷ []) }
+    ensures added { OnOk result (order.new.items ≡ order.old.items ++ entry.now.path ∷ []) }
     ensures fits { OnOk result
         (overlap_fault (first_overlap (is_taken used.old) (units_in unit entry.now.extents)) ≡ None) }
     ensures taken { OnOk result ((u : ℕ) →
         is_taken used.new u ≡ (is_taken used.old u || holds (units_in unit entry.now.extents) u)) }
     ensures cause { IfErr result (λ fault. reason_of fault
         ≡ overlap_fault (first_overlap (is_taken used.old) (units_in unit entry.now.extents))) }
-    ensures list { OnErr result (entries.new.items ≡ entries.old.items) }
+    ensures list { OnErr result (order.new.items ≡ order.old.items) }
     ensures map { OnErr result (used.new ≡ used.old) }
     ensures units { length used.new ≡ length used.old }
 {
-    if entries.push(*entry).is_err() {
+    if order.push(entry.path).is_err() {
         return Err(overlap_or_memory(used, entry, unit));
     }
     match take_units(used, entry, unit) {
         Ok(()) => Ok(()),
         Err(fault) => {
-            let _ = entries.pop();
+            let _ = order.pop();
             Err(fault)
         }
     }
+}
+
+/// Path `i`, from 0.
+fn path_at(order: &Vec<Path>, i: u64) -> Option<&Path>
+    ensures { option_map (λ path. path.now) result ≡ slice_get order.now.items i }
+{
+    order.get(i as usize)
+}
+
+/// How many paths there are.
+fn count_of(order: &Vec<Path>) -> u64
+    ensures { result ≡ length order.now.items }
+{
+    order.len() as u64
 }
 
 impl Plan {
@@ -134,8 +149,8 @@ impl Plan {
         let used = AllocMap::new(alloc, units, head)?;
         Ok(Plan {
             params: *params,
-            entries: Vec::new(alloc),
             tree: Tree::new(alloc),
+            order: Vec::new(alloc),
             used,
         })
     }
@@ -161,7 +176,7 @@ impl Plan {
             Ok(()) => {}
             Err(fault) => return Err(first_fault(fault, &self.used, entry, self.params.unit)),
         }
-        match append(&mut self.entries, &mut self.used, entry, self.params.unit) {
+        match append(&mut self.order, &mut self.used, entry, self.params.unit) {
             Ok(()) => Ok(()),
             Err(fault) => {
                 self.tree.take_back(&entry.path);
@@ -189,14 +204,17 @@ impl Plan {
         ensures count { result ≡ length self.now.entries }
         ensures few { length self.now.entries ≤ self.now.params.slots }
     {
-        self.entries.len() as u64
+        count_of(&self.order)
     }
 
     /// Entry `i`, from 0, in the order in which they were added.
-    pub fn at(&self, i: u64) -> Option<&Entry>
-        ensures { option_map (λ entry. entry.now) result ≡ slice_get self.now.entries i }
+    pub fn at(&self, i: u64) -> Option<Entry>
+        ensures { result ≡ slice_get self.now.entries i }
     {
-        self.entries.get(i as usize)
+        match path_at(&self.order, i) {
+            Some(path) => self.tree.get(path),
+            None => None,
+        }
     }
 
     /// In every plan the parameters are sound, and each entry is proper and joins those before it.

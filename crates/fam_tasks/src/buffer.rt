@@ -111,13 +111,14 @@ impl Buffer {
     }
 
     /// All words, which are a slot's.
-    pub(crate) fn slot(&self) -> [u64; SLOT_WORDS]
+    pub(crate) fn slot(&self) -> &[u64; SLOT_WORDS]
         requires { length self.now ≡ SLOT_WORDS }
-        ensures { result ≡ self.now }
+        ensures { result.now ≡ self.now }
     {
-        let mut slot = [0; SLOT_WORDS];
-        slot.copy_from_slice(self.as_slice());
-        slot
+        match self.as_slice().as_array::<SLOT_WORDS>() {
+            Some(slot) => slot,
+            None => unreachable!(),
+        }
     }
 
     /// Byte `b` of the words.

@@ -59,7 +59,7 @@ pub(crate) fn read_slot(words: &Buffer, i: u64, params: &Params) -> Result<Entry
     ensures value { result ≡ entry_of params.now words.now i }
     ensures proper { IfOk result (Proper params.now) }
 {
-    read_entry(&words.slot(), i, params)
+    read_entry(words.slot(), i, params)
 }
 
 /// Whether this host may not go on, since the command appends and another host is the master.

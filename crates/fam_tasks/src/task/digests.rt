@@ -58,9 +58,9 @@ impl Task {
             (entry_of self.old.params self.old.words slot)) (slot_turn_by slot reason) self.new) }
         ensures err { OnErr result (self.new ≡ self.old) }
     {
-        match read_slot(&self.buffer, slot, &self.params) {
-            Ok(entry) => self.join(slot, &entry),
-            Err(reason) => Ok(Some(reason)),
+        match &read_slot(&self.buffer, slot, &self.params) {
+            Ok(entry) => self.join(slot, entry),
+            Err(reason) => Ok(Some(*reason)),
         }
     }
 
@@ -92,7 +92,7 @@ impl Task {
         ensures err { OnErr result (self.new ≡ self.old) }
     {
         let words = self.buffer.slot();
-        show(self.alloc, &mut self.scan, &self.params, self.gate, &words)?;
+        show(self.alloc, &mut self.scan, &self.params, self.gate, words)?;
         self.buffer.clear();
         self.phase = slot_or_decide(slot + 1, self.params.slots);
         Ok(None)

@@ -1,6 +1,12 @@
-use Rattle.std.proofs.Common.{◌≡◌, ℕ, ◌<◌, ◌≤◌, false}
+use Rattle.std.proofs.Common.{◌≡◌, ℕ, ◌-◌, ◌<◌, ◌≤◌, false}
 use Rattle.fam_format.specs.Slot.{is_stray, extents_word}
 use Rattle.fam_entry.proofs.reading.check_rest.Given as goal
 
 abbrev pub invariant-loop-i : goal.invariant-loop-i
-invariant-loop-i l = (k : ℕ) → extents_word ≤ k → k < l.i → is_stray l.words k ≡ false
+invariant-loop-i l = record {
+  from : extents_word ≤ l.i;
+  none : (k : ℕ) → extents_word ≤ k → k < l.i → is_stray l.words k ≡ false;
+}
+
+abbrev pub decreases-loop-i : goal.decreases-loop-i
+decreases-loop-i l = 63 - l.i

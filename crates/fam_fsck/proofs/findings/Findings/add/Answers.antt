@@ -16,7 +16,7 @@ cover-requires-clause-within c =
 pub least_overlap-self-inside-requires-clause-second : goal.least_overlap-self-inside-requires-clause-second
 least_overlap-self-inside-requires-clause-second c =
     let own = c.self.inside in
-    subst (LiesWithin own.params.unit (length own.used)) (sym c.found_entry-last.ensures)
+    subst (LiesWithin own.params.unit (length own.used)) (sym (c.last_of.ensures own.found.items (found_as c.args.number c.args.entry.now c.in_ok-fault.fault) c.in_ok-fault.ensures.found))
     (lies_within own.params c.args.self.now.params c.args.entry.now (length own.used) (ap (λ (s : Finds). s.params) c.self.view_is) c.requires c.self.invariant.units)
 
 pub least_overlap-self-inside-requires-clause-first : goal.least_overlap-self-inside-requires-clause-first
@@ -50,6 +50,6 @@ invariant_of-self-2 c =
           ∙ used_more p own.found.items c.args.number e fault u
           ∙ ap (λ (fs : List Found). is_used p (entries_of fs) u) (sym c.in_ok-fault.ensures.found);
       overlap = c.least_overlap-self-inside.ensures p own.found.items refl
-          (c.in_ok-fault.ensures.found ∙ ap (λ (x : Found). own.found.items ++ x ∷ []) (sym c.found_entry-last.ensures))
+          (c.in_ok-fault.ensures.found ∙ ap (λ (x : Found). own.found.items ++ x ∷ []) (sym (c.last_of.ensures own.found.items (found_as c.args.number c.args.entry.now c.in_ok-fault.fault) c.in_ok-fault.ensures.found)))
           c.self.invariant.used c.self.invariant.overlap;
     }
