@@ -1,6 +1,6 @@
 -- Names in print: one more byte, and why the bytes can be read back.
-use Rattle.std.proofs.Common.{◌≡◌, ℕ, ◌+◌, ◌/◌, ◌%◌, ◌<◌, ◌≤◌, Bool, true, false, cond, List, [], ◌∷◌, ◌++◌, length, get_or, take, inl, inr, zero, suc, refl, subst, sym, ap, ◌∙◌, arith, append-nil}
-use Rattle.std.specs.List.{All, flat_map}
+use Rattle.std.proofs.Common.{◌≡◌, ℕ, ◌+◌, ◌/◌, ◌%◌, ◌<◌, ◌≤◌, Bool, true, false, ◌&&◌, cond, List, [], ◌∷◌, ◌++◌, length, get_or, take, inl, inr, zero, suc, refl, subst, sym, ap, ◌∙◌, arith, append-nil}
+use Rattle.std.specs.List.{All, flat_map, list_all}
 use Rattle.std.proofs.lemmas.Bool.{cases_Bool}
 use Rattle.std.proofs.lemmas.Bool.Decides.{nat_tests}
 use Rattle.std.proofs.lemmas.List.{take_more}
@@ -142,3 +142,17 @@ escaped_visible (byte ∷ bytes) below =
     All-append IsVisible (escaped_byte byte) (flat_map escaped_byte bytes)
     (visible_byte byte (below 0 0 (omega arith)))
     (escaped_visible bytes (λ k d h. below (suc k) d (omega arith)))
+
+-- two tests that both pass
+both_pass : (a b : Bool) → (a && b) ≡ true → (a ≡ true) × (b ≡ true)
+both_pass true b h = (refl, h)
+both_pass false b h = absurd (cc (h))
+
+-- plain bytes are printed as they are
+pub escaped_plain : (bytes : List ℕ) → list_all is_plain bytes ≡ true → escaped bytes ≡ bytes
+escaped_plain [] plain = escaped-nil
+escaped_plain (byte ∷ bytes) plain =
+    let each = both_pass (is_plain byte) (list_all is_plain bytes) plain in
+    escaped-append (byte ∷ []) bytes
+    ∙ ap (λ (l : List ℕ). l ++ escaped bytes) (escaped-one byte ∙ plain_form byte each.0)
+    ∙ ap (λ (l : List ℕ). byte ∷ l) (escaped_plain bytes each.1)

@@ -5,3 +5,4 @@ pub mod EscapeLemmas
 pub mod NameLemmas
 pub mod UnitLemmas
 pub mod FieldOrder
+pub mod PathTests

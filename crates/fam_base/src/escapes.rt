@@ -1,7 +1,7 @@
 //! Names in print: paths and the names of files. `specs/Escapes.antt` has the printed form.
 
 ghost use Rattle.std.specs.Prelude.{◌≡◌, ◌<◌, ◌≤◌, ℕ, List, ◌++◌, OnOk, OnErr, IfOk, length, take, slice_index};
-ghost use Rattle.std.specs.List.{All};
+ghost use Rattle.std.specs.List.{All, list_all};
 ghost use Rattle.fam_base.specs.Escapes.{is_plain, hex_digit, escaped_byte, escaped, AreBytes, IsVisible};
 
 use crate::line::OutOfMemory;
@@ -39,6 +39,25 @@ fn escape_byte(byte: u8, into: &mut Vec<u8>) -> Result<(), OutOfMemory>
     }
 }
 
+/// Whether each byte of a name stands for itself.
+fn are_plain(bytes: &[u8]) -> bool
+    ensures { result ≡ list_all is_plain bytes.now }
+{
+    bytes.iter().all(|byte| is_plain(*byte))
+}
+
+/// Adds the printed form of a name's bytes, one by one.
+fn escape_each(bytes: &[u8], into: &mut Vec<u8>) -> Result<(), OutOfMemory>
+    ensures added { OnOk result (into.new.items ≡ into.old.items ++ escaped bytes.now) }
+    ensures err { OnErr result
+        ((n : ℕ) × (into.new.items ≡ into.old.items ++ escaped (take n bytes.now))) }
+{
+    for byte in bytes {
+        escape_byte(*byte, into)?;
+    }
+    Ok(())
+}
+
 /// Adds the printed form of a name's bytes. A byte from 0x21 to 0x7e other than the backslash is itself,
 /// and any other is `\x` and two lower-case hexadecimal digits.
 ///
@@ -48,10 +67,13 @@ pub fn escape(bytes: &[u8], into: &mut Vec<u8>) -> Result<(), OutOfMemory>
     ensures err { OnErr result
         ((n : ℕ) × (into.new.items ≡ into.old.items ++ escaped (take n bytes.now))) }
 {
-    for byte in bytes {
-        escape_byte(*byte, into)?;
+    if !are_plain(bytes) {
+        return escape_each(bytes, into);
     }
-    Ok(())
+    match into.extend_from_slice(bytes) {
+        Ok(()) => Ok(()),
+        Err(_) => Err(OutOfMemory),
+    }
 }
 
 impl Path {

@@ -2,9 +2,9 @@
 //!
 //! A contract sees a `Path` as its list of bytes, which is known to be a path once `bytes` was called.
 
-ghost use Rattle.std.specs.Prelude.{◌≡◌, ◌↔◌, ℕ, ◌<◌, ◌≤◌, List, ◌∷◌, ◌++◌, true, false, Some, None, IsTrue, IsOk, IfOk, length};
+ghost use Rattle.std.specs.Prelude.{◌≡◌, ◌↔◌, ℕ, ◌<◌, ◌≤◌, ◌&&◌, List, ◌∷◌, ◌++◌, true, false, Some, None, IsTrue, IsOk, IfOk, length, take};
 ghost use Rattle.std.specs.List.{list_all, list_any};
-ghost use Rattle.fam_base.specs.Paths.{slash, is_name, is_slash, names, has_no_nul, is_path, padded, parent_of};
+ghost use Rattle.fam_base.specs.Paths.{slash, is_name, is_slash, names, has_no_nul, is_path, padded, parent_of, IsPathField};
 
 use std::marker::Model;
 
@@ -47,32 +47,24 @@ fn has_name(name: &[u8]) -> bool
     }
 }
 
+/// Whether bytes have no 0, and are proper names between slashes: one pass.
 fn are_names(bytes: &[u8]) -> bool
-    ensures { result ≡ list_all is_name (names bytes.now) }
+    ensures { result ≡ (has_no_nul bytes.now && list_all is_name (names bytes.now)) }
 {
-    bytes.split(|b| *b == b'/').all(|name| has_name(name))
-}
-
-fn lacks_nul(bytes: &[u8]) -> bool
-    ensures { result ≡ has_no_nul bytes.now }
-{
-    bytes.iter().all(|b| *b != 0)
-}
-
-#[tactic(auto, unfolding(crate::specs::Paths::is_path))]
-fn has_path(bytes: &[u8]) -> bool
-    ensures { result ≡ is_path bytes.now }
-{
-    if bytes.is_empty() {
-        return false;
+    let mut start = 0;
+    for i in 0..bytes.len() {
+        match bytes[i] {
+            0 => return false,
+            b'/' => {
+                if !has_name(&bytes[start..i]) {
+                    return false;
+                }
+                start = i + 1;
+            }
+            _ => {}
+        }
     }
-    if bytes.len() > PATH_LIMIT {
-        return false;
-    }
-    if !lacks_nul(bytes) {
-        return false;
-    }
-    are_names(bytes)
+    has_name(&bytes[start..])
 }
 
 #[tactic(auto, unfolding(crate::specs::Paths::is_path))]
@@ -87,12 +79,34 @@ fn stored(bytes: &[u8]) -> Path
 }
 
 impl Path {
+    /// Whether bytes are a path.
+    #[tactic(auto, unfolding(crate::specs::Paths::is_path))]
+    pub fn is_path(bytes: &[u8]) -> bool
+        ensures { result ≡ is_path bytes.now }
+    {
+        if bytes.is_empty() {
+            return false;
+        }
+        if bytes.len() > PATH_LIMIT {
+            return false;
+        }
+        are_names(bytes)
+    }
+
+    /// The path that lies in a field in front of zeros.
+    pub fn in_field(field: &[u8; PATH_LIMIT], len: usize) -> Path
+        requires { IsPathField field.now len }
+        ensures { result ≡ take len field.now }
+    {
+        Path { bytes: *field, len }
+    }
+
     /// The path of these bytes. `BadPath` comes exactly where they are none.
     pub fn read(bytes: &[u8]) -> Result<Path, BadPath>
         ensures ok { IsOk result ↔ IsTrue (is_path bytes.now) }
         ensures same { IfOk result (λ p. p ≡ bytes.now) }
     {
-        if has_path(bytes) {
+        if Path::is_path(bytes) {
             Ok(stored(bytes))
         } else {
             Err(BadPath)

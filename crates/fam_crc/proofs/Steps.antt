@@ -1,12 +1,12 @@
 -- The register's steps are linear, and a byte that has zeros behind it comes down whole.
-use Rattle.std.proofs.Common.{◌≡◌, ℕ, zero, suc, ◌+◌, ◌*◌, ◌/◌, ◌%◌, ◌^◌, ◌<◌, List, [], ◌∷◌, ◌++◌, fold, ◌⊎◌, inl, inr, refl, sym, ap, ◌∙◌, arith}
+use Rattle.std.proofs.Common.{◌≡◌, ℕ, zero, suc, ◌+◌, ◌*◌, ◌/◌, ◌%◌, ◌^◌, ◌<◌, List, [], ◌∷◌, ◌++◌, fold, length, replicate, ◌⊎◌, inl, inr, refl, sym, ap, ◌∙◌, arith}
 use Rattle.std.proofs.lemmas.List.Sums.{fold-append}
 use Rattle.std.proofs.lemmas.Bool.{cases_lt}
 use Rattle.std.proofs.lemmas.Nat.{pow_pos}
 use Rattle.std.proofs.Math.Nat.{pow-suc, mul_assoc, mod-lt, div-add-mod', div-div-eq-div-mul}
 use Rattle.std.specs.Int.{byte_at, bytes_low_first, to_le_bytes, w64}
 use Rattle.std.specs.Int.Bits.{bit_xor, xor_self, xor_zero_l, xor_zero_r, xor_comm, xor_assoc, xor_shr, xor_mod, xor_shifted, xor_lt}
-use Rattle.fam_crc.specs.Crc.{reflected_polynomial, all_ones, step, steps, after_byte, crc32}
+use Rattle.fam_crc.specs.Crc.{reflected_polynomial, all_ones, step, steps, after_byte, bytes_of_words, crc32}
 
 -- a number is even or odd
 pub parity : (n : ℕ) → (n % 2 ≡ 0) ⊎ (n % 2 ≡ 1)
@@ -199,3 +199,33 @@ half_split r w a b c d fits below small pa pb pc pd =
 -- the highest byte of a word and a register
 pub top_fits : (w r : ℕ) → w < 2 ^ 64 → r < 2 ^ 32 → bit_xor w r / 2 ^ 56 < 256
 top_fits w r a b = let both : bit_xor w r < 2 ^ 64 = xor_lt 64 w r a (omega arith) in omega arith
+
+-- bytes of zero are steps alone
+zero_bytes : (n r : ℕ) → fold after_byte r (replicate n 0) ≡ steps (8 * n) r
+unfolding steps
+zero_bytes zero r = refl
+zero_bytes (suc n) r =
+    let e : 8 + 8 * n ≡ 8 * suc n = omega arith in
+    ap (λ (x : ℕ). fold after_byte (steps 8 x) (replicate n 0)) (xor_zero_r r) ∙ zero_bytes n (steps 8 r) ∙ sym (steps-add 8 (8 * n) r)
+    ∙ ap (λ (k : ℕ). steps k r) e
+
+-- the four look-ups of eight words of zero
+pub zeros_split : (r a b c d : ℕ) → a ≡ steps 512 (r % 256) → b ≡ steps 504 (r / 2 ^ 8 % 256) → c ≡ steps 496 (r / 2 ^ 16 % 256) → d ≡ steps 488 (r / 2 ^ 24) → bit_xor (bit_xor (bit_xor a b) c) d ≡ steps 512 r
+zeros_split r a b c d pa pb pc pd =
+    let sum : bit_xor (steps 512 (r % 256)) (bit_xor (steps 504 (r / 2 ^ 8 % 256)) (bit_xor (steps 496 (r / 2 ^ 16 % 256)) (steps 488 (r / 2 ^ 24)))) ≡ steps 512 r =
+    sym (steps_byte 504 r ∙ ap (bit_xor (steps 512 (r % 256)))
+    (level 496 (2 ^ 8) r ∙ ap (bit_xor (steps 504 (r / 2 ^ 8 % 256)))
+    (level 488 (2 ^ 16) r))) in
+    rw (pa, pb, pc, pd) (simp xor_assoc sum)
+
+-- the checksum goes on behind eight words of zero
+pub behind_zeros : (r : ℕ) (words behind : List ℕ) → words ≡ 0 ∷ 0 ∷ 0 ∷ 0 ∷ 0 ∷ 0 ∷ 0 ∷ 0 ∷ behind → fold after_byte (steps 512 r) (bytes_of_words behind) ≡ fold after_byte r (bytes_of_words words)
+behind_zeros r words behind e =
+    let zeros : bytes_of_words (0 ∷ 0 ∷ 0 ∷ 0 ∷ 0 ∷ 0 ∷ 0 ∷ 0 ∷ behind) ≡ replicate 64 0 ++ bytes_of_words behind = refl in
+    sym (ap (λ (l : List ℕ). fold after_byte r (bytes_of_words l)) e ∙ ap (fold after_byte r) zeros
+    ∙ fold-append after_byte r (replicate 64 0) (bytes_of_words behind) ∙ ap (λ (x : ℕ). fold after_byte x (bytes_of_words behind)) (zero_bytes 64 r))
+
+-- no words are left
+pub of_none : (r : ℕ) (words : List ℕ) → length words < 1 → fold after_byte r (bytes_of_words words) ≡ r
+of_none r [] none = refl
+of_none r (word ∷ words) none = absurd (omega arith)

@@ -7,6 +7,8 @@ use Rattle.fam_crc.specs.Crc.{steps}
 use Rattle.fam_crc.specs.declared.tables.bits_8_to_24.TheConstants.{AFTER_8, AFTER_16, AFTER_24}
 use Rattle.fam_crc.specs.declared.tables.bits_32_to_48.TheConstants.{AFTER_32, AFTER_40, AFTER_48}
 use Rattle.fam_crc.specs.declared.tables.bits_56_to_64.TheConstants.{AFTER_56, AFTER_64}
+use Rattle.fam_crc.specs.declared.tables.bits_488_to_496.TheConstants.{AFTER_488, AFTER_496}
+use Rattle.fam_crc.specs.declared.tables.bits_504_to_512.TheConstants.{AFTER_504, AFTER_512}
 
 -- at an index of a table of f stands f of it
 table_at : (f : ℕ → ℕ) (table : List ℕ) (n : ℕ) → table ≡ map f (range_with_len 0 n) → (i : ℕ) → i < n → get_or table i 0 ≡ f i
@@ -86,3 +88,39 @@ table_64 = refl
 -- a look-up in the table for 64 bits
 pub at_64 : (i : ℕ) → i < 256 → get_or AFTER_64 i 0 ≡ steps 64 i
 at_64 i below = table_at (λ i. steps 64 i) AFTER_64 256 table_64 i below
+
+-- the table for 488 bits, number by number
+table_488 : AFTER_488 ≡ map (λ i. steps 488 i) (range_with_len 0 256)
+unfolding steps
+table_488 = refl
+
+-- a look-up in the table for 488 bits
+pub at_488 : (i : ℕ) → i < 256 → get_or AFTER_488 i 0 ≡ steps 488 i
+at_488 i below = table_at (λ i. steps 488 i) AFTER_488 256 table_488 i below
+
+-- the table for 496 bits, number by number
+table_496 : AFTER_496 ≡ map (λ i. steps 496 i) (range_with_len 0 256)
+unfolding steps
+table_496 = refl
+
+-- a look-up in the table for 496 bits
+pub at_496 : (i : ℕ) → i < 256 → get_or AFTER_496 i 0 ≡ steps 496 i
+at_496 i below = table_at (λ i. steps 496 i) AFTER_496 256 table_496 i below
+
+-- the table for 504 bits, number by number
+table_504 : AFTER_504 ≡ map (λ i. steps 504 i) (range_with_len 0 256)
+unfolding steps
+table_504 = refl
+
+-- a look-up in the table for 504 bits
+pub at_504 : (i : ℕ) → i < 256 → get_or AFTER_504 i 0 ≡ steps 504 i
+at_504 i below = table_at (λ i. steps 504 i) AFTER_504 256 table_504 i below
+
+-- the table for 512 bits, number by number
+table_512 : AFTER_512 ≡ map (λ i. steps 512 i) (range_with_len 0 256)
+unfolding steps
+table_512 = refl
+
+-- a look-up in the table for 512 bits
+pub at_512 : (i : ℕ) → i < 256 → get_or AFTER_512 i 0 ≡ steps 512 i
+at_512 i below = table_at (λ i. steps 512 i) AFTER_512 256 table_512 i below

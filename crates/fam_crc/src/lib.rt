@@ -1,9 +1,9 @@
 //! CRC-32, as zlib, PNG, Ethernet and ISO-HDLC have it: the reflected polynomial is 0xEDB88320, the register
 //! begins with all ones, and it is inverted at the end.
 //!
-//! The checksum of words goes eight bytes at a time, that of bytes one at a time, both by tables. A contract
-//! sees the bitwise definition alone, `crc32` of `specs/Crc.antt`. The laws say that it is the remainder of
-//! the message by the generator polynomial, and the only one.
+//! The checksum of words goes eight bytes at a time, or eight words where these are zero, and that of bytes one
+//! at a time, all by tables. A contract sees the bitwise definition alone, `crc32` of `specs/Crc.antt`. The laws
+//! say that it is the remainder of the message by the generator polynomial, and the only one.
 #![tactic(auto)]
 
 mod bytes;

@@ -3,6 +3,8 @@
 //! A table has 256 numbers, and `rt fmt` gives each a line, so a file has three.
 
 mod bits_32_to_48;
+mod bits_488_to_496;
+mod bits_504_to_512;
 mod bits_56_to_64;
 mod bits_8_to_24;
 
@@ -12,6 +14,8 @@ ghost use Rattle.fam_crc.specs.Crc.{steps};
 use crate::tables::bits_8_to_24::{AFTER_8, AFTER_16, AFTER_24};
 use crate::tables::bits_32_to_48::{AFTER_32, AFTER_40, AFTER_48};
 use crate::tables::bits_56_to_64::{AFTER_56, AFTER_64};
+use crate::tables::bits_488_to_496::{AFTER_488, AFTER_496};
+use crate::tables::bits_504_to_512::{AFTER_504, AFTER_512};
 
 /// The register that held `byte`, after 8 bits of zero.
 pub(crate) fn after_8(byte: u8) -> u32
@@ -67,4 +71,32 @@ pub(crate) fn after_64(byte: u8) -> u32
     ensures { result ≡ steps 64 byte }
 {
     AFTER_64[byte as usize]
+}
+
+/// The register that held `byte`, after 488 bits of zero.
+pub(crate) fn after_488(byte: u8) -> u32
+    ensures { result ≡ steps 488 byte }
+{
+    AFTER_488[byte as usize]
+}
+
+/// The register that held `byte`, after 496 bits of zero.
+pub(crate) fn after_496(byte: u8) -> u32
+    ensures { result ≡ steps 496 byte }
+{
+    AFTER_496[byte as usize]
+}
+
+/// The register that held `byte`, after 504 bits of zero.
+pub(crate) fn after_504(byte: u8) -> u32
+    ensures { result ≡ steps 504 byte }
+{
+    AFTER_504[byte as usize]
+}
+
+/// The register that held `byte`, after 512 bits of zero.
+pub(crate) fn after_512(byte: u8) -> u32
+    ensures { result ≡ steps 512 byte }
+{
+    AFTER_512[byte as usize]
 }

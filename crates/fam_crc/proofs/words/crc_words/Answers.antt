@@ -1,8 +1,16 @@
-use Rattle.std.proofs.Common.{arith}
-use Rattle.std.proofs.lemmas.Grind.{common_steps}
-use Rattle.fam_crc.specs.Crc.{crc32}
+use Rattle.std.proofs.Common.{◌≡◌, ◌∙◌, ℕ, ap, sym, fold, bit_xor}
+use Rattle.fam_crc.specs.Crc.{all_ones, after_byte, bytes_of_words, crc32}
+use Rattle.fam_crc.proofs.Steps.{behind_zeros, of_none}
 use Rattle.fam_crc.proofs.words.crc_words.Goals as goal
+
+pub loop-rest-preserved-in-Some : goal.loop-rest-preserved-in-Some
+loop-rest-preserved-in-Some c =
+    ap (λ (x : ℕ). fold after_byte x (bytes_of_words c.in-Some.behind.now)) c.zeros_step-register.ensures
+    ∙ behind_zeros c.loop-rest.register c.loop-rest.rest.now c.in-Some.behind.now c.in-Some.ensures ∙ c.loop-rest.invariant
 
 pub returns : goal.returns
 unfolding crc32
-returns c = grind (arith, common_steps)
+returns c =
+    let all : c.loop-rest.register ≡ fold after_byte all_ones (bytes_of_words c.args.words.now) =
+    sym (of_none c.loop-rest.register c.loop-rest.rest.now c.in_default.len_below) ∙ c.loop-rest.invariant in
+    ap (λ (x : ℕ). bit_xor x all_ones) all
