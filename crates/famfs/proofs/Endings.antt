@@ -1,5 +1,5 @@
 -- Calls for which no event is run: the words are no command, or no memory was left for them.
-use Rattle.std.proofs.Common.{◌≡◌, ℕ, List, Option, Some, None, option_map, inl, inr, refl, sym, subst}
+use Rattle.std.proofs.Common.{◌≡◌, Option, None, inl, refl}
 use Rattle.fam_grammar.specs.Scripts.{script_events}
 use Rattle.fam_journal.specs.declared.status.Status.{Status}
 use Rattle.fam_journal.specs.declared.status.Status.TheVariants as status
@@ -9,7 +9,7 @@ use Rattle.fam_program.specs.Puts.{Put}
 use Rattle.fam_program.proofs.Tops.{memory_own, put_alone, sink_of}
 use Rattle.fam_storm.specs.Storm.{storm}
 
-usage_own : status.SinkFault ≡ status.Usage → ⊥
+usage_own : status.Usage ≡ status.SinkFault → ⊥
 usage_own e = absurd cc
 
 module _ (out : Outside) (given : Status) (same : out.image_now ≡ out.image) (later : NoneFalls out) where

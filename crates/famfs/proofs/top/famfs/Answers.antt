@@ -1,5 +1,4 @@
 use Rattle.std.proofs.Common.{◌∙◌, ap, arith, option_map, refl, subst, sym, Option}
-use Rattle.fam_journal.specs.Programs.{Command}
 use Rattle.fam_journal.specs.Runs.{NoneFalls, Outside}
 use Rattle.fam_program.specs.Puts.{sink_changed}
 use Rattle.fam_program.specs.Runs.{outside_of}
