@@ -13,3 +13,4 @@ pub mod Tops
 pub mod Stopping
 pub mod Answering
 pub mod Prefixing
+pub mod Alone

@@ -18,7 +18,7 @@ use Rattle.fam_program.specs.Quiet.{GoesOn, IsShotEvent}
 use Rattle.fam_program.specs.Runs.{HasEnded, ending_of}
 use Rattle.fam_program.proofs.Ending.{broken_ended, out_of, part_ended, source_ended}
 use Rattle.fam_program.proofs.Going.{next_of}
-use Rattle.fam_program.proofs.Stopping.{all_go, cut_goes, go_behind, no_mkfs}
+use Rattle.fam_program.proofs.Stopping.{all_go, breaks_goes, cut_goes, go_behind}
 
 -- by why nothing goes on
 pub fault_ended : (b : Base) (count : ℕ) (n m : Now) → Far b count n → (e : Event) → slice_get b.events count ≡ Some e → (shelf : ShelfChange) (sink sink_now : ℕ) (bytes bytes_now : Option (List ℕ)) (x : EventFault)
@@ -41,7 +41,8 @@ taken_ended b count n far shelf sink sink_now bytes bytes_now = record {
 
 -- of the notes of an event that ends a run at most the last one stops
 pub fault_goes : (b : Base) (n m : Now) (e : Event) → IsShotEvent e → (shelf : ShelfChange) (x : EventFault) → list_any note_stops n.world.journal ≡ false → EventSays e shelf (next_of b n m) (Err x) → GoesOn m.world.journal
-fault_goes b n m e is shelf fault.MkfsFailed goes says = absurd (no_mkfs e is b.lines (forms_of n.world.journal) says.adds.notes says.adds.form)
+fault_goes b n m e is shelf fault.MkfsFailed goes says =
+    subst GoesOn (sym says.adds.joined) (go_behind n.world.journal says.adds.notes goes (breaks_goes e b.lines (forms_of n.world.journal) says.adds.notes says.adds.form))
 fault_goes b n m e is shelf (fault.SourceEnded end) goes says =
     let same : m.world.journal ≡ n.world.journal = says.0.adds.joined ∙ ap (λ (ns : List Note). n.world.journal ++ ns) says.0.adds.form.none ∙ append-nil n.world.journal in
     subst GoesOn (sym same) (all_go n.world.journal goes)

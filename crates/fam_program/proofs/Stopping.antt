@@ -8,17 +8,18 @@ use Rattle.fam_journal.specs.declared.event.Ask.{Ask}
 use Rattle.fam_journal.specs.declared.event.Event.{Event}
 use Rattle.fam_journal.specs.declared.event.Event.TheVariants as event
 use Rattle.fam_journal.specs.declared.refusal.Refusal.{Refusal}
+use Rattle.fam_journal.specs.declared.refusal.Refusal.TheVariants as why
 use Rattle.fam_journal.specs.Calls as call
-use Rattle.fam_journal.specs.Calls.{may_begin}
+use Rattle.fam_journal.specs.Calls.{may_begin, number_of}
 use Rattle.fam_journal.specs.EventForms.{EventBreaksForm, EventForm, EventPartForm, StartForm, UnfitNotes}
-use Rattle.fam_journal.specs.Events.{event_source, named_source, source_of}
-use Rattle.fam_journal.specs.Forms.{AnswerForm, CompletesForm, FormByRefusal, HostForm, OfRunning, OfTask, OperationsForm, TaskForm, TaskNote, forms_after, refusal_told, shown_forms}
+use Rattle.fam_journal.specs.Forms.{ActsForm, AnswerForm, AtForm, CompletesForm, DirtyForm, FormByRefusal, HostActsForm, HostForm, OfHostForm, OfRunning, OfTask, OperationsForm, TaskForm, TaskNote, forms_after, refusal_told, shown_forms}
 use Rattle.fam_journal.specs.Members.{changed_at}
 use Rattle.fam_journal.specs.Notes.{Note, Host, Made, Start, Mark, Found, Writes, Answered, Stop, Halt, Refused}
 use Rattle.fam_journal.specs.Programs.{without_last}
 use Rattle.fam_journal.specs.Statuses.{last_stops, note_stops}
 use Rattle.fam_journal.proofs.Calls.Members.{changed_here}
 use Rattle.fam_events.specs.Happens.{FormOfPart}
+use Rattle.fam_machine.specs.Mkfs.{asked}
 use Rattle.fam_program.specs.Quiet.{GoesOn, IsShotEvent}
 
 -- One note.
@@ -97,10 +98,26 @@ declared : (name uuid : List ℕ) (notes : List Note) (o : Option Refusal) → F
 declared name uuid notes None x = alone (Host name uuid) notes x
 declared name uuid notes (Some cause) x = alone (Refused name cause) notes x
 
+-- a file system is made or not: of either there is one note
+module _ (name fs : List ℕ) (unit log : ℕ) (force : Bool) (lines : ℕ) (hosts : List HostForm) (notes : List Note) where
+  acts : (h : ℕ) (o : Option HostForm) → OfHostForm o (λ host. ActsForm (call.Makes name fs unit log force) h host lines hosts notes) → GoesOn notes
+  acts h None x = absurd x
+  acts h (Some host) (inl x) = alone (Made h (asked unit log fs host.uuid lines)) notes x
+  acts h (Some host) (inr x) = alone (Refused name (why.HasSuper x.fs)) notes x.notes_are
+
+  acts_at : (o : Option ℕ) → AtForm o hosts (λ h host. ActsForm (call.Makes name fs unit log force) h host lines hosts notes) → GoesOn notes
+  acts_at None x = absurd x
+  acts_at (Some h) x = acts h (slice_get hosts h) x
+
+  made : (o : Option Refusal) → FormByRefusal name o notes (HostActsForm (call.Makes name fs unit log force) lines hosts notes ⊎ DirtyForm name lines hosts notes) → GoesOn notes
+  made None (inl x) = acts_at (number_of name (shown_forms lines hosts)) x
+  made None (inr x) = alone (Refused name (why.Dirty (record { 0 = x.dirty }))) notes x.notes_are
+  made (Some cause) x = alone (Refused name cause) notes x
+
 -- an event that is done
 pub step_goes : (e : Event) → IsShotEvent e → (lines : ℕ) (hosts : List HostForm) (notes : List Note) → EventForm e lines hosts notes → GoesOn notes
 step_goes (event.Host name uuid) is lines hosts notes x = declared name uuid notes (refusal_told (call.Declares name uuid) lines hosts) x
-step_goes (event.Mkfs name fs unit log force) is lines hosts notes x = absurd is
+step_goes (event.Mkfs name fs unit log force) is lines hosts notes x = made name fs unit log force lines hosts notes (refusal_told (call.Makes name fs unit log force) lines hosts) x
 step_goes (event.Begin name what) is lines hosts notes x = absurd is
 step_goes (event.Run name what) is lines hosts notes x = begun name what lines hosts notes (may_begin name (shown_forms lines hosts)) x
 step_goes (event.Step name count) is lines hosts notes x = absurd is
@@ -114,7 +131,7 @@ step_goes (event.Fetch name line mask) is lines hosts notes x = absurd is
 -- a part of an event
 part_goes : (e : Event) → IsShotEvent e → (lines : ℕ) (hosts : List HostForm) (notes : List Note) → EventPartForm e lines hosts notes → GoesOn notes
 part_goes (event.Host name uuid) is lines hosts notes x = absurd x
-part_goes (event.Mkfs name fs unit log force) is lines hosts notes x = absurd is
+part_goes (event.Mkfs name fs unit log force) is lines hosts notes x = absurd x
 part_goes (event.Begin name what) is lines hosts notes x = absurd is
 part_goes (event.Run name what) is lines hosts notes x = started name what lines hosts notes OperationsForm (λ h fs ns y. y) x
 part_goes (event.Step name count) is lines hosts notes x = absurd is
@@ -166,34 +183,16 @@ none_stops (note ∷ next ∷ notes) goes last =
     let parts = or_parts (note_stops note) (list_any note_stops (without_last (next ∷ notes))) goes in
     both_parts (note_stops note) (list_any note_stops (next ∷ notes)) parts.0 (none_stops (next ∷ notes) parts.1 last)
 
--- None of these events makes a file system, and none reads a source.
-
-pub no_mkfs : (e : Event) → IsShotEvent e → (lines : ℕ) (hosts : List HostForm) (notes : List Note) → EventBreaksForm e lines hosts notes → ⊥
-no_mkfs (event.Host name uuid) is lines hosts notes x = x
-no_mkfs (event.Mkfs name fs unit log force) is lines hosts notes x = absurd is
-no_mkfs (event.Begin name what) is lines hosts notes x = absurd is
-no_mkfs (event.Run name what) is lines hosts notes x = x
-no_mkfs (event.Step name count) is lines hosts notes x = absurd is
-no_mkfs (event.Finish name) is lines hosts notes x = absurd is
-no_mkfs (event.Stop name) is lines hosts notes x = absurd is
-no_mkfs (event.Halt name) is lines hosts notes x = absurd is
-no_mkfs (event.Evict name line) is lines hosts notes x = absurd is
-no_mkfs (event.Leak name line mask) is lines hosts notes x = absurd is
-no_mkfs (event.Fetch name line mask) is lines hosts notes x = absurd is
-
-no_name : (name : List ℕ) (o : Option (List ℕ)) → o ≡ None → (host source : List ℕ) → named_source name o ≡ Some (host, source) → ⊥
-no_name name None is host source reads = absurd cc
-no_name name (Some x) is host source reads = absurd cc
-
-pub no_source : (e : Event) → IsShotEvent e → (host source : List ℕ) → event_source e ≡ Some (host, source) → ⊥
-no_source (event.Host name uuid) is host source reads = absurd cc
-no_source (event.Mkfs name fs unit log force) is host source reads = is
-no_source (event.Begin name what) is host source reads = is
-no_source (event.Run name what) is host source reads = absurd (no_name name (source_of what) is host source reads)
-no_source (event.Step name count) is host source reads = is
-no_source (event.Finish name) is host source reads = is
-no_source (event.Stop name) is host source reads = is
-no_source (event.Halt name) is host source reads = is
-no_source (event.Evict name line) is host source reads = is
-no_source (event.Leak name line mask) is host source reads = is
-no_source (event.Fetch name line mask) is host source reads = is
+-- a mkfs in which the media failed has one note
+pub breaks_goes : (e : Event) (lines : ℕ) (hosts : List HostForm) (notes : List Note) → EventBreaksForm e lines hosts notes → GoesOn notes
+breaks_goes (event.Host name uuid) lines hosts notes x = absurd x
+breaks_goes (event.Mkfs name fs unit log force) lines hosts notes x = alone (Refused name (why.MediaFault (record { 0 = x.1.0 }))) notes x.1.1
+breaks_goes (event.Begin name what) lines hosts notes x = absurd x
+breaks_goes (event.Run name what) lines hosts notes x = absurd x
+breaks_goes (event.Step name count) lines hosts notes x = absurd x
+breaks_goes (event.Finish name) lines hosts notes x = absurd x
+breaks_goes (event.Stop name) lines hosts notes x = absurd x
+breaks_goes (event.Halt name) lines hosts notes x = absurd x
+breaks_goes (event.Evict name line) lines hosts notes x = absurd x
+breaks_goes (event.Leak name line mask) lines hosts notes x = absurd x
+breaks_goes (event.Fetch name line mask) lines hosts notes x = absurd x

@@ -36,8 +36,11 @@ put_alone out text own given other (inr x) = record { outcome = inr (x.0, x.1.pa
 done_own : IsOwn status.Done
 done_own e = absurd cc
 
-media_own : IsOwn status.MediaFault
+pub media_own : IsOwn status.MediaFault
 media_own e = absurd cc
+
+pub source_own : IsOwn status.SourceFault
+source_own e = absurd cc
 
 pub memory_own : IsOwn status.OutOfMemory
 memory_own e = absurd cc
@@ -101,7 +104,7 @@ done_wants out events journal x = record {
     whole : take (length events) events ≡ events
     whole = take_all (length events) events (omega arith)
 
-broken_wants : (out : Outside) (events : List Event) (journal : List Note) → HasEnded MkfsFails out events journal → HasEnded EndsOutOfMemoryBroken out events journal
+pub broken_wants : (out : Outside) (events : List Event) (journal : List Note) → HasEnded MkfsFails out events journal → HasEnded EndsOutOfMemoryBroken out events journal
 broken_wants out events journal x = record {
   named = x.named;
   form = x.form;
@@ -110,6 +113,17 @@ broken_wants out events journal x = record {
   told = λ start told_is files files_are.
       let r = x.told start told_is files files_are in
       record { last = r.last; legal = r.legal; follows = r.follows; left = r.left; reads = tt };
+}
+
+pub source_wants : (end : SourceEnd) (out : Outside) (events : List Event) (journal : List Note) → HasEnded (SourceFails end) out events journal → HasEnded EndsOutOfMemory out events journal
+source_wants end out events journal x = record {
+  named = x.named;
+  form = inl record { count = x.form.count; follows = x.form.follows };
+  counted = x.counted;
+  caused = tt;
+  told = λ start told_is files files_are.
+      let r = x.told start told_is files files_are in
+      record { last = r.last; legal = r.legal; follows = inl record { count = r.follows.count; follows = r.follows.follows }; left = r.left; reads = r.reads };
 }
 
 -- A storm was run.

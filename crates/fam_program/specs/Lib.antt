@@ -5,3 +5,4 @@ pub mod Reading
 pub mod Scripts
 pub mod Files
 pub mod Quiet
+pub mod Shots

@@ -7,6 +7,7 @@ use Rattle.fam_journal.specs.declared.status.Status.TheVariants as status
 use Rattle.fam_journal.specs.Notes.{Note}
 use Rattle.fam_journal.specs.Programs.{memory_line, source_line}
 use Rattle.fam_journal.specs.Texts.{render_behind}
+use Rattle.fam_sources.specs.declared.sourced.SourceEnd.{SourceEnd}
 use Rattle.fam_sources.specs.Sourced.{end_of}
 use Rattle.fam_events.specs.declared.fault.EventFault.{EventFault}
 use Rattle.fam_events.specs.declared.fault.EventFault.TheVariants as fault
@@ -42,11 +43,14 @@ PutSome names notes s = (count : ℕ) × PutWhole (render_behind names (take cou
 abbrev pub PutShort : List (List ℕ) → List Note → SinkChange → Status → Type 0
 PutShort names notes s given = (count : ℕ) × Put status.OutOfMemory (render_behind names (take count notes) ++ memory_line) s given
 
+-- how the reading of a source ended early is said, or that no memory is left
+abbrev pub EndSays : SourceEnd → SinkChange → Status → Type 0
+EndSays end s given = Put status.SourceFault (source_line (end_of end)) s given ⊎ Put status.OutOfMemory memory_line s given
+
 -- What is put where an event ends the run: its notes, which stand behind hosts of these names. A mkfs in which the media failed says
 -- no more. Of an event that came to its source there are none, and how that ended is said. Where no memory was left for the event or
 -- for what is put of it, that is said behind as many of its notes as could be put.
 abbrev pub StopSays : EventFault → List (List ℕ) → List Note → SinkChange → Status → Type 0
 StopSays fault.MkfsFailed names notes s given = Put status.MediaFault (render_behind names notes) s given ⊎ PutShort names notes s given
-StopSays (fault.SourceEnded end) names notes s given =
-    Put status.SourceFault (source_line (end_of end)) s given ⊎ Put status.OutOfMemory memory_line s given
+StopSays (fault.SourceEnded end) names notes s given = EndSays end s given
 StopSays fault.OutOfMemory names notes s given = PutShort names notes s given

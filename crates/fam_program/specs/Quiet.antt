@@ -1,10 +1,9 @@
 -- Events that are run with nothing put of them: how they ended, whatever is put then.
-use Rattle.std.specs.Prelude.{ℕ, ⊤, ◌≡◌, false, List, [], ◌∷◌, take, None, Result, Ok, Err}
+use Rattle.std.specs.Prelude.{ℕ, ⊤, ◌≡◌, false, List, [], ◌∷◌, take, Result, Ok, Err}
 use Rattle.std.specs.List.{list_any}
 use Rattle.fam_journal.specs.declared.event.Event.{Event}
 use Rattle.fam_journal.specs.declared.event.Event.TheVariants as event
 use Rattle.fam_journal.specs.Ends.{AllDone}
-use Rattle.fam_journal.specs.Events.{source_of}
 use Rattle.fam_journal.specs.Notes.{Note}
 use Rattle.fam_journal.specs.Programs.{without_last}
 use Rattle.fam_journal.specs.Runs.{Outside}
@@ -17,13 +16,13 @@ abbrev pub EventsEnded : Result (Unit {0}) EventFault → Outside → List Event
 EventsEnded (Ok x) out events journal = HasEnded AllDone out events journal
 EventsEnded (Err fault) out events journal = HasEnded (ending_of fault) out events journal
 
--- Events of which the last note may stop the run: a host is declared, or a command without a source is run.
+-- Events of which the last note may stop the run: a host is declared, makes a file system, or runs a command.
 
 abbrev pub IsShotEvent : Event → Type 0
 IsShotEvent (event.Host name uuid) = ⊤
-IsShotEvent (event.Mkfs name fs unit log force) = ⊥
+IsShotEvent (event.Mkfs name fs unit log force) = ⊤
 IsShotEvent (event.Begin name what) = ⊥
-IsShotEvent (event.Run name what) = source_of what ≡ None
+IsShotEvent (event.Run name what) = ⊤
 IsShotEvent (event.Step name count) = ⊥
 IsShotEvent (event.Finish name) = ⊥
 IsShotEvent (event.Stop name) = ⊥

@@ -1,8 +1,8 @@
 //! Runs of events, with what is put of them.
 //!
 //! `specs/Far.antt` says how far a run has come, `specs/Runs.antt` how it has ended, `specs/Scripts.antt` what a script
-//! puts of it, and `specs/Files.antt` what a file's script is; the definitions are those of fam_journal, as is
-//! `TopEnds`, which says it of a storm and of directories along a path.
+//! puts of it, `specs/Files.antt` what a file's script is, and `specs/Shots.antt` what a command of its own puts; the
+//! definitions are those of fam_journal, as is `TopEnds`, which says it of each of the program's commands.
 #![tactic(auto)]
 
 mod fault;
@@ -15,6 +15,7 @@ mod quiet;
 mod read;
 mod script;
 mod script_file;
+mod shots;
 #[cfg(test)]
 mod storm_tests;
 mod storms;
@@ -22,8 +23,9 @@ mod storms;
 mod tests;
 
 pub use fault::{PutFault, ScriptFault};
-pub use parents::make_parents;
+pub use puts::{put_memory, put_usage};
 pub use read::read_script;
 pub use script::run_script;
 pub use script_file::{SCRIPT_LIMIT, run_script_file};
+pub use shots::{make_file_system, make_parents, run_command};
 pub use storms::run_storm;

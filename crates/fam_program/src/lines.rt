@@ -9,6 +9,10 @@ use fam_base::{OutOfMemory, escape};
 use fam_sources::SourceEnd;
 use std::alloc::{AllocError, Global};
 
+/// What is printed where the words are no command.
+pub(crate) const USAGE: &str =
+    "usage: famfs mkfs|logplay|mkdir|creat|cp|verify|read|check|fsck|script|storm WORDS\n";
+
 /// What is printed where no memory is left.
 pub(crate) const MEMORY: &str = "out of memory\n";
 

@@ -2,20 +2,21 @@
 
 ghost use Rattle.std.specs.Prelude.{◌≡◌, ◌≤◌, [], IsErrOf, OnOk, drop, length, take};
 ghost use Rattle.fam_journal.specs.Names.{IsNamed, NameDeclared};
-ghost use Rattle.fam_journal.specs.Programs.{memory_line};
+ghost use Rattle.fam_journal.specs.Programs.{memory_line, usage_line};
 ghost use Rattle.fam_journal.specs.declared.status.Status.TheVariants as status;
 ghost use Rattle.fam_journal.specs.Texts as text;
 ghost use Rattle.fam_world.specs.View.{note_view, notes_view};
-ghost use Rattle.fam_program.specs.Puts.{Put, PutPart, PutSome, PutWhole, StopSays, sink_changed};
+ghost use Rattle.fam_program.specs.Puts.{EndSays, Put, PutPart, PutSome, PutWhole, StopSays, sink_changed};
 
 use crate::fault::PutFault;
-use crate::lines::{MEMORY, end_line};
+use crate::lines::{MEMORY, USAGE, end_line};
 use fam_base::HostName;
 use fam_events::EventFault;
 use fam_journal::Status;
 use fam_media::Sink;
 use fam_notes::Note;
 use fam_outcomes::note_line;
+use fam_sources::SourceEnd;
 use fam_world::World;
 use std::alloc::Global;
 
@@ -30,12 +31,31 @@ pub(crate) fn put_line<K: Sink>(out: &mut K, own: Status, text: &[u8]) -> Status
     }
 }
 
-/// Puts that no memory is left.
-pub(crate) fn put_memory<K: Sink>(out: &mut K) -> Status
+/// Puts what the words of a call may be, and gives the status of words that are none.
+pub fn put_usage<K: Sink>(out: &mut K) -> Status
+    ensures put { Put status.Usage usage_line (sink_changed K.bytes K.faults out.old out.new) result }
+    ensures later { K.faults out.old ≤ K.faults out.new }
+{
+    put_line(out, Status::Usage, USAGE.as_bytes())
+}
+
+/// Puts that no memory is left, and gives the status.
+pub fn put_memory<K: Sink>(out: &mut K) -> Status
     ensures put { Put status.OutOfMemory memory_line (sink_changed K.bytes K.faults out.old out.new) result }
     ensures later { K.faults out.old ≤ K.faults out.new }
 {
     put_line(out, Status::OutOfMemory, MEMORY.as_bytes())
+}
+
+/// Puts how the reading of a source ended early, or that no memory is left to say so, and gives the status.
+pub(crate) fn put_source_end<K: Sink>(alloc: Global, end: SourceEnd, out: &mut K) -> Status
+    ensures says { EndSays end (sink_changed K.bytes K.faults out.old out.new) result }
+    ensures later { K.faults out.old ≤ K.faults out.new }
+{
+    match end_line(alloc, end) {
+        Ok(line) => put_line(out, Status::SourceFault, line.as_slice()),
+        Err(_) => put_memory(out),
+    }
 }
 
 /// Puts one note, with its further lines. `names` are those of the hosts that are declared before it; that of a host
@@ -182,10 +202,7 @@ pub(crate) fn put_stop<K: Sink>(
 {
     match fault {
         EventFault::MkfsFailed => put_broken(alloc, world, from, names, out),
-        EventFault::SourceEnded(end) => match end_line(alloc, end) {
-            Ok(line) => put_line(out, Status::SourceFault, line.as_slice()),
-            Err(_) => put_memory(out),
-        },
+        EventFault::SourceEnded(end) => put_source_end(alloc, end, out),
         EventFault::OutOfMemory => put_cut(alloc, world, from, names, out),
     }
 }

@@ -15,8 +15,7 @@ ghost use Rattle.fam_sources.specs.Whole.{IsShelfSteady, changed};
 ghost use Rattle.fam_storm.specs.Events.{ReadNoSource};
 ghost use Rattle.fam_storm.specs.Storm.{storm as storm_text};
 
-use crate::lines::MEMORY;
-use crate::puts::put_line;
+use crate::puts::{put_line, put_memory};
 use crate::quiet::run_events;
 use crate::read::read_script;
 use fam_base::OutOfMemory;
@@ -87,7 +86,7 @@ fn put_summary<K: Sink>(
 {
     match summary(alloc, seed, size, events, world) {
         Ok(line) => put_line(out, own, line.as_slice()),
-        Err(_) => put_line(out, Status::OutOfMemory, MEMORY.as_bytes()),
+        Err(_) => put_memory(out),
     }
 }
 
@@ -115,13 +114,13 @@ pub fn run_storm<M: Media, S: Shelf, K: Sink>(
     ensures later { K.faults out.old ≤ K.faults out.new }
 {
     let Ok(script) = storm(alloc, seed, size) else {
-        return put_line(out, Status::OutOfMemory, MEMORY.as_bytes());
+        return put_memory(out);
     };
     if prints {
         return put_line(out, Status::Done, script.as_slice());
     }
     let Ok(events) = storm_events(alloc, seed, size, script.as_slice()) else {
-        return put_line(out, Status::OutOfMemory, MEMORY.as_bytes());
+        return put_memory(out);
     };
     let count = events.len() as u64;
     let mut world = World::new(alloc);
@@ -131,6 +130,6 @@ pub fn run_storm<M: Media, S: Shelf, K: Sink>(
             put_summary(alloc, seed, size, count, &world, Status::MediaFault, out)
         }
         Err(EventFault::SourceEnded(_)) => unreachable!(),
-        Err(EventFault::OutOfMemory) => put_line(out, Status::OutOfMemory, MEMORY.as_bytes()),
+        Err(EventFault::OutOfMemory) => put_memory(out),
     }
 }

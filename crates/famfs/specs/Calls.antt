@@ -1,41 +1,39 @@
 -- What comes of a call: the one clause of the top call.
-use Rattle.std.specs.Prelude.{ℕ, List, Option, Some, None}
+use Rattle.std.specs.Prelude.{ℕ, List, Option, Some, None, option_map}
 use Rattle.fam_grammar.specs.Scripts.{script_events}
 use Rattle.fam_journal.specs.declared.status.Status.{Status}
-use Rattle.fam_journal.specs.Programs.{Command, MakesParents, Script, Single, Storm, TopEnds}
+use Rattle.fam_journal.specs.Programs.{Command, Makes, MakesParents, OneShot, Runs, Script, Single, Storm, TopEnds}
 use Rattle.fam_journal.specs.Runs.{Outside}
 use Rattle.fam_storm.specs.Storm.{storm}
 use Rattle.fam_words.specs.declared.wanted.Order.{Order}
 use Rattle.fam_words.specs.declared.wanted.Order.TheVariants as order
 use Rattle.fam_words.specs.declared.wanted.Shot.{Shot}
 use Rattle.fam_words.specs.declared.wanted.Shot.TheVariants as shot
-use Rattle.famfs.specs.Ends.{AskShows, CommandShows, PutsShown, UsageShows, media_of, shelf_of}
-use Rattle.famfs.specs.Expected.{Mkfs}
+use Rattle.famfs.specs.Fresh.{version4_of}
 
--- the UUID of the host
+-- the UUID of the host: that of the words, or this host's
 abbrev pub host_or : List ℕ → Option (List ℕ) → List ℕ
 host_or me None = me
 host_or me (Some system) = system
 
--- a command that runs on hosts with caches and keeps a journal: its text is that of one journal, and the image that is left is
--- where that journal leads
-abbrev pub KeepsJournal : Command → Outside → Status → Type 0
-KeepsJournal command out status = TopEnds script_events storm (Some command) out status
+-- the UUID of a new file system: that of the words, or one of the random bytes
+abbrev pub fs_or : List ℕ → Option (List ℕ) → List ℕ
+fs_or random None = version4_of random
+fs_or random (Some fs) = fs
 
--- a command of its own, for a host of this UUID, and with these random bytes
-abbrev pub ShotEnds : Shot → List ℕ → List ℕ → Outside → Status → Type 0
-ShotEnds (shot.Run ask) me random out status = PutsShown (AskShows (media_of out) (shelf_of out) me random ask) out status
-ShotEnds (shot.Mkfs fs unit log force) me random out status =
-    PutsShown (CommandShows (media_of out) (record { command = Mkfs fs unit log force; me = me; random = random })) out status
-ShotEnds (shot.Parents path attr) me random out status = KeepsJournal (Single me (MakesParents path attr)) out status
+-- a command of its own, as the journal's definitions speak of it
+abbrev pub shot_of : List ℕ → Shot → OneShot
+shot_of random (shot.Mkfs fs unit log force) = Makes (fs_or random fs) unit log force
+shot_of random (shot.Run what) = Runs what
+shot_of random (shot.Parents path attr) = MakesParents path attr
 
-abbrev pub OrderEnds : Order → List ℕ → List ℕ → Outside → Status → Type 0
-OrderEnds (order.Single system what) me random out status = ShotEnds what (host_or me system) random out status
-OrderEnds (order.Script file) me random out status = KeepsJournal (Script file) out status
-OrderEnds (order.Storm seed size prints) me random out status = KeepsJournal (Storm seed size prints) out status
+abbrev pub command_of : List ℕ → List ℕ → Order → Command
+command_of me random (order.Single system what) = Single (host_or me system) (shot_of random what)
+command_of me random (order.Script file) = Script file
+command_of me random (order.Storm seed size prints) = Storm seed size prints
 
 -- what the words ask for is done, for a host of the UUID `me` where they name no other, and with these random bytes; or they are no
--- command
+-- command. Each command runs on hosts with caches and keeps a journal: the text is that of one journal, and the image that is
+-- left is where that journal leads
 abbrev pub CallEnds : Option Order → List ℕ → List ℕ → Outside → Status → Type 0
-CallEnds None me random out status = PutsShown (UsageShows (media_of out)) out status
-CallEnds (Some what) me random out status = OrderEnds what me random out status
+CallEnds asked me random out status = TopEnds script_events storm (option_map (command_of me random) asked) out status

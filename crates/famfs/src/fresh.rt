@@ -1,6 +1,7 @@
 //! A UUID from random bytes. `specs/Fresh.antt` has its form.
 
 ghost use Rattle.std.specs.Prelude.{◌≡◌};
+ghost use Rattle.famfs.specs.Calls as calls;
 ghost use Rattle.famfs.specs.Fresh.{version4_of};
 
 use uuid::Uuid;
@@ -13,4 +14,14 @@ pub(crate) fn version4(fresh: [u8; 16]) -> Uuid
     bytes[6] = 0x40 + bytes[6] % 16;
     bytes[8] = 0x80 + bytes[8] % 64;
     Uuid::from_bytes(bytes)
+}
+
+/// The UUID that is asked for, or one of the random bytes.
+pub(crate) fn fs_or(random: [u8; 16], fs: Option<Uuid>) -> Uuid
+    ensures { result ≡ calls.fs_or random fs }
+{
+    match fs {
+        Some(fs) => fs,
+        None => version4(random),
+    }
 }

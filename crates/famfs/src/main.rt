@@ -5,10 +5,7 @@
 mod file_media;
 mod file_shelf;
 mod fresh;
-mod said;
-mod single;
 mod std_sink;
-mod texts;
 mod top;
 mod words;
 

@@ -1,26 +1,38 @@
-//! What a command on its own shows: each text, and its status.
+//! Answers and refusals: each text, and the status of a command that ends with it.
 
-use super::images::{FS, MASTER, OTHER, directory, params};
-use crate::said::{CommandResult, said_lines, said_status};
-use crate::texts::failure_room;
-use fam_base::{Kind, LineNo};
+ghost use Rattle.fam_journal.specs.Names.{NamesCause};
+
+use super::images::{FS, MASTER, OTHER, directory};
+use fam_base::{HostName, Kind, LineNo};
 use fam_format::{LogField, Reason, SuperField};
-use fam_journal::Status;
+use fam_journal::{HostId, Refusal, Status};
+use fam_notes::Note;
+use fam_outcomes::note_status;
+use fam_script::{answer_text, refusal_line};
 use fam_tasks::Answer;
 use fam_tree::Tree;
 use std::alloc::Global;
 use std::test::Fail;
 use uuid::Uuid;
 
-/// Whether this is shown with this status and text.
-fn says(alloc: Global, said: &CommandResult, status: Status, want: &str) -> Result<bool, Fail> {
-    let text = said_lines(alloc, failure_room(alloc)?, said)?;
-    Ok(said_status(said) == status && text.as_slice() == want.as_bytes())
+/// Whether an answer has this text and ends a command with this status.
+fn answers(alloc: Global, answer: Answer, status: Status, want: &str) -> Result<bool, Fail> {
+    let text = answer_text(alloc, &answer)?;
+    let note = Note::Answered {
+        host: HostId(0),
+        answer,
+    };
+    Ok(note_status(&note) == status && text.as_slice() == want.as_bytes())
 }
 
-/// The same of an answer.
-fn answers(alloc: Global, answer: Answer, status: Status, want: &str) -> Result<bool, Fail> {
-    says(alloc, &CommandResult::Answered(answer), status, want)
+/// The same of a refusal.
+fn refuses(alloc: Global, cause: Refusal, status: Status, want: &str) -> Result<bool, Fail>
+    requires { NamesCause 0 cause }
+{
+    let text = refusal_line(alloc, &cause, &[])?;
+    let name = HostName::read(b"m")?;
+    let note = Note::Refused { name, cause };
+    Ok(note_status(&note) == status && text.as_slice() == want.as_bytes())
 }
 
 #[test]
@@ -103,42 +115,28 @@ fn an_answer_without_an_outcome_is_modelled(rt: HostRuntime) -> Result<(), Fail>
 }
 
 #[test]
-fn what_mkfs_does_is_modelled(rt: HostRuntime) -> Result<(), Fail> {
+fn what_mkfs_is_refused_for_is_modelled(rt: HostRuntime) -> Result<(), Fail> {
     let alloc = rt.alloc();
     let refused = Status::Refused;
-    let want = "made 11111111-1111-4111-8111-111111111111 unit 4096 log 65536 device 4194304\n";
-    assert!(rt; says(alloc, &CommandResult::Made(params()), Status::Done, want)?);
-    let has_super = CommandResult::HasSuper(Uuid::from_bytes(FS));
+    let has_super = Refusal::HasSuper(Uuid::from_bytes(FS));
     let want = "refused has superblock 11111111-1111-4111-8111-111111111111\n";
-    assert!(rt; says(alloc, &has_super, refused, want)?);
-    let geometry = CommandResult::BadGeometry {
+    assert!(rt; refuses(alloc, has_super, refused, want)?);
+    let geometry = Refusal::BadGeometry {
         unit: 4096,
         log: 4097,
     };
-    assert!(rt;
-        says(
-            alloc,
-            &geometry,
-            refused,
-            "refused bad geometry 4096 4097\n"
-        )?
-    );
-    let small = CommandResult::TooSmall {
+    let want = "refused bad geometry 4096 4097\n";
+    assert!(rt; refuses(alloc, geometry, refused, want)?);
+    let small = Refusal::TooSmall {
         need: 2_166_784,
         have: 2_097_280,
     };
-    assert!(rt;
-        says(
-            alloc,
-            &small,
-            refused,
-            "refused too small 2166784 2097280\n"
-        )?
-    );
-    let small = CommandResult::Small(32_769);
+    let want = "refused too small 2166784 2097280\n";
+    assert!(rt; refuses(alloc, small, refused, want)?);
+    let small = Refusal::ImageSmall(32_769);
     let want = "refused image too small 32769\n";
-    assert!(rt; says(alloc, &small, Status::Damaged, want)?);
-    let fault = CommandResult::Failed(LineNo(2));
-    assert!(rt; says(alloc, &fault, Status::MediaFault, "refused media fault 2\n")?);
+    assert!(rt; refuses(alloc, small, Status::Damaged, want)?);
+    let fault = Refusal::MediaFault(LineNo(2));
+    assert!(rt; refuses(alloc, fault, Status::MediaFault, "refused media fault 2\n")?);
     Ok(())
 }

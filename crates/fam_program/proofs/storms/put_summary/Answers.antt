@@ -1,12 +1,7 @@
-use Rattle.std.proofs.Common.{ℕ, List, inl, inr, subst, ◌∙◌}
-use Rattle.fam_journal.specs.declared.status.Status.TheVariants as status
+use Rattle.std.proofs.Common.{ℕ, List, inl, subst, ◌∙◌}
 use Rattle.fam_program.specs.Puts.{Put, sink_changed}
 use Rattle.fam_program.proofs.storms.put_summary.Goals as goal
 
 pub returns-in-Ok-clause-put : goal.returns-in-Ok-clause-put
 returns-in-Ok-clause-put g c = λ all is.
     inl (subst (λ (t : List ℕ). Put c.args.own t (sink_changed g.K.Sink.bytes g.K.Sink.faults c.args.out.now c.put_line.new.out) c.put_line.result) (c.as_slice.ensures.value ∙ c.in-Ok.ensures all is) c.put_line.ensures.put)
-
-pub returns-in-Err-clause-put : goal.returns-in-Err-clause-put
-returns-in-Err-clause-put g c = λ all is.
-    inr (subst (λ (t : List ℕ). Put status.OutOfMemory t (sink_changed g.K.Sink.bytes g.K.Sink.faults c.args.out.now c.put_line-in-Err.new.out) c.put_line-in-Err.result) c.as_bytes.ensures.value c.put_line-in-Err.ensures.put)

@@ -15,24 +15,24 @@ use Rattle.fam_program.proofs.storms.run_storm.Goals as goal
 
 pub returns-in_default-clause-ends : goal.returns-in_default-clause-ends
 returns-in_default-clause-ends g c =
-    let sink : SinkChange = sink_changed g.K.Sink.bytes g.K.Sink.faults c.args.out.now c.put_line.new.out in
+    let sink : SinkChange = sink_changed g.K.Sink.bytes g.K.Sink.faults c.args.out.now c.put_memory.new.out in
     let out : Outside = outside_of g.M.Media.size g.M.Media.image g.M.Media.faults c.args.media.now c.args.media.now (changed g.S.Shelf.files g.S.Shelf.faults g.S.Shelf.shorts c.args.shelf.now c.args.shelf.now) sink in
-    let later : NoneFalls out = record { media = omega arith; shelf = omega arith; shorts = omega arith; sink = c.put_line.ensures.later } in
-    early_wants (Some (Storm c.args.seed c.args.size c.args.prints)) out c.put_line.result refl later (subst (λ (t : List ℕ). Put status.OutOfMemory t sink c.put_line.result) c.as_bytes.ensures.value c.put_line.ensures.put)
+    let later : NoneFalls out = record { media = omega arith; shelf = omega arith; shorts = omega arith; sink = c.put_memory.ensures.later } in
+    early_wants (Some (Storm c.args.seed c.args.size c.args.prints)) out c.put_memory.result refl later c.put_memory.ensures.put
 
 pub returns-then-prints-clause-ends : goal.returns-then-prints-clause-ends
 returns-then-prints-clause-ends g c =
-    let sink : SinkChange = sink_changed g.K.Sink.bytes g.K.Sink.faults c.args.out.now c.put_line-then-prints.new.out in
+    let sink : SinkChange = sink_changed g.K.Sink.bytes g.K.Sink.faults c.args.out.now c.put_line.new.out in
     let out : Outside = outside_of g.M.Media.size g.M.Media.image g.M.Media.faults c.args.media.now c.args.media.now (changed g.S.Shelf.files g.S.Shelf.faults g.S.Shelf.shorts c.args.shelf.now c.args.shelf.now) sink in
-    let later : NoneFalls out = record { media = omega arith; shelf = omega arith; shorts = omega arith; sink = c.put_line-then-prints.ensures.later } in
-    prints_top c.args.seed c.args.size c.args.prints out c.put_line-then-prints.result c.if-prints.true refl later (subst (λ (t : List ℕ). Put status.Done t sink c.put_line-then-prints.result) (c.as_slice.ensures.value ∙ c.in-Ok.ensures) c.put_line-then-prints.ensures.put)
+    let later : NoneFalls out = record { media = omega arith; shelf = omega arith; shorts = omega arith; sink = c.put_line.ensures.later } in
+    prints_top c.args.seed c.args.size c.args.prints out c.put_line.result c.if-prints.true refl later (subst (λ (t : List ℕ). Put status.Done t sink c.put_line.result) (c.as_slice.ensures.value ∙ c.in-Ok.ensures) c.put_line.ensures.put)
 
 pub returns-in_default-storm_events-clause-ends : goal.returns-in_default-storm_events-clause-ends
 returns-in_default-storm_events-clause-ends g c =
-    let sink : SinkChange = sink_changed g.K.Sink.bytes g.K.Sink.faults c.args.out.now c.put_line-in_default-storm_events.new.out in
+    let sink : SinkChange = sink_changed g.K.Sink.bytes g.K.Sink.faults c.args.out.now c.put_memory-in_default-storm_events.new.out in
     let out : Outside = outside_of g.M.Media.size g.M.Media.image g.M.Media.faults c.args.media.now c.args.media.now (changed g.S.Shelf.files g.S.Shelf.faults g.S.Shelf.shorts c.args.shelf.now c.args.shelf.now) sink in
-    let later : NoneFalls out = record { media = omega arith; shelf = omega arith; shorts = omega arith; sink = c.put_line-in_default-storm_events.ensures.later } in
-    early_wants (Some (Storm c.args.seed c.args.size c.args.prints)) out c.put_line-in_default-storm_events.result refl later (subst (λ (t : List ℕ). Put status.OutOfMemory t sink c.put_line-in_default-storm_events.result) c.as_bytes-in_default-storm_events.ensures.value c.put_line-in_default-storm_events.ensures.put)
+    let later : NoneFalls out = record { media = omega arith; shelf = omega arith; shorts = omega arith; sink = c.put_memory-in_default-storm_events.ensures.later } in
+    early_wants (Some (Storm c.args.seed c.args.size c.args.prints)) out c.put_memory-in_default-storm_events.result refl later c.put_memory-in_default-storm_events.ensures.put
 
 pub put_summary-requires : goal.put_summary-requires
 put_summary-requires g c = record { named = (c.in-Ok-run_events.ensures.ended (sink_changed g.K.Sink.bytes g.K.Sink.faults c.args.out.now c.args.out.now)).named }
@@ -73,10 +73,10 @@ unreachable-requires g c =
 
 pub returns-clause-ends : goal.returns-clause-ends
 returns-clause-ends g c =
-    let sink : SinkChange = sink_changed g.K.Sink.bytes g.K.Sink.faults c.args.out.now c.put_line-in-Err-OutOfMemory.new.out in
+    let sink : SinkChange = sink_changed g.K.Sink.bytes g.K.Sink.faults c.args.out.now c.put_memory-in-Err-OutOfMemory.new.out in
     let out : Outside = outside_of g.M.Media.size g.M.Media.image g.M.Media.faults c.args.media.now c.run_events.new.media (changed g.S.Shelf.files g.S.Shelf.faults g.S.Shelf.shorts c.args.shelf.now c.run_events.new.shelf) sink in
-    let later : NoneFalls out = record { media = c.run_events.ensures.steady.later; shelf = c.run_events.ensures.shelf.faults_later; shorts = c.run_events.ensures.shelf.shorts_later; sink = c.put_line-in-Err-OutOfMemory.ensures.later } in
+    let later : NoneFalls out = record { media = c.run_events.ensures.steady.later; shelf = c.run_events.ensures.shelf.faults_later; shorts = c.run_events.ensures.shelf.shorts_later; sink = c.put_memory-in-Err-OutOfMemory.ensures.later } in
     let events : List Event = c.in-Ok-storm_events.events.items in
     let journal : List Note = c.run_events.new.world.journal in
     let ended = subst (λ (x : EventFault). HasEnded (ending_of x) out events journal) c.in-Err-OutOfMemory.field-0-is (c.in-Err-OutOfMemory.ensures.ended sink) in
-    not_printed c.args.seed c.args.size c.args.prints out c.put_line-in-Err-OutOfMemory.result c.if-prints.false (storm_wants c.args.seed c.args.size events c.in-Ok-storm_events.ensures.read out c.put_line-in-Err-OutOfMemory.result later journal ended (subst (λ (t : List ℕ). Put status.OutOfMemory t sink c.put_line-in-Err-OutOfMemory.result) c.as_bytes-in-Err-OutOfMemory.ensures.value c.put_line-in-Err-OutOfMemory.ensures.put))
+    not_printed c.args.seed c.args.size c.args.prints out c.put_memory-in-Err-OutOfMemory.result c.if-prints.false (storm_wants c.args.seed c.args.size events c.in-Ok-storm_events.ensures.read out c.put_memory-in-Err-OutOfMemory.result later journal ended c.put_memory-in-Err-OutOfMemory.ensures.put)
