@@ -141,8 +141,8 @@ module _ (line : LineNo) (words : List ℕ) (t next : Task) (ending : Option Ver
   last_word_is : word_of (op_of compares.due) full ≡ Some (slice_index (eight words) 7)
   last_word_is = ap (λ (o : Op). word_of o full) compares.last ∙ ap (λ (c : Cell). Some (slice_index (words_of c) 7)) full_cell
 
-  after_last : (image : Image) → operated (op_of compares.due) (machine image full) ≡ machine image full
-  after_last image = ap (λ (o : Op). operated o (machine image full)) compares.last ∙ machine_after (Load line 7) image full there
+  after_last : (image : Image) → modelled ≡ Some image → operated (op_of compares.due) (machine image full) ≡ machine image full
+  after_last image modelled_is = ap (λ (o : Op). operated o (machine image full)) compares.last ∙ machine_after (Load line 7) image full (subst IsNormal modelled_is normal) there
 
   pub line_matched : (size before now : ℕ) (new : Cache) (shown : Option Image) → shown ≡ modelled → new ≡ full → HasDone (record { task = t; next = next; old = old; new = new; modelled = modelled; left = shown; size = size; before = before; now = now }) (turn_by ending)
   line_matched size before now new shown same copy = record {
@@ -157,8 +157,8 @@ module _ (line : LineNo) (words : List ℕ) (t next : Task) (ending : Option Ver
         (subst (λ (w : Option ℕ). Tells (turn_of compares.due w) (turn_by ending) next) (sym last_word_is) compares.tells);
     turned = λ image is. record {
       is = record {
-        image = same ∙ is ∙ sym (ap (λ m. Some m.image) (after_last image));
-        cache = copy ∙ sym (ap (λ m. m.cache) (after_last image));
+        image = same ∙ is ∙ sym (ap (λ m. Some m.image) (after_last image is));
+        cache = copy ∙ sym (ap (λ m. m.cache) (after_last image is));
       };
       tells = subst (λ (w : Option ℕ). Tells (turn_of compares.due w) (turn_by ending) next) (sym (given_held (op_of compares.due) image full of_held ∙ last_word_is)) compares.tells;
     };
