@@ -199,6 +199,7 @@ pub(crate) fn set_copy(places: &mut Vec<(u64, Cell)>, at: usize, line: u64, copy
 }
 
 /// Puts a copy of a line in at its spot, and returns its place.
+#[inline(always)]
 pub(crate) fn put_copy(places: &mut Vec<(u64, Cell)>, spot: Spot, line: u64, copy: Cell) -> usize
     requires sorted { IsTrue (is_sorted nat_cmp places.old.items) }
     requires spot { IsSpot places.old.items spot line }

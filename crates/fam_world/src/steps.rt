@@ -319,6 +319,7 @@ fn look_host<M: Media>(
 }
 
 /// As `look_host`, and tries first whether the operation is one behind which the task just goes on, as nearly all are.
+#[inline(always)]
 pub(crate) fn step_host<M: Media>(
     host: &mut Host,
     journal: &mut Vec<Note>,
