@@ -34,7 +34,6 @@ fn map_of(word: u64, chunk: u64) -> MapKind
     }
 }
 
-#[inline(always)]
 fn extents_of(words: &[u64; SLOT_WORDS], count: usize) -> Extents
     requires { count ≤ EXTENT_LIMIT }
     ensures { result ≡ slots.extents_of words.now count }
@@ -96,7 +95,6 @@ pub(crate) fn check_path(
 }
 
 /// The entry that the fields tell, whose path lies in a field.
-#[inline(always)]
 #[tactic(auto, unfolding(fam_format::specs::Slot::fields_of))]
 pub(crate) fn fields_of(words: &[u64; SLOT_WORDS], field: &[u8; PATH_LIMIT]) -> Entry
     requires path { HasPath words.now field.now }

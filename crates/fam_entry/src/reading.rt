@@ -169,7 +169,6 @@ fn check_rest(words: &[u64; SLOT_WORDS]) -> Result<(), Reason>
     Ok(())
 }
 
-#[inline(always)]
 #[tactic(auto, unfolding(fam_format::specs::Slot::entry_of))]
 fn reading(words: &[u64; SLOT_WORDS], seq: u64, params: &Params) -> Result<Entry, Reason>
     requires { SoundParams params.now }
