@@ -4,3 +4,4 @@ pub mod Ranges
 pub mod Found
 pub mod Strays
 pub mod PathField
+pub mod BareMap

@@ -1,5 +1,5 @@
 -- Tests that a reader makes.
-use Rattle.std.specs.Prelude.{ℕ, ◌≡◌, Option, Some, None, Result, Ok, Err, List, slice_index, take}
+use Rattle.std.specs.Prelude.{ℕ, ◌≡◌, ◌^◌, ◌<◌, ◌≤◌, Option, Some, None, Result, Ok, Err, List, slice_index, take}
 use Rattle.fam_base.specs.Paths.{IsPathField}
 use Rattle.fam_format.specs.Slot.{path_of}
 
@@ -12,3 +12,11 @@ NamesFault (Err reason) fault = fault ≡ Some reason
 pub record HasPath (words bytes : List ℕ) : Type 0 where
   pub field : IsPathField bytes (slice_index words 6)
   pub path : take (slice_index words 6) bytes ≡ path_of words
+
+-- and the other words are within the ranges of their fields
+pub record HasFields (words bytes : List ℕ) : Type 0 where
+  pub path : HasPath words bytes
+  pub mode : slice_index words 3 < 2 ^ 32
+  pub uid : slice_index words 4 < 2 ^ 32
+  pub gid : slice_index words 5 < 2 ^ 32
+  pub few : slice_index words 9 ≤ 16

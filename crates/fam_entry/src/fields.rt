@@ -4,7 +4,7 @@ ghost use Rattle.std.specs.Prelude.{◌≡◌, ◌*◌, ◌<◌, ◌≤◌, ◌^
 ghost use Rattle.fam_format.specs.Layout.{first_format};
 ghost use Rattle.fam_format.specs.Words.{byte_from};
 ghost use Rattle.fam_format.specs.Slot as slots;
-ghost use Rattle.fam_entry.specs.Tests.{HasPath, NamesFault};
+ghost use Rattle.fam_entry.specs.Tests.{HasFields, HasPath, NamesFault};
 
 use crate::places::{
     CHUNK_WORD, COUNT_WORD, EMPTY_MAP, EXTENT_LIMIT, EXTENTS_WORD, FILE_KIND, GID_WORD, KIND_WORD,
@@ -97,11 +97,7 @@ pub(crate) fn check_path(
 /// The entry that the fields tell, whose path lies in a field.
 #[tactic(auto, unfolding(fam_format::specs::Slot::fields_of))]
 pub(crate) fn fields_of(words: &[u64; SLOT_WORDS], field: &[u8; PATH_LIMIT]) -> Entry
-    requires path { HasPath words.now field.now }
-    requires few { slice_index words.now COUNT_WORD ≤ EXTENT_LIMIT }
-    requires mode { slice_index words.now MODE_WORD < 2 ^ 32 }
-    requires uid { slice_index words.now UID_WORD < 2 ^ 32 }
-    requires gid { slice_index words.now GID_WORD < 2 ^ 32 }
+    requires { HasFields words.now field.now }
     ensures { result ≡ slots.fields_of words.now }
 {
     Entry {

@@ -1,6 +1,6 @@
 //! Reading of a slot: a test for each reason, in the order of the reasons. The first that fails decides.
 
-ghost use Rattle.std.specs.Prelude.{◌≡◌, ◌<◌, ◌≤◌, ◌^◌, ℕ, IfOk, OnOk, Ok, length, slice_index};
+ghost use Rattle.std.specs.Prelude.{◌≡◌, ◌<◌, ◌≤◌, ◌^◌, ℕ, MatchResult, IfOk, OnOk, Ok, Err, length, slice_index};
 ghost use Rattle.std.specs.Bool.{OnTrue};
 ghost use Rattle.std.specs.List.{list_any, range_with_len};
 ghost use Rattle.fam_format.specs.Layout.{first_format};
@@ -8,14 +8,14 @@ ghost use Rattle.fam_format.specs.Params.{SoundParams};
 ghost use Rattle.fam_format.specs.Slot as slots;
 ghost use Rattle.fam_format.specs.SuperLaws.{IsWords};
 ghost use Rattle.fam_base.specs.declared.entry.Entry.{Entry};
-ghost use Rattle.fam_entry.specs.Tests.{NamesFault};
+ghost use Rattle.fam_entry.specs.Tests.{HasFields, NamesFault};
 
 use crate::fields::{check_path, fields_of};
 use crate::map_rule::is_map;
 use crate::places::{
-    CHUNK_WORD, COUNT_WORD, CRC_WORD, DIRECTORY_KIND, EXTENT_LIMIT, EXTENTS_WORD, FILE_KIND,
-    GID_WORD, ID_LIMIT, KIND_WORD, MAP_WORD, MODE_LIMIT, MODE_WORD, PATH_LENGTH_WORD, PATH_LIMIT,
-    PATH_WORD, SEQ_WORD, SLOT_WORDS, STRIPED_MAP, UID_WORD,
+    CHUNK_WORD, COUNT_WORD, CRC_WORD, DIRECTORY_KIND, EMPTY_MAP, EXTENT_LIMIT, EXTENTS_WORD,
+    FILE_KIND, GID_WORD, ID_LIMIT, KIND_WORD, MAP_WORD, MODE_LIMIT, MODE_WORD, PATH_LENGTH_WORD,
+    PATH_LIMIT, PATH_WORD, SEQ_WORD, SIZE_WORD, SLOT_WORDS, STRIPED_MAP, UID_WORD,
 };
 use crate::slot::checksum;
 use fam_base::{Entry, Params};
@@ -169,27 +169,46 @@ fn check_rest(words: &[u64; SLOT_WORDS]) -> Result<(), Reason>
     Ok(())
 }
 
+/// Whether the map fits, where its words can be one's. Most entries have none, and that is seen in the words.
+fn fits_map(words: &[u64; SLOT_WORDS], field: &[u8; PATH_LIMIT], params: &Params) -> bool
+    requires sound { SoundParams params.now }
+    requires fields { HasFields words.now field.now }
+    ensures { result ≡ slots.is_map params.now (slots.fields_of words.now) }
+{
+    if words[MAP_WORD] == EMPTY_MAP {
+        return words[SIZE_WORD] == 0 && words[COUNT_WORD] == 0;
+    }
+    is_map(params, &fields_of(words, field))
+}
+
+/// Whether the words have an entry with this number, whose path is put into a field of zeros.
 #[tactic(auto, unfolding(fam_format::specs::Slot::entry_of))]
-fn reading(words: &[u64; SLOT_WORDS], seq: u64, params: &Params) -> Result<Entry, Reason>
-    requires { SoundParams params.now }
-    ensures value { result ≡ slots.entry_of params.now words.now seq }
+fn check(
+    words: &[u64; SLOT_WORDS],
+    seq: u64,
+    params: &Params,
+    field: &mut [u8; PATH_LIMIT],
+) -> Result<(), Reason>
+    requires sound { SoundParams params.now }
+    requires empty { (k : ℕ) → slice_index field.old k ≡ 0 }
+    ensures value { MatchResult result
+        (λ _. slots.entry_of params.now words.now seq ≡ Ok (slots.fields_of words.now))
+        (λ reason. slots.entry_of params.now words.now seq ≡ Err reason) }
+    ensures fields { OnOk result (HasFields words.now field.new) }
     ensures words { IsWords SLOT_WORDS words.now }
 {
     check_crc(words)?;
     check_seq(words, seq)?;
     check_kind(words)?;
     check_attributes(words)?;
-    let mut field = [0; PATH_LIMIT];
-    check_path(words, &mut field)?;
+    check_path(words, field)?;
     if !are_map_words(words) {
         return Err(Reason::Map);
     }
-    let entry = fields_of(words, &field);
-    if !is_map(params, &entry) {
+    if !fits_map(words, field, params) {
         return Err(Reason::Map);
     }
-    check_rest(words)?;
-    Ok(entry)
+    check_rest(words)
 }
 
 /// The entry of which the words of slot `seq` are the spelling, where these parameters allow it; if they are no such
@@ -204,5 +223,9 @@ pub fn read_entry(words: &[u64; SLOT_WORDS], seq: u64, params: &Params) -> Resul
     ensures only { (e : Entry) → slots.Proper params.now e
         → words.now ≡ slots.spelling first_format e seq → result ≡ Ok e }
 {
-    reading(words, seq, params)
+    let mut field = [0; PATH_LIMIT];
+    match check(words, seq, params, &mut field) {
+        Ok(()) => Ok(fields_of(words, &field)),
+        Err(reason) => Err(reason),
+    }
 }
