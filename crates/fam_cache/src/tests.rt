@@ -44,6 +44,22 @@ fn done<M: Media>(cache: &mut HostCache, media: &mut M, line: u64, step: Step) -
     }
 }
 
+/// Puts a line, and tells whether that was done. None: the call failed.
+fn put<M: Media>(cache: &mut HostCache, media: &mut M, line: u64, words: &Line) -> Option<bool> {
+    if line >= media.lines() {
+        return None;
+    }
+    cache.put_line(media, LineNo(line), words).ok()
+}
+
+/// The words of a line that is brought, if it is. None too: the call failed.
+fn brought<M: Media>(cache: &mut HostCache, media: &mut M, line: u64) -> Option<Line> {
+    if line >= media.lines() {
+        return None;
+    }
+    cache.bring_line(media, LineNo(line)).ok()?
+}
+
 /// A line of memory as it stands.
 fn memory(media: &MemMedia, line: u64) -> Option<Line> {
     if line < media.lines() {
@@ -61,6 +77,29 @@ fn first_failure(cache: &mut HostCache, media: &mut MemMedia, steps: &[Step]) ->
         }
     }
     steps.len()
+}
+
+#[test]
+fn a_line_is_put_and_brought_by_one_call_of_the_media_each(rt: HostRuntime) -> Result<(), Fail> {
+    let words = [1, 2, 3, 4, 5, 6, 7, 8];
+    let mut media = MemMedia::new(rt.alloc(), 4)?;
+    let mut cache = HostCache::new(rt.alloc());
+    media.fail(2, Mask(0))?;
+    assert_eq!(rt; put(&mut cache, &mut media, 1, &words), Some(true));
+    assert_eq!(rt; brought(&mut cache, &mut media, 1), Some(words));
+    assert_eq!(rt;
+        put(&mut cache, &mut media, 1, &[0; 8]),
+        Some(false),
+        "it is held"
+    );
+    assert_eq!(rt; memory(&media, 1), Some(words));
+    assert_eq!(rt;
+        put(&mut cache, &mut media, 2, &words),
+        None,
+        "the third call fails"
+    );
+    assert_eq!(rt; cache.dirty_lines(), 1, "its copy is dirty");
+    Ok(())
 }
 
 #[test]
