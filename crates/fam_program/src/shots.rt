@@ -35,7 +35,12 @@ fn own_name() -> HostName {
 }
 
 /// A host is declared, and does one thing.
-fn two_events(alloc: Global, name: HostName, me: Uuid, does: Event) -> Result<Vec<Event>, OutOfMemory>
+fn two_events(
+    alloc: Global,
+    name: HostName,
+    me: Uuid,
+    does: Event,
+) -> Result<Vec<Event>, OutOfMemory>
     ensures { IfOk result (λ events. events.items ≡ event.Host name me ∷ does ∷ []) }
 {
     let mut events = Vec::new(alloc);

@@ -18,7 +18,9 @@ use crate::words::order;
 use fam_base::OutOfMemory;
 use fam_journal::Status;
 use fam_media::{Media, Shelf, Sink};
-use fam_program::{make_file_system, make_parents, put_memory, put_usage, run_command, run_script_file, run_storm};
+use fam_program::{
+    make_file_system, make_parents, put_memory, put_usage, run_command, run_script_file, run_storm,
+};
 use fam_words::{Order, Shot};
 use std::alloc::Global;
 use uuid::Uuid;
