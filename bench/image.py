@@ -1,0 +1,25 @@
+"""Writes an image whose log has a directory in each slot but the last one.
+
+  image.py LOG DEVICE FILE      LOG and DEVICE in bytes
+"""
+import struct, sys, zlib
+log, unit, device = int(sys.argv[1]), 4096, int(sys.argv[2])
+fs, master = bytes.fromhex("11111111111141118111111111111111"), bytes(15) + b"\1"
+def summed(words):
+    return words + [zlib.crc32(struct.pack("<%dQ" % len(words), *words))]
+def halves(uuid):
+    return list(struct.unpack("<2Q", uuid))
+image = bytearray(device)
+def put(line, words):
+    struct.pack_into("<%dQ" % len(words), image, 64 * line, *words)
+put(0, [int.from_bytes(b"famfs-01", "little")])
+put(1, summed([1, 2097152, log, unit, device] + halves(fs) + halves(master) + [0] * 6))
+slots = log // 512 - 1
+put(32768, summed([int.from_bytes(b"famfslog", "little"), log, slots] + halves(fs) + [0, 0]))
+put(32769, [slots - 1])
+for i in range(slots - 1):
+    path = b"directory-%05d" % (i * 7919 % slots)
+    words = [i, 2, 0, 0o755, 0, 0, len(path), 0, 0, 0] + [0] * 32
+    words += struct.unpack("<21Q", path + bytes(168 - len(path)))
+    put(32776 + 8 * i, summed(words))
+open(sys.argv[3], "wb").write(image)

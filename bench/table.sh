@@ -1,0 +1,66 @@
+#!/usr/bin/env bash
+# Prints a table of what large commands cost: instructions (by valgrind's callgrind), system calls (by strace, where it is
+# there) and peak memory. Instructions don't depend on what else the machine does. It takes some minutes.
+set -eu
+top=$(cd "$(dirname "${BASH_SOURCE[0]}")/.." && pwd)
+"$top/famfs" logplay "$top/crates/famfs/data/img" >/dev/null
+work=$(mktemp -d)
+trap 'rm -rf "$work"' EXIT
+cd "$work"
+python3 "$top/bench/image.py" 8388608 16777216 "$work/log"
+python3 - <<'PY'
+lines = ["host m 00000000-0000-0000-0000-000000000001", "mkfs m 11111111-1111-4111-8111-111111111111 unit=4K log=1M"]
+lines += ["run m mkdir directory-%05d" % i for i in range(2000)]
+open("mkdirs", "w").write("\n".join(lines) + "\n")
+PY
+python3 - "$top/crates/famfs/out/famfs" <<'PY'
+import os, re, resource, shutil, subprocess, sys
+famfs = sys.argv[1]
+
+def blank(size):
+    with open("image", "wb") as image:
+        image.truncate(size)
+
+def instructions(words):
+    run = subprocess.run(["valgrind", "--tool=callgrind", "--callgrind-out-file=/dev/null", famfs] + words, stdout=subprocess.DEVNULL, stderr=subprocess.PIPE, text=True)
+    return int(re.search(r"Collected : (\d+)", run.stderr)[1])
+
+def calls(words):
+    if not shutil.which("strace"):
+        return None
+    run = subprocess.run(["strace", "-f", "-c", "-o", "calls", famfs] + words, stdout=subprocess.DEVNULL)
+    return int(re.search(r"\s(\d+)\s+(?:\d+\s+)?total", open("calls").read())[1])
+
+def peak(words):
+    child = subprocess.Popen([famfs] + words, stdout=subprocess.DEVNULL)
+    return os.wait4(child.pid, 0)[2].ru_maxrss
+
+def row(what, make, words):
+    make()
+    count = instructions(words)
+    make()
+    told = calls(words)
+    make()
+    print("| %s | %.1f M | %s | %.1f MiB |" % (what, count / 1e6, "-" if told is None else format(told, ","), peak(words) / 1024))
+
+def log():
+    shutil.copyfile("log", "image")
+
+def file():
+    blank(128 << 20)
+    subprocess.run([famfs, "mkfs", "image", "-u", "2M", "-l", "2M"], stdout=subprocess.DEVNULL)
+
+def filled():
+    file()
+    subprocess.run([famfs, "creat", "image", "f", "-s", "64M", "-S", "1"], stdout=subprocess.DEVNULL)
+
+print("| Command | Instructions | System calls | Peak memory |")
+print("|---|---|---|---|")
+row("logplay of 16,382 directories", log, ["logplay", "image"])
+row("mkdir behind them", log, ["mkdir", "image", "last"])
+row("fsck of them", log, ["fsck", "image"])
+row("creat of 64 MiB of a seed's bytes", file, ["creat", "image", "f", "-s", "64M", "-S", "1"])
+row("verify of it", filled, ["verify", "image", "f", "-S", "1"])
+row("script of 2,000 mkdirs, log of 1 MiB", lambda: blank(16 << 20), ["script", "mkdirs", "image"])
+row("storm of 2,000 turns", lambda: blank(4 << 20), ["storm", "7", "2000", "image"])
+PY
