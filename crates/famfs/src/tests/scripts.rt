@@ -251,7 +251,7 @@ fn each_put_of_a_script_may_fail(rt: HostRuntime) -> Result<(), Fail> {
 /// The small script where a call of the media fails, with the masked words of a line that it was writing.
 fn failing(alloc: Global, number: u64, mask: Mask) -> Result<Status, Fail> {
     let mut media = formatted(alloc, 65_536, 0)?;
-    media.fail(number + 5, mask)?;
+    media.fail(number.saturating_add(5), mask)?;
     let mut out = MemSink::new(alloc, 65_536)?;
     run(alloc, &mut media, SMALL, &mut out)
 }
