@@ -1,4 +1,4 @@
 pub mod State
 pub mod Faults
 pub mod Wishes
-pub mod First
+pub mod Needs

@@ -1,16 +1,15 @@
 //! What is against the first entry of a log, and against the first wish for one. It is told without a map of units, so
 //! that it is known also where no memory is left to make one.
 
-ghost use Rattle.std.specs.Prelude.{◌≡◌, [], None, Some, Err, IfSome, IsSome};
-ghost use Rattle.std.specs.Prelude.{◌<◌, ◌≤◌, nat_lt};
+ghost use Rattle.std.specs.Prelude.{◌≡◌, [], Err, IfErr, IsSome, MatchResult, None, OnOk, Some, nat_lt};
 ghost use Rattle.fam_base.specs.Paths.{parent_of};
-ghost use Rattle.fam_format.specs.Layout.{device_units, head_units};
+ghost use Rattle.fam_format.specs.Layout.{head_units};
 ghost use Rattle.fam_format.specs.Params.{SoundParams};
 ghost use Rattle.fam_format.specs.Slot.{Proper};
-ghost use Rattle.fam_format.specs.Tree.{join_fault, replay, root_fault};
+ghost use Rattle.fam_format.specs.Tree.{join_fault, replay};
 ghost use Rattle.fam_format.specs.Units.{first_overlap, units_in};
 ghost use Rattle.fam_rules.specs.Decide.{decide, decide_wish, parent_refusal, wish_of};
-ghost use Rattle.fam_plan.specs.First.{NeedsUnits, NeedsRoom};
+ghost use Rattle.fam_plan.specs.Needs.{NeedsUnits, NeedsRoom};
 ghost use Rattle.fam_plan.specs.Wishes.{wish_in};
 
 use crate::decide::{check_master, check_stripe};

@@ -1,0 +1,11 @@
+use Rattle.fam_plan.proofs.FirstEntries.{missing_parent, units_alone}
+use Rattle.fam_plan.proofs.first.first_entry_fault.Goals as goal
+
+pub returns-then-is_some : goal.returns-then-is_some
+returns-then-is_some c = ?
+
+pub returns-in-Some : goal.returns-in-Some
+returns-in-Some c = ?
+
+pub returns-in-None : goal.returns-in-None
+returns-in-None c = ?
