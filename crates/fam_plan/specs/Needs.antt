@@ -1,7 +1,6 @@
 -- Decisions for which the units of a device are looked at.
 use Rattle.std.specs.Prelude.{⊤, Option, Some, None, Result, Ok, Err}
 use Rattle.fam_base.specs.declared.entry.Entry.{Entry}
-use Rattle.fam_base.specs.declared.entry.Kind.{Kind}
 use Rattle.fam_rules.specs.declared.answers.Refused.{Refused}
 use Rattle.fam_rules.specs.declared.answers.Refused.TheVariants.{NotMaster, BadStripe, Exists, NoParent, ParentIsFile, LogFull, NoSpace}
 
