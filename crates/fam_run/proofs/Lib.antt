@@ -6,3 +6,4 @@ pub mod Led
 pub mod Come
 pub mod Stored
 pub mod Matched
+pub mod PlacesKept

@@ -1,5 +1,5 @@
 -- A task goes on behind an operation.
-use Rattle.std.proofs.Common.{◌≡◌, Option, Some, None, sym, ap}
+use Rattle.std.proofs.Common.{◌≡◌, Some, None, sym, ap}
 use Rattle.std.specs.Prelude.{unwrap_or}
 use Rattle.fam_rules.specs.Reply.{Reply}
 use Rattle.fam_machine.specs.Caches.{Cache}
@@ -21,7 +21,7 @@ no_reply (Note note) reply on replies = replies
 no_reply (Done given) reply on replies = absurd cc
 
 -- the definition's turn goes on as the call's does
-goes_on : (wanted : turns.Turn) (turn : Turn) (new : Task) → ended turn ≡ None → Tells wanted turn new → task_after wanted ≡ Some new
+pub goes_on : (wanted : turns.Turn) (turn : Turn) (new : Task) → ended turn ≡ None → Tells wanted turn new → task_after wanted ≡ Some new
 goes_on (Goes t) turn new on tells = ap Some (sym tells.1)
 goes_on (Marks t) turn new on tells = ap Some (sym tells.1)
 goes_on (Finds n t) turn new on tells = ap Some (sym tells.1)

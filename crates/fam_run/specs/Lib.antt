@@ -5,3 +5,4 @@ pub mod Held
 pub mod Led
 pub mod Whole
 pub mod Wanted
+pub mod Places

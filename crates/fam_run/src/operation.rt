@@ -1,6 +1,6 @@
 //! One operation of a task, on its host's cache and the one memory.
 
-ghost use Rattle.std.specs.Prelude.{◌≡◌, ◌<◌, IfErr, IfOk, IsErrOf, OnErr, OnOk, Some};
+ghost use Rattle.std.specs.Prelude.{◌≡◌, ◌<◌, IfErr, IfOk, IsErrOf, None, OnErr, OnOk, Some};
 ghost use Rattle.fam_machine.specs.Cuts.{HasFailed};
 ghost use Rattle.fam_machine.specs.Operations.{IsWithin, machine, op_line};
 ghost use Rattle.fam_commands.specs.Task.{op_of};
@@ -8,7 +8,8 @@ ghost use Rattle.fam_media.specs.Causes.{IsSteady, Rose};
 ghost use Rattle.fam_media.specs.Outside.{IfModelled};
 ghost use Rattle.fam_cache.specs.Faults.{IfMediaFault};
 ghost use Rattle.fam_cache.specs.Operations.{LeavesCache};
-ghost use Rattle.fam_run.specs.Operation.{GoesOn, HasTurned, IsNoFault, KeepsLines};
+ghost use Rattle.fam_run.specs.Operation.{GoesOn, HasTurned, IsNoFault, KeepsLines, ended};
+ghost use Rattle.fam_run.specs.Places.{HasPlaces, IsReady, KeepsPlaces};
 ghost use Rattle.fam_run.specs.Wanted.{WantedBy};
 
 use fam_cache::{HostCache, OperationFault};
@@ -53,6 +54,11 @@ pub fn operate<M: Media>(
     ensures undone { IsErrOf result OperationFault.OutOfMemory → media.new ≡ media.old }
     ensures unchanged { IsErrOf result OperationFault.OutOfMemory → cache.new ≡ cache.old }
     ensures want { IsErrOf result OperationFault.OutOfMemory → WantedBy (op_of task.old) task.old cache.old }
+
+    // An append that has its places keeps them, and finds memory.
+    ensures places { IfOk result (λ turn. ended turn ≡ None → IsReady task.old cache.old
+        → KeepsPlaces task.old cache.old task.new cache.new) }
+    ensures enough { IsErrOf result OperationFault.OutOfMemory → ¬ (HasPlaces task.old cache.old) }
     ensures steady { IsSteady M.size M.faults media.old media.new }
 {
     task.is_sound();

@@ -10,6 +10,7 @@ ghost use Rattle.fam_media.specs.Outside.{IfModelled};
 ghost use Rattle.fam_cache.specs.Faults.{IfMediaFault};
 ghost use Rattle.fam_cache.specs.Operations.{LeavesCache};
 ghost use Rattle.fam_run.specs.Operation.{GoesOn, HasTurned, KeepsLines};
+ghost use Rattle.fam_run.specs.Places.{HasPlaces, IsReady, KeepsPlaces};
 ghost use Rattle.fam_run.specs.Wanted.{WantedBy};
 ghost use Rattle.fam_tasks.specs.Begins.{IsFirst};
 ghost use Rattle.fam_tasks.specs.declared.answer.Turn.TheVariants.{Go};
@@ -47,6 +48,8 @@ fn load_first<M: Media>(
     ensures undone { IsErrOf result OperationFault.OutOfMemory → media.new ≡ media.old }
     ensures unchanged { IsErrOf result OperationFault.OutOfMemory → cache.new ≡ cache.old }
     ensures want { IsErrOf result OperationFault.OutOfMemory → WantedBy (op_of task.old) task.old cache.old }
+    ensures places { OnOk result (¬ (HasPlaces task.old cache.old)) }
+    ensures enough { IsErrOf result OperationFault.OutOfMemory → ¬ (HasPlaces task.old cache.old) }
     ensures steady { IsSteady M.size M.faults media.old media.new }
 {
     task.is_sound();
@@ -88,6 +91,9 @@ pub fn read_next<M: Media>(
     ensures undone { IsErrOf result OperationFault.OutOfMemory → media.new ≡ media.old }
     ensures unchanged { IsErrOf result OperationFault.OutOfMemory → cache.new ≡ cache.old }
     ensures want { IsErrOf result OperationFault.OutOfMemory → WantedBy (op_of task.old) task.old cache.old }
+    ensures places { IfOk result (λ reads. reads ≡ true → IsReady task.old cache.old
+        → KeepsPlaces task.old cache.old task.new cache.new) }
+    ensures enough { IsErrOf result OperationFault.OutOfMemory → ¬ (HasPlaces task.old cache.old) }
     ensures steady { IsSteady M.size M.faults media.old media.new }
 {
     task.is_sound();
@@ -131,6 +137,9 @@ fn read_other<M: Media>(
     ensures undone { IsErrOf result OperationFault.OutOfMemory → media.new ≡ media.old }
     ensures unchanged { IsErrOf result OperationFault.OutOfMemory → cache.new ≡ cache.old }
     ensures want { IsErrOf result OperationFault.OutOfMemory → WantedBy (op_of task.old) task.old cache.old }
+    ensures places { IfOk result (λ reads. reads ≡ true → IsReady task.old cache.old
+        → KeepsPlaces task.old cache.old task.new cache.new) }
+    ensures enough { IsErrOf result OperationFault.OutOfMemory → ¬ (HasPlaces task.old cache.old) }
     ensures steady { IsSteady M.size M.faults media.old media.new }
 {
     task.is_sound();

@@ -1,8 +1,9 @@
 //! Operations of a task on copies of its host alone: on the line that the host has just brought, the loads of its other
 //! words or the stores into them, and the drop of the line that comes next.
 
-ghost use Rattle.std.specs.Prelude.{◌≡◌, false};
+ghost use Rattle.std.specs.Prelude.{◌≡◌, ◌≤◌, false};
 ghost use Rattle.fam_run.specs.Held.{HeldRun};
+ghost use Rattle.fam_run.specs.Places.{KeepsPlaces};
 
 use fam_cache::HostCache;
 use fam_tasks::Task;
@@ -14,7 +15,8 @@ use fam_tasks::Task;
 /// is done.
 #[inline(always)]
 pub fn operate_held(cache: &mut HostCache, task: &mut Task)
-    ensures { HeldRun task.old cache.old.lines task.new cache.new.lines }
+    ensures run { HeldRun task.old cache.old.lines task.new cache.new.lines }
+    ensures places { KeepsPlaces task.old cache.old task.new cache.new }
 {
     rest_held(cache, task);
     drop_held(cache, task);
@@ -23,7 +25,8 @@ pub fn operate_held(cache: &mut HostCache, task: &mut Task)
 /// Does those on the rest of a line.
 #[inline(always)]
 fn rest_held(cache: &mut HostCache, task: &mut Task)
-    ensures { HeldRun task.old cache.old.lines task.new cache.new.lines }
+    ensures run { HeldRun task.old cache.old.lines task.new cache.new.lines }
+    ensures spare { cache.old.spare ≤ cache.new.spare }
 {
     if !load_held(cache, task) {
         store_held(cache, task);
@@ -33,7 +36,8 @@ fn rest_held(cache: &mut HostCache, task: &mut Task)
 /// Does the drop of a line.
 #[inline(always)]
 fn drop_held(cache: &mut HostCache, task: &mut Task)
-    ensures { HeldRun task.old cache.old.lines task.new cache.new.lines }
+    ensures run { HeldRun task.old cache.old.lines task.new cache.new.lines }
+    ensures spare { cache.old.spare ≤ cache.new.spare }
 {
     if let Some(line) = task.dropped() {
         task.is_sound();
@@ -61,7 +65,8 @@ fn load_held(cache: &HostCache, task: &mut Task) -> bool
 /// Does those that are stores.
 #[inline(always)]
 fn store_held(cache: &mut HostCache, task: &mut Task)
-    ensures { HeldRun task.old cache.old.lines task.new cache.new.lines }
+    ensures run { HeldRun task.old cache.old.lines task.new cache.new.lines }
+    ensures spare { cache.old.spare ≤ cache.new.spare }
 {
     if let Some(rest) = task.rest_stored() {
         let line = rest.0;

@@ -1,10 +1,12 @@
 //! A line of a file, with all operations of a task on it: one that is stored whole, or compared whole.
 
-ghost use Rattle.std.specs.Prelude.{◌≡◌, IfErr, IfOk, IsErrOf};
+ghost use Rattle.std.specs.Prelude.{◌≡◌, IfErr, IfOk, IsErrOf, None};
 ghost use Rattle.fam_media.specs.Causes.{IsSteady};
 ghost use Rattle.fam_cache.specs.Faults.{IfMediaFault};
 ghost use Rattle.fam_run.specs.Led.{HasBrokenOff, HasDone};
 ghost use Rattle.fam_run.specs.Whole.{IfWhole};
+ghost use Rattle.fam_run.specs.Places.{HasPlaces, IsReady, KeepsPlaces};
+ghost use Rattle.fam_run.specs.Operation.{ended};
 ghost use Rattle.fam_run.specs.Wanted.{WantedWhole};
 
 use crate::storing::store_next;
@@ -67,6 +69,13 @@ pub fn whole_next<M: Media>(
     ensures undone { IsErrOf result OperationFault.OutOfMemory → media.new ≡ media.old }
     ensures unchanged { IsErrOf result OperationFault.OutOfMemory → cache.new ≡ cache.old }
     ensures want { IsErrOf result OperationFault.OutOfMemory → WantedWhole task.old cache.old }
+
+    // An append that has its places keeps them, and finds memory. Where nothing was done, a line of its file that comes
+    // next is held.
+    ensures places { IfOk result (λ whole. IfWhole whole (λ turn. ended turn ≡ None
+        → KeepsPlaces task.old cache.old task.new cache.new)) }
+    ensures ready { IfOk result (λ whole. whole ≡ WholeLine.Other → IsReady task.old cache.old) }
+    ensures enough { IsErrOf result OperationFault.OutOfMemory → ¬ (HasPlaces task.old cache.old) }
     ensures unmoved { IsErrOf result OperationFault.OutOfMemory → task.new ≡ task.old }
     ensures steady { IsSteady M.size M.faults media.old media.new }
 {

@@ -1,7 +1,7 @@
 //! The rest of a line of which a task has loaded or stored the first word: the operations on its other words as a whole.
 //! And lines of a file of which none was: all operations on one that is stored, or compared.
 
-ghost use Rattle.std.specs.Prelude.{ℕ, suc, ◌≡◌, ◌+◌, ◌<◌, IfSome, length};
+ghost use Rattle.std.specs.Prelude.{ℕ, suc, ◌≡◌, ◌≢◌, ◌+◌, ◌<◌, IfSome, None, length};
 ghost use Rattle.fam_base.specs.Image.{eight};
 ghost use Rattle.fam_base.specs.declared.line.LineNo.{LineNo};
 ghost use Rattle.fam_commands.specs.declared.phase.Part.TheVariants as part;
@@ -215,7 +215,8 @@ impl Task {
     /// The line of the new file of which the task stores word 0 next, if it does, and all words of that line.
     #[inline(always)]
     pub fn line_stored(&self) -> Option<(LineNo, Line)>
-        ensures { IfSome result (λ due. IsFileLineDue due.0 due.1 self.now) }
+        ensures due { IfSome result (λ due. IsFileLineDue due.0 due.1 self.now) }
+        ensures none { result ≡ None → (j : ℕ) → self.now.phase ≢ at.StoreData j 0 }
     {
         match self.phase {
             Phase::StoreData { line, word: 0 } => Some(self.line_due(line)),

@@ -7,6 +7,7 @@ use Rattle.fam_machine.specs.declared.op.Op.TheVariants.{Digest}
 use Rattle.fam_tasks.specs.Tells.{Tells}
 use Rattle.fam_run.specs.Operation.{GoesOn}
 use Rattle.fam_run.proofs.Operations.{goes_by_word, turned}
+use Rattle.fam_run.proofs.PlacesKept.{digest_none, kept}
 use Rattle.fam_run.proofs.Running.{lines_kept}
 use Rattle.fam_run.proofs.operation.operate.Goals as goal
 
@@ -30,3 +31,12 @@ returns-in-Ok-clause-keeps g c =
     let goes : GoesOn c.args.task.now c.args.cache.now.lines c.in-Ok.turn c.digest.new.self =
     subst (λ (o : Op). Tells (turn_of c.args.task.now (word_of o c.args.cache.now.lines)) c.in-Ok.turn c.digest.new.self) (sym op) c.in-Ok.ensures.turn in
     lines_kept c.args.cache.now.lines c.args.task.now c.digest.new.self c.in-Ok.turn c.is_sound.ensures goes
+
+pub returns-in_ok-word-in_default-clause-places : goal.returns-in_ok-word-in_default-clause-places
+returns-in_ok-word-in_default-clause-places g c = λ on ready has.
+    kept c.args.task.now c.feed.new.self c.next.result c.in_ok-word-in_default.word c.feed.result (g.M.Media.image c.args.media.now) c.args.cache.now c.perform.new.self c.next.ensures.op c.is_sound.ensures
+    c.perform.ensures.spare c.perform.ensures.held_spare c.in_ok-word-in_default.ensures.cache c.feed.ensures.turn on ready has
+
+pub returns-in-Ok-clause-places : goal.returns-in-Ok-clause-places
+returns-in-Ok-clause-places g c = λ on ready has.
+    absurd (digest_none c.args.task.now c.args.cache.now (sym c.next.ensures.op ∙ c.in-Digest.is) has)

@@ -4,14 +4,14 @@ use Rattle.fam_run.specs.Held.{HeldRun, none}
 use Rattle.fam_run.proofs.Held.{stores_held}
 use Rattle.fam_run.proofs.rest.store_held.Goals as goal
 
-pub returns-then-store_rest : goal.returns-then-store_rest
-returns-then-store_rest c =
+pub returns-then-store_rest-clause-run : goal.returns-then-store_rest-clause-run
+returns-then-store_rest-clause-run c =
     let e = c.if-store_rest.ensures in
     stores_held c.in-Some.rest.0 c.in-Some.rest.1 c.args.task.now c.store_rest-then-store_rest.new.self c.args.cache.now.lines c.store_rest.new.self.lines (e.held refl) (e.whole refl) (e.stored refl) c.store_rest-then-store_rest.ensures
 
-pub returns-else-store_rest : goal.returns-else-store_rest
-returns-else-store_rest c =
+pub returns-else-store_rest-clause-run : goal.returns-else-store_rest-clause-run
+returns-else-store_rest-clause-run c =
     subst (λ (s : CacheState). HeldRun c.args.task.now c.args.cache.now.lines c.args.task.now s.lines) (sym (c.if-store_rest.ensures.other refl)) none
 
-pub returns-in_default : goal.returns-in_default
-returns-in_default c = none
+pub returns-in_default-clause-run : goal.returns-in_default-clause-run
+returns-in_default-clause-run c = none

@@ -1,0 +1,332 @@
+-- An append that has its places keeps them, and never wants memory.
+use Rattle.std.proofs.Common.{ℕ, ◌≡◌, ◌≢◌, ◌+◌, ◌<◌, ◌≤◌, Bool, true, false, cond, List, Option, None, refl, sym, ap, subst, inl, inr, arith}
+use Rattle.std.specs.Prelude.{⊤, IfSome, nat_lt, slice_set, unwrap_or}
+use Rattle.std.proofs.lemmas.Bool.{cases_lt}
+use Rattle.fam_base.specs.Image.{Image}
+use Rattle.fam_cache.specs.Operations.{BringsNone, LeavesCache, word_of}
+use Rattle.fam_cache.specs.States.{CacheState}
+use Rattle.fam_cache.proofs.Performed.{held_after_store}
+use Rattle.fam_commands.specs.declared.phase.Phase.{Phase}
+use Rattle.fam_commands.specs.declared.phase.Phase.TheVariants as at
+use Rattle.fam_commands.specs.Task.{Task, line_of, op_at, op_of}
+use Rattle.fam_commands.specs.Stands.{task_after}
+use Rattle.fam_commands.specs.Turns as turns
+use Rattle.fam_commands.specs.Turns.{turn_at, turn_of}
+use Rattle.fam_format.specs.Layout.{slot_line}
+use Rattle.fam_machine.specs.declared.op.Op.{Op}
+use Rattle.fam_machine.specs.declared.op.Op.TheVariants.{Load, Store, WriteBack, Invalidate, Digest}
+use Rattle.fam_base.specs.declared.line.LineNo.{LineNo}
+use Rattle.fam_machine.specs.declared.cell.Cell.{Cell}
+use Rattle.fam_machine.specs.declared.cell.Cell.TheVariants.{Dirty}
+use Rattle.fam_machine.specs.Caches.{Cache, cell_at, with_cell}
+use Rattle.fam_machine.specs.OneLine.{IsHeld, words_of}
+use Rattle.fam_machine.proofs.CacheLemmas.{cell_at-with_cell_same}
+use Rattle.fam_tasks.specs.declared.answer.Turn.{Turn}
+use Rattle.fam_tasks.specs.Sound.{IsSound, IsSoundAt}
+use Rattle.fam_tasks.specs.declared.answer.Turn.TheVariants.{Go}
+use Rattle.fam_tasks.specs.Rest as rest
+use Rattle.fam_tasks.specs.Rest.{IsFileLineDue, Stores, StoresFileLine}
+use Rattle.fam_tasks.specs.Tells.{Tells}
+use Rattle.fam_run.specs.Places.{HasPlaces, HasPlacesAt, IsReadyAt}
+use Rattle.fam_run.specs.Operation.{ended}
+use Rattle.fam_run.specs.Held as run
+use Rattle.fam_run.specs.Held.{HeldRun, IsOfHeld, held_after}
+use Rattle.fam_run.specs.Wanted.{WantedBy}
+use Rattle.fam_run.proofs.Running.{goes_on}
+
+-- what an operation makes of the cache's places: one that brings no line takes none, and what is stored into is held
+abbrev IsHeldBy : Op → Cache → Type 0
+IsHeldBy (Load line k) held = ⊤
+IsHeldBy (Store line k value) held = IsHeld (cell_at held line.0)
+IsHeldBy (WriteBack line) held = ⊤
+IsHeldBy (Invalidate line) held = ⊤
+IsHeldBy Digest held = ⊤
+
+pub record Takes (op : Op) (cache after : CacheState) : Type 0 where
+  pub one : cache.spare ≤ after.spare + 1
+  pub none : BringsNone op cache.lines → cache.spare ≤ after.spare
+  pub held : IsHeldBy op after.lines
+
+held_by : (op : Op) (modelled : Option Image) (old new : Cache) → LeavesCache op modelled old new → IsHeldBy op new
+held_by (Load line k) modelled old new leaves = tt
+held_by (Store line k value) modelled old new leaves = held_after_store modelled line.0 k value old new leaves
+held_by (WriteBack line) modelled old new leaves = tt
+held_by (Invalidate line) modelled old new leaves = tt
+held_by Digest modelled old new leaves = tt
+
+pub takes : (op : Op) (modelled : Option Image) (cache after : CacheState) → cache.spare ≤ after.spare + 1 → (BringsNone op cache.lines → cache.spare ≤ after.spare) → LeavesCache op modelled cache.lines after.lines → Takes op cache after
+takes op modelled cache after one none leaves = record {
+  one = one;
+  none = none;
+  held = held_by op modelled cache.lines after.lines leaves;
+}
+
+-- the task that a turn goes on with has its places
+abbrev KeptBy : turns.Turn → CacheState → Type 0
+KeptBy turn after = IfSome (task_after turn) (λ next. HasPlaces next after)
+
+-- Phase by phase.
+
+module _ (t : Task) (cache after : CacheState) where
+  data_next : (b : Bool) (j k : ℕ) → 10 ≤ after.spare → IsHeld (cell_at after.lines (line_of t.entry j)) → HasPlaces (record t { phase = cond b (at.StoreData j (k + 1)) (at.SendData j) }) after
+  data_next true j k room held = (room, λ _. held)
+  data_next false j k room held = room
+
+  sent_next : (b : Bool) (j : ℕ) → 10 ≤ after.spare → HasPlaces (record t { phase = cond b (at.StoreData (j + 1) 0) (at.StoreSlot 0 0) }) after
+  sent_next true j room = (room, λ some. absurd (omega (arith, some)))
+  sent_next false j room = record {
+    begun = omega (arith, room);
+    first = λ _. omega (arith, room);
+    held = λ some. absurd (omega (arith, some));
+  }
+
+  slot_next : (b : Bool) (i k : ℕ) → 8 ≤ after.spare + i → IsHeld (cell_at after.lines (slot_line t.params t.gate i)) → HasPlaces (record t { phase = cond b (at.StoreSlot i (k + 1)) (at.SendSlot i) }) after
+  slot_next true i k room held = record {
+    begun = room;
+    first = λ none. absurd (omega (arith, none));
+    held = λ _. held;
+  }
+  slot_next false i k room held = room
+
+  gate_next : (b : Bool) (i : ℕ) → i < 8 → 8 ≤ after.spare + i → HasPlaces (record t { phase = cond b (at.StoreSlot (i + 1) 0) at.StoreGate }) after
+  gate_next true i below room = record {
+    begun = omega (arith, room);
+    first = λ _. omega (arith, room);
+    held = λ some. absurd (omega (arith, some));
+  }
+  gate_next false i below room = omega (arith, room, below)
+
+  -- a line of the file that is stored into is held
+  file_held : (j k : ℕ) → HasPlacesAt (at.StoreData j k) t cache → IsReadyAt (at.StoreData j k) t cache → IsHeld (cell_at cache.lines (line_of t.entry j))
+  file_held j k has ready =
+      elim (cases_lt 0 k) [
+        | inl some ↦ has.1 some
+        | inr none ↦ ready (omega arith)
+      ]
+
+  slot_room : (i k : ℕ) → HasPlacesAt (at.StoreSlot i k) t cache → cache.spare ≤ after.spare + 1 → (IsHeld (cell_at cache.lines (slot_line t.params t.gate i)) → cache.spare ≤ after.spare) → 8 ≤ after.spare + i
+  slot_room i k has one none =
+      elim (cases_lt 0 k) [
+        | inl some ↦ (let kept : cache.spare ≤ after.spare = none (has.held some) in omega (arith, has.begun, kept))
+        | inr first ↦ (let enough : 9 ≤ cache.spare + i = has.first (omega arith) in omega (arith, enough, one))
+      ]
+
+  kept_at : (p : Phase) (word : ℕ) → IsSoundAt p t → Takes (op_at t p) cache after → IsReadyAt p t cache → HasPlacesAt p t cache → KeptBy (turn_at p t word) after
+  kept_at at.DropMagic word sound place ready has = absurd has
+  kept_at at.Magic word sound place ready has = absurd has
+  kept_at (at.Drop part j) word sound place ready has = absurd has
+  kept_at (at.Word part j k) word sound place ready has = absurd has
+  kept_at at.DropGate word sound place ready has = absurd has
+  kept_at at.Gate word sound place ready has = absurd has
+  kept_at (at.Check i) word sound place ready has = absurd has
+  kept_at at.Decide word sound place ready has = absurd has
+  kept_at (at.StoreData j k) word sound place ready has =
+      let kept : cache.spare ≤ after.spare = place.none (file_held j k has ready) in
+      data_next (nat_lt k 7) j k (omega (arith, has.0, kept)) place.held
+  kept_at (at.SendData j) word sound place ready has =
+      let kept : cache.spare ≤ after.spare = place.none tt in
+      sent_next _ j (omega (arith, has, kept))
+  kept_at (at.StoreSlot i k) word sound place ready has =
+      slot_next (nat_lt k 7) i k (slot_room i k has place.one place.none) place.held
+  kept_at (at.SendSlot i) word sound place ready has =
+      let kept : cache.spare ≤ after.spare = place.none tt in
+      gate_next _ i sound.1 (omega (arith, has, kept))
+  kept_at at.StoreGate word sound place ready has = tt
+  kept_at at.SendGate word sound place ready has = tt
+
+-- and no operation of it finds no place
+wanted_at : (p : Phase) (t : Task) (cache : CacheState) → IsSoundAt p t → HasPlacesAt p t cache → WantedBy (op_at t p) t cache → ⊥
+wanted_at at.DropMagic t cache sound has wants = has
+wanted_at at.Magic t cache sound has wants = has
+wanted_at (at.Drop part j) t cache sound has wants = has
+wanted_at (at.Word part j k) t cache sound has wants = has
+wanted_at at.DropGate t cache sound has wants = has
+wanted_at at.Gate t cache sound has wants = has
+wanted_at (at.Check i) t cache sound has wants = has
+wanted_at at.Decide t cache sound has wants = has
+wanted_at (at.StoreData j k) t cache sound has wants = omega (arith, has.0, wants.0)
+wanted_at (at.SendData j) t cache sound has wants = wants
+wanted_at (at.StoreSlot i k) t cache sound has wants = omega (arith, has.begun, wants.0, sound.1)
+wanted_at (at.SendSlot i) t cache sound has wants = wants
+wanted_at at.StoreGate t cache sound has wants = omega (arith, has, wants.0)
+wanted_at at.SendGate t cache sound has wants = wants
+
+-- Of the operation that comes next.
+
+pub kept : (t next : Task) (op : Op) (word : Option ℕ) (turn : Turn) (modelled : Option Image) (cache after : CacheState) → op ≡ op_of t → IsSound t → cache.spare ≤ after.spare + 1 → (BringsNone op cache.lines → cache.spare ≤ after.spare) → LeavesCache op modelled cache.lines after.lines → Tells (turn_of t word) turn next → ended turn ≡ None → IsReadyAt t.phase t cache → HasPlaces t cache → HasPlaces next after
+kept t next op word turn modelled cache after is sound one none leaves tells on ready has =
+    let place : Takes (op_of t) cache after = subst (λ (o : Op). Takes o cache after) is (takes op modelled cache after one none leaves) in
+    subst (λ (o : Option Task). IfSome o (λ next. HasPlaces next after)) (goes_on (turn_of t word) turn next on tells)
+    (kept_at t cache after t.phase (unwrap_or word 0) sound.stands place ready has)
+
+pub wants_none : (t : Task) (cache : CacheState) → IsSound t → WantedBy (op_of t) t cache → ¬ (HasPlaces t cache)
+wants_none t cache sound wants has = wanted_at t.phase t cache sound.stands has wants
+
+-- one that looks at what was read is none of an append behind its first store
+digest_at : (p : Phase) (t : Task) (cache : CacheState) → op_at t p ≡ Digest → HasPlacesAt p t cache → ⊥
+digest_at at.DropMagic t cache is has = has
+digest_at at.Magic t cache is has = has
+digest_at (at.Drop part j) t cache is has = has
+digest_at (at.Word part j k) t cache is has = has
+digest_at at.DropGate t cache is has = has
+digest_at at.Gate t cache is has = has
+digest_at (at.Check i) t cache is has = has
+digest_at at.Decide t cache is has = has
+digest_at (at.StoreData j k) t cache is has = absurd cc
+digest_at (at.SendData j) t cache is has = absurd cc
+digest_at (at.StoreSlot i k) t cache is has = absurd cc
+digest_at (at.SendSlot i) t cache is has = absurd cc
+digest_at at.StoreGate t cache is has = absurd cc
+digest_at at.SendGate t cache is has = absurd cc
+
+pub digest_none : (t : Task) (cache : CacheState) → op_of t ≡ Digest → ¬ (HasPlaces t cache)
+digest_none t cache is has = digest_at t.phase t cache is has
+
+-- a task in a phase that has none
+pub none_in : (p : Phase) (t : Task) (cache : CacheState) → t.phase ≡ p → ¬ (HasPlacesAt p t cache) → ¬ (HasPlaces t cache)
+none_in p t cache is none has = none (subst (λ (q : Phase). HasPlacesAt q t cache) is has)
+
+-- Operations on copies alone.
+
+held_of : (op : Op) (now after : Cache) → IsOfHeld op now → after ≡ held_after op now → IsHeldBy op after
+held_of (Load line k) now after of is = tt
+held_of (Store line k value) now after of is =
+    let cell : Cell = Dirty (slice_set (words_of (cell_at now line.0)) k value) in
+    subst (λ (c : Cache). IsHeld (cell_at c line.0)) (sym is) (subst IsHeld {x = cell} (sym (cell_at-with_cell_same line.0 cell now)) refl)
+held_of (WriteBack line) now after of is = tt
+held_of (Invalidate line) now after of is = tt
+held_of Digest now after of is = tt
+
+ready_of : (p : Phase) (t : Task) (cache : CacheState) → IsOfHeld (op_at t p) cache.lines → IsReadyAt p t cache
+ready_of at.DropMagic t cache of = tt
+ready_of at.Magic t cache of = tt
+ready_of (at.Drop part j) t cache of = tt
+ready_of (at.Word part j k) t cache of = tt
+ready_of at.DropGate t cache of = tt
+ready_of at.Gate t cache of = tt
+ready_of (at.Check i) t cache of = tt
+ready_of at.Decide t cache of = tt
+ready_of (at.StoreData j k) t cache of = λ _. of
+ready_of (at.SendData j) t cache of = tt
+ready_of (at.StoreSlot i k) t cache of = tt
+ready_of (at.SendSlot i) t cache of = tt
+ready_of at.StoreGate t cache of = tt
+ready_of at.SendGate t cache of = tt
+
+-- a cache of these lines, with so many places
+abbrev pub with_places : Cache → ℕ → CacheState
+with_places lines spare = record { lines = lines; spare = spare }
+
+-- one operation that takes no place
+held_step : (t next : Task) (now after : Cache) (spare : ℕ) (word : Option ℕ) → IsSound t → IsOfHeld (op_of t) now → IsHeldBy (op_of t) after → turn_of t word ≡ turns.Goes next → HasPlaces t (with_places now spare) → HasPlaces next (with_places after spare)
+held_step t next now after spare word sound of held turn has =
+    let place : Takes (op_of t) (with_places now spare) (with_places after spare) = record {
+      one = omega arith;
+      none = λ _. omega arith;
+      held = held;
+    } in
+    subst (λ (w : turns.Turn). KeptBy w (with_places after spare)) turn
+    (kept_at t (with_places now spare) (with_places after spare) t.phase (unwrap_or word 0) sound.stands place (ready_of t.phase t (with_places now spare) of) has)
+
+run_kept : (t next : Task) (held after : Cache) (spare : ℕ) → HeldRun t held next after → HasPlaces t (with_places held spare) → HasPlaces next (with_places after spare)
+run_kept t _ held _ spare run.none has = has
+run_kept t next held after spare (run.more {mid = mid} {now = now} before sound within of is turn) has =
+    held_step mid next now after spare (word_of (op_of mid) now) sound of (held_of (op_of mid) now after of is) turn (run_kept t mid held now spare before has)
+
+-- more places are no fewer
+more_places : (p : Phase) (t : Task) (lines : Cache) (spare now : ℕ) → spare ≤ now → HasPlacesAt p t (with_places lines spare) → HasPlacesAt p t (with_places lines now)
+more_places at.DropMagic t lines spare now le has = has
+more_places at.Magic t lines spare now le has = has
+more_places (at.Drop part j) t lines spare now le has = has
+more_places (at.Word part j k) t lines spare now le has = has
+more_places at.DropGate t lines spare now le has = has
+more_places at.Gate t lines spare now le has = has
+more_places (at.Check i) t lines spare now le has = has
+more_places at.Decide t lines spare now le has = has
+more_places (at.StoreData j k) t lines spare now le has = (omega (arith, has.0), has.1)
+more_places (at.SendData j) t lines spare now le has = omega (arith, has)
+more_places (at.StoreSlot i k) t lines spare now le has = record {
+  begun = omega (arith, has.begun);
+  first = λ zero. (let enough = has.first zero in omega (arith, enough));
+  held = has.held;
+}
+more_places (at.SendSlot i) t lines spare now le has = omega (arith, has)
+more_places at.StoreGate t lines spare now le has = omega (arith, has)
+more_places at.SendGate t lines spare now le has = tt
+
+pub held_kept : (t next : Task) (cache after : CacheState) → HeldRun t cache.lines next after.lines → cache.spare ≤ after.spare → HasPlaces t cache → HasPlaces next after
+held_kept t next cache after run le has =
+    more_places next.phase next after.lines cache.spare after.spare le (run_kept t next cache.lines after.lines cache.spare run has)
+
+sent_ready : (p : Phase) (t : Task) (cache : CacheState) {line : LineNo} → op_at t p ≡ Invalidate line → IsReadyAt p t cache
+sent_ready at.DropMagic t cache is = tt
+sent_ready at.Magic t cache is = tt
+sent_ready (at.Drop part j) t cache is = tt
+sent_ready (at.Word part j k) t cache is = tt
+sent_ready at.DropGate t cache is = tt
+sent_ready at.Gate t cache is = tt
+sent_ready (at.Check i) t cache is = tt
+sent_ready at.Decide t cache is = tt
+sent_ready (at.StoreData j k) t cache is = absurd cc
+sent_ready (at.SendData j) t cache is = tt
+sent_ready (at.StoreSlot i k) t cache is = tt
+sent_ready (at.SendSlot i) t cache is = tt
+sent_ready at.StoreGate t cache is = tt
+sent_ready at.SendGate t cache is = tt
+
+-- A line of the file that is stored whole. Its stores are as those into a copy, which takes no place.
+
+stores_kept : (line : LineNo) (words : List ℕ) (t next : Task) (n : ℕ) (lines : Cache) (spare : ℕ) → IsHeld (cell_at lines line.0) → Stores line words t next n → HasPlaces t (with_places lines spare) → HasPlaces next (with_places lines spare)
+stores_kept line words t _ _ lines spare held rest.begins has = has
+stores_kept line words t next _ lines spare held (rest.stores {mid = mid} {n = n} before sound op within turn) has =
+    held_step mid next lines lines spare None sound (subst (λ (o : Op). IsOfHeld o lines) (sym op) held) (subst (λ (o : Op). IsHeldBy o lines) (sym op) held) turn
+    (stores_kept line words t mid n lines spare held before has)
+
+module _ (line : LineNo) (words : List ℕ) (t : Task) (cache : CacheState) (due : IsFileLineDue line words t) where
+  ten : HasPlaces t cache → 10 ≤ cache.spare
+  ten has = (let at_line : HasPlacesAt (at.StoreData due.j 0) t cache = subst (λ (p : Phase). HasPlacesAt p t cache) due.phase has in at_line.0)
+
+  pub due_full : cache.spare ≡ 0 → ¬ (HasPlaces t cache)
+  due_full full has = (let some = ten has in omega (arith, some, full))
+
+  pub due_held : IsHeld (cell_at cache.lines line.0) → IsReadyAt t.phase t cache
+  due_held held =
+      let ready : IsReadyAt (at.StoreData due.j 0) t cache = λ _. subst (λ (l : ℕ). IsHeld (cell_at cache.lines l)) due.is held in
+      subst (λ (p : Phase). IsReadyAt p t cache) (sym due.phase) ready
+
+  pub put_kept : (sent next : Task) (after : CacheState) → IsSound t → IsSound sent → StoresFileLine line words t sent → cache.spare ≤ after.spare → Tells (turn_of sent None) Go next → HasPlaces t cache → HasPlaces next after
+  put_kept sent next after sound sound_sent stores le tells has =
+      let cell : Cell = Dirty words in
+      let lines : Cache = with_cell line.0 cell cache.lines in
+      let held : IsHeld (cell_at lines line.0) = subst IsHeld {x = cell} (sym (cell_at-with_cell_same line.0 cell cache.lines)) refl in
+      let first : HasPlacesAt (at.StoreData due.j 0) t (with_places lines cache.spare) = (ten has, λ some. absurd (omega (arith, some))) in
+      let begun : HasPlaces stores.begun (with_places lines cache.spare) =
+      held_step t stores.begun lines lines cache.spare None sound (subst (λ (o : Op). IsOfHeld o lines) (sym stores.op) held) (subst (λ (o : Op). IsHeldBy o lines) (sym stores.op) held) stores.turn
+      (subst (λ (p : Phase). HasPlacesAt p t (with_places lines cache.spare)) (sym due.phase) first) in
+      let stored : HasPlaces sent (with_places lines cache.spare) = stores_kept line words stores.begun sent 7 lines cache.spare held stores.rest begun in
+      let place : Takes (op_of sent) (with_places lines cache.spare) after = subst (λ (o : Op). Takes o (with_places lines cache.spare) after) (sym stores.sends) (record {
+        one = omega arith;
+        none = λ _. le;
+        held = tt;
+      }) in
+      subst (λ (o : Option Task). IfSome o (λ next. HasPlaces next after)) (goes_on (turn_of sent None) Go next refl tells)
+      (kept_at sent (with_places lines cache.spare) after sent.phase 0 sound_sent.stands place (sent_ready sent.phase sent (with_places lines cache.spare) stores.sends) stored)
+
+not_due : (p : Phase) (t : Task) (cache : CacheState) → ((j : ℕ) → p ≢ at.StoreData j 0) → IsReadyAt p t cache
+not_due at.DropMagic t cache none = tt
+not_due at.Magic t cache none = tt
+not_due (at.Drop part j) t cache none = tt
+not_due (at.Word part j k) t cache none = tt
+not_due at.DropGate t cache none = tt
+not_due at.Gate t cache none = tt
+not_due (at.Check i) t cache none = tt
+not_due at.Decide t cache none = tt
+not_due (at.StoreData j k) t cache none = λ zero. absurd (none j (ap (at.StoreData j) zero))
+not_due (at.SendData j) t cache none = tt
+not_due (at.StoreSlot i k) t cache none = tt
+not_due (at.SendSlot i) t cache none = tt
+not_due at.StoreGate t cache none = tt
+not_due at.SendGate t cache none = tt
+
+pub none_due : (t : Task) (cache : CacheState) → ((j : ℕ) → t.phase ≢ at.StoreData j 0) → IsReadyAt t.phase t cache
+none_due t cache none = not_due t.phase t cache none

@@ -1,0 +1,64 @@
+-- How many places of its host's cache an append wants behind its first store: one for a line of its file at a time, eight
+-- for its slot and one for the gate.
+use Rattle.std.specs.Prelude.{ℕ, ⊤, ◌≡◌, ◌+◌, ◌<◌, ◌≤◌}
+use Rattle.fam_cache.specs.States.{CacheState}
+use Rattle.fam_commands.specs.declared.phase.Phase.{Phase}
+use Rattle.fam_commands.specs.declared.phase.Phase.TheVariants as at
+use Rattle.fam_commands.specs.Task.{Task, line_of}
+use Rattle.fam_format.specs.Layout.{slot_line}
+use Rattle.fam_machine.specs.Caches.{cell_at}
+use Rattle.fam_machine.specs.OneLine.{IsHeld}
+
+-- the cache holds a line, once its first word was stored
+abbrev pub IsHeldFrom : ℕ → ℕ → CacheState → Type 0
+IsHeldFrom k line cache = 0 < k → IsHeld (cell_at cache.lines line)
+
+-- places for the lines of the slot from line i on, and the gate's
+pub record HasSlotPlaces (i k : ℕ) (line : ℕ) (cache : CacheState) : Type 0 where
+  pub begun : 8 ≤ cache.spare + i
+  pub first : k ≡ 0 → 9 ≤ cache.spare + i
+  pub held : IsHeldFrom k line cache
+
+-- in a phase. A task that has not come to its first store has none
+abbrev pub HasPlacesAt : Phase → Task → CacheState → Type 0
+HasPlacesAt at.DropMagic t cache = ⊥
+HasPlacesAt at.Magic t cache = ⊥
+HasPlacesAt (at.Drop part j) t cache = ⊥
+HasPlacesAt (at.Word part j k) t cache = ⊥
+HasPlacesAt at.DropGate t cache = ⊥
+HasPlacesAt at.Gate t cache = ⊥
+HasPlacesAt (at.Check i) t cache = ⊥
+HasPlacesAt at.Decide t cache = ⊥
+HasPlacesAt (at.StoreData j k) t cache = (10 ≤ cache.spare) × IsHeldFrom k (line_of t.entry j) cache
+HasPlacesAt (at.SendData j) t cache = 10 ≤ cache.spare
+HasPlacesAt (at.StoreSlot i k) t cache = HasSlotPlaces i k (slot_line t.params t.gate i) cache
+HasPlacesAt (at.SendSlot i) t cache = 8 ≤ cache.spare + i
+HasPlacesAt at.StoreGate t cache = 1 ≤ cache.spare
+HasPlacesAt at.SendGate t cache = ⊤
+
+abbrev pub HasPlaces : Task → CacheState → Type 0
+HasPlaces t cache = HasPlacesAt t.phase t cache
+
+-- a line of the file whose first word comes next is held: another is stored whole, and takes no place
+abbrev pub IsReadyAt : Phase → Task → CacheState → Type 0
+IsReadyAt at.DropMagic t cache = ⊤
+IsReadyAt at.Magic t cache = ⊤
+IsReadyAt (at.Drop part j) t cache = ⊤
+IsReadyAt (at.Word part j k) t cache = ⊤
+IsReadyAt at.DropGate t cache = ⊤
+IsReadyAt at.Gate t cache = ⊤
+IsReadyAt (at.Check i) t cache = ⊤
+IsReadyAt at.Decide t cache = ⊤
+IsReadyAt (at.StoreData j k) t cache = k ≡ 0 → IsHeld (cell_at cache.lines (line_of t.entry j))
+IsReadyAt (at.SendData j) t cache = ⊤
+IsReadyAt (at.StoreSlot i k) t cache = ⊤
+IsReadyAt (at.SendSlot i) t cache = ⊤
+IsReadyAt at.StoreGate t cache = ⊤
+IsReadyAt at.SendGate t cache = ⊤
+
+abbrev pub IsReady : Task → CacheState → Type 0
+IsReady t cache = IsReadyAt t.phase t cache
+
+-- what has places has them behind an operation too
+abbrev pub KeepsPlaces : Task → CacheState → Task → CacheState → Type 0
+KeepsPlaces t cache next after = HasPlaces t cache → HasPlaces next after
