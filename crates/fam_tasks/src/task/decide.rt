@@ -163,7 +163,8 @@ impl Task {
         ensures turn { IfOk result (λ turn.
             Tells (turns.wish_turn self.old (wish_of self.old.cmd)) turn self.new) }
         ensures err { OnErr result (self.new ≡ self.old) }
-        ensures want { OnErr result (WantsMemory self.old.entries (turns.wish_turn self.old (wish_of self.old.cmd))) }
+        ensures want { OnErr result (WantsMemory self.old.entries
+            (turns.wish_turn self.old (wish_of self.old.cmd))) }
     {
         match decided(self.alloc, &mut self.plan, &self.params, &self.cmd, self.me)? {
             Ok(entry) => self.write(&entry),
@@ -265,7 +266,8 @@ impl Task {
         ensures turn { IfOk result (λ turn.
             Tells (turns.bytes_turn self.old entry.now (spec.wanted_start self.old.cmd)) turn self.new) }
         ensures err { OnErr result (self.new ≡ self.old) }
-        ensures want { OnErr result (WantsMemory self.old.entries (turns.bytes_turn self.old entry.now (spec.wanted_start self.old.cmd))) }
+        ensures want { OnErr result (WantsMemory self.old.entries
+            (turns.bytes_turn self.old entry.now (spec.wanted_start self.old.cmd))) }
     {
         let start = wanted_start(&self.cmd);
         let end = wanted_end(&self.cmd, entry.size);
