@@ -1,16 +1,19 @@
-//! Random logs, with damage of all kinds, against reports made plainly.
+//! Random logs, with damage of all kinds: what fsck reports, and the plain report.
 
-ghost use Rattle.std.specs.Prelude.{◌<◌, ◌≤◌};
+ghost use Rattle.std.specs.Prelude.{◌≡◌, ◌<◌, ◌≤◌};
 ghost use Rattle.fam_format.specs.Params.{SoundParams};
 
-use super::plain::plain_report;
-use super::{params, reported};
-use fam_base::{BadPath, Entry, Extent, Extents, Kind, MapKind, Params, Path};
+use super::params;
+use crate::plain_report;
+use fam_base::{BadPath, Entry, Extent, Extents, Kind, MapKind, OutOfMemory, Params, Path};
 use fam_crc::crc_words;
 use fam_entry::{SLOT_WORDS, spell};
+use fam_fsck::Fsck;
+use fam_rules::Report;
 use rand_core::SeedableRng;
 use rand_core::utils::NextWord;
 use rand_xoshiro::Xoshiro256PlusPlus;
+use std::alloc::Global;
 use std::test::Fail;
 
 /// How many slots a log has.
@@ -18,7 +21,8 @@ const SLOTS: usize = 15;
 
 /// A device of 538 units of 4,096 bytes, with a log of 15 slots: the first 514 units are superblock and log.
 fn small() -> Params
-    ensures { SoundParams result }
+    ensures sound { SoundParams result }
+    ensures slots { result.slots ≡ 15 }
 {
     Params {
         log_length: 8_192,
@@ -164,6 +168,23 @@ fn slots(generator: &mut Xoshiro256PlusPlus) -> Result<[[u64; SLOT_WORDS]; SLOTS
         slots[i] = slot(generator, i as u64)?;
     }
     Ok(slots)
+}
+
+/// The report of a log with these slots, which are 15.
+fn reported(
+    alloc: Global,
+    params: &Params,
+    slots: &[[u64; SLOT_WORDS]; SLOTS],
+    gate: u64,
+) -> Result<Report, OutOfMemory>
+    requires sound { SoundParams params.now }
+    requires slots { params.now.slots ≡ 15 }
+{
+    let mut fsck = Fsck::new(alloc, params, gate)?;
+    for words in slots {
+        fsck.add(words)?;
+    }
+    Ok(fsck.report())
 }
 
 #[test]
