@@ -142,6 +142,25 @@ impl FileMedia {
         self.end = line + got;
     }
 
+    /// Reads a line that isn't ahead: those up to the gate's by themselves, and others with some ahead. No line up to the
+    /// gate's is ever ahead, since the lines from `next` on are never before the one that was asked for.
+    #[inline(never)]
+    fn read_other(&mut self, line: u64) -> Result<Line, Failed>
+        requires within { line < MOST_LINES }
+        ensures lines { self.new.lines ≡ self.old.lines }
+        ensures cause { HasCause self.old.faults self.new.faults result }
+    {
+        if line <= GATE_LINE {
+            self.end = 0;
+            return self.read_one(line);
+        }
+        self.fill(line);
+        if self.is_ahead(line) {
+            return Ok(self.take(line));
+        }
+        self.read_one(line)
+    }
+
     /// Reads a line by itself.
     fn read_one(&mut self, line: u64) -> Result<Line, Failed>
         requires within { line < MOST_LINES }
@@ -176,20 +195,12 @@ impl Media for FileMedia {
         self.lines
     }
 
-    #[inline]
+    #[inline(always)]
     fn read(&mut self, line: LineNo) -> Result<Line, Failed> {
-        if line.0 <= GATE_LINE {
-            self.end = 0;
-            return self.read_one(line.0);
-        }
         if self.is_ahead(line.0) {
             return Ok(self.take(line.0));
         }
-        self.fill(line.0);
-        if self.is_ahead(line.0) {
-            return Ok(self.take(line.0));
-        }
-        self.read_one(line.0)
+        self.read_other(line.0)
     }
 
     fn write(&mut self, line: LineNo, words: &Line) -> Result<(), Failed> {
