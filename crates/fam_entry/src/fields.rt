@@ -1,6 +1,6 @@
 //! The fields that the words of a slot tell, whatever its checksum and its unused words are.
 
-ghost use Rattle.std.specs.Prelude.{◌≡◌, ◌*◌, ◌<◌, ◌≤◌, ◌^◌, ℕ, slice_index, OnOk};
+ghost use Rattle.std.specs.Prelude.{◌≡◌, ◌*◌, ◌<◌, ◌≤◌, ◌^◌, ℕ, [], slice_index, OnOk};
 ghost use Rattle.fam_format.specs.Layout.{first_format};
 ghost use Rattle.fam_format.specs.Words.{byte_from};
 ghost use Rattle.fam_format.specs.Slot as slots;
@@ -12,7 +12,7 @@ use crate::places::{
     SLOT_WORDS, UID_WORD,
 };
 use fam_base::{Entry, Extent, Extents, Kind, MapKind, Path};
-use fam_format::{Reason, byte_of};
+use fam_format::Reason;
 
 fn kind_of(word: u64) -> Kind
     ensures { result ≡ slots.kind_of word }
@@ -34,18 +34,19 @@ fn map_of(word: u64, chunk: u64) -> MapKind
     }
 }
 
-fn extents_of(words: &[u64; SLOT_WORDS], count: usize) -> Extents
-    requires { count ≤ EXTENT_LIMIT }
-    ensures { result ≡ slots.extents_of words.now count }
+/// Puts the first so many extents that the words tell into a list that has none.
+#[inline(always)]
+fn put_extents(words: &[u64; SLOT_WORDS], count: usize, extents: &mut Extents)
+    requires count { count ≤ EXTENT_LIMIT }
+    requires none { extents.old ≡ [] }
+    ensures { extents.new ≡ slots.extents_of words.now count }
 {
-    let mut extents = Extents::new();
     for i in 0..count {
         let _room = extents.push(Extent {
             offset: words[EXTENTS_WORD + 2 * i],
             length: words[EXTENTS_WORD + 1 + 2 * i],
         });
     }
-    extents
 }
 
 /// Puts so many whole words of the path into its field.
@@ -68,9 +69,9 @@ fn put_path(words: &[u64; SLOT_WORDS], len: usize, field: &mut [u8; PATH_LIMIT])
     ensures behind { (k : ℕ) → len ≤ k → slice_index field.new k ≡ 0 }
 {
     put_words(words, len / 8, field);
-    for i in 8 * (len / 8)..len {
-        field[i] = byte_of(words[PATH_WORD + i / 8], i % 8);
-    }
+    let whole = 8 * (len / 8);
+    let bytes = words[PATH_WORD + len / 8].to_le_bytes();
+    field[whole..len].copy_from_slice(&bytes[..len - whole]);
 }
 
 /// Whether the length is that of a path and the bytes are one, which are put into a field of zeros.
@@ -100,7 +101,7 @@ pub(crate) fn fields_of(words: &[u64; SLOT_WORDS], field: &[u8; PATH_LIMIT]) -> 
     requires { HasFields words.now field.now }
     ensures { result ≡ slots.fields_of words.now }
 {
-    Entry {
+    let mut entry = Entry {
         kind: kind_of(words[KIND_WORD]),
         path: Path::in_field(field, words[PATH_LENGTH_WORD] as usize),
         size: words[SIZE_WORD],
@@ -108,6 +109,8 @@ pub(crate) fn fields_of(words: &[u64; SLOT_WORDS], field: &[u8; PATH_LIMIT]) -> 
         uid: words[UID_WORD] as u32,
         gid: words[GID_WORD] as u32,
         map: map_of(words[MAP_WORD], words[CHUNK_WORD]),
-        extents: extents_of(words, words[COUNT_WORD] as usize),
-    }
+        extents: Extents::new(),
+    };
+    put_extents(words, words[COUNT_WORD] as usize, &mut entry.extents);
+    entry
 }
