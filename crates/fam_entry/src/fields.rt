@@ -1,6 +1,6 @@
 //! The fields that the words of a slot tell, whatever its checksum and its unused words are.
 
-ghost use Rattle.std.specs.Prelude.{◌≡◌, ◌*◌, ◌<◌, ◌≤◌, ◌^◌, ℕ, [], slice_index, OnOk};
+ghost use Rattle.std.specs.Prelude.{◌≡◌, ◌*◌, ◌<◌, ◌≤◌, ◌^◌, ℕ, slice_index, OnOk};
 ghost use Rattle.fam_format.specs.Layout.{first_format};
 ghost use Rattle.fam_format.specs.Words.{byte_from};
 ghost use Rattle.fam_format.specs.Slot as slots;
@@ -34,19 +34,18 @@ fn map_of(word: u64, chunk: u64) -> MapKind
     }
 }
 
-/// Puts the first so many extents that the words tell into a list that has none.
-#[inline(always)]
-fn put_extents(words: &[u64; SLOT_WORDS], count: usize, extents: &mut Extents)
-    requires count { count ≤ EXTENT_LIMIT }
-    requires none { extents.old ≡ [] }
-    ensures { extents.new ≡ slots.extents_of words.now count }
+fn extents_of(words: &[u64; SLOT_WORDS], count: usize) -> Extents
+    requires { count ≤ EXTENT_LIMIT }
+    ensures { result ≡ slots.extents_of words.now count }
 {
+    let mut extents = Extents::new();
     for i in 0..count {
         let _room = extents.push(Extent {
             offset: words[EXTENTS_WORD + 2 * i],
             length: words[EXTENTS_WORD + 1 + 2 * i],
         });
     }
+    extents
 }
 
 /// Puts so many whole words of the path into its field.
@@ -101,7 +100,7 @@ pub(crate) fn fields_of(words: &[u64; SLOT_WORDS], field: &[u8; PATH_LIMIT]) -> 
     requires { HasFields words.now field.now }
     ensures { result ≡ slots.fields_of words.now }
 {
-    let mut entry = Entry {
+    Entry {
         kind: kind_of(words[KIND_WORD]),
         path: Path::in_field(field, words[PATH_LENGTH_WORD] as usize),
         size: words[SIZE_WORD],
@@ -109,8 +108,6 @@ pub(crate) fn fields_of(words: &[u64; SLOT_WORDS], field: &[u8; PATH_LIMIT]) -> 
         uid: words[UID_WORD] as u32,
         gid: words[GID_WORD] as u32,
         map: map_of(words[MAP_WORD], words[CHUNK_WORD]),
-        extents: Extents::new(),
-    };
-    put_extents(words, words[COUNT_WORD] as usize, &mut entry.extents);
-    entry
+        extents: extents_of(words, words[COUNT_WORD] as usize),
+    }
 }

@@ -1,6 +1,6 @@
 use Rattle.std.proofs.Common.{arith}
 use Rattle.fam_entry.proofs.ExtentsRead.{all_extents, push_more}
-use Rattle.fam_entry.proofs.fields.put_extents.Goals as goal
+use Rattle.fam_entry.proofs.fields.extents_of.Goals as goal
 
 pub loop-i-preserved : goal.loop-i-preserved
 loop-i-preserved c =
