@@ -13,7 +13,7 @@ mod used_units;
 
 pub use alloc_map::{AllocMap, TakeFault};
 pub use bits::MOST_UNITS;
-pub use overlap::{repeats_unit, shares_unit};
+pub use overlap::{overlap_behind, repeats_unit, shares_unit};
 pub use starts::Starts;
 pub use used_units::UsedUnits;
 

@@ -1,6 +1,6 @@
 //! The units of extents: which of them overlap, and how they are marked.
 
-ghost use Rattle.std.specs.Prelude.{◌≡◌, ℕ, true, false, ◌+◌, ◌*◌, ◌/◌, ◌<◌, ◌≤◌, ◌==◌, ◌||◌, length, take, slice_index_or, vec_len, IfOk, OnOk, IfErr, OnErr};
+ghost use Rattle.std.specs.Prelude.{◌≡◌, ℕ, true, false, ◌+◌, ◌*◌, ◌/◌, ◌<◌, ◌≤◌, ◌==◌, ◌||◌, length, nat_lt, take, slice_index_or, vec_len, IfOk, OnOk, IfErr, OnErr};
 ghost use Rattle.std.specs.List.{list_any};
 ghost use Rattle.fam_base.specs.ExtentLists.{no_extent};
 ghost use Rattle.fam_format.specs.Units.{units_in, first_overlap};
@@ -111,6 +111,46 @@ pub fn first_overlap(words: &Vec<u64>, extents: &Extents, unit: u64, units: u64)
     for i in 0..extents.len() {
         let run = run_at(extents, unit, units, i);
         let first = first_taken(words, extents, unit, units, i, run);
+        if first < run.end {
+            return Some(first);
+        }
+    }
+    None
+}
+
+/// The first unit of a run that is below `head` or that one of the first `count` extents holds, or the run's end.
+fn first_behind(head: u64, extents: &Extents, unit: u64, units: u64, count: u64, run: Run) -> u64
+    requires unit { 0 < unit }
+    requires within { LieWithin unit units extents.now }
+    requires few { units ≤ MOST_UNITS }
+    requires count { count ≤ length extents.now }
+    requires order { run.start ≤ run.end }
+    ensures { IsNext (λ u. nat_lt u head || holds (units_in unit (take count extents.now)) u)
+        true run.start run.end result }
+{
+    let below = Run {
+        start: 0,
+        end: head,
+    };
+    let end = first_in(below, run.start, run.end);
+    let before = Run {
+        start: run.start,
+        end,
+    };
+    first_shared(extents, unit, units, count, before)
+}
+
+/// The first unit of the extents, in their order and upwards in each, that is below `head` or stands twice: what a map
+/// of so many units of which the first `head` are used refuses. No map is made, so it takes no memory.
+pub fn overlap_behind(head: u64, extents: &Extents, unit: u64, units: u64) -> Option<u64>
+    requires unit { 0 < unit }
+    requires within { LieWithin unit units extents.now }
+    requires few { units ≤ MOST_UNITS }
+    ensures { result ≡ first_overlap (λ u. nat_lt u head) (units_in unit extents.now) }
+{
+    for i in 0..extents.len() {
+        let run = run_at(extents, unit, units, i);
+        let first = first_behind(head, extents, unit, units, i, run);
         if first < run.end {
             return Some(first);
         }

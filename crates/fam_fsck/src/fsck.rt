@@ -1,8 +1,8 @@
 //! The report over all slots.
 
-ghost use Rattle.std.specs.Prelude.{◌≡◌, ◌<◌, ◌≤◌, IfOk, OnOk, OnErr};
+ghost use Rattle.std.specs.Prelude.{◌≡◌, ◌<◌, ◌≤◌, IfOk, IsOk, OnOk, OnErr};
 ghost use Rattle.fam_format.specs.Params.{SoundParams};
-ghost use Rattle.fam_format.specs.Slot.{Proper};
+ghost use Rattle.fam_format.specs.Slot.{Proper, entry_of};
 ghost use Rattle.fam_rules.specs.Reports.{below_gate, past_gate, report_by};
 ghost use Rattle.fam_fsck.specs.Scan.{bad_after, first_scan, with_slot, with_survey};
 
@@ -79,6 +79,7 @@ impl Fsck {
         ensures slot { OnOk result
             (self.new ≡ with_survey self.old (below_gate self.old.survey self.old.added read.now)) }
         ensures err { OnErr result (self.new ≡ self.old) }
+        ensures want { OnErr result (IsOk read.now) }
     {
         match read {
             Ok(entry) => {
@@ -111,6 +112,10 @@ impl Fsck {
         requires { self.old.added < self.old.params.slots }
         ensures slot { OnOk result (self.new ≡ with_slot self.old words.now) }
         ensures err { OnErr result (self.new ≡ self.old) }
+
+        // Memory is wanted only for an entry below the gate.
+        ensures below { OnErr result (self.old.added < self.old.gate) }
+        ensures entry { OnErr result (IsOk (entry_of self.old.params words.now self.old.added)) }
     {
         let read = read_entry(words, self.added, self.findings.params());
         if self.added < self.gate {

@@ -1,6 +1,6 @@
 //! How an entry that reads is found, and joins the tree where it applies.
 
-ghost use Rattle.std.specs.Prelude.{◌≡◌, [], ◌∷◌, ◌++◌, Some, IfOk, OnErr};
+ghost use Rattle.std.specs.Prelude.{◌≡◌, [], ◌∷◌, ◌++◌, None, Some, IfOk, OnErr};
 ghost use Rattle.fam_format.specs.Tree.{tree_fault};
 ghost use Rattle.fam_tree.specs.Faults.{reason_of};
 ghost use Rattle.fam_fsck.specs.Found.{applies_where, found_as, tree_after, tree_before};
@@ -12,7 +12,8 @@ use fam_tree::{ApplyFault, Tree};
 
 /// Why an entry doesn't join, if memory didn't run out.
 fn reason_against(fault: ApplyFault) -> Result<Reason, OutOfMemory>
-    ensures { IfOk result (λ reason. reason_of fault ≡ Some reason) }
+    ensures reason { IfOk result (λ reason. reason_of fault ≡ Some reason) }
+    ensures none { OnErr result (reason_of fault ≡ None) }
 {
     match fault {
         ApplyFault::Exists(kind) => Ok(Reason::Exists(kind)),
@@ -27,6 +28,9 @@ fn apply(tree: &mut Tree, entry: &Entry) -> Result<Option<Reason>, OutOfMemory>
     ensures fault { IfOk result (λ fault. fault ≡ tree_fault tree.old entry.now) }
     ensures after { IfOk result (λ fault. tree.new ≡ tree_after fault tree.old entry.now) }
     ensures err { OnErr result (tree.new ≡ tree.old) }
+
+    // Memory is wanted only for an entry that applies.
+    ensures want { OnErr result (tree_fault tree.old entry.now ≡ None) }
 {
     match tree.apply(entry) {
         Ok(()) => Ok(None),

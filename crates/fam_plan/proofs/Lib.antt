@@ -1,3 +1,4 @@
 pub mod Histories
 pub mod Decisions
 pub mod Order
+pub mod FirstEntries

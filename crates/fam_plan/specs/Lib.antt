@@ -1,3 +1,4 @@
 pub mod State
 pub mod Faults
 pub mod Wishes
+pub mod Needs

@@ -20,7 +20,7 @@ use uuid::Uuid;
 const BUCKET_LIMIT: u64 = 64;
 
 /// Whether a host appends to a log.
-fn check_master(params: &Params, me: &Uuid) -> Result<(), Refused>
+pub(crate) fn check_master(params: &Params, me: &Uuid) -> Result<(), Refused>
     ensures { MatchResult result (λ _. master_refusal params.now me.now ≡ None)
         (λ refused. master_refusal params.now me.now ≡ Some refused) }
 {
@@ -48,7 +48,7 @@ fn is_stripe(params: &Params, stripe: &Stripe) -> bool
 }
 
 /// Whether a stripe may be asked for, where there is one.
-fn check_stripe(params: &Params, stripe: &Option<Stripe>) -> Result<(), Refused>
+pub(crate) fn check_stripe(params: &Params, stripe: &Option<Stripe>) -> Result<(), Refused>
     requires { 0 < params.now.unit }
     ensures { MatchResult result (λ _. stripe_refusal params.now stripe.now ≡ None)
         (λ refused. stripe_refusal params.now stripe.now ≡ Some refused) }

@@ -7,12 +7,14 @@
 
 mod decide;
 mod fault;
+mod first;
 mod laws;
 mod plan;
 mod room;
 mod wish;
 
 pub use fault::AddFault;
+pub use first::{first_entry_fault, first_entry_refusal};
 pub use laws::{a_decided_entry_may_be_added, no_unit_stands_twice};
 pub use plan::Plan;
 

@@ -1,8 +1,10 @@
 -- How a turn that a call gives tells the one of the definition.
-use Rattle.std.specs.Prelude.{ℕ, ◌≡◌, ◌||◌, nat_lt, Bool, true, false, Option, Some, None}
+use Rattle.std.specs.Prelude.{ℕ, ◌≡◌, ◌||◌, nat_lt, ⊤, Bool, true, false, List, [], Option, Some, None}
+use Rattle.fam_base.specs.declared.entry.Entry.{Entry}
 use Rattle.fam_format.specs.Line.{last_word}
 use Rattle.fam_format.specs.declared.faults.Reason.{Reason}
-use Rattle.fam_rules.specs.Reply.{Reply}
+use Rattle.fam_rules.specs.declared.answers.Refused.TheVariants.{NoSpace}
+use Rattle.fam_rules.specs.Reply.{NotAppended, Reply}
 use Rattle.fam_machine.specs.declared.op.Op.{Op}
 use Rattle.fam_machine.specs.declared.op.Op.TheVariants.{Load, Store, WriteBack, Invalidate, Digest}
 use Rattle.fam_commands.specs.declared.phase.Part.{Part}
@@ -35,6 +37,19 @@ Tells (turns.Marks t) turn new = (turn ≡ Note Mark) × (new ≡ t)
 Tells (turns.Finds n t) turn new = (turn ≡ Note (Found n)) × (new ≡ t)
 Tells (turns.Writes seq e t) turn new = (turn ≡ Note (Writes seq e)) × (new ≡ t)
 Tells (turns.Ends reply) turn new = Replies turn reply
+
+-- a refusal to append, since no room was found in the units
+abbrev pub IsNoSpace : Reply → Type 0
+IsNoSpace reply = (k : ℕ) × (reply ≡ NotAppended (NoSpace k))
+
+-- a turn for which memory may be wanted, of a task that has read these entries: it goes on, or goes on to append; or it
+-- finds no room in the units of a log with no entry, of which no map was made so far
+abbrev pub WantsMemory : List Entry → turns.Turn → Type 0
+WantsMemory list (turns.Goes t) = ⊤
+WantsMemory list (turns.Marks t) = ⊥
+WantsMemory list (turns.Finds n t) = ⊥
+WantsMemory list (turns.Writes seq e t) = ⊤
+WantsMemory list (turns.Ends reply) = (list ≡ []) × IsNoSpace reply
 
 -- the operation that thinks
 abbrev pub is_digest : Op → Bool

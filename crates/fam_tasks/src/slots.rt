@@ -1,23 +1,24 @@
 //! What the slots that were read have told: a plan of their entries, or a check of their words. Either takes memory,
 //! so it is made with the first slot that it is told of.
 
-ghost use Rattle.std.specs.Prelude.{◌≡◌, ◌+◌, ◌<◌, Some, IfOk, IfSome, IsSome, OnOk, OnErr, length};
+ghost use Rattle.std.specs.Prelude.{◌≡◌, ◌+◌, ◌<◌, ℕ, [], None, Some, IfOk, IfSome, IsErr, IsSome, OnOk, OnErr, length};
 ghost use Rattle.std.specs.FinMap as map;
 ghost use Rattle.fam_base.specs.Commands.{IsListing, IsSoundCmd};
 ghost use Rattle.fam_base.specs.declared.entry.Params.{Params};
 ghost use Rattle.fam_format.specs.Params.{SoundParams};
 ghost use Rattle.fam_format.specs.Slot.{Proper};
-ghost use Rattle.fam_format.specs.Tree.{replay};
+ghost use Rattle.fam_format.specs.Tree.{join_fault, replay};
 ghost use Rattle.fam_rules.specs.Checks.{checked};
 ghost use Rattle.fam_rules.specs.Decide.{decide, wish_of};
 ghost use Rattle.fam_rules.specs.Reports.{report_by, survey_slot};
 ghost use Rattle.fam_plan.specs.Faults.{reason_of};
+ghost use Rattle.fam_plan.specs.Needs.{NeedsUnits};
 ghost use Rattle.fam_tasks.specs.Slots.{added_in, entries_in, survey_in, IsPlanFor, IsRoomFor, IsScanFor, JoinsOrNames};
 
 use fam_base::{Cmd, Entry, OutOfMemory, Params, Path};
 use fam_format::{Reason, SLOT_WORDS};
 use fam_fsck::{Fsck, check};
-use fam_plan::{AddFault, Plan};
+use fam_plan::{AddFault, Plan, first_entry_fault, first_entry_refusal};
 use fam_rules::{Checked, Refused, Report};
 use fam_tree::Tree;
 use std::alloc::Global;
@@ -33,6 +34,7 @@ pub(crate) fn begin_plan(
     requires fits { IsPlanFor params.now plan.old }
     ensures ready { OnOk result (plan.new ≡ Some (record { params = params.now; entries = entries_in plan.old })) }
     ensures err { OnErr result (plan.new ≡ plan.old) }
+    ensures none { OnErr result (plan.old ≡ None) }
 {
     if plan.is_none() {
         *plan = Some(Plan::new(alloc, params)?);
@@ -42,7 +44,8 @@ pub(crate) fn begin_plan(
 
 /// Why an entry doesn't join, if memory didn't run out.
 fn reason_against(fault: AddFault) -> Result<Reason, OutOfMemory>
-    ensures { IfOk result (λ reason. reason_of fault ≡ Some reason) }
+    ensures reason { IfOk result (λ reason. reason_of fault ≡ Some reason) }
+    ensures none { OnErr result (reason_of fault ≡ None) }
 {
     match fault {
         AddFault::Exists(kind) => Ok(Reason::Exists(kind)),
@@ -61,6 +64,7 @@ fn add(plan: &mut Plan, entry: &Entry) -> Result<Option<Reason>, OutOfMemory>
         JoinsOrNames fault plan.old.params plan.old.entries entry.now plan.new.entries) }
     ensures params { plan.new.params ≡ plan.old.params }
     ensures err { OnErr result (plan.new ≡ plan.old) }
+    ensures want { OnErr result (join_fault plan.old.params plan.old.entries entry.now ≡ None) }
 {
     match plan.add(entry) {
         Ok(()) => Ok(None),
@@ -68,6 +72,37 @@ fn add(plan: &mut Plan, entry: &Entry) -> Result<Option<Reason>, OutOfMemory>
             Ok(reason) => Ok(Some(reason)),
             Err(full) => Err(full),
         },
+    }
+}
+
+/// Why the first entry of a log doesn't join, where no memory is left for a plan.
+fn fault_alone(params: &Params, entry: &Entry) -> Result<Option<Reason>, OutOfMemory>
+    requires sound { SoundParams params.now }
+    requires proper { Proper params.now entry.now }
+    ensures fault { IfOk result (λ fault. JoinsOrNames fault params.now [] entry.now []) }
+    ensures want { OnErr result (join_fault params.now [] entry.now ≡ None) }
+{
+    match first_entry_fault(params, entry) {
+        Some(reason) => Ok(Some(reason)),
+        None => Err(OutOfMemory),
+    }
+}
+
+/// Why a command appends no first entry to a log, where no memory is left for a plan.
+fn refused_alone(
+    params: &Params,
+    cmd: &Cmd,
+    me: &Uuid,
+) -> Result<Result<Entry, Refused>, OutOfMemory>
+    requires sound { SoundParams params.now }
+    requires wish { IsSome (wish_of cmd.now) }
+    ensures value { IfOk result (λ decision. decide params.now me.now [] cmd.now ≡ Some decision) }
+    ensures none { IfOk result (λ decision. IsErr decision) }
+    ensures want { OnErr result (NeedsUnits (decide params.now me.now [] cmd.now)) }
+{
+    match first_entry_refusal(params, cmd, me) {
+        Ok(()) => Err(OutOfMemory),
+        Err(refused) => Ok(Err(refused)),
     }
 }
 
@@ -86,8 +121,11 @@ pub(crate) fn join(
         JoinsOrNames fault params.now (entries_in plan.old) entry.now (entries_in plan.new)) }
     ensures fits { IsPlanFor params.now plan.new }
     ensures err { OnErr result (entries_in plan.new ≡ entries_in plan.old) }
+    ensures want { OnErr result (join_fault params.now (entries_in plan.old) entry.now ≡ None) }
 {
-    begin_plan(alloc, plan, params)?;
+    if begin_plan(alloc, plan, params).is_err() {
+        return fault_alone(params, entry);
+    }
     match plan {
         Some(plan) => add(plan, entry),
         None => unreachable!(),
@@ -109,8 +147,12 @@ pub(crate) fn decided(
     ensures may { IsSoundCmd cmd.now → IfOk result (λ decision. IfOk decision (IsRoomFor params.now (entries_in plan.old))) }
     ensures same { entries_in plan.new ≡ entries_in plan.old }
     ensures fits { IsPlanFor params.now plan.new }
+    ensures want { OnErr result (NeedsUnits (decide params.now me (entries_in plan.old) cmd.now)) }
+    ensures none { OnErr result (entries_in plan.old ≡ []) }
 {
-    begin_plan(alloc, plan, params)?;
+    if begin_plan(alloc, plan, params).is_err() {
+        return refused_alone(params, cmd, &me);
+    }
     match plan {
         Some(plan) => Ok(plan.decide(cmd, me)),
         None => unreachable!(),
@@ -213,22 +255,13 @@ pub(crate) fn show(
     }
 }
 
-/// What a check reports, once it was shown all slots.
-pub(crate) fn report_of(
-    alloc: Global,
-    scan: &Option<Fsck>,
-    params: &Params,
-    gate: u64,
-) -> Result<Report, OutOfMemory>
-    requires sound { SoundParams params.now }
-    requires fits { IsScanFor params.now gate scan.now }
-    ensures { IfOk result (λ report. report ≡ report_by params.now gate (survey_in scan.now)) }
+/// What a check reports, once it was shown all slots, of which there are some.
+pub(crate) fn report_of(scan: &Option<Fsck>) -> Report
+    requires shown { 0 < added_in scan.now }
+    ensures { (p : Params) (gate : ℕ) → IsScanFor p gate scan.now → result ≡ report_by p gate (survey_in scan.now) }
 {
     match scan {
-        Some(scan) => Ok(scan.report()),
-        None => {
-            let scan = Fsck::new(alloc, params, gate)?;
-            Ok(scan.report())
-        }
+        Some(scan) => scan.report(),
+        None => unreachable!(),
     }
 }

@@ -13,7 +13,7 @@ ghost use Rattle.fam_machine.specs.Operations.{IsWithin};
 ghost use Rattle.fam_tasks.specs.declared.answer.Answer.TheVariants.{MediaFault};
 ghost use Rattle.fam_tasks.specs.declared.answer.Turn.TheVariants.{Done, Go};
 ghost use Rattle.fam_tasks.specs.Sound.{most_lines, HasSuper, IsFileLine, IsLine, IsSound, IsWantedLine};
-ghost use Rattle.fam_tasks.specs.Tells.{Tells, is_digest, is_reading};
+ghost use Rattle.fam_tasks.specs.Tells.{Tells, WantsMemory, is_digest, is_reading};
 
 mod begins;
 mod decide;
@@ -243,6 +243,7 @@ impl Task {
         ensures turn { IfOk result (λ turn. Tells (turn_of self.old None) turn self.new) }
         ensures own { (line : LineNo) → IfOk result (λ turn. turn ≢ Done (MediaFault line)) }
         ensures err { OnErr result (self.new ≡ self.old) }
+        ensures want { OnErr result (WantsMemory self.old.entries (turn_of self.old None)) }
     {
         match self.phase {
             Phase::Check { slot } => self.digest_slot(slot),

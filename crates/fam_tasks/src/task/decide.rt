@@ -1,6 +1,6 @@
 //! Turns of a task that decides, with all slots read.
 
-ghost use Rattle.std.specs.Prelude.{◌≡◌, ◌≤◌, ◌<◌, None, Ok, Some, IfErr, IfOk, IfSome, IsSome, OnErr, length};
+ghost use Rattle.std.specs.Prelude.{◌≡◌, ◌≤◌, ◌<◌, None, Ok, Some, IfErr, IfOk, IfSome, IsSome, OnErr, length, true};
 ghost use Rattle.fam_base.specs.declared.cmd.Cmd.TheVariants as cmd;
 ghost use Rattle.fam_base.specs.declared.entry.Entry.{Entry};
 ghost use Rattle.fam_format.specs.Slot.{Proper};
@@ -12,8 +12,8 @@ ghost use Rattle.fam_commands.specs.Task as spec;
 ghost use Rattle.fam_commands.specs.Turns as turns;
 ghost use Rattle.fam_commands.specs.Turns.{turn_of};
 ghost use Rattle.fam_tasks.specs.declared.answer.Turn.TheVariants.{Done};
-ghost use Rattle.fam_tasks.specs.Commands.{content_used, IsCheck, IsRead, IsVerify};
-ghost use Rattle.fam_tasks.specs.Tells.{Tells};
+ghost use Rattle.fam_tasks.specs.Commands.{content_used, is_fsck, IsCheck, IsRead, IsVerify};
+ghost use Rattle.fam_tasks.specs.Tells.{Tells, WantsMemory};
 
 use super::{Task, done};
 use crate::answer::{Answer, TaskNote, Turn};
@@ -102,6 +102,7 @@ impl Task {
         requires { self.old.phase ≡ at.Decide }
         ensures turn { IfOk result (λ turn. Tells (turn_of self.old None) turn self.new) }
         ensures err { OnErr result (self.new ≡ self.old) }
+        ensures want { OnErr result (WantsMemory self.old.entries (turn_of self.old None)) }
     {
         match self.cmd {
             Cmd::Logplay => Ok(self.play()),
@@ -111,7 +112,7 @@ impl Task {
             Cmd::Verify { .. } => self.verify(),
             Cmd::Read { .. } => self.read(),
             Cmd::Check { .. } => Ok(self.check()),
-            Cmd::Fsck => self.report(),
+            Cmd::Fsck => Ok(self.report()),
         }
     }
 
@@ -146,13 +147,13 @@ impl Task {
     }
 
     /// Answers with the report over all slots.
-    fn report(&mut self) -> Result<Turn, OutOfMemory>
+    fn report(&mut self) -> Turn
         requires phase { self.old.phase ≡ at.Decide }
-        ensures turn { IfOk result (λ turn. Tells (turns.decide_turn cmd.Fsck self.old) turn self.new) }
-        ensures err { OnErr result (self.new ≡ self.old) }
+        requires fsck { is_fsck self.old.cmd ≡ true }
+        ensures { Tells (turns.decide_turn cmd.Fsck self.old) result self.new }
     {
-        let report = report_of(self.alloc, &self.scan, &self.params, self.gate)?;
-        Ok(done(&mut self.phase, Answer::Report(report)))
+        let report = report_of(&self.scan);
+        done(&mut self.phase, Answer::Report(report))
     }
 
     /// Decides what is appended.
@@ -162,6 +163,7 @@ impl Task {
         ensures turn { IfOk result (λ turn.
             Tells (turns.wish_turn self.old (wish_of self.old.cmd)) turn self.new) }
         ensures err { OnErr result (self.new ≡ self.old) }
+        ensures want { OnErr result (WantsMemory self.old.entries (turns.wish_turn self.old (wish_of self.old.cmd))) }
     {
         match decided(self.alloc, &mut self.plan, &self.params, &self.cmd, self.me)? {
             Ok(entry) => self.write(&entry),
@@ -192,6 +194,7 @@ impl Task {
         requires verify { IsVerify self.old.cmd }
         ensures turn { IfOk result (λ turn. Tells (turns.decide_turn self.old.cmd self.old) turn self.new) }
         ensures err { OnErr result (self.new ≡ self.old) }
+        ensures want { OnErr result (WantsMemory self.old.entries (turns.decide_turn self.old.cmd self.old)) }
     {
         let Cmd::Verify { path, against } = &self.cmd else {
             unreachable!();
@@ -220,6 +223,7 @@ impl Task {
         requires proper { Proper self.old.params entry.now }
         ensures turn { IfOk result (λ turn. Tells (turns.verify_lines self.old entry.now) turn self.new) }
         ensures err { OnErr result (self.new ≡ self.old) }
+        ensures want { OnErr result (WantsMemory self.old.entries (turns.verify_lines self.old entry.now)) }
     {
         if entry.size == 0 {
             let m = count(&self.plan);
@@ -241,6 +245,7 @@ impl Task {
         requires read { IsRead self.old.cmd }
         ensures turn { IfOk result (λ turn. Tells (turns.decide_turn self.old.cmd self.old) turn self.new) }
         ensures err { OnErr result (self.new ≡ self.old) }
+        ensures want { OnErr result (WantsMemory self.old.entries (turns.decide_turn self.old.cmd self.old)) }
     {
         let Cmd::Read { path, .. } = &self.cmd else {
             unreachable!();
@@ -260,6 +265,7 @@ impl Task {
         ensures turn { IfOk result (λ turn.
             Tells (turns.bytes_turn self.old entry.now (spec.wanted_start self.old.cmd)) turn self.new) }
         ensures err { OnErr result (self.new ≡ self.old) }
+        ensures want { OnErr result (WantsMemory self.old.entries (turns.bytes_turn self.old entry.now (spec.wanted_start self.old.cmd))) }
     {
         let start = wanted_start(&self.cmd);
         let end = wanted_end(&self.cmd, entry.size);

@@ -10,7 +10,7 @@ ghost use Rattle.fam_commands.specs.Turns.{turn_of};
 ghost use Rattle.fam_tasks.specs.Commands.{is_fsck};
 ghost use Rattle.fam_tasks.specs.declared.answer.Answer.TheVariants.{MediaFault};
 ghost use Rattle.fam_tasks.specs.declared.answer.Turn.TheVariants.{Done};
-ghost use Rattle.fam_tasks.specs.Tells.{Tells, slot_turn_by};
+ghost use Rattle.fam_tasks.specs.Tells.{Tells, WantsMemory, slot_turn_by};
 
 use super::{Task, slot_or_decide};
 use crate::answer::{Answer, Turn};
@@ -27,6 +27,7 @@ impl Task {
         ensures turn { IfOk result (λ turn. Tells (turn_of self.old None) turn self.new) }
         ensures own { (line : LineNo) → IfOk result (λ turn. turn ≢ Done (MediaFault line)) }
         ensures err { OnErr result (self.new ≡ self.old) }
+        ensures want { OnErr result (WantsMemory self.old.entries (turn_of self.old None)) }
     {
         match self.check_slot(slot) {
             Ok(None) => Ok(Turn::Go),
@@ -42,6 +43,7 @@ impl Task {
         ensures turn { IfOk result (λ reason.
             Tells (turn_of self.old None) (slot_turn_by slot reason) self.new) }
         ensures err { OnErr result (self.new ≡ self.old) }
+        ensures want { OnErr result (WantsMemory self.old.entries (turn_of self.old None)) }
     {
         if is_fsck(&self.cmd) {
             self.show_slot(slot)
@@ -57,6 +59,8 @@ impl Task {
         ensures turn { IfOk result (λ reason. Tells (turns.slot_turn self.old slot
             (entry_of self.old.params self.old.words slot)) (slot_turn_by slot reason) self.new) }
         ensures err { OnErr result (self.new ≡ self.old) }
+        ensures want { OnErr result (WantsMemory self.old.entries (turns.slot_turn self.old slot
+            (entry_of self.old.params self.old.words slot))) }
     {
         match &read_slot(&self.buffer, slot, &self.params) {
             Ok(entry) => self.join(slot, entry),
@@ -72,6 +76,8 @@ impl Task {
         ensures turn { IfOk result (λ reason. Tells (turns.join_turn self.old slot entry.now
             (join_fault self.old.params self.old.entries entry.now)) (slot_turn_by slot reason) self.new) }
         ensures err { OnErr result (self.new ≡ self.old) }
+        ensures want { OnErr result (WantsMemory self.old.entries (turns.join_turn self.old slot entry.now
+            (join_fault self.old.params self.old.entries entry.now))) }
     {
         match join(self.alloc, &mut self.plan, &self.params, entry)? {
             Some(reason) => Ok(Some(reason)),
