@@ -181,8 +181,8 @@ fn reported(
     requires slots { params.now.slots ≡ 15 }
 {
     let mut fsck = Fsck::new(alloc, params, gate)?;
-    for words in slots {
-        fsck.add(words)?;
+    for i in 0..params.slots {
+        fsck.add(&slots[i as usize])?;
     }
     Ok(fsck.report())
 }
