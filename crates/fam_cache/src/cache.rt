@@ -501,6 +501,10 @@ impl HostCache {
             M.image media.new ≡ option_map (with_line line.0 words.now) (M.image media.old)) }
         ensures other { IfOk result (λ put. put ≡ false → self.new ≡ self.old) }
         ensures same { IfOk result (λ put. put ≡ false → media.new ≡ media.old) }
+        ensures held { IfOk result (λ put. put ≡ false → IsHeld (cell_at self.old.lines line.0)) }
+
+        // No place is taken.
+        ensures ok_spare { OnOk result (self.old.spare ≤ self.new.spare) }
 
         ensures failed { IsErrOf result CacheFault.Failed → Rose (M.faults media.old) (M.faults media.new) }
         ensures failed_absent { IsErrOf result CacheFault.Failed → cell_at self.old.lines line.0 ≡ Cell.Absent }

@@ -4,3 +4,4 @@ pub mod Step
 pub mod Held
 pub mod Led
 pub mod Whole
+pub mod Wanted

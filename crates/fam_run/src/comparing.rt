@@ -11,6 +11,7 @@ ghost use Rattle.fam_cache.specs.Operations.{LeavesCache};
 ghost use Rattle.fam_tasks.specs.Tells.{IsCompared};
 ghost use Rattle.fam_run.specs.Looked.{IfDone};
 ghost use Rattle.fam_run.specs.Operation.{GoesOn, HasTurned, IsNoFault, KeepsLines};
+ghost use Rattle.fam_run.specs.Wanted.{WantedBy};
 
 use crate::looking::{Ending, Looked};
 use fam_cache::{HostCache, OperationFault};
@@ -45,6 +46,7 @@ pub(crate) fn compare_next<M: Media>(
 
     ensures undone { IsErrOf result OperationFault.OutOfMemory → media.new ≡ media.old }
     ensures unchanged { IsErrOf result OperationFault.OutOfMemory → cache.new ≡ cache.old }
+    ensures want { IsErrOf result OperationFault.OutOfMemory → WantedBy (op_of task.old) task.old cache.old }
     ensures steady { IsSteady M.size M.faults media.old media.new }
 {
     task.is_sound();

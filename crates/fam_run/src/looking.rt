@@ -11,6 +11,7 @@ ghost use Rattle.fam_cache.specs.Faults.{IfMediaFault};
 ghost use Rattle.fam_cache.specs.Operations.{LeavesCache};
 ghost use Rattle.fam_run.specs.Looked.{IfDone, ending_answer};
 ghost use Rattle.fam_run.specs.Operation.{GoesOn, HasTurned, IsNoFault, KeepsLines};
+ghost use Rattle.fam_run.specs.Wanted.{WantedBy};
 
 use crate::checking::check_next;
 use crate::comparing::compare_next;
@@ -83,6 +84,7 @@ pub fn look_next<M: Media>(
 
     ensures undone { IsErrOf result OperationFault.OutOfMemory → media.new ≡ media.old }
     ensures unchanged { IsErrOf result OperationFault.OutOfMemory → cache.new ≡ cache.old }
+    ensures want { IsErrOf result OperationFault.OutOfMemory → WantedBy (op_of task.old) task.old cache.old }
     ensures steady { IsSteady M.size M.faults media.old media.new }
 {
     if task.compares() {

@@ -9,6 +9,7 @@ ghost use Rattle.fam_media.specs.Outside.{IfModelled};
 ghost use Rattle.fam_cache.specs.Faults.{IfMediaFault};
 ghost use Rattle.fam_cache.specs.Operations.{LeavesCache};
 ghost use Rattle.fam_run.specs.Operation.{GoesOn, HasTurned, IsNoFault, KeepsLines};
+ghost use Rattle.fam_run.specs.Wanted.{WantedBy};
 
 use fam_cache::{HostCache, OperationFault};
 use fam_machine::Op;
@@ -51,6 +52,7 @@ pub fn operate<M: Media>(
 
     ensures undone { IsErrOf result OperationFault.OutOfMemory → media.new ≡ media.old }
     ensures unchanged { IsErrOf result OperationFault.OutOfMemory → cache.new ≡ cache.old }
+    ensures want { IsErrOf result OperationFault.OutOfMemory → WantedBy (op_of task.old) task.old cache.old }
     ensures steady { IsSteady M.size M.faults media.old media.new }
 {
     task.is_sound();

@@ -10,6 +10,7 @@ ghost use Rattle.fam_media.specs.Outside.{IfModelled};
 ghost use Rattle.fam_cache.specs.Faults.{IfMediaFault};
 ghost use Rattle.fam_cache.specs.Operations.{LeavesCache};
 ghost use Rattle.fam_run.specs.Operation.{GoesOn, HasTurned, KeepsLines};
+ghost use Rattle.fam_run.specs.Wanted.{WantedBy};
 ghost use Rattle.fam_tasks.specs.Begins.{IsFirst};
 ghost use Rattle.fam_tasks.specs.declared.answer.Turn.TheVariants.{Go};
 
@@ -45,6 +46,7 @@ fn load_first<M: Media>(
     ensures err { OnErr result (task.new ≡ task.old) }
     ensures undone { IsErrOf result OperationFault.OutOfMemory → media.new ≡ media.old }
     ensures unchanged { IsErrOf result OperationFault.OutOfMemory → cache.new ≡ cache.old }
+    ensures want { IsErrOf result OperationFault.OutOfMemory → WantedBy (op_of task.old) task.old cache.old }
     ensures steady { IsSteady M.size M.faults media.old media.new }
 {
     task.is_sound();
@@ -85,6 +87,7 @@ pub fn read_next<M: Media>(
     ensures err { OnErr result (task.new ≡ task.old) }
     ensures undone { IsErrOf result OperationFault.OutOfMemory → media.new ≡ media.old }
     ensures unchanged { IsErrOf result OperationFault.OutOfMemory → cache.new ≡ cache.old }
+    ensures want { IsErrOf result OperationFault.OutOfMemory → WantedBy (op_of task.old) task.old cache.old }
     ensures steady { IsSteady M.size M.faults media.old media.new }
 {
     task.is_sound();
@@ -127,6 +130,7 @@ fn read_other<M: Media>(
     ensures err { OnErr result (task.new ≡ task.old) }
     ensures undone { IsErrOf result OperationFault.OutOfMemory → media.new ≡ media.old }
     ensures unchanged { IsErrOf result OperationFault.OutOfMemory → cache.new ≡ cache.old }
+    ensures want { IsErrOf result OperationFault.OutOfMemory → WantedBy (op_of task.old) task.old cache.old }
     ensures steady { IsSteady M.size M.faults media.old media.new }
 {
     task.is_sound();

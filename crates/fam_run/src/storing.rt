@@ -6,6 +6,7 @@ ghost use Rattle.fam_media.specs.Causes.{IsSteady};
 ghost use Rattle.fam_cache.specs.Faults.{IfMediaFault};
 ghost use Rattle.fam_tasks.specs.declared.answer.Turn.TheVariants.{Go};
 ghost use Rattle.fam_run.specs.Led.{HasBrokenOff, HasDone};
+ghost use Rattle.fam_run.specs.Wanted.{WantedWhole};
 
 use fam_cache::{CacheFault, HostCache, OperationFault};
 use fam_media::Media;
@@ -53,6 +54,7 @@ pub(crate) fn store_next<M: Media>(
 
     ensures undone { IsErrOf result OperationFault.OutOfMemory → media.new ≡ media.old }
     ensures unchanged { IsErrOf result OperationFault.OutOfMemory → cache.new ≡ cache.old }
+    ensures want { IsErrOf result OperationFault.OutOfMemory → WantedWhole task.old cache.old }
     ensures unmoved { IsErrOf result OperationFault.OutOfMemory → task.new ≡ task.old }
     ensures steady { IsSteady M.size M.faults media.old media.new }
 {

@@ -5,6 +5,7 @@ ghost use Rattle.fam_media.specs.Causes.{IsSteady};
 ghost use Rattle.fam_cache.specs.Faults.{IfMediaFault};
 ghost use Rattle.fam_run.specs.Led.{HasBrokenOff, HasDone};
 ghost use Rattle.fam_run.specs.Whole.{IfWhole};
+ghost use Rattle.fam_run.specs.Wanted.{WantedWhole};
 
 use crate::storing::store_next;
 use crate::verifying::compare_whole;
@@ -65,6 +66,7 @@ pub fn whole_next<M: Media>(
 
     ensures undone { IsErrOf result OperationFault.OutOfMemory → media.new ≡ media.old }
     ensures unchanged { IsErrOf result OperationFault.OutOfMemory → cache.new ≡ cache.old }
+    ensures want { IsErrOf result OperationFault.OutOfMemory → WantedWhole task.old cache.old }
     ensures unmoved { IsErrOf result OperationFault.OutOfMemory → task.new ≡ task.old }
     ensures steady { IsSteady M.size M.faults media.old media.new }
 {
