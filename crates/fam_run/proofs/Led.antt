@@ -1,5 +1,5 @@
 -- Operations of a task that leave memory's image, one behind another.
-use Rattle.std.proofs.Common.{ℕ, ◌≡◌, ◌≤◌, List, length, Option, refl, sym, ◌∙◌, arith}
+use Rattle.std.proofs.Common.{◌≡◌, ◌≤◌, Option, refl, ◌∙◌, arith}
 use Rattle.fam_base.specs.Image.{Image}
 use Rattle.fam_machine.specs.Caches.{Cache}
 use Rattle.fam_commands.specs.Task.{Task}

@@ -6,3 +6,6 @@ pub mod Led
 pub mod Come
 pub mod Stored
 pub mod Matched
+pub mod Brought
+pub mod Joined
+pub mod SlotLines

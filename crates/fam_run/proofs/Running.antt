@@ -1,5 +1,5 @@
 -- A task goes on behind an operation.
-use Rattle.std.proofs.Common.{◌≡◌, Option, Some, None, sym, ap}
+use Rattle.std.proofs.Common.{◌≡◌, Some, None, sym, ap}
 use Rattle.std.specs.Prelude.{unwrap_or}
 use Rattle.fam_rules.specs.Reply.{Reply}
 use Rattle.fam_machine.specs.Caches.{Cache}
