@@ -466,9 +466,8 @@ impl HostCache {
         ensures err_spare { OnErr result (self.old.spare ≤ self.new.spare) }
     {
         let spot = seek(&self.places, self.last, line.0);
-        match copy(&self.places, spot, line.0) {
-            Cell::Absent => {}
-            _ => return Ok(None),
+        if held_at(&self.places, spot, line.0).is_some() {
+            return Ok(None);
         }
         if make_room(&mut self.places, spot).is_err() {
             return Err(CacheFault::OutOfMemory);
@@ -522,9 +521,8 @@ impl HostCache {
         ensures spare { self.old.spare ≤ self.new.spare + 1 }
     {
         let spot = seek(&self.places, self.last, line.0);
-        match copy(&self.places, spot, line.0) {
-            Cell::Absent => {}
-            _ => return Ok(false),
+        if held_at(&self.places, spot, line.0).is_some() {
+            return Ok(false);
         }
         if make_room(&mut self.places, spot).is_err() {
             return Err(CacheFault::OutOfMemory);

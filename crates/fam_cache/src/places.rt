@@ -46,6 +46,7 @@ fn bisect(places: &[(u64, Cell)], line: u64) -> usize
 }
 
 /// Whether the line's place stands there.
+#[inline(always)]
 fn stands(places: &[(u64, Cell)], at: usize, line: u64) -> bool
     ensures { IsTrue result ↔ ((at < length places.now) × (number_at places.now at ≡ line)) }
 {
@@ -57,6 +58,7 @@ fn stands(places: &[(u64, Cell)], at: usize, line: u64) -> bool
 }
 
 /// Whether the line comes before the place that stands there, if any does.
+#[inline(always)]
 fn precedes(places: &[(u64, Cell)], at: usize, line: u64) -> bool
     ensures { IsTrue result ↔ (at < length places.now → line < number_at places.now at) }
 {
@@ -68,6 +70,7 @@ fn precedes(places: &[(u64, Cell)], at: usize, line: u64) -> bool
 }
 
 /// The spot of the line at this place, behind it or at the next one, if it is there.
+#[inline(always)]
 fn near(places: &[(u64, Cell)], at: usize, line: u64) -> Option<Spot>
     requires { IsTrue (is_sorted nat_cmp places.now) }
     ensures { IfSome result (λ spot. IsSpot places.now spot line) }
@@ -91,6 +94,7 @@ fn near(places: &[(u64, Cell)], at: usize, line: u64) -> Option<Spot>
 }
 
 /// The spot of the line, which is looked for by bisection.
+#[inline(never)]
 fn far(places: &[(u64, Cell)], line: u64) -> Spot
     requires { IsTrue (is_sorted nat_cmp places.now) }
     ensures { IsSpot places.now result line }
@@ -104,6 +108,7 @@ fn far(places: &[(u64, Cell)], line: u64) -> Spot
 }
 
 /// The spot of the line, which is looked for at and behind the place of the last access first.
+#[inline(always)]
 pub(crate) fn seek(places: &Vec<(u64, Cell)>, last: usize, line: u64) -> Spot
     requires { IsTrue (is_sorted nat_cmp places.now.items) }
     ensures { IsSpot places.now.items result line }
@@ -115,6 +120,7 @@ pub(crate) fn seek(places: &Vec<(u64, Cell)>, last: usize, line: u64) -> Spot
 }
 
 /// The place to remember after an access to a spot. Any number serves, but this one finds the next line soon.
+#[inline(always)]
 pub(crate) fn place_of(spot: Spot) -> usize {
     match spot {
         Spot::Place(at) => at,
@@ -135,6 +141,7 @@ pub(crate) fn copy(places: &Vec<(u64, Cell)>, spot: Spot, line: u64) -> Cell
 }
 
 /// Whether there is a copy.
+#[inline(always)]
 fn is_held_copy(copy: &Cell) -> bool
     ensures { result ≡ is_held copy.now }
 {
@@ -145,6 +152,7 @@ fn is_held_copy(copy: &Cell) -> bool
 }
 
 /// The place at a spot, where its line is held.
+#[inline(always)]
 pub(crate) fn held_at(places: &Vec<(u64, Cell)>, spot: Spot, line: u64) -> Option<usize>
     requires sorted { IsTrue (is_sorted nat_cmp places.now.items) }
     requires spot { IsSpot places.now.items spot line }
@@ -165,6 +173,7 @@ pub(crate) fn held_at(places: &Vec<(u64, Cell)>, spot: Spot, line: u64) -> Optio
 }
 
 /// Makes room for one more place, where the spot needs it.
+#[inline(always)]
 pub(crate) fn make_room(places: &mut Vec<(u64, Cell)>, spot: Spot) -> Result<(), OutOfMemory>
     ensures room { OnOk result (is_gap spot ≡ true → vec_len places.new < vec_capacity places.new) }
 
@@ -186,6 +195,7 @@ pub(crate) fn make_room(places: &mut Vec<(u64, Cell)>, spot: Spot) -> Result<(),
 }
 
 /// Puts a copy into the place of a line.
+#[inline(always)]
 pub(crate) fn set_copy(places: &mut Vec<(u64, Cell)>, at: usize, line: u64, copy: Cell)
     requires sorted { IsTrue (is_sorted nat_cmp places.old.items) }
     requires stands { IsPlaceOf places.old.items at line }
@@ -228,6 +238,7 @@ pub(crate) fn put_copy(places: &mut Vec<(u64, Cell)>, spot: Spot, line: u64, cop
 }
 
 /// Whether the last place is absent.
+#[inline(always)]
 fn ends_absent(places: &[(u64, Cell)]) -> bool
     ensures { IsTrue result → EndsAbsent places.now }
 {
@@ -254,6 +265,7 @@ fn give_up(places: &mut Vec<(u64, Cell)>)
 }
 
 /// Makes a line absent. Its place stays, unless it is the last.
+#[inline(always)]
 pub(crate) fn drop_copy(places: &mut Vec<(u64, Cell)>, spot: Spot, line: u64)
     requires sorted { IsTrue (is_sorted nat_cmp places.old.items) }
     requires spot { IsSpot places.old.items spot line }
@@ -440,6 +452,7 @@ pub(crate) fn set_word(places: &mut Vec<(u64, Cell)>, at: usize, line: u64, word
 }
 
 /// Whether the host stored into the copy at a spot.
+#[inline(always)]
 pub(crate) fn is_dirty_at(places: &Vec<(u64, Cell)>, spot: Spot, line: u64) -> bool
     requires sorted { IsTrue (is_sorted nat_cmp places.now.items) }
     requires spot { IsSpot places.now.items spot line }
@@ -452,6 +465,7 @@ pub(crate) fn is_dirty_at(places: &Vec<(u64, Cell)>, spot: Spot, line: u64) -> b
 }
 
 /// Whether the host stored into the copy.
+#[inline(always)]
 fn is_dirty_copy(copy: &Cell) -> bool
     ensures { result ≡ is_dirty copy.now }
 {

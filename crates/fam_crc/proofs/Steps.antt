@@ -209,21 +209,28 @@ zero_bytes (suc n) r =
     ap (λ (x : ℕ). fold after_byte (steps 8 x) (replicate n 0)) (xor_zero_r r) ∙ zero_bytes n (steps 8 r) ∙ sym (steps-add 8 (8 * n) r)
     ∙ ap (λ (k : ℕ). steps k r) e
 
--- the four look-ups of eight words of zero
-pub zeros_split : (r a b c d : ℕ) → a ≡ steps 512 (r % 256) → b ≡ steps 504 (r / 2 ^ 8 % 256) → c ≡ steps 496 (r / 2 ^ 16 % 256) → d ≡ steps 488 (r / 2 ^ 24) → bit_xor (bit_xor (bit_xor a b) c) d ≡ steps 512 r
-zeros_split r a b c d pa pb pc pd =
-    let sum : bit_xor (steps 512 (r % 256)) (bit_xor (steps 504 (r / 2 ^ 8 % 256)) (bit_xor (steps 496 (r / 2 ^ 16 % 256)) (steps 488 (r / 2 ^ 24)))) ≡ steps 512 r =
-    sym (steps_byte 504 r ∙ ap (bit_xor (steps 512 (r % 256)))
-    (level 496 (2 ^ 8) r ∙ ap (bit_xor (steps 504 (r / 2 ^ 8 % 256)))
-    (level 488 (2 ^ 16) r))) in
+-- the four look-ups of a register that has zeros behind it
+pub zeros_split : (n r a b c d : ℕ) → a ≡ steps (8 + (8 + (8 + n))) (r % 256) → b ≡ steps (8 + (8 + n)) (r / 2 ^ 8 % 256) → c ≡ steps (8 + n) (r / 2 ^ 16 % 256) → d ≡ steps n (r / 2 ^ 24) → bit_xor (bit_xor (bit_xor a b) c) d ≡ steps (8 + (8 + (8 + n))) r
+zeros_split n r a b c d pa pb pc pd =
+    let sum : bit_xor (steps (8 + (8 + (8 + n))) (r % 256)) (bit_xor (steps (8 + (8 + n)) (r / 2 ^ 8 % 256)) (bit_xor (steps (8 + n) (r / 2 ^ 16 % 256)) (steps n (r / 2 ^ 24)))) ≡ steps (8 + (8 + (8 + n))) r =
+    sym (steps_byte (8 + (8 + n)) r ∙ ap (bit_xor (steps (8 + (8 + (8 + n))) (r % 256)))
+    (level (8 + n) (2 ^ 8) r ∙ ap (bit_xor (steps (8 + (8 + n)) (r / 2 ^ 8 % 256)))
+    (level n (2 ^ 16) r))) in
     rw (pa, pb, pc, pd) (simp xor_assoc sum)
 
--- the checksum goes on behind eight words of zero
-pub behind_zeros : (r : ℕ) (words behind : List ℕ) → words ≡ 0 ∷ 0 ∷ 0 ∷ 0 ∷ 0 ∷ 0 ∷ 0 ∷ 0 ∷ behind → fold after_byte (steps 512 r) (bytes_of_words behind) ≡ fold after_byte r (bytes_of_words words)
-behind_zeros r words behind e =
-    let zeros : bytes_of_words (0 ∷ 0 ∷ 0 ∷ 0 ∷ 0 ∷ 0 ∷ 0 ∷ 0 ∷ behind) ≡ replicate 64 0 ++ bytes_of_words behind = refl in
-    sym (ap (λ (l : List ℕ). fold after_byte r (bytes_of_words l)) e ∙ ap (fold after_byte r) zeros
-    ∙ fold-append after_byte r (replicate 64 0) (bytes_of_words behind) ∙ ap (λ (x : ℕ). fold after_byte x (bytes_of_words behind)) (zero_bytes 64 r))
+-- the checksum goes on behind bytes of zero
+behind_bytes : (n r : ℕ) (words behind : List ℕ) → bytes_of_words words ≡ replicate n 0 ++ bytes_of_words behind → fold after_byte (steps (8 * n) r) (bytes_of_words behind) ≡ fold after_byte r (bytes_of_words words)
+behind_bytes n r words behind zeros =
+    sym (ap (fold after_byte r) zeros
+    ∙ fold-append after_byte r (replicate n 0) (bytes_of_words behind) ∙ ap (λ (x : ℕ). fold after_byte x (bytes_of_words behind)) (zero_bytes n r))
+
+-- behind sixteen words of zero
+pub behind_sixteen : (r : ℕ) (words behind : List ℕ) → words ≡ 0 ∷ 0 ∷ 0 ∷ 0 ∷ 0 ∷ 0 ∷ 0 ∷ 0 ∷ 0 ∷ 0 ∷ 0 ∷ 0 ∷ 0 ∷ 0 ∷ 0 ∷ 0 ∷ behind → fold after_byte (steps 1024 r) (bytes_of_words behind) ≡ fold after_byte r (bytes_of_words words)
+behind_sixteen r words behind e = behind_bytes 128 r words behind (ap bytes_of_words e)
+
+-- behind three
+pub behind_three : (r : ℕ) (words behind : List ℕ) → words ≡ 0 ∷ 0 ∷ 0 ∷ behind → fold after_byte (steps 192 r) (bytes_of_words behind) ≡ fold after_byte r (bytes_of_words words)
+behind_three r words behind e = behind_bytes 24 r words behind (ap bytes_of_words e)
 
 -- no words are left
 pub of_none : (r : ℕ) (words : List ℕ) → length words < 1 → fold after_byte r (bytes_of_words words) ≡ r

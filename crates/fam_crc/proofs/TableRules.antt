@@ -7,8 +7,10 @@ use Rattle.fam_crc.specs.Crc.{steps}
 use Rattle.fam_crc.specs.declared.tables.bits_8_to_24.TheConstants.{AFTER_8, AFTER_16, AFTER_24}
 use Rattle.fam_crc.specs.declared.tables.bits_32_to_48.TheConstants.{AFTER_32, AFTER_40, AFTER_48}
 use Rattle.fam_crc.specs.declared.tables.bits_56_to_64.TheConstants.{AFTER_56, AFTER_64}
-use Rattle.fam_crc.specs.declared.tables.bits_488_to_496.TheConstants.{AFTER_488, AFTER_496}
-use Rattle.fam_crc.specs.declared.tables.bits_504_to_512.TheConstants.{AFTER_504, AFTER_512}
+use Rattle.fam_crc.specs.declared.tables.bits_168_to_176.TheConstants.{AFTER_168, AFTER_176}
+use Rattle.fam_crc.specs.declared.tables.bits_184_to_192.TheConstants.{AFTER_184, AFTER_192}
+use Rattle.fam_crc.specs.declared.tables.bits_1000_to_1008.TheConstants.{AFTER_1000, AFTER_1008}
+use Rattle.fam_crc.specs.declared.tables.bits_1016_to_1024.TheConstants.{AFTER_1016, AFTER_1024}
 
 -- at an index of a table of f stands f of it
 table_at : (f : ℕ → ℕ) (table : List ℕ) (n : ℕ) → table ≡ map f (range_with_len 0 n) → (i : ℕ) → i < n → get_or table i 0 ≡ f i
@@ -89,38 +91,74 @@ table_64 = refl
 pub at_64 : (i : ℕ) → i < 256 → get_or AFTER_64 i 0 ≡ steps 64 i
 at_64 i below = table_at (λ i. steps 64 i) AFTER_64 256 table_64 i below
 
--- the table for 488 bits, number by number
-table_488 : AFTER_488 ≡ map (λ i. steps 488 i) (range_with_len 0 256)
+-- the table for 168 bits, number by number
+table_168 : AFTER_168 ≡ map (λ i. steps 168 i) (range_with_len 0 256)
 unfolding steps
-table_488 = refl
+table_168 = refl
 
--- a look-up in the table for 488 bits
-pub at_488 : (i : ℕ) → i < 256 → get_or AFTER_488 i 0 ≡ steps 488 i
-at_488 i below = table_at (λ i. steps 488 i) AFTER_488 256 table_488 i below
+-- a look-up in the table for 168 bits
+pub at_168 : (i : ℕ) → i < 256 → get_or AFTER_168 i 0 ≡ steps 168 i
+at_168 i below = table_at (λ i. steps 168 i) AFTER_168 256 table_168 i below
 
--- the table for 496 bits, number by number
-table_496 : AFTER_496 ≡ map (λ i. steps 496 i) (range_with_len 0 256)
+-- the table for 176 bits, number by number
+table_176 : AFTER_176 ≡ map (λ i. steps 176 i) (range_with_len 0 256)
 unfolding steps
-table_496 = refl
+table_176 = refl
 
--- a look-up in the table for 496 bits
-pub at_496 : (i : ℕ) → i < 256 → get_or AFTER_496 i 0 ≡ steps 496 i
-at_496 i below = table_at (λ i. steps 496 i) AFTER_496 256 table_496 i below
+-- a look-up in the table for 176 bits
+pub at_176 : (i : ℕ) → i < 256 → get_or AFTER_176 i 0 ≡ steps 176 i
+at_176 i below = table_at (λ i. steps 176 i) AFTER_176 256 table_176 i below
 
--- the table for 504 bits, number by number
-table_504 : AFTER_504 ≡ map (λ i. steps 504 i) (range_with_len 0 256)
+-- the table for 184 bits, number by number
+table_184 : AFTER_184 ≡ map (λ i. steps 184 i) (range_with_len 0 256)
 unfolding steps
-table_504 = refl
+table_184 = refl
 
--- a look-up in the table for 504 bits
-pub at_504 : (i : ℕ) → i < 256 → get_or AFTER_504 i 0 ≡ steps 504 i
-at_504 i below = table_at (λ i. steps 504 i) AFTER_504 256 table_504 i below
+-- a look-up in the table for 184 bits
+pub at_184 : (i : ℕ) → i < 256 → get_or AFTER_184 i 0 ≡ steps 184 i
+at_184 i below = table_at (λ i. steps 184 i) AFTER_184 256 table_184 i below
 
--- the table for 512 bits, number by number
-table_512 : AFTER_512 ≡ map (λ i. steps 512 i) (range_with_len 0 256)
+-- the table for 192 bits, number by number
+table_192 : AFTER_192 ≡ map (λ i. steps 192 i) (range_with_len 0 256)
 unfolding steps
-table_512 = refl
+table_192 = refl
 
--- a look-up in the table for 512 bits
-pub at_512 : (i : ℕ) → i < 256 → get_or AFTER_512 i 0 ≡ steps 512 i
-at_512 i below = table_at (λ i. steps 512 i) AFTER_512 256 table_512 i below
+-- a look-up in the table for 192 bits
+pub at_192 : (i : ℕ) → i < 256 → get_or AFTER_192 i 0 ≡ steps 192 i
+at_192 i below = table_at (λ i. steps 192 i) AFTER_192 256 table_192 i below
+
+-- the table for 1000 bits, number by number
+table_1000 : AFTER_1000 ≡ map (λ i. steps 1000 i) (range_with_len 0 256)
+unfolding steps
+table_1000 = refl
+
+-- a look-up in the table for 1000 bits
+pub at_1000 : (i : ℕ) → i < 256 → get_or AFTER_1000 i 0 ≡ steps 1000 i
+at_1000 i below = table_at (λ i. steps 1000 i) AFTER_1000 256 table_1000 i below
+
+-- the table for 1008 bits, number by number
+table_1008 : AFTER_1008 ≡ map (λ i. steps 1008 i) (range_with_len 0 256)
+unfolding steps
+table_1008 = refl
+
+-- a look-up in the table for 1008 bits
+pub at_1008 : (i : ℕ) → i < 256 → get_or AFTER_1008 i 0 ≡ steps 1008 i
+at_1008 i below = table_at (λ i. steps 1008 i) AFTER_1008 256 table_1008 i below
+
+-- the table for 1016 bits, number by number
+table_1016 : AFTER_1016 ≡ map (λ i. steps 1016 i) (range_with_len 0 256)
+unfolding steps
+table_1016 = refl
+
+-- a look-up in the table for 1016 bits
+pub at_1016 : (i : ℕ) → i < 256 → get_or AFTER_1016 i 0 ≡ steps 1016 i
+at_1016 i below = table_at (λ i. steps 1016 i) AFTER_1016 256 table_1016 i below
+
+-- the table for 1024 bits, number by number
+table_1024 : AFTER_1024 ≡ map (λ i. steps 1024 i) (range_with_len 0 256)
+unfolding steps
+table_1024 = refl
+
+-- a look-up in the table for 1024 bits
+pub at_1024 : (i : ℕ) → i < 256 → get_or AFTER_1024 i 0 ≡ steps 1024 i
+at_1024 i below = table_at (λ i. steps 1024 i) AFTER_1024 256 table_1024 i below

@@ -1,10 +1,12 @@
 //! Tables of what zero bits make of a register that holds one byte.
 //!
-//! A table has 256 numbers, and `rt fmt` gives each a line, so a file has three.
+//! A table has 256 numbers, and `rt fmt` gives each a line, so a file has two or three.
 
+mod bits_1000_to_1008;
+mod bits_1016_to_1024;
+mod bits_168_to_176;
+mod bits_184_to_192;
 mod bits_32_to_48;
-mod bits_488_to_496;
-mod bits_504_to_512;
 mod bits_56_to_64;
 mod bits_8_to_24;
 
@@ -14,8 +16,10 @@ ghost use Rattle.fam_crc.specs.Crc.{steps};
 use crate::tables::bits_8_to_24::{AFTER_8, AFTER_16, AFTER_24};
 use crate::tables::bits_32_to_48::{AFTER_32, AFTER_40, AFTER_48};
 use crate::tables::bits_56_to_64::{AFTER_56, AFTER_64};
-use crate::tables::bits_488_to_496::{AFTER_488, AFTER_496};
-use crate::tables::bits_504_to_512::{AFTER_504, AFTER_512};
+use crate::tables::bits_168_to_176::{AFTER_168, AFTER_176};
+use crate::tables::bits_184_to_192::{AFTER_184, AFTER_192};
+use crate::tables::bits_1000_to_1008::{AFTER_1000, AFTER_1008};
+use crate::tables::bits_1016_to_1024::{AFTER_1016, AFTER_1024};
 
 /// The register that held `byte`, after 8 bits of zero.
 pub(crate) fn after_8(byte: u8) -> u32
@@ -73,30 +77,58 @@ pub(crate) fn after_64(byte: u8) -> u32
     AFTER_64[byte as usize]
 }
 
-/// The register that held `byte`, after 488 bits of zero.
-pub(crate) fn after_488(byte: u8) -> u32
-    ensures { result ≡ steps 488 byte }
+/// The register that held `byte`, after 168 bits of zero.
+pub(crate) fn after_168(byte: u8) -> u32
+    ensures { result ≡ steps 168 byte }
 {
-    AFTER_488[byte as usize]
+    AFTER_168[byte as usize]
 }
 
-/// The register that held `byte`, after 496 bits of zero.
-pub(crate) fn after_496(byte: u8) -> u32
-    ensures { result ≡ steps 496 byte }
+/// The register that held `byte`, after 176 bits of zero.
+pub(crate) fn after_176(byte: u8) -> u32
+    ensures { result ≡ steps 176 byte }
 {
-    AFTER_496[byte as usize]
+    AFTER_176[byte as usize]
 }
 
-/// The register that held `byte`, after 504 bits of zero.
-pub(crate) fn after_504(byte: u8) -> u32
-    ensures { result ≡ steps 504 byte }
+/// The register that held `byte`, after 184 bits of zero.
+pub(crate) fn after_184(byte: u8) -> u32
+    ensures { result ≡ steps 184 byte }
 {
-    AFTER_504[byte as usize]
+    AFTER_184[byte as usize]
 }
 
-/// The register that held `byte`, after 512 bits of zero.
-pub(crate) fn after_512(byte: u8) -> u32
-    ensures { result ≡ steps 512 byte }
+/// The register that held `byte`, after 192 bits of zero.
+pub(crate) fn after_192(byte: u8) -> u32
+    ensures { result ≡ steps 192 byte }
 {
-    AFTER_512[byte as usize]
+    AFTER_192[byte as usize]
+}
+
+/// The register that held `byte`, after 1000 bits of zero.
+pub(crate) fn after_1000(byte: u8) -> u32
+    ensures { result ≡ steps 1000 byte }
+{
+    AFTER_1000[byte as usize]
+}
+
+/// The register that held `byte`, after 1008 bits of zero.
+pub(crate) fn after_1008(byte: u8) -> u32
+    ensures { result ≡ steps 1008 byte }
+{
+    AFTER_1008[byte as usize]
+}
+
+/// The register that held `byte`, after 1016 bits of zero.
+pub(crate) fn after_1016(byte: u8) -> u32
+    ensures { result ≡ steps 1016 byte }
+{
+    AFTER_1016[byte as usize]
+}
+
+/// The register that held `byte`, after 1024 bits of zero.
+pub(crate) fn after_1024(byte: u8) -> u32
+    ensures { result ≡ steps 1024 byte }
+{
+    AFTER_1024[byte as usize]
 }

@@ -16,41 +16,41 @@ use Rattle.fam_format.specs.Words.{byte_from, bytes_from}
 use Rattle.fam_format.proofs.WordRounds.{le_byte}
 use Rattle.fam_entry.proofs.Filling.{filled_bytes}
 
-module _ (a n : ℕ) (xs ys : List ℕ) (long : length xs ≡ 168) (within : a + 8 ≤ 168) (size : n ≡ 8) (eight : length ys ≡ 8) where
-  put_eight : put_mid a n xs ys ≡ put_mid a 8 xs ys
-  put_eight = ap (λ (m : ℕ). put_mid a m xs ys) size
+module _ (a n m : ℕ) (xs ys : List ℕ) (long : length xs ≡ 168) (within : a + m ≤ 168) (size : n ≡ m) (count : length ys ≡ m) where
+  put_size : put_mid a n xs ys ≡ put_mid a m xs ys
+  put_size = ap (λ (k : ℕ). put_mid a k xs ys) size
 
   -- as many bytes as before
   pub put_length : length (put_mid a n xs ys) ≡ 168
   put_length =
-      let count : length (put_mid a 8 xs ys) ≡ 168 =
-      omega (arith, length-append (take a xs) (ys ++ drop 8 (drop a xs)), length-append ys (drop 8 (drop a xs)), length-take-le a xs (omega arith), length-drop 8 (drop a xs), length-drop a xs) in
-      ap length put_eight ∙ count
+      let all : length (put_mid a m xs ys) ≡ 168 =
+      omega (arith, length-append (take a xs) (ys ++ drop m (drop a xs)), length-append ys (drop m (drop a xs)), length-take-le a xs (omega arith), length-drop m (drop a xs), length-drop a xs) in
+      ap length put_size ∙ all
 
-  -- what stood before the eight bytes
+  -- what stood before the bytes
   pub put_below : (k : ℕ) → k < a → get_or (put_mid a n xs ys) k 0 ≡ get_or xs k 0
   put_below k below =
-      ap (λ (l : List ℕ). get_or l k 0) put_eight
-      ∙ get_or_append_left (take a xs) (ys ++ drop 8 (drop a xs)) 0 k (omega (arith, length-take-le a xs (omega arith)))
+      ap (λ (l : List ℕ). get_or l k 0) put_size
+      ∙ get_or_append_left (take a xs) (ys ++ drop m (drop a xs)) 0 k (omega (arith, length-take-le a xs (omega arith)))
       ∙ get_or-take a xs k 0 below
 
-  -- the eight bytes
-  pub put_at : (j : ℕ) → j < 8 → get_or (put_mid a n xs ys) (a + j) 0 ≡ get_or ys j 0
+  -- the bytes
+  pub put_at : (j : ℕ) → j < m → get_or (put_mid a n xs ys) (a + j) 0 ≡ get_or ys j 0
   put_at j below =
       let place : a + j - a ≡ j = omega arith in
-      ap (λ (l : List ℕ). get_or l (a + j) 0) put_eight
-      ∙ get_or-append_right (take a xs) (ys ++ drop 8 (drop a xs)) a (a + j) 0 (length-take-le a xs (omega arith)) (omega arith)
-      ∙ ap (λ (m : ℕ). get_or (ys ++ drop 8 (drop a xs)) m 0) place
-      ∙ get_or_append_left ys (drop 8 (drop a xs)) 0 j (omega arith)
+      ap (λ (l : List ℕ). get_or l (a + j) 0) put_size
+      ∙ get_or-append_right (take a xs) (ys ++ drop m (drop a xs)) a (a + j) 0 (length-take-le a xs (omega arith)) (omega arith)
+      ∙ ap (λ (k : ℕ). get_or (ys ++ drop m (drop a xs)) k 0) place
+      ∙ get_or_append_left ys (drop m (drop a xs)) 0 j (omega arith)
 
   -- what stood behind them
-  pub put_behind : (k : ℕ) → a + 8 ≤ k → get_or (put_mid a n xs ys) k 0 ≡ get_or xs k 0
+  pub put_behind : (k : ℕ) → a + m ≤ k → get_or (put_mid a n xs ys) k 0 ≡ get_or xs k 0
   put_behind k behind =
-      let place : a + (8 + (k - a - 8)) ≡ k = omega arith in
-      ap (λ (l : List ℕ). get_or l k 0) put_eight
-      ∙ get_or-append_right (take a xs) (ys ++ drop 8 (drop a xs)) a k 0 (length-take-le a xs (omega arith)) (omega arith)
-      ∙ get_or-append_right ys (drop 8 (drop a xs)) 8 (k - a) 0 eight (omega arith)
-      ∙ get_or-drop 8 (drop a xs) (k - a - 8) 0 ∙ get_or-drop a xs (8 + (k - a - 8)) 0 ∙ ap (λ (m : ℕ). get_or xs m 0) place
+      let place : a + (m + (k - a - m)) ≡ k = omega arith in
+      ap (λ (l : List ℕ). get_or l k 0) put_size
+      ∙ get_or-append_right (take a xs) (ys ++ drop m (drop a xs)) a k 0 (length-take-le a xs (omega arith)) (omega arith)
+      ∙ get_or-append_right ys (drop m (drop a xs)) m (k - a) 0 count (omega arith)
+      ∙ get_or-drop m (drop a xs) (k - a - m) 0 ∙ get_or-drop a xs (m + (k - a - m)) 0 ∙ ap (λ (l : ℕ). get_or xs l 0) place
 
 -- a place before eight bytes, or the offset of one of them
 pub at_eight : (i k : ℕ) → k < 8 * (i + 1) → (k < 8 * i) ⊎ ((8 * i + (k - 8 * i) ≡ k) × (k - 8 * i < 8))

@@ -1,13 +1,22 @@
 -- A word of zero is no stray.
-use Rattle.std.proofs.Common.{◌≡◌, ◌==◌, ◌&&◌, ◌+◌, ◌-◌, ◌*◌, ◌^◌, ◌%◌, ◌<◌, ◌≤◌, ℕ, Bool, true, false, cond, not, nat_le, List, slice_index, length, take, drop, refl, sym, ap, ◌∙◌, arith}
+use Rattle.std.proofs.Common.{◌≡◌, ◌/◌, zero, suc, inl, inr, ◌==◌, ◌&&◌, ◌+◌, ◌-◌, ◌*◌, ◌^◌, ◌%◌, ◌<◌, ◌≤◌, ℕ, Bool, true, false, cond, not, nat_le, List, slice_index, length, take, drop, refl, sym, ap, ◌∙◌, arith}
 use Rattle.std.specs.Prelude.{nat_lt}
 use Rattle.std.specs.List.{list_any, range_with_len}
-use Rattle.std.proofs.Math.Nat.{zero-div}
+use Rattle.std.proofs.Math.Nat.{zero-div, div-div-eq-div-mul, pow-suc}
+use Rattle.std.proofs.lemmas.Nat.{pow-add}
+use Rattle.std.proofs.lemmas.Bool.{cases_lt}
 use Rattle.std.proofs.lemmas.Bool.Decides.{nat_tests}
 use Rattle.std.proofs.lemmas.List.{get_or-take, get_or-drop, length-take}
 use Rattle.fam_base.specs.Image.{byte_of}
 use Rattle.fam_format.specs.Slot.{extents_word, is_stray, is_stray_byte, path_word}
 use Rattle.fam_format.proofs.Stops.{any_false}
+
+-- eight bits are a byte
+bytes_of_bits : (j : ℕ) → 2 ^ (8 * j) ≡ 256 ^ j
+bytes_of_bits zero = refl
+bytes_of_bits (suc j) =
+    let e : 8 * suc j ≡ 8 * j + 8 = omega arith in
+    ap (λ (n : ℕ). 2 ^ n) e ∙ pow-add 2 (8 * j) 8 ∙ ap (λ (p : ℕ). p * 256) (bytes_of_bits j) ∙ sym (pow-suc 256 j)
 
 and_false : (b : Bool) → (b && false) ≡ false
 and_false true = refl
@@ -35,6 +44,25 @@ pub inside : (words : List ℕ) (i b : ℕ) → 8 * (i - path_word) + 8 ≤ slic
 inside words i b full below =
     let before : nat_le (slice_index words 6) (8 * (i - path_word) + b) ≡ false = grind (arith, nat_tests) in
     ap (λ (past : Bool). past && not (byte_of (slice_index words i) b == 0)) before
+
+-- bytes from one on that are all zero
+zero_above : (word u b : ℕ) → word / 2 ^ (8 * u) ≡ 0 → u ≤ b → byte_of word b ≡ 0
+zero_above word u b none from =
+    let place : u + (b - u) ≡ b = omega arith in
+    let apart : 2 ^ (8 * u) * 256 ^ (b - u) ≡ 256 ^ b = ap (λ (p : ℕ). p * 256 ^ (b - u)) (bytes_of_bits u) ∙ sym (pow-add 256 u (b - u)) ∙ ap (λ (k : ℕ). 256 ^ k) place in
+    ap (λ (p : ℕ). word / p % 256) (sym apart) ∙ ap (λ (q : ℕ). q % 256) (sym (div-div-eq-div-mul word (2 ^ (8 * u)) (256 ^ (b - u))) ∙ ap (λ (q : ℕ). q / 256 ^ (b - u)) none ∙ zero-div (256 ^ (b - u)))
+
+-- nor has a word that is zero from the path's end on
+pub outside : (words : List ℕ) (i u b : ℕ) → u ≡ slice_index words 6 - 8 * (i - path_word) → slice_index words i / 2 ^ (8 * u) ≡ 0 → is_stray_byte words i b ≡ false
+outside words i u b used none =
+    elim (cases_lt (8 * (i - path_word) + b) (slice_index words 6)) [
+      | inl within ↦
+          let before : nat_le (slice_index words 6) (8 * (i - path_word) + b) ≡ false = grind (arith, nat_tests) in
+          ap (λ (past : Bool). past && not (byte_of (slice_index words i) b == 0)) before
+      | inr past ↦
+          let zero : byte_of (slice_index words i) b ≡ 0 = zero_above (slice_index words i) u b none (omega (arith, used, past)) in
+          ap (λ (byte : ℕ). nat_le (slice_index words 6) (8 * (i - path_word) + b) && not (byte == 0)) zero ∙ and_false (nat_le (slice_index words 6) (8 * (i - path_word) + b))
+    ]
 
 -- a word of eight in a part that are 0
 pub zero_within : (words : List ℕ) (i n k : ℕ) → i ≤ k → k < i + 8 → 8 ≤ length (take n (drop i words)) → ((j : ℕ) → j < 8 → slice_index (take n (drop i words)) j ≡ 0) → slice_index words k ≡ 0

@@ -12,7 +12,7 @@ use crate::places::{
     SLOT_WORDS, UID_WORD,
 };
 use fam_base::{Entry, Extent, Extents, Kind, MapKind, Path};
-use fam_format::{Reason, byte_of};
+use fam_format::Reason;
 
 fn kind_of(word: u64) -> Kind
     ensures { result ≡ slots.kind_of word }
@@ -68,9 +68,9 @@ fn put_path(words: &[u64; SLOT_WORDS], len: usize, field: &mut [u8; PATH_LIMIT])
     ensures behind { (k : ℕ) → len ≤ k → slice_index field.new k ≡ 0 }
 {
     put_words(words, len / 8, field);
-    for i in 8 * (len / 8)..len {
-        field[i] = byte_of(words[PATH_WORD + i / 8], i % 8);
-    }
+    let whole = 8 * (len / 8);
+    let bytes = words[PATH_WORD + len / 8].to_le_bytes();
+    field[whole..len].copy_from_slice(&bytes[..len - whole]);
 }
 
 /// Whether the length is that of a path and the bytes are one, which are put into a field of zeros.

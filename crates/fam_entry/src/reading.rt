@@ -100,10 +100,13 @@ fn has_stray_byte(words: &[u64; SLOT_WORDS], i: usize) -> bool
     requires below { i < CRC_WORD }
     ensures { result ≡ list_any (slots.is_stray_byte words.now i) (range_with_len 0 8) }
 {
-    if words[i] == 0 {
+    let from = 8 * (i - PATH_WORD) as u64;
+    let len = words[PATH_LENGTH_WORD];
+    if len >= from + 8 {
         return false;
     }
-    if words[PATH_LENGTH_WORD] >= 8 * (i - PATH_WORD) as u64 + 8 {
+    let used = len.saturating_sub(from);
+    if words[i] >> (8 * used) == 0 {
         return false;
     }
     for b in 0..8 {

@@ -1,4 +1,5 @@
 pub mod Steps
+pub mod Least
 pub mod Scans
 pub mod Slots
 pub mod WholeImage

@@ -9,12 +9,18 @@ use Rattle.std.proofs.Math.Seq.{drop-cons}
 use Rattle.std.proofs.lemmas.Bool.{cond-false}
 use Rattle.std.proofs.lemmas.Cmp.{nat_eq_equiv}
 use Rattle.std.proofs.lemmas.List.{take_more}
+use Rattle.std.proofs.lemmas.List.FromFn.{length-range_with_len}
 use Rattle.std.proofs.lemmas.List.Folds.{list_any-append}
 use Rattle.std.proofs.Math.Nat.{div-mul-le_self, mul-div-le, mul-le-mul_left}
 use Rattle.fam_base.specs.declared.entry.Entry.{Entry}
+use Rattle.fam_base.specs.declared.entry.Params.{Params}
+use Rattle.std.specs.List.{count_by}
+use Rattle.std.proofs.lemmas.List.Sums.{count_by-le-length}
+use Rattle.fam_format.specs.Layout.{device_units}
+use Rattle.fam_rules.specs.Reports.{used_count}
 use Rattle.fam_base.specs.PathOrder.{path_cmp, path_eq}
 use Rattle.fam_format.specs.Tree.{replay}
-use Rattle.fam_format.specs.Units.{first_overlap}
+use Rattle.fam_format.specs.Units.{first_overlap, is_used}
 use Rattle.fam_format.proofs.JoinLaws.{replay_more}
 use Rattle.fam_plain.specs.Joining.{is_seen}
 
@@ -80,3 +86,10 @@ overlap_more head seen units i u below is fresh =
     let here : drop i units ≡ u ∷ drop (i + 1) units = drop-cons units i 0 below ∙ ap (λ (x : ℕ). x ∷ drop (suc i) units) is ∙ ap (λ (n : ℕ). u ∷ drop n units) (sym (add-one i)) in
     overlap_same (is_seen head (seen ++ u ∷ [])) (λ v. (v == u) || is_seen head seen v) (drop (i + 1) units) (seen_more head seen u)
     ∙ sym (ap (first_overlap (is_seen head seen)) here ∙ cond-false (is_seen head seen u) (Some u) (first_overlap (λ v. (v == u) || is_seen head seen v) (drop (i + 1) units)) fresh)
+
+-- no more units are used than the device has
+pub used_few : (p : Params) (list : List Entry) → used_count p list ≤ device_units p
+used_few p list =
+    let all : count_by (is_used p list) (range_with_len 0 (device_units p)) ≤ length (range_with_len 0 (device_units p)) = count_by-le-length (is_used p list) (range_with_len 0 (device_units p)) in
+    let so_many : length (range_with_len 0 (device_units p)) ≡ device_units p = length-range_with_len 0 (device_units p) in
+    omega (arith, all, so_many)

@@ -1,2 +1,4 @@
 pub mod Joining
 pub mod Says
+pub mod Survey
+pub mod Told

@@ -56,6 +56,16 @@ fn parent_fault(entries: &[Entry], entry: &Entry) -> Option<Reason>
     }
 }
 
+/// Why an entry can't be put into the tree of a list, or nothing where it can.
+pub(crate) fn tree_fault(entries: &[Entry], entry: &Entry) -> Option<Reason>
+    ensures { result ≡ tree.tree_fault (replay entries.now) entry.now }
+{
+    match exists_fault(entries, entry) {
+        Some(fault) => Some(fault),
+        None => parent_fault(entries, entry),
+    }
+}
+
 fn overlap_fault(
     alloc: Global,
     params: &Params,
@@ -86,10 +96,7 @@ pub(crate) fn join_fault(
     requires { SoundParams params.now }
     ensures { IfOk result (λ fault. fault ≡ tree.join_fault params.now entries.now entry.now) }
 {
-    if let Some(fault) = exists_fault(entries, entry) {
-        return Ok(Some(fault));
-    }
-    if let Some(fault) = parent_fault(entries, entry) {
+    if let Some(fault) = tree_fault(entries, entry) {
         return Ok(Some(fault));
     }
     overlap_fault(alloc, params, entries, entry)

@@ -8,11 +8,15 @@
 
 mod crc;
 mod join;
+mod overlaps;
 mod reading;
+mod report;
+mod survey;
 mod units;
 
 pub use crate::crc::{plain_crc, plain_crc_words};
 pub use crate::reading::{Reading, plain_reading};
+pub use crate::report::plain_report;
 
 #[cfg(test)]
 mod tests;

@@ -106,3 +106,4 @@ fn checksums_are_those_of_the_catalogues(rt: HostRuntime) {
 }
 
 mod images;
+mod random;

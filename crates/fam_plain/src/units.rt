@@ -66,7 +66,7 @@ pub(crate) fn list_units(
 }
 
 /// The unit is one of superblock and log, or one of these.
-fn is_seen(head: u64, seen: &[u64], unit: u64) -> bool
+pub(crate) fn is_seen(head: u64, seen: &[u64], unit: u64) -> bool
     ensures { result ≡ is_seen head seen.now unit }
 {
     if unit < head {

@@ -7,3 +7,6 @@ pub mod Come
 pub mod Stored
 pub mod Matched
 pub mod PlacesKept
+pub mod Brought
+pub mod Joined
+pub mod SlotLines

@@ -9,11 +9,10 @@ use Rattle.fam_machine.specs.declared.cell.Cell.TheVariants.{Absent, Clean}
 use Rattle.fam_machine.specs.declared.op.Op.{Op}
 use Rattle.fam_machine.specs.declared.op.Op.TheVariants.{Load, Invalidate}
 use Rattle.fam_machine.specs.Caches.{Cache, cell_at, with_cell}
-use Rattle.fam_machine.specs.OneLine.{IsHeld, brought, current, is_held, sent, words_of}
+use Rattle.fam_machine.specs.OneLine.{IsHeld, sent, words_of}
 use Rattle.fam_machine.specs.Operations.{IsWithin, given, machine, operated}
 use Rattle.fam_machine.proofs.CacheLemmas.{cell_at-with_cell_same, with_cell_own}
 use Rattle.fam_cache.specs.Operations.{LeavesCache, word_of}
-use Rattle.fam_cache.proofs.Performed.{load_failed}
 use Rattle.fam_commands.specs.Task.{Task, op_of}
 use Rattle.fam_commands.specs.Turns.{turn_of}
 use Rattle.fam_media.specs.Causes.{Rose}
@@ -26,6 +25,7 @@ use Rattle.fam_tasks.specs.Tells.{Tells, turn_by}
 use Rattle.fam_run.specs.Held.{IsOfHeld, held_after}
 use Rattle.fam_run.specs.Led.{HasBrokenOff, HasDone, IsQuiet, Led, none, more}
 use Rattle.fam_run.specs.Operation.{IsNoFault}
+use Rattle.fam_run.proofs.Brought.{brings, not_brought}
 use Rattle.fam_run.proofs.Held.{given_held, held_leaves, loads_held, machine_after, tells_go}
 use Rattle.fam_run.proofs.Stored.{held_led}
 
@@ -66,22 +66,12 @@ module _ (line : LineNo) (t dropped : Task) (modelled : Option Image) (old : Cac
         };
       }
 
-  dropped_within : IsWithin dropped.lines (op_of dropped)
-  dropped_within = subst (IsWithin dropped.lines) (sym drops.loads) (subst (λ (n : ℕ). line.0 < n) (sym drops.lines) drops.within, omega arith)
+  pub dropped_small : line.0 < dropped.lines
+  dropped_small = subst (λ (n : ℕ). line.0 < n) (sym drops.lines) drops.within
 
   -- the line can't be brought
   pub line_unread : (dropped_sound : IsSound dropped) (size before now : ℕ) (new : Cache) (shown : Option Image) → shown ≡ modelled → new ≡ old → Rose before now → line.0 < size → HasBrokenOff (record { task = t; next = dropped; old = old; new = new; modelled = modelled; left = shown; size = size; before = before; now = now }) line
-  line_unread dropped_sound size before now new shown same copies rose inside = record {
-    task = dropped;
-    held = old;
-    led = more none is_dropped;
-    sound = dropped_sound;
-    within = dropped_within;
-    copies = copies;
-    failed = load_failed (op_of dropped) line 0 modelled shown old new drops.loads (λ held. absurd (let no : is_held Absent ≡ is_held (cell_at old line.0) = sym (ap is_held absent) in cc)) same copies;
-    rose = rose;
-    inside = inside;
-  }
+  line_unread dropped_sound = not_brought line dropped modelled old dropped_sound drops.loads dropped_small absent t old (more none is_dropped)
 
 -- Its words are read.
 module _ (line : LineNo) (words : List ℕ) (t next : Task) (ending : Option Verified) (modelled : Option Image) (old : Cache) (normal : IsNormal modelled) (sound : IsSound t) (compares : ComparesLine line (eight words) t next ending) (absent : cell_at old line.0 ≡ Absent) (from : IfModelled modelled (λ image. eight words ≡ line_at image line.0)) where
@@ -94,33 +84,8 @@ module _ (line : LineNo) (words : List ℕ) (t next : Task) (ending : Option Ver
 
   begins : IsQuiet modelled compares.dropped old compares.begun full
   begins =
-      let op = compares.drops.loads in
-      let d : Task = compares.dropped in
-      record {
-        sound = compares.dropped_sound;
-        within = dropped_within line t d modelled old normal sound compares.drops absent;
-        leaves = subst (λ (o : Op). LeavesCache o modelled old full) (sym op) (record {
-          memory = eight words;
-          whole = refl;
-          modelled_is = from;
-          is = sym (ap (λ (c : Cell). with_cell line.0 (brought (eight words) c) old) absent);
-        });
-        goes = tells_go (turn_of d (word_of (op_of d) full)) compares.begun
-            (ap (λ (o : Op). turn_of d (word_of o full)) op ∙ ap (λ (c : Cell). turn_of d (Some (slice_index (words_of c) 0))) full_cell ∙ compares.turn);
-        turned = λ image is. record {
-          is = record {
-            image = is ∙ sym (ap (λ (o : Op). Some (operated o (machine image old)).image) op);
-            cache =
-                ap (λ (w : List ℕ). with_cell line.0 (Clean w) old) (from image is)
-                ∙ sym (ap (λ (o : Op). (operated o (machine image old)).cache) op ∙ ap (λ (c : Cell). with_cell line.0 (brought (line_at image line.0) c) old) absent);
-          };
-          tells = tells_go (turn_of d (given (op_of d) (machine image old))) compares.begun
-              (ap (λ (o : Op). turn_of d (given o (machine image old))) op
-              ∙ ap (λ (c : Cell). turn_of d (Some (slice_index (current (line_at image line.0) c) 0))) absent
-              ∙ sym (ap (λ (w : List ℕ). turn_of d (Some (slice_index w 0))) (from image is))
-              ∙ compares.turn);
-        };
-      }
+      brings line compares.dropped modelled old compares.dropped_sound compares.drops.loads
+      (dropped_small line t compares.dropped modelled old normal sound compares.drops absent) absent words compares.begun compares.turn from
 
   there : IsHeld (cell_at full line.0)
   there = subst IsHeld {x = Clean (eight words)} (sym full_cell) refl

@@ -2,6 +2,7 @@
 use Rattle.std.specs.Prelude.{ℕ, Option}
 use Rattle.fam_base.specs.Image.{Image}
 use Rattle.fam_machine.specs.Caches.{Cache}
+use Rattle.fam_cache.specs.States.{CacheState}
 use Rattle.fam_commands.specs.Task.{Task}
 
 -- what task, cache, memory and the count of faults are around operations
@@ -15,3 +16,17 @@ pub record Around : Type 0 where
   pub size : ℕ
   pub before : ℕ
   pub now : ℕ
+
+-- around a call on a media, of which these tell the image, the size and the count of faults
+abbrev pub around : {M : Type 0} → (image : M → Option Image) → (size faults : M → ℕ) → Task → Task → CacheState → CacheState → M → M → Around
+around image size faults task next old new before after = record {
+  task = task;
+  next = next;
+  old = old.lines;
+  new = new.lines;
+  modelled = image before;
+  left = image after;
+  size = size before;
+  before = faults before;
+  now = faults after;
+}

@@ -9,6 +9,7 @@ use Rattle.fam_machine.specs.OneLine.{IsHeld}
 use Rattle.fam_commands.specs.Task.{Task}
 use Rattle.fam_commands.specs.Turns.{turn_of}
 use Rattle.fam_tasks.specs.Rest.{IsComparedLine, IsFileLineDue}
+use Rattle.fam_tasks.specs.SlotLines.{IsSlotLine}
 use Rattle.fam_tasks.specs.Tells.{WantsMemory}
 
 -- the cache has no place for a line that is to be brought
@@ -23,11 +24,11 @@ WantedBy (WriteBack line) task cache = ⊥
 WantedBy (Invalidate line) task cache = ⊥
 WantedBy Digest task cache = WantsMemory task.entries (turn_of task None)
 
--- a line of the new file is stored whole next, or one that is compared is brought
+-- a line of the new file is stored whole next, or one that is compared is brought, or one of a slot
 abbrev pub IsWholeDue : Task → LineNo → List ℕ → Type 0
-IsWholeDue task line words = IsFileLineDue line words task ⊎ IsComparedLine line task
+IsWholeDue task line words = IsFileLineDue line words task ⊎ (IsComparedLine line task ⊎ IsSlotLine line task)
 
--- for a line of a file that is stored or compared whole: there is no place for it
+-- for a line that is stored, compared or loaded whole: there is no place for it
 pub record WantedWhole (task : Task) (cache : CacheState) : Type 0 where
   pub line : LineNo
   pub words : List ℕ

@@ -10,6 +10,7 @@ mod looking;
 mod operation;
 mod reading;
 mod rest;
+mod slots;
 mod storing;
 mod verifying;
 mod whole;

@@ -35,7 +35,7 @@ fn rest_held(cache: &mut HostCache, task: &mut Task)
 
 /// Does the drop of a line.
 #[inline(always)]
-fn drop_held(cache: &mut HostCache, task: &mut Task)
+pub(crate) fn drop_held(cache: &mut HostCache, task: &mut Task)
     ensures run { HeldRun task.old cache.old.lines task.new cache.new.lines }
     ensures spare { cache.old.spare ≤ cache.new.spare }
 {

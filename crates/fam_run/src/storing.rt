@@ -7,6 +7,7 @@ ghost use Rattle.fam_cache.specs.Faults.{IfMediaFault};
 ghost use Rattle.fam_tasks.specs.declared.answer.Turn.TheVariants.{Go};
 ghost use Rattle.fam_run.specs.Led.{HasBrokenOff, HasDone};
 ghost use Rattle.fam_run.specs.Places.{HasPlaces, IsReady, KeepsPlaces};
+ghost use Rattle.fam_run.specs.Step.{around};
 ghost use Rattle.fam_run.specs.Wanted.{WantedWhole};
 
 use fam_cache::{CacheFault, HostCache, OperationFault};
@@ -26,28 +27,10 @@ pub(crate) fn store_next<M: Media>(
 ) -> Result<bool, OperationFault>
     requires lines { task.old.lines ≡ M.size media.old }
 
-    ensures stored { IfOk result (λ stored. stored ≡ true → HasDone (record {
-      task = task.old;
-      next = task.new;
-      old = cache.old.lines;
-      new = cache.new.lines;
-      modelled = M.image media.old;
-      left = M.image media.new;
-      size = M.size media.old;
-      before = M.faults media.old;
-      now = M.faults media.new;
-    }) Go) }
-    ensures failed { IfErr result (λ fault. IfMediaFault fault (HasBrokenOff (record {
-      task = task.old;
-      next = task.new;
-      old = cache.old.lines;
-      new = cache.new.lines;
-      modelled = M.image media.old;
-      left = M.image media.new;
-      size = M.size media.old;
-      before = M.faults media.old;
-      now = M.faults media.new;
-    }))) }
+    ensures stored { IfOk result (λ stored. stored ≡ true → HasDone
+        (around M.image M.size M.faults task.old task.new cache.old cache.new media.old media.new) Go) }
+    ensures failed { IfErr result (λ fault. IfMediaFault fault (HasBrokenOff
+        (around M.image M.size M.faults task.old task.new cache.old cache.new media.old media.new))) }
 
     ensures other { IfOk result (λ stored. stored ≡ false → media.new ≡ media.old) }
     ensures other_cache { IfOk result (λ stored. stored ≡ false → cache.new ≡ cache.old) }

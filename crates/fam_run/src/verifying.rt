@@ -5,6 +5,7 @@ ghost use Rattle.std.specs.Prelude.{◌≡◌, IfErr, IfOk, IsErrOf};
 ghost use Rattle.fam_media.specs.Causes.{IsSteady};
 ghost use Rattle.fam_cache.specs.Faults.{IfMediaFault};
 ghost use Rattle.fam_run.specs.Led.{HasBrokenOff, HasDone};
+ghost use Rattle.fam_run.specs.Step.{around};
 ghost use Rattle.fam_run.specs.Whole.{IfWhole};
 ghost use Rattle.fam_run.specs.Places.{HasPlaces};
 ghost use Rattle.fam_run.specs.Wanted.{WantedWhole};
@@ -27,28 +28,10 @@ pub(crate) fn compare_whole<M: Media>(
 ) -> Result<WholeLine, OperationFault>
     requires lines { task.old.lines ≡ M.size media.old }
 
-    ensures compared { IfOk result (λ whole. IfWhole whole (HasDone (record {
-      task = task.old;
-      next = task.new;
-      old = cache.old.lines;
-      new = cache.new.lines;
-      modelled = M.image media.old;
-      left = M.image media.new;
-      size = M.size media.old;
-      before = M.faults media.old;
-      now = M.faults media.new;
-    }))) }
-    ensures failed { IfErr result (λ fault. IfMediaFault fault (HasBrokenOff (record {
-      task = task.old;
-      next = task.new;
-      old = cache.old.lines;
-      new = cache.new.lines;
-      modelled = M.image media.old;
-      left = M.image media.new;
-      size = M.size media.old;
-      before = M.faults media.old;
-      now = M.faults media.new;
-    }))) }
+    ensures compared { IfOk result (λ whole. IfWhole whole (HasDone
+        (around M.image M.size M.faults task.old task.new cache.old cache.new media.old media.new))) }
+    ensures failed { IfErr result (λ fault. IfMediaFault fault (HasBrokenOff
+        (around M.image M.size M.faults task.old task.new cache.old cache.new media.old media.new))) }
 
     ensures other { IfOk result (λ whole. whole ≡ WholeLine.Other → media.new ≡ media.old) }
     ensures other_cache { IfOk result (λ whole. whole ≡ WholeLine.Other → cache.new ≡ cache.old) }

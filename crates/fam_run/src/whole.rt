@@ -1,33 +1,37 @@
-//! A line of a file, with all operations of a task on it: one that is stored whole, or compared whole.
+//! Lines with all operations of a task on them: those of a slot that are loaded whole, and a line of a file that is stored
+//! whole, or compared whole.
 
 ghost use Rattle.std.specs.Prelude.{◌≡◌, IfErr, IfOk, IsErrOf, None};
 ghost use Rattle.fam_media.specs.Causes.{IsSteady};
 ghost use Rattle.fam_cache.specs.Faults.{IfMediaFault};
 ghost use Rattle.fam_run.specs.Led.{HasBrokenOff, HasDone};
+ghost use Rattle.fam_run.specs.Step.{around};
 ghost use Rattle.fam_run.specs.Whole.{IfWhole};
 ghost use Rattle.fam_run.specs.Places.{HasPlaces, IsReady, KeepsPlaces};
 ghost use Rattle.fam_run.specs.Operation.{ended};
 ghost use Rattle.fam_run.specs.Wanted.{WantedWhole};
 
+use crate::slots::read_slot;
 use crate::storing::store_next;
 use crate::verifying::compare_whole;
 use fam_cache::{HostCache, OperationFault};
 use fam_media::Media;
 use fam_tasks::{Task, Verified};
 
-/// What came of a line of a file that may be stored or compared whole.
+/// What came of lines that may be loaded, stored or compared whole.
 #[derive(Clone, Copy)]
 pub enum WholeLine {
     /// No such line comes next, or the cache holds it, and nothing was done.
     Other,
-    /// The operations on the line were done, and the task goes on.
+    /// The operations on it were done, and the task goes on.
     Going,
     /// They were done, and the command ends with this answer.
     Ended(Verified),
 }
 
-/// Does the operations on the line of a file that a task stores or compares next: all of them, by one call of the
-/// media. Where no such line comes next, or the cache holds it, nothing is done.
+/// Does the operations on the lines of a slot that a task loads next, or on the line of a file that it stores or compares
+/// next: all of them, by one call of the media a line. Where no such line comes next, or the cache holds it, nothing is
+/// done.
 ///
 /// `MediaFault` names the line: the operations before the one that failed were done. `OutOfMemory` comes where the cache
 /// has no room for one more line, and then nothing was done.
@@ -39,28 +43,10 @@ pub fn whole_next<M: Media>(
 ) -> Result<WholeLine, OperationFault>
     requires lines { task.old.lines ≡ M.size media.old }
 
-    ensures done { IfOk result (λ whole. IfWhole whole (HasDone (record {
-      task = task.old;
-      next = task.new;
-      old = cache.old.lines;
-      new = cache.new.lines;
-      modelled = M.image media.old;
-      left = M.image media.new;
-      size = M.size media.old;
-      before = M.faults media.old;
-      now = M.faults media.new;
-    }))) }
-    ensures failed { IfErr result (λ fault. IfMediaFault fault (HasBrokenOff (record {
-      task = task.old;
-      next = task.new;
-      old = cache.old.lines;
-      new = cache.new.lines;
-      modelled = M.image media.old;
-      left = M.image media.new;
-      size = M.size media.old;
-      before = M.faults media.old;
-      now = M.faults media.new;
-    }))) }
+    ensures done { IfOk result (λ whole. IfWhole whole (HasDone
+        (around M.image M.size M.faults task.old task.new cache.old cache.new media.old media.new))) }
+    ensures failed { IfErr result (λ fault. IfMediaFault fault (HasBrokenOff
+        (around M.image M.size M.faults task.old task.new cache.old cache.new media.old media.new))) }
 
     ensures other { IfOk result (λ whole. whole ≡ WholeLine.Other → media.new ≡ media.old) }
     ensures other_cache { IfOk result (λ whole. whole ≡ WholeLine.Other → cache.new ≡ cache.old) }
@@ -79,6 +65,11 @@ pub fn whole_next<M: Media>(
     ensures unmoved { IsErrOf result OperationFault.OutOfMemory → task.new ≡ task.old }
     ensures steady { IsSteady M.size M.faults media.old media.new }
 {
+    match read_slot(cache, task, media) {
+        Ok(true) => return Ok(WholeLine::Going),
+        Ok(false) => {}
+        Err(fault) => return Err(fault),
+    }
     match store_next(cache, task, media) {
         Ok(true) => Ok(WholeLine::Going),
         Ok(false) => compare_whole(cache, task, media),

@@ -6,3 +6,4 @@ pub mod Phases
 pub mod FileTurns
 pub mod Rest
 pub mod WholeLine
+pub mod SlotLine

@@ -18,7 +18,7 @@ use Rattle.fam_tasks.specs.declared.answer.Turn as answer
 use Rattle.fam_tasks.specs.Tells.{Tells}
 
 -- a word of the line comes next
-load_next : (line : LineNo) (part : Part) (j k : ℕ) (now : Task) → now.phase ≡ at.Word part j k → line.0 ≡ part_line now part j → op_of now ≡ Load line k
+pub load_next : (line : LineNo) (part : Part) (j k : ℕ) (now : Task) → now.phase ≡ at.Word part j k → line.0 ≡ part_line now part j → op_of now ≡ Load line k
 load_next line part j k now phase is =
     ap (op_at now) phase ∙ ap (λ (l : ℕ). Load (line_no l) k) (sym is)
 

@@ -9,3 +9,4 @@ pub mod Rest
 pub mod Sound
 pub mod Model
 pub mod Held
+pub mod SlotLines

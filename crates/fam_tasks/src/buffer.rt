@@ -1,6 +1,7 @@
 //! Words that were loaded and not yet looked at, or that are to be stored.
 
 ghost use Rattle.std.specs.Prelude.{◌≡◌, ◌+◌, ◌*◌, ◌<◌, ◌≤◌, ℕ, [], ◌∷◌, ◌++◌, length, slice_index, slice_range};
+ghost use Rattle.fam_base.specs.Image.{eight};
 ghost use Rattle.fam_rules.specs.Content.{byte_in};
 
 use fam_base::Line;
@@ -73,6 +74,24 @@ impl Buffer {
     {
         self.words[count] = word;
         self.len = count + 1;
+    }
+
+    /// Adds the words of a line.
+    #[inline(always)]
+    pub(crate) fn push_line(&mut self, words: &Line)
+        requires { length self.old + LINE_WORDS ≤ MOST_WORDS }
+        ensures same { self.new ≡ self.old ++ eight words.now }
+        ensures count { length self.new ≡ length self.old + LINE_WORDS }
+    {
+        let count = self.count();
+        self.push_behind(count, words[0]);
+        self.push_behind(count + 1, words[1]);
+        self.push_behind(count + 2, words[2]);
+        self.push_behind(count + 3, words[3]);
+        self.push_behind(count + 4, words[4]);
+        self.push_behind(count + 5, words[5]);
+        self.push_behind(count + 6, words[6]);
+        self.push_behind(count + 7, words[7]);
     }
 
     /// Forgets the words.

@@ -21,6 +21,7 @@ mod digests;
 mod file_loads;
 mod loads;
 mod rest;
+mod slot_lines;
 mod stores;
 
 use crate::answer::{Answer, Turn};

@@ -76,6 +76,7 @@ pub(crate) fn say(
 }
 
 /// Ends a host's task, in whose operation the media failed at this line, and notes it, for which there is room.
+#[inline(never)]
 pub(crate) fn end_at_fault(
     journal: &mut Vec<Note>,
     task: &mut Option<Task>,

@@ -1,14 +1,19 @@
-//! Operations of a host's task on a line of a file, as a whole: of a large file nearly all are such.
+//! Operations of a host's task on the lines of a slot, or on a line of a file, as a whole: of a long log and of a large
+//! file nearly all are such.
 
-ghost use Rattle.std.specs.Prelude.{◌≡◌, ◌<◌, IfErr, IfOk, IfSome, IsErrOf, OnErr, Some, is_some, true, vec_capacity, vec_len};
+ghost use Rattle.std.specs.Prelude.{◌≡◌, ◌++◌, ◌<◌, IfErr, IfOk, IfSome, IsErrOf, OnErr, Some, is_some, true, vec_capacity, vec_len};
 ghost use Rattle.fam_commands.specs.Task as spec;
 ghost use Rattle.fam_media.specs.Causes.{IsSteady};
 ghost use Rattle.fam_cache.specs.Faults.{IfMediaFault};
 ghost use Rattle.fam_tasks.specs.Sound.{IsSound};
+ghost use Rattle.fam_tasks.specs.Tells.{answer_by};
+ghost use Rattle.fam_tasks.specs.declared.answer.Turn.TheVariants.{Done};
 ghost use Rattle.fam_run.specs.Led.{HasBrokenOff, HasDone};
+ghost use Rattle.fam_run.specs.Step.{around};
 ghost use Rattle.fam_run.specs.Whole.{IfWhole};
 ghost use Rattle.fam_journal.specs.CallRecords.{TaskFits};
 ghost use Rattle.fam_world.specs.Answers.{is_over};
+ghost use Rattle.fam_world.specs.Turns.{is_done, kept_by, turn_notes};
 ghost use Rattle.fam_world.specs.View.{host_view, notes_view};
 ghost use Rattle.fam_world.specs.Whole.{IsLedStep};
 
@@ -21,9 +26,10 @@ use fam_journal::HostId;
 use fam_media::Media;
 use fam_notes::Note;
 use fam_run::{WholeLine, whole_next};
-use fam_tasks::{Task, Turn};
+use fam_tasks::{Task, Turn, Verified};
 
-/// Does the operations on a line of a file as a whole, of the task that a host runs, which there is, if they come next.
+/// Does the operations on the lines of a slot or on a line of a file as a whole, of the task that a host runs, which there
+/// is, if they come next.
 #[inline(always)]
 fn whole_on<M: Media>(
     cache: &mut HostCache,
@@ -35,29 +41,9 @@ fn whole_on<M: Media>(
 
     ensures runs { is_some task.new ≡ true }
     ensures done { IfOk result (λ whole. IfWhole whole (λ turn. IfSome task.old (λ t. IfSome task.new (λ next.
-        HasDone (record {
-          task = t;
-          next = next;
-          old = cache.old.lines;
-          new = cache.new.lines;
-          modelled = M.image media.old;
-          left = M.image media.new;
-          size = M.size media.old;
-          before = M.faults media.old;
-          now = M.faults media.new;
-        }) turn)))) }
+        HasDone (around M.image M.size M.faults t next cache.old cache.new media.old media.new) turn)))) }
     ensures failed { IfErr result (λ fault. IfMediaFault fault (λ line. IfSome task.old (λ t. IfSome task.new (λ next.
-        HasBrokenOff (record {
-          task = t;
-          next = next;
-          old = cache.old.lines;
-          new = cache.new.lines;
-          modelled = M.image media.old;
-          left = M.image media.new;
-          size = M.size media.old;
-          before = M.faults media.old;
-          now = M.faults media.new;
-        }) line)))) }
+        HasBrokenOff (around M.image M.size M.faults t next cache.old cache.new media.old media.new) line)))) }
     ensures sound { IfSome task.old IsSound }
     ensures sound_on { IfSome task.new IsSound }
     ensures other { IfOk result (λ whole. whole ≡ WholeLine.Other → media.new ≡ media.old) }
@@ -79,7 +65,25 @@ fn whole_on<M: Media>(
     }
 }
 
-/// As `step_host`, and does the operations on a line of a file as one.
+/// Ends a host's task with the answer of a comparison, and notes it, for which there is room. It stands apart, since an
+/// answer has much room of its own, and nearly no turn needs it.
+#[inline(never)]
+fn end_compared(
+    journal: &mut Vec<Note>,
+    task: &mut Option<Task>,
+    host: HostId,
+    ended: Verified,
+) -> Moved
+    requires room { vec_len journal.old < vec_capacity journal.old }
+    ensures notes { notes_view journal.new.items
+        ≡ notes_view journal.old.items ++ turn_notes host.0 (Done (answer_by ended)) }
+    ensures task { task.new ≡ kept_by (Done (answer_by ended)) task.old }
+    ensures over { is_over result ≡ is_done (Done (answer_by ended)) }
+{
+    say(journal, task, host, Turn::Done(ended.answer()))
+}
+
+/// As `step_host`, and does the operations on the lines of a slot or on a line of a file as one.
 pub(crate) fn whole_host<M: Media>(
     host: &mut Host,
     journal: &mut Vec<Note>,
@@ -111,11 +115,11 @@ pub(crate) fn whole_host<M: Media>(
 {
     match whole_on(&mut host.cache, &mut host.task, media) {
         Ok(WholeLine::Going) => Ok(Moved::Going),
-        Ok(WholeLine::Ended(ended)) => Ok(say(
+        Ok(WholeLine::Ended(ended)) => Ok(end_compared(
             journal,
             &mut host.task,
             HostId(at as u32),
-            Turn::Done(ended.answer()),
+            ended,
         )),
         Ok(WholeLine::Other) => step_host(host, journal, media, at),
         Err(OperationFault::MediaFault(line)) => {

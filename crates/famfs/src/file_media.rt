@@ -36,6 +36,8 @@ pub struct FileMedia {
     first: u64,
     next: u64,
     end: u64,
+    /// The line that was read last and wasn't ahead.
+    one: Line,
     ghost bounded: { lines ≤ MOST_LINES },
     ghost from: { first ≤ next },
     ghost held: { 64 * (end - first) ≤ vec_len page },
@@ -98,6 +100,7 @@ impl FileMedia {
             first: 0,
             next: 0,
             end: 0,
+            one: [0; 8],
         }
     }
 
@@ -142,18 +145,37 @@ impl FileMedia {
         self.end = line + got;
     }
 
-    /// Reads a line by itself.
-    fn read_one(&mut self, line: u64) -> Result<Line, Failed>
+    /// Reads a line that isn't ahead: those up to the gate's by themselves, and others with some ahead. No line up to the
+    /// gate's is ever ahead, since the lines from `next` on are never before the one that was asked for.
+    #[inline(never)]
+    fn read_other(&mut self, line: u64) -> Result<(), Failed>
         requires within { line < MOST_LINES }
         ensures lines { self.new.lines ≡ self.old.lines }
         ensures cause { HasCause self.old.faults self.new.faults result }
     {
-        let mut words = [0; 8];
+        if line <= GATE_LINE {
+            self.end = 0;
+            return self.read_one(line);
+        }
+        self.fill(line);
+        if self.is_ahead(line) {
+            self.one = self.take(line);
+            return Ok(());
+        }
+        self.read_one(line)
+    }
+
+    /// Reads a line by itself.
+    fn read_one(&mut self, line: u64) -> Result<(), Failed>
+        requires within { line < MOST_LINES }
+        ensures lines { self.new.lines ≡ self.old.lines }
+        ensures cause { HasCause self.old.faults self.new.faults result }
+    {
         let mut bytes = [0; 64];
         if let Some(file) = &self.file {
             if file.read_exact_at(&mut bytes, byte_of(line)).is_ok() {
-                LittleEndian::read_u64_into(&bytes, &mut words);
-                return Ok(words);
+                LittleEndian::read_u64_into(&bytes, &mut self.one);
+                return Ok(());
             }
         }
         self.faults = self.faults.saturating_add(1);
@@ -176,20 +198,13 @@ impl Media for FileMedia {
         self.lines
     }
 
-    #[inline]
+    #[inline(always)]
     fn read(&mut self, line: LineNo) -> Result<Line, Failed> {
-        if line.0 <= GATE_LINE {
-            self.end = 0;
-            return self.read_one(line.0);
-        }
         if self.is_ahead(line.0) {
             return Ok(self.take(line.0));
         }
-        self.fill(line.0);
-        if self.is_ahead(line.0) {
-            return Ok(self.take(line.0));
-        }
-        self.read_one(line.0)
+        self.read_other(line.0)?;
+        Ok(self.one)
     }
 
     fn write(&mut self, line: LineNo, words: &Line) -> Result<(), Failed> {

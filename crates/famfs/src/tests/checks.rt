@@ -86,6 +86,22 @@ fn units_of_two_entries_are_reported_once(rt: HostRuntime) -> Result<(), Fail> {
 }
 
 #[test]
+fn a_damaged_slot_is_reported(rt: HostRuntime) -> Result<(), Fail> {
+    let alloc = rt.alloc();
+    let mut media = holding(alloc, &[directory(b"a")?, directory(b"b")?, directory(b"c")?])?;
+    // The first byte of the path in slot 2, which was 63 in hexadecimal.
+    let mut words = spell(&directory(b"c")?, 2);
+    words[42] = 0x64;
+    put_slot(&mut media, 2, &words)?;
+    let want = "bad entry 2 crc 2035036367 566416377\n";
+    assert!(rt; shows(alloc, &mut media, "logplay img", Status::Damaged, want)?);
+    let want =
+        "fsck damaged\nsuperblock sound\nlog sound 3 of 127\nfiles 0 directories 2\nunits used 528 free 496\noverlap none\nbad entry 2 crc 2035036367 566416377\npast gate 0\n";
+    assert!(rt; shows(alloc, &mut media, "fsck img", Status::Damaged, want)?);
+    Ok(())
+}
+
+#[test]
 fn slots_past_the_gate_are_counted(rt: HostRuntime) -> Result<(), Fail> {
     let alloc = rt.alloc();
     let mut media = holding(alloc, &[directory(b"a")?])?;

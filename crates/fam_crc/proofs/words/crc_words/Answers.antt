@@ -1,12 +1,7 @@
 use Rattle.std.proofs.Common.{◌≡◌, ◌∙◌, ℕ, ap, sym, fold, bit_xor}
 use Rattle.fam_crc.specs.Crc.{all_ones, after_byte, bytes_of_words, crc32}
-use Rattle.fam_crc.proofs.Steps.{behind_zeros, of_none}
+use Rattle.fam_crc.proofs.Steps.{of_none}
 use Rattle.fam_crc.proofs.words.crc_words.Goals as goal
-
-pub loop-rest-preserved-in-Some : goal.loop-rest-preserved-in-Some
-loop-rest-preserved-in-Some c =
-    ap (λ (x : ℕ). fold after_byte x (bytes_of_words c.in-Some.behind.now)) c.zeros_step-register.ensures
-    ∙ behind_zeros c.loop-rest.register c.loop-rest.rest.now c.in-Some.behind.now c.in-Some.ensures ∙ c.loop-rest.invariant
 
 pub returns : goal.returns
 unfolding crc32

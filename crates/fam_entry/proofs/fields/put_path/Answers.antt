@@ -1,23 +1,39 @@
-use Rattle.std.proofs.Common.{ℕ, get_or, set, inl, inr, ap, sym, ◌∙◌, arith}
-use Rattle.std.proofs.lemmas.Bool.{cases_eq}
-use Rattle.std.proofs.lemmas.List.{length-set, get_or-set_same, get_or-set_other}
+use Rattle.std.proofs.Common.{◌≡◌, ℕ, ◌+◌, ◌-◌, ◌*◌, ◌/◌, ◌<◌, ◌≤◌, List, refl, length, get_or, inl, inr, sym, ap, ◌∙◌, arith}
+use Rattle.std.proofs.lemmas.Bool.{cases_lt}
+use Rattle.std.proofs.lemmas.List.{get_or-take, length-take-le}
+use borrow.Rule.Slice.PartMut.{put_mid}
 use Rattle.fam_format.specs.Words.{byte_from}
+use Rattle.fam_entry.proofs.PathField.{put_below, put_at, put_behind, word_put}
 use Rattle.fam_entry.proofs.fields.put_path.Goals as goal
 
-pub loop-i-preserved : goal.loop-i-preserved
-loop-i-preserved c =
-    let i = c.loop-i.i in
-    let field = c.loop-i.field in
-    let byte = c.byte_of.result in
+pub returns : goal.returns
+returns c =
+    let len = c.args.len in
+    let at = 8 * (len / 8) in
+    let tail = len - at in
+    let ys = c.copy_from_slice.new.self in
+    let field = c.put_words.new.field in
+    let bytes = c.to_le_bytes-bytes.result in
+    let short : tail ≤ 8 = omega arith in
+    let eight : length bytes ≡ 8 = ap length c.to_le_bytes-bytes.ensures in
+    let count : length ys ≡ tail = ap length c.copy_from_slice.ensures.after ∙ length-take-le tail bytes (omega (arith, eight, short)) in
+    let within : at + tail ≤ 168 = omega (arith, c.requires.few) in
+    let size : tail ≡ tail = refl in
     record {
-      count = length-set field i byte ∙ c.loop-i.invariant.count;
       bytes = λ k below.
-          elim (cases_eq k i) [
-            | inl same ↦
-                ap (λ (n : ℕ). get_or (set field i byte) n 0) same
-                ∙ get_or-set_same field i byte 0 (omega (arith, c.loop-i.invariant.count, c.loop-i-test.true, c.requires.few))
-                ∙ c.byte_of.ensures ∙ ap (λ (n : ℕ). byte_from 42 c.args.words.now n) (sym same)
-            | inr other ↦ get_or-set_other field i k byte 0 other ∙ c.loop-i.invariant.bytes k (omega arith)
+          elim (cases_lt k at) [
+            | inl before ↦ put_below at tail tail field ys c.put_words.array_long within size count k before ∙ c.put_words.ensures.bytes k before
+            | inr from ↦
+                let place : at + (k - at) ≡ k = omega arith in
+                let low : k - at < tail = omega arith in
+                ap (λ (n : ℕ). get_or (put_mid at tail field ys) n 0) (sym place)
+                ∙ put_at at tail tail field ys c.put_words.array_long within size count (k - at) low
+                ∙ ap (λ (l : List ℕ). get_or l (k - at) 0) c.copy_from_slice.ensures.after
+                ∙ get_or-take tail bytes (k - at) 0 low
+                ∙ word_put c.args.words.now bytes (len / 8) (k - at) c.to_le_bytes-bytes.ensures (omega arith)
+                ∙ ap (λ (n : ℕ). byte_from 42 c.args.words.now n) place
           ];
-      behind = λ k behind. get_or-set_other field i k byte 0 (λ same. omega (arith, same, behind)) ∙ c.loop-i.invariant.behind k (omega arith);
+      behind = λ k behind.
+          put_behind at tail tail field ys c.put_words.array_long within size count k (omega arith)
+          ∙ c.put_words.ensures.behind k (omega arith) ∙ c.requires.empty k;
     }

@@ -14,15 +14,15 @@ loop-i-preserved c =
     let same = c.copy_from_slice.ensures.after ∙ c.to_le_bytes-bytes.ensures in
     let eight : length ys ≡ 8 = ap length same in
     record {
-      count = put_length (8 * i) (8 * i + 8 - 8 * i) c.loop-i.field ys c.loop-i.invariant.count within size eight;
+      count = put_length (8 * i) (8 * i + 8 - 8 * i) 8 c.loop-i.field ys c.loop-i.invariant.count within size eight;
       bytes = λ k below.
           elim (at_eight i k below) [
-            | inl before ↦ put_below (8 * i) (8 * i + 8 - 8 * i) c.loop-i.field ys c.loop-i.invariant.count within size eight k before ∙ c.loop-i.invariant.bytes k before
+            | inl before ↦ put_below (8 * i) (8 * i + 8 - 8 * i) 8 c.loop-i.field ys c.loop-i.invariant.count within size eight k before ∙ c.loop-i.invariant.bytes k before
             | inr at ↦
                 ap (λ (n : ℕ). get_or (put_mid (8 * i) (8 * i + 8 - 8 * i) c.loop-i.field ys) n 0) (sym at.0)
-                ∙ put_at (8 * i) (8 * i + 8 - 8 * i) c.loop-i.field ys c.loop-i.invariant.count within size eight (k - 8 * i) at.1
+                ∙ put_at (8 * i) (8 * i + 8 - 8 * i) 8 c.loop-i.field ys c.loop-i.invariant.count within size eight (k - 8 * i) at.1
                 ∙ word_put c.args.words.now ys i (k - 8 * i) same at.1 ∙ ap (λ (n : ℕ). byte_from 42 c.args.words.now n) at.0
           ];
       behind = λ k behind.
-          put_behind (8 * i) (8 * i + 8 - 8 * i) c.loop-i.field ys c.loop-i.invariant.count within size eight k (omega arith) ∙ c.loop-i.invariant.behind k (omega arith);
+          put_behind (8 * i) (8 * i + 8 - 8 * i) 8 c.loop-i.field ys c.loop-i.invariant.count within size eight k (omega arith) ∙ c.loop-i.invariant.behind k (omega arith);
     }

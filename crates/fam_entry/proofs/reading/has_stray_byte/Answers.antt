@@ -1,18 +1,17 @@
-use Rattle.std.proofs.Common.{◌≡◌, slice_index, arith, below_more, rules, sym, ◌∙◌}
+use Rattle.std.proofs.Common.{arith, below_more, sym, ◌∙◌}
 use Rattle.fam_format.specs.Slot.{is_stray_byte}
 use Rattle.fam_format.proofs.Stops.{any_false}
 use Rattle.fam_entry.proofs.Ranges.{any_first}
-use Rattle.fam_entry.proofs.Strays.{no_stray, inside}
+use Rattle.fam_entry.proofs.Strays.{outside, inside}
 use Rattle.fam_entry.proofs.reading.has_stray_byte.Goals as goal
+
+pub returns-then-len-from : goal.returns-then-len-from
+returns-then-len-from c =
+    sym (any_false (is_stray_byte c.args.words.now c.args.i) 0 8 (λ k low below. inside c.args.words.now c.args.i k (omega (arith, c.if-len-from.true)) below))
 
 pub returns-then-words-i-eq0 : goal.returns-then-words-i-eq0
 returns-then-words-i-eq0 c =
-    let none : slice_index c.args.words.now c.args.i ≡ 0 = search rules in
-    sym (any_false (is_stray_byte c.args.words.now c.args.i) 0 8 (λ k low below. no_stray c.args.words.now c.args.i k none))
-
-pub returns-then-words-i : goal.returns-then-words-i
-returns-then-words-i c =
-    sym (any_false (is_stray_byte c.args.words.now c.args.i) 0 8 (λ k low below. inside c.args.words.now c.args.i k c.if-words-i.true below))
+    sym (any_false (is_stray_byte c.args.words.now c.args.i) 0 8 (λ k low below. outside c.args.words.now c.args.i c.saturating_sub-used.result k c.saturating_sub-used.ensures c.if-words-i-eq0.true))
 
 pub returns-then-is_stray_byte : goal.returns-then-is_stray_byte
 returns-then-is_stray_byte c =

@@ -4,6 +4,7 @@ use Rattle.std.proofs.lemmas.Result.{IfOk-weaker}
 use Rattle.fam_commands.specs.Task.{Task}
 use Rattle.fam_tasks.specs.declared.answer.Turn.TheVariants.{Go, Done}
 use Rattle.fam_tasks.specs.Sound.{IsSound}
+use Rattle.fam_tasks.specs.Tells.{answer_by}
 use Rattle.fam_run.proofs.Come.{ended_done, fault_at, going_done}
 use Rattle.fam_journal.specs.CallRecords.{TaskFits}
 use Rattle.fam_world.specs.Answers.{is_over}
@@ -27,7 +28,8 @@ pub returns-in-Ok-Ended-clause-step : goal.returns-in-Ok-Ended-clause-step
 returns-in-Ok-Ended-clause-step g c = λ t e.
     let w = c.in-Ok-Ended in
     let b = both_there c.args.host.now.task c.whole_on.new.task t _ e c.whole_on.ensures.runs (ended_done w.field-0 w.ended _ w.field-0-is w.ensures.done) in
-    whole_done c.args.at (Done c.answer.result) _ _ t b.0 (rw c.answer.ensures b.2) c.whole_on.new.task b.1 c.say.ensures.task c.say.ensures.notes refl c.whole_on.ensures.steady.later c.say.ensures.over
+    let said = c.end_compared.ensures in
+    whole_done c.args.at (Done (answer_by w.ended)) _ _ t b.0 b.2 c.whole_on.new.task b.1 said.task said.notes refl c.whole_on.ensures.steady.later said.over
     (subst (TaskFits (g.M.Media.size c.args.media.now)) e c.requires.fits)
 
 -- src/whole.rt:83:1
