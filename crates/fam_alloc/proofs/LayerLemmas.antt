@@ -1,5 +1,5 @@
 -- Hints over a bitmap, and marks that skip what is used.
-use Rattle.std.proofs.Common.{◌≡◌, ℕ, Bool, true, false, not, ◌+◌, ◌-◌, ◌*◌, ◌/◌, ◌%◌, ◌^◌, ◌<◌, ◌≤◌, ◌&&◌, ◌||◌, List, length, get_or, ltb, max, min, replicate, refl, sym, ap, ◌∙◌, inl, inr, arith}
+use Rattle.std.proofs.Common.{◌≡◌, ℕ, Bool, true, false, not, ◌+◌, ◌-◌, ◌*◌, ◌/◌, ◌%◌, ◌^◌, ◌<◌, ◌≤◌, ◌&&◌, ◌||◌, List, length, get_or, leb, ltb, max, min, replicate, refl, sym, ap, ◌∙◌, inl, inr, arith}
 use Rattle.std.proofs.lemmas.Bool.{cases_lt, lt-ltb, le-ltb, ltb-true, le-leb, leb-true, and_parts, or_cases, or_left, or_right, false≢true}
 use Rattle.std.proofs.lemmas.Bool.Decides.{nat_tests}
 use Rattle.fam_alloc.specs.Full.{AreFull, AreLayers}
@@ -21,7 +21,7 @@ full_more words full new w sound all marked u h =
     elim (or_cases (is_bit_set full (u / 64)) (is_between w (w + 1) (u / 64)) (sym (marked (u / 64)) ∙ h)) [
       | inl before ↦ sound u before
       | inr here ↦
-          let within = and_parts _ _ here in
+          let within = and_parts (leb w (u / 64)) (ltb (u / 64) (w + 1)) here in
           all u (omega (arith, leb-true w (u / 64) within.0, ltb-true (u / 64) (w + 1) within.1))
     ]
 
@@ -38,13 +38,13 @@ cover_more init now from unit start end to low marked free order u =
           let tests : (is_between start end u ≡ false) × (is_between from unit u ≡ is_between from end u) = (grind (arith, nat_tests, free.low), grind (arith, nat_tests, free.low)) in
           rw (tests.0, marked u, tests.1) (or_none (init u || is_between from end u))
       | inr above ↦ elim (cases_lt u start) [
-          | inl skipped ↦
-              let tests : is_between from end u ≡ true = grind (arith, nat_tests) in
-              rw (free.before u above skipped, tests) (sym (or_true (init u)))
-          | inr past ↦
-              let tests : (is_between from unit u ≡ false) × (is_between start end u ≡ is_between from end u) = (grind (arith, nat_tests, free.low), grind (arith, nat_tests, free.low)) in
-              rw (marked u, tests.0, tests.1) (ap (λ (b : Bool). b || is_between from end u) (or_none (init u)))
-        ]
+        | inl skipped ↦
+            let tests : is_between from end u ≡ true = grind (arith, nat_tests) in
+            rw (free.before u above skipped, tests) (sym (or_true (init u)))
+        | inr past ↦
+            let tests : (is_between from unit u ≡ false) × (is_between start end u ≡ is_between from end u) = (grind (arith, nat_tests, free.low), grind (arith, nat_tests, free.low)) in
+            rw (marked u, tests.0, tests.1) (ap (λ (b : Bool). b || is_between from end u) (or_none (init u)))
+      ]
     ]
   where
     or_none : (x : Bool) → (x || false) ≡ x

@@ -116,7 +116,12 @@ impl Layers {
     {
         let (word, last_word) = (from.div_ceil(64), to.div_ceil(64));
         let (block, last_block) = (word.div_ceil(64), last_word.div_ceil(64));
-        let past_tops = next(&self.tops, false, block.div_ceil(64), last_block.div_ceil(64));
+        let past_tops = next(
+            &self.tops,
+            false,
+            block.div_ceil(64),
+            last_block.div_ceil(64),
+        );
         let past_blocks = next_behind(&self.blocks, block, past_tops, last_block);
         let past_words = next_behind(&self.full, word, past_blocks, last_word);
         next_behind(&self.words, from, past_words, to)
@@ -135,7 +140,12 @@ impl Layers {
         mark(&mut self.words, from, to);
         hint_all(&self.words, &mut self.full, word, last_word);
         hint_all(&self.full, &mut self.blocks, block, last_block);
-        hint_all(&self.blocks, &mut self.tops, block / 64, last_block.div_ceil(64));
+        hint_all(
+            &self.blocks,
+            &mut self.tops,
+            block / 64,
+            last_block.div_ceil(64),
+        );
     }
 
     /// Marks the units from `from` on and below `to` as used, whether they were or not: each run of free ones in turn.
