@@ -1,5 +1,6 @@
 pub mod BitLemmas
 pub mod NextLemmas
+pub mod LayerLemmas
 pub mod RunLemmas
 pub mod OverlapLemmas
 pub mod StripLemmas

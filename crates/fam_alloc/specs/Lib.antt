@@ -1,3 +1,4 @@
 pub mod Taken
 pub mod Next
+pub mod Full
 pub mod TakeFaults

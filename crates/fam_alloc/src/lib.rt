@@ -6,6 +6,7 @@
 
 mod alloc_map;
 mod bits;
+mod layers;
 mod overlap;
 mod run;
 mod starts;

@@ -9,6 +9,7 @@ ghost use Rattle.fam_alloc.specs.Next.{is_bit_set, is_between, IsNext};
 ghost use Rattle.fam_alloc.specs.Taken.{LieWithin, holds};
 
 use crate::bits::{MOST_UNITS, mark, next};
+use crate::layers::Layers;
 use fam_base::{Extent, Extents};
 
 /// Units from `start` on and below `end`.
@@ -201,6 +202,22 @@ pub fn mark_free(words: &mut Vec<u64>, extents: &Extents, unit: u64, units: u64)
         return Err(taken);
     }
     Ok(mark_all(words, extents, unit, units))
+}
+
+/// Marks the units of the extents as used, whether they were or not.
+pub fn cover_all(layers: &mut Layers, extents: &Extents, unit: u64, units: u64)
+    requires unit { 0 < unit }
+    requires within { LieWithin unit units extents.now }
+    requires few { units ≤ MOST_UNITS }
+    requires covered { units ≤ 64 * length layers.old }
+    ensures marked { (u : ℕ) → is_bit_set layers.new u
+        ≡ (is_bit_set layers.old u || holds (units_in unit extents.now) u) }
+    ensures len { length layers.new ≡ length layers.old }
+{
+    for i in 0..extents.len() {
+        let run = run_at(extents, unit, units, i);
+        layers.cover(run.start, run.end);
+    }
 }
 
 /// Whether a unit stands in both.

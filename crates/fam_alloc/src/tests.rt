@@ -2,7 +2,7 @@
 
 ghost use Rattle.std.specs.Prelude.{◌≡◌, ◌+◌, ◌*◌, ◌≤◌, [], ◌∷◌, length};
 
-use crate::{AllocMap, Starts, TakeFault};
+use crate::{AllocMap, Starts, TakeFault, UsedUnits};
 use fam_base::{Extent, Extents};
 use std::test::Fail;
 
@@ -137,5 +137,33 @@ fn the_largest_device_has_a_map(rt: HostRuntime) -> Result<(), Fail> {
     assert_eq!(rt; map.find(2), None);
     let empty = AllocMap::new(rt.alloc(), 268_435_456, 0)?;
     assert_eq!(rt; empty.find(268_435_456), Some(0));
+    Ok(())
+}
+
+/// Marks units from `first` on and below `end`.
+fn cover_run(map: &mut UsedUnits, first: u64, end: u64)
+    requires order { first ≤ end }
+    requires within { end ≤ length map.old }
+    ensures { length map.new ≡ length map.old }
+{
+    let run = Extent {
+        offset: first * UNIT,
+        length: (end - first) * UNIT,
+    };
+    let none = Extent {
+        offset: 0,
+        length: 0,
+    };
+    map.cover(&both(run, none), UNIT);
+}
+
+#[test]
+fn units_that_are_used_are_skipped(rt: HostRuntime) -> Result<(), Fail> {
+    // Word by word this would look at 80,000,000,000 words.
+    let mut map = UsedUnits::new(rt.alloc(), 268_435_456, 528)?;
+    for i in 0..20_000 {
+        cover_run(&mut map, 20_528 - i, 268_415_000 + i);
+    }
+    assert_eq!(rt; map.count(), 268_434_998);
     Ok(())
 }

@@ -4,8 +4,9 @@ ghost use Rattle.std.specs.Prelude.{◌≡◌, ℕ, ◌*◌, ◌<◌, ◌≤◌,
 ghost use Rattle.fam_format.specs.Units.{units_in, first_overlap};
 ghost use Rattle.fam_alloc.specs.Taken.{is_taken, taken_units, units_of_words, holds, LieWithin};
 
-use crate::bits::{MOST_UNITS, mark, next, zeros};
-use crate::overlap::{first_overlap, mark_all};
+use crate::bits::{MOST_UNITS, next};
+use crate::layers::Layers;
+use crate::overlap::{cover_all, first_overlap};
 use fam_base::{Extents, OutOfMemory};
 use std::alloc::Global;
 use std::marker::Model;
@@ -13,21 +14,20 @@ use std::marker::Model;
 /// Which units of a device are used, of entries that may overlap. Units are counted from byte 0 of the image.
 #[derive(Drop)]
 pub struct UsedUnits {
-    /// Bit `u % 64` of word `u / 64` is unit `u`.
-    words: Vec<u64>,
+    layers: Layers,
     units: u64,
 }
 
 impl Model for UsedUnits {
-    ghost use Rattle.std.specs.Prelude.{Bool, List, ◌*◌, ◌≤◌, vec_len};
+    ghost use Rattle.std.specs.Prelude.{Bool, List, ◌*◌, ◌≤◌, length};
     ghost use Rattle.fam_alloc.specs.declared.bits.TheConstants.{MOST_UNITS};
     ghost use Rattle.fam_alloc.specs.Taken.{units_of_words};
 
     ghost Value = { List Bool };
 
-    ghost view = { λ a. units_of_words a.words.items a.units };
+    ghost view = { λ a. units_of_words a.layers a.units };
 
-    ghost invariant = { λ a. (a.units ≤ 64 * vec_len a.words) × (a.units ≤ MOST_UNITS) };
+    ghost invariant = { λ a. (a.units ≤ 64 * length a.layers) × (a.units ≤ MOST_UNITS) };
 }
 
 /// How many units are used. It goes from run to run.
@@ -56,9 +56,9 @@ impl UsedUnits {
         ensures units { IfOk result (λ map. length map ≡ units) }
         ensures used { IfOk result (λ map. (u : ℕ) → is_taken map u ≡ nat_lt u used) }
     {
-        let mut words = zeros(alloc, units.div_ceil(64) as usize)?;
-        mark(&mut words, 0, used);
-        Ok(UsedUnits { words, units })
+        let mut layers = Layers::new(alloc, units.div_ceil(64))?;
+        layers.cover(0, used);
+        Ok(UsedUnits { layers, units })
     }
 
     /// The units of the device.
@@ -75,7 +75,7 @@ impl UsedUnits {
         requires within { LieWithin unit (length self.now) extents.now }
         ensures { result ≡ first_overlap (is_taken self.now) (units_in unit extents.now) }
     {
-        first_overlap(&self.words, extents, unit, self.units)
+        first_overlap(self.layers.words(), extents, unit, self.units)
     }
 
     /// Marks all units of the extents as used, whether they were or not. They are whole units: offsets and lengths
@@ -87,7 +87,7 @@ impl UsedUnits {
         ensures value { (u : ℕ) → is_taken self.new u ≡ (is_taken self.old u || holds (units_in unit extents.now) u) }
         ensures units { length self.new ≡ length self.old }
     {
-        mark_all(&mut self.words, extents, unit, self.units);
+        cover_all(&mut self.layers, extents, unit, self.units);
     }
 
     /// How many units are used.
@@ -95,6 +95,6 @@ impl UsedUnits {
         ensures count { result ≡ taken_units self.now }
         ensures within { taken_units self.now ≤ length self.now }
     {
-        count_used(&self.words, self.units)
+        count_used(self.layers.words(), self.units)
     }
 }

@@ -6,12 +6,12 @@ use Rattle.fam_alloc.proofs.used_units.UsedUnits.new.Goals as goal
 
 pub invariant_of-result : goal.invariant_of-result
 invariant_of-result c =
-    (omega (arith, c.mark.ensures.len, c.in_ok-words.words.ok.0, c.div_ceil.ensures, ap (λ (ws : List ℕ). length ws) c.in_ok-words.ensures ∙ length-replicate _ 0), c.requires.limit)
+    (omega (arith, c.cover.ensures.len, c.div_ceil.ensures, ap (λ (ws : List ℕ). length ws) c.in_ok-layers.ensures ∙ length-replicate _ 0), c.requires.limit)
 
 pub returns-clause-units : goal.returns-clause-units
-returns-clause-units c = length-units_of_words c.mark.new.words.items c.args.units
+returns-clause-units c = length-units_of_words c.cover.new.self c.args.units
 
 pub returns-clause-used : goal.returns-clause-used
 returns-clause-used c =
-    let marked = first_marked c.mark.new.words.items c.in_ok-words.words.items _ c.args.used c.in_ok-words.ensures c.mark.ensures.marked in
-    new_taken c.mark.new.words.items c.args.units c.args.used c.requires.within marked
+    let marked = first_marked c.cover.new.self c.in_ok-layers.layers _ c.args.used c.in_ok-layers.ensures c.cover.ensures.marked in
+    new_taken c.cover.new.self c.args.units c.args.used c.requires.within marked
