@@ -1,11 +1,10 @@
 -- Hints over a bitmap, and marks that skip what is used.
-use Rattle.std.proofs.Common.{◌≡◌, ℕ, Bool, true, false, not, ◌+◌, ◌-◌, ◌*◌, ◌/◌, ◌%◌, ◌^◌, ◌<◌, ◌≤◌, ◌&&◌, ◌||◌, List, length, get_or, leb, ltb, max, min, replicate, refl, sym, ap, ◌∙◌, inl, inr, arith}
-use Rattle.std.proofs.lemmas.Bool.{cases_lt, lt-ltb, le-ltb, ltb-true, le-leb, leb-true, and_parts, or_cases, or_left, or_right, false≢true}
+use Rattle.std.proofs.Common.{◌≡◌, ℕ, Bool, true, false, ◌+◌, ◌-◌, ◌*◌, ◌/◌, ◌%◌, ◌^◌, ◌<◌, ◌≤◌, ◌||◌, List, get_or, leb, ltb, min, refl, sym, ap, ◌∙◌, inl, inr, arith}
+use Rattle.std.proofs.lemmas.Bool.{cases_lt, lt-ltb, ltb-true, leb-true, and_parts, or_cases}
 use Rattle.std.proofs.lemmas.Bool.Decides.{nat_tests}
-use Rattle.fam_alloc.specs.Full.{AreFull, AreLayers}
+use Rattle.fam_alloc.specs.Full.{AreFull}
 use Rattle.fam_alloc.specs.Next.{has_bit, is_bit_set, is_between, IsNext}
 use Rattle.fam_alloc.proofs.BitLemmas.{has_bit_all}
-use Rattle.fam_alloc.proofs.MapLemmas.{zeros_free}
 
 -- each unit of a word whose bits are all 1 is used
 pub all_ones : (words : List ℕ) (w x : ℕ) → x ≡ get_or words w 0 → x ≡ 2 ^ 64 - 1 → (u : ℕ) → u / 64 ≡ w → is_bit_set words u ≡ true

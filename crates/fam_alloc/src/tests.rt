@@ -2,7 +2,7 @@
 
 ghost use Rattle.std.specs.Prelude.{◌≡◌, ◌+◌, ◌*◌, ◌≤◌, [], ◌∷◌, length};
 
-use crate::{AllocMap, Starts, TakeFault, UsedUnits};
+use crate::{AllocMap, MOST_UNITS, Starts, TakeFault, UsedUnits};
 use fam_base::{Extent, Extents};
 use std::test::Fail;
 
@@ -144,6 +144,7 @@ fn the_largest_device_has_a_map(rt: HostRuntime) -> Result<(), Fail> {
 fn cover_run(map: &mut UsedUnits, first: u64, end: u64)
     requires order { first ≤ end }
     requires within { end ≤ length map.old }
+    requires few { end ≤ MOST_UNITS }
     ensures { length map.new ≡ length map.old }
 {
     let run = Extent {
