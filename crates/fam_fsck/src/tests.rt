@@ -309,4 +309,3 @@ fn a_tree_is_checked_against_listings(rt: HostRuntime) -> Result<(), Fail> {
     }
     Ok(())
 }
-

@@ -88,7 +88,10 @@ fn units_of_two_entries_are_reported_once(rt: HostRuntime) -> Result<(), Fail> {
 #[test]
 fn a_damaged_slot_is_reported(rt: HostRuntime) -> Result<(), Fail> {
     let alloc = rt.alloc();
-    let mut media = holding(alloc, &[directory(b"a")?, directory(b"b")?, directory(b"c")?])?;
+    let mut media = holding(
+        alloc,
+        &[directory(b"a")?, directory(b"b")?, directory(b"c")?],
+    )?;
     // The first byte of the path in slot 2, which was 63 in hexadecimal.
     let mut words = spell(&directory(b"c")?, 2);
     words[42] = 0x64;
