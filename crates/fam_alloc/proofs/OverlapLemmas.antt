@@ -1,5 +1,5 @@
 -- Units of extents, and the first that overlaps.
-use Rattle.std.proofs.Common.{◌≡◌, ℕ, zero, suc, Bool, true, false, ◌+◌, ◌-◌, ◌*◌, ◌/◌, ◌<◌, ◌≤◌, ◌==◌, ◌||◌, Option, Some, List, [], ◌∷◌, ◌++◌, length, take, drop, get_or, cond, refl, sym, ap, subst, ◌∙◌, inl, inr, arith}
+use Rattle.std.proofs.Common.{◌≡◌, ℕ, zero, suc, Bool, true, false, not, ◌+◌, ◌-◌, ◌*◌, ◌/◌, ◌<◌, ◌≤◌, ◌==◌, ◌&&◌, ◌||◌, Option, Some, List, [], ◌∷◌, ◌++◌, length, take, drop, get_or, cond, refl, sym, ap, subst, ◌∙◌, inl, inr, arith}
 use Rattle.std.specs.List.{range_with_len}
 use Rattle.std.proofs.lemmas.Bool.{cases_lt, cases_eq, cond-true, cond-false, ne_eqb, eq-eqb, or_right}
 use Rattle.std.proofs.lemmas.Bool.Decides.{nat_tests}
@@ -147,6 +147,18 @@ marked_more old now unit extents i start end u below s e h =
     ap (λ (b : Bool). b || is_between start end u) h
     ∙ sym (or_assoc (old u) (holds (units_in unit (take i extents)) u) (is_between start end u))
     ∙ ap (λ (b : Bool). old u || b) (holds_more unit extents i start end below s e u)
+
+not_or : (o a b : Bool) → ((o && not a) && not b) ≡ (o && not (a || b))
+not_or true true b = refl
+not_or true false b = refl
+not_or false a b = refl
+
+-- one extent more is cleared
+pub cleared_more : (old : ℕ → Bool) (now : Bool) (unit : ℕ) (extents : List Extent) (i start end u : ℕ) → i < length extents → start ≡ (get_or extents i no_extent).offset / unit → end ≡ start + (get_or extents i no_extent).length / unit → now ≡ (old u && not (holds (units_in unit (take i extents)) u)) → (now && not (is_between start end u)) ≡ (old u && not (holds (units_in unit (take (i + 1) extents)) u))
+cleared_more old now unit extents i start end u below s e h =
+    ap (λ (b : Bool). b && not (is_between start end u)) h
+    ∙ not_or (old u) (holds (units_in unit (take i extents)) u) (is_between start end u)
+    ∙ ap (λ (b : Bool). old u && not b) (holds_more unit extents i start end below s e u)
 
 -- the count of one extent more
 pub count_more : (unit : ℕ) (extents : List Extent) (i start end count : ℕ) → i < length extents → end ≡ start + (get_or extents i no_extent).length / unit → count ≡ length (units_in unit (take i extents)) → count + (end - start) ≡ length (units_in unit (take (i + 1) extents))

@@ -1,13 +1,13 @@
 //! The map of used units.
 
-ghost use Rattle.std.specs.Prelude.{◌≡◌, ℕ, true, ◌<◌, ◌≤◌, ◌||◌, length, nat_lt, IfOk, OnOk, IfErr, OnErr};
+ghost use Rattle.std.specs.Prelude.{◌≡◌, ℕ, None, true, false, not, ◌<◌, ◌≤◌, ◌&&◌, ◌||◌, length, nat_lt, IfOk, OnOk, IfErr, OnErr};
 ghost use Rattle.fam_format.specs.Units.{units_in, first_overlap};
 ghost use Rattle.fam_rules.specs.Room.{room, strips};
 ghost use Rattle.fam_alloc.specs.Taken.{is_taken, taken_units, holds, LieWithin};
 ghost use Rattle.fam_alloc.specs.TakeFaults.{NamesOverlap};
 
 use crate::bits::{MOST_UNITS, mark, zeros};
-use crate::overlap::{first_overlap, mark_free};
+use crate::overlap::{clear_all, first_overlap, mark_free};
 use crate::run::{first_strips, lowest_run};
 use crate::starts::Starts;
 use fam_base::{Extents, OutOfMemory};
@@ -15,7 +15,7 @@ use std::alloc::Global;
 use std::marker::Model;
 
 /// Which units of a device are used. Units are counted from byte 0 of the image, so the first ones are the
-/// superblock's and the log's. A unit that was taken is never given back.
+/// superblock's and the log's.
 #[derive(Drop)]
 pub struct AllocMap {
     /// Bit `u % 64` of word `u / 64` is unit `u`.
@@ -108,6 +108,20 @@ impl AllocMap {
             }
             Err(taken) => Err(TakeFault::Overlap(taken)),
         }
+    }
+
+    /// Marks all units of the extents as free: what undoes `take`.
+    pub fn give_back(&mut self, extents: &Extents, unit: u64)
+        requires unit { 0 < unit }
+        requires within { LieWithin unit (length self.old) extents.now }
+        requires taken { (u : ℕ) → holds (units_in unit extents.now) u ≡ true → is_taken self.old u ≡ true }
+        requires once { first_overlap (λ _. false) (units_in unit extents.now) ≡ None }
+
+        ensures value { (u : ℕ) →
+            is_taken self.new u ≡ (is_taken self.old u && not (holds (units_in unit extents.now) u)) }
+        ensures units { length self.new ≡ length self.old }
+    {
+        self.used -= clear_all(&mut self.words, extents, unit, self.units);
     }
 
     /// The lowest start of so many free units in a row.

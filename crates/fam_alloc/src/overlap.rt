@@ -1,6 +1,6 @@
 //! The units of extents: which of them overlap, and how they are marked.
 
-ghost use Rattle.std.specs.Prelude.{◌≡◌, ℕ, true, false, ◌+◌, ◌*◌, ◌/◌, ◌<◌, ◌≤◌, ◌==◌, ◌||◌, length, nat_lt, take, slice_index_or, vec_len, IfOk, OnOk, IfErr, OnErr};
+ghost use Rattle.std.specs.Prelude.{◌≡◌, ℕ, true, false, not, ◌+◌, ◌*◌, ◌/◌, ◌<◌, ◌≤◌, ◌==◌, ◌&&◌, ◌||◌, length, nat_lt, take, slice_index_or, vec_len, IfOk, OnOk, IfErr, OnErr};
 ghost use Rattle.std.specs.List.{list_any};
 ghost use Rattle.fam_base.specs.ExtentLists.{no_extent};
 ghost use Rattle.fam_format.specs.Units.{units_in, first_overlap};
@@ -8,7 +8,7 @@ ghost use Rattle.fam_rules.specs.Reports.{is_overlap};
 ghost use Rattle.fam_alloc.specs.Next.{is_bit_set, is_between, IsNext};
 ghost use Rattle.fam_alloc.specs.Taken.{LieWithin, holds};
 
-use crate::bits::{MOST_UNITS, mark, next};
+use crate::bits::{MOST_UNITS, clear, mark, next};
 use crate::layers::Layers;
 use fam_base::{Extent, Extents};
 
@@ -202,6 +202,26 @@ pub fn mark_free(words: &mut Vec<u64>, extents: &Extents, unit: u64, units: u64)
         return Err(taken);
     }
     Ok(mark_all(words, extents, unit, units))
+}
+
+/// Marks the units of the extents as free, and gives their number.
+pub fn clear_all(words: &mut Vec<u64>, extents: &Extents, unit: u64, units: u64) -> u64
+    requires unit { 0 < unit }
+    requires within { LieWithin unit units extents.now }
+    requires few { units ≤ MOST_UNITS }
+    requires covered { units ≤ 64 * vec_len words.old }
+    ensures count { result ≡ length (units_in unit extents.now) }
+    ensures cleared { (u : ℕ) → is_bit_set words.new.items u
+        ≡ (is_bit_set words.old.items u && not (holds (units_in unit extents.now) u)) }
+    ensures len { vec_len words.new ≡ vec_len words.old }
+{
+    let mut count = 0;
+    for i in 0..extents.len() {
+        let run = run_at(extents, unit, units, i);
+        clear(words, run.start, run.end);
+        count += run.end - run.start;
+    }
+    count
 }
 
 /// Marks the units of the extents as used, whether they were or not.

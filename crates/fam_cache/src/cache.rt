@@ -18,9 +18,10 @@ ghost use Rattle.fam_cache.specs.Places.{IsPlaceOf, IsSpot, cache_of};
 use crate::copies::{fetch_copy, leak_copy, send_copy};
 use crate::fault::CacheFault;
 use crate::places::{
-    Spot, clean_copy, copy, dirty_lines_of, drop_copy, held_at, held_line, held_word, is_dirty_at,
-    make_room, place_of, put_copy, seek, set_rest, set_word, word_at,
+    Spot, clean_copy, copy, dirty_lines_of, drop_copy, held_at, held_line, held_word, make_room,
+    place_of, put_copy, seek, seek_next, set_rest, set_word, word_at,
 };
+use crate::renewal::{bring_to_gap, renew_in_place};
 use fam_base::{Line, LineNo, Mask, OutOfMemory};
 use fam_machine::Cell;
 use fam_media::{Failed, Media};
@@ -303,6 +304,7 @@ impl HostCache {
     /// Makes room for that many lines more.
     pub fn reserve(&mut self, lines: u64) -> Result<(), OutOfMemory>
         ensures spare { OnOk result (lines ≤ self.new.spare) }
+        ensures full { OnErr result (self.old.spare < lines) }
         ensures err { OnErr result (self.new ≡ self.old) }
         ensures lines { self.new.lines ≡ self.old.lines }
         ensures kept { self.old.spare ≤ self.new.spare }
@@ -432,31 +434,35 @@ impl HostCache {
         }
     }
 
-    /// Brings a line from memory, where the host holds no copy of it, and gives its words: the copy is clean. Of a line
-    /// that is held nothing is done, and the answer is None.
+    /// Makes a line absent and brings it anew from memory, where memory lacks no word of it, and gives its words: the copy
+    /// is clean. Of a dirty line nothing is done, and the answer is None.
     ///
-    /// Room is taken first, so where it is missing nothing was done.
-    #[inline]
-    pub fn bring_line<M: Media>(
+    /// Room is taken first, so where it is missing nothing was done. Where the read fails the line is absent.
+    #[inline(always)]
+    pub fn renew_line<M: Media>(
         &mut self,
         media: &mut M,
         line: LineNo,
     ) -> Result<Option<Line>, CacheFault>
         requires within { line.0 < M.size media.old }
 
-        ensures absent { IfOk result (λ brought. IfSome brought (λ words.
-            cell_at self.old.lines line.0 ≡ Cell.Absent)) }
-        ensures words { IfOk result (λ brought. IfSome brought (λ words.
+        ensures clean { IfOk result (λ renewed. IfSome renewed (λ words.
+            ¬ (IsDirty (cell_at self.old.lines line.0)))) }
+        ensures words { IfOk result (λ renewed. IfSome renewed (λ words.
             IfModelled (M.image media.old) (λ image. eight words ≡ line_at image line.0))) }
-        ensures cache { IfOk result (λ brought. IfSome brought (λ words.
+        ensures cache { IfOk result (λ renewed. IfSome renewed (λ words.
             self.new.lines ≡ with_cell line.0 (Cell.Clean (eight words)) self.old.lines)) }
-        ensures other { IfOk result (λ brought. brought ≡ None → self.new ≡ self.old) }
-        ensures same { IfOk result (λ brought. brought ≡ None → media.new ≡ media.old) }
+        ensures other { IfOk result (λ renewed. renewed ≡ None → self.new ≡ self.old) }
+        ensures same { IfOk result (λ renewed. renewed ≡ None → media.new ≡ media.old) }
+        ensures dirty { IfOk result (λ renewed. renewed ≡ None → IsDirty (cell_at self.old.lines line.0)) }
 
-        ensures err { OnErr result (self.new.lines ≡ self.old.lines) }
         ensures failed { IsErrOf result CacheFault.Failed → Rose (M.faults media.old) (M.faults media.new) }
-        ensures failed_absent { IsErrOf result CacheFault.Failed → cell_at self.old.lines line.0 ≡ Cell.Absent }
+        ensures failed_clean { IsErrOf result CacheFault.Failed → ¬ (IsDirty (cell_at self.old.lines line.0)) }
+        ensures failed_lines { IsErrOf result CacheFault.Failed →
+            self.new.lines ≡ with_cell line.0 Cell.Absent self.old.lines }
         ensures room { IsErrOf result CacheFault.OutOfMemory → self.old.spare ≡ 0 }
+        ensures room_absent { IsErrOf result CacheFault.OutOfMemory →
+            ¬ (IsHeld (cell_at self.old.lines line.0)) }
         ensures undone { IsErrOf result CacheFault.OutOfMemory → media.new ≡ media.old }
         ensures unchanged { IsErrOf result CacheFault.OutOfMemory → self.new ≡ self.old }
 
@@ -465,19 +471,21 @@ impl HostCache {
         ensures spare { self.old.spare ≤ self.new.spare + 1 }
         ensures err_spare { OnErr result (self.old.spare ≤ self.new.spare) }
     {
-        let spot = seek(&self.places, self.last, line.0);
-        if held_at(&self.places, spot, line.0).is_some() {
-            return Ok(None);
-        }
-        if make_room(&mut self.places, spot).is_err() {
-            return Err(CacheFault::OutOfMemory);
-        }
-        match media.read(line) {
-            Ok(words) => {
-                self.last = put_copy(&mut self.places, spot, line.0, Cell::Clean(words));
-                Ok(Some(words))
+        match seek_next(&self.places, self.last, line.0) {
+            Spot::Place(at) => {
+                self.last = at;
+                match renew_in_place(&mut self.places, at, media, line) {
+                    Ok(words) => Ok(words),
+                    Err(_) => Err(CacheFault::Failed),
+                }
             }
-            Err(_) => Err(CacheFault::Failed),
+            Spot::Gap(at) => {
+                self.last = at;
+                match bring_to_gap(&mut self.places, at, media, line) {
+                    Ok(words) => Ok(Some(words)),
+                    Err(fault) => Err(fault),
+                }
+            }
         }
     }
 
@@ -514,6 +522,8 @@ impl HostCache {
             IsTorn (M.image media.old) (M.image media.new) line.0 words.now }
 
         ensures room { IsErrOf result CacheFault.OutOfMemory → self.old.spare ≡ 0 }
+        ensures room_absent { IsErrOf result CacheFault.OutOfMemory →
+            ¬ (IsHeld (cell_at self.old.lines line.0)) }
         ensures undone { IsErrOf result CacheFault.OutOfMemory → media.new ≡ media.old }
         ensures unchanged { IsErrOf result CacheFault.OutOfMemory → self.new ≡ self.old }
 
@@ -629,24 +639,6 @@ impl HostCache {
     {
         self.last = drop_line(&mut self.places, self.last, media, line)?;
         Ok(())
-    }
-
-    /// Makes a line absent that isn't dirty. It asks nothing of memory. Of a dirty line nothing is done, and the answer
-    /// is that.
-    #[inline]
-    pub fn drop_clean(&mut self, line: LineNo) -> bool
-        ensures clean { result ≡ true → ¬ (IsDirty (cell_at self.old.lines line.0)) }
-        ensures cache { result ≡ true → self.new.lines ≡ with_cell line.0 Cell.Absent self.old.lines }
-        ensures other { result ≡ false → self.new ≡ self.old }
-        ensures spare { self.old.spare ≤ self.new.spare }
-    {
-        let spot = seek(&self.places, self.last, line.0);
-        if is_dirty_at(&self.places, spot, line.0) {
-            return false;
-        }
-        drop_copy(&mut self.places, spot, line.0);
-        self.last = place_of(spot).min(self.places.len().saturating_sub(1));
-        true
     }
 
     /// Drops a line, as the machine may: a dirty one is sent whole to memory first.

@@ -14,6 +14,7 @@ mod copies;
 mod fault;
 mod perform;
 mod places;
+mod renewal;
 #[cfg(test)]
 mod tests;
 

@@ -119,6 +119,19 @@ pub(crate) fn seek(places: &Vec<(u64, Cell)>, last: usize, line: u64) -> Spot
     }
 }
 
+/// The spot of the line, which is looked for behind the place of the last access first.
+#[inline(always)]
+pub(crate) fn seek_next(places: &Vec<(u64, Cell)>, last: usize, line: u64) -> Spot
+    requires { IsTrue (is_sorted nat_cmp places.now.items) }
+    ensures { IsSpot places.now.items result line }
+{
+    let next = last.wrapping_add(1);
+    if stands(places, next, line) {
+        return Spot::Place(next);
+    }
+    seek(places, last, line)
+}
+
 /// The place to remember after an access to a spot. Any number serves, but this one finds the next line soon.
 #[inline(always)]
 pub(crate) fn place_of(spot: Spot) -> usize {

@@ -52,12 +52,12 @@ fn put<M: Media>(cache: &mut HostCache, media: &mut M, line: u64, words: &Line) 
     cache.put_line(media, LineNo(line), words).ok()
 }
 
-/// The words of a line that is brought, if it is. None too: the call failed.
-fn brought<M: Media>(cache: &mut HostCache, media: &mut M, line: u64) -> Option<Line> {
+/// The words of a line that is brought anew, if it is. None too: the call failed.
+fn renewed<M: Media>(cache: &mut HostCache, media: &mut M, line: u64) -> Option<Line> {
     if line >= media.lines() {
         return None;
     }
-    cache.bring_line(media, LineNo(line)).ok()?
+    cache.renew_line(media, LineNo(line)).ok()?
 }
 
 /// A line of memory as it stands.
@@ -86,7 +86,7 @@ fn a_line_is_put_and_brought_by_one_call_of_the_media_each(rt: HostRuntime) -> R
     let mut cache = HostCache::new(rt.alloc());
     media.fail(2, Mask(0))?;
     assert_eq!(rt; put(&mut cache, &mut media, 1, &words), Some(true));
-    assert_eq!(rt; brought(&mut cache, &mut media, 1), Some(words));
+    assert_eq!(rt; renewed(&mut cache, &mut media, 1), Some(words));
     assert_eq!(rt;
         put(&mut cache, &mut media, 1, &[0; 8]),
         Some(false),

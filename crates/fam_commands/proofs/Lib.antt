@@ -8,3 +8,4 @@ pub mod SoloRuns
 pub mod Rows
 pub mod Steps
 pub mod Counted
+pub mod UpToStores

@@ -6,3 +6,4 @@ pub mod Counts
 pub mod Solo
 pub mod Appends
 pub mod SoloOps
+pub mod FirstStore

@@ -6,3 +6,4 @@ pub mod Running
 pub mod Asking
 pub mod Stepping
 pub mod Events
+pub mod Resting

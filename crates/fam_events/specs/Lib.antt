@@ -3,3 +3,4 @@ pub mod Calls
 pub mod Happens
 pub mod Begins
 pub mod Steps
+pub mod Rested

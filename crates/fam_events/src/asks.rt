@@ -1,6 +1,6 @@
 //! Commands that begin, with the bytes of their sources.
 
-ghost use Rattle.std.specs.Prelude.{◌≡◌, ◌≤◌, length, ℕ, IfErr, IfOk, OnErr, Option, None};
+ghost use Rattle.std.specs.Prelude.{◌≡◌, ◌≤◌, length, ℕ, IfErr, IfOk, OnErr, OnOk, Option, None};
 ghost use Rattle.fam_base.specs.Commands.{IsSoundCmd};
 ghost use Rattle.fam_base.specs.declared.cmd.Cmd.{Cmd as Command};
 ghost use Rattle.fam_base.specs.Image.{Image};
@@ -16,6 +16,7 @@ ghost use Rattle.fam_media.specs.Outside.{IfModelled};
 ghost use Rattle.fam_sources.specs.Whole.{IsShelfSteady, changed};
 ghost use Rattle.fam_events.specs.Around.{asking};
 ghost use Rattle.fam_events.specs.Begins.{AskSays};
+ghost use Rattle.fam_events.specs.Rested.{IsRested, IsUnstoredOf};
 ghost use Rattle.fam_events.specs.declared.asks.Asked.TheVariants.{Begun, Refused};
 ghost use Rattle.fam_events.specs.declared.fault.EventFault.TheVariants.{OutOfMemory};
 
@@ -41,6 +42,7 @@ pub(crate) enum Asked {
 fn refuse(world: &mut World, name: &HostName, cause: Refusal) -> Result<Asked, EventFault>
     ensures done { (lines : ℕ) → IfOk result (λ asked. (asked ≡ Refused)
         × WorldCall (Refuses name.now cause) lines None world.old world.new) }
+    ensures refused { IfOk result (λ asked. asked ≡ Refused) }
     ensures err { IfErr result (λ fault. fault ≡ OutOfMemory) }
     ensures undone { OnErr result (world.new ≡ world.old) }
 {
@@ -58,6 +60,7 @@ fn start(world: &mut World, lines: u64, name: &HostName, cmd: &Cmd) -> Result<As
     ensures command { IsCommand cmd.now }
     ensures done { IfOk result (λ asked. (asked ≡ Begun)
         × WorldCall (Begins name.now cmd.now) lines None world.old world.new) }
+    ensures unstored { OnOk result (IsRested world.old → IsUnstoredOf name.now world.old world.new) }
     ensures err { IfErr result (λ fault. fault ≡ OutOfMemory) }
     ensures undone { OnErr result (world.new ≡ world.old) }
 {
@@ -87,6 +90,8 @@ fn read<S: Shelf>(
         → FitsMedia lines world.old.hosts
         → AskSays name.now what (changed S.files S.faults S.shorts shelf.old shelf.new) (asking lines world.old world.new
         told faults (S.files shelf.old) copied.old copied.new) result }
+    ensures unstored { IfOk result (λ asked. asked ≡ Begun → IsRested world.old
+        → IsUnstoredOf name.now world.old world.new) }
     ensures steady { IsShelfSteady S.files S.faults S.shorts shelf.old shelf.new }
 {
     let Ok(resolved) = resolve(alloc, shelf, what, *copied) else {
@@ -124,6 +129,8 @@ pub(crate) fn ask<S: Shelf>(
         → FitsMedia lines world.old.hosts
         → AskSays name.now what (changed S.files S.faults S.shorts shelf.old shelf.new) (asking lines world.old world.new
         told faults (S.files shelf.old) copied.old copied.new) result }
+    ensures unstored { IfOk result (λ asked. asked ≡ Begun → IsRested world.old
+        → IsUnstoredOf name.now world.old world.new) }
     ensures steady { IsShelfSteady S.files S.faults S.shorts shelf.old shelf.new }
 {
     match world.may_begin(lines, name) {

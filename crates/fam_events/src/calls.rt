@@ -1,10 +1,11 @@
 //! Calls of the world as parts of events: what was refused is noted, and the run goes on.
 
-ghost use Rattle.std.specs.Prelude.{◌≡◌, length, ℕ, Option};
+ghost use Rattle.std.specs.Prelude.{◌≡◌, length, ℕ, OnErr, Option, Some};
 ghost use Rattle.fam_base.specs.Image.{Image};
 ghost use Rattle.fam_format.specs.Params.{IsUuid};
 ghost use Rattle.fam_journal.specs.Calls.{Declares, Finishes, Halts, Makes, Moves, Stops};
-ghost use Rattle.fam_journal.specs.CallRecords.{FitsMedia};
+ghost use Rattle.fam_journal.specs.ByWorld.{number_in};
+ghost use Rattle.fam_journal.specs.CallRecords.{FitsMedia, IsUnstoredAt};
 ghost use Rattle.fam_journal.specs.Forms.{IsFormed};
 ghost use Rattle.fam_machine.specs.HostMoves as how;
 ghost use Rattle.fam_media.specs.Files.{Files};
@@ -107,7 +108,8 @@ pub(crate) fn make<M: Media>(
     made(world.mkfs(media, name, fs, unit, log, force))
 }
 
-/// A host's task runs to its answer.
+/// A host's task runs to its answer. Where no memory is left for it, and it had stored nothing before, the image is as
+/// it was.
 pub(crate) fn finish<M: Media>(
     world: &mut World,
     media: &mut M,
@@ -117,6 +119,8 @@ pub(crate) fn finish<M: Media>(
     requires fits { FitsMedia (M.size media.old) world.old.hosts }
     ensures says { (files : Option Files) (copied : ℕ) → CallSays (Finishes name.now) (around M.image M.size M.faults
         media.old media.new world.old world.new files copied copied) result }
+    ensures same { OnErr result ((h : ℕ) → number_in name.now world.old ≡ Some h → IsUnstoredAt h world.old
+        → IfModelled (M.image media.old) (λ image. M.image media.new ≡ Some image)) }
     ensures size { M.size media.new ≡ M.size media.old }
 {
     noted(world.finish(media, name))

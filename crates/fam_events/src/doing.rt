@@ -1,14 +1,16 @@
 //! One event of a run.
 
-ghost use Rattle.std.specs.Prelude.{◌≡◌, ℕ, Option};
+ghost use Rattle.std.specs.Prelude.{◌≡◌, ℕ, OnErr, Option, Some};
 ghost use Rattle.fam_base.specs.Image.{Image};
 ghost use Rattle.fam_grammar.specs.Sound.{IsSoundAsk, IsSoundEvent};
 ghost use Rattle.fam_journal.specs.declared.event.Event.TheVariants as event;
 ghost use Rattle.fam_journal.specs.CallRecords.{FitsMedia};
 ghost use Rattle.fam_journal.specs.Forms.{IsFormed};
+ghost use Rattle.fam_media.specs.Outside.{IfModelled};
 ghost use Rattle.fam_sources.specs.Whole.{IsShelfSteady, changed};
 ghost use Rattle.fam_events.specs.Around.{around};
 ghost use Rattle.fam_events.specs.Happens.{EventSays};
+ghost use Rattle.fam_events.specs.Rested.{IsRested, IsRun};
 
 use crate::asks::{Asked, ask};
 use crate::calls::{declare, evict, fetch, finish, halt, leak, make, stop};
@@ -59,6 +61,8 @@ fn run<M: Media, S: Shelf>(
     requires fits { FitsMedia (M.size media.old) world.old.hosts }
     ensures says { EventSays (event.Run name what) (changed S.files S.faults S.shorts shelf.old shelf.new)
         (around M.image M.size M.faults media.old media.new world.old world.new (S.files shelf.old) copied.old copied.new) result }
+    ensures same { OnErr result (IsRested world.old
+        → IfModelled (M.image media.old) (λ image. M.image media.new ≡ Some image)) }
     ensures size { M.size media.new ≡ M.size media.old }
     ensures steady { IsShelfSteady S.files S.faults S.shorts shelf.old shelf.new }
 {
@@ -74,6 +78,7 @@ fn run<M: Media, S: Shelf>(
 ///
 /// `MkfsFailed` comes where the media failed while a file system was made; `SourceEnded` where the shelf failed, or a
 /// source was short; `OutOfMemory` where no memory was left, and then an event that does operations may have done some.
+/// A run of a command has stored nothing then, on caches that had nothing to send before it.
 pub fn happen<M: Media, S: Shelf>(
     alloc: Global,
     world: &mut World,
@@ -87,6 +92,11 @@ pub fn happen<M: Media, S: Shelf>(
     requires fits { FitsMedia (M.size media.old) world.old.hosts }
     ensures says { EventSays event (changed S.files S.faults S.shorts shelf.old shelf.new)
         (around M.image M.size M.faults media.old media.new world.old world.new (S.files shelf.old) copied.old copied.new) result }
+
+    // A run that ends early leaves the image as it was, where no cache had anything to send.
+    ensures same { IsRun event → OnErr result (IsRested world.old
+        → IfModelled (M.image media.old) (λ image. M.image media.new ≡ Some image)) }
+
     ensures size { M.size media.new ≡ M.size media.old }
     ensures steady { IsShelfSteady S.files S.faults S.shorts shelf.old shelf.new }
 {

@@ -1,15 +1,17 @@
 -- What the world's calls promise: where the media's image is modelled, and on every media.
-use Rattle.std.specs.Prelude.{ℕ, ⊤, ◌≡◌, ◌⊎◌, ◌<◌, ◌≤◌, Bool, List, [], ◌∷◌, ◌++◌, length, map, slice_get, Option, Some, None, unwrap_or}
+use Rattle.std.specs.Prelude.{ℕ, ⊤, ◌≡◌, ◌⊎◌, ◌<◌, ◌≤◌, Bool, List, [], ◌∷◌, ◌++◌, length, map, slice_get, Option, Some, None, IfSome, unwrap_or}
 use Rattle.std.specs.List.{list_any}
 use Rattle.fam_base.specs.Image.{Image}
 use Rattle.fam_machine.specs.Caches.{cell_at}
 use Rattle.fam_machine.specs.OneLine.{IsHeld}
 use Rattle.fam_commands.specs.Task.{Task, op_of}
 use Rattle.fam_machine.specs.Operations.{Machine, given, operated}
+use Rattle.fam_commands.specs.FirstStore.{IsUnstored}
 use Rattle.fam_commands.specs.Stands.{note_of, task_after, turn_given}
 use Rattle.fam_commands.specs.Turns.{Turn}
 use Rattle.fam_journal.specs.Members.{changed_at}
 use Rattle.fam_format.specs.Params.{IsUuid}
+use Rattle.fam_media.specs.Outside.{IfModelled}
 use Rattle.fam_protocol.specs.Tasks.{IsCommand}
 use Rattle.fam_journal.specs.Calls as call
 use Rattle.fam_journal.specs.declared.refusal.Refusal.{Refusal}
@@ -23,7 +25,7 @@ use Rattle.fam_journal.specs.Names.{AreNamed}
 use Rattle.fam_journal.specs.Notes.{Note, Host, Made, Start, Mark, Found, Writes, Answered, Stop, Halt, Refused}
 use Rattle.fam_journal.specs.View.{HostView, WorldView, WorldStands}
 use Rattle.fam_journal.specs.Kept.{Held}
-use Rattle.fam_journal.specs.ByWorld.{refusal_in, world_after}
+use Rattle.fam_journal.specs.ByWorld.{number_in, refusal_in, world_after}
 
 -- What a call makes of it. `told` is the media's image, where it is modelled.
 
@@ -266,11 +268,19 @@ pub record MakeCall (c : Call) (lines : ℕ) (answered : Option Refusal) (told t
   pub answers : Answers c lines answered faults faults_now old new
   pub leaves : (start : Image) → MakeLeaves answered c start told told_now old new
 
+-- a host's task has come no further than to the first store of an append, if it has any, and reads on a cache with nothing
+-- to send
+abbrev pub IsUnstoredAt : ℕ → WorldView → Type 0
+IsUnstoredAt h world =
+    (view : HostView) → slice_get world.hosts h ≡ Some view → IfSome view.task (λ t. IsUnstored t view.cache)
+
 -- a finish that found no memory: what it did until then stands. Any other call has done nothing (`LeavesAll`)
 pub record FinishOutOfMemory (name : List ℕ) (lines : ℕ) (told told_now : Option Image) (faults faults_now : ℕ) (old new : WorldView) : Type 0 where
   pub adds : Adds lines faults faults_now old new
   pub form : IsFormed old → PartForm (call.Finishes name) lines (forms_of old.journal) adds.notes
   pub parts : (start : Image) → CallParts (call.Finishes name) start told told_now old new
+  -- where nothing of the host's task was stored at first, and its cache had nothing to send, memory is as it was
+  pub same : (h : ℕ) → number_in name old ≡ Some h → IsUnstoredAt h old → IfModelled told (λ image. told_now ≡ Some image)
 
 -- The world after an operation that the media served, as the world's own task has it.
 

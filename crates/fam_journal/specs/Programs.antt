@@ -136,9 +136,7 @@ ShotText (Runs what) MkfsFails journal text = ⊥
 ShotText (MakesParents path attr) MkfsFails journal text = ⊥
 ShotText shot (SourceFails end) journal text = text ≡ source_line end
 ShotText shot EndsOutOfMemory journal text = text ≡ memory_line
-ShotText (Makes fs unit log force) EndsOutOfMemoryBroken journal text = text ≡ memory_line
-ShotText (Runs what) EndsOutOfMemoryBroken journal text = ⊥
-ShotText (MakesParents path attr) EndsOutOfMemoryBroken journal text = ⊥
+ShotText shot EndsOutOfMemoryBroken journal text = ⊥
 ShotText shot SinkFails journal text = ⊥
 
 abbrev pub ShotPuts : List ℕ → OneShot → List Event → Ending → List Note → List ℕ → Type 0
@@ -295,10 +293,21 @@ pub record EndsEarly (grammar : Grammar) (storms : Storms) (command : Option Com
 
 -- Runs.
 
+-- the image is as it was, where it and the files are modelled
+abbrev pub LeavesImage : Outside → Type 0
+LeavesImage out = IfModelled out.image (λ start. IfModelled out.files (λ files. out.image_now ≡ Some start))
+
+-- so it is where a command says that no memory is left: an append has stored nothing then
+abbrev pub SparesImage : OneShot → Status → Outside → Type 0
+SparesImage (Makes fs unit log force) own out = ⊤
+SparesImage (Runs what) own out = own ≡ status.OutOfMemory → LeavesImage out
+SparesImage (MakesParents path attr) own out = ⊤
+
 pub record ShotRuns (me : List ℕ) (shot : OneShot) (out : Outside) (text : List ℕ) (own : Status) : Type 0 where
   pub ending : Ending
   pub events : List Event
   pub run : HasRun (ShotPuts me shot events) (shot_status shot) ending out events text own
+  pub spares : SparesImage shot own out
 
 -- where the sink tells its bytes, at least this text is put
 abbrev pub HasPut : Outside → List ℕ → Type 0

@@ -59,7 +59,7 @@ overlap_same s tree map e plan proper =
 -- One entry more.
 
 -- its units are used too
-used_more : (p : Params) (list : List Entry) (e : Entry) (u : ℕ) → is_used p (list ++ e ∷ []) u ≡ (is_used p list u || holds (units_in p.unit e.extents) u)
+pub used_more : (p : Params) (list : List Entry) (e : Entry) (u : ℕ) → is_used p (list ++ e ∷ []) u ≡ (is_used p list u || holds (units_in p.unit e.extents) u)
 used_more p list e u =
     let all : list_units p.unit (list ++ e ∷ []) ≡ list_units p.unit list ++ units_in p.unit e.extents =
     flat_map-append (λ (x : Entry). units_in p.unit x.extents) list (e ∷ [])

@@ -2,3 +2,4 @@ pub mod Histories
 pub mod Decisions
 pub mod Order
 pub mod FirstEntries
+pub mod Fewer

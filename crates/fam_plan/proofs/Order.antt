@@ -9,13 +9,14 @@ use Rattle.std.specs.Cmp.Lexicographic.{nat_list_cmp_total}
 use Rattle.std.specs.declared.cmp.Ordering.TheVariants.{Less, Equal, Greater}
 use Rattle.std.specs.FinMap as finmap
 use Rattle.std.specs.FinMap.{get-insert, get_tied}
+use Rattle.std.proofs.lemmas.List.{map-append}
 use Rattle.std.proofs.lemmas.List.Elements.{filter_map-append}
 use Rattle.fam_base.specs.PathOrder.{path_cmp}
 use Rattle.fam_base.specs.declared.entry.Entry.{Entry}
 use Rattle.fam_format.specs.declared.faults.Reason.{Reason}
 use Rattle.fam_format.specs.Stop.{or_else}
 use Rattle.fam_format.specs.Tree.{Tree, with_entry, exists_fault, tree_fault}
-use Rattle.fam_plan.specs.State.{entries_at, AreHeld}
+use Rattle.fam_plan.specs.State.{entries_at, paths_in, AreHeld}
 
 some_is_no_none : (o : Option Entry) → IsSome o → o ≡ None → ⊥
 some_is_no_none None held none = cc (held)
@@ -31,7 +32,7 @@ free_there tree e fits = or_none (finmap.get tree e.path) _ fits
 
 module _ (tree : Tree) (k : List ℕ) (e : Entry) (free : finmap.get tree k ≡ None) where
   -- what stands elsewhere stays
-  still_there : (q : List ℕ) → IsSome (finmap.get tree q) → finmap.get (finmap.insert tree k e) q ≡ finmap.get tree q
+  pub still_there : (q : List ℕ) → IsSome (finmap.get tree q) → finmap.get (finmap.insert tree k e) q ≡ finmap.get tree q
   still_there q held =
       let same : (path_cmp q k ≡ Equal) → cond (is_eq Equal) (Some e) (finmap.get tree q) ≡ finmap.get tree q = λ is.
       absurd (some_is_no_none (finmap.get tree q) held (sym (get_tied nat_list_cmp_total tree q k is) ∙ free)) in
@@ -48,7 +49,7 @@ module _ (tree : Tree) (k : List ℕ) (e : Entry) (free : finmap.get tree k ≡ 
       get-insert nat_list_cmp_total tree k e k
       ∙ ap (λ (b : Bool). cond b (Some e) (finmap.get tree k)) ((eq_by_cmp_equiv nat_list_cmp_total).refl k)
 
-  entries_stay : (order : List (List ℕ)) → AreHeld tree order → entries_at (finmap.insert tree k e) order ≡ entries_at tree order
+  pub entries_stay : (order : List (List ℕ)) → AreHeld tree order → entries_at (finmap.insert tree k e) order ≡ entries_at tree order
   entries_stay [] held = refl
   entries_stay (q ∷ order) held =
       ap (λ (o : Option Entry). cons_option o (entries_at (finmap.insert tree k e) order)) (still_there q held.0)
@@ -65,21 +66,29 @@ module _ (tree : Tree) (k : List ℕ) (e : Entry) (free : finmap.get tree k ≡ 
   held_more [] held = (ap is_some comes, tt)
   held_more (q ∷ order) held = (ap is_some (still_there q held.0) ∙ held.0, held_more order held.1)
 
--- these are the entries of a tree at paths, which it has
+-- these are the entries of a tree at paths, which it has, each under its own
 pub record AreEntries (tree : Tree) (order : List (List ℕ)) (list : List Entry) : Type 0 where
   pub entries : entries_at tree order ≡ list
   pub held : AreHeld tree order
+  pub own : paths_in (entries_at tree order) ≡ order
 
 -- with one entry more
-pub entries_with : (tree more : Tree) (order longer : List (List ℕ)) (e : Entry) → finmap.get tree e.path ≡ None → AreHeld tree order → more ≡ with_entry tree e → longer ≡ order ++ e.path ∷ [] → AreEntries more longer (entries_at tree order ++ e ∷ [])
-entries_with tree more order longer e free held is_more is_longer = record {
-  entries = ap (λ (t : Tree). entries_at t longer) is_more ∙ ap (entries_at (with_entry tree e)) is_longer ∙ entries_more tree e.path e free order held;
+pub entries_with : (tree more : Tree) (order longer : List (List ℕ)) (e : Entry) → finmap.get tree e.path ≡ None → AreHeld tree order → paths_in (entries_at tree order) ≡ order → more ≡ with_entry tree e → longer ≡ order ++ e.path ∷ [] → AreEntries more longer (entries_at tree order ++ e ∷ [])
+entries_with tree more order longer e free held own is_more is_longer = record {
+  entries = entries;
+  own =
+      ap paths_in entries ∙ map-append (λ (x : Entry). x.path) (entries_at tree order) (e ∷ [])
+      ∙ ap (λ (l : List (List ℕ)). l ++ e.path ∷ []) own ∙ sym is_longer;
   held = subst (λ (t : Tree). AreHeld t longer) (sym is_more) (subst (AreHeld (with_entry tree e)) (sym is_longer) (held_more tree e.path e free order held));
 }
+  where
+    entries : entries_at more longer ≡ entries_at tree order ++ e ∷ []
+    entries = ap (λ (t : Tree). entries_at t longer) is_more ∙ ap (entries_at (with_entry tree e)) is_longer ∙ entries_more tree e.path e free order held
 
 -- with the same tree and order
-pub entries_as_before : (tree same : Tree) (order kept : List (List ℕ)) → AreHeld tree order → same ≡ tree → kept ≡ order → AreEntries same kept (entries_at tree order)
-entries_as_before tree same order kept held is_same is_kept = record {
+pub entries_as_before : (tree same : Tree) (order kept : List (List ℕ)) → AreHeld tree order → paths_in (entries_at tree order) ≡ order → same ≡ tree → kept ≡ order → AreEntries same kept (entries_at tree order)
+entries_as_before tree same order kept held own is_same is_kept = record {
+  own = ap (λ (t : Tree). paths_in (entries_at t kept)) is_same ∙ ap (λ (l : List (List ℕ)). paths_in (entries_at tree l)) is_kept ∙ own ∙ sym is_kept;
   entries = ap (λ (t : Tree). entries_at t kept) is_same ∙ ap (entries_at tree) is_kept;
   held = subst (λ (t : Tree). AreHeld t kept) (sym is_same) (subst (AreHeld tree) (sym is_kept) held);
 }

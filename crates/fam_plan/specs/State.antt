@@ -1,5 +1,5 @@
 -- What a contract sees of a plan: the parameters, and the entries that were added, in order.
-use Rattle.std.specs.Prelude.{ℕ, ◌≡◌, ◌<◌, ◌≤◌, Bool, List, length, take, slice_get, Some, None, IsSome, refl}
+use Rattle.std.specs.Prelude.{ℕ, ◌≡◌, ◌<◌, ◌≤◌, Bool, List, length, map, take, slice_get, Some, None, IsSome, refl}
 use Rattle.std.specs.List.{AllByRecursion, filter_map}
 use Rattle.std.specs.FinMap as finmap
 use Rattle.std.specs.Coded.{Coded, code_by, coded×, coded_list}
@@ -54,7 +54,12 @@ entries_at held order = filter_map (λ path. finmap.get held path) order
 abbrev pub AreHeld : Tree → List (List ℕ) → Type 0
 AreHeld held order = AllByRecursion (λ path. IsSome (finmap.get held path)) order
 
--- a plan's fields, where its entries are those of the tree at these paths
+-- the paths of entries
+abbrev pub paths_in : List Entry → List (List ℕ)
+paths_in list = map (λ e. e.path) list
+
+-- a plan's fields, where its entries are those of the tree at these paths, each under its own
 pub record IsPlanAt (s : PlanState) (tree : Tree) (order : List (List ℕ)) (map : List Bool) : Type 0 where
   pub plan : IsPlan s tree map
   pub held : AreHeld tree order
+  pub own : paths_in s.entries ≡ order

@@ -1,6 +1,6 @@
 //! The entries of a log with their tree and their units.
 
-ghost use Rattle.std.specs.Prelude.{◌≡◌, ◌<◌, ◌≤◌, ◌||◌, ◌++◌, ◌∷◌, [], ℕ, None, IfOk, OnOk, IfErr, OnErr, length, option_map, slice_get};
+ghost use Rattle.std.specs.Prelude.{◌≡◌, ◌<◌, ◌≤◌, ◌||◌, ◌++◌, ◌-◌, ◌∷◌, [], ℕ, None, IfOk, IfSome, OnOk, IfErr, OnErr, length, take, option_map, slice_get};
 ghost use Rattle.fam_format.specs.Params.{SoundParams};
 ghost use Rattle.fam_format.specs.Slot.{Proper};
 ghost use Rattle.fam_format.specs.Stop.{or_else};
@@ -130,6 +130,15 @@ fn path_at(order: &Vec<Path>, i: u64) -> Option<&Path>
     order.get(i as usize)
 }
 
+/// The last path, which is taken away.
+fn take_path(order: &mut Vec<Path>) -> Option<Path>
+    ensures some { IfSome result (λ path. order.old.items ≡ order.new.items ++ path ∷ []) }
+    ensures none { result ≡ None → order.new.items ≡ order.old.items }
+    ensures empty { result ≡ None → order.old.items ≡ [] }
+{
+    order.pop()
+}
+
 /// How many paths there are.
 fn count_of(order: &Vec<Path>) -> u64
     ensures { result ≡ length order.now.items }
@@ -185,6 +194,31 @@ impl Plan {
         }
     }
 
+    /// Takes the last entry away, if there is one.
+    fn take_last(&mut self)
+        ensures fewer { self.new.entries ≡ take (length self.old.entries - 1) self.old.entries }
+        ensures params { self.new.params ≡ self.old.params }
+    {
+        let Some(path) = take_path(&mut self.order) else {
+            return;
+        };
+        let Some(entry) = self.tree.get(&path) else {
+            unreachable!();
+        };
+        self.tree.take_back(&path);
+        self.used.give_back(&entry.extents, self.params.unit);
+    }
+
+    /// Leaves the first `count` entries, where there are more. It takes no memory.
+    pub fn truncate(&mut self, count: u64)
+        ensures first { self.new.entries ≡ take count self.old.entries }
+        ensures params { self.new.params ≡ self.old.params }
+    {
+        for _entry in 0..self.count().saturating_sub(count) {
+            self.take_last();
+        }
+    }
+
     /// What stands at each path.
     pub fn tree(&self) -> &Tree
         ensures { result.now ≡ replay self.now.entries }
@@ -197,6 +231,13 @@ impl Plan {
         ensures { result ≡ replay self.entries }
     {
         self.tree
+    }
+
+    /// The parameters of the file system.
+    pub fn params(&self) -> &Params
+        ensures { result.now ≡ self.now.params }
+    {
+        &self.params
     }
 
     /// How many entries were added.

@@ -262,3 +262,49 @@ fn the_first_cause_refuses(rt: HostRuntime) -> Result<(), Fail> {
     );
     Ok(())
 }
+
+/// A device of 64 MiB, 16,384 units, with a log of 1 MiB: the first 768 units are superblock and log.
+fn long_log() -> Params
+    ensures { SoundParams result }
+{
+    let own = Uuid::from_bytes([
+        0x22, 0x22, 0x22, 0x22, 0x22, 0x22, 0x22, 0x22, 0x22, 0x22, 0x22, 0x22, 0x22, 0x22, 0x22,
+        0x22,
+    ]);
+    Params {
+        log_length: 1_048_576,
+        slots: 2_047,
+        unit: 4_096,
+        device: 67_108_864,
+        fs: own,
+        master: own,
+    }
+}
+
+/// A letter for each digit of a number, so that each number has a path.
+fn letters(number: u64) -> [u8; 3] {
+    [
+        b'a' + (number / 676 % 26) as u8,
+        b'a' + (number / 26 % 26) as u8,
+        b'a' + (number % 26) as u8,
+    ]
+}
+
+#[test]
+fn a_long_log_is_cut_back_and_goes_on(rt: HostRuntime) -> Result<(), Fail> {
+    let mut plan = Plan::new(rt.alloc(), &long_log())?;
+    for number in 0..1_100 {
+        put(&mut plan, &letters(number), 4_097, None)?;
+    }
+    assert_eq!(rt; plan.count(), 1_100);
+    plan.truncate(3);
+    assert_eq!(rt; plan.count(), 3);
+    let next = put(&mut plan, &letters(500), 1, None)?;
+    assert_eq!(rt;
+        place(&next, 0),
+        (1, 3_170_304, 4_096),
+        "behind three files of two units"
+    );
+    assert!(rt; plan.at(3) == Some(next), "it stands behind them");
+    Ok(())
+}

@@ -1,6 +1,8 @@
 -- Commands of their own, as the top call tells them.
 use Prim.Native.Nat.{zero, suc}
 use Rattle.std.proofs.Common.{◌≡◌, ◌⊎◌, ℕ, inl, inr, Bool, true, false, cond, List, [], ◌∷◌, length, take, Some, Result, Ok, Err, refl, ap, sym, ◌∙◌, subst, arith}
+use Rattle.std.specs.Prelude.{⊤}
+use Rattle.std.proofs.lemmas.Bool.{false≢true}
 use Rattle.std.proofs.lemmas.List.{take_all}
 use Rattle.fam_grammar.specs.Scripts.{script_events}
 use Rattle.fam_rules.specs.Reply as reply
@@ -19,92 +21,128 @@ use Rattle.fam_journal.specs.EventForms.{FollowsForm}
 use Rattle.fam_journal.specs.Follows.{SourceEnd}
 use Rattle.fam_journal.specs.Names.{NameDeclared}
 use Rattle.fam_journal.specs.Notes.{Answer, Replied, MediaFault, Note, Host, Made, Start, Mark, Found, Writes, Answered, Stop, Halt, Refused}
-use Rattle.fam_journal.specs.Programs.{IsWholeRun, Makes, MakesParents, OneShot, Runs, ShotPuts, Single, TopEnds, done_status, ends_command, ends_mkfs, ends_shot, last_passes, memory_line, path_prefixes, shot_events, shot_status, source_line}
-use Rattle.fam_journal.specs.Runs.{NoneFalls, Outside}
+use Rattle.fam_journal.specs.Programs.{IsWholeRun, LeavesImage, Makes, MakesParents, OneShot, Runs, ShotPuts, Single, SparesImage, TopEnds, done_status, ends_command, ends_mkfs, ends_shot, last_passes, memory_line, path_prefixes, shot_events, shot_status, source_line}
+use Rattle.fam_journal.specs.Runs.{EndsBroken, NoneFalls, Outside}
 use Rattle.fam_journal.specs.Statuses.{answer_status, cause_status, is_checked_equal, last_status, last_stops, note_status, parents_status, reply_status, sound_status}
 use Rattle.fam_journal.specs.Texts.{is_sound_report, shown}
 use Rattle.fam_events.specs.declared.fault.EventFault.{EventFault}
 use Rattle.fam_events.specs.declared.fault.EventFault.TheVariants as fault
 use Rattle.fam_program.specs.Puts.{Put}
-use Rattle.fam_program.specs.Quiet.{GoesOn, HasStopped, ShotEnded}
+use Rattle.fam_program.specs.Quiet.{GoesOn, HasStopped, MayLack, ShotEnded}
 use Rattle.fam_program.specs.Runs.{HasEnded}
-use Rattle.fam_program.specs.Shots.{LastSays, ShotSays}
+use Rattle.fam_program.specs.Shots.{LastSays, ShotSays, is_short}
 use Rattle.fam_program.proofs.Answering.{behind_first, host_end, mkfs_end, runs_end, stopped_end}
 use Rattle.fam_program.proofs.Prefixing.{alone_events, makes_one, none_breaks, parents_end}
 use Rattle.fam_program.proofs.Putting.{IsOwn}
-use Rattle.fam_program.proofs.Tops.{broken_wants, done_wants, media_own, memory_own, put_alone, sink_of, source_own, source_wants}
+use Rattle.fam_program.proofs.Sparing.{last_behind}
+use Rattle.fam_program.proofs.Tops.{done_wants, media_own, memory_own, put_alone, sink_of, source_own, source_wants}
 
--- The statuses.
+-- The statuses: none of a note is that of a sink that failed, or of want of memory.
 
-sound_own : (t : Bool) → IsOwn (sound_status t)
-sound_own true e = cc
-sound_own false e = cc
+abbrev is_lost : Status → Bool
+is_lost status.Done = false
+is_lost status.Refused = false
+is_lost status.Usage = false
+is_lost status.BadScript = false
+is_lost status.MediaFault = false
+is_lost status.SourceFault = false
+is_lost status.SinkFault = true
+is_lost status.OutOfMemory = true
+is_lost status.Damaged = false
 
-reply_own : (r : Reply) → IsOwn (reply_status r)
-reply_own (reply.Appended seq) e = cc
-reply_own (reply.NotAppended refused) e = cc
-reply_own (reply.Played m tree) e = cc
-reply_own (reply.Same m) e = cc
-reply_own (reply.Differs m offset found wanted) e = cc
-reply_own (reply.Length m size wanted) e = cc
-reply_own (reply.Bytes m bytes) e = cc
-reply_own (reply.NotFound m) e = cc
-reply_own (reply.IsDirectory m) e = cc
-reply_own (reply.Checks m checked) e = sound_own (is_checked_equal checked) e
-reply_own (reply.Reports report) e = sound_own (is_sound_report report) e
-reply_own (reply.NoSuperblock fault) e = cc
-reply_own (reply.BadHeader fault) e = cc
-reply_own (reply.BadSlot seq reason) e = cc
+sound_told : (t : Bool) → is_lost (sound_status t) ≡ false
+sound_told true = refl
+sound_told false = refl
 
-answer_own : (a : Answer) → IsOwn (answer_status a)
-answer_own (Replied given) e = reply_own given e
-answer_own (MediaFault at) e = cc
+reply_told : (r : Reply) → is_lost (reply_status r) ≡ false
+reply_told (reply.Appended seq) = refl
+reply_told (reply.NotAppended refused) = refl
+reply_told (reply.Played m tree) = refl
+reply_told (reply.Same m) = refl
+reply_told (reply.Differs m offset found wanted) = refl
+reply_told (reply.Length m size wanted) = refl
+reply_told (reply.Bytes m bytes) = refl
+reply_told (reply.NotFound m) = refl
+reply_told (reply.IsDirectory m) = refl
+reply_told (reply.Checks m checked) = sound_told (is_checked_equal checked)
+reply_told (reply.Reports report) = sound_told (is_sound_report report)
+reply_told (reply.NoSuperblock fault) = refl
+reply_told (reply.BadHeader fault) = refl
+reply_told (reply.BadSlot seq reason) = refl
 
-cause_own : (c : Refusal) → IsOwn (cause_status c)
-cause_own why.NoHost e = cc
-cause_own (why.SameHost host) e = cc
-cause_own why.TooManyHosts e = cc
-cause_own (why.BadGeometry unit log) e = cc
-cause_own (why.TooSmall need have) e = cc
-cause_own (why.ImageSmall lines) e = cc
-cause_own (why.Busy host) e = cc
-cause_own (why.Dirty host) e = cc
-cause_own (why.HasSuper uuid) e = cc
-cause_own why.Idle e = cc
-cause_own (why.NoLine at lines) e = cc
-cause_own (why.NoFile name) e = cc
-cause_own (why.CopyLimit sum) e = cc
-cause_own (why.BadListing at) e = cc
-cause_own (why.MediaFault at) e = cc
+answer_told : (a : Answer) → is_lost (answer_status a) ≡ false
+answer_told (Replied given) = reply_told given
+answer_told (MediaFault at) = refl
 
-note_own : (note : Note) → IsOwn (note_status note)
-note_own (Host name uuid) e = cc
-note_own (Made host p) e = cc
-note_own (Start host cmd) e = cc
-note_own (Mark host) e = cc
-note_own (Found host n) e = cc
-note_own (Writes host seq entry) e = cc
-note_own (Answered host answer) e = answer_own answer e
-note_own (Stop host) e = cc
-note_own (Halt host) e = cc
-note_own (Refused name cause) e = cause_own cause e
+cause_told : (c : Refusal) → is_lost (cause_status c) ≡ false
+cause_told why.NoHost = refl
+cause_told (why.SameHost host) = refl
+cause_told why.TooManyHosts = refl
+cause_told (why.BadGeometry unit log) = refl
+cause_told (why.TooSmall need have) = refl
+cause_told (why.ImageSmall lines) = refl
+cause_told (why.Busy host) = refl
+cause_told (why.Dirty host) = refl
+cause_told (why.HasSuper uuid) = refl
+cause_told why.Idle = refl
+cause_told (why.NoLine at lines) = refl
+cause_told (why.NoFile name) = refl
+cause_told (why.CopyLimit sum) = refl
+cause_told (why.BadListing at) = refl
+cause_told (why.MediaFault at) = refl
 
-last_own : (journal : List Note) → IsOwn (last_status journal)
-last_own [] e = cc
-last_own (note ∷ []) e = note_own note e
-last_own (note ∷ next ∷ notes) e = last_own (next ∷ notes) e
+note_told : (note : Note) → is_lost (note_status note) ≡ false
+note_told (Host name uuid) = refl
+note_told (Made host p) = refl
+note_told (Start host cmd) = refl
+note_told (Mark host) = refl
+note_told (Found host n) = refl
+note_told (Writes host seq entry) = refl
+note_told (Answered host answer) = answer_told answer
+note_told (Stop host) = refl
+note_told (Halt host) = refl
+note_told (Refused name cause) = cause_told cause
 
-parents_own : (journal : List Note) → IsOwn (parents_status journal)
-parents_own journal = by_stop (last_stops journal)
+last_told : (journal : List Note) → is_lost (last_status journal) ≡ false
+last_told [] = refl
+last_told (note ∷ []) = note_told note
+last_told (note ∷ next ∷ notes) = last_told (next ∷ notes)
+
+parents_told : (journal : List Note) → is_lost (parents_status journal) ≡ false
+parents_told journal = by_stop (last_stops journal)
   where
-    by_stop : (t : Bool) → IsOwn (cond t (last_status journal) status.Done)
-    by_stop true e = last_own journal e
-    by_stop false e = cc
+    by_stop : (t : Bool) → is_lost (cond t (last_status journal) status.Done) ≡ false
+    by_stop true = last_told journal
+    by_stop false = refl
+
+done_told : (shot : OneShot) (journal : List Note) → is_lost (done_status shot journal) ≡ false
+done_told (Makes fs unit log force) journal = last_told journal
+done_told (Runs what) journal = last_told journal
+done_told (MakesParents path attr) journal = parents_told journal
 
 done_own : (shot : OneShot) (journal : List Note) → IsOwn (done_status shot journal)
-done_own (Makes fs unit log force) journal e = last_own journal e
-done_own (Runs what) journal e = last_own journal e
-done_own (MakesParents path attr) journal e = parents_own journal e
+done_own shot journal e = absurd (let told : false ≡ true = sym (done_told shot journal) ∙ ap is_lost e in cc)
+
+-- What is spared where no memory is left.
+
+own_spares : (shot : OneShot) (own : Status) (out : Outside) → (own ≡ status.OutOfMemory → ⊥) → SparesImage shot own out
+own_spares (Makes fs unit log force) own out other = tt
+own_spares (Runs what) own out other = λ e. absurd (other e)
+own_spares (MakesParents path attr) own out other = tt
+
+done_spares : (shot : OneShot) (journal : List Note) (out : Outside) → SparesImage shot (done_status shot journal) out
+done_spares shot journal out = own_spares shot (done_status shot journal) out (λ e. absurd (let told : false ≡ true = sym (done_told shot journal) ∙ ap is_lost e in cc))
+
+-- a run of one command
+abbrev pub SparedRun : OneShot → Outside → Type 0 → Type 0
+SparedRun (Makes fs unit log force) out lacks = ⊤
+SparedRun (Runs what) out lacks = lacks → LeavesImage out
+SparedRun (MakesParents path attr) out lacks = ⊤
+
+lack_spares : (shot : OneShot) (own : Status) (out : Outside) (lacks : Type 0) → SparedRun shot out lacks → lacks → SparesImage shot own out
+lack_spares (Makes fs unit log force) own out lacks spared lack = tt
+lack_spares (Runs what) own out lacks spared lack = λ e. spared lack
+lack_spares (MakesParents path attr) own out lacks spared lack = tt
 
 -- Runs, whatever the command is.
 
@@ -148,35 +186,36 @@ module _ (name me : List ℕ) (shot : OneShot) (out : Outside) (journal : List N
     abbrev Top : Type 0
     Top = TopEnds script_events storm (Some (Single me shot)) out given
 
-    ran : (ending : Ending) (events : List Event) (text : List ℕ) → HasEnded ending out events journal → ShotPuts me shot events ending journal text → IsOwn (shot_status shot ending journal) → Put (shot_status shot ending journal) text (sink_of out) given → Top
-    ran ending events text x puts other put = record {
+    ran : (ending : Ending) (events : List Event) (text : List ℕ) → HasEnded ending out events journal → ShotPuts me shot events ending journal text → IsOwn (shot_status shot ending journal) → SparesImage shot (shot_status shot ending journal) out → Put (shot_status shot ending journal) text (sink_of out) given → Top
+    ran ending events text x puts other spares put = record {
       text = text;
       own = shot_status shot ending journal;
       shows = inr record {
         ending = ending;
         events = events;
         run = record { journal = journal; named = x.named; form = x.form; counted = x.counted; caused = x.caused; text_is = puts; status_is = refl; told = x.told };
+        spares = spares;
       };
       later = later;
       put = put_alone out text (shot_status shot ending journal) given other put;
     }
 
     -- no memory was left for an event
-    wants : HasEnded EndsOutOfMemory out all journal → GoesOn journal → Put status.OutOfMemory memory_line (sink_of out) given → Top
-    wants x goes put = ran EndsOutOfMemory all memory_line x (whole goes, refl) memory_own put
+    wants : SparesImage shot status.OutOfMemory out → HasEnded EndsOutOfMemory out all journal → GoesOn journal → Put status.OutOfMemory memory_line (sink_of out) given → Top
+    wants spares x goes put = ran EndsOutOfMemory all memory_line x (whole goes, refl) memory_own spares put
 
     -- a source ended early
-    ended : (end : SourceEnd) → HasEnded (SourceFails end) out all journal → GoesOn journal → Put status.SourceFault (source_line end) (sink_of out) given ⊎ Put status.OutOfMemory memory_line (sink_of out) given → Top
-    ended end x goes (inl put) = ran (SourceFails end) all (source_line end) x (whole goes, refl) source_own put
-    ended end x goes (inr put) = wants (source_wants end out all journal x) goes put
+    ended : SparesImage shot status.OutOfMemory out → (end : SourceEnd) → HasEnded (SourceFails end) out all journal → GoesOn journal → Put status.SourceFault (source_line end) (sink_of out) given ⊎ Put status.OutOfMemory memory_line (sink_of out) given → Top
+    ended spares end x goes (inl put) = ran (SourceFails end) all (source_line end) x (whole goes, refl) source_own (own_spares shot status.SourceFault out (λ e. absurd cc)) put
+    ended spares end x goes (inr put) = wants spares (source_wants end out all journal x) goes put
 
     -- the run has come to its end
-    done : (x : HasStopped out all journal) → last_passes (ends_shot shot) journal ≡ true → LastSays (done_status shot journal) journal (sink_of out) given → Top
-    done x ends = by_count x.count refl
+    done : SparedRun shot out (last_passes is_short journal ≡ false) → (x : HasStopped out all journal) → last_passes (ends_shot shot) journal ≡ true → LastSays (done_status shot journal) journal (sink_of out) given → Top
+    done spared x ends = by_count x.count refl
       where
         by_put : IsWholeRun me shot (take x.count all) journal → LastSays (done_status shot journal) journal (sink_of out) given → Top
-        by_put run (inl put) = ran AllDone (take x.count all) (shown journal) x.ended (run, (ends, refl)) (done_own shot journal) put
-        by_put run (inr put) = ran EndsOutOfMemory (take x.count all) memory_line (done_wants out (take x.count all) journal x.ended) (run, refl) memory_own put
+        by_put run (inl put) = ran AllDone (take x.count all) (shown journal) x.ended (run, (ends, refl)) (done_own shot journal) (done_spares shot journal out) put
+        by_put run (inr put) = ran EndsOutOfMemory (take x.count all) memory_line (done_wants out (take x.count all) journal x.ended) (run, refl) memory_own (lack_spares shot status.OutOfMemory out (last_passes is_short journal ≡ false) spared put.1) put.0
 
         by_count : (k : ℕ) → x.count ≡ k → LastSays (done_status shot journal) journal (sink_of out) given → Top
         by_count zero is put = absurd (none_done x is)
@@ -230,20 +269,24 @@ module _ (name me : List ℕ) (out : Outside) (journal : List Note) where
   shot_ends (Runs what) x = command_ends what x
   shot_ends (MakesParents path attr) x = parents_end name me path attr out journal x
 
+  -- for the line of a fault no memory is wanted
+  fault_short : {events : List Event} → EndsBroken events journal → last_passes is_short journal ≡ true
+  fault_short broken = ap (last_passes is_short) broken.is ∙ last_behind is_short broken.prefix (Refused broken.name (why.MediaFault broken.line) ∷ []) refl
+
   module _ (given : Status) (later : NoneFalls out) where
     -- the media failed in a mkfs
     broken : (shot : OneShot) → HasEnded MkfsFails out (alone_events name me shot) journal → GoesOn journal → LastSays status.MediaFault journal (sink_of out) given → TopEnds script_events storm (Some (Single me shot)) out given
-    broken (Makes fs unit log force) x goes (inl put) = ran name me (Makes fs unit log force) out journal given later MkfsFails (alone_events name me (Makes fs unit log force)) (shown journal) x (whole name me (Makes fs unit log force) out journal goes, refl) media_own put
-    broken (Makes fs unit log force) x goes (inr put) = ran name me (Makes fs unit log force) out journal given later EndsOutOfMemoryBroken (alone_events name me (Makes fs unit log force)) memory_line (broken_wants out (alone_events name me (Makes fs unit log force)) journal x) (whole name me (Makes fs unit log force) out journal goes, refl) memory_own put
+    broken (Makes fs unit log force) x goes (inl put) = ran name me (Makes fs unit log force) out journal given later MkfsFails (alone_events name me (Makes fs unit log force)) (shown journal) x (whole name me (Makes fs unit log force) out journal goes, refl) media_own tt put
+    broken (Makes fs unit log force) x goes (inr put) = absurd (false≢true (sym put.1 ∙ fault_short x.caused))
     broken (Runs what) x goes put = absurd (none_breaks name me (λ (w : Ask). w) (what ∷ []) out journal x)
     broken (MakesParents path attr) x goes put = absurd (none_breaks name me (makes_one attr) (path_prefixes path) out journal x)
 
     -- by how the run has ended, and what was put then
-    pub shot_top : (shot : OneShot) (ended_so : Result (Unit {0}) EventFault) → ShotEnded ended_so out (alone_events name me shot) journal → ShotSays ended_so (done_status shot journal) journal (sink_of out) given → TopEnds script_events storm (Some (Single me shot)) out given
-    shot_top shot (Ok x) stopped says = done name me shot out journal given later stopped (shot_ends shot stopped) says
-    shot_top shot (Err fault.MkfsFailed) x says = broken shot x.0 x.1 says
-    shot_top shot (Err (fault.SourceEnded end)) x says = ended name me shot out journal given later (end_of end) x.0 x.1 says
-    shot_top shot (Err fault.OutOfMemory) x says = wants name me shot out journal given later x.0 x.1 says
+    pub shot_top : (shot : OneShot) (ended_so : Result (Unit {0}) EventFault) → SparedRun shot out (MayLack ended_so journal) → ShotEnded ended_so out (alone_events name me shot) journal → ShotSays ended_so (done_status shot journal) journal (sink_of out) given → TopEnds script_events storm (Some (Single me shot)) out given
+    shot_top shot (Ok x) spared stopped says = done name me shot out journal given later spared stopped (shot_ends shot stopped) says
+    shot_top shot (Err fault.MkfsFailed) spared x says = broken shot x.0 x.1 says
+    shot_top shot (Err (fault.SourceEnded end)) spared x says = ended name me shot out journal given later (lack_spares shot status.OutOfMemory out ⊤ spared tt) (end_of end) x.0 x.1 says
+    shot_top shot (Err fault.OutOfMemory) spared x says = wants name me shot out journal given later (lack_spares shot status.OutOfMemory out ⊤ spared tt) x.0 x.1 says
 
 -- the notes of a run name hosts that were declared before them
 pub shot_named : (ended : Result (Unit {0}) EventFault) (out : Outside) (events : List Event) (journal : List Note) → ShotEnded ended out events journal → NameDeclared 0 journal

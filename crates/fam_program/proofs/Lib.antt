@@ -13,4 +13,7 @@ pub mod Tops
 pub mod Stopping
 pub mod Answering
 pub mod Prefixing
+pub mod NumberLines
+pub mod Sparing
+pub mod Leaving
 pub mod Alone

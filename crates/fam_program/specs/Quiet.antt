@@ -1,15 +1,17 @@
 -- Events that are run with nothing put of them: how they ended, whatever is put then.
 use Rattle.std.specs.Prelude.{ℕ, ⊤, ◌≡◌, false, List, [], ◌∷◌, take, Result, Ok, Err}
 use Rattle.std.specs.List.{list_any}
+use Rattle.fam_journal.specs.declared.event.Ask.{Ask}
 use Rattle.fam_journal.specs.declared.event.Event.{Event}
 use Rattle.fam_journal.specs.declared.event.Event.TheVariants as event
 use Rattle.fam_journal.specs.Ends.{AllDone}
 use Rattle.fam_journal.specs.Notes.{Note}
-use Rattle.fam_journal.specs.Programs.{without_last}
+use Rattle.fam_journal.specs.Programs.{last_passes, without_last}
 use Rattle.fam_journal.specs.Runs.{Outside}
 use Rattle.fam_journal.specs.Statuses.{last_stops, note_stops}
 use Rattle.fam_events.specs.declared.fault.EventFault.{EventFault}
 use Rattle.fam_program.specs.Runs.{HasEnded, ending_of}
+use Rattle.fam_program.specs.Shots.{is_short}
 
 -- all of them are done, or one ended the run early
 abbrev pub EventsEnded : Result (Unit {0}) EventFault → Outside → List Event → List Note → Type 0
@@ -50,3 +52,15 @@ pub record HasStopped (out : Outside) (events : List Event) (journal : List Note
 abbrev pub ShotEnded : Result (Unit {0}) EventFault → Outside → List Event → List Note → Type 0
 ShotEnded (Ok x) out events journal = HasStopped out events journal
 ShotEnded (Err fault) out events journal = HasEnded (ending_of fault) out events journal × GoesOn journal
+
+-- one host is declared, and runs one command
+pub record IsOneRun (events : List Event) : Type 0 where
+  pub name : List ℕ
+  pub me : List ℕ
+  pub what : Ask
+  pub events_are : events ≡ event.Host name me ∷ event.Run name what ∷ []
+
+-- memory may have been wanted in vain: for an event, or for the line of the last note
+abbrev pub MayLack : Result (Unit {0}) EventFault → List Note → Type 0
+MayLack (Ok x) journal = last_passes is_short journal ≡ false
+MayLack (Err fault) journal = ⊤

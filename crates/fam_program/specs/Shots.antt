@@ -1,17 +1,52 @@
--- What is put of a command of its own.
-use Rattle.std.specs.Prelude.{◌⊎◌, List, Result, Ok, Err}
+-- What is put of a command of its own, and for which lines of it no memory is wanted.
+use Rattle.std.specs.Prelude.{ℕ, ◌≡◌, ◌⊎◌, ◌++◌, Bool, true, false, List, codes, Result, Ok, Err}
+use Rattle.fam_rules.specs.Reply as reply
+use Rattle.fam_journal.specs.declared.refusal.Refusal.{Refusal}
+use Rattle.fam_journal.specs.declared.refusal.Refusal.TheVariants as why
 use Rattle.fam_journal.specs.declared.status.Status.{Status}
 use Rattle.fam_journal.specs.declared.status.Status.TheVariants as status
-use Rattle.fam_journal.specs.Notes.{Note}
-use Rattle.fam_journal.specs.Programs.{memory_line}
-use Rattle.fam_journal.specs.Texts.{shown}
+use Rattle.fam_journal.specs.Notes.{Answer, Replied, MediaFault, Note, Host, Made, Start, Mark, Found, Writes, Answered, Stop, Halt, Refused}
+use Rattle.fam_journal.specs.Programs.{last_passes, memory_line}
+use Rattle.fam_journal.specs.Texts.{line, number, shown}
 use Rattle.fam_events.specs.declared.fault.EventFault.{EventFault}
 use Rattle.fam_events.specs.declared.fault.EventFault.TheVariants as fault
+use Rattle.fam_program.specs.declared.numbers.NumberLine.{NumberLine}
+use Rattle.fam_program.specs.declared.numbers.NumberLine.TheVariants as by
 use Rattle.fam_program.specs.Puts.{EndSays, Put, SinkChange}
 
--- the last note, without its host's name; or that no memory is left for it
+-- Last notes for whose line no memory is wanted: an entry is appended, or the media failed.
+
+abbrev pub is_short_answer : Answer → Bool
+is_short_answer (Replied (reply.Appended seq)) = true
+is_short_answer (Replied given) = false
+is_short_answer (MediaFault at) = true
+
+abbrev pub is_short_cause : Refusal → Bool
+is_short_cause (why.MediaFault at) = true
+is_short_cause cause = false
+
+abbrev pub is_short : Note → Bool
+is_short (Host name uuid) = false
+is_short (Made host p) = false
+is_short (Start host cmd) = false
+is_short (Mark host) = false
+is_short (Found host n) = false
+is_short (Writes host seq entry) = false
+is_short (Answered host answer) = is_short_answer answer
+is_short (Stop host) = false
+is_short (Halt host) = false
+is_short (Refused name cause) = is_short_cause cause
+
+-- such a line: words, and a number
+abbrev pub number_text : NumberLine → List ℕ
+number_text (by.Appended seq) = line (codes "ok" ++ number seq)
+number_text (by.Fault at) = line (codes "media fault" ++ number at)
+number_text (by.MakeFault at) = line (codes "refused media fault" ++ number at)
+
+-- the last note, without its host's name; or that no memory is left for a line that wants some
 abbrev pub LastSays : Status → List Note → SinkChange → Status → Type 0
-LastSays own journal s given = Put own (shown journal) s given ⊎ Put status.OutOfMemory memory_line s given
+LastSays own journal s given =
+    Put own (shown journal) s given ⊎ (Put status.OutOfMemory memory_line s given × (last_passes is_short journal ≡ false))
 
 -- by how the run has ended; with this status where all was done
 abbrev pub ShotSays : Result (Unit {0}) EventFault → Status → List Note → SinkChange → Status → Type 0

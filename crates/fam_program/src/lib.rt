@@ -7,6 +7,7 @@
 
 mod fault;
 mod lines;
+mod numbers;
 #[cfg(test)]
 mod parent_tests;
 mod parents;

@@ -1,12 +1,13 @@
 //! Events that are run with nothing put of them.
 
-ghost use Rattle.std.specs.Prelude.{◌≡◌};
+ghost use Rattle.std.specs.Prelude.{◌≡◌, Some};
 ghost use Rattle.fam_media.specs.Causes.{IsSteady};
+ghost use Rattle.fam_media.specs.Outside.{IfModelled};
 ghost use Rattle.fam_sources.specs.Whole.{IsShelfSteady, changed};
 ghost use Rattle.fam_journal.specs.View.{empty_world};
 ghost use Rattle.fam_program.specs.Far.{AreSoundEvents};
 ghost use Rattle.fam_program.specs.Puts.{SinkChange};
-ghost use Rattle.fam_program.specs.Quiet.{AreShotEvents, EventsEnded, ShotEnded};
+ghost use Rattle.fam_program.specs.Quiet.{AreShotEvents, EventsEnded, IsOneRun, MayLack, ShotEnded};
 ghost use Rattle.fam_program.specs.Runs.{outside_of};
 
 use crate::script::is_image;
@@ -60,6 +61,11 @@ pub(crate) fn run_until_stop<M: Media, S: Shelf>(
     requires shot { AreShotEvents events.items }
     ensures ended { (sink : SinkChange) → ShotEnded result (outside_of M.size M.image M.faults media.old media.new
         (changed S.files S.faults S.shorts shelf.old shelf.new) sink) events.items world.new.journal }
+
+    // One command that finds no memory leaves the image, and so does one for whose line there may be none.
+    ensures same { IsOneRun events.items → MayLack result world.new.journal → IfModelled (M.image media.old) (λ start.
+        IfModelled (S.files shelf.old) (λ files. M.image media.new ≡ Some start)) }
+
     ensures steady { IsSteady M.size M.faults media.old media.new }
     ensures shelf { IsShelfSteady S.files S.faults S.shorts shelf.old shelf.new }
 {

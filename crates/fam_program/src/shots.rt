@@ -14,6 +14,7 @@ ghost use Rattle.fam_media.specs.Causes.{IsSteady};
 ghost use Rattle.fam_sources.specs.Whole.{IsShelfSteady, changed};
 ghost use Rattle.fam_storm.specs.Storm.{storm};
 
+use crate::numbers::{last_number, put_number};
 use crate::parents::parent_events;
 use crate::puts::{put_line, put_memory, put_source_end};
 use crate::quiet::run_until_stop;
@@ -53,13 +54,18 @@ fn two_events(
     Ok(events)
 }
 
-/// Puts the last note of a run, without its host's name, and gives the status; or that no memory is left for it.
+/// Puts the last note of a run, without its host's name, and gives the status; or that no memory is left for it. That an
+/// entry is appended, and that the media failed, is put in any case.
 fn put_last<K: Sink>(alloc: Global, world: &World, own: Status, out: &mut K) -> Status
     requires named { NameDeclared 0 world.now.journal }
     ensures put { LastSays own world.now.journal (sink_changed K.bytes K.faults out.old out.new) result }
     ensures later { K.faults out.old ≤ K.faults out.new }
 {
-    match shown(alloc, world.journal()) {
+    let notes = world.journal();
+    if let Some(short) = last_number(notes) {
+        return put_number(short, own, out);
+    }
+    match shown(alloc, notes) {
         Ok(text) => put_line(out, own, text.as_slice()),
         Err(_) => put_memory(out),
     }
@@ -88,8 +94,7 @@ fn put_end<K: Sink>(
 /// Runs a command on the log of a media, with its source from a shelf, for a host of this UUID, and puts its answer, or
 /// why it is refused.
 ///
-/// A source that can't be read to its end is said alone, and so is that no memory is left. What the command had sent to
-/// the media by then stands there.
+/// A source that can't be read to its end is said alone, and so is that no memory is left: then the image is as it was.
 pub fn run_command<M: Media, S: Shelf, K: Sink>(
     alloc: Global,
     me: Uuid,

@@ -1,5 +1,5 @@
 -- Operations of a task on copies of its host alone.
-use Rattle.std.proofs.Common.{ℕ, zero, suc, ◌≡◌, ◌≤◌, List, [], ◌∷◌, length, Option, Some, None, refl, sym, ap, subst, ◌∙◌, arith}
+use Rattle.std.proofs.Common.{ℕ, zero, suc, ◌≡◌, ◌≤◌, List, [], ◌∷◌, length, Option, Some, refl, sym, ap, subst, ◌∙◌, arith}
 use Rattle.std.specs.Prelude.{slice_index, slice_set}
 use Rattle.fam_base.specs.Image.{Image, IsNormal, line_at, with_line}
 use Rattle.fam_base.proofs.ImageLemmas.{with_line-line_at}
@@ -10,7 +10,7 @@ use Rattle.fam_machine.specs.declared.op.Op.{Op}
 use Rattle.fam_machine.specs.declared.op.Op.TheVariants.{Load, Store, WriteBack, Invalidate, Digest}
 use Rattle.fam_machine.specs.Caches.{Cache, cell_at, cell_changed, with_cell}
 use Rattle.fam_machine.specs.OneLine.{IsDirty, IsHeld, brought, current, sent, stored, words_of}
-use Rattle.fam_machine.specs.Operations.{given, machine, operated}
+use Rattle.fam_machine.specs.Operations.{IsWithin, given, machine, operated}
 use Rattle.fam_machine.proofs.CacheLemmas.{cell_at-with_cell_same, with_cell_own, with_cell_twice}
 use Rattle.fam_cache.specs.Operations.{LeavesCache, rest_stored, word_of}
 use Rattle.fam_cache.proofs.MemoryLemmas.{from_any, held_still}
@@ -19,8 +19,7 @@ use Rattle.fam_commands.specs.Turns as turns
 use Rattle.fam_commands.specs.Turns.{Goes, turn_of}
 use Rattle.fam_media.specs.Outside.{IfModelled}
 use Rattle.fam_tasks.specs.declared.answer.Turn.TheVariants.{Go}
-use Rattle.fam_tasks.specs.Begins.{IsDrop}
-use Rattle.fam_tasks.specs.Rest.{Loads, Stores}
+use Rattle.fam_tasks.specs.Rest.{DropsLine, Loads, Stores}
 use Rattle.fam_tasks.specs.Rest as rest
 use Rattle.fam_tasks.specs.Sound.{IsSound}
 use Rattle.fam_tasks.specs.Tells.{Tells}
@@ -172,12 +171,13 @@ held_both t mid _ held now _ first none = first
 held_both t mid next held now after first (more before sound within of is turn) = more (held_both t mid _ held now _ first before) sound within of is turn
 
 -- the drop of a line that isn't dirty
-pub drop_held : (line : LineNo) (t next : Task) (held after : Cache) → IsSound t → IsDrop line t → ¬ (IsDirty (cell_at held line.0)) → after ≡ with_cell line.0 Absent held → turn_of t None ≡ Goes next → HeldRun t held next after
-drop_held line t next held after sound drop clean is turn =
-    more none sound drop.within
-    (subst (λ (o : Op). IsOfHeld o held) (sym drop.op) clean)
-    (is ∙ sym (ap (λ (o : Op). held_after o held) drop.op))
-    (ap (λ (o : Op). turn_of t (word_of o held)) drop.op ∙ turn)
+pub drop_held : (line : LineNo) (t next : Task) (held : Cache) → IsSound t → DropsLine line t next → ¬ (IsDirty (cell_at held line.0)) → HeldRun t held next (with_cell line.0 Absent held)
+drop_held line t next held sound drops clean =
+    more none sound
+    (subst (IsWithin t.lines) (sym drops.op) drops.within)
+    (subst (λ (o : Op). IsOfHeld o held) (sym drops.op) clean)
+    (sym (ap (λ (o : Op). held_after o held) drops.op))
+    (ap (λ (o : Op). turn_of t (word_of o held)) drops.op ∙ drops.turn)
 
 pub held_lines : (t next : Task) (held after : Cache) → HeldRun t held next after → next.lines ≡ t.lines
 held_lines t _ held _ none = refl

@@ -8,5 +8,7 @@ pub mod Stored
 pub mod Matched
 pub mod PlacesKept
 pub mod Brought
+pub mod Renewed
 pub mod Joined
 pub mod SlotLines
+pub mod FirstStores

@@ -32,7 +32,7 @@ use Rattle.fam_run.specs.Operation.{ended}
 use Rattle.fam_run.specs.Held as run
 use Rattle.fam_run.specs.Held.{HeldRun, IsOfHeld, held_after}
 use Rattle.fam_run.specs.Wanted.{WantedBy}
-use Rattle.fam_run.proofs.Running.{goes_on}
+use Rattle.fam_run.proofs.Running.{goes_on, no_reply}
 
 -- what an operation makes of the cache's places: one that brings no line takes none, and what is stored into is held
 abbrev IsHeldBy : Op → Cache → Type 0
@@ -80,7 +80,7 @@ module _ (t : Task) (cache after : CacheState) where
     held = λ some. absurd (omega (arith, some));
   }
 
-  slot_next : (b : Bool) (i k : ℕ) → 8 ≤ after.spare + i → IsHeld (cell_at after.lines (slot_line t.params t.gate i)) → HasPlaces (record t { phase = cond b (at.StoreSlot i (k + 1)) (at.SendSlot i) }) after
+  slot_next : (b : Bool) (i k : ℕ) → 9 ≤ after.spare + i → IsHeld (cell_at after.lines (slot_line t.params t.gate i)) → HasPlaces (record t { phase = cond b (at.StoreSlot i (k + 1)) (at.SendSlot i) }) after
   slot_next true i k room held = record {
     begun = room;
     first = λ none. absurd (omega (arith, none));
@@ -88,7 +88,7 @@ module _ (t : Task) (cache after : CacheState) where
   }
   slot_next false i k room held = room
 
-  gate_next : (b : Bool) (i : ℕ) → i < 8 → 8 ≤ after.spare + i → HasPlaces (record t { phase = cond b (at.StoreSlot (i + 1) 0) at.StoreGate }) after
+  gate_next : (b : Bool) (i : ℕ) → i < 8 → 9 ≤ after.spare + i → HasPlaces (record t { phase = cond b (at.StoreSlot (i + 1) 0) at.StoreGate }) after
   gate_next true i below room = record {
     begun = omega (arith, room);
     first = λ _. omega (arith, room);
@@ -104,11 +104,11 @@ module _ (t : Task) (cache after : CacheState) where
         | inr none ↦ ready (omega arith)
       ]
 
-  slot_room : (i k : ℕ) → HasPlacesAt (at.StoreSlot i k) t cache → cache.spare ≤ after.spare + 1 → (IsHeld (cell_at cache.lines (slot_line t.params t.gate i)) → cache.spare ≤ after.spare) → 8 ≤ after.spare + i
+  slot_room : (i k : ℕ) → HasPlacesAt (at.StoreSlot i k) t cache → cache.spare ≤ after.spare + 1 → (IsHeld (cell_at cache.lines (slot_line t.params t.gate i)) → cache.spare ≤ after.spare) → 9 ≤ after.spare + i
   slot_room i k has one none =
       elim (cases_lt 0 k) [
         | inl some ↦ (let kept : cache.spare ≤ after.spare = none (has.held some) in omega (arith, has.begun, kept))
-        | inr first ↦ (let enough : 9 ≤ cache.spare + i = has.first (omega arith) in omega (arith, enough, one))
+        | inr first ↦ (let enough : 10 ≤ cache.spare + i = has.first (omega arith) in omega (arith, enough, one))
       ]
 
   kept_at : (p : Phase) (word : ℕ) → IsSoundAt p t → Takes (op_at t p) cache after → IsReadyAt p t cache → HasPlacesAt p t cache → KeptBy (turn_at p t word) after
@@ -254,6 +254,10 @@ more_places (at.SendSlot i) t lines spare now le has = omega (arith, has)
 more_places at.StoreGate t lines spare now le has = omega (arith, has)
 more_places at.SendGate t lines spare now le has = tt
 
+pub more_has : (t : Task) (cache after : CacheState) → after.lines ≡ cache.lines → cache.spare ≤ after.spare → HasPlaces t cache → HasPlaces t after
+more_has t cache after same le has =
+    more_places t.phase t after.lines cache.spare after.spare le (subst (λ (lines : Cache). HasPlaces t (with_places lines cache.spare)) (sym same) has)
+
 pub held_kept : (t next : Task) (cache after : CacheState) → HeldRun t cache.lines next after.lines → cache.spare ≤ after.spare → HasPlaces t cache → HasPlaces next after
 held_kept t next cache after run le has =
     more_places next.phase next after.lines cache.spare after.spare le (run_kept t next cache.lines after.lines cache.spare run has)
@@ -330,3 +334,39 @@ not_due at.SendGate t cache none = tt
 
 pub none_due : (t : Task) (cache : CacheState) → ((j : ℕ) → t.phase ≢ at.StoreData j 0) → IsReadyAt t.phase t cache
 none_due t cache none = not_due t.phase t cache none
+
+-- What it says: it just goes on, or answers.
+
+abbrev IsGoing : turns.Turn → Type 0
+IsGoing (turns.Goes t) = ⊤
+IsGoing (turns.Marks t) = ⊥
+IsGoing (turns.Finds n t) = ⊥
+IsGoing (turns.Writes seq e t) = ⊥
+IsGoing (turns.Ends reply) = ⊤
+
+going_at : (p : Phase) (t : Task) (word : ℕ) (cache : CacheState) → HasPlacesAt p t cache → IsGoing (turn_at p t word)
+going_at at.DropMagic t word cache has = absurd has
+going_at at.Magic t word cache has = absurd has
+going_at (at.Drop part j) t word cache has = absurd has
+going_at (at.Word part j k) t word cache has = absurd has
+going_at at.DropGate t word cache has = absurd has
+going_at at.Gate t word cache has = absurd has
+going_at (at.Check i) t word cache has = absurd has
+going_at at.Decide t word cache has = absurd has
+going_at (at.StoreData j k) t word cache has = tt
+going_at (at.SendData j) t word cache has = tt
+going_at (at.StoreSlot i k) t word cache has = tt
+going_at (at.SendSlot i) t word cache has = tt
+going_at at.StoreGate t word cache has = tt
+going_at at.SendGate t word cache has = tt
+
+says_go : (wanted : turns.Turn) (turn : Turn) (next : Task) → IsGoing wanted → ended turn ≡ None → Tells wanted turn next → turn ≡ Go
+says_go (turns.Goes t) turn next going on tells = tells.0
+says_go (turns.Marks t) turn next going on tells = absurd going
+says_go (turns.Finds n t) turn next going on tells = absurd going
+says_go (turns.Writes seq e t) turn next going on tells = absurd going
+says_go (turns.Ends reply) turn next going on tells = absurd (no_reply turn reply on tells)
+
+pub quiet : (t next : Task) (word : Option ℕ) (turn : Turn) (cache : CacheState) → Tells (turn_of t word) turn next → ended turn ≡ None → HasPlaces t cache → turn ≡ Go
+quiet t next word turn cache tells on has =
+    says_go (turn_of t word) turn next (going_at t.phase t (unwrap_or word 0) cache has) on tells

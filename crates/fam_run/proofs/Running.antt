@@ -15,7 +15,7 @@ use Rattle.fam_tasks.specs.Tells.{Replies, Tells}
 use Rattle.fam_run.specs.Operation.{GoesOn, KeepsLines, ended}
 use Rattle.fam_run.proofs.Left.{Kept, kept, left}
 
-no_reply : (turn : Turn) (reply : Reply) → ended turn ≡ None → Replies turn reply → ⊥
+pub no_reply : (turn : Turn) (reply : Reply) → ended turn ≡ None → Replies turn reply → ⊥
 no_reply Go reply on replies = replies
 no_reply (Note note) reply on replies = replies
 no_reply (Done given) reply on replies = absurd cc

@@ -13,10 +13,10 @@ use Rattle.fam_machine.specs.OneLine.{IsHeld}
 abbrev pub IsHeldFrom : ℕ → ℕ → CacheState → Type 0
 IsHeldFrom k line cache = 0 < k → IsHeld (cell_at cache.lines line)
 
--- places for the lines of the slot from line i on, and the gate's
+-- places for the lines of the slot from line i on, and the gate's; the one for a line of the file is left
 pub record HasSlotPlaces (i k : ℕ) (line : ℕ) (cache : CacheState) : Type 0 where
-  pub begun : 8 ≤ cache.spare + i
-  pub first : k ≡ 0 → 9 ≤ cache.spare + i
+  pub begun : 9 ≤ cache.spare + i
+  pub first : k ≡ 0 → 10 ≤ cache.spare + i
   pub held : IsHeldFrom k line cache
 
 -- in a phase. A task that has not come to its first store has none
@@ -32,7 +32,7 @@ HasPlacesAt at.Decide t cache = ⊥
 HasPlacesAt (at.StoreData j k) t cache = (10 ≤ cache.spare) × IsHeldFrom k (line_of t.entry j) cache
 HasPlacesAt (at.SendData j) t cache = 10 ≤ cache.spare
 HasPlacesAt (at.StoreSlot i k) t cache = HasSlotPlaces i k (slot_line t.params t.gate i) cache
-HasPlacesAt (at.SendSlot i) t cache = 8 ≤ cache.spare + i
+HasPlacesAt (at.SendSlot i) t cache = 9 ≤ cache.spare + i
 HasPlacesAt at.StoreGate t cache = 1 ≤ cache.spare
 HasPlacesAt at.SendGate t cache = ⊤
 

@@ -24,7 +24,7 @@ WantedBy (WriteBack line) task cache = ⊥
 WantedBy (Invalidate line) task cache = ⊥
 WantedBy Digest task cache = WantsMemory task.entries (turn_of task None)
 
--- a line of the new file is stored whole next, or one that is compared is brought, or one of a slot
+-- a line of the new file is stored whole next, or one that is compared is dropped and loaded, or one of a slot
 abbrev pub IsWholeDue : Task → LineNo → List ℕ → Type 0
 IsWholeDue task line words = IsFileLineDue line words task ⊎ (IsComparedLine line task ⊎ IsSlotLine line task)
 
@@ -33,4 +33,4 @@ pub record WantedWhole (task : Task) (cache : CacheState) : Type 0 where
   pub line : LineNo
   pub words : List ℕ
   pub due : IsWholeDue task line words
-  pub full : cache.spare ≡ 0
+  pub full : IsFull line cache

@@ -1,4 +1,4 @@
--- What came of a line of a file that is stored or compared whole, as the turn of the task.
+-- What came of lines that are loaded, stored or compared whole, as the turn of the task.
 use Rattle.std.specs.Prelude.{⊤}
 use Rattle.fam_tasks.specs.declared.answer.Turn.{Turn}
 use Rattle.fam_tasks.specs.declared.answer.Turn.TheVariants.{Go, Done}

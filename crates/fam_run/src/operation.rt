@@ -8,6 +8,7 @@ ghost use Rattle.fam_media.specs.Causes.{IsSteady, Rose};
 ghost use Rattle.fam_media.specs.Outside.{IfModelled};
 ghost use Rattle.fam_cache.specs.Faults.{IfMediaFault};
 ghost use Rattle.fam_cache.specs.Operations.{LeavesCache};
+ghost use Rattle.fam_tasks.specs.declared.answer.Turn.TheVariants.{Go};
 ghost use Rattle.fam_run.specs.Operation.{GoesOn, HasTurned, IsNoFault, KeepsLines, ended};
 ghost use Rattle.fam_run.specs.Places.{HasPlaces, IsReady, KeepsPlaces};
 ghost use Rattle.fam_run.specs.Wanted.{WantedBy};
@@ -58,6 +59,7 @@ pub fn operate<M: Media>(
     // An append that has its places keeps them, and finds memory.
     ensures places { IfOk result (λ turn. ended turn ≡ None → IsReady task.old cache.old
         → KeepsPlaces task.old cache.old task.new cache.new) }
+    ensures quiet { IfOk result (λ turn. ended turn ≡ None → HasPlaces task.old cache.old → turn ≡ Go) }
     ensures enough { IsErrOf result OperationFault.OutOfMemory → ¬ (HasPlaces task.old cache.old) }
     ensures steady { IsSteady M.size M.faults media.old media.new }
 {

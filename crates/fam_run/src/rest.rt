@@ -1,7 +1,8 @@
 //! Operations of a task on copies of its host alone: on the line that the host has just brought, the loads of its other
-//! words or the stores into them, and the drop of the line that comes next.
+//! words or the stores into them.
 
 ghost use Rattle.std.specs.Prelude.{◌≡◌, ◌≤◌, false};
+ghost use Rattle.fam_commands.specs.FirstStore.{IsFirstStore};
 ghost use Rattle.fam_run.specs.Held.{HeldRun};
 ghost use Rattle.fam_run.specs.Places.{KeepsPlaces};
 
@@ -10,41 +11,18 @@ use fam_tasks::Task;
 
 /// Does the operations that come next of a task, as long as they are the rest of a line of which the task has loaded or
 /// stored the first word, and which the cache holds: all of a slot's line and of one that is stored, and up to the last
-/// load of another, behind which a task may end. Then does the drop of a slot's line that is to be loaded, if that comes
-/// next and memory has all words of it. They ask nothing of the media and can't fail. Where none of them comes next, nothing
-/// is done.
+/// load of another, behind which a task may end. They ask nothing of the media and can't fail. Where none of them comes
+/// next, nothing is done.
 #[inline(always)]
 pub fn operate_held(cache: &mut HostCache, task: &mut Task)
     ensures run { HeldRun task.old cache.old.lines task.new cache.new.lines }
     ensures places { KeepsPlaces task.old cache.old task.new cache.new }
+    ensures idle { IsFirstStore task.old → task.new ≡ task.old }
 {
-    rest_held(cache, task);
-    drop_held(cache, task);
-}
-
-/// Does those on the rest of a line.
-#[inline(always)]
-fn rest_held(cache: &mut HostCache, task: &mut Task)
-    ensures run { HeldRun task.old cache.old.lines task.new cache.new.lines }
-    ensures spare { cache.old.spare ≤ cache.new.spare }
-{
-    if !load_held(cache, task) {
-        store_held(cache, task);
+    if load_held(cache, task) {
+        return;
     }
-}
-
-/// Does the drop of a line.
-#[inline(always)]
-pub(crate) fn drop_held(cache: &mut HostCache, task: &mut Task)
-    ensures run { HeldRun task.old cache.old.lines task.new cache.new.lines }
-    ensures spare { cache.old.spare ≤ cache.new.spare }
-{
-    if let Some(line) = task.dropped() {
-        task.is_sound();
-        if cache.drop_clean(line) {
-            task.begin_dropped(line);
-        }
-    }
+    store_held(cache, task);
 }
 
 /// Does those that are loads, and says whether there were any.
@@ -52,6 +30,7 @@ pub(crate) fn drop_held(cache: &mut HostCache, task: &mut Task)
 fn load_held(cache: &HostCache, task: &mut Task) -> bool
     ensures run { HeldRun task.old cache.now.lines task.new cache.now.lines }
     ensures other { result ≡ false → task.new ≡ task.old }
+    ensures idle { IsFirstStore task.old → task.new ≡ task.old }
 {
     if let Some(line) = task.rest() {
         if let Some(words) = cache.held(line) {
@@ -67,6 +46,7 @@ fn load_held(cache: &HostCache, task: &mut Task) -> bool
 fn store_held(cache: &mut HostCache, task: &mut Task)
     ensures run { HeldRun task.old cache.old.lines task.new cache.new.lines }
     ensures spare { cache.old.spare ≤ cache.new.spare }
+    ensures idle { IsFirstStore task.old → task.new ≡ task.old }
 {
     if let Some(rest) = task.rest_stored() {
         let line = rest.0;

@@ -1,7 +1,9 @@
-//! Lines of a slot that are loaded whole: of each line its eight loads by one read, and the drop of the slot's next
-//! line. Of a long log nearly all operations are such.
+//! Lines of a slot that are loaded whole: of each line its drop and its eight loads by one read. Of a long log nearly all
+//! operations are such.
 
-ghost use Rattle.std.specs.Prelude.{◌≡◌, IfErr, IfOk, IsErrOf, false, true};
+ghost use Rattle.std.specs.Prelude.{◌≡◌, ◌+◌, ◌<◌, IfErr, IfOk, IsErrOf, false, true};
+ghost use Rattle.fam_commands.specs.declared.phase.Part.TheVariants as part;
+ghost use Rattle.fam_commands.specs.declared.phase.Phase.TheVariants as at;
 ghost use Rattle.fam_media.specs.Causes.{IsSteady};
 ghost use Rattle.fam_cache.specs.Faults.{IfMediaFault};
 ghost use Rattle.fam_tasks.specs.declared.answer.Turn.TheVariants.{Go};
@@ -10,98 +12,111 @@ ghost use Rattle.fam_run.specs.Places.{HasPlaces};
 ghost use Rattle.fam_run.specs.Step.{around};
 ghost use Rattle.fam_run.specs.Wanted.{WantedWhole};
 
-use crate::rest::drop_held;
 use fam_cache::{CacheFault, HostCache, OperationFault};
 use fam_format::SLOT_LINES;
 use fam_media::Media;
-use fam_tasks::Task;
+use fam_tasks::{SlotDue, Task};
 
-/// Loads all words of the line of a slot of which the task loads word 0 next, then drops the line behind it, if that
-/// comes next and memory has all words of it, and says whether it did. Where no such load comes next, or the cache holds
-/// the line, nothing is done.
+/// Drops the line of a slot that the task drops next, and loads all its words, and says whether it did. Where the host's
+/// copy is dirty, nothing is done.
 ///
-/// `MediaFault` names the line: nothing was done. `OutOfMemory` comes where the cache has no room for one more line, and
-/// then nothing was done either.
+/// `MediaFault` names the line: it was dropped, and the task stands before its first word. `OutOfMemory` comes where the
+/// cache has no room for one more line, and then nothing was done.
 #[inline(always)]
-fn read_line<M: Media>(
+fn load_line<M: Media>(
     cache: &mut HostCache,
     task: &mut Task,
     media: &mut M,
+    due: SlotDue,
 ) -> Result<bool, OperationFault>
     requires lines { task.old.lines ≡ M.size media.old }
+    requires due { task.old.phase ≡ at.Drop (part.Slot due.slot) due.line }
 
-    ensures read { IfOk result (λ read. read ≡ true → HasDone
+    ensures loaded { IfOk result (λ loaded. loaded ≡ true → HasDone
         (around M.image M.size M.faults task.old task.new cache.old cache.new media.old media.new) Go) }
+    ensures next { IfOk result (λ loaded. loaded ≡ true → due.line + 1 < SLOT_LINES
+        → task.new.phase ≡ at.Drop (part.Slot due.slot) (due.line + 1)) }
     ensures failed { IfErr result (λ fault. IfMediaFault fault (HasBrokenOff
         (around M.image M.size M.faults task.old task.new cache.old cache.new media.old media.new))) }
 
-    ensures other { IfOk result (λ read. read ≡ false → media.new ≡ media.old) }
-    ensures other_cache { IfOk result (λ read. read ≡ false → cache.new ≡ cache.old) }
-    ensures other_task { IfOk result (λ read. read ≡ false → task.new ≡ task.old) }
+    ensures other { IfOk result (λ loaded. loaded ≡ false → media.new ≡ media.old) }
+    ensures other_cache { IfOk result (λ loaded. loaded ≡ false → cache.new ≡ cache.old) }
+    ensures other_task { IfOk result (λ loaded. loaded ≡ false → task.new ≡ task.old) }
 
     ensures undone { IsErrOf result OperationFault.OutOfMemory → media.new ≡ media.old }
     ensures unchanged { IsErrOf result OperationFault.OutOfMemory → cache.new ≡ cache.old }
     ensures unmoved { IsErrOf result OperationFault.OutOfMemory → task.new ≡ task.old }
     ensures want { IsErrOf result OperationFault.OutOfMemory → WantedWhole task.old cache.old }
-    ensures places { IfOk result (λ read. read ≡ true → ¬ (HasPlaces task.old cache.old)) }
+    ensures places { IfOk result (λ loaded. loaded ≡ true → ¬ (HasPlaces task.old cache.old)) }
     ensures enough { IsErrOf result OperationFault.OutOfMemory → ¬ (HasPlaces task.old cache.old) }
     ensures image { M.image media.new ≡ M.image media.old }
     ensures steady { IsSteady M.size M.faults media.old media.new }
 {
     task.is_sound();
-    let Some(line) = task.slot_line() else {
-        return Ok(false);
-    };
-    match cache.bring_line(media, line) {
+    let line = task.line_of_slot_due(due);
+    match cache.renew_line(media, line) {
         Ok(None) => Ok(false),
         Ok(Some(words)) => {
-            task.take_slot_line(line, &words);
-            drop_held(cache, task);
+            task.load_line_of_slot(due, line, &words);
             Ok(true)
         }
-        Err(CacheFault::Failed) => Err(OperationFault::MediaFault(line)),
+        Err(CacheFault::Failed) => {
+            task.drop_line_of_slot(line);
+            task.is_sound();
+            Err(OperationFault::MediaFault(line))
+        }
         Err(CacheFault::OutOfMemory) => Err(OperationFault::OutOfMemory),
     }
 }
 
-/// Loads the lines of a slot from the one on of which the task loads word 0 next, up to the slot's last one, and says
-/// whether it loaded any. It stops at a line that the cache holds, and drops none of which memory lacks words.
+/// Drops and loads the lines of a slot from the one on that the task drops next, up to the slot's last one, and says
+/// whether it loaded any. It stops at a line of which the host's copy is dirty, and behind the first one also where the
+/// cache has no room for the next.
 ///
-/// `MediaFault` names the line: those before it were loaded, and the task stands before its first word. `OutOfMemory`
-/// comes where the cache has no room for the first of them, and then nothing was done.
+/// `MediaFault` names the line: those before it were loaded, it was dropped, and the task stands before its first word.
+/// `OutOfMemory` comes where the cache has no room for the first of them, and then nothing was done.
 #[inline(always)]
-pub(crate) fn read_slot<M: Media>(
+pub(crate) fn load_slot<M: Media>(
     cache: &mut HostCache,
     task: &mut Task,
     media: &mut M,
 ) -> Result<bool, OperationFault>
     requires lines { task.old.lines ≡ M.size media.old }
 
-    ensures read { IfOk result (λ read. read ≡ true → HasDone
+    ensures loaded { IfOk result (λ loaded. loaded ≡ true → HasDone
         (around M.image M.size M.faults task.old task.new cache.old cache.new media.old media.new) Go) }
     ensures failed { IfErr result (λ fault. IfMediaFault fault (HasBrokenOff
         (around M.image M.size M.faults task.old task.new cache.old cache.new media.old media.new))) }
 
-    ensures other { IfOk result (λ read. read ≡ false → media.new ≡ media.old) }
-    ensures other_cache { IfOk result (λ read. read ≡ false → cache.new ≡ cache.old) }
-    ensures other_task { IfOk result (λ read. read ≡ false → task.new ≡ task.old) }
+    ensures other { IfOk result (λ loaded. loaded ≡ false → media.new ≡ media.old) }
+    ensures other_cache { IfOk result (λ loaded. loaded ≡ false → cache.new ≡ cache.old) }
+    ensures other_task { IfOk result (λ loaded. loaded ≡ false → task.new ≡ task.old) }
 
     ensures undone { IsErrOf result OperationFault.OutOfMemory → media.new ≡ media.old }
     ensures unchanged { IsErrOf result OperationFault.OutOfMemory → cache.new ≡ cache.old }
     ensures unmoved { IsErrOf result OperationFault.OutOfMemory → task.new ≡ task.old }
     ensures want { IsErrOf result OperationFault.OutOfMemory → WantedWhole task.old cache.old }
-    ensures places { IfOk result (λ read. read ≡ true → ¬ (HasPlaces task.old cache.old)) }
+    ensures places { IfOk result (λ loaded. loaded ≡ true → ¬ (HasPlaces task.old cache.old)) }
     ensures enough { IsErrOf result OperationFault.OutOfMemory → ¬ (HasPlaces task.old cache.old) }
     ensures steady { IsSteady M.size M.faults media.old media.new }
 {
-    if !read_line(cache, task, media)? {
+    let Some(due) = task.slot_due() else {
+        return Ok(false);
+    };
+    if !load_line(cache, task, media, due)? {
         return Ok(false);
     }
-    'lines: for _line in 1..SLOT_LINES {
-        match read_line(cache, task, media) {
+    'lines: for line in due.line + 1..SLOT_LINES {
+        let next = SlotDue {
+            slot: due.slot,
+            line,
+        };
+        match load_line(cache, task, media, next) {
             Ok(true) => {}
             Ok(false) | Err(OperationFault::OutOfMemory) => return Ok(true),
-            Err(OperationFault::MediaFault(line)) => return Err(OperationFault::MediaFault(line)),
+            Err(OperationFault::MediaFault(failed)) => return Err(OperationFault::MediaFault(
+                failed,
+            )),
         }
     }
     Ok(true)

@@ -16,9 +16,9 @@ use fam_media::Media;
 use fam_tasks::Task;
 
 /// Drops the line of a file that is compared which the task drops next, loads its words, and compares them. Where none
-/// comes next, or the cache holds the line, nothing is done.
+/// comes next, or the host's copy is dirty, nothing is done.
 ///
-/// `MediaFault` names the line: the task stands before its first load. `OutOfMemory` comes where the cache has no room
+/// `MediaFault` names the line: it was dropped, and the task stands before its first load. `OutOfMemory` comes where the cache has no room
 /// for one more line, and then nothing was done.
 #[inline(always)]
 pub(crate) fn compare_whole<M: Media>(
@@ -49,7 +49,7 @@ pub(crate) fn compare_whole<M: Media>(
     let Some(line) = task.line_compared() else {
         return Ok(WholeLine::Other);
     };
-    match cache.bring_line(media, line) {
+    match cache.renew_line(media, line) {
         Ok(None) => Ok(WholeLine::Other),
         Ok(Some(words)) => match task.compare_whole(line, &words) {
             None => Ok(WholeLine::Going),

@@ -11,7 +11,7 @@ ghost use Rattle.fam_run.specs.Places.{HasPlaces, IsReady, KeepsPlaces};
 ghost use Rattle.fam_run.specs.Operation.{ended};
 ghost use Rattle.fam_run.specs.Wanted.{WantedWhole};
 
-use crate::slots::read_slot;
+use crate::slots::load_slot;
 use crate::storing::store_next;
 use crate::verifying::compare_whole;
 use fam_cache::{HostCache, OperationFault};
@@ -21,7 +21,7 @@ use fam_tasks::{Task, Verified};
 /// What came of lines that may be loaded, stored or compared whole.
 #[derive(Clone, Copy)]
 pub enum WholeLine {
-    /// No such line comes next, or the cache holds it, and nothing was done.
+    /// No such line comes next, or the host's copy stands against it, and nothing was done.
     Other,
     /// The operations on it were done, and the task goes on.
     Going,
@@ -29,9 +29,9 @@ pub enum WholeLine {
     Ended(Verified),
 }
 
-/// Does the operations on the lines of a slot that a task loads next, or on the line of a file that it stores or compares
-/// next: all of them, by one call of the media a line. Where no such line comes next, or the cache holds it, nothing is
-/// done.
+/// Does the operations on the lines of a slot that a task drops and loads next, or on the line of a file that it stores or
+/// compares next: all of them, by one call of the media a line. Where no such line comes next, nothing is done, nor where
+/// the host's copy is dirty, or the host holds any copy of a line that is stored.
 ///
 /// `MediaFault` names the line: the operations before the one that failed were done. `OutOfMemory` comes where the cache
 /// has no room for one more line, and then nothing was done.
@@ -65,7 +65,7 @@ pub fn whole_next<M: Media>(
     ensures unmoved { IsErrOf result OperationFault.OutOfMemory → task.new ≡ task.old }
     ensures steady { IsSteady M.size M.faults media.old media.new }
 {
-    match read_slot(cache, task, media) {
+    match load_slot(cache, task, media) {
         Ok(true) => return Ok(WholeLine::Going),
         Ok(false) => {}
         Err(fault) => return Err(fault),

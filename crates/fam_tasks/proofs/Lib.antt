@@ -7,3 +7,4 @@ pub mod FileTurns
 pub mod Rest
 pub mod WholeLine
 pub mod SlotLine
+pub mod Replicas

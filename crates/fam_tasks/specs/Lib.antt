@@ -10,3 +10,4 @@ pub mod Sound
 pub mod Model
 pub mod Held
 pub mod SlotLines
+pub mod Replica

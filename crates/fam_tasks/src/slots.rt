@@ -1,20 +1,22 @@
 //! What the slots that were read have told: a plan of their entries, or a check of their words. Either takes memory,
-//! so it is made with the first slot that it is told of.
+//! so it is made with the first slot that it is told of. A plan that an earlier command of the host made is taken over.
 
-ghost use Rattle.std.specs.Prelude.{◌≡◌, ◌+◌, ◌<◌, ℕ, [], None, Some, IfOk, IfSome, IsErr, IsSome, OnOk, OnErr, length};
+ghost use Rattle.std.specs.Prelude.{◌≡◌, ◌+◌, ◌<◌, ℕ, [], false, true, None, Ok, Some, IfOk, IfSome, IsErr, IsSome, OnOk, OnErr, length};
 ghost use Rattle.std.specs.FinMap as map;
 ghost use Rattle.fam_base.specs.Commands.{IsListing, IsSoundCmd};
 ghost use Rattle.fam_base.specs.declared.entry.Params.{Params};
 ghost use Rattle.fam_format.specs.Params.{SoundParams};
-ghost use Rattle.fam_format.specs.Slot.{Proper};
+ghost use Rattle.fam_format.specs.Slot.{entry_of, Proper};
 ghost use Rattle.fam_format.specs.Tree.{join_fault, replay};
 ghost use Rattle.fam_rules.specs.Checks.{checked};
 ghost use Rattle.fam_rules.specs.Decide.{decide, wish_of};
 ghost use Rattle.fam_rules.specs.Reports.{report_by, survey_slot};
 ghost use Rattle.fam_plan.specs.Faults.{reason_of};
 ghost use Rattle.fam_plan.specs.Needs.{NeedsUnits};
+ghost use Rattle.fam_tasks.specs.Replica.{FindsNext};
 ghost use Rattle.fam_tasks.specs.Slots.{added_in, entries_in, survey_in, IsPlanFor, IsRoomFor, IsScanFor, JoinsOrNames};
 
+use crate::replica::Replica;
 use fam_base::{Cmd, Entry, OutOfMemory, Params, Path};
 use fam_format::{Reason, SLOT_WORDS};
 use fam_fsck::{Fsck, check};
@@ -24,10 +26,36 @@ use fam_tree::Tree;
 use std::alloc::Global;
 use uuid::Uuid;
 
+/// What a command brings along: what is kept from the host's earlier commands, and whether its own slots are kept for
+/// later ones.
+#[derive(Drop)]
+pub(crate) struct Kept {
+    pub(crate) replica: Option<Replica>,
+    pub(crate) keeps: bool,
+}
+
+/// Takes over what is kept, where it is of the file system with these parameters: nothing of it was found so far.
+fn take_over(kept: &mut Kept, params: &Params) -> Option<Replica>
+    ensures params { IfSome result (λ replica. replica.params ≡ params.now) }
+    ensures none { IfSome result (λ replica. replica.entries ≡ []) }
+{
+    match kept.replica.take() {
+        Some(mut replica) => {
+            if !replica.is_of(params) {
+                return None;
+            }
+            replica.rewind();
+            Some(replica)
+        }
+        None => None,
+    }
+}
+
 /// Makes the plan of no entries, where there is none.
 pub(crate) fn begin_plan(
     alloc: Global,
-    plan: &mut Option<Plan>,
+    kept: &mut Kept,
+    plan: &mut Option<Replica>,
     params: &Params,
 ) -> Result<(), OutOfMemory>
     requires sound { SoundParams params.now }
@@ -37,9 +65,33 @@ pub(crate) fn begin_plan(
     ensures none { OnErr result (plan.old ≡ None) }
 {
     if plan.is_none() {
-        *plan = Some(Plan::new(alloc, params)?);
+        *plan = take_over(kept, params);
+    }
+    if plan.is_none() {
+        *plan = Some(Replica::new(alloc, Plan::new(alloc, params)?, kept.keeps));
     }
     Ok(())
+}
+
+/// Whether the words of the next slot are those that are kept of it. Then its entry joins those that were found.
+pub(crate) fn find(
+    kept: &mut Kept,
+    plan: &mut Option<Replica>,
+    params: &Params,
+    words: &[u64; SLOT_WORDS],
+) -> bool
+    requires fits { IsPlanFor params.now plan.old }
+    ensures found { result ≡ true → FindsNext params.now words.now (entries_in plan.old) (entries_in plan.new) }
+    ensures other { result ≡ false → entries_in plan.new ≡ entries_in plan.old }
+    ensures fits { IsPlanFor params.now plan.new }
+{
+    if plan.is_none() {
+        *plan = take_over(kept, params);
+    }
+    match plan {
+        Some(replica) => replica.find(words),
+        None => false,
+    }
 }
 
 /// Why an entry doesn't join, if memory didn't run out.
@@ -56,17 +108,22 @@ fn reason_against(fault: AddFault) -> Result<Reason, OutOfMemory>
     }
 }
 
-/// Adds an entry to a plan where it joins those before it, and otherwise says why it doesn't.
-fn add(plan: &mut Plan, entry: &Entry) -> Result<Option<Reason>, OutOfMemory>
+/// Adds the entry of a slot to a plan where it joins those before it, and otherwise says why it doesn't.
+fn add(
+    plan: &mut Replica,
+    words: &[u64; SLOT_WORDS],
+    entry: &Entry,
+) -> Result<Option<Reason>, OutOfMemory>
     requires proper { Proper plan.old.params entry.now }
     requires left { length plan.old.entries < plan.old.params.slots }
+    requires read { entry_of plan.old.params words.now (length plan.old.entries) ≡ Ok entry.now }
     ensures joins { IfOk result (λ fault.
         JoinsOrNames fault plan.old.params plan.old.entries entry.now plan.new.entries) }
     ensures params { plan.new.params ≡ plan.old.params }
-    ensures err { OnErr result (plan.new ≡ plan.old) }
+    ensures err { OnErr result (plan.new.entries ≡ plan.old.entries) }
     ensures want { OnErr result (join_fault plan.old.params plan.old.entries entry.now ≡ None) }
 {
-    match plan.add(entry) {
+    match plan.add(words, entry) {
         Ok(()) => Ok(None),
         Err(fault) => match reason_against(fault) {
             Ok(reason) => Ok(Some(reason)),
@@ -109,25 +166,28 @@ fn refused_alone(
 /// Adds the entry of a slot to the plan where it joins those before it, and otherwise says why it doesn't.
 pub(crate) fn join(
     alloc: Global,
-    plan: &mut Option<Plan>,
+    kept: &mut Kept,
+    plan: &mut Option<Replica>,
     params: &Params,
+    words: &[u64; SLOT_WORDS],
     entry: &Entry,
 ) -> Result<Option<Reason>, OutOfMemory>
     requires sound { SoundParams params.now }
     requires fits { IsPlanFor params.now plan.old }
     requires proper { Proper params.now entry.now }
     requires left { length (entries_in plan.old) < params.now.slots }
+    requires read { entry_of params.now words.now (length (entries_in plan.old)) ≡ Ok entry.now }
     ensures joins { IfOk result (λ fault.
         JoinsOrNames fault params.now (entries_in plan.old) entry.now (entries_in plan.new)) }
     ensures fits { IsPlanFor params.now plan.new }
     ensures err { OnErr result (entries_in plan.new ≡ entries_in plan.old) }
     ensures want { OnErr result (join_fault params.now (entries_in plan.old) entry.now ≡ None) }
 {
-    if begin_plan(alloc, plan, params).is_err() {
+    if begin_plan(alloc, kept, plan, params).is_err() {
         return fault_alone(params, entry);
     }
     match plan {
-        Some(plan) => add(plan, entry),
+        Some(plan) => add(plan, words, entry),
         None => unreachable!(),
     }
 }
@@ -135,7 +195,8 @@ pub(crate) fn join(
 /// What a command appends behind the entries of a plan, or why nothing.
 pub(crate) fn decided(
     alloc: Global,
-    plan: &mut Option<Plan>,
+    kept: &mut Kept,
+    plan: &mut Option<Replica>,
     params: &Params,
     cmd: &Cmd,
     me: Uuid,
@@ -150,7 +211,7 @@ pub(crate) fn decided(
     ensures want { OnErr result (NeedsUnits (decide params.now me (entries_in plan.old) cmd.now)) }
     ensures none { OnErr result (entries_in plan.old ≡ []) }
 {
-    if begin_plan(alloc, plan, params).is_err() {
+    if begin_plan(alloc, kept, plan, params).is_err() {
         return refused_alone(params, cmd, &me);
     }
     match plan {
@@ -160,7 +221,7 @@ pub(crate) fn decided(
 }
 
 /// How many entries a plan has.
-pub(crate) fn count(plan: &Option<Plan>) -> u64
+pub(crate) fn count(plan: &Option<Replica>) -> u64
     ensures { result ≡ length (entries_in plan.now) }
 {
     match plan {
@@ -170,21 +231,22 @@ pub(crate) fn count(plan: &Option<Plan>) -> u64
 }
 
 /// What stands at a path.
-pub(crate) fn found_at(plan: &Option<Plan>, path: &Path) -> Option<Entry>
-    ensures value { result ≡ map.get (replay (entries_in plan.now)) path.now }
-    ensures proper { (p : Params) → IsPlanFor p plan.now → IfSome result (Proper p) }
+pub(crate) fn found_at(plan: &mut Option<Replica>, path: &Path) -> Option<Entry>
+    ensures value { result ≡ map.get (replay (entries_in plan.old)) path.now }
+    ensures proper { (p : Params) → IsPlanFor p plan.old → IfSome result (Proper p) }
+    ensures same { plan.new ≡ plan.old }
 {
     match plan {
         Some(plan) => {
             plan.each_entry_joins();
-            plan.tree().get(path)
+            plan.at(path)
         }
         None => None,
     }
 }
 
 /// The tree of a plan's entries.
-pub(crate) fn tree_of(alloc: Global, plan: Option<Plan>) -> Tree
+pub(crate) fn tree_of(alloc: Global, plan: Option<Replica>) -> Tree
     ensures { result ≡ replay (entries_in plan) }
 {
     match plan {
@@ -194,12 +256,13 @@ pub(crate) fn tree_of(alloc: Global, plan: Option<Plan>) -> Tree
 }
 
 /// How the tree of a plan's entries differs from a listing.
-pub(crate) fn checked(alloc: Global, plan: &Option<Plan>, listing: &[Entry]) -> Checked
+pub(crate) fn checked(alloc: Global, plan: &mut Option<Replica>, listing: &[Entry]) -> Checked
     requires { IsListing listing.now }
-    ensures { result ≡ checked (replay (entries_in plan.now)) listing.now }
+    ensures value { result ≡ checked (replay (entries_in plan.old)) listing.now }
+    ensures same { plan.new ≡ plan.old }
 {
     match plan {
-        Some(plan) => check(plan.tree(), listing),
+        Some(plan) => plan.checked(listing),
         None => {
             let none = Tree::new(alloc);
             check(&none, listing)

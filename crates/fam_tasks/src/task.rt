@@ -28,6 +28,8 @@ use crate::answer::{Answer, Turn};
 use crate::buffer::Buffer;
 use crate::contents::Contents;
 use crate::parts::line_of_slot;
+use crate::replica::Replica;
+use crate::slots::Kept;
 use crate::wanted::first_line;
 use fam_base::{Cmd, Content, Entry, LineNo, OutOfMemory, Params};
 use fam_commands::{Part, Phase};
@@ -35,7 +37,7 @@ use fam_extents::file_line;
 use fam_format::{GATE_LINE, LAST_WORD, LOG_LINE, SLOT_LINES};
 use fam_fsck::Fsck;
 use fam_machine::Op;
-use fam_plan::Plan;
+pub use slot_lines::SlotDue;
 use std::alloc::Global;
 use std::marker::Model;
 use uuid::Uuid;
@@ -54,8 +56,10 @@ pub struct Task {
     params: Params,
     first_slot: u64,
     gate: u64,
+    /// What is kept from the host's earlier commands, and for later ones.
+    kept: Kept,
     /// The entries of the slots that were read; a check of the whole file system has none.
-    plan: Option<Plan>,
+    plan: Option<Replica>,
     /// A check of the whole file system, with the slots that it was shown.
     scan: Option<Fsck>,
     buffer: Buffer,
@@ -128,6 +132,10 @@ impl Task {
             },
             first_slot: 0,
             gate: 0,
+            kept: Kept {
+                replica: None,
+                keeps: false,
+            },
             plan: None,
             scan: None,
             buffer: Buffer::new(),
@@ -135,6 +143,23 @@ impl Task {
             contents: Contents::new(Content::Zero),
             room: Vec::new(alloc),
         }
+    }
+
+    /// Takes what the host's last command kept, and keeps more for the next one: a slot that has the same words is not
+    /// read again. It changes no answer.
+    pub fn remember(&mut self, replica: Option<Replica>)
+        ensures { self.new ≡ self.old }
+    {
+        self.kept = Kept {
+            replica,
+            keeps: true,
+        };
+    }
+
+    /// What is kept for the host's next command, if anything is. A task that has played its tree keeps nothing.
+    pub fn into_replica(self) -> Option<Replica> {
+        let Task { plan, kept, .. } = self;
+        plan.or(kept.replica)
     }
 
     /// What is known of every task: its numbers fit its phase. A call does nothing.

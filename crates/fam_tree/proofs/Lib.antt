@@ -1,9 +1,11 @@
 pub mod Views
-pub mod Keyed
-pub mod Boxed
+pub mod Ordered
+pub mod Boxes
+pub mod Edits
+pub mod Nested
+pub mod Search
 pub mod TakenBack
 pub mod Words
-pub mod Puts
 pub mod Printed
 pub mod Cutting
 pub mod WordsRead

@@ -32,7 +32,7 @@ find_is_lookup q (e ∷ es) = ap (cond (eq_by_cmp path_cmp q e.0) (Some e.1)) (f
 pub get_of_view : (es : Entries) (q : List ℕ) → map.get {R = path_cmp} (map.from_entries es) q ≡ lookup (is_at (path_cmp q)) es
 get_of_view es q = get-from_entries nat_list_cmp_total es q ∙ find_is_lookup q es
 
-symmetric : (q k : List ℕ) → is_at (path_cmp k) q ≡ eq_by_cmp path_cmp q k
+pub symmetric : (q k : List ℕ) → is_at (path_cmp k) q ≡ eq_by_cmp path_cmp q k
 symmetric q k = (eq_by_cmp_equiv nat_list_cmp_total).symm k q
 
 -- ---- what a call changes

@@ -1,8 +1,9 @@
 -- The iterator over a tree.
-use Rattle.std.specs.Prelude.{List, map}
+use Rattle.std.specs.Prelude.{List, ◌++◌, map}
 use Rattle.fam_base.specs.declared.entry.Entry.{Entry}
-use Rattle.fam_tree.specs.declared.tree.TreeIter.{TreeIter}
+use Rattle.fam_tree.specs.Runs.{entries_in}
+use Rattle.fam_tree.specs.declared.tree_iter.TreeIter.{TreeIter}
 
--- the entries that it has yet to give, in order
+-- the entries that it has yet to give, in order: those of a run, and those of the runs behind it
 abbrev pub tree_iter_rest : TreeIter → List Entry
-tree_iter_rest it = map (λ b. b.value) it.entries
+tree_iter_rest it = map (λ b. b.value) it.run.now ++ entries_in it.runs.now

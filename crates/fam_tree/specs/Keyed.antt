@@ -1,12 +1,7 @@
 -- How entries stand in a tree: each under its own path.
 use Rattle.std.specs.Prelude.{ℕ, ◌≡◌, List, map}
 use Rattle.std.specs.FinMap as finmap
-use Rattle.fam_base.specs.declared.entry.Entry.{Entry}
 use Rattle.fam_format.specs.Tree.{Tree}
-
--- each entry of a list stands with its own path
-abbrev pub AreKeyed : List (List ℕ × Entry) → Type 0
-AreKeyed pairs = map (λ e. e.1.path) pairs ≡ map (λ e. e.0) pairs
 
 -- the own paths of a tree's entries, in the order in which these stand
 abbrev pub paths_of : Tree → List (List ℕ)

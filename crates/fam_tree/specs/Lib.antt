@@ -1,4 +1,4 @@
-pub mod Boxed
+pub mod Runs
 pub mod Lines
 pub mod NextExtent
 pub mod Faults

@@ -10,12 +10,16 @@ mod laws;
 mod line_words;
 mod lines;
 mod listings;
+mod run;
+mod runs;
 #[cfg(test)]
 mod tests;
 mod tree;
+mod tree_iter;
 
 pub use fault::{ApplyFault, ListingFault};
 pub use laws::take_back_undoes_apply;
 pub use lines::{print_entry, print_listing};
 pub use listings::read_listing;
-pub use tree::{Tree, TreeIter};
+pub use tree::Tree;
+pub use tree_iter::TreeIter;

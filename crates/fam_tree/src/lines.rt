@@ -18,15 +18,26 @@ fn put_byte(byte: u8, into: &mut Vec<u8>) -> Result<(), OutOfMemory>
     }
 }
 
-pub(crate) fn put_decimal(n: u64, into: &mut Vec<u8>) -> Result<(), OutOfMemory>
+fn put_digits(n: u64, into: &mut Vec<u8>) -> Result<(), OutOfMemory>
     ensures { OnOk result (into.new.items ≡ into.old.items ++ decimal n) }
 {
     let digit = b'0' + (n % 10) as u8;
     if n < 10 {
         return put_byte(digit, into);
     }
-    put_decimal(n / 10, into)?;
+    put_digits(n / 10, into)?;
     put_byte(digit, into)
+}
+
+/// Puts a number's digits. Most numbers have one.
+#[inline(always)]
+pub(crate) fn put_decimal(n: u64, into: &mut Vec<u8>) -> Result<(), OutOfMemory>
+    ensures { OnOk result (into.new.items ≡ into.old.items ++ decimal n) }
+{
+    if n < 10 {
+        return put_byte(b'0' + (n % 10) as u8, into);
+    }
+    put_digits(n, into)
 }
 
 fn put_kind(kind: Kind, into: &mut Vec<u8>) -> Result<(), OutOfMemory>

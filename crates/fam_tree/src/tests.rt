@@ -113,8 +113,36 @@ fn a_copy_keeps_what_is_taken_back(rt: HostRuntime) -> Result<(), Fail> {
     let copy = tree.copy(rt.alloc())?;
     tree.take_back(&entry.path);
     assert!(rt; tree.get(&entry.path).is_none());
-    assert_eq!(rt; tree.iter().count(), 0);
+    assert!(rt; tree.iter().next().is_none());
     assert!(rt; copy.get(&entry.path).is_some());
+    Ok(())
+}
+
+/// A directory whose path has two letters, by their numbers.
+fn lettered(first: u8, second: u8) -> Result<Entry, BadPath> {
+    directory(&[b'a' + first % 26, b'a' + second % 26])
+}
+
+/// Adds the directories that begin with a letter, in another order than that of their paths.
+fn add_letter(tree: &mut Tree, first: u8) -> Result<(), Fail> {
+    for i in 0..26u8 {
+        tree.apply(&lettered(first, i * 5 % 26)?)?;
+    }
+    Ok(())
+}
+
+#[test]
+fn more_entries_than_a_run_holds_are_added_and_taken_back(rt: HostRuntime) -> Result<(), Fail> {
+    let mut tree = Tree::new(rt.alloc());
+    for i in 0..26u8 {
+        add_letter(&mut tree, i * 7 % 26)?;
+    }
+    assert_eq!(rt; tree.len(), 676);
+    let last = lettered(25, 25)?;
+    assert_eq!(rt; tree.apply(&last), Err(ApplyFault::Exists(Kind::Directory)));
+    tree.take_back(&last.path);
+    assert_eq!(rt; tree.len(), 675);
+    assert!(rt; tree.get(&last.path).is_none());
     Ok(())
 }
 

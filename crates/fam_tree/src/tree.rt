@@ -1,95 +1,52 @@
-//! Trees of entries. `specs/Keyed.antt` says how entries stand in a tree, and fam_format's `specs/Tree.antt`
-//! which entries join it.
+//! Trees of entries. `specs/Runs.antt` says how entries stand in a tree, and fam_format's `specs/Tree.antt` which
+//! entries join it.
 
-ghost use Rattle.std.specs.Prelude.{◌≡◌, None, OnOk, OnErr, IfOk, IfErr, IfSome, option_map};
-ghost use Rattle.std.specs.Iterator.{YieldsFirstRef, item_count};
+ghost use Rattle.std.specs.Prelude.{◌≡◌, ◌<◌, ◌++◌, None, Some, OnOk, OnErr, IfOk, IfErr, IfNone, IfSome, length, option_map, map as list_map};
+ghost use Rattle.std.specs.List.{flat_map};
 ghost use Rattle.std.specs.List.Sorted.{IsStrictlySortedBy};
 ghost use Rattle.std.specs.FinMap as map;
 ghost use Rattle.fam_base.specs.PathOrder.{path_cmp};
 ghost use Rattle.fam_base.specs.Paths.{parent_of};
-ghost use Rattle.fam_format.specs.Tree.{root_fault, with_entry, tree_fault};
+ghost use Rattle.fam_format.specs.Stop.{or_else};
+ghost use Rattle.fam_format.specs.Tree.{exists_fault, root_fault, with_entry, tree_fault};
 ghost use Rattle.fam_tree.specs.Faults.{reason_of};
-ghost use Rattle.fam_tree.specs.Boxed.{entries_in};
 ghost use Rattle.fam_tree.specs.Iter.{tree_iter_rest};
-ghost use Rattle.fam_tree.specs.Keyed.{AreKeyed, IsKeyed, paths_of};
+ghost use Rattle.fam_tree.specs.Keyed.{IsKeyed, paths_of};
 ghost use Rattle.fam_tree.specs.Parents as parents;
+ghost use Rattle.fam_tree.specs.Runs.{AreFilled, AreRuns, entries_in, tree_of};
 
 use crate::fault::ApplyFault;
+use crate::run::Run;
+use crate::runs::{drop_from, entry_in, put};
+use crate::tree_iter::TreeIter;
 use fam_base::{Entry, Kind, OutOfMemory, Path};
 use std::alloc::Global;
-use std::collections::BTreeMap;
-use std::collections::btree_map::Values;
 use std::marker::Model;
 
-/// The entries of a file system by their paths. Each lies alone on the heap, so that to make room among paths moves no
-/// entry.
+/// The entries of a file system by their paths. They lie in runs, so that one more moves no more than a run's.
 #[derive(Drop)]
 pub struct Tree {
     alloc: Global,
-    entries: BTreeMap<Path, Box<Entry>>,
+    runs: Vec<Run>,
+    count: u64,
 }
 
 impl Model for Tree {
+    ghost use Rattle.std.specs.Prelude.{◌≡◌, length};
     ghost use Rattle.std.specs.FinMap as map;
     ghost use Rattle.fam_base.specs.PathOrder.{path_cmp};
     ghost use Rattle.fam_base.specs.declared.entry.Entry.{Entry};
     ghost use Rattle.std.specs.Coded.{coded_list, coded_ℕ};
     ghost use Rattle.fam_base.specs.contracts.entry.Entry as entry_type;
-    ghost use Rattle.fam_tree.specs.Keyed.{AreKeyed};
-    ghost use Rattle.fam_tree.specs.Boxed.{entries_in};
+    ghost use Rattle.fam_tree.specs.Runs.{IsTree, entries_in, tree_of};
 
     ghost Value = { map.FinMap path_cmp Entry };
 
     ghost coded = { map.code (coded_list coded_ℕ) entry_type.the_row.coded };
 
-    ghost view = { λ t. map.from_entries (entries_in t.entries.entries) };
+    ghost view = { λ t. tree_of (entries_in t.runs.items) };
 
-    ghost invariant = { λ t. AreKeyed (entries_in t.entries.entries) };
-}
-
-/// Puts an entry at its path where nothing stands there, by one search. Else it says what stands there, and nothing
-/// changes.
-fn put(
-    held: &mut BTreeMap<Path, Box<Entry>>,
-    alloc: Global,
-    entry: &Entry,
-) -> Result<Option<Kind>, OutOfMemory>
-    ensures stood { IfOk result (λ kind. kind ≡ option_map (λ old. old.kind)
-        (map.get {R = path_cmp} (map.from_entries (entries_in held.old.entries)) entry.now.path)) }
-    ensures added { IfOk result (λ kind. kind ≡ None → map.from_entries {R = path_cmp} (entries_in held.new.entries)
-        ≡ with_entry (map.from_entries (entries_in held.old.entries)) entry.now) }
-    ensures kept { IfOk result (λ kind. IfSome kind (λ _. map.from_entries {R = path_cmp} (entries_in held.new.entries)
-        ≡ map.from_entries (entries_in held.old.entries))) }
-    ensures free { OnErr result (map.get {R = path_cmp} (map.from_entries (entries_in held.old.entries)) entry.now.path
-        ≡ None) }
-    ensures same { OnErr result (held.new.entries ≡ held.old.entries) }
-    ensures keyed { AreKeyed (entries_in held.old.entries) → AreKeyed (entries_in held.new.entries) }
-{
-    let Ok(boxed) = Box::new(alloc, *entry) else {
-        return match held.get(&entry.path) {
-            Some(old) => Ok(Some(old.kind)),
-            None => Err(OutOfMemory),
-        };
-    };
-    match held.insert(entry.path, boxed) {
-        Ok(None) => Ok(None),
-        Ok(Some(old)) => {
-            let kind = old.kind;
-            match held.insert(entry.path, old) {
-                Ok(_) => Ok(Some(kind)),
-                Err(_) => unreachable!(),
-            }
-        }
-        Err(_) => Err(OutOfMemory),
-    }
-}
-
-fn drop_at(held: &mut BTreeMap<Path, Box<Entry>>, path: &Path)
-    ensures gone { map.from_entries {R = path_cmp} (entries_in held.new.entries)
-        ≡ map.remove (map.from_entries (entries_in held.old.entries)) path.now }
-    ensures keyed { AreKeyed (entries_in held.old.entries) → AreKeyed (entries_in held.new.entries) }
-{
-    let _ = held.remove(path);
+    ghost invariant = { λ t. IsTree t.runs.items t.count };
 }
 
 impl Tree {
@@ -99,7 +56,8 @@ impl Tree {
     {
         Tree {
             alloc,
-            entries: BTreeMap::new(alloc),
+            runs: Vec::new(alloc),
+            count: 0,
         }
     }
 
@@ -115,7 +73,7 @@ impl Tree {
     pub fn len(&self) -> u64
         ensures { result ≡ map.len self.now }
     {
-        self.entries.len() as u64
+        self.count
     }
 
     /// The entries in byte order of their paths.
@@ -127,7 +85,8 @@ impl Tree {
         ensures order { IsStrictlySortedBy path_cmp (paths_of self.now) }
     {
         TreeIter {
-            entries: self.entries.values(),
+            run: &[],
+            runs: &self.runs,
         }
     }
 
@@ -136,9 +95,16 @@ impl Tree {
         ensures value { option_map (λ entry. entry.now) result ≡ map.get self.now path.now }
         ensures own { IfSome result (λ entry. entry.now.path ≡ path.now) }
     {
-        match self.entries.get(path) {
-            Some(entry) => Some(&**entry),
-            None => None,
+        entry_in(&self.runs, path)
+    }
+
+    /// What stands at a path, as a fault, or else this one.
+    fn fault_at(&self, path: &Path, fault: ApplyFault) -> ApplyFault
+        ensures { reason_of result ≡ or_else (exists_fault (map.get self.now path.now)) (reason_of fault) }
+    {
+        match self.entry_at(path) {
+            Some(old) => ApplyFault::Exists(old.kind),
+            None => fault,
         }
     }
 
@@ -176,18 +142,18 @@ impl Tree {
         ensures cause { IfErr result (λ fault. reason_of fault ≡ tree_fault self.old entry.now) }
         ensures same { OnErr result (self.new ≡ self.old) }
     {
+        // What stands at the path is found out first.
         if let Some(fault) = self.parent_fault(entry) {
-            // What stands at the path is found out first.
-            return match self.entry_at(&entry.path) {
-                Some(old) => Err(ApplyFault::Exists(old.kind)),
-                None => Err(fault),
-            };
+            return Err(self.fault_at(&entry.path, fault));
         }
-        match put(&mut self.entries, self.alloc, entry) {
-            Ok(None) => Ok(()),
-            Ok(Some(kind)) => Err(ApplyFault::Exists(kind)),
-            Err(_) => Err(ApplyFault::OutOfMemory),
+        let Some(count) = self.count.checked_add(1) else {
+            return Err(self.fault_at(&entry.path, ApplyFault::OutOfMemory));
+        };
+        if put(&mut self.runs, self.alloc, entry) {
+            self.count = count;
+            return Ok(());
         }
+        Err(self.fault_at(&entry.path, ApplyFault::OutOfMemory))
     }
 
     /// Removes the entry at a path, so that what `apply` added is taken back. Entries below it stay, so a
@@ -195,37 +161,22 @@ impl Tree {
     pub fn take_back(&mut self, path: &Path)
         ensures { self.new ≡ map.remove self.old path.now }
     {
-        drop_at(&mut self.entries, path)
+        if drop_from(&mut self.runs, path) {
+            self.count -= 1;
+        }
     }
 
     /// An equal tree.
     pub fn copy(&self, alloc: Global) -> Result<Tree, OutOfMemory>
         ensures { IfOk result (λ tree. tree ≡ self.now) }
     {
-        match self.entries.clone() {
-            Ok(entries) => Ok(Tree { alloc, entries }),
+        match self.runs.clone() {
+            Ok(runs) => Ok(Tree {
+                alloc,
+                runs,
+                count: self.count,
+            }),
             Err(_) => Err(OutOfMemory),
-        }
-    }
-}
-
-/// The entries of a tree, in byte order of their paths.
-#[derive(Drop)]
-pub struct TreeIter<'a> {
-    entries: Values<'a, Path, Box<Entry>>,
-}
-
-impl<'a> Iterator for TreeIter<'a> {
-    type Item = &'a Entry;
-
-    ghost next_gives = { YieldsFirstRef tree_iter_rest };
-
-    ghost remaining = { item_count tree_iter_rest };
-
-    fn next(&mut self) -> Option<&'a Entry> {
-        match self.entries.next() {
-            Some(entry) => Some(&**entry),
-            None => None,
         }
     }
 }

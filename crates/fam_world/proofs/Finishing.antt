@@ -13,7 +13,7 @@ use Rattle.fam_journal.specs.declared.refusal.Refusal.{Refusal}
 use Rattle.fam_journal.specs.declared.refusal.Refusal.TheVariants as why
 use Rattle.fam_journal.specs.Calls as call
 use Rattle.fam_journal.specs.Calls.{Acts, ByRefusal, Does, DoesOperations, busy_at, has_name, is_busy_host, number_of, on_host, refusal_of, when}
-use Rattle.fam_journal.specs.CallRecords.{CallForm, CallKeeps, FinishOutOfMemory, MediaCall, StepCall, TaskFits, heading, refusal_noted}
+use Rattle.fam_journal.specs.CallRecords.{CallForm, CallKeeps, FinishOutOfMemory, MediaCall, IsUnstoredAt, StepCall, TaskFits, heading, refusal_noted}
 use Rattle.fam_journal.specs.Forms.{ActsForm, AtForm, FormByRefusal, FreeForm, HostForm, HostFormed, IsFormed, OfHostForm, OperationsForm, TaskForm, TaskFormed, forms_after, forms_behind, forms_of, runs_form}
 use Rattle.fam_journal.specs.Kept.{Held}
 use Rattle.fam_journal.specs.Machines.{HostState, Machines, Operation, TaskState}
@@ -32,7 +32,8 @@ use Rattle.fam_commands.specs.Stands.{note_of, task_after, turn_given}
 use Rattle.fam_commands.specs.Table as row
 use Rattle.fam_commands.specs.Task.{op_of}
 use Rattle.fam_commands.specs.Turns.{Turn, Goes, Marks, Finds, Writes, Ends}
-use Rattle.fam_machine.specs.Operations.{given_by}
+use Rattle.fam_machine.specs.Cuts.{IsMachine}
+use Rattle.fam_machine.specs.Operations.{given_by, machine, operated}
 use Rattle.fam_tasks.specs.Sound.{IsSound}
 use Rattle.fam_run.proofs.Left.{kept, left}
 use Rattle.fam_journal.specs.Ends.{is_answer_note}
@@ -240,8 +241,8 @@ module _ (name : List ℕ) (at lines : ℕ) (old : WorldView) (told_old : Option
       }
 
     -- no memory was left
-    pub finish_wants : FinishOutOfMemory name lines told_old told faults_old faults old cur
-    finish_wants = record {
+    pub finish_wants : (IsUnstoredAt at old → IfModelled told_old (λ image. told ≡ Some image)) → FinishOutOfMemory name lines told_old told faults_old faults old cur
+    finish_wants same = record {
       adds = record { notes = far.notes; joined = far.joined; counted = far.counted; later = far.later; named = subst (λ (n : ℕ). AreNamed n far.notes) (sym count_now) far.named; hosts = far.headings; fits = far.fits; formed = far.formed };
       form = λ is. inr (at, sym (number_formed lines old is name) ∙ number, far.form is);
       parts = λ start state told_is held.
@@ -254,6 +255,7 @@ module _ (name : List ℕ) (at lines : ℕ) (old : WorldView) (told_old : Option
             joined = far.joined;
             held = r.held;
           };
+      same = λ h is. subst (λ (k : ℕ). IsUnstoredAt k old → IfModelled told_old (λ image. told ≡ Some image)) (same_Some at h (sym number ∙ is)) same;
     }
 
 -- not even for the note of a refusal
@@ -262,6 +264,7 @@ finish_nothing name lines told faults old = record {
   adds = record { notes = []; joined = sym (append-nil old.journal); counted = omega arith; later = omega arith; named = tt; hosts = refl; fits = λ was. was; formed = λ is. is };
   form = λ is. inl refl;
   parts = λ start state told_is held. record { state = state; notes = []; row = inr (refl, refl); told_is = told_is; joined = sym (append-nil old.journal); held = held };
+  same = λ h is unstored. λ image told_is. told_is;
 }
 
 -- One step more of the host.
@@ -350,10 +353,10 @@ module _ (name : List ℕ) (at lines : ℕ) (old : WorldView) (told_old : Option
       let last = member_of cur.hosts at (subst (λ (n : ℕ). at < n) (sym (count_same cur.hosts old.hosts far.headings)) within) in
       finish_call name at lines old told_old faults_old cur told faults far view.0 number view.1 (finishes_as_steps name old lines None free) modelled last.0 last.1 (over last.0 last.1)
 
-  pub finish_lacks : FinishOutOfMemory name lines told_old told faults_old faults old cur
-  finish_lacks =
+  pub finish_lacks : (IsUnstoredAt at old → IfModelled told_old (λ image. told ≡ Some image)) → FinishOutOfMemory name lines told_old told faults_old faults old cur
+  finish_lacks same =
       let view = member_of old.hosts at within in
-      finish_wants name at lines old told_old faults_old cur told faults far view.0 number view.1 (finishes_as_steps name old lines None free) modelled
+      finish_wants name at lines old told_old faults_old cur told faults far view.0 number view.1 (finishes_as_steps name old lines None free) modelled same
 
 -- One turn of the loop.
 
@@ -391,6 +394,30 @@ going_task at t a x = by x.how
         let n = going (turn_given t served.word) at (served.over_is ∙ ap (λ (k : List Note). list_any is_answer_note k) served.notes_are) in
         let task_is : a.new.task ≡ Some n.0 = served.task ∙ n.1 in
         (n.0, task_is, subst (TaskFits t.lines) task_is served.fits)
+
+-- its task is the one that the turn goes on with
+pub going_after : (at : ℕ) (t : Task) (a : Around) (over : Bool) → over ≡ false → IsStep at t a over → (word : ℕ) × (n : Task) × (a.new.task ≡ Some n) × (task_after (turn_given t word) ≡ Some n)
+going_after at t a over is step = by x.how
+  where
+    x : IsStep at t a false
+    x = subst (λ (b : Bool). IsStep at t a b) is step
+
+    by : IsServed at t a x.notes false ⊎ IsCut at t a x.notes false → (word : ℕ) × (n : Task) × (a.new.task ≡ Some n) × (task_after (turn_given t word) ≡ Some n)
+    by (inr cut) = absurd (let bad = cut.over_is in cc)
+    by (inl served) =
+        let n = going (turn_given t served.word) at (served.over_is ∙ ap (λ (k : List Note). list_any is_answer_note k) served.notes_are) in
+        (served.word, n.0, served.task ∙ n.1, n.1)
+
+-- where an image is modelled, memory and cache are the machine's
+pub step_machine : (at : ℕ) (t : Task) (a : Around) (over : Bool) → over ≡ false → IsStep at t a over → (image : Image) → a.told ≡ Some image → IsMachine (operated (op_of t) (machine image a.old.cache)) a.now a.new.cache
+step_machine at t a over is step image told_is = by x.how
+  where
+    x : IsStep at t a false
+    x = subst (λ (b : Bool). IsStep at t a b) is step
+
+    by : IsServed at t a x.notes false ⊎ IsCut at t a x.notes false → IsMachine (operated (op_of t) (machine image a.old.cache)) a.now a.new.cache
+    by (inr cut) = absurd (let bad = cut.over_is in cc)
+    by (inl served) = served.done image told_is
 
 pub going_runs : (at : ℕ) (t : Task) (a : Around) (over : Bool) → over ≡ false → IsStep at t a over → is_some a.new.task ≡ true
 going_runs at t a over going step = ap is_some (going_task at t a (subst (λ (b : Bool). IsStep at t a b) going step)).1

@@ -18,3 +18,4 @@ pub mod WholeSteps
 pub mod Fits
 pub mod KeptNotes
 pub mod Kept
+pub mod UpToOn

@@ -6,3 +6,4 @@ pub mod Turns
 pub mod Makes
 pub mod Finishes
 pub mod Whole
+pub mod Places

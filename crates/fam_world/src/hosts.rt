@@ -1,17 +1,17 @@
 //! Hosts of a world, and what is changed of one.
 
-ghost use Rattle.std.specs.Prelude.{◌≡◌, ◌<◌, ◌≤◌, vec_len};
+ghost use Rattle.std.specs.Prelude.{◌≡◌, ◌<◌, ◌≤◌, None, Some, vec_len};
 ghost use Rattle.std.specs.FinMap as map;
 ghost use Rattle.fam_journal.specs.Members.{changed_at};
 ghost use Rattle.fam_commands.specs.Task.{starting};
 ghost use Rattle.fam_format.specs.Layout.{least_lines};
 ghost use Rattle.fam_base.specs.Commands.{IsSoundCmd};
 ghost use Rattle.fam_tasks.specs.Sound.{most_lines};
-ghost use Rattle.fam_world.specs.View.{views};
+ghost use Rattle.fam_world.specs.View.{host_view, views};
 
 use fam_base::{Cmd, HostName};
 use fam_cache::HostCache;
-use fam_tasks::Task;
+use fam_tasks::{Replica, Task};
 use std::alloc::Global;
 use uuid::Uuid;
 
@@ -25,6 +25,41 @@ pub(crate) struct Host {
     pub(crate) uuid: Uuid,
     pub(crate) cache: HostCache,
     pub(crate) task: Option<Task>,
+    /// What its last command kept of the log for the next one. No answer hangs on it.
+    pub(crate) replica: Option<Replica>,
+    /// Whether it has begun a command: from the second one on they keep what they read.
+    pub(crate) has_begun: bool,
+}
+
+/// Ends a task, if there is one, and takes what it keeps.
+pub(crate) fn retire(task: &mut Option<Task>, replica: &mut Option<Replica>)
+    ensures { task.new ≡ None }
+{
+    if let Some(task) = task.take() {
+        *replica = task.into_replica();
+    }
+}
+
+/// A host begins a command on an image of so many lines.
+fn begin_on(alloc: Global, host: &mut Host, lines: u64, cmd: Cmd)
+    requires command { IsSoundCmd cmd }
+    requires least { least_lines ≤ lines }
+    requires most { lines ≤ most_lines }
+    ensures { host_view host.new ≡ record (host_view host.old) { task = Some (starting cmd host.old.uuid lines) } }
+{
+    let mut task = Task::new(alloc, cmd, host.uuid, lines);
+    if host.has_begun {
+        task.remember(host.replica.take());
+    }
+    host.has_begun = true;
+    host.task = Some(task);
+}
+
+/// A host's task is over, if it has one.
+fn end_on(host: &mut Host)
+    ensures { host_view host.new ≡ record (host_view host.old) { task = None } }
+{
+    retire(&mut host.task, &mut host.replica);
 }
 
 /// Begins a command on a host, on an image of so many lines.
@@ -37,8 +72,7 @@ pub(crate) fn begin_task(alloc: Global, hosts: &mut Vec<Host>, at: usize, lines:
         ≡ changed_at at (λ v. record v { task = Some (starting cmd v.uuid lines) }) (views hosts.old.items) }
     ensures len { vec_len hosts.new ≡ vec_len hosts.old }
 {
-    let host = &mut hosts[at];
-    host.task = Some(Task::new(alloc, cmd, host.uuid, lines));
+    begin_on(alloc, &mut hosts[at], lines, cmd);
 }
 
 /// Ends a host's task. Its cache stays.
@@ -47,7 +81,7 @@ pub(crate) fn end_task(hosts: &mut Vec<Host>, at: usize)
     ensures views { views hosts.new.items ≡ changed_at at (λ v. record v { task = None }) (views hosts.old.items) }
     ensures len { vec_len hosts.new ≡ vec_len hosts.old }
 {
-    hosts[at].task = None;
+    end_on(&mut hosts[at]);
 }
 
 /// Ends a host's task and loses its cache: what memory lacks is lost.
@@ -58,6 +92,6 @@ pub(crate) fn lose(hosts: &mut Vec<Host>, at: usize)
     ensures len { vec_len hosts.new ≡ vec_len hosts.old }
 {
     let host = &mut hosts[at];
-    host.task = None;
+    end_on(host);
     host.cache.lose();
 }

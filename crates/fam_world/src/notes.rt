@@ -1,6 +1,6 @@
 //! Notes that are added where there is room, and the room.
 
-ghost use Rattle.std.specs.Prelude.{◌≡◌, ◌++◌, ◌∷◌, ◌<◌, [], OnOk, vec_len, vec_capacity};
+ghost use Rattle.std.specs.Prelude.{◌≡◌, ◌++◌, ◌∷◌, ◌<◌, ◌≤◌, [], OnErr, OnOk, vec_len, vec_capacity};
 ghost use Rattle.fam_journal.specs.Notes.{Refused};
 ghost use Rattle.fam_world.specs.Answers.{IsPlain};
 ghost use Rattle.fam_world.specs.View.{note_view, notes_view};
@@ -13,6 +13,7 @@ use fam_notes::Note;
 /// Makes room for a note.
 pub(crate) fn make_room(journal: &mut Vec<Note>) -> Result<(), OutOfMemory>
     ensures room { OnOk result (vec_len journal.new < vec_capacity journal.new) }
+    ensures full { OnErr result (vec_capacity journal.old ≤ vec_len journal.old) }
     ensures same { journal.new.items ≡ journal.old.items }
 {
     match journal.reserve(1) {

@@ -68,6 +68,8 @@ pub(crate) fn host_in(
             uuid,
             cache: HostCache::new(alloc),
             task: None,
+            replica: None,
+            has_begun: false,
         },
     );
     add(journal, Note::Host { name: *name, uuid });

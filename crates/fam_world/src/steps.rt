@@ -1,6 +1,8 @@
 //! Operations of tasks: one, or all up to the answer.
 
-ghost use Rattle.std.specs.Prelude.{◌≡◌, ◌++◌, ◌∷◌, ◌<◌, ◌≤◌, [], IfErr, IfOk, IfSome, IsErrOf, OnErr, OnOk, None, Some, false, is_some, slice_get, true, vec_capacity, vec_len};
+ghost use Rattle.std.specs.Prelude.{ℕ, ◌≡◌, ◌⊎◌, ◌++◌, ◌∷◌, ◌<◌, ◌≤◌, [], IfErr, IfOk, IfSome, IsErrOf, OnErr, OnOk, Option, None, Some, false, is_some, slice_get, true, vec_capacity, vec_len};
+ghost use Rattle.fam_base.specs.Image.{Image};
+ghost use Rattle.fam_commands.specs.FirstStore.{IsFirstStore};
 ghost use Rattle.fam_commands.specs.Task as spec;
 ghost use Rattle.fam_commands.specs.Task.{op_of};
 ghost use Rattle.fam_machine.specs.Cuts.{HasFailed};
@@ -13,7 +15,8 @@ ghost use Rattle.fam_tasks.specs.Sound.{IsSound};
 ghost use Rattle.fam_tasks.specs.declared.answer.Turn.TheVariants.{Go};
 ghost use Rattle.fam_run.specs.Held.{HeldRun};
 ghost use Rattle.fam_run.specs.Looked.{IfDone};
-ghost use Rattle.fam_run.specs.Operation.{GoesOn, HasTurned, KeepsLines};
+ghost use Rattle.fam_run.specs.Operation.{GoesOn, HasTurned, KeepsLines, ended};
+ghost use Rattle.fam_run.specs.Places.{HasPlaces};
 ghost use Rattle.fam_journal.specs.ByWorld.{number_in};
 ghost use Rattle.fam_journal.specs.Calls.{Finishes};
 ghost use Rattle.fam_journal.specs.CallRecords.{FinishOutOfMemory, FitsMedia, MediaCall, StepCall, TaskFits, heading};
@@ -21,13 +24,15 @@ ghost use Rattle.fam_journal.specs.Notes.{Answered, MediaFault};
 ghost use Rattle.fam_journal.specs.View.{HostView};
 ghost use Rattle.fam_world.specs.Finishes.{SoFar};
 ghost use Rattle.fam_world.specs.Answers.{IfAnswered, IfStepped, is_over};
+ghost use Rattle.fam_world.specs.Places.{AreUnstored, IfPlaced, IsSafe, LacksPlaces, ReadyKeepsPlaces, TaskHasPlaces};
 ghost use Rattle.fam_world.specs.Steps.{IsStep};
 ghost use Rattle.fam_world.specs.Turns.{is_done, kept_by, task_note, turn_notes};
+ghost use Rattle.fam_world.specs.Whole.{IsLedStep};
 ghost use Rattle.fam_world.specs.View.{host_view, note_view, notes_view, views, world_view};
 
 use crate::fault::{Moved, WorldFault};
 use crate::find::running;
-use crate::hosts::{Host, MOST_HOSTS};
+use crate::hosts::{Host, MOST_HOSTS, retire};
 use crate::notes::{add, make_room, refused};
 use crate::whole::whole_host;
 use fam_base::{HostName, LineNo, OutOfMemory};
@@ -36,7 +41,7 @@ use fam_journal::HostId;
 use fam_media::Media;
 use fam_notes::Note;
 use fam_run::{Looked, look_next, operate, operate_held, read_next};
-use fam_tasks::{Answer, Task, TaskNote, Turn};
+use fam_tasks::{Answer, Replica, Task, TaskNote, Turn};
 
 /// A note of a host's task.
 fn note_of(host: HostId, note: TaskNote) -> Note
@@ -53,6 +58,7 @@ fn note_of(host: HostId, note: TaskNote) -> Note
 pub(crate) fn say(
     journal: &mut Vec<Note>,
     task: &mut Option<Task>,
+    replica: &mut Option<Replica>,
     host: HostId,
     turn: Turn,
 ) -> Moved
@@ -60,6 +66,7 @@ pub(crate) fn say(
     ensures notes { notes_view journal.new.items ≡ notes_view journal.old.items ++ turn_notes host.0 turn }
     ensures task { task.new ≡ kept_by turn task.old }
     ensures over { is_over result ≡ is_done turn }
+    ensures quiet { turn ≡ Go → journal.new ≡ journal.old }
 {
     match turn {
         Turn::Go => Moved::Going,
@@ -68,7 +75,7 @@ pub(crate) fn say(
             Moved::Going
         }
         Turn::Done(answer) => {
-            *task = None;
+            retire(task, replica);
             add(journal, Note::Answered { host, answer });
             Moved::Answered
         }
@@ -80,6 +87,7 @@ pub(crate) fn say(
 pub(crate) fn end_at_fault(
     journal: &mut Vec<Note>,
     task: &mut Option<Task>,
+    replica: &mut Option<Replica>,
     host: HostId,
     line: LineNo,
 )
@@ -88,7 +96,7 @@ pub(crate) fn end_at_fault(
         ≡ notes_view journal.old.items ++ Answered host.0 (MediaFault line.0) ∷ [] }
     ensures task { task.new ≡ None }
 {
-    *task = None;
+    retire(task, replica);
     add(
         journal,
         Note::Answered {
@@ -131,6 +139,8 @@ fn read_on<M: Media>(
     ensures other_task { IfOk result (λ reads. reads ≡ false → task.new ≡ task.old) }
     ensures undone { IsErrOf result OperationFault.OutOfMemory → media.new ≡ media.old }
     ensures unchanged { IsErrOf result OperationFault.OutOfMemory → cache.new ≡ cache.old }
+    ensures places { IfOk result (λ reads. reads ≡ true → ReadyKeepsPlaces task.old cache.old task.new cache.new) }
+    ensures enough { IsErrOf result OperationFault.OutOfMemory → LacksPlaces task.old cache.old }
     ensures steady { IsSteady M.size M.faults media.old media.new }
 {
     match task {
@@ -177,6 +187,8 @@ fn look_on<M: Media>(
     ensures other_task { IfOk result (λ looked. looked ≡ Looked.Other → task.new ≡ task.old) }
     ensures undone { IsErrOf result OperationFault.OutOfMemory → media.new ≡ media.old }
     ensures unchanged { IsErrOf result OperationFault.OutOfMemory → cache.new ≡ cache.old }
+    ensures places { IfOk result (λ looked. IfDone looked (λ _. LacksPlaces task.old cache.old)) }
+    ensures enough { IsErrOf result OperationFault.OutOfMemory → LacksPlaces task.old cache.old }
     ensures steady { IsSteady M.size M.faults media.old media.new }
 {
     match task {
@@ -217,6 +229,10 @@ fn operate_on<M: Media>(
     ensures rose { IfErr result (λ fault. IfMediaFault fault (λ line. Rose (M.faults media.old) (M.faults media.new))) }
     ensures undone { IsErrOf result OperationFault.OutOfMemory → media.new ≡ media.old }
     ensures unchanged { IsErrOf result OperationFault.OutOfMemory → cache.new ≡ cache.old }
+    ensures places { IfOk result (λ turn. ended turn ≡ None
+        → ReadyKeepsPlaces task.old cache.old task.new cache.new) }
+    ensures quiet { IfOk result (λ turn. ended turn ≡ None → IfPlaced task.old cache.old (turn ≡ Go)) }
+    ensures enough { IsErrOf result OperationFault.OutOfMemory → LacksPlaces task.old cache.old }
     ensures steady { IsSteady M.size M.faults media.old media.new }
 {
     match task {
@@ -260,11 +276,28 @@ fn turn_host<M: Media>(
     ensures undone { OnErr result (media.new ≡ media.old) }
     ensures host { OnErr result (host.new ≡ host.old) }
     ensures journal { OnErr result (journal.new.items ≡ journal.old.items) }
+    ensures places { IfOk result (λ moved. is_over moved ≡ false
+        → ReadyKeepsPlaces host.old.task host.old.cache host.new.task host.new.cache) }
+    ensures quiet { IfOk result (λ moved. is_over moved ≡ false
+        → IfPlaced host.old.task host.old.cache (journal.new ≡ journal.old)) }
+    ensures enough { OnErr result (LacksPlaces host.old.task host.old.cache) }
 {
     match operate_on(&mut host.cache, &mut host.task, media) {
-        Ok(turn) => Ok(say(journal, &mut host.task, HostId(at as u32), turn)),
+        Ok(turn) => Ok(say(
+            journal,
+            &mut host.task,
+            &mut host.replica,
+            HostId(at as u32),
+            turn,
+        )),
         Err(OperationFault::MediaFault(line)) => {
-            end_at_fault(journal, &mut host.task, HostId(at as u32), line);
+            end_at_fault(
+                journal,
+                &mut host.task,
+                &mut host.replica,
+                HostId(at as u32),
+                line,
+            );
             Ok(Moved::Answered)
         }
         Err(OperationFault::OutOfMemory) => Err(OutOfMemory),
@@ -301,18 +334,30 @@ fn look_host<M: Media>(
     ensures undone { OnErr result (media.new ≡ media.old) }
     ensures host { OnErr result (host.new ≡ host.old) }
     ensures journal { OnErr result (journal.new.items ≡ journal.old.items) }
+    ensures places { IfOk result (λ moved. is_over moved ≡ false
+        → ReadyKeepsPlaces host.old.task host.old.cache host.new.task host.new.cache) }
+    ensures quiet { IfOk result (λ moved. is_over moved ≡ false
+        → IfPlaced host.old.task host.old.cache (journal.new ≡ journal.old)) }
+    ensures enough { OnErr result (LacksPlaces host.old.task host.old.cache) }
 {
     match look_on(&mut host.cache, &mut host.task, media) {
         Ok(Looked::Going) => Ok(Moved::Going),
         Ok(Looked::Ended(ending)) => Ok(say(
             journal,
             &mut host.task,
+            &mut host.replica,
             HostId(at as u32),
             Turn::Done(ending.answer()),
         )),
         Ok(Looked::Other) => turn_host(host, journal, media, at),
         Err(OperationFault::MediaFault(line)) => {
-            end_at_fault(journal, &mut host.task, HostId(at as u32), line);
+            end_at_fault(
+                journal,
+                &mut host.task,
+                &mut host.replica,
+                HostId(at as u32),
+                line,
+            );
             Ok(Moved::Answered)
         }
         Err(OperationFault::OutOfMemory) => Err(OutOfMemory),
@@ -349,12 +394,23 @@ pub(crate) fn step_host<M: Media>(
     ensures undone { OnErr result (media.new ≡ media.old) }
     ensures host { OnErr result (host.new ≡ host.old) }
     ensures journal { OnErr result (journal.new.items ≡ journal.old.items) }
+    ensures places { IfOk result (λ moved. is_over moved ≡ false
+        → ReadyKeepsPlaces host.old.task host.old.cache host.new.task host.new.cache) }
+    ensures quiet { IfOk result (λ moved. is_over moved ≡ false
+        → IfPlaced host.old.task host.old.cache (journal.new ≡ journal.old)) }
+    ensures enough { OnErr result (LacksPlaces host.old.task host.old.cache) }
 {
     match read_on(&mut host.cache, &mut host.task, media) {
         Ok(true) => Ok(Moved::Going),
         Ok(false) => look_host(host, journal, media, at),
         Err(OperationFault::MediaFault(line)) => {
-            end_at_fault(journal, &mut host.task, HostId(at as u32), line);
+            end_at_fault(
+                journal,
+                &mut host.task,
+                &mut host.replica,
+                HostId(at as u32),
+                line,
+            );
             Ok(Moved::Answered)
         }
         Err(OperationFault::OutOfMemory) => Err(OutOfMemory),
@@ -399,6 +455,8 @@ fn held_by(cache: &mut HostCache, task: &mut Option<Task>)
     ensures held { IfSome task.old (λ t. IfSome task.new (λ next.
         HeldRun t cache.old.lines next cache.new.lines)) }
     ensures sound_on { IfSome task.new IsSound }
+    ensures safe { (told now : Option Image) (notes room : ℕ) → IsSafe told now task.old cache.old notes room
+        → IsSafe told now task.new cache.new notes room }
 {
     match task {
         Some(task) => {
@@ -417,11 +475,79 @@ fn held_on(host: &mut Host)
         HeldRun t host.old.cache.lines next host.new.cache.lines)) }
     ensures heading { heading (host_view host.new) ≡ heading (host_view host.old) }
     ensures sound_on { IfSome host.new.task IsSound }
+    ensures safe { (told now : Option Image) (notes room : ℕ)
+        → IsSafe told now host.old.task host.old.cache notes room
+        → IsSafe told now host.new.task host.new.cache notes room }
 {
     held_by(&mut host.cache, &mut host.task);
 }
 
-/// Does operations of a host's task up to its answer. Where no memory was found those before stand.
+/// The places that the lines of an append want of its host's cache: one for the line of its file at hand, eight for its
+/// slot, and one for the gate.
+const APPEND_PLACES: u64 = 10;
+
+/// Makes places in a host's cache for all lines of an append, where its first store comes next.
+fn make_places(cache: &mut HostCache, task: &Option<Task>) -> Result<(), OutOfMemory>
+    ensures lines { cache.new.lines ≡ cache.old.lines }
+    ensures err { OnErr result (cache.new ≡ cache.old) }
+    ensures enough { OnErr result (LacksPlaces task.now cache.old) }
+    ensures ready { OnOk result (IfSome task.now (λ t. IsFirstStore t ⊎ HasPlaces t cache.old
+        → HasPlaces t cache.new)) }
+{
+    match task {
+        Some(task) => {
+            if task.stores_first() {
+                cache.reserve(APPEND_PLACES)
+            } else {
+                Ok(())
+            }
+        }
+        None => Ok(()),
+    }
+}
+
+/// As `whole_host`, with places for all lines of an append before its first store.
+fn go_on<M: Media>(
+    host: &mut Host,
+    journal: &mut Vec<Note>,
+    media: &mut M,
+    at: usize,
+) -> Result<Moved, OutOfMemory>
+    requires runs { is_some host.old.task ≡ true }
+    requires fits { TaskFits (M.size media.old) host.old.task }
+    requires few { at < MOST_HOSTS }
+    requires room { vec_len journal.old < vec_capacity journal.old }
+
+    ensures step { IfOk result (λ moved. (t : spec.Task) → host.old.task ≡ Some t → IsLedStep at t (record {
+      old = host_view host.old;
+      new = host_view host.new;
+      before = notes_view journal.old.items;
+      after = notes_view journal.new.items;
+      told = M.image media.old;
+      now = M.image media.new;
+      size = M.size media.old;
+      faults = M.faults media.old;
+      faults_now = M.faults media.new;
+    }) (is_over moved)) }
+    ensures sound_on { OnOk result (IfSome host.new.task IsSound) }
+    ensures size { M.size media.new ≡ M.size media.old }
+    ensures undone { OnErr result (media.new ≡ media.old) }
+    ensures view { OnErr result (host_view host.new ≡ host_view host.old) }
+    ensures journal { OnErr result (journal.new.items ≡ journal.old.items) }
+
+    // From its first store on an append has its places, and finds memory.
+    ensures places { IfOk result (λ moved. is_over moved ≡ false → IfSome host.old.task (λ t.
+        IsFirstStore t ⊎ HasPlaces t host.old.cache → TaskHasPlaces host.new.task host.new.cache)) }
+    ensures quiet { IfOk result (λ moved. is_over moved ≡ false → IfSome host.old.task (λ t.
+        IsFirstStore t ⊎ HasPlaces t host.old.cache → journal.new ≡ journal.old)) }
+    ensures enough { OnErr result (LacksPlaces host.old.task host.old.cache) }
+{
+    make_places(&mut host.cache, &host.task)?;
+    whole_host(host, journal, media, at)
+}
+
+/// Does operations of a host's task up to its answer. Where no memory was found those before stand; but where
+/// nothing of the task was stored at first, and its host's cache had nothing to send, memory is as it was then.
 fn finish_at<M: Media>(
     hosts: &mut Vec<Host>,
     journal: &mut Vec<Note>,
@@ -441,12 +567,14 @@ fn finish_at<M: Media>(
         (world_view hosts.new.items journal.new.items) (M.image media.new) (M.faults media.new) }
     ensures over { OnOk result ((view : HostView) → slice_get (views hosts.new.items) at ≡ Some view
         → view.task ≡ None) }
+    ensures same { OnErr result (AreUnstored at hosts.old.items
+        → IfModelled (M.image media.old) (λ image. M.image media.new ≡ Some image)) }
     ensures size { M.size media.new ≡ M.size media.old }
     ensures len { vec_len hosts.new ≡ vec_len hosts.old }
 {
     'operations: loop {
         make_room(journal)?;
-        match whole_host(&mut hosts[at], journal, media, at)? {
+        match go_on(&mut hosts[at], journal, media, at)? {
             Moved::Going => held_on(&mut hosts[at]),
             Moved::Answered => return Ok(()),
         }

@@ -1,7 +1,7 @@
 //! Operations of a host's task on the lines of a slot, or on a line of a file, as a whole: of a long log and of a large
 //! file nearly all are such.
 
-ghost use Rattle.std.specs.Prelude.{◌≡◌, ◌++◌, ◌<◌, IfErr, IfOk, IfSome, IsErrOf, OnErr, Some, is_some, true, vec_capacity, vec_len};
+ghost use Rattle.std.specs.Prelude.{◌≡◌, ◌++◌, ◌<◌, IfErr, IfOk, IfSome, IsErrOf, OnErr, None, Some, false, is_some, true, vec_capacity, vec_len};
 ghost use Rattle.fam_commands.specs.Task as spec;
 ghost use Rattle.fam_media.specs.Causes.{IsSteady};
 ghost use Rattle.fam_cache.specs.Faults.{IfMediaFault};
@@ -9,10 +9,13 @@ ghost use Rattle.fam_tasks.specs.Sound.{IsSound};
 ghost use Rattle.fam_tasks.specs.Tells.{answer_by};
 ghost use Rattle.fam_tasks.specs.declared.answer.Turn.TheVariants.{Done};
 ghost use Rattle.fam_run.specs.Led.{HasBrokenOff, HasDone};
+ghost use Rattle.fam_run.specs.Operation.{ended};
+ghost use Rattle.fam_run.specs.Places.{IsReady};
 ghost use Rattle.fam_run.specs.Step.{around};
 ghost use Rattle.fam_run.specs.Whole.{IfWhole};
 ghost use Rattle.fam_journal.specs.CallRecords.{TaskFits};
 ghost use Rattle.fam_world.specs.Answers.{is_over};
+ghost use Rattle.fam_world.specs.Places.{IfPlaced, KeepsTaskPlaces, LacksPlaces};
 ghost use Rattle.fam_world.specs.Turns.{is_done, kept_by, turn_notes};
 ghost use Rattle.fam_world.specs.View.{host_view, notes_view};
 ghost use Rattle.fam_world.specs.Whole.{IsLedStep};
@@ -26,7 +29,7 @@ use fam_journal::HostId;
 use fam_media::Media;
 use fam_notes::Note;
 use fam_run::{WholeLine, whole_next};
-use fam_tasks::{Task, Turn, Verified};
+use fam_tasks::{Replica, Task, Turn, Verified};
 
 /// Does the operations on the lines of a slot or on a line of a file as a whole, of the task that a host runs, which there
 /// is, if they come next.
@@ -52,6 +55,10 @@ fn whole_on<M: Media>(
     ensures undone { IsErrOf result OperationFault.OutOfMemory → media.new ≡ media.old }
     ensures unchanged { IsErrOf result OperationFault.OutOfMemory → cache.new ≡ cache.old }
     ensures unmoved { IsErrOf result OperationFault.OutOfMemory → task.new ≡ task.old }
+    ensures places { IfOk result (λ whole. IfWhole whole (λ turn. ended turn ≡ None
+        → KeepsTaskPlaces task.old cache.old task.new cache.new)) }
+    ensures ready { IfOk result (λ whole. whole ≡ WholeLine.Other → IfSome task.old (λ t. IsReady t cache.old)) }
+    ensures enough { IsErrOf result OperationFault.OutOfMemory → LacksPlaces task.old cache.old }
     ensures steady { IsSteady M.size M.faults media.old media.new }
 {
     match task {
@@ -71,6 +78,7 @@ fn whole_on<M: Media>(
 fn end_compared(
     journal: &mut Vec<Note>,
     task: &mut Option<Task>,
+    replica: &mut Option<Replica>,
     host: HostId,
     ended: Verified,
 ) -> Moved
@@ -80,7 +88,7 @@ fn end_compared(
     ensures task { task.new ≡ kept_by (Done (answer_by ended)) task.old }
     ensures over { is_over result ≡ is_done (Done (answer_by ended)) }
 {
-    say(journal, task, host, Turn::Done(ended.answer()))
+    say(journal, task, replica, host, Turn::Done(ended.answer()))
 }
 
 /// As `step_host`, and does the operations on the lines of a slot or on a line of a file as one.
@@ -112,18 +120,30 @@ pub(crate) fn whole_host<M: Media>(
     ensures undone { OnErr result (media.new ≡ media.old) }
     ensures host { OnErr result (host.new ≡ host.old) }
     ensures journal { OnErr result (journal.new.items ≡ journal.old.items) }
+    ensures places { IfOk result (λ moved. is_over moved ≡ false
+        → KeepsTaskPlaces host.old.task host.old.cache host.new.task host.new.cache) }
+    ensures quiet { IfOk result (λ moved. is_over moved ≡ false
+        → IfPlaced host.old.task host.old.cache (journal.new ≡ journal.old)) }
+    ensures enough { OnErr result (LacksPlaces host.old.task host.old.cache) }
 {
     match whole_on(&mut host.cache, &mut host.task, media) {
         Ok(WholeLine::Going) => Ok(Moved::Going),
         Ok(WholeLine::Ended(ended)) => Ok(end_compared(
             journal,
             &mut host.task,
+            &mut host.replica,
             HostId(at as u32),
             ended,
         )),
         Ok(WholeLine::Other) => step_host(host, journal, media, at),
         Err(OperationFault::MediaFault(line)) => {
-            end_at_fault(journal, &mut host.task, HostId(at as u32), line);
+            end_at_fault(
+                journal,
+                &mut host.task,
+                &mut host.replica,
+                HostId(at as u32),
+                line,
+            );
             Ok(Moved::Answered)
         }
         Err(OperationFault::OutOfMemory) => Err(OutOfMemory),

@@ -1,43 +1,16 @@
-//! The operations with which a task begins to load a line: its drop, and the load of its first word.
+//! The operation with which a task begins to load a line that it has dropped: the load of its first word.
 
-ghost use Rattle.std.specs.Prelude.{◌≡◌, IfSome, None, Some};
-ghost use Rattle.fam_commands.specs.Turns.{Goes, turn_of};
+ghost use Rattle.std.specs.Prelude.{IfSome, Some};
+ghost use Rattle.fam_commands.specs.Turns.{turn_of};
 ghost use Rattle.fam_tasks.specs.declared.answer.Turn.TheVariants.{Go};
-ghost use Rattle.fam_tasks.specs.Begins.{IsDrop, IsFirst};
+ghost use Rattle.fam_tasks.specs.Begins.{IsFirst};
 ghost use Rattle.fam_tasks.specs.Tells.{Tells};
 
 use super::Task;
 use fam_base::LineNo;
-use fam_commands::{Part, Phase};
+use fam_commands::Phase;
 
 impl Task {
-    /// The line of a slot that the task drops next, before its words are loaded, if it does.
-    #[inline(always)]
-    pub fn dropped(&self) -> Option<LineNo>
-        ensures { IfSome result (λ line. IsDrop line self.now) }
-    {
-        match self.phase {
-            Phase::Drop {
-                part: Part::Slot(slot),
-                line,
-            } => Some(self.part_line(Part::Slot(slot), line)),
-            _ => None,
-        }
-    }
-
-    /// The line that is dropped next was dropped.
-    #[inline(always)]
-    pub fn begin_dropped(&mut self, line: LineNo)
-        requires { IsDrop line self.old }
-        ensures { turn_of self.old None ≡ Goes self.new }
-    {
-        let _ = line;
-        match self.phase {
-            Phase::Drop { part, line } => self.begin_line(part, line),
-            _ => unreachable!(),
-        }
-    }
-
     /// The line of which the task loads the first word next, if it does.
     #[inline(always)]
     pub fn first_loaded(&self) -> Option<LineNo>

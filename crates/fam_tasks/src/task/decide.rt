@@ -141,7 +141,7 @@ impl Task {
         };
         let answer = Answer::Checked {
             m: count(&self.plan),
-            checked: checked(self.alloc, &self.plan, listing.as_slice()),
+            checked: checked(self.alloc, &mut self.plan, listing.as_slice()),
         };
         done(&mut self.phase, answer)
     }
@@ -166,7 +166,14 @@ impl Task {
         ensures want { OnErr result (WantsMemory self.old.entries
             (turns.wish_turn self.old (wish_of self.old.cmd))) }
     {
-        match decided(self.alloc, &mut self.plan, &self.params, &self.cmd, self.me)? {
+        match decided(
+            self.alloc,
+            &mut self.kept,
+            &mut self.plan,
+            &self.params,
+            &self.cmd,
+            self.me,
+        )? {
             Ok(entry) => self.write(&entry),
             Err(refused) => Ok(done(&mut self.phase, refusal_answer(refused))),
         }
@@ -201,7 +208,7 @@ impl Task {
             unreachable!();
         };
         let m = count(&self.plan);
-        match file_found(found_at(&self.plan, path), m) {
+        match file_found(found_at(&mut self.plan, path), m) {
             Err(answer) => Ok(done(&mut self.phase, answer)),
             Ok(entry) => match other_length(against, entry.size) {
                 None => self.verify_file(&entry),
@@ -252,7 +259,7 @@ impl Task {
             unreachable!();
         };
         let m = count(&self.plan);
-        match file_found(found_at(&self.plan, path), m) {
+        match file_found(found_at(&mut self.plan, path), m) {
             Err(answer) => Ok(done(&mut self.phase, answer)),
             Ok(entry) => self.read_file(&entry),
         }

@@ -1,6 +1,6 @@
 //! Turns of a task that looks at the words of a slot.
 
-ghost use Rattle.std.specs.Prelude.{◌≡◌, ◌≢◌, None, IfOk, OnErr, false, true};
+ghost use Rattle.std.specs.Prelude.{◌≡◌, ◌≢◌, None, Ok, IfOk, OnErr, false, true};
 ghost use Rattle.fam_base.specs.declared.line.LineNo.{LineNo};
 ghost use Rattle.fam_format.specs.Slot.{entry_of, Proper};
 ghost use Rattle.fam_format.specs.Tree.{join_fault};
@@ -16,7 +16,7 @@ use super::{Task, slot_or_decide};
 use crate::answer::{Answer, Turn};
 use crate::commands::is_fsck;
 use crate::parts::read_slot;
-use crate::slots::{join, show};
+use crate::slots::{find, join, show};
 use fam_base::{Entry, OutOfMemory};
 use fam_format::Reason;
 
@@ -46,10 +46,29 @@ impl Task {
         ensures want { OnErr result (WantsMemory self.old.entries (turn_of self.old None)) }
     {
         if is_fsck(&self.cmd) {
-            self.show_slot(slot)
-        } else {
-            self.read_entry(slot)
+            return self.show_slot(slot);
         }
+        if self.find_entry(slot) {
+            return Ok(None);
+        }
+        self.read_entry(slot)
+    }
+
+    /// Goes on behind a slot whose words are those that are kept of it. Of others nothing is done, and the answer is that.
+    fn find_entry(&mut self, slot: u64) -> bool
+        requires phase { self.old.phase ≡ at.Check slot }
+        requires other { is_fsck self.old.cmd ≡ false }
+        ensures found { result ≡ true → Tells (turns.slot_turn self.old slot
+            (entry_of self.old.params self.old.words slot)) (slot_turn_by slot None) self.new }
+        ensures other { result ≡ false → self.new ≡ self.old }
+    {
+        let words = self.buffer.slot();
+        if !find(&mut self.kept, &mut self.plan, &self.params, words) {
+            return false;
+        }
+        self.buffer.clear();
+        self.phase = slot_or_decide(slot + 1, self.gate);
+        true
     }
 
     /// Reads the entry of a slot.
@@ -73,13 +92,22 @@ impl Task {
         requires phase { self.old.phase ≡ at.Check slot }
         requires other { is_fsck self.old.cmd ≡ false }
         requires proper { Proper self.old.params entry.now }
+        requires read { entry_of self.old.params self.old.words slot ≡ Ok entry.now }
         ensures turn { IfOk result (λ reason. Tells (turns.join_turn self.old slot entry.now
             (join_fault self.old.params self.old.entries entry.now)) (slot_turn_by slot reason) self.new) }
         ensures err { OnErr result (self.new ≡ self.old) }
         ensures want { OnErr result (WantsMemory self.old.entries (turns.join_turn self.old slot entry.now
             (join_fault self.old.params self.old.entries entry.now))) }
     {
-        match join(self.alloc, &mut self.plan, &self.params, entry)? {
+        let words = self.buffer.slot();
+        match join(
+            self.alloc,
+            &mut self.kept,
+            &mut self.plan,
+            &self.params,
+            words,
+            entry,
+        )? {
             Some(reason) => Ok(Some(reason)),
             None => {
                 self.buffer.clear();

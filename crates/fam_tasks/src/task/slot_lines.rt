@@ -1,58 +1,98 @@
-//! A line of a slot, whose words are all taken at once: of a long log nearly all operations are loads of such words.
+//! A line of a slot, which is dropped and whose words are all taken at once: of a long log nearly all operations are such.
 
-ghost use Rattle.std.specs.Prelude.{◌≡◌, ◌+◌, ◌++◌, nat_lt, if◌then◌else◌, IfSome};
+ghost use Rattle.std.specs.Prelude.{◌≡◌, ◌+◌, ◌<◌, ◌++◌, nat_lt, if◌then◌else◌, IfSome};
 ghost use Rattle.fam_base.specs.Image.{eight};
 ghost use Rattle.fam_format.specs.Layout.{geometry};
 ghost use Rattle.fam_commands.specs.declared.phase.Part.TheVariants as part;
 ghost use Rattle.fam_commands.specs.declared.phase.Phase.TheVariants as at;
+ghost use Rattle.fam_tasks.specs.Rest.{DropsLine};
 ghost use Rattle.fam_tasks.specs.SlotLines.{IsSlotLine, LoadsSlotLine};
 
 use super::{LAST_LINE, Task};
 use crate::parts::line_of_slot;
 use fam_base::{Line, LineNo};
 use fam_commands::{Part, Phase};
+use fam_format::SLOT_LINES;
+
+/// Which line of which slot a task drops next, before it loads the line's words.
+#[derive(Clone, Copy)]
+pub struct SlotDue {
+    pub slot: u64,
+    /// Counted from 0 in the slot.
+    pub line: u64,
+}
+
+/// Moves from a line that is dropped next to the one behind it.
+#[inline(always)]
+fn move_on(phase: &mut Phase, part: Part, number: u64)
+    requires phase { phase.old ≡ at.Drop part number }
+    requires below { number < LAST_LINE }
+    ensures { phase.new ≡ at.Drop part (number + 1) }
+{
+    let _ = part;
+    match phase {
+        Phase::Drop { line, .. } => *line = number + 1,
+        _ => unreachable!(),
+    }
+}
 
 impl Task {
-    /// The line of a slot of which the task loads word 0 next, if it does.
+    /// The line of a slot that the task drops next, before it loads its words, if it does.
     #[inline(always)]
-    pub fn slot_line(&self) -> Option<LineNo>
-        ensures { IfSome result (λ line. IsSlotLine line self.now) }
+    pub fn slot_due(&self) -> Option<SlotDue>
+        ensures due { IfSome result (λ due. self.now.phase ≡ at.Drop (part.Slot due.slot) due.line) }
+        ensures within { IfSome result (λ due. due.line < SLOT_LINES) }
     {
+        self.is_sound();
         match self.phase {
-            Phase::Word {
+            Phase::Drop {
                 part: Part::Slot(slot),
                 line,
-                word: 0,
-            } => Some(self.part_line(Part::Slot(slot), line)),
+            } => Some(SlotDue { slot, line }),
             _ => None,
         }
     }
 
-    /// All words of the line of which word 0 is loaded next were loaded, and these are they.
+    /// The number of that line in the image.
     #[inline(always)]
-    pub fn take_slot_line(&mut self, line: LineNo, words: &Line)
+    pub fn line_of_slot_due(&self, due: SlotDue) -> LineNo
+        requires due { self.now.phase ≡ at.Drop (part.Slot due.slot) due.line }
+        ensures { IsSlotLine result self.now }
+    {
+        self.is_sound();
+        self.part_line(Part::Slot(due.slot), due.line)
+    }
+
+    /// The line that is dropped next was dropped: its first word is loaded next.
+    pub fn drop_line_of_slot(&mut self, line: LineNo)
         requires { IsSlotLine line self.old }
-        ensures { LoadsSlotLine line (eight words.now) self.old self.new }
+        ensures { DropsLine line self.old self.new }
     {
         let _ = line;
         self.is_sound();
         match self.phase {
-            Phase::Word {
-                part,
-                line: number,
-                ..
-            } => match part {
-                Part::Slot(slot) => self.load_slot_line(slot, number, words),
-                _ => unreachable!(),
-            },
+            Phase::Drop { part, line: number } => self.begin_line(part, number),
             _ => unreachable!(),
         }
     }
 
+    /// The line that is dropped next was dropped, and all its words were loaded, which are these.
+    #[inline(always)]
+    pub fn load_line_of_slot(&mut self, due: SlotDue, line: LineNo, words: &Line)
+        requires due { self.old.phase ≡ at.Drop (part.Slot due.slot) due.line }
+        requires line { IsSlotLine line self.old }
+        ensures loads { LoadsSlotLine line (eight words.now) self.old self.new }
+        ensures next { due.line + 1 < SLOT_LINES → self.new.phase ≡ at.Drop (part.Slot due.slot) (due.line + 1) }
+    {
+        let _ = line;
+        self.is_sound();
+        self.take_line_of_slot(due.slot, due.line, words);
+    }
+
     /// All words of a line of a slot were loaded.
     #[inline(always)]
-    fn load_slot_line(&mut self, slot: u64, number: u64, words: &Line)
-        requires { self.old.phase ≡ at.Word (part.Slot slot) number 0 }
+    fn take_line_of_slot(&mut self, slot: u64, number: u64, words: &Line)
+        requires { self.old.phase ≡ at.Drop (part.Slot slot) number }
         ensures { self.new ≡ record self.old {
           words = self.old.words ++ eight words.now;
           phase = if nat_lt (number + 1) (geometry self.old.params).lines then at.Drop (part.Slot slot) (number + 1)
@@ -60,13 +100,10 @@ impl Task {
         } }
     {
         self.buffer.push_line(words);
-        self.phase = if number < LAST_LINE {
-            Phase::Drop {
-                part: Part::Slot(slot),
-                line: number + 1,
-            }
+        if number < LAST_LINE {
+            move_on(&mut self.phase, Part::Slot(slot), number);
         } else {
-            Phase::Check { slot }
-        };
+            self.phase = Phase::Check { slot };
+        }
     }
 }

@@ -1,7 +1,8 @@
 //! Turns of a task that appends: the words of the new file and of its slot are stored, and their lines are sent.
 
-ghost use Rattle.std.specs.Prelude.{◌≡◌, None};
+ghost use Rattle.std.specs.Prelude.{◌≡◌, ◌<◌, IfSome, None, false, is_some, true};
 ghost use Rattle.fam_commands.specs.declared.phase.Phase.TheVariants as at;
+ghost use Rattle.fam_commands.specs.FirstStore.{IsFirstStore};
 ghost use Rattle.fam_commands.specs.Task.{op_of};
 ghost use Rattle.fam_commands.specs.Turns.{turn_of};
 ghost use Rattle.fam_machine.specs.Operations.{IsWithin};
@@ -17,6 +18,32 @@ use fam_format::{LAST_WORD, LINE_WORDS};
 use fam_machine::Op;
 
 impl Task {
+    /// Whether the first store of an append comes next.
+    #[inline(always)]
+    pub fn stores_first(&self) -> bool
+        ensures first { result ≡ true → IsFirstStore self.now }
+        ensures other { result ≡ false → ¬ (IsFirstStore self.now) }
+    {
+        self.is_sound();
+        match self.phase {
+            Phase::StoreData { line: 0, word: 0 } => true,
+            Phase::StoreSlot { line: 0, word: 0 } => self.is_bare(),
+            _ => false,
+        }
+    }
+
+    /// Whether there is an entry, and its file has no bytes.
+    fn is_bare(&self) -> bool
+        ensures bare { result ≡ true → IfSome self.now.entry (λ e. e.size ≡ 0) }
+        ensures some { result ≡ true → is_some self.now.entry ≡ true }
+        ensures other { result ≡ false → IfSome self.now.entry (λ e. 0 < e.size) }
+    {
+        match &self.entry {
+            Some(entry) => entry.size == 0,
+            None => false,
+        }
+    }
+
     /// The store of a word of a line of the new file.
     pub(super) fn data_store(&self, line: u64, word: u8) -> Op
         requires { self.now.phase ≡ at.StoreData line word }

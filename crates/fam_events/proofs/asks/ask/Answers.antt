@@ -9,6 +9,7 @@ use Rattle.fam_events.specs.Around.{Around, asking}
 use Rattle.fam_events.specs.Begins.{AskUndone}
 use Rattle.fam_events.specs.declared.asks.Asked.TheVariants.{Refused}
 use Rattle.fam_events.proofs.Asking.{asked_as, may_not, undone}
+use Rattle.fam_events.proofs.Resting.{not_begun}
 use Rattle.fam_events.proofs.asks.ask.Goals as goal
 
 pub returns-in-Err-clause-says : goal.returns-in-Err-clause-says
@@ -19,3 +20,6 @@ returns-in-Err-clause-says g c = λ told faults modelled fits.
     (λ w. may_not c.args.name.now c.args.what c.args.lines c.args.world.now c.requires.formed fits told modelled faults (g.S.Shelf.files c.args.shelf.now) c.args.copied.now c.refuse.new.world c.in-Err.cause (sym (c.may_begin.ensures.first Logplay) ∙ ap refusal_told c.in-Err.is) w)
     (λ same. subst (λ (w : WorldView). AskUndone (asking c.args.lines c.args.world.now w told faults (g.S.Shelf.files c.args.shelf.now) c.args.copied.now c.args.copied.now)) (sym same)
     (undone c.args.name.now c.args.what c.args.lines c.args.world.now c.requires.formed fits told modelled faults (g.S.Shelf.files c.args.shelf.now) c.args.copied.now c.args.copied.now))
+
+pub returns-in-Err-clause-unstored : goal.returns-in-Err-clause-unstored
+returns-in-Err-clause-unstored g c = not_begun c.refuse.result _ c.refuse.ensures.refused

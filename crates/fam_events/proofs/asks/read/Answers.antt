@@ -8,6 +8,7 @@ use Rattle.fam_events.specs.Around.{Around, asking}
 use Rattle.fam_events.specs.Begins.{AskUndone}
 use Rattle.fam_events.specs.declared.asks.Asked.TheVariants.{Begun, Refused}
 use Rattle.fam_events.proofs.Asking.{asked_as, begun, ended, ready_of, undone, unfit, unfit_of}
+use Rattle.fam_events.proofs.Resting.{begun_so, not_begun}
 use Rattle.fam_events.proofs.asks.read.Goals as goal
 
 pub returns-in_default-clause-says : goal.returns-in_default-clause-says
@@ -41,3 +42,9 @@ returns-in-Ended-clause-says g c = λ told faults modelled fits.
     let shelf : ShelfChange = changed g.S.Shelf.files g.S.Shelf.faults g.S.Shelf.shorts c.args.shelf.now c.resolve.new.shelf in
     let over = subst (λ (z : Sourced). IsSourced shelf c.args.copied.now c.args.what c.in-Ok.resolved.copied z) c.in-Ended.is c.in-Ok.ensures.says in
     ended c.args.name.now c.args.what c.args.lines c.args.world.now c.requires.formed fits told modelled faults (g.S.Shelf.files c.args.shelf.now) c.args.copied.now (c.requires.free Logplay) c.in-Ended.end shelf refl over
+
+pub returns-in-Ready-clause-unstored : goal.returns-in-Ready-clause-unstored
+returns-in-Ready-clause-unstored g c = begun_so c.start.result _ c.start.ensures.unstored
+
+pub returns-in-Unfit-clause-unstored : goal.returns-in-Unfit-clause-unstored
+returns-in-Unfit-clause-unstored g c = not_begun c.refuse.result _ c.refuse.ensures.refused

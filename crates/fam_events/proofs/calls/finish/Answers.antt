@@ -1,8 +1,14 @@
-use Rattle.std.proofs.Common.{refl, subst, sym}
+use Rattle.std.proofs.Common.{◌≡◌, ℕ, Some, Result, refl, subst, sym}
+use Rattle.std.specs.Prelude.{OnErr}
+use Rattle.fam_media.specs.Outside.{IfModelled}
+use Rattle.fam_journal.specs.ByWorld.{number_in}
+use Rattle.fam_journal.specs.CallRecords.{IsUnstoredAt}
 use Rattle.fam_journal.specs.Calls.{Call, Finishes}
 use Rattle.fam_events.specs.Around.{Around, around}
 use Rattle.fam_events.specs.Calls.{CallSays}
+use Rattle.fam_events.specs.declared.fault.EventFault.{EventFault}
 use Rattle.fam_events.proofs.OverMedia.{finish_part, media_says}
+use Rattle.fam_events.proofs.Resting.{outcome_same}
 use Rattle.fam_events.proofs.calls.finish.Goals as goal
 
 pub returns-clause-says : goal.returns-clause-says
@@ -12,3 +18,9 @@ returns-clause-says g c = λ files copied.
     subst (CallSays call a) (sym c.noted.ensures)
     (media_says call a c.requires.formed c.requires.fits refl tt c.finish.result c.finish.ensures.answered
     (λ e. finish_part c.args.name.now a c.requires.formed c.requires.fits refl (c.finish.ensures.want e)))
+
+pub returns-clause-same : goal.returns-clause-same
+returns-clause-same g c =
+    subst (λ (r : Result (Unit {0}) EventFault). OnErr r ((h : ℕ) → number_in c.args.name.now c.args.world.now ≡ Some h → IsUnstoredAt h c.args.world.now
+    → IfModelled (g.M.Media.image c.args.media.now) (λ image. g.M.Media.image c.finish.new.media ≡ Some image))) (sym c.noted.ensures)
+    (outcome_same c.finish.result _ (λ e. (c.finish.ensures.want e).same))

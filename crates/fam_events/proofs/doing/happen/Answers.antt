@@ -6,6 +6,7 @@ use Rattle.fam_machine.specs.HostMoves as how
 use Rattle.fam_sources.specs.Whole.{ShelfChange, changed}
 use Rattle.fam_events.specs.Around.{Around, around}
 use Rattle.fam_events.specs.Happens.{EventSays}
+use Rattle.fam_events.specs.Rested.{IsRun}
 use Rattle.fam_events.proofs.Events.{event_says, evict_call, fetch_call, finish_call, halt_call, host_call, leak_call, mkfs_call, stop_call}
 use Rattle.fam_events.proofs.doing.happen.Goals as goal
 
@@ -71,3 +72,36 @@ returns-in-Fetch-clause-says g c =
     let a : Around = around g.M.Media.image g.M.Media.size g.M.Media.faults c.args.media.now c.fetch.new.media c.args.world.now c.fetch.new.world (g.S.Shelf.files c.args.shelf.now) c.args.copied.now c.args.copied.now in
     subst (λ (e : Event). EventSays e shelf a c.fetch.result) (sym c.in-Fetch.is)
     (event_says (event.Fetch c.in-Fetch.name c.in-Fetch.line c.in-Fetch.mask) (call.Moves c.in-Fetch.name c.in-Fetch.line.0 (how.Fetch c.in-Fetch.mask.0)) shelf a (fetch_call c.in-Fetch.name c.in-Fetch.line c.in-Fetch.mask) refl c.fetch.result (c.fetch.ensures.says (g.S.Shelf.files c.args.shelf.now) c.args.copied.now))
+
+pub returns-in-Host-clause-same : goal.returns-in-Host-clause-same
+returns-in-Host-clause-same g c = λ run. absurd (subst IsRun c.in-Host.is run)
+
+pub returns-in-Mkfs-clause-same : goal.returns-in-Mkfs-clause-same
+returns-in-Mkfs-clause-same g c = λ run. absurd (subst IsRun c.in-Mkfs.is run)
+
+pub returns-in-Begin-clause-same : goal.returns-in-Begin-clause-same
+returns-in-Begin-clause-same g c = λ run. absurd (subst IsRun c.in-Begin.is run)
+
+pub returns-in-Step-clause-same : goal.returns-in-Step-clause-same
+returns-in-Step-clause-same g c = λ run. absurd (subst IsRun c.in-Step.is run)
+
+pub returns-in-Finish-clause-same : goal.returns-in-Finish-clause-same
+returns-in-Finish-clause-same g c = λ run. absurd (subst IsRun c.in-Finish.is run)
+
+pub returns-in-Stop-clause-same : goal.returns-in-Stop-clause-same
+returns-in-Stop-clause-same g c = λ run. absurd (subst IsRun c.in-Stop.is run)
+
+pub returns-in-Halt-clause-same : goal.returns-in-Halt-clause-same
+returns-in-Halt-clause-same g c = λ run. absurd (subst IsRun c.in-Halt.is run)
+
+pub returns-in-Evict-clause-same : goal.returns-in-Evict-clause-same
+returns-in-Evict-clause-same g c = λ run. absurd (subst IsRun c.in-Evict.is run)
+
+pub returns-in-Leak-clause-same : goal.returns-in-Leak-clause-same
+returns-in-Leak-clause-same g c = λ run. absurd (subst IsRun c.in-Leak.is run)
+
+pub returns-in-Fetch-clause-same : goal.returns-in-Fetch-clause-same
+returns-in-Fetch-clause-same g c = λ run. absurd (subst IsRun c.in-Fetch.is run)
+
+pub returns-in-Run-clause-same : goal.returns-in-Run-clause-same
+returns-in-Run-clause-same g c = λ run. c.run.ensures.same

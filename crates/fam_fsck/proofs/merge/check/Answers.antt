@@ -1,10 +1,24 @@
-use Rattle.std.proofs.Common.{◌≡◌, ◌∷◌, [], List, ap, sym, subst, ◌∙◌}
+use Rattle.std.proofs.Common.{rules, arith, ◌≡◌, ◌∷◌, [], List, length, ap, sym, subst, ◌∙◌}
+use Rattle.std.specs.FinMap as finmap
+use Rattle.std.specs.FinMap.{len-entries}
+use Rattle.std.proofs.lemmas.List.{length-map}
 use Rattle.fam_base.specs.declared.entry.Entry.{Entry}
 use Rattle.fam_tree.specs.Iter.{tree_iter_rest}
-use Rattle.fam_fsck.specs.Merge.{compared}
+use Rattle.fam_fsck.specs.Merge.{compared, no_difference}
 use Rattle.fam_fsck.proofs.Merged.{compared_is}
 use Rattle.fam_fsck.proofs.MergeRoom.{HasRoom, one_compared, one_room, passed_left, passed_room}
 use Rattle.fam_fsck.proofs.merge.check.Goals as goal
+
+pub loop-entry-init : goal.loop-entry-init
+loop-entry-init c =
+    let tree = c.args.tree.now in
+    let rest : tree_iter_rest c.into_iter-entry-iterator.result ≡ finmap.values tree = cc (c.into_iter-entry-iterator.ensures.into_iter_gives, c.iter-entry-items.ensures.rest) in
+    let many : length (tree_iter_rest c.into_iter-entry-iterator.result) ≡ c.len-most.result =
+    ap (λ (l : List Entry). length l) rest ∙ length-map (finmap.entries tree) (λ e. e.1) ∙ sym (len-entries tree) ∙ sym c.len-most.ensures in
+    record {
+      told = ap (λ (l : List Entry). compared no_difference l c.args.listing.now) rest;
+      room = record { missing = omega (arith, many, c.len-most.type_inv); extra = search rules; changed = search rules };
+    }
 
 pub meet-rest-requires-clause-missing : goal.meet-rest-requires-clause-missing
 meet-rest-requires-clause-missing c =

@@ -12,6 +12,7 @@ use Rattle.fam_events.specs.Happens.{EventSays}
 use Rattle.fam_program.specs.Far.{AreSoundEvents, Base, Far, Now}
 use Rattle.fam_program.specs.Quiet.{AreShotEvents, GoesOn}
 use Rattle.fam_program.proofs.Going.{first_far, more_far, next_of}
+use Rattle.fam_program.proofs.Leaving.{done_spares, fault_spares}
 use Rattle.fam_program.proofs.Loops.{all_taken, next_is, one_more, rest_is}
 use Rattle.fam_program.proofs.Quietly.{fault_ended, fault_goes, taken_ended}
 use Rattle.fam_program.proofs.Stopping.{all_go, go_behind, none_stops, step_goes}
@@ -155,3 +156,35 @@ returns-clause-steady g c = record { size = c.events.invariant.size; later = c.e
 
 pub returns-clause-shelf : goal.returns-clause-shelf
 returns-clause-shelf g c = c.events.invariant.shelf
+
+pub returns-in-Err-clause-same : goal.returns-in-Err-clause-same
+returns-in-Err-clause-same g c = λ one lacks.
+    let b : Base = record { events = c.args.events.items; lines = g.M.Media.size c.args.media.now; told = g.M.Media.image c.args.media.now; faults = g.M.Media.faults c.args.media.now; files = g.S.Shelf.files c.args.shelf.now } in
+    let n : Now = record { world = c.events.world; told = g.M.Media.image c.events.media; faults = g.M.Media.faults c.events.media; copied = c.events.copied } in
+    let m : Now = record { world = c.happen.new.world; told = g.M.Media.image c.happen.new.media; faults = g.M.Media.faults c.happen.new.media; copied = c.happen.new.copied } in
+    let inv = c.events.invariant in
+    let count : ℕ = length c.events.yielded in
+    let shelf : ShelfChange = changed g.S.Shelf.files g.S.Shelf.faults g.S.Shelf.shorts c.args.shelf.now c.happen.new.shelf in
+    let e : Event = c.in-Some.event in
+    let is = next_is c.args.events.items c.events.yielded c.events.event-iterator.rest.items c.next.new.self.rest.items e inv.rest c.in-Some.ensures.steps.0 in
+    let says : EventSays e shelf (next_of b n m) (Err c.in-Err.fault) = says_from e (changed g.S.Shelf.files g.S.Shelf.faults g.S.Shelf.shorts c.events.shelf c.happen.new.shelf) shelf (around g.M.Media.image g.M.Media.size g.M.Media.faults c.events.media c.happen.new.media c.events.world c.happen.new.world (g.S.Shelf.files c.events.shelf) c.events.copied c.happen.new.copied) b.lines b.files (Err c.in-Err.fault) inv.size inv.shelf.same (record { faults = inv.shelf.faults_later; faults_now = refl; shorts = inv.shelf.shorts_later; shorts_now = refl }) c.in-Err.ensures.says in
+    fault_spares b one n m shelf c.in-Err.fault count inv.far e is says c.in-Err.ensures.same
+
+pub returns-then-last_stops-clause-same : goal.returns-then-last_stops-clause-same
+returns-then-last_stops-clause-same g c = λ one lacks.
+    let b : Base = record { events = c.args.events.items; lines = g.M.Media.size c.args.media.now; told = g.M.Media.image c.args.media.now; faults = g.M.Media.faults c.args.media.now; files = g.S.Shelf.files c.args.shelf.now } in
+    let n : Now = record { world = c.events.world; told = g.M.Media.image c.events.media; faults = g.M.Media.faults c.events.media; copied = c.events.copied } in
+    let m : Now = record { world = c.happen.new.world; told = g.M.Media.image c.happen.new.media; faults = g.M.Media.faults c.happen.new.media; copied = c.happen.new.copied } in
+    let inv = c.events.invariant in
+    let count : ℕ = length c.events.yielded in
+    let shelf : ShelfChange = changed g.S.Shelf.files g.S.Shelf.faults g.S.Shelf.shorts c.args.shelf.now c.happen.new.shelf in
+    let e : Event = c.in-Some.event in
+    let is = next_is c.args.events.items c.events.yielded c.events.event-iterator.rest.items c.next.new.self.rest.items e inv.rest c.in-Some.ensures.steps.0 in
+    let says : EventSays e shelf (next_of b n m) (Ok tt) = says_from e (changed g.S.Shelf.files g.S.Shelf.faults g.S.Shelf.shorts c.events.shelf c.happen.new.shelf) shelf (around g.M.Media.image g.M.Media.size g.M.Media.faults c.events.media c.happen.new.media c.events.world c.happen.new.world (g.S.Shelf.files c.events.shelf) c.events.copied c.happen.new.copied) b.lines b.files (Ok tt) inv.size inv.shelf.same (record { faults = inv.shelf.faults_later; faults_now = refl; shorts = inv.shelf.shorts_later; shorts_now = refl }) c.in-Ok.ensures.says in
+    done_spares b one (suc count) m (more_far b count n m inv.far e is says) lacks
+
+pub returns-clause-same : goal.returns-clause-same
+returns-clause-same g c = λ one lacks.
+    let b : Base = record { events = c.args.events.items; lines = g.M.Media.size c.args.media.now; told = g.M.Media.image c.args.media.now; faults = g.M.Media.faults c.args.media.now; files = g.S.Shelf.files c.args.shelf.now } in
+    let n : Now = record { world = c.events.world; told = g.M.Media.image c.events.media; faults = g.M.Media.faults c.events.media; copied = c.events.copied } in
+    done_spares b one (length c.events.yielded) n c.events.invariant.far lacks

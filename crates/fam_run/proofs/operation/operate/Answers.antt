@@ -7,7 +7,7 @@ use Rattle.fam_machine.specs.declared.op.Op.TheVariants.{Digest}
 use Rattle.fam_tasks.specs.Tells.{Tells}
 use Rattle.fam_run.specs.Operation.{GoesOn}
 use Rattle.fam_run.proofs.Operations.{goes_by_word, turned}
-use Rattle.fam_run.proofs.PlacesKept.{digest_none, kept}
+use Rattle.fam_run.proofs.PlacesKept.{digest_none, kept, quiet}
 use Rattle.fam_run.proofs.Running.{lines_kept}
 use Rattle.fam_run.proofs.operation.operate.Goals as goal
 
@@ -39,4 +39,12 @@ returns-in_ok-word-in_default-clause-places g c = λ on ready has.
 
 pub returns-in-Ok-clause-places : goal.returns-in-Ok-clause-places
 returns-in-Ok-clause-places g c = λ on ready has.
+    absurd (digest_none c.args.task.now c.args.cache.now (sym c.next.ensures.op ∙ c.in-Digest.is) has)
+
+pub returns-in_ok-word-in_default-clause-quiet : goal.returns-in_ok-word-in_default-clause-quiet
+returns-in_ok-word-in_default-clause-quiet g c = λ on has.
+    quiet c.args.task.now c.feed.new.self c.in_ok-word-in_default.word c.feed.result c.args.cache.now c.feed.ensures.turn on has
+
+pub returns-in-Ok-clause-quiet : goal.returns-in-Ok-clause-quiet
+returns-in-Ok-clause-quiet g c = λ on has.
     absurd (digest_none c.args.task.now c.args.cache.now (sym c.next.ensures.op ∙ c.in-Digest.is) has)

@@ -1,12 +1,15 @@
-use Rattle.fam_run.proofs.Held.{held_both}
+use Rattle.std.proofs.Common.{◌≡◌, refl, subst, sym, arith}
+use Rattle.fam_commands.specs.Task.{Task}
+use Rattle.fam_run.specs.Places.{HasPlaces}
 use Rattle.fam_run.proofs.PlacesKept.{held_kept}
 use Rattle.fam_run.proofs.rest.operate_held.Goals as goal
 
-pub returns-clause-run : goal.returns-clause-run
-returns-clause-run c =
-    held_both c.args.task.now c.rest_held.new.task c.drop_held.new.task c.args.cache.now.lines c.rest_held.new.cache.lines c.drop_held.new.cache.lines c.rest_held.ensures.run c.drop_held.ensures.run
+pub returns-then-load_held-clause-places : goal.returns-then-load_held-clause-places
+returns-then-load_held-clause-places c = λ has.
+    held_kept c.args.task.now c.load_held.new.task c.args.cache.now c.args.cache.now c.load_held.ensures.run (omega arith) has
 
 pub returns-clause-places : goal.returns-clause-places
 returns-clause-places c = λ has.
-    held_kept c.rest_held.new.task c.drop_held.new.task c.rest_held.new.cache c.drop_held.new.cache c.drop_held.ensures.run c.drop_held.ensures.spare
-    (held_kept c.args.task.now c.rest_held.new.task c.args.cache.now c.rest_held.new.cache c.rest_held.ensures.run c.rest_held.ensures.spare has)
+    let same : c.load_held.new.task ≡ c.args.task.now = c.if-load_held.ensures.other refl in
+    held_kept c.load_held.new.task c.store_held.new.task c.args.cache.now c.store_held.new.cache c.store_held.ensures.run c.store_held.ensures.spare
+    (subst (λ (t : Task). HasPlaces t c.args.cache.now) (sym same) has)

@@ -2,6 +2,7 @@ use Rattle.std.proofs.Common.{refl, sym, subst}
 use Rattle.fam_cache.specs.States.{CacheState}
 use Rattle.fam_run.specs.Held.{HeldRun, none}
 use Rattle.fam_run.proofs.Held.{stores_held}
+use Rattle.fam_run.proofs.FirstStores.{no_store}
 use Rattle.fam_run.proofs.rest.store_held.Goals as goal
 
 pub returns-then-store_rest-clause-run : goal.returns-then-store_rest-clause-run
@@ -15,3 +16,6 @@ returns-else-store_rest-clause-run c =
 
 pub returns-in_default-clause-run : goal.returns-in_default-clause-run
 returns-in_default-clause-run c = none
+
+pub returns-then-store_rest-clause-idle : goal.returns-then-store_rest-clause-idle
+returns-then-store_rest-clause-idle c = λ first. absurd (no_store c.args.task.now first c.in-Some.rest.0 c.in-Some.rest.1 c.in-Some.ensures)

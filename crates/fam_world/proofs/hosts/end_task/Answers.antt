@@ -9,4 +9,4 @@ pub returns-clause-views : goal.returns-clause-views
 returns-clause-views c =
     let items = c.args.hosts.now.items in
     let at_is = slice_get_read items (length items) c.args.at c.index_mut.result.now refl (omega (arith, c.requires.within)) c.index_mut.ensures.value in
-    map_set host_view (λ (v : HostView). record v { task = None }) items c.args.at _ c.index_mut.result.now at_is refl
+    map_set host_view (λ (v : HostView). record v { task = None }) items c.args.at _ c.index_mut.result.now at_is c.end_on.ensures

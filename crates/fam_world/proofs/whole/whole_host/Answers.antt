@@ -37,7 +37,7 @@ pub returns-in-Ok-Other-clause-step : goal.returns-in-Ok-Other-clause-step
 returns-in-Ok-Other-clause-step g c =
     let w = c.in-Ok-Other in
     let around : Around = record {
-      old = host_view (record { name = c.args.host.now.name; uuid = c.args.host.now.uuid; cache = c.whole_on.new.cache; task = c.whole_on.new.task });
+      old = host_view (record { name = c.args.host.now.name; uuid = c.args.host.now.uuid; cache = c.whole_on.new.cache; task = c.whole_on.new.task; replica = c.args.host.now.replica; has_begun = c.args.host.now.has_begun });
       new = host_view c.step_host.new.host;
       before = notes_view c.args.journal.now.items;
       after = notes_view c.step_host.new.journal.items;

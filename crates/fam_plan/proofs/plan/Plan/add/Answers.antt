@@ -42,12 +42,13 @@ invariant_of-self-in-Ok-append c =
     let done = c.in-Ok-append.ensures in
     let e = c.args.entry.now in
     let free = free_there own.tree e c.in-Ok.ensures.joins in
-    let longer = entries_with own.tree c.apply.new.self own.order.items c.append.new.order.items e free c.self.invariant.held c.in-Ok.ensures.added done.added in
+    let longer = entries_with own.tree c.apply.new.self own.order.items c.append.new.order.items e free c.self.invariant.held c.self.invariant.own c.in-Ok.ensures.added done.added in
     record {
       plan = plan_added (record { params = own.params; entries = entries_at own.tree own.order.items }) c.args.self.now own.tree own.used e c.self.invariant.plan c.self.view_is c.requires.proper
           (entries_at c.apply.new.self c.append.new.order.items) c.apply.new.self c.append.new.used
           c.in-Ok.ensures.joins done.fits c.requires.left longer.entries c.in-Ok.ensures.added done.units done.taken;
       held = longer.held;
+      own = longer.own;
     }
 
 pub invariant_of-self-in-Err-append : goal.invariant_of-self-in-Err-append
@@ -57,11 +58,12 @@ invariant_of-self-in-Err-append c =
     let back : c.take_back.new.self ≡ own.tree =
     c.take_back.ensures ∙ ap (λ (t : Tree). map.remove t c.args.entry.now.path) c.in-Ok.ensures.added
     ∙ taken_back own.tree c.args.entry.now c.in-Ok.ensures.joins in
-    let same = entries_as_before own.tree c.take_back.new.self own.order.items c.append.new.order.items c.self.invariant.held back done.list in
+    let same = entries_as_before own.tree c.take_back.new.self own.order.items c.append.new.order.items c.self.invariant.held c.self.invariant.own back done.list in
     record {
       plan = plan_kept (record { params = own.params; entries = entries_at own.tree own.order.items }) own.tree c.take_back.new.self own.used c.append.new.used
           (entries_at c.take_back.new.self c.append.new.order.items) c.self.invariant.plan same.entries back done.map;
       held = same.held;
+      own = same.own;
     }
 
 pub returns-in-Ok-append-clause-added : goal.returns-in-Ok-append-clause-added
@@ -69,7 +71,7 @@ returns-in-Ok-append-clause-added c =
     let own = c.self.inside in
     let e = c.args.entry.now in
     let free = free_there own.tree e c.in-Ok.ensures.joins in
-    let longer = entries_with own.tree c.apply.new.self own.order.items c.append.new.order.items e free c.self.invariant.held c.in-Ok.ensures.added c.in-Ok-append.ensures.added in
+    let longer = entries_with own.tree c.apply.new.self own.order.items c.append.new.order.items e free c.self.invariant.held c.self.invariant.own c.in-Ok.ensures.added c.in-Ok-append.ensures.added in
     longer.entries ∙ ap (λ (s : PlanState). s.entries ++ e ∷ []) c.self.view_is
 
 pub returns-in-Err-append-clause-same : goal.returns-in-Err-append-clause-same
@@ -78,7 +80,7 @@ returns-in-Err-append-clause-same c =
     let back : c.take_back.new.self ≡ own.tree =
     c.take_back.ensures ∙ ap (λ (t : Tree). map.remove t c.args.entry.now.path) c.in-Ok.ensures.added
     ∙ taken_back own.tree c.args.entry.now c.in-Ok.ensures.joins in
-    let same = entries_as_before own.tree c.take_back.new.self own.order.items c.append.new.order.items c.self.invariant.held back c.in-Err-append.ensures.list in
+    let same = entries_as_before own.tree c.take_back.new.self own.order.items c.append.new.order.items c.self.invariant.held c.self.invariant.own back c.in-Err-append.ensures.list in
     ap (λ (l : List Entry). record { params = own.params; entries = l }) same.entries ∙ c.self.view_is
 
 pub returns-in-Ok-append-clause-joins : goal.returns-in-Ok-append-clause-joins

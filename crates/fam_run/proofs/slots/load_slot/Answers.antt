@@ -1,0 +1,48 @@
+use Rattle.std.proofs.Common.{sym, ◌∙◌, arith}
+use Rattle.fam_run.specs.Led.{HasBrokenOff}
+use Rattle.fam_run.specs.Step.{Around, around}
+use Rattle.fam_run.proofs.Come.{fault_at}
+use Rattle.fam_run.proofs.Joined.{broken_behind, done_both, done_led}
+use Rattle.fam_run.proofs.Led.{led_lines}
+use Rattle.fam_run.proofs.slots.load_slot.Goals as goal
+
+-- src/slots.rt:93:15
+pub load_line-requires-in-lines : goal.load_line-requires-in-lines
+load_line-requires-in-lines g c =
+    let m = g.M.Media in
+    let inv = c.lines.invariant in
+    let a : Around = around m.image m.size m.faults c.args.task.now c.lines.task c.args.cache.now c.lines.cache c.args.media.now c.lines.media in
+    record {
+      lines = led_lines a.modelled a.task a.next a.old a.new (done_led a inv.image inv.done) ∙ c.requires.lines ∙ sym inv.steady.size;
+      due = inv.phase (omega arith);
+    }
+
+-- src/slots.rt:96:54
+pub returns-in-Err-MediaFault-clause-failed : goal.returns-in-Err-MediaFault-clause-failed
+returns-in-Err-MediaFault-clause-failed g c =
+    let m = g.M.Media in
+    let inv = c.lines.invariant in
+    let a : Around = around m.image m.size m.faults c.args.task.now c.lines.task c.args.cache.now c.lines.cache c.args.media.now c.lines.media in
+    let f = c.in-Err-MediaFault in
+    let new = c.load_line-in-lines.new in
+    rw f.field-0-is
+    (broken_behind a inv.image inv.done new.task new.cache.lines (m.image new.media) (m.faults new.media) (m.size c.lines.media) (m.faults c.lines.media) f.failed
+    inv.steady.later inv.steady.size
+    (fault_at f.field-0 f.failed (HasBrokenOff (around m.image m.size m.faults c.lines.task new.task c.lines.cache new.cache c.lines.media new.media)) f.field-0-is f.ensures.failed))
+
+-- src/slots.rt:92:5
+pub lines-preserved : goal.lines-preserved
+lines-preserved g c =
+    let m = g.M.Media in
+    let inv = c.lines.invariant in
+    let a : Around = around m.image m.size m.faults c.args.task.now c.lines.task c.args.cache.now c.lines.cache c.args.media.now c.lines.media in
+    let r = c.in-Ok-true in
+    let new = c.load_line-in-lines.new in
+    let all = c.load_line-in-lines.ensures in
+    record {
+      done = done_both a inv.image inv.done new.task new.cache.lines (m.image new.media) (m.faults new.media) (m.size c.lines.media) (m.faults c.lines.media)
+          (all.image ∙ inv.image) (r.ensures.loaded r.field-0-test);
+      phase = λ below. r.ensures.next r.field-0-test below;
+      image = all.image ∙ inv.image;
+      steady = record { size = all.steady.size ∙ inv.steady.size; later = omega (arith, inv.steady.later, all.steady.later) };
+    }

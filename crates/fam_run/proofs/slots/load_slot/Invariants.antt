@@ -1,0 +1,16 @@
+use Rattle.std.proofs.Common.{◌≡◌, ◌<◌}
+use Rattle.fam_commands.specs.declared.phase.Part.TheVariants.{Slot}
+use Rattle.fam_commands.specs.declared.phase.Phase.TheVariants as at
+use Rattle.fam_media.specs.Causes.{IsSteady}
+use Rattle.fam_tasks.specs.declared.answer.Turn.TheVariants.{Go}
+use Rattle.fam_run.specs.Led.{HasDone}
+use Rattle.fam_run.specs.Step.{around}
+use Rattle.fam_run.proofs.slots.load_slot.Given as goal
+
+abbrev pub invariant-lines : goal.invariant-lines
+invariant-lines g l = record {
+  done : HasDone (around g.M.Media.image g.M.Media.size g.M.Media.faults l.fn.task l.task l.fn.cache l.cache l.fn.media l.media) Go;
+  phase : l.line < 8 → l.task.phase ≡ at.Drop (Slot l.due.slot) l.line;
+  image : g.M.Media.image l.media ≡ g.M.Media.image l.fn.media;
+  steady : IsSteady g.M.Media.size g.M.Media.faults l.fn.media l.media;
+}

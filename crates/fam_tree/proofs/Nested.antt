@@ -1,0 +1,242 @@
+-- What stands in one of many runs.
+use Rattle.std.proofs.Common.{◌≡◌, ℕ, zero, suc, ◌+◌, ◌<◌, ◌≤◌, Bool, true, false, List, [], ◌∷◌, ◌++◌, length, get_or, set, take, drop, cond, if◌then◌else◌, Some, None, refl, sym, ap, subst, ◌∙◌, arith, length-append}
+use Rattle.std.specs.Prelude.{slice_get}
+use Rattle.std.specs.Ordering.{eq_by_cmp, is_eq}
+use Rattle.std.specs.Cmp.Lexicographic.{nat_list_cmp_total}
+use Rattle.std.specs.declared.cmp.Ordering.TheVariants.{Less, Equal, Greater}
+use Rattle.std.specs.FinMap as finmap
+use Rattle.std.specs.FinMap.{get-remove, get_tied, same_map}
+use Rattle.std.specs.List.{insert, remove}
+use Rattle.std.proofs.lemmas.List.{append_assoc}
+use Rattle.fam_base.specs.PathOrder.{path_cmp}
+use Rattle.fam_base.specs.declared.entry.Entry.{Entry}
+use Rattle.fam_format.specs.Tree.{Tree, with_entry}
+use Rattle.fam_tree.specs.Runs.{AreFilled, AreRuns, InOrder, IsAbsent, IsFound, IsPut, IsRunFor, IsTaken, entries_in, tree_of}
+use Rattle.fam_tree.proofs.Ordered.{IsCut, cut_absent, cut_order, cut_view, IsHeld, held_found, held_order, held_view, all_joined}
+use Rattle.fam_tree.proofs.Views.{get_of_view, path_cmp-IsAntisymmetric}
+use Rattle.fam_tree.proofs.Edits.{IsThere, cut_of_gap, there}
+
+abbrev pub Runs : Type 0
+Runs = List (List Entry)
+
+-- ---- a run among others
+
+front : (x a b c : List Entry) (w : List Entry) → w ≡ a ++ (b ++ c) → x ++ w ≡ (x ++ a) ++ (b ++ c)
+front x a b c w is = ap (λ (l : List Entry). x ++ l) is ∙ sym (append_assoc x a (b ++ c))
+
+-- the entries before a run, its own, and those behind it
+pub whole_at : (runs : Runs) (k : ℕ) (r : List Entry) → k < length runs → r ≡ get_or runs k r
+    → entries_in runs ≡ entries_in (take k runs) ++ (r ++ entries_in (drop (suc k) runs))
+whole_at [] k r within is = absurd (omega arith)
+whole_at (x ∷ runs) zero r within is = ap (λ (l : List Entry). l ++ entries_in runs) (sym is)
+whole_at (x ∷ runs) (suc k) r within is = front x (entries_in (take k runs)) r (entries_in (drop (suc k) runs)) (entries_in runs) (whole_at runs k r (omega arith) is)
+
+-- with another in its place
+pub whole_set : (runs : Runs) (k : ℕ) (r : List Entry) → k < length runs
+    → entries_in (set runs k r) ≡ entries_in (take k runs) ++ (r ++ entries_in (drop (suc k) runs))
+whole_set [] k r within = absurd (omega arith)
+whole_set (x ∷ runs) zero r within = refl
+whole_set (x ∷ runs) (suc k) r within = front x (entries_in (take k runs)) r (entries_in (drop (suc k) runs)) (entries_in (set runs k r)) (whole_set runs k r (omega arith))
+
+-- with nothing in its place
+pub whole_remove : (runs : Runs) (k : ℕ) → k < length runs → entries_in (remove runs k) ≡ entries_in (take k runs) ++ entries_in (drop (suc k) runs)
+whole_remove [] k within = absurd (omega arith)
+whole_remove (x ∷ runs) zero within = refl
+whole_remove (x ∷ runs) (suc k) within = ap (λ (l : List Entry). x ++ l) (whole_remove runs k (omega arith)) ∙ sym (append_assoc x (entries_in (take k runs)) (entries_in (drop (suc k) runs)))
+
+regrouped : (a b c d : List Entry) → a ++ ((b ++ c) ++ d) ≡ (a ++ b) ++ (c ++ d)
+regrouped a b c d = ap (λ (l : List Entry). a ++ l) (append_assoc b c d) ∙ sym (append_assoc a b (c ++ d))
+
+-- ---- no run is empty
+
+pub filled_set : (runs : Runs) (k : ℕ) (r : List Entry) → AreFilled runs → 1 ≤ length r → AreFilled (set runs k r)
+filled_set [] k r filled some = tt
+filled_set (x ∷ runs) zero r filled some = (some, filled.1)
+filled_set (x ∷ runs) (suc k) r filled some = (filled.0, filled_set runs k r filled.1 some)
+
+pub filled_insert : (runs : Runs) (k : ℕ) (r : List Entry) → AreFilled runs → 1 ≤ length r → AreFilled (insert runs k r)
+filled_insert runs zero r filled some = (some, filled)
+filled_insert [] (suc k) r filled some = (some, tt)
+filled_insert (x ∷ runs) (suc k) r filled some = (filled.0, filled_insert runs k r filled.1 some)
+
+-- where another was in its place before
+pub filled_remove : (runs : Runs) (k : ℕ) (r : List Entry) → AreFilled runs → AreFilled (remove (set runs k r) k)
+filled_remove [] zero r filled = tt
+filled_remove [] (suc k) r filled = tt
+filled_remove (x ∷ runs) zero r filled = filled.1
+filled_remove (x ∷ runs) (suc k) r filled = (filled.0, filled_remove runs k r filled.1)
+
+split_at : (es : List Entry) (i : ℕ) (e : Entry) → slice_get es i ≡ Some e → es ≡ take i es ++ e ∷ drop (suc i) es
+split_at [] i e here = absurd (cc (here))
+split_at (x ∷ es) zero e here = let same : x ≡ e = cc (here) in ap (λ (y : Entry). y ∷ es) same
+split_at (x ∷ es) (suc i) e here = ap (λ (l : List Entry). x ∷ l) (split_at es i e here)
+
+-- ---- what one run tells of all
+
+module _ (runs : Runs) (q : List ℕ) (k : ℕ) (r : List Entry) (for : IsRunFor runs q k) (is : r ≡ get_or runs k r) where
+  abbrev before : List Entry
+  before = entries_in (take k runs)
+
+  abbrev behind : List Entry
+  behind = entries_in (drop (suc k) runs)
+
+  -- a cut of the run cuts all entries
+  outer_cut : (a b : List Entry) → IsCut q r a b → IsCut q (entries_in runs) (before ++ a) (b ++ behind)
+  outer_cut a b cut = record {
+    whole = whole_at runs k r for.within is ∙ ap (λ (l : List Entry). before ++ (l ++ behind)) cut.whole ∙ regrouped before a b behind;
+    below = all_joined (λ (e : Entry). path_cmp e.path q ≡ Less) before a for.below cut.below;
+    above = all_joined (λ (e : Entry). path_cmp q e.path ≡ Less) b behind cut.above for.above;
+  }
+
+  pub absent_of_run : IsAbsent r q → finmap.get (tree_of (entries_in runs)) q ≡ None
+  absent_of_run none =
+      let i = none.place in
+      cut_absent q (entries_in runs) (before ++ take i r) (drop i r ++ behind) (outer_cut (take i r) (drop i r) (cut_of_gap r q i none.gap))
+
+  -- an entry of the run is one of all
+  outer_held : (a b : List Entry) (e : Entry) → r ≡ a ++ e ∷ b → InOrder (entries_in runs) → IsHeld (entries_in runs) (before ++ a) e (b ++ behind)
+  outer_held a b e within order = record {
+    whole = whole_at runs k r for.within is ∙ ap (λ (l : List Entry). before ++ (l ++ behind)) within ∙ regrouped before a (e ∷ b) behind;
+    order = order;
+  }
+
+  pub found_in_run : InOrder (entries_in runs) → (e : Entry) → IsFound r q e → finmap.get (tree_of (entries_in runs)) q ≡ Some e
+  found_in_run order e found =
+      let i = found.place in
+      subst (λ (p : List ℕ). finmap.get (tree_of (entries_in runs)) p ≡ Some e) found.own
+      (held_found (entries_in runs) (before ++ take i r) e (drop (suc i) r ++ behind) (outer_held (take i r) (drop (suc i) r) e (split_at r i e found.here) order))
+
+  -- an entry is put into the run
+  module _ (new : List Entry) (e : Entry) (own : e.path ≡ q) (put : IsPut r new e) where
+    abbrev put_front : List Entry
+    put_front = before ++ take put.place r
+
+    abbrev put_back : List Entry
+    put_back = drop put.place r ++ behind
+
+    put_cut : IsCut q (entries_in runs) put_front put_back
+    put_cut = outer_cut (take put.place r) (drop put.place r) (subst (λ (p : List ℕ). IsCut p r (take put.place r) (drop put.place r)) own (cut_of_gap r e.path put.place put.gap))
+
+    put_whole : entries_in (set runs k new) ≡ put_front ++ e ∷ put_back
+    put_whole = whole_set runs k new for.within ∙ ap (λ (l : List Entry). before ++ (l ++ behind)) put.more ∙ regrouped before (take put.place r) (e ∷ drop put.place r) behind
+
+    pub put_free : finmap.get (tree_of (entries_in runs)) q ≡ None
+    put_free = cut_absent q (entries_in runs) put_front put_back put_cut
+
+    pub put_view : tree_of (entries_in (set runs k new)) ≡ with_entry (tree_of (entries_in runs)) e
+    put_view = ap tree_of put_whole ∙ cut_view q (entries_in runs) put_front put_back put_cut e own
+
+    pub put_count : length (entries_in (set runs k new)) ≡ length (entries_in runs) + 1
+    put_count =
+        let more = length-append put_front (e ∷ put_back) in
+        let less = length-append put_front put_back in
+        let now = ap length put_whole in
+        let was = ap length put_cut.whole in
+        omega (arith, more, less, now, was)
+
+    pub put_runs : AreRuns runs → AreRuns (set runs k new)
+    put_runs runs_are = record {
+      order = subst InOrder (sym put_whole) (cut_order q (entries_in runs) put_front put_back put_cut runs_are.order e own);
+      filled = filled_set runs k new runs_are.filled (longer new put.more);
+    }
+      where
+        longer : (l : List Entry) → l ≡ take put.place r ++ e ∷ drop put.place r → 1 ≤ length l
+        longer l same = let n = length-append (take put.place r) (e ∷ drop put.place r) in let m = ap length same in omega (arith, n, m)
+
+  -- an entry is taken out of the run
+  module _ (new : List Entry) (taken : IsTaken r new q) (order : InOrder (entries_in runs)) where
+    gone : IsThere r q taken.place
+    gone = there r q taken.place taken.here
+
+    abbrev gone_front : List Entry
+    gone_front = before ++ take taken.place r
+
+    abbrev gone_back : List Entry
+    gone_back = drop (suc taken.place) r ++ behind
+
+    gone_held : IsHeld (entries_in runs) gone_front gone.entry gone_back
+    gone_held = outer_held (take taken.place r) (drop (suc taken.place) r) gone.entry gone.whole order
+
+    gone_whole : entries_in (set runs k new) ≡ gone_front ++ gone_back
+    gone_whole = whole_set runs k new for.within ∙ ap (λ (l : List Entry). before ++ (l ++ behind)) taken.less ∙ regrouped before (take taken.place r) (drop (suc taken.place) r) behind
+
+    pub gone_view : tree_of (entries_in (set runs k new)) ≡ finmap.remove (tree_of (entries_in runs)) q
+    gone_view =
+        ap tree_of gone_whole ∙ held_view (entries_in runs) gone_front gone.entry gone_back gone_held ∙ ap (λ (p : List ℕ). finmap.remove (tree_of (entries_in runs)) p) gone.own
+
+    pub gone_count : length (entries_in (set runs k new)) + 1 ≡ length (entries_in runs)
+    gone_count =
+        let more = length-append gone_front (gone.entry ∷ gone_back) in
+        let less = length-append gone_front gone_back in
+        let now = ap length gone_whole in
+        let was = ap length gone_held.whole in
+        omega (arith, more, less, now, was)
+
+    pub gone_order : InOrder (entries_in (set runs k new))
+    gone_order = subst InOrder (sym gone_whole) (held_order (entries_in runs) gone_front gone.entry gone_back gone_held)
+
+-- where there is no run, nothing is found
+pub nothing_without_runs : (runs : Runs) (q : List ℕ) → runs ≡ [] → finmap.get (tree_of (entries_in runs)) q ≡ None
+nothing_without_runs runs q is = ap (λ (l : Runs). finmap.get (tree_of (entries_in l)) q) is ∙ get_of_view [] q
+
+-- ---- runs that are cut, begun or left out
+
+same_entries : (a b x : List Entry) (rest : List Entry) → a ++ b ≡ x → a ++ (b ++ rest) ≡ x ++ rest
+same_entries a b x rest is = sym (append_assoc a b rest) ∙ ap (λ (l : List Entry). l ++ rest) is
+
+cut_entries : (runs : Runs) (k : ℕ) (lower upper r : List Entry) → k < length runs → r ≡ get_or runs k r → lower ++ upper ≡ r
+    → entries_in (insert (set runs k lower) (suc k) upper) ≡ entries_in runs
+cut_entries [] k lower upper r within is cut = absurd (omega arith)
+cut_entries (x ∷ runs) zero lower upper r within is cut = same_entries lower upper x (entries_in runs) (cut ∙ is)
+cut_entries (x ∷ runs) (suc k) lower upper r within is cut = ap (λ (l : List Entry). x ++ l) (cut_entries runs k lower upper r (omega arith) is cut)
+
+module _ (runs : Runs) (k : ℕ) (lower upper r : List Entry) (within : k < length runs) (is : r ≡ get_or runs k r) (cut : lower ++ upper ≡ r) (new : Runs) (new_is : new ≡ insert (set runs k lower) (k + 1) upper) where
+  next : new ≡ insert (set runs k lower) (suc k) upper
+  next = new_is ∙ ap (λ (i : ℕ). insert (set runs k lower) i upper) {x = k + 1} {y = suc k} (omega arith)
+
+  pub cut_whole : entries_in new ≡ entries_in runs
+  cut_whole = ap entries_in next ∙ cut_entries runs k lower upper r within is cut
+
+  pub cut_runs : AreRuns runs → 1 ≤ length lower → 1 ≤ length upper → AreRuns new
+  cut_runs are low up = record {
+    order = subst InOrder (sym cut_whole) are.order;
+    filled = subst AreFilled (sym next) (filled_insert (set runs k lower) (suc k) upper (filled_set runs k lower are.filled low) up);
+  }
+
+-- the first entry
+only : (r : List Entry) (e : Entry) → IsPut [] r e → r ≡ e ∷ []
+only r e put = at put.place put.more
+  where
+    at : (i : ℕ) → r ≡ insert [] i e → r ≡ e ∷ []
+    at zero is = is
+    at (suc i) is = is
+
+first_runs : (e : Entry) → AreRuns ((e ∷ []) ∷ [])
+first_runs e = record { order = (tt, tt); filled = (omega arith, tt) }
+
+pub begun_runs : (t : Bool) (old new : Runs) (r : List Entry) (e : Entry) → IsPut [] r e → old ≡ [] → new ≡ (if t then old ++ r ∷ [] else old) → AreRuns new
+begun_runs true old new r e put none is = subst AreRuns (sym (is ∙ ap (λ (l : Runs). l ++ r ∷ []) none ∙ ap (λ (l : List Entry). l ∷ []) (only r e put))) (first_runs e)
+begun_runs false old new r e put none is = subst AreRuns (sym (is ∙ none)) (record { order = tt; filled = tt })
+
+-- an empty run is left out
+pub empty_out : (runs : Runs) (k : ℕ) (r : List Entry) → k < length runs → length r ≡ 0 → entries_in (remove (set runs k r) k) ≡ entries_in (set runs k r)
+empty_out [] k r within none = absurd (omega arith)
+empty_out (x ∷ runs) zero [] within none = refl
+empty_out (x ∷ runs) zero (e ∷ r) within none = absurd (omega (arith, none))
+empty_out (x ∷ runs) (suc k) r within none = ap (λ (l : List Entry). x ++ l) (empty_out runs k r (omega arith) none)
+
+-- where no entry stands, none is removed
+pub none_removed : (tree : Tree) (q : List ℕ) → finmap.get tree q ≡ None → tree ≡ finmap.remove tree q
+none_removed tree q none =
+    same_map nat_list_cmp_total path_cmp-IsAntisymmetric tree (finmap.remove tree q) (λ p. each p ∙ sym (get-remove nat_list_cmp_total tree q p))
+  where
+    each : (p : List ℕ) → finmap.get tree p ≡ cond (eq_by_cmp path_cmp p q) None (finmap.get tree p)
+    each p = elim (path_cmp p q) as (λ o. path_cmp p q ≡ o → finmap.get tree p ≡ cond (is_eq o) None (finmap.get tree p)) [
+      | Less ↦ λ is. refl
+      | Equal ↦ λ is. sym (get_tied nat_list_cmp_total tree p q is) ∙ none
+      | Greater ↦ λ is. refl
+    ] refl
+
+-- a run that stays as it is
+pub same_run : (runs : Runs) (k : ℕ) (r new : List Entry) → k < length runs → r ≡ get_or runs k r → new ≡ r → entries_in (set runs k new) ≡ entries_in runs
+same_run runs k r new within is same = ap (λ (l : List Entry). entries_in (set runs k l)) same ∙ whole_set runs k r within ∙ sym (whole_at runs k r within is)

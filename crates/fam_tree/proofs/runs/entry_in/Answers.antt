@@ -1,0 +1,19 @@
+use Rattle.std.proofs.Common.{◌≡◌, ℕ, List, Option, Some, None, IfSome, IfNone, Bor, get_or, sym}
+use Rattle.std.specs.Prelude.{option_map}
+use Rattle.std.specs.FinMap as map
+use Rattle.fam_base.specs.declared.entry.Entry.{Entry}
+use Rattle.fam_tree.specs.Runs.{InOrder, IsAbsent, IsFound, IsRunFor, entries_in, tree_of}
+use Rattle.fam_tree.proofs.Nested.{Runs, absent_of_run, found_in_run, nothing_without_runs}
+use Rattle.fam_tree.proofs.runs.entry_in.Goals as goal
+
+told : (runs : Runs) (q : List ℕ) (k : ℕ) (r : List Entry) → IsRunFor runs q k → r ≡ get_or runs k r → InOrder (entries_in runs)
+    → (o : Option (Bor Entry)) → IfSome o (λ e. IsFound r q e.now) → IfNone o (IsAbsent r q)
+    → option_map (λ e. e.now) o ≡ map.get (tree_of (entries_in runs)) q
+told runs q k r for is order (Some e) found none = sym (found_in_run runs q k r for is order e.now found)
+told runs q k r for is order None found none = sym (absent_of_run runs q k r for is none)
+
+pub returns-in-Some-clause-value : goal.returns-in-Some-clause-value
+returns-in-Some-clause-value c = told c.args.runs.now c.args.path.now c.in-Some.k c.index-runs-k.result c.in-Some.ensures.some c.index-runs-k.is c.requires.order c.get.result c.get.ensures.found c.get.ensures.none
+
+pub returns-in-None-clause-value : goal.returns-in-None-clause-value
+returns-in-None-clause-value c = sym (nothing_without_runs c.args.runs.now c.args.path.now c.in-None.ensures.none)

@@ -1,0 +1,40 @@
+//! The entries of a tree one by one.
+
+ghost use Rattle.std.specs.Iterator.{YieldsFirstRef, item_count};
+ghost use Rattle.std.proofs.Props.{props};
+ghost use Rattle.fam_tree.specs.Runs.{AreFilled};
+
+use crate::run::Run;
+use fam_base::Entry;
+
+/// The entries of a tree, in byte order of their paths.
+#[derive(Drop)]
+pub struct TreeIter<'a> {
+    pub(crate) run: &'a [Box<Entry>],
+    pub(crate) runs: &'a [Run],
+    ghost filled: { AreFilled runs.now } by { Prim.hlevel props },
+}
+
+impl<'a> Iterator for TreeIter<'a> {
+    ghost use Rattle.fam_tree.specs.Iter.{tree_iter_rest};
+
+    type Item = &'a Entry;
+
+    ghost next_gives = { YieldsFirstRef tree_iter_rest };
+
+    ghost remaining = { item_count tree_iter_rest };
+
+    fn next(&mut self) -> Option<&'a Entry> {
+        if let [run, runs @ ..] = self.runs
+            && self.run.is_empty()
+        {
+            self.run = run.boxes();
+            self.runs = runs;
+        }
+        let [first, rest @ ..] = self.run else {
+            return None;
+        };
+        self.run = rest;
+        Some(&**first)
+    }
+}
