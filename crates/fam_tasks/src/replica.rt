@@ -105,12 +105,13 @@ impl Replica {
         }
     }
 
-    /// The same for a command that has found nothing so far.
-    pub(crate) fn rewind(&mut self)
+    /// The same for a command that has found nothing so far. The words of further slots are kept, or not.
+    pub(crate) fn rewind(&mut self, keeps: bool)
         ensures params { self.new.params ≡ self.old.params }
         ensures none { self.new.entries ≡ [] }
     {
         self.found = 0;
+        self.keeps = keeps;
     }
 
     /// Whether it is of the file system with these parameters.

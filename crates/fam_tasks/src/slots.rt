@@ -44,7 +44,7 @@ fn take_over(kept: &mut Kept, params: &Params) -> Option<Replica>
             if !replica.is_of(params) {
                 return None;
             }
-            replica.rewind();
+            replica.rewind(kept.keeps);
             Some(replica)
         }
         None => None,
