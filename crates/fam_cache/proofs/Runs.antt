@@ -5,15 +5,12 @@ use Rattle.fam_base.specs.declared.line.LineNo.{LineNo}
 use Rattle.fam_machine.specs.declared.op.Op.{Op}
 use Rattle.fam_machine.specs.Caches.{Cache}
 use Rattle.fam_machine.specs.Cuts.{HasFailed, IsMachine}
-use Rattle.fam_machine.specs.Operations.{Machine, failed, machine, operated, operated_all}
+use Rattle.fam_machine.specs.Operations.{Machine, failed, machine, operated_all}
 use Rattle.fam_machine.proofs.LinePuts.{operated_all-append}
 use Rattle.fam_media.specs.Outside.{IfModelled}
 use Rattle.fam_cache.specs.Runs.{AreCut, AreDone, CacheOver, over}
 
 -- one operation
-pub one_done : (op : Op) (modelled shown : Option Image) (old held : Cache) → IfModelled modelled (λ image. IsMachine (operated op (machine image old)) shown held) → AreDone (op ∷ []) (over modelled old) (over shown held)
-one_done op modelled shown old held done = record { is = done }
-
 pub one_cut : (op : Op) (line : LineNo) (modelled shown : Option Image) (old held : Cache) → IfModelled modelled (λ image. HasFailed op (machine image old) line shown held) → AreCut (op ∷ []) line (over modelled old) (over shown held)
 one_cut op line modelled shown old held failed = record {
   is = λ image is.

@@ -1,7 +1,9 @@
 -- Tests that a reader makes.
 use Rattle.std.specs.Prelude.{ℕ, ◌≡◌, ◌^◌, ◌<◌, ◌≤◌, Option, Some, None, Result, Ok, Err, List, slice_index, take}
 use Rattle.fam_base.specs.Paths.{IsPathField}
-use Rattle.fam_format.specs.Slot.{path_of}
+use Rattle.fam_base.specs.declared.entry.Entry.{Entry}
+use Rattle.fam_format.specs.Slot.{fields_of, path_of}
+use Rattle.fam_format.specs.declared.faults.Reason.{Reason}
 
 -- a test passes where there is no fault, and otherwise names the fault
 abbrev pub NamesFault : {T E : Type 0} → Result T E → Option E → Type 0
@@ -20,3 +22,8 @@ pub record HasFields (words bytes : List ℕ) : Type 0 where
   pub uid : slice_index words 4 < 2 ^ 32
   pub gid : slice_index words 5 < 2 ^ 32
   pub few : slice_index words 9 ≤ 16
+
+-- the entry that a slot's words tell where a test of them passes, and otherwise the reason against them
+abbrev pub read_as : List ℕ → Result (Unit {0}) Reason → Result Entry Reason
+read_as words (Ok u) = Ok (fields_of words)
+read_as words (Err reason) = Err reason

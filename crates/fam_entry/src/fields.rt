@@ -94,9 +94,9 @@ pub(crate) fn check_path(
     }
 }
 
-/// The entry that the fields tell, whose path lies in a field.
+/// The entry of a slot whose words were checked, and whose path lies in a field: the one that these words tell.
 #[tactic(auto, unfolding(fam_format::specs::Slot::fields_of))]
-pub(crate) fn fields_of(words: &[u64; SLOT_WORDS], field: &[u8; PATH_LIMIT]) -> Entry
+pub fn checked_entry(words: &[u64; SLOT_WORDS], field: &[u8; PATH_LIMIT]) -> Entry
     requires { HasFields words.now field.now }
     ensures { result ≡ slots.fields_of words.now }
 {

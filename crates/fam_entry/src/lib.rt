@@ -15,9 +15,10 @@ mod reading;
 mod slot;
 
 pub use fam_format::{LogFault, LogField, Reason};
+pub use fields::checked_entry;
 pub use log::{read_log, spell_log};
 pub use places::SLOT_WORDS;
-pub use reading::read_entry;
+pub use reading::{check_entry, read_entry};
 pub use slot::spell;
 
 #[cfg(test)]

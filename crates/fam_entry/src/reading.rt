@@ -8,9 +8,9 @@ ghost use Rattle.fam_format.specs.Params.{SoundParams};
 ghost use Rattle.fam_format.specs.Slot as slots;
 ghost use Rattle.fam_format.specs.SuperLaws.{IsWords};
 ghost use Rattle.fam_base.specs.declared.entry.Entry.{Entry};
-ghost use Rattle.fam_entry.specs.Tests.{HasFields, NamesFault};
+ghost use Rattle.fam_entry.specs.Tests.{HasFields, NamesFault, read_as};
 
-use crate::fields::{check_path, fields_of};
+use crate::fields::{check_path, checked_entry};
 use crate::map_rule::is_map;
 use crate::places::{
     CHUNK_WORD, COUNT_WORD, CRC_WORD, DIRECTORY_KIND, EMPTY_MAP, EXTENT_LIMIT, EXTENTS_WORD,
@@ -190,7 +190,7 @@ fn fits_map(words: &[u64; SLOT_WORDS], field: &[u8; PATH_LIMIT], params: &Params
     if words[MAP_WORD] == EMPTY_MAP {
         return words[SIZE_WORD] == 0 && words[COUNT_WORD] == 0;
     }
-    is_map(params, &fields_of(words, field))
+    is_map(params, &checked_entry(words, field))
 }
 
 /// Whether the words have an entry with this number, whose path is put into a field of zeros.
@@ -223,6 +223,24 @@ fn check(
     check_rest(words)
 }
 
+/// Whether the words of slot `seq` are the spelling of an entry that these parameters allow, whose path is put into a
+/// field of zeros: `checked_entry` gives it. If they are no such spelling, the first reason against them, in the order of
+/// `Reason`.
+pub fn check_entry(
+    words: &[u64; SLOT_WORDS],
+    seq: u64,
+    params: &Params,
+    field: &mut [u8; PATH_LIMIT],
+) -> Result<(), Reason>
+    requires sound { SoundParams params.now }
+    requires empty { (k : ℕ) → slice_index field.old k ≡ 0 }
+    ensures value { read_as words.now result ≡ slots.entry_of params.now words.now seq }
+    ensures proper { OnOk result (slots.Proper params.now (slots.fields_of words.now)) }
+    ensures fields { OnOk result (HasFields words.now field.new) }
+{
+    check(words, seq, params, field)
+}
+
 /// The entry of which the words of slot `seq` are the spelling, where these parameters allow it; if they are no such
 /// spelling, the first reason against them. The reasons come in the order of `Reason`, from `Crc` to `Rest`.
 pub fn read_entry(words: &[u64; SLOT_WORDS], seq: u64, params: &Params) -> Result<Entry, Reason>
@@ -237,7 +255,7 @@ pub fn read_entry(words: &[u64; SLOT_WORDS], seq: u64, params: &Params) -> Resul
 {
     let mut field = [0; PATH_LIMIT];
     match check(words, seq, params, &mut field) {
-        Ok(()) => Ok(fields_of(words, &field)),
+        Ok(()) => Ok(checked_entry(words, &field)),
         Err(reason) => Err(reason),
     }
 }

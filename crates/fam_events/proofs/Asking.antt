@@ -10,7 +10,7 @@ use Rattle.fam_protocol.specs.Tasks.{IsCommand}
 use Rattle.fam_sources.specs.declared.sourced.SourceEnd.{SourceEnd}
 use Rattle.fam_sources.specs.declared.sourced.Sourced.{Sourced as Came}
 use Rattle.fam_sources.specs.declared.sourced.Sourced.TheVariants as came_of
-use Rattle.fam_sources.specs.Sourced.{IsEnded, IsReady, IsSourced, IsUnfit, HasEndCause}
+use Rattle.fam_sources.specs.Sourced.{IsEnded, HoldsSource, IsSourced, IsUnfit, HasEndCause}
 use Rattle.fam_sources.specs.Whole.{ShelfChange}
 use Rattle.fam_journal.specs.declared.event.Ask.{Ask}
 use Rattle.fam_journal.specs.declared.event.Event.TheVariants.{Begin}
@@ -195,7 +195,7 @@ module _ (name : List ℕ) (what : Ask) (lines : ℕ) (old : WorldView) (formed 
         reads = ap (λ (o : Option (List ℕ)). named_source name o) e.source
 
     -- the command begins
-    module _ (cmd : Cmd) (fits_words : IsCommand cmd) (new : WorldView) (change : ShelfChange) (now : ℕ) (same : change.files ≡ files) (ready : IsReady change copied what now cmd) (w : WorldCall (call.Begins name cmd) lines None old new) where
+    module _ (cmd : Cmd) (fits_words : IsCommand cmd) (new : WorldView) (change : ShelfChange) (now : ℕ) (same : change.files ≡ files) (ready : HoldsSource change copied what now cmd) (w : WorldCall (call.Begins name cmd) lines None old new) where
       abbrev a : Around
       a = asking lines old new told faults files copied now
 
@@ -299,9 +299,9 @@ asked_as name what shelf b (Ok asked) W X want done err undone if_done if_not = 
 asked_as name what shelf b (Err f) W X want done err undone if_done if_not = subst (λ (z : EventFault). AskSays name what shelf b (Err z)) (sym err) (if_not undone)
 
 -- what a source comes to, where its value was moved
-pub ready_of : (change : ShelfChange) (copied : ℕ) (what : Ask) (now : ℕ) (came : Came) (cmd moved : Cmd) → came ≡ came_of.Ready cmd → moved ≡ cmd → IsSourced change copied what now came → IsReady change copied what now moved
+pub ready_of : (change : ShelfChange) (copied : ℕ) (what : Ask) (now : ℕ) (came : Came) (cmd moved : Cmd) → came ≡ came_of.Ready cmd → moved ≡ cmd → IsSourced change copied what now came → HoldsSource change copied what now moved
 ready_of change copied what now came cmd moved is same says =
-    subst (λ (z : Cmd). IsReady change copied what now z) (sym same) (subst (λ (z : Came). IsSourced change copied what now z) is says)
+    subst (λ (z : Cmd). HoldsSource change copied what now z) (sym same) (subst (λ (z : Came). IsSourced change copied what now z) is says)
 
 pub unfit_of : (change : ShelfChange) (copied : ℕ) (what : Ask) (now : ℕ) (came : Came) (cause moved : Refusal) → came ≡ came_of.Unfit cause → moved ≡ cause → IsSourced change copied what now came → IsUnfit change copied what now moved
 unfit_of change copied what now came cause moved is same says =

@@ -18,11 +18,11 @@ use Rattle.fam_journal.specs.declared.event.Event.TheVariants as event
 use Rattle.fam_journal.specs.declared.refusal.Refusal.{Refusal}
 use Rattle.fam_journal.specs.declared.refusal.Refusal.TheVariants as why
 use Rattle.fam_journal.specs.Calls as call
-use Rattle.fam_journal.specs.Calls.{Acts, ActsAt, AtNumber, BreaksOff, ByRefusal, Call, Completes, CutsAt, Does, OnHost, name_of, DoesOperations, busy_at, idle_refusal, may_begin, number_of, on_host, refusal_of, when}
+use Rattle.fam_journal.specs.Calls.{Acts, ActsAt, AtNumber, BreaksOff, ByRefusal, Call, Completes, CutsAt, Does, OnHost, Unfinished, name_of, DoesOperations, busy_at, idle_refusal, may_begin, number_of, on_host, refusal_of, when}
 use Rattle.fam_journal.specs.CallRecords.{FinishPart, FitsMedia}
 use Rattle.fam_journal.specs.EventForms.{BeginForm, EventBreaksForm, EventForm, NoMore, StartForm, UnfitNotes}
-use Rattle.fam_journal.specs.Events.{BreaksEvent, Calls, DoesEvent, Session, SomeOperations}
-use Rattle.fam_journal.specs.Forms.{ActsForm, AtForm, BreaksForm, CompletesForm, DoesForm, FormByRefusal, FreeForm, HostForm, IsFormed, OfHostForm, OperationsForm, PartForm, forms_after, forms_behind, forms_of, shown_forms}
+use Rattle.fam_journal.specs.Events.{BreaksEvent, Calls, DoesEvent, Session}
+use Rattle.fam_journal.specs.Forms.{ActsForm, AtForm, BreaksForm, CompletesForm, DoesForm, FormByRefusal, FreeForm, HostForm, IsFormed, OfHostForm, PartForm, UnfinishedForm, forms_after, forms_behind, forms_of, runs_form, shown_forms}
 use Rattle.fam_journal.specs.Kept.{Held}
 use Rattle.fam_journal.specs.Machines.{HostState, Machines}
 use Rattle.fam_journal.specs.Notes.{Note, Start}
@@ -41,6 +41,7 @@ use Rattle.fam_events.specs.declared.asks.Asked.TheVariants as asked
 use Rattle.fam_events.specs.Begins.{AskBegun, AskRefused, AskSays, AskUndone, BegunForm, Nothing, Refuses, RefusedForm, Starts}
 use Rattle.fam_events.specs.Calls.{CallDone, CallPart, CallSays, CallsBreak, CallsPart}
 use Rattle.fam_events.proofs.Lists.{named_more}
+use Rattle.fam_events.proofs.Running.{busy_is, finish_as_step, free_runs}
 use Rattle.fam_events.specs.Happens.{EventDone, EventEnded, EventPart, EventSays, FormOfPart, IsDoneBy, IsPart, IsToSource, SourceForm}
 
 -- a form of notes that is as strong
@@ -187,12 +188,12 @@ finish_part files name old new notes (inl x) copied = by_busy (busy_at x.host ol
   where
     by_busy : (t : Bool) → busy_at x.host old.machines ≡ t → IsPart (event.Finish name) files old notes new
     by_busy true is =
-        inr record { host = x.host; number = x.number; busy = ap (λ (b : Bool). when (not b) why.Idle) is; does = record { count = x.count; does = x.does }; copied = copied }
-    by_busy false is = let none = idle_none x.host x.count old.machines new.machines notes is x.does in inl (none.0, same_session old new none.1 copied)
+        inr record { host = x.host; number = x.number; busy = ap (λ (b : Bool). when (not b) why.Idle) is; does = x.does; copied = copied }
+    by_busy false is = let none = idle_none x.host x.does.count old.machines new.machines notes is x.does.does in inl (none.0, same_session old new none.1 copied)
 
 finish_form : (name : List ℕ) (lines : ℕ) (hosts : List HostForm) (notes : List Note) → PartForm (call.Finishes name) lines hosts notes → FormOfPart (event.Finish name) lines hosts notes
 finish_form name lines hosts notes (inl none) = inl none
-finish_form name lines hosts notes (inr x) = inr record { host = x.0; number = x.1; operations = x.2 }
+finish_form name lines hosts notes (inr x) = inr x
 
 pub finish_call : (name : List ℕ) → IsCallOf (event.Finish name) (call.Finishes name)
 finish_call name = record {
@@ -387,21 +388,31 @@ module _ (name : List ℕ) (what : Ask) (lines : ℕ) (old mid new : WorldView) 
         ));
   }
 
-  -- some operations of it, where no memory was left
-  part_form : (notes : List Note) → PartForm (call.Finishes name) lines (forms_of mid.journal) notes → OperationsForm start.host (forms_of mid.journal) notes
-  part_form notes (inl none) = subst (λ (ns : List Note). OperationsForm start.host (forms_of mid.journal) ns) (sym none) tt
-  part_form notes (inr x) = subst (λ (h : ℕ). OperationsForm h (forms_of mid.journal) notes) (same_Some x.0 start.host (sym x.1 ∙ number_mid)) x.2
+  -- some operations of it, without its answer, where no memory was left
 
-  some_operations : (first : Image) (state : Machines) → Held first state mid state.memory → (notes : List Note) (left : Machines) → FinishPart name state notes left → (h : ℕ) × (number_of name state ≡ Some h) × SomeOperations h state notes left
-  some_operations first state held notes left (inl x) = (x.host, x.number, record { count = x.count; does = x.does })
-  some_operations first state held notes left (inr x) =
-      (start.host, number_shown (length first) state mid name held.stands ∙ number_formed lines mid begun.adds.formed name ∙ number_mid, record { count = 0; does = x })
+  -- the host runs it
+  runs_mid : runs_form (slice_get (forms_of mid.journal) start.host) ≡ true
+  runs_mid =
+      let r = free_runs lines mid begun.adds.formed name (sym (finish_as_step name mid lines) ∙ begun.runs) in
+      subst (λ (h : ℕ). runs_form (slice_get (forms_of mid.journal) h) ≡ true) (same_Some r.0 start.host (sym r.1 ∙ number_formed lines mid begun.adds.formed name ∙ number_mid)) r.2
+
+  part_form : (notes : List Note) → PartForm (call.Finishes name) lines (forms_of mid.journal) notes → UnfinishedForm start.host (forms_of mid.journal) notes
+  part_form notes (inl none) = subst (λ (ns : List Note). UnfinishedForm start.host (forms_of mid.journal) ns) (sym none) record { operations = tt; runs = runs_mid }
+  part_form notes (inr x) = subst (λ (h : ℕ). UnfinishedForm h (forms_of mid.journal) notes) (same_Some x.host start.host (sym x.number ∙ number_mid)) x.part
+
+  unfinished : (first : Image) (state : Machines) → Held first state mid state.memory → (notes : List Note) (left : Machines) → FinishPart name state notes left → (h : ℕ) × (number_of name state ≡ Some h) × Unfinished h state notes left
+  unfinished first state held notes left (inl x) = (x.host, x.number, x.does)
+  unfinished first state held notes left (inr x) = (
+    start.host,
+    number_shown (length first) state mid name held.stands ∙ number_formed lines mid begun.adds.formed name ∙ number_mid,
+    record { count = 0; does = x; runs = ap (busy_at start.host) x.1 ∙ busy_is first state mid held begun.adds.formed start.host ∙ runs_mid },
+  )
 
   run_part : CallPart (call.Finishes name) b → EventPart (event.Run name what) a
   run_part x = record {
-    adds = joined (PartForm (call.Finishes name)) (FormOfPart (event.Run name what)) x.adds (λ notes form. inr (starting_form OperationsForm notes (part_form notes form)));
+    adds = joined (PartForm (call.Finishes name)) (FormOfPart (event.Run name what)) x.adds (λ notes form. inr (starting_form UnfinishedForm notes (part_form notes form)));
     keeps = joins (CallsPart (call.Finishes name)) (IsPart (event.Run name what)) x.keeps (λ files_now first state k m.
-        let c = some_operations first k.comes.last.machines k.held m.comes.notes m.comes.last.machines m.comes.does.0 in
+        let c = unfinished first k.comes.last.machines k.held m.comes.notes m.comes.last.machines m.comes.does.0 in
         inr record {
           mid = k.comes.last;
           first = k.comes.notes;

@@ -5,5 +5,6 @@ pub mod OverMedia
 pub mod Running
 pub mod Asking
 pub mod Stepping
+pub mod Counted
 pub mod Events
 pub mod Resting

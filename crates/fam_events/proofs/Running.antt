@@ -125,7 +125,8 @@ staged_on : (host h : ℕ) (hosts : List HostForm) (stage : CommandStage) → ho
 staged_on host h hosts stage same runs =
     ap (λ (k : ℕ). runs_form (slice_get (changed_at k (with_stage stage) hosts) h)) same ∙ staged_runs h hosts stage ∙ runs
 
-note_runs : (h : ℕ) (hosts : List HostForm) (note : Note) → OfRunning (slice_get hosts h) (λ me t. TaskNote h me t note) → runs_form (slice_get hosts h) ≡ true → runs_form (slice_get (forms_after hosts note) h) ≡ not (is_answer_note note)
+-- it runs on behind a note that is no answer
+pub note_runs : (h : ℕ) (hosts : List HostForm) (note : Note) → OfRunning (slice_get hosts h) (λ me t. TaskNote h me t note) → runs_form (slice_get hosts h) ≡ true → runs_form (slice_get (forms_after hosts note) h) ≡ not (is_answer_note note)
 note_runs h hosts (Host name uuid) x runs = absurd (of_none (slice_get hosts h) x)
 note_runs h hosts (Made host p) x runs = absurd (of_none (slice_get hosts h) x)
 note_runs h hosts (Start host cmd) x runs = absurd (of_none (slice_get hosts h) x)

@@ -13,7 +13,7 @@ use Rattle.fam_journal.specs.Calls as call
 use Rattle.fam_journal.specs.Calls.{Acts, ByRefusal, Does, DoesOperations, busy_at, idle_refusal, number_of, on_host, refusal_of}
 use Rattle.fam_journal.specs.CallRecords.{Answers, CallForm, FitsMedia, StepCall, heading, refusal_noted}
 use Rattle.fam_journal.specs.EventForms.{StepsForm}
-use Rattle.fam_journal.specs.Forms.{ActsForm, AtForm, FormByRefusal, FreeForm, HostForm, IsFormed, OfHostForm, OperationsForm, forms_behind, forms_of, runs_form, shown_forms}
+use Rattle.fam_journal.specs.Forms.{ActsForm, AtForm, FormByRefusal, FreeForm, HostForm, IsFormed, OfHostForm, OperationsForm, SomeForm, forms_behind, forms_of, runs_form, shown_forms}
 use Rattle.fam_journal.specs.Kept.{Held}
 use Rattle.fam_journal.specs.Machines.{Machines, Operation}
 use Rattle.fam_journal.specs.Names.{AreNamed}
@@ -78,7 +78,7 @@ module _ (name : List ℕ) (a : Around) (formed : IsFormed a.old) (fits : FitsMe
     runs_now : runs_form (slice_get (forms_of a.new.journal) at) ≡ true
     runs_now = ap (λ (fs : List HostForm). runs_form (slice_get fs at)) now_forms ∙ s.adds.form.runs_is
 
-    pub free_now : refusal_in (call.Steps name) a.new a.lines ≡ None
+    free_now : refusal_in (call.Steps name) a.new a.lines ≡ None
     free_now = runs_free a.lines a.new s.adds.formed name at s.number runs_now
 
     -- the form of one step
@@ -184,6 +184,20 @@ module _ (name : List ℕ) (a : Around) (formed : IsFormed a.old) (fits : FitsMe
       within = let x = s.adds.form.within in omega (arith, x, within);
     }
 
+    part_form : runs ≡ true → SomeForm name a.lines forms s.adds.notes
+    part_form runs_on = record {
+      host = at;
+      number = sym (number_formed a.lines a.old formed name) ∙ s.first;
+      part = record { operations = s.adds.form.operations; runs = s.adds.form.runs_is ∙ runs_on };
+    }
+
+    -- and so it does on the machine
+    runs_last : (start : Image) (last : Machines) → Held start last a.new last.memory → busy_at at last ≡ runs
+    runs_last start last held =
+        busy_is start last a.new held s.adds.formed at
+        ∙ ap (λ (fs : List HostForm). runs_form (slice_get fs at)) (ap forms_of s.adds.joined ∙ forms_both [] a.old.journal s.adds.notes)
+        ∙ s.adds.form.runs_is
+
     told_free : on_host (number_of name (shown_forms a.lines forms)) (λ h. idle_refusal h (shown_forms a.lines forms)) ≡ None
     unfolding refusal_of
     told_free = sym (refusal_formed a.lines a.old formed (call.Steps name) tt) ∙ s.free
@@ -199,17 +213,17 @@ module _ (name : List ℕ) (a : Around) (formed : IsFormed a.old) (fits : FitsMe
           ∙ first_refusal start state a.old held (call.Steps name) a.lines (modelled state.memory told_is)
           ∙ s.free
 
-    -- memory ran out behind these
-    pub part_event : (limit : ℕ) → count ≤ limit → EventPart (Step name limit) a
-    part_event limit within = record {
-      adds = record { notes = s.adds.notes; joined = s.adds.joined; named = s.adds.named; counted = s.adds.counted; later = s.adds.later; fits = s.adds.fits; formed = s.adds.formed; form = inr (steps_form limit within) };
+    -- memory ran out behind these, and the task runs on
+    pub part_event : (limit : ℕ) → count ≤ limit → runs ≡ true → EventPart (Step name limit) a
+    part_event limit within runs_on = record {
+      adds = record { notes = s.adds.notes; joined = s.adds.joined; named = s.adds.named; counted = s.adds.counted; later = s.adds.later; fits = s.adds.fits; formed = s.adds.formed; form = inr (part_form runs_on, (steps_form limit within).within) };
       keeps = λ start files state files_are told_is held.
           let k = s.keeps start files state files_are told_is held in
           record {
             comes = record {
               last = k.comes.last;
               notes = k.comes.notes;
-              does = inr record { host = at; number = number_is start state told_is held; busy = not_idle start state told_is held; does = record { count = count; within = within; does = k.comes.does.0 }; copied = k.comes.does.1 };
+              does = inr record { host = at; number = number_is start state told_is held; busy = not_idle start state told_is held; does = record { does = record { count = count; does = k.comes.does.0; runs = runs_last start k.comes.last.machines k.held ∙ runs_on }; within = within }; copied = k.comes.does.1 };
               told_is = k.comes.told_is;
               joined = k.comes.joined;
             };
@@ -258,16 +272,13 @@ module _ (name : List ℕ) (a : Around) (formed : IsFormed a.old) (fits : FitsMe
   answered_done limit at count within s modelled copied =
       done_event at (suc count) false s modelled limit within
       (λ start files state files_are told_is held k.
-      let idle : busy_at at k.comes.last.machines ≡ false =
-      busy_is start k.comes.last.machines a.new k.held s.adds.formed at
-      ∙ ap (λ (fs : List HostForm). runs_form (slice_get fs at)) (ap forms_of s.adds.joined ∙ forms_both [] a.old.journal s.adds.notes)
-      ∙ s.adds.form.runs_is in
+      let idle : busy_at at k.comes.last.machines ≡ false = runs_last at (suc count) false s modelled start k.comes.last.machines k.held in
       operations_idle at (suc count) limit state k.comes.notes k.comes.last.machines within k.comes.does.0 idle)
       copied
 
   -- no memory was left for the next one
   pub wanting : (limit count : ℕ) → count ≤ limit → StepsSoFar name count a → IfModelled a.told (λ image. length image ≡ a.lines) → EventPart (Step name limit) a
-  wanting limit count within (inr x) modelled = part_event x.0 count true x.1 modelled limit within
+  wanting limit count within (inr x) modelled = part_event x.0 count true x.1 modelled limit within refl
   wanting limit count within (inl x) modelled = record {
     adds = still_adds a x.1 (FormOfPart (Step name limit)) formed fits (inl refl);
     keeps = still_keeps a x.1 (IsPart (Step name limit)) (λ files start state files_are told_is held. inl (refl, refl));
@@ -333,17 +344,3 @@ module _ (name : List ℕ) (a : Around) (formed : IsFormed a.old) (fits : FitsMe
                 held = d.held;
               };
         }
-
-  -- a task that runs isn't refused
-  pub never_refused : (at count : ℕ) → Stepped name at count true a → (cause : Refusal) (over : Bool) (new : WorldView) (told : Option Image) (faults : ℕ) → StepCall name a.lines (Some cause) over a.told_now told a.faults_now faults a.new new → ⊥
-  never_refused at count s cause over new told faults w = w.answers.answers.free cause (free_now at count s) refl
-
-  pub refused_done : (limit count : ℕ) → StepsSoFar name count a → (cause : Refusal) (new : WorldView) (told : Option Image) (faults : ℕ) → StepCall name a.lines (Some cause) false a.told_now told a.faults_now faults a.new new → IfModelled a.told (λ image. length image ≡ a.lines) → a.copied_now ≡ a.copied
-      → EventDone (Step name limit) (next_of a new told faults)
-  refused_done limit count (inl x) cause new told faults w modelled copied = refused_event cause new told faults x.1 w modelled limit copied
-  refused_done limit count (inr x) cause new told faults w modelled copied = absurd (never_refused x.0 count x.1 cause false new told faults w)
-
-  -- what fits the media fits it still
-  pub so_far_fits : (count : ℕ) → StepsSoFar name count a → FitsMedia a.lines a.new.hosts
-  so_far_fits count (inl x) = subst (λ (z : WorldView). FitsMedia a.lines z.hosts) (sym x.1.world) fits
-  so_far_fits count (inr x) = x.1.adds.fits

@@ -1,6 +1,6 @@
 //! So many operations of a host's task.
 
-ghost use Rattle.std.specs.Prelude.{◌≡◌, ◌<◌, ℕ, Option, Ok};
+ghost use Rattle.std.specs.Prelude.{◌≡◌, ◌<◌, ℕ, Option};
 ghost use Rattle.fam_base.specs.Image.{Image};
 ghost use Rattle.fam_journal.specs.declared.event.Event.TheVariants.{Step};
 ghost use Rattle.fam_journal.specs.CallRecords.{FitsMedia};
@@ -13,7 +13,7 @@ ghost use Rattle.fam_events.specs.Happens.{EventSays};
 use crate::fault::EventFault;
 use fam_base::HostName;
 use fam_media::Media;
-use fam_world::{Moved, World, WorldFault};
+use fam_world::{World, WorldFault};
 
 /// Does so many operations of a host's task, or fewer where it answers.
 pub(crate) fn step<M: Media>(
@@ -29,13 +29,9 @@ pub(crate) fn step<M: Media>(
         (around M.image M.size M.faults media.old media.new world.old world.new files copied copied) result }
     ensures size { M.size media.new ≡ M.size media.old }
 {
-    'operations: for _ in 0..count {
-        match world.step(media, name) {
-            Ok(Moved::Going) => {}
-            Ok(Moved::Answered) => return Ok(()),
-            Err(WorldFault::Refused(_)) => return Ok(()),
-            Err(WorldFault::OutOfMemory) => return Err(EventFault::OutOfMemory),
-        }
+    match world.steps(media, name, count) {
+        Ok(_) => Ok(()),
+        Err(WorldFault::Refused(_)) => Ok(()),
+        Err(WorldFault::OutOfMemory) => Err(EventFault::OutOfMemory),
     }
-    Ok(())
 }

@@ -2,13 +2,14 @@
 
 ghost use Rattle.std.specs.Prelude.{◌≡◌, ◌<◌, ◌≤◌, IfOk, IsOk, OnOk, OnErr};
 ghost use Rattle.fam_format.specs.Params.{SoundParams};
-ghost use Rattle.fam_format.specs.Slot.{Proper, entry_of};
+ghost use Rattle.fam_format.specs.Slot.{Proper, entry_of, fields_of};
+ghost use Rattle.fam_entry.specs.Tests.{HasFields, read_as};
 ghost use Rattle.fam_rules.specs.Reports.{below_gate, past_gate, report_by};
 ghost use Rattle.fam_fsck.specs.Scan.{bad_after, first_scan, with_slot, with_survey};
 
 use crate::findings::Findings;
-use fam_base::{Entry, OutOfMemory, Params};
-use fam_entry::{SLOT_WORDS, read_entry};
+use fam_base::{OutOfMemory, PATH_LIMIT, Params};
+use fam_entry::{SLOT_WORDS, check_entry, checked_entry};
 use fam_format::Reason;
 use fam_rules::{LogState, Report, SuperState};
 use std::alloc::Global;
@@ -72,18 +73,25 @@ impl Fsck {
         })
     }
 
-    /// What a slot below the gate reads as.
-    fn add_below(&mut self, read: &Result<Entry, Reason>) -> Result<(), OutOfMemory>
+    /// What a slot below the gate reads as. The path of an entry lies in a field.
+    fn add_below(
+        &mut self,
+        words: &[u64; SLOT_WORDS],
+        field: &[u8; PATH_LIMIT],
+        read: &Result<(), Reason>,
+    ) -> Result<(), OutOfMemory>
         requires fewer { self.old.added < self.old.params.slots }
-        requires proper { IfOk read.now (λ e. Proper self.old.params e) }
-        ensures slot { OnOk result
-            (self.new ≡ with_survey self.old (below_gate self.old.survey self.old.added read.now)) }
+        requires proper { OnOk read.now (Proper self.old.params (fields_of words.now)) }
+        requires fields { OnOk read.now (HasFields words.now field.now) }
+        ensures slot { OnOk result (self.new
+            ≡ with_survey self.old (below_gate self.old.survey self.old.added (read_as words.now read.now))) }
         ensures err { OnErr result (self.new ≡ self.old) }
-        ensures want { OnErr result (IsOk read.now) }
+        ensures want { OnErr result (IsOk (read_as words.now read.now)) }
     {
         match read {
-            Ok(entry) => {
-                let fault = self.findings.add(self.added, entry)?;
+            Ok(()) => {
+                let entry = checked_entry(words, field);
+                let fault = self.findings.add(self.added, &entry)?;
                 self.bad = first_bad(self.bad, self.added, fault);
                 self.added += 1;
                 Ok(())
@@ -97,10 +105,11 @@ impl Fsck {
     }
 
     /// What a slot at or past the gate reads as.
-    fn add_past(&mut self, read: &Result<Entry, Reason>)
+    fn add_past(&mut self, words: &[u64; SLOT_WORDS], read: &Result<(), Reason>)
         requires fewer { self.old.added < self.old.params.slots }
-        ensures { self.new ≡ with_survey self.old (past_gate self.old.survey read.now) }
+        ensures { self.new ≡ with_survey self.old (past_gate self.old.survey (read_as words.now read.now)) }
     {
+        let _ = words;
         self.added += 1;
         if read.is_ok() {
             self.past += 1;
@@ -117,11 +126,12 @@ impl Fsck {
         ensures below { OnErr result (self.old.added < self.old.gate) }
         ensures entry { OnErr result (IsOk (entry_of self.old.params words.now self.old.added)) }
     {
-        let read = read_entry(words, self.added, self.findings.params());
+        let mut field = [0; PATH_LIMIT];
+        let read = check_entry(words, self.added, self.findings.params(), &mut field);
         if self.added < self.gate {
-            return self.add_below(&read);
+            return self.add_below(words, &field, &read);
         }
-        self.add_past(&read);
+        self.add_past(words, &read);
         Ok(())
     }
 

@@ -1,11 +1,11 @@
 -- What a world tells by itself: the first refusal of a call, and all that a call makes of it that takes no media.
-use Rattle.std.specs.Prelude.{replicate, ℕ, ⊤, ◌≡◌, ◌⊎◌, List, [], ◌∷◌, ◌++◌, map, Option, Some, None}
+use Rattle.std.specs.Prelude.{replicate, ℕ, ⊤, ◌≡◌, ◌⊎◌, Bool, List, [], ◌∷◌, ◌++◌, map, Option, Some, None}
 use Rattle.std.specs.FinMap as map_of_lines
 use Rattle.fam_commands.specs.Task.{Task, starting}
 use Rattle.fam_journal.specs.Calls as call
 use Rattle.fam_base.specs.declared.cmd.Cmd.TheVariants.{Logplay}
 use Rattle.fam_journal.specs.declared.refusal.Refusal.{Refusal}
-use Rattle.fam_journal.specs.Calls.{refusal_of, Call, Does, BreaksOff, IsOfSource, DoesOperations, name_of, number_of}
+use Rattle.fam_journal.specs.Calls.{refusal_of, Call, Does, BreaksOff, IsOfSource, DoesOperations, busy_at, name_of, number_of}
 use Rattle.fam_journal.specs.Machines.{task_begun, HostState, Machines, TaskState}
 use Rattle.fam_journal.specs.Members.{changed_at}
 use Rattle.fam_journal.specs.Notes.{Note, Host, Start, Stop, Halt, Refused}
@@ -31,6 +31,10 @@ refusal_in c world lines = refusal_of c (shown_state world lines)
 
 abbrev pub number_in : List ℕ → WorldView → Option ℕ
 number_in name world = number_of name (shown_state world 0)
+
+-- whether the host of a number has a task
+abbrev pub busy_in : ℕ → WorldView → Bool
+busy_in h world = busy_at h (shown_state world 0)
 
 abbrev pub with_notes : List Note → WorldView → WorldView
 with_notes notes world = record world { journal = world.journal ++ notes }

@@ -16,7 +16,7 @@ use Rattle.fam_protocol.specs.Tasks.{IsCommand}
 use Rattle.fam_journal.specs.Calls as call
 use Rattle.fam_journal.specs.declared.refusal.Refusal.{Refusal}
 use Rattle.fam_journal.specs.declared.refusal.Refusal.TheVariants as why
-use Rattle.fam_journal.specs.Calls.{refusal_of, Call, Does, BreaksOff, IsOfSource, DoesOperations, name_of, number_of}
+use Rattle.fam_journal.specs.Calls.{refusal_of, Call, Does, BreaksOff, IsOfSource, Unfinished, name_of, number_of}
 use Rattle.fam_journal.specs.Ends.{HasCounted, is_answer_note}
 use Rattle.fam_journal.specs.Forms.{BreaksForm, DoesForm, HostForm, IsFormed, PartForm, forms_of}
 use Rattle.fam_journal.specs.Legal.{Legal}
@@ -25,7 +25,7 @@ use Rattle.fam_journal.specs.Names.{AreNamed}
 use Rattle.fam_journal.specs.Notes.{Note, Host, Made, Start, Mark, Found, Writes, Answered, Stop, Halt, Refused}
 use Rattle.fam_journal.specs.View.{HostView, WorldView, WorldStands}
 use Rattle.fam_journal.specs.Kept.{Held}
-use Rattle.fam_journal.specs.ByWorld.{number_in, refusal_in, world_after}
+use Rattle.fam_journal.specs.ByWorld.{busy_in, number_in, refusal_in, world_after}
 
 -- What a call makes of it. `told` is the media's image, where it is modelled.
 
@@ -49,13 +49,12 @@ pub record LeavesBroken (start : Image) (told : Option Image) (does : List Note 
   pub stands : WorldStands (length start) state new
   pub legal : Legal start new.journal
 
--- what is left where no memory was found for an operation: a call that runs a task to its answer has done some of its
--- operations, and any other call nothing
+-- what is left where no memory was found for an operation: a call that runs a task to its answer has done some of the
+-- operations before it, and any other call nothing
 pub record SomeOfFinish (name : List ℕ) (state : Machines) (notes : List Note) (left : Machines) : Type 0 where
   pub host : ℕ
   pub number : number_of name state ≡ Some host
-  pub count : ℕ
-  pub does : DoesOperations host count state notes left
+  pub does : Unfinished host state notes left
 
 -- of a host that isn't declared nothing was done, where there was no room for the note that says so
 abbrev pub FinishPart : List ℕ → Machines → List Note → Machines → Type 0
@@ -279,6 +278,8 @@ pub record FinishOutOfMemory (name : List ℕ) (lines : ℕ) (told told_now : Op
   pub adds : Adds lines faults faults_now old new
   pub form : IsFormed old → PartForm (call.Finishes name) lines (forms_of old.journal) adds.notes
   pub parts : (start : Image) → CallParts (call.Finishes name) start told told_now old new
+  -- the host has a task just where it had one: neither an answer nor a media fault hides behind the want of memory
+  pub runs : (h : ℕ) → number_in name old ≡ Some h → busy_in h new ≡ busy_in h old
   -- where nothing of the host's task was stored at first, and its cache had nothing to send, memory is as it was
   pub same : (h : ℕ) → number_in name old ≡ Some h → IsUnstoredAt h old → IfModelled told (λ image. told_now ≡ Some image)
 

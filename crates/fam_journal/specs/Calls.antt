@@ -177,6 +177,12 @@ pub record Completes (h : ℕ) (old : Machines) (notes : List Note) (new : Machi
   pub does : DoesOperations h count old notes new
   pub done : busy_at h new ≡ false
 
+-- some operations, of which none is the answer: the task runs on
+pub record Unfinished (h : ℕ) (old : Machines) (notes : List Note) (new : Machines) : Type 0 where
+  pub count : ℕ
+  pub does : DoesOperations h count old notes new
+  pub runs : busy_at h new ≡ true
+
 -- of a declared host
 abbrev pub OnHost : Option HostState → (HostState → Type 0) → Type 0
 OnHost None P = ⊥

@@ -15,7 +15,7 @@ use Rattle.fam_journal.specs.Calls as call
 use Rattle.fam_journal.specs.Calls.{idle_refusal, may_begin, number_of, on_host}
 use Rattle.fam_journal.specs.Ends.{AllDone, Ending, MkfsFails, EndsOutOfMemory, EndsOutOfMemoryBroken, SinkFails, SourceFails}
 use Rattle.fam_journal.specs.Events.{event_source, source_of}
-use Rattle.fam_journal.specs.Forms.{BreaksForm, CompletesForm, DoesForm, FormByRefusal, HostForm, OperationsForm, forms_after, forms_behind, shown_forms}
+use Rattle.fam_journal.specs.Forms.{BreaksForm, CompletesForm, DoesForm, FormByRefusal, HostForm, OperationsForm, SomeForm, UnfinishedForm, forms_after, forms_behind, shown_forms}
 use Rattle.fam_journal.specs.Notes.{Note, Start, Refused}
 
 -- Asks.
@@ -118,19 +118,13 @@ EventBreaksForm (event.Evict name line) lines hosts notes = ⊥
 EventBreaksForm (event.Leak name line mask) lines hosts notes = ⊥
 EventBreaksForm (event.Fetch name line mask) lines hosts notes = ⊥
 
--- notes of a host's running command, for some operations
-pub record SomeForm (name : List ℕ) (lines : ℕ) (hosts : List HostForm) (notes : List Note) : Type 0 where
-  pub host : ℕ
-  pub number : number_of name (shown_forms lines hosts) ≡ Some host
-  pub operations : OperationsForm host hosts notes
-
--- no memory was left for an operation of an event: of its operations some were done
+-- no memory was left for an operation of an event: of its operations some were done, and its command has not answered
 abbrev pub EventPartForm : Event → ℕ → List HostForm → List Note → Type 0
 EventPartForm (event.Host name uuid) lines hosts notes = ⊥
 EventPartForm (event.Mkfs name fs unit log force) lines hosts notes = ⊥
 EventPartForm (event.Begin name what) lines hosts notes = ⊥
-EventPartForm (event.Run name what) lines hosts notes = StartForm OperationsForm name what lines hosts notes
-EventPartForm (event.Step name count) lines hosts notes = StepsForm count name lines hosts notes
+EventPartForm (event.Run name what) lines hosts notes = StartForm UnfinishedForm name what lines hosts notes
+EventPartForm (event.Step name count) lines hosts notes = SomeForm name lines hosts notes × (length notes ≤ count)
 EventPartForm (event.Finish name) lines hosts notes = SomeForm name lines hosts notes
 EventPartForm (event.Stop name) lines hosts notes = ⊥
 EventPartForm (event.Halt name) lines hosts notes = ⊥

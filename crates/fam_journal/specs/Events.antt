@@ -15,7 +15,7 @@ use Rattle.fam_journal.specs.declared.event.Event.TheVariants as event
 use Rattle.fam_journal.specs.declared.refusal.Refusal.{Refusal}
 use Rattle.fam_journal.specs.declared.refusal.Refusal.TheVariants as why
 use Rattle.fam_journal.specs.Calls as call
-use Rattle.fam_journal.specs.Calls.{Call, Begins, Refuses, Does, BreaksOff, DoesOperations, Completes, idle_refusal, may_begin, number_of, on_host}
+use Rattle.fam_journal.specs.Calls.{Call, Begins, Refuses, Does, BreaksOff, DoesOperations, Completes, Unfinished, idle_refusal, may_begin, number_of, on_host}
 use Rattle.fam_tree.specs.Listings.{ListingSays}
 use Rattle.fam_machine.specs.HostMoves.{Evict, Leak, Fetch}
 use Rattle.fam_journal.specs.Machines.{Machines, unused}
@@ -162,26 +162,20 @@ BreaksEvent (event.Evict name line) old notes new = ⊥
 BreaksEvent (event.Leak name line mask) old notes new = ⊥
 BreaksEvent (event.Fetch name line mask) old notes new = ⊥
 
--- any number of operations
-pub record SomeOperations (h : ℕ) (old : Machines) (notes : List Note) (new : Machines) : Type 0 where
-  pub count : ℕ
-  pub does : DoesOperations h count old notes new
-
--- at most so many
+-- at most so many operations, behind which the task runs on
 pub record AtMost (limit h : ℕ) (old : Machines) (notes : List Note) (new : Machines) : Type 0 where
-  pub count : ℕ
-  pub within : count ≤ limit
-  pub does : DoesOperations h count old notes new
+  pub does : Unfinished h old notes new
+  pub within : does.count ≤ limit
 
--- no memory was left for an operation of an event: of its operations some were done. Making a file system takes all its
--- room first, and other events are done whole
+-- no memory was left for an operation of an event: of its operations some were done, and its command has not answered.
+-- Making a file system takes all its room first, and other events are done whole
 abbrev pub PartOf : Files → Event → Session → List Note → Session → Type 0
 PartOf files (event.Host name uuid) old notes new = ⊥
 PartOf files (event.Mkfs name fs unit log force) old notes new = ⊥
 PartOf files (event.Begin name what) old notes new = ⊥
-PartOf files (event.Run name what) old notes new = Continues SomeOperations files name what old notes new
+PartOf files (event.Run name what) old notes new = Continues Unfinished files name what old notes new
 PartOf files (event.Step name count) old notes new = StepsBy (AtMost count) name old notes new
-PartOf files (event.Finish name) old notes new = StepsBy SomeOperations name old notes new
+PartOf files (event.Finish name) old notes new = StepsBy Unfinished name old notes new
 PartOf files (event.Stop name) old notes new = ⊥
 PartOf files (event.Halt name) old notes new = ⊥
 PartOf files (event.Evict name line) old notes new = ⊥

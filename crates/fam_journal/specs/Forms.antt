@@ -1,6 +1,6 @@
 -- The form of a journal's notes: which notes a call of the world may add whatever the media holds, by what the notes before
 -- them tell of the hosts.
-use Rattle.std.specs.Prelude.{replicate, ℕ, ◌*◌, ⊤, ◌≡◌, ◌≢◌, ◌⊎◌, ◌<◌, ◌≤◌, Bool, false, List, [], ◌∷◌, ◌++◌, length, map, slice_get, Option, Some, None, is_some, option_map}
+use Rattle.std.specs.Prelude.{replicate, ℕ, ◌*◌, ⊤, ◌≡◌, ◌≢◌, ◌⊎◌, ◌<◌, ◌≤◌, Bool, true, false, List, [], ◌∷◌, ◌++◌, length, map, slice_get, Option, Some, None, is_some, option_map}
 use Rattle.std.specs.FinMap as finmap
 use Rattle.fam_base.specs.declared.cmd.Cmd.{Cmd}
 use Rattle.fam_base.specs.declared.cmd.Cmd.TheVariants.{Logplay, Mkdir, Creat, Cp, Verify, Read, Check, Fsck}
@@ -219,6 +219,11 @@ pub record CompletesForm (h : ℕ) (hosts : List HostForm) (notes : List Note) :
   pub operations : OperationsForm h hosts notes
   pub done : runs_form (slice_get (forms_behind hosts notes) h) ≡ false
 
+-- and at the end it runs on: none of them is its answer
+pub record UnfinishedForm (h : ℕ) (hosts : List HostForm) (notes : List Note) : Type 0 where
+  pub operations : OperationsForm h hosts notes
+  pub runs : runs_form (slice_get (forms_behind hosts notes) h) ≡ true
+
 -- Refusals: the first one, as far as the notes tell it.
 
 abbrev pub shown_running : Option TaskForm → Option TaskState
@@ -330,14 +335,19 @@ BreaksForm (call.Halts name) lines hosts notes = ⊥
 BreaksForm (call.Moves name line move) lines hosts notes = ⊥
 BreaksForm (call.Refuses name why) lines hosts notes = ⊥
 
--- no memory was left: a finish adds notes of the operations that it did, and any other call none
+-- notes of the running command of the host of a name, which has not answered
+pub record SomeForm (name : List ℕ) (lines : ℕ) (hosts : List HostForm) (notes : List Note) : Type 0 where
+  pub host : ℕ
+  pub number : number_of name (shown_forms lines hosts) ≡ Some host
+  pub part : UnfinishedForm host hosts notes
+
+-- no memory was left: a finish adds notes of the operations that it did, without an answer, and any other call none
 abbrev pub PartForm : Call → ℕ → List HostForm → List Note → Type 0
 PartForm (call.Declares name uuid) lines hosts notes = notes ≡ []
 PartForm (call.Makes name fs unit log force) lines hosts notes = notes ≡ []
 PartForm (call.Begins name cmd) lines hosts notes = notes ≡ []
 PartForm (call.Steps name) lines hosts notes = notes ≡ []
-PartForm (call.Finishes name) lines hosts notes =
-    (notes ≡ []) ⊎ ((h : ℕ) × (number_of name (shown_forms lines hosts) ≡ Some h) × OperationsForm h hosts notes)
+PartForm (call.Finishes name) lines hosts notes = (notes ≡ []) ⊎ SomeForm name lines hosts notes
 PartForm (call.Stops name) lines hosts notes = notes ≡ []
 PartForm (call.Halts name) lines hosts notes = notes ≡ []
 PartForm (call.Moves name line move) lines hosts notes = notes ≡ []

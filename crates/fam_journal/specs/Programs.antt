@@ -16,7 +16,7 @@ use Rattle.fam_journal.specs.declared.event.Event.{Event}
 use Rattle.fam_journal.specs.declared.event.Event.TheVariants as event
 use Rattle.fam_journal.specs.declared.status.Status.{Status}
 use Rattle.fam_journal.specs.declared.status.Status.TheVariants as status
-use Rattle.fam_journal.specs.Ends.{AllDone, Ending, EventsDone, MkfsFails, EndsOutOfMemory, EndsOutOfMemoryBroken, SinkFails, SourceFails, counted}
+use Rattle.fam_journal.specs.Ends.{AllDone, Ending, EventsDone, MkfsFails, EndsOutOfMemory, EndsOutOfMemoryBroken, IsFaultless, SinkFails, SourceFails, counted}
 use Rattle.fam_journal.specs.Follows.{Faulted, FollowsCut, FollowsLast, Short, SourceEnd}
 use Rattle.fam_journal.specs.Notes.{Note, Host, Made, Start, Mark, Found, Writes, Answered, Stop, Halt, Refused}
 use Rattle.fam_journal.specs.Runs.{HasRun, IsPut, NoneFalls, Outside, RunsOn, SourceCaused}
@@ -128,14 +128,15 @@ last_passes test [] = false
 last_passes test (note ∷ []) = test note
 last_passes test (note ∷ next ∷ notes) = last_passes test (next ∷ notes)
 
--- it puts its last note; or the line that ends it early, alone. The media fails a mkfs alone
+-- it puts its last note; or the line that ends it early, alone. The media fails a mkfs alone; and where no memory was left
+-- no note tells that it failed
 abbrev pub ShotText : OneShot → Ending → List Note → List ℕ → Type 0
 ShotText shot AllDone journal text = (last_passes (ends_shot shot) journal ≡ true) × (text ≡ shown journal)
 ShotText (Makes fs unit log force) MkfsFails journal text = text ≡ shown journal
 ShotText (Runs what) MkfsFails journal text = ⊥
 ShotText (MakesParents path attr) MkfsFails journal text = ⊥
 ShotText shot (SourceFails end) journal text = text ≡ source_line end
-ShotText shot EndsOutOfMemory journal text = text ≡ memory_line
+ShotText shot EndsOutOfMemory journal text = (text ≡ memory_line) × IsFaultless journal
 ShotText shot EndsOutOfMemoryBroken journal text = ⊥
 ShotText shot SinkFails journal text = ⊥
 

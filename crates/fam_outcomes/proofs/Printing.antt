@@ -51,11 +51,6 @@ module _ (notes : List Kept) (i : ℕ) (note : Kept) (below : i < length notes) 
       ∙ ap (λ (l : List Kept). lines ++ render_behind names (notes_view l)) (sym one_more)
       ∙ so_far
 
-  -- and the name that it declares is added
-  pub names_put : (names after all : List (List ℕ)) → after ≡ names_after names (note_view note) → names_behind names (notes_view (drop i notes)) ≡ all → names_behind after (notes_view (drop (i + 1) notes)) ≡ all
-  names_put names after all names_are so_far =
-      ap (λ (n : List (List ℕ)). names_behind n (notes_view (drop (i + 1) notes))) names_are ∙ ap (λ (l : List Kept). names_behind names (notes_view l)) (sym one_more) ∙ so_far
-
 -- no bytes have this checksum
 pub crc_of_none : crc32 [] ≡ 0
 unfolding crc32

@@ -15,4 +15,4 @@ mod texts;
 pub use components::prefixes;
 pub use counts::{Counts, count_notes};
 pub use statuses::{is_good, last_status, last_stops, note_status, note_stops, parents_status};
-pub use texts::{note_line, print_notes, shown, storm_line, text_crc};
+pub use texts::{note_line, shown, storm_line, text_crc};

@@ -68,25 +68,6 @@ pub fn note_line(
     Ok(line)
 }
 
-/// Notes in print, one behind another. `names` are those of the hosts that were declared before them, in their order;
-/// the notes may declare more, which are added. On `OutOfMemory` some may be added.
-pub fn print_notes(
-    alloc: Global,
-    notes: &[Note],
-    names: &mut Vec<HostName>,
-) -> Result<Vec<u8>, OutOfMemory>
-    requires { NameDeclared (length names.old.items) (notes_view notes.now) }
-    ensures lines { IfOk result (λ lines. lines.items ≡ text.render_behind names.old.items (notes_view notes.now)) }
-    ensures names { OnOk result (names.new.items ≡ text.names_behind names.old.items (notes_view notes.now)) }
-{
-    let mut lines = Vec::new(alloc);
-    'notes: for note in notes {
-        let line = note_line(alloc, note, names)?;
-        put(line.as_slice(), &mut lines)?;
-    }
-    Ok(lines)
-}
-
 /// The CRC-32 of the text of a whole journal. Only one note's text is held at a time.
 pub fn text_crc(alloc: Global, notes: &[Note]) -> Result<u32, OutOfMemory>
     requires { NameDeclared 0 (notes_view notes.now) }

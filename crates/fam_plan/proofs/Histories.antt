@@ -6,15 +6,13 @@ use Rattle.std.proofs.lemmas.Bool.{cases_lt}
 use Rattle.std.proofs.lemmas.List.{append-nil, get_or_append_left, take-append-le, length-append}
 use Rattle.std.proofs.lemmas.List.Concat.{flat_map-append}
 use Rattle.std.proofs.lemmas.List.Elements.{All-weaker}
-use Rattle.std.proofs.lemmas.Nat.{le-div}
 use Rattle.std.proofs.Math.Bool.{or_assoc}
-use Rattle.std.proofs.Math.Nat.{div-le_of_le-mul, div-mul-le_self, mul-le-mul_right}
 use Rattle.std.proofs.Math.Seq.{get_or-append_seam, take-append_seam}
 use Rattle.std.proofs.lemmas.Option.{slice_get_within, slice_get-get_or, get_or_from_slice_get}
 use Rattle.fam_base.specs.declared.entry.Params.{Params}
 use Rattle.fam_base.specs.declared.entry.Entry.{Entry}
 use Rattle.fam_format.specs.EntryLaws.{IsInDevice}
-use Rattle.fam_format.specs.Layout.{device_units, head_units, log_end}
+use Rattle.fam_format.specs.Layout.{device_units, head_units}
 use Rattle.fam_format.specs.Params.{SoundParams}
 use Rattle.fam_format.specs.declared.faults.Reason.{Reason}
 use Rattle.fam_format.specs.Slot.{Proper}
@@ -23,7 +21,6 @@ use Rattle.fam_format.specs.Tree.{Tree, replay, with_entry, join_fault, tree_fau
 use Rattle.fam_format.specs.Units.{units_in, list_units, is_used, first_overlap}
 use Rattle.fam_format.proofs.EntryLawsProofs.{proper_inside}
 use Rattle.fam_format.proofs.JoinLaws.{joins_from, replay_more}
-use Rattle.fam_format.proofs.UnitPowers.{unit_told}
 use Rattle.fam_rules.specs.Place.{IsOnce, IsLaidOut}
 use Rattle.fam_rules.proofs.FilePlaces.{unit_some}
 use Rattle.fam_rules.proofs.ListPlaces.{laid_apart}
@@ -120,17 +117,6 @@ fault_by_units s held map e plan proper fits =
     ∙ fault_by_parts s held map e plan proper
 
 -- No entries.
-
--- a device has at most 2 ^ 28 units
-pub units_few : (p : Params) → SoundParams p → device_units p ≤ 268435456
-units_few p sound =
-    let is = unit_told p.unit sound.unit in
-    div-le_of_le-mul p.unit (let most : p.device ≤ p.unit * 268435456 = omega (arith, sound.device, mul-le-mul_right 268435456 is.least) in most)
-
--- superblock and log lie in it
-pub head_within : (p : Params) → SoundParams p → head_units p ≤ device_units p
-head_within p sound =
-    le-div (head_units p) p.device p.unit (unit_some p sound) (omega (arith, sound.need, div-mul-le_self (log_end p) p.unit))
 
 pub plan_of_none : (p : Params) (map : List Bool) → SoundParams p → length map ≡ device_units p → ((u : ℕ) → is_taken map u ≡ nat_lt u (head_units p)) → IsPlan (record { params = p; entries = [] }) finmap.empty map
 plan_of_none p map sound count taken = record {

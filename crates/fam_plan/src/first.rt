@@ -21,7 +21,7 @@ use fam_rules::Refused;
 use uuid::Uuid;
 
 /// The first unit of an entry that superblock and log use, or that stands twice in it.
-fn first_overlap(params: &Params, entry: &Entry) -> Option<u64>
+fn overlap_alone(params: &Params, entry: &Entry) -> Option<u64>
     requires sound { SoundParams params.now }
     requires proper { Proper params.now entry.now }
     ensures { result ≡ first_overlap (λ u. nat_lt u (head_units params.now))
@@ -41,7 +41,7 @@ pub fn first_entry_fault(params: &Params, entry: &Entry) -> Option<Reason>
     if entry.path.parent().is_some() {
         return Some(Reason::NoParent);
     }
-    match first_overlap(params, entry) {
+    match overlap_alone(params, entry) {
         Some(unit) => Some(Reason::Overlap(unit)),
         None => None,
     }

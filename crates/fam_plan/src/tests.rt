@@ -1,6 +1,6 @@
 //! Worked decisions, refusals and additions, and calls with ample memory.
 
-ghost use Rattle.std.specs.Prelude.{IsSome, IfOk};
+ghost use Rattle.std.specs.Prelude.{◌≡◌, IsSome, IfOk};
 ghost use Rattle.fam_base.specs.Commands.{IsSoundCmd};
 ghost use Rattle.fam_format.specs.Params.{SoundParams};
 ghost use Rattle.fam_rules.specs.Decide.{wish_of};
@@ -29,7 +29,10 @@ fn own() -> Uuid {
 
 /// A unit of 4 KiB and a log of 64 KiB on a device of 4 MiB: 1,024 units, 528 of them the superblock's and the log's.
 fn params() -> Params
-    ensures { SoundParams result }
+    ensures sound { SoundParams result }
+    ensures log { result.log_length ≡ 65536 }
+    ensures slots { result.slots ≡ 127 }
+    ensures unit { result.unit ≡ 4096 }
 {
     let own = Uuid::from_bytes([
         0x22, 0x22, 0x22, 0x22, 0x22, 0x22, 0x22, 0x22, 0x22, 0x22, 0x22, 0x22, 0x22, 0x22, 0x22,
@@ -49,17 +52,9 @@ fn params() -> Params
 fn larger() -> Params
     ensures { SoundParams result }
 {
-    let own = Uuid::from_bytes([
-        0x22, 0x22, 0x22, 0x22, 0x22, 0x22, 0x22, 0x22, 0x22, 0x22, 0x22, 0x22, 0x22, 0x22, 0x22,
-        0x22,
-    ]);
     Params {
-        log_length: 65_536,
-        slots: 127,
-        unit: 4_096,
         device: 8_388_608,
-        fs: own,
-        master: own,
+        ..params()
     }
 }
 
@@ -67,17 +62,10 @@ fn larger() -> Params
 fn short_log() -> Params
     ensures { SoundParams result }
 {
-    let own = Uuid::from_bytes([
-        0x22, 0x22, 0x22, 0x22, 0x22, 0x22, 0x22, 0x22, 0x22, 0x22, 0x22, 0x22, 0x22, 0x22, 0x22,
-        0x22,
-    ]);
     Params {
         log_length: 4_096,
         slots: 7,
-        unit: 4_096,
-        device: 4_194_304,
-        fs: own,
-        master: own,
+        ..params()
     }
 }
 
@@ -267,17 +255,11 @@ fn the_first_cause_refuses(rt: HostRuntime) -> Result<(), Fail> {
 fn long_log() -> Params
     ensures { SoundParams result }
 {
-    let own = Uuid::from_bytes([
-        0x22, 0x22, 0x22, 0x22, 0x22, 0x22, 0x22, 0x22, 0x22, 0x22, 0x22, 0x22, 0x22, 0x22, 0x22,
-        0x22,
-    ]);
     Params {
         log_length: 1_048_576,
         slots: 2_047,
-        unit: 4_096,
         device: 67_108_864,
-        fs: own,
-        master: own,
+        ..params()
     }
 }
 

@@ -16,7 +16,7 @@ use Rattle.fam_journal.specs.declared.refusal.Refusal.{Refusal}
 use Rattle.fam_journal.specs.declared.refusal.Refusal.TheVariants as why
 use Rattle.fam_journal.specs.declared.status.Status.{Status}
 use Rattle.fam_journal.specs.declared.status.Status.TheVariants as status
-use Rattle.fam_journal.specs.Ends.{AllDone, Ending, EndsOutOfMemory, EndsOutOfMemoryBroken, MkfsFails, SourceFails}
+use Rattle.fam_journal.specs.Ends.{AllDone, Ending, IsFaultless, EndsOutOfMemory, EndsOutOfMemoryBroken, MkfsFails, SourceFails}
 use Rattle.fam_journal.specs.EventForms.{FollowsForm}
 use Rattle.fam_journal.specs.Follows.{SourceEnd}
 use Rattle.fam_journal.specs.Names.{NameDeclared}
@@ -32,6 +32,7 @@ use Rattle.fam_program.specs.Quiet.{GoesOn, HasStopped, MayLack, ShotEnded}
 use Rattle.fam_program.specs.Runs.{HasEnded}
 use Rattle.fam_program.specs.Shots.{LastSays, ShotSays, is_short}
 use Rattle.fam_program.proofs.Answering.{behind_first, host_end, mkfs_end, runs_end, stopped_end}
+use Rattle.fam_program.proofs.Hiding.{long_faultless}
 use Rattle.fam_program.proofs.Prefixing.{alone_events, makes_one, none_breaks, parents_end}
 use Rattle.fam_program.proofs.Putting.{IsOwn}
 use Rattle.fam_program.proofs.Sparing.{last_behind}
@@ -201,13 +202,13 @@ module _ (name me : List ℕ) (shot : OneShot) (out : Outside) (journal : List N
     }
 
     -- no memory was left for an event
-    wants : SparesImage shot status.OutOfMemory out → HasEnded EndsOutOfMemory out all journal → GoesOn journal → Put status.OutOfMemory memory_line (sink_of out) given → Top
-    wants spares x goes put = ran EndsOutOfMemory all memory_line x (whole goes, refl) memory_own spares put
+    wants : SparesImage shot status.OutOfMemory out → HasEnded EndsOutOfMemory out all journal → GoesOn journal → IsFaultless journal → Put status.OutOfMemory memory_line (sink_of out) given → Top
+    wants spares x goes clean put = ran EndsOutOfMemory all memory_line x (whole goes, (refl, clean)) memory_own spares put
 
     -- a source ended early
-    ended : SparesImage shot status.OutOfMemory out → (end : SourceEnd) → HasEnded (SourceFails end) out all journal → GoesOn journal → Put status.SourceFault (source_line end) (sink_of out) given ⊎ Put status.OutOfMemory memory_line (sink_of out) given → Top
-    ended spares end x goes (inl put) = ran (SourceFails end) all (source_line end) x (whole goes, refl) source_own (own_spares shot status.SourceFault out (λ e. absurd cc)) put
-    ended spares end x goes (inr put) = wants spares (source_wants end out all journal x) goes put
+    ended : SparesImage shot status.OutOfMemory out → (end : SourceEnd) → HasEnded (SourceFails end) out all journal → GoesOn journal → IsFaultless journal → Put status.SourceFault (source_line end) (sink_of out) given ⊎ Put status.OutOfMemory memory_line (sink_of out) given → Top
+    ended spares end x goes clean (inl put) = ran (SourceFails end) all (source_line end) x (whole goes, refl) source_own (own_spares shot status.SourceFault out (λ e. absurd cc)) put
+    ended spares end x goes clean (inr put) = wants spares (source_wants end out all journal x) goes clean put
 
     -- the run has come to its end
     done : SparedRun shot out (last_passes is_short journal ≡ false) → (x : HasStopped out all journal) → last_passes (ends_shot shot) journal ≡ true → LastSays (done_status shot journal) journal (sink_of out) given → Top
@@ -215,7 +216,7 @@ module _ (name me : List ℕ) (shot : OneShot) (out : Outside) (journal : List N
       where
         by_put : IsWholeRun me shot (take x.count all) journal → LastSays (done_status shot journal) journal (sink_of out) given → Top
         by_put run (inl put) = ran AllDone (take x.count all) (shown journal) x.ended (run, (ends, refl)) (done_own shot journal) (done_spares shot journal out) put
-        by_put run (inr put) = ran EndsOutOfMemory (take x.count all) memory_line (done_wants out (take x.count all) journal x.ended) (run, refl) memory_own (lack_spares shot status.OutOfMemory out (last_passes is_short journal ≡ false) spared put.1) put.0
+        by_put run (inr put) = ran EndsOutOfMemory (take x.count all) memory_line (done_wants out (take x.count all) journal x.ended) (run, (refl, long_faultless journal x.goes_on put.1)) memory_own (lack_spares shot status.OutOfMemory out (last_passes is_short journal ≡ false) spared put.1) put.0
 
         by_count : (k : ℕ) → x.count ≡ k → LastSays (done_status shot journal) journal (sink_of out) given → Top
         by_count zero is put = absurd (none_done x is)
@@ -284,9 +285,9 @@ module _ (name me : List ℕ) (out : Outside) (journal : List Note) where
     -- by how the run has ended, and what was put then
     pub shot_top : (shot : OneShot) (ended_so : Result (Unit {0}) EventFault) → SparedRun shot out (MayLack ended_so journal) → ShotEnded ended_so out (alone_events name me shot) journal → ShotSays ended_so (done_status shot journal) journal (sink_of out) given → TopEnds script_events storm (Some (Single me shot)) out given
     shot_top shot (Ok x) spared stopped says = done name me shot out journal given later spared stopped (shot_ends shot stopped) says
-    shot_top shot (Err fault.MkfsFailed) spared x says = broken shot x.0 x.1 says
-    shot_top shot (Err (fault.SourceEnded end)) spared x says = ended name me shot out journal given later (lack_spares shot status.OutOfMemory out ⊤ spared tt) (end_of end) x.0 x.1 says
-    shot_top shot (Err fault.OutOfMemory) spared x says = wants name me shot out journal given later (lack_spares shot status.OutOfMemory out ⊤ spared tt) x.0 x.1 says
+    shot_top shot (Err fault.MkfsFailed) spared x says = broken shot x.0 x.1.0 says
+    shot_top shot (Err (fault.SourceEnded end)) spared x says = ended name me shot out journal given later (lack_spares shot status.OutOfMemory out ⊤ spared tt) (end_of end) x.0 x.1.0 x.1.1 says
+    shot_top shot (Err fault.OutOfMemory) spared x says = wants name me shot out journal given later (lack_spares shot status.OutOfMemory out ⊤ spared tt) x.0 x.1.0 x.1.1 says
 
 -- the notes of a run name hosts that were declared before them
 pub shot_named : (ended : Result (Unit {0}) EventFault) (out : Outside) (events : List Event) (journal : List Note) → ShotEnded ended out events journal → NameDeclared 0 journal

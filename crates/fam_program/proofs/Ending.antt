@@ -12,7 +12,7 @@ use Rattle.fam_sources.specs.Sourced.{HasEndCause, end_of}
 use Rattle.fam_sources.specs.Whole.{ShelfChange}
 use Rattle.fam_journal.specs.declared.event.Event.{Event}
 use Rattle.fam_journal.specs.declared.event.Event.TheVariants as event
-use Rattle.fam_journal.specs.Ends.{AllDone, Ending, EndsOutOfMemory, EndsOutOfMemoryBroken, HasCounted, MkfsFails, SinkFails, SourceFails}
+use Rattle.fam_journal.specs.Ends.{AllDone, EndsOutOfMemory, EndsOutOfMemoryBroken, HasCounted, MkfsFails, SinkFails, SourceFails}
 use Rattle.fam_journal.specs.EventForms.{EndsForm, EventBreaksForm, EventPartForm, FollowsForm, FormUpTo}
 use Rattle.fam_journal.specs.Events.{BreaksEvent, DoesEvent, PartOf, Session, first_session}
 use Rattle.fam_journal.specs.Follows.{Follows, FollowsBroken, FollowsLast, ReadsSource}
@@ -35,14 +35,6 @@ risen before now (inl less) = omega (arith, less)
 risen before now (inr full) = omega (arith, full)
 
 -- what the run's outside is
-pub record IsOutside (b : Base) (n : Now) (out : Outside) : Type 0 where
-  pub lines : out.lines ≡ b.lines
-  pub image : out.image ≡ b.told
-  pub image_now : out.image_now ≡ n.told
-  pub faults : out.faults ≡ b.faults
-  pub faults_now : out.faults_now ≡ n.faults
-  pub files : out.files ≡ b.files
-
 abbrev pub out_of : Base → Now → ShelfChange → ℕ → ℕ → Option (List ℕ) → Option (List ℕ) → Outside
 out_of b n shelf sink sink_now bytes bytes_now = record {
   lines = b.lines;

@@ -11,6 +11,7 @@ pub mod Filing
 pub mod Quietly
 pub mod Tops
 pub mod Stopping
+pub mod Hiding
 pub mod Answering
 pub mod Prefixing
 pub mod NumberLines

@@ -1,6 +1,6 @@
 -- Notes from a place on, and the names of hosts that are declared before and behind it.
-use Rattle.std.proofs.Common.{◌≡◌, ℕ, ◌+◌, ◌-◌, ◌<◌, ◌≤◌, get_or, List, [], ◌∷◌, ◌++◌, length, take, drop, refl, ap, sym, ◌∙◌, subst, arith}
-use Rattle.std.proofs.lemmas.List.{append-nil, append_assoc, drop-map, length-append, length-drop, length-map, map_more, take-append-drop, take-map, take_all}
+use Rattle.std.proofs.Common.{◌≡◌, ℕ, ◌+◌, ◌-◌, ◌<◌, get_or, List, [], ◌∷◌, ◌++◌, length, take, drop, refl, ap, sym, ◌∙◌, subst, arith}
+use Rattle.std.proofs.lemmas.List.{append-nil, append_assoc, drop-map, length-append, length-drop, map_more, take-append-drop, take-map, take_all}
 use Rattle.fam_journal.specs.Names.{NameDeclared, declared_after}
 use Rattle.fam_journal.specs.Notes.{Note, Host, Made, Start, Mark, Found, Writes, Answered, Stop, Halt, Refused}
 use Rattle.fam_journal.specs.Texts.{names_after, names_behind, note_line, render_behind}
@@ -61,10 +61,6 @@ text_both names (note ∷ a) b =
 -- it is the front of the text of all
 pub text_front : (names : List (List ℕ)) (notes : List Note) (k : ℕ) → render_behind names notes ≡ render_behind names (take k notes) ++ render_behind (names_behind names (take k notes)) (drop k notes)
 text_front names notes k = ap (render_behind names) (sym (take-append-drop k notes)) ∙ text_both names (take k notes) (drop k notes)
-
--- and that of all, at the end
-pub all_views : (kept : List Kept) (k : ℕ) → length kept ≤ k → take k (notes_view kept) ≡ notes_view kept
-all_views kept k end = take_all k (notes_view kept) (let same = length-map kept note_view in omega (arith, same, end))
 
 -- one note more
 module _ (kept : List Kept) (i : ℕ) (note : Kept) (below : i < length kept) (is : note ≡ get_or kept i note) where

@@ -12,7 +12,7 @@ use Rattle.fam_journal.specs.declared.refusal.Refusal.TheVariants as why
 use Rattle.fam_journal.specs.Calls as call
 use Rattle.fam_journal.specs.Calls.{may_begin, number_of}
 use Rattle.fam_journal.specs.EventForms.{EventBreaksForm, EventForm, EventPartForm, StartForm, UnfitNotes}
-use Rattle.fam_journal.specs.Forms.{ActsForm, AnswerForm, AtForm, CompletesForm, DirtyForm, FormByRefusal, HostActsForm, HostForm, OfHostForm, OfRunning, OfTask, OperationsForm, TaskForm, TaskNote, forms_after, refusal_told, shown_forms}
+use Rattle.fam_journal.specs.Forms.{ActsForm, AnswerForm, AtForm, CompletesForm, DirtyForm, FormByRefusal, HostActsForm, HostForm, OfHostForm, OfRunning, OfTask, OperationsForm, UnfinishedForm, TaskForm, TaskNote, forms_after, refusal_told, shown_forms}
 use Rattle.fam_journal.specs.Members.{changed_at}
 use Rattle.fam_journal.specs.Notes.{Note, Host, Made, Start, Mark, Found, Writes, Answered, Stop, Halt, Refused}
 use Rattle.fam_journal.specs.Programs.{without_last}
@@ -42,7 +42,7 @@ of_here (Some f) P host h x = by_task f.task x
     by_task None x = absurd x
     by_task (Some t) x = x.0
 
-of_none : (o : Option HostForm) → OfRunning o (λ me t. ⊥) → ⊥
+pub of_none : (o : Option HostForm) → OfRunning o (λ me t. ⊥) → ⊥
 of_none None x = x
 of_none (Some f) x = by_task f.task x
   where
@@ -133,7 +133,7 @@ part_goes : (e : Event) → IsShotEvent e → (lines : ℕ) (hosts : List HostFo
 part_goes (event.Host name uuid) is lines hosts notes x = absurd x
 part_goes (event.Mkfs name fs unit log force) is lines hosts notes x = absurd x
 part_goes (event.Begin name what) is lines hosts notes x = absurd is
-part_goes (event.Run name what) is lines hosts notes x = started name what lines hosts notes OperationsForm (λ h fs ns y. y) x
+part_goes (event.Run name what) is lines hosts notes x = started name what lines hosts notes UnfinishedForm (λ h fs ns y. y.operations) x
 part_goes (event.Step name count) is lines hosts notes x = absurd is
 part_goes (event.Finish name) is lines hosts notes x = absurd is
 part_goes (event.Stop name) is lines hosts notes x = absurd is
@@ -148,7 +148,7 @@ cut_goes e is lines hosts notes (inr x) = part_goes e is lines hosts notes x
 
 -- Notes behind others, none of which stops.
 
-or_parts : (a b : Bool) → (a || b) ≡ false → (a ≡ false) × (b ≡ false)
+pub or_parts : (a b : Bool) → (a || b) ≡ false → (a ≡ false) × (b ≡ false)
 or_parts true b h = (h, cc)
 or_parts false b h = (refl, h)
 

@@ -4,12 +4,13 @@ use Rattle.std.specs.List.{list_any}
 use Rattle.fam_journal.specs.declared.event.Ask.{Ask}
 use Rattle.fam_journal.specs.declared.event.Event.{Event}
 use Rattle.fam_journal.specs.declared.event.Event.TheVariants as event
-use Rattle.fam_journal.specs.Ends.{AllDone}
+use Rattle.fam_journal.specs.Ends.{AllDone, IsFaultless}
 use Rattle.fam_journal.specs.Notes.{Note}
 use Rattle.fam_journal.specs.Programs.{last_passes, without_last}
 use Rattle.fam_journal.specs.Runs.{Outside}
 use Rattle.fam_journal.specs.Statuses.{last_stops, note_stops}
 use Rattle.fam_events.specs.declared.fault.EventFault.{EventFault}
+use Rattle.fam_events.specs.declared.fault.EventFault.TheVariants as fault
 use Rattle.fam_program.specs.Runs.{HasEnded, ending_of}
 use Rattle.fam_program.specs.Shots.{is_short}
 
@@ -48,10 +49,16 @@ pub record HasStopped (out : Outside) (events : List Event) (journal : List Note
   pub goes_on : GoesOn journal
   pub all : last_stops journal ≡ false → take count events ≡ events
 
+-- where a run ends early, but by a mkfs in which the media failed, no note of it tells a media fault
+abbrev pub HidesNoFault : EventFault → List Note → Type 0
+HidesNoFault fault.MkfsFailed journal = ⊤
+HidesNoFault (fault.SourceEnded end) journal = IsFaultless journal
+HidesNoFault fault.OutOfMemory journal = IsFaultless journal
+
 -- or one of them ended the run early
 abbrev pub ShotEnded : Result (Unit {0}) EventFault → Outside → List Event → List Note → Type 0
 ShotEnded (Ok x) out events journal = HasStopped out events journal
-ShotEnded (Err fault) out events journal = HasEnded (ending_of fault) out events journal × GoesOn journal
+ShotEnded (Err fault) out events journal = HasEnded (ending_of fault) out events journal × GoesOn journal × HidesNoFault fault journal
 
 -- one host is declared, and runs one command
 pub record IsOneRun (events : List Event) : Type 0 where

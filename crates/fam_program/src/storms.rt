@@ -3,7 +3,7 @@
 ghost use Rattle.std.specs.Prelude.{◌≡◌, ◌≤◌, ◌⊎◌, IfOk, List, Ok, Some, length};
 ghost use Rattle.fam_grammar.specs.Scripts.{script_events};
 ghost use Rattle.fam_journal.specs.declared.event.Event.{Event as Happening};
-ghost use Rattle.fam_journal.specs.declared.status.Status.TheVariants.{OutOfMemory as WantsMemory};
+ghost use Rattle.fam_journal.specs.declared.status.Status.TheVariants as status;
 ghost use Rattle.fam_journal.specs.Names.{NameDeclared};
 ghost use Rattle.fam_journal.specs.Programs.{Storm, TopEnds, memory_line};
 ghost use Rattle.fam_journal.specs.Programs as program;
@@ -81,7 +81,7 @@ fn put_summary<K: Sink>(
     requires named { NameDeclared 0 world.now.journal }
     ensures put { (all : List Happening) → events ≡ length all
         → Put own (program.storm_line seed size all world.now.journal) (sink_changed K.bytes K.faults out.old out.new) result
-        ⊎ Put WantsMemory memory_line (sink_changed K.bytes K.faults out.old out.new) result }
+        ⊎ Put status.OutOfMemory memory_line (sink_changed K.bytes K.faults out.old out.new) result }
     ensures later { K.faults out.old ≤ K.faults out.new }
 {
     match summary(alloc, seed, size, events, world) {

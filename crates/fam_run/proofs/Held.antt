@@ -29,7 +29,7 @@ use Rattle.fam_run.proofs.Left.{left}
 use Rattle.fam_run.proofs.Running.{kept_on}
 
 -- loads of a line that the cache holds
-pub loads_held : (line : LineNo) (words : List ℕ) (t next : Task) (held : Cache) → IsHeld (cell_at held line.0) → words ≡ words_of (cell_at held line.0) → Loads line words t next → HeldRun t held next held
+pub loads_held : (line : LineNo) (words : List ℕ) (t next : Task) (held : Cache) {n : ℕ} → IsHeld (cell_at held line.0) → words ≡ words_of (cell_at held line.0) → Loads line words t next n → HeldRun t held next held n
 loads_held line words t _ held there same rest.none = none
 loads_held line words t next held there same (rest.more {mid = mid} before sound k op within turn) =
     let word : Some (slice_index words k) ≡ word_of (op_of mid) held = ap (λ (w : List ℕ). Some (slice_index w k)) same ∙ sym (ap (λ (o : Op). word_of o held) op) in
@@ -52,7 +52,7 @@ held_still_stored line words held (suc n) there =
     let cell : Cell = Dirty (slice_set (words_of (cell_at now line.0)) (suc n) (slice_index words (suc n))) in
     subst IsHeld {x = cell} (sym (cell_at-with_cell_same line.0 cell now)) refl
 
-stores_run : (line : LineNo) (words : List ℕ) (t next : Task) (held : Cache) (n : ℕ) → IsHeld (cell_at held line.0) → Stores line words t next n → HeldRun t held next (stored_words line words held n)
+stores_run : (line : LineNo) (words : List ℕ) (t next : Task) (held : Cache) (n : ℕ) → IsHeld (cell_at held line.0) → Stores line words t next n → HeldRun t held next (stored_words line words held n) n
 unfolding stored_words
 stores_run line words t _ held _ there rest.begins = none
 stores_run line words t next held _ there (rest.stores {mid = mid} {n = n} before sound op within turn) =
@@ -86,9 +86,9 @@ all_set words (a ∷ b ∷ c ∷ d ∷ e ∷ f ∷ g ∷ h ∷ []) count = refl
 all_set words old count = absurd cc
 
 -- the seven stores of a line that the cache holds
-pub stores_held : (line : LineNo) (words : List ℕ) (t next : Task) (held after : Cache) → IsHeld (cell_at held line.0) → length (words_of (cell_at held line.0)) ≡ 8 → after ≡ with_cell line.0 (Dirty (rest_stored words (words_of (cell_at held line.0)))) held → Stores line words t next 7 → HeldRun t held next after
+pub stores_held : (line : LineNo) (words : List ℕ) (t next : Task) (held after : Cache) → IsHeld (cell_at held line.0) → length (words_of (cell_at held line.0)) ≡ 8 → after ≡ with_cell line.0 (Dirty (rest_stored words (words_of (cell_at held line.0)))) held → Stores line words t next 7 → HeldRun t held next after 7
 stores_held line words t next held after there whole is run =
-    subst (HeldRun t held next)
+    subst (λ (c : Cache). HeldRun t held next c 7)
     (stored_are line words held 6 ∙ ap (λ (w : List ℕ). with_cell line.0 (Dirty w) held) (all_set words (words_of (cell_at held line.0)) whole) ∙ sym is)
     (stores_run line words t next held 7 there run)
 
@@ -165,13 +165,8 @@ module _ (mid next : Task) (now after : Cache) (of : IsOfHeld (op_of mid) now) (
 
 -- All of them.
 
--- some behind others
-pub held_both : (t mid next : Task) (held now after : Cache) → HeldRun t held mid now → HeldRun mid now next after → HeldRun t held next after
-held_both t mid _ held now _ first none = first
-held_both t mid next held now after first (more before sound within of is turn) = more (held_both t mid _ held now _ first before) sound within of is turn
-
 -- the drop of a line that isn't dirty
-pub drop_held : (line : LineNo) (t next : Task) (held : Cache) → IsSound t → DropsLine line t next → ¬ (IsDirty (cell_at held line.0)) → HeldRun t held next (with_cell line.0 Absent held)
+pub drop_held : (line : LineNo) (t next : Task) (held : Cache) → IsSound t → DropsLine line t next → ¬ (IsDirty (cell_at held line.0)) → HeldRun t held next (with_cell line.0 Absent held) 1
 drop_held line t next held sound drops clean =
     more none sound
     (subst (IsWithin t.lines) (sym drops.op) drops.within)
@@ -179,13 +174,13 @@ drop_held line t next held sound drops clean =
     (sym (ap (λ (o : Op). held_after o held) drops.op))
     (ap (λ (o : Op). turn_of t (word_of o held)) drops.op ∙ drops.turn)
 
-pub held_lines : (t next : Task) (held after : Cache) → HeldRun t held next after → next.lines ≡ t.lines
+pub held_lines : (t next : Task) (held after : Cache) {n : ℕ} → HeldRun t held next after n → next.lines ≡ t.lines
 held_lines t _ held _ none = refl
 held_lines t next held after (more {mid = mid} {now = now} before sound within of is turn) =
     (kept_on after mid next Go refl sound (held_goes mid next now after of is turn)).lines ∙ held_lines t mid held now before
 
 -- no more operations may come than before
-pub held_left : (t next : Task) (held after : Cache) → HeldRun t held next after → IsSound next → left next ≤ left t
+pub held_left : (t next : Task) (held after : Cache) {n : ℕ} → HeldRun t held next after n → IsSound next → left next ≤ left t
 held_left t _ held _ none sound_next = omega arith
 held_left t next held after (more {mid = mid} {now = now} before sound within of is turn) sound_next =
     let here = (kept_on after mid next Go refl sound (held_goes mid next now after of is turn)).falls sound_next.stands in

@@ -31,7 +31,7 @@ use Rattle.fam_run.specs.Places.{HasPlaces, HasPlacesAt, IsReadyAt}
 use Rattle.fam_run.specs.Operation.{ended}
 use Rattle.fam_run.specs.Held as run
 use Rattle.fam_run.specs.Held.{HeldRun, IsOfHeld, held_after}
-use Rattle.fam_run.specs.Wanted.{WantedBy}
+use Rattle.fam_run.specs.Room.{LacksRoom}
 use Rattle.fam_run.proofs.Running.{goes_on, no_reply}
 
 -- what an operation makes of the cache's places: one that brings no line takes none, and what is stored into is held
@@ -135,21 +135,21 @@ module _ (t : Task) (cache after : CacheState) where
   kept_at at.SendGate word sound place ready has = tt
 
 -- and no operation of it finds no place
-wanted_at : (p : Phase) (t : Task) (cache : CacheState) → IsSoundAt p t → HasPlacesAt p t cache → WantedBy (op_at t p) t cache → ⊥
-wanted_at at.DropMagic t cache sound has wants = has
-wanted_at at.Magic t cache sound has wants = has
-wanted_at (at.Drop part j) t cache sound has wants = has
-wanted_at (at.Word part j k) t cache sound has wants = has
-wanted_at at.DropGate t cache sound has wants = has
-wanted_at at.Gate t cache sound has wants = has
-wanted_at (at.Check i) t cache sound has wants = has
-wanted_at at.Decide t cache sound has wants = has
-wanted_at (at.StoreData j k) t cache sound has wants = omega (arith, has.0, wants.0)
-wanted_at (at.SendData j) t cache sound has wants = wants
-wanted_at (at.StoreSlot i k) t cache sound has wants = omega (arith, has.begun, wants.0, sound.1)
-wanted_at (at.SendSlot i) t cache sound has wants = wants
-wanted_at at.StoreGate t cache sound has wants = omega (arith, has, wants.0)
-wanted_at at.SendGate t cache sound has wants = wants
+room_at : (p : Phase) (t : Task) (cache : CacheState) → IsSoundAt p t → HasPlacesAt p t cache → LacksRoom (op_at t p) t cache → ⊥
+room_at at.DropMagic t cache sound has wants = has
+room_at at.Magic t cache sound has wants = has
+room_at (at.Drop part j) t cache sound has wants = has
+room_at (at.Word part j k) t cache sound has wants = has
+room_at at.DropGate t cache sound has wants = has
+room_at at.Gate t cache sound has wants = has
+room_at (at.Check i) t cache sound has wants = has
+room_at at.Decide t cache sound has wants = has
+room_at (at.StoreData j k) t cache sound has wants = omega (arith, has.0, wants.0)
+room_at (at.SendData j) t cache sound has wants = wants
+room_at (at.StoreSlot i k) t cache sound has wants = omega (arith, has.begun, wants.0, sound.1)
+room_at (at.SendSlot i) t cache sound has wants = wants
+room_at at.StoreGate t cache sound has wants = omega (arith, has, wants.0)
+room_at at.SendGate t cache sound has wants = wants
 
 -- Of the operation that comes next.
 
@@ -159,8 +159,8 @@ kept t next op word turn modelled cache after is sound one none leaves tells on 
     subst (λ (o : Option Task). IfSome o (λ next. HasPlaces next after)) (goes_on (turn_of t word) turn next on tells)
     (kept_at t cache after t.phase (unwrap_or word 0) sound.stands place ready has)
 
-pub wants_none : (t : Task) (cache : CacheState) → IsSound t → WantedBy (op_of t) t cache → ¬ (HasPlaces t cache)
-wants_none t cache sound wants has = wanted_at t.phase t cache sound.stands has wants
+pub lacks_places : (t : Task) (cache : CacheState) → IsSound t → LacksRoom (op_of t) t cache → ¬ (HasPlaces t cache)
+lacks_places t cache sound wants has = room_at t.phase t cache sound.stands has wants
 
 -- one that looks at what was read is none of an append behind its first store
 digest_at : (p : Phase) (t : Task) (cache : CacheState) → op_at t p ≡ Digest → HasPlacesAt p t cache → ⊥
@@ -228,7 +228,7 @@ held_step t next now after spare word sound of held turn has =
     subst (λ (w : turns.Turn). KeptBy w (with_places after spare)) turn
     (kept_at t (with_places now spare) (with_places after spare) t.phase (unwrap_or word 0) sound.stands place (ready_of t.phase t (with_places now spare) of) has)
 
-run_kept : (t next : Task) (held after : Cache) (spare : ℕ) → HeldRun t held next after → HasPlaces t (with_places held spare) → HasPlaces next (with_places after spare)
+run_kept : (t next : Task) (held after : Cache) (spare : ℕ) {n : ℕ} → HeldRun t held next after n → HasPlaces t (with_places held spare) → HasPlaces next (with_places after spare)
 run_kept t _ held _ spare run.none has = has
 run_kept t next held after spare (run.more {mid = mid} {now = now} before sound within of is turn) has =
     held_step mid next now after spare (word_of (op_of mid) now) sound of (held_of (op_of mid) now after of is) turn (run_kept t mid held now spare before has)
@@ -258,7 +258,7 @@ pub more_has : (t : Task) (cache after : CacheState) → after.lines ≡ cache.l
 more_has t cache after same le has =
     more_places t.phase t after.lines cache.spare after.spare le (subst (λ (lines : Cache). HasPlaces t (with_places lines cache.spare)) (sym same) has)
 
-pub held_kept : (t next : Task) (cache after : CacheState) → HeldRun t cache.lines next after.lines → cache.spare ≤ after.spare → HasPlaces t cache → HasPlaces next after
+pub held_kept : (t next : Task) (cache after : CacheState) {n : ℕ} → HeldRun t cache.lines next after.lines n → cache.spare ≤ after.spare → HasPlaces t cache → HasPlaces next after
 held_kept t next cache after run le has =
     more_places next.phase next after.lines cache.spare after.spare le (run_kept t next cache.lines after.lines cache.spare run has)
 

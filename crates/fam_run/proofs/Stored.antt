@@ -31,7 +31,7 @@ use Rattle.fam_run.specs.Step.{Around}
 use Rattle.fam_run.proofs.Held.{held_goes, held_leaves, held_turned, stores_held, tells_go}
 
 -- operations on a line that is held leave memory
-pub held_led : (modelled : Option Image) → IsNormal modelled → (t next : Task) (now after : Cache) (u : Task) (before : Cache) → Led modelled u before t now → HeldRun t now next after → Led modelled u before next after
+pub held_led : (modelled : Option Image) → IsNormal modelled → (t next : Task) (now after : Cache) (u : Task) (before : Cache) {n : ℕ} → Led modelled u before t now → HeldRun t now next after n → Led modelled u before next after
 held_led modelled normal t _ now _ u before led held.none = led
 held_led modelled normal t next now after u before led (held.more {mid = mid} {now = mid_held} run sound within of is turn) =
     more (held_led modelled normal t mid now mid_held u before led run) (record {

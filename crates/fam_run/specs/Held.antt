@@ -1,5 +1,5 @@
 -- Operations of a task on copies of its host alone, one after another: they ask nothing of the media, and can't fail.
-use Rattle.std.specs.Prelude.{◌≡◌, slice_set}
+use Rattle.std.specs.Prelude.{ℕ, suc, ◌≡◌, slice_set}
 use Rattle.fam_machine.specs.declared.cell.Cell.TheVariants.{Absent, Dirty}
 use Rattle.fam_machine.specs.declared.op.Op.{Op}
 use Rattle.fam_machine.specs.declared.op.Op.TheVariants.{Load, Store, WriteBack, Invalidate, Digest}
@@ -29,8 +29,8 @@ held_after (WriteBack line) held = held
 held_after (Invalidate line) held = with_cell line.0 Absent held
 held_after Digest held = held
 
--- the task and its host's cache, and what such operations leave of both: behind each of them the task just goes on, a
--- load by the word of the copy
-pub data HeldRun : Task → Cache → Task → Cache → Type 0 where
-  none : {t : Task} {held : Cache} → HeldRun t held t held
-  more : {t mid next : Task} {held now after : Cache} → HeldRun t held mid now → IsSound mid → IsWithin mid.lines (op_of mid) → IsOfHeld (op_of mid) now → after ≡ held_after (op_of mid) now → turn_of mid (word_of (op_of mid) now) ≡ Goes next → HeldRun t held next after
+-- the task and its host's cache, and what so many such operations leave of both: behind each of them the task just goes
+-- on, a load by the word of the copy
+pub data HeldRun : Task → Cache → Task → Cache → ℕ → Type 0 where
+  none : {t : Task} {held : Cache} → HeldRun t held t held 0
+  more : {t mid next : Task} {held now after : Cache} {n : ℕ} → HeldRun t held mid now n → IsSound mid → IsWithin mid.lines (op_of mid) → IsOfHeld (op_of mid) now → after ≡ held_after (op_of mid) now → turn_of mid (word_of (op_of mid) now) ≡ Goes next → HeldRun t held next after (suc n)

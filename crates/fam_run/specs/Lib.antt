@@ -4,5 +4,5 @@ pub mod Step
 pub mod Held
 pub mod Led
 pub mod Whole
-pub mod Wanted
+pub mod Room
 pub mod Places

@@ -9,7 +9,7 @@ ghost use Rattle.fam_cache.specs.Operations.{LeavesCache};
 ghost use Rattle.fam_run.specs.Looked.{IfDone};
 ghost use Rattle.fam_run.specs.Operation.{GoesOn, HasTurned, IsNoFault, KeepsLines};
 ghost use Rattle.fam_run.specs.Places.{HasPlaces};
-ghost use Rattle.fam_run.specs.Wanted.{WantedBy};
+ghost use Rattle.fam_run.specs.Room.{LacksRoom};
 
 use crate::looking::{Ending, Looked};
 use fam_base::OutOfMemory;
@@ -35,7 +35,7 @@ pub(crate) fn check_next<M: Media>(
     ensures own { IfOk result (λ looked. IfDone looked IsNoFault) }
     ensures done { IfOk result (λ looked. looked ≢ Looked.Other) }
     ensures err { OnErr result (task.new ≡ task.old) }
-    ensures want { OnErr result (WantedBy (op_of task.old) task.old cache.now) }
+    ensures want { OnErr result (LacksRoom (op_of task.old) task.old cache.now) }
     ensures places { ¬ (HasPlaces task.old cache.now) }
     ensures within { IsWithin task.old.lines (op_of task.old) }
 {

@@ -12,7 +12,7 @@ ghost use Rattle.fam_tasks.specs.Tells.{IsCompared};
 ghost use Rattle.fam_run.specs.Looked.{IfDone};
 ghost use Rattle.fam_run.specs.Operation.{GoesOn, HasTurned, IsNoFault, KeepsLines};
 ghost use Rattle.fam_run.specs.Places.{HasPlaces};
-ghost use Rattle.fam_run.specs.Wanted.{WantedBy};
+ghost use Rattle.fam_run.specs.Room.{LacksRoom};
 
 use crate::looking::{Ending, Looked};
 use fam_cache::{HostCache, OperationFault};
@@ -47,7 +47,7 @@ pub(crate) fn compare_next<M: Media>(
 
     ensures undone { IsErrOf result OperationFault.OutOfMemory → media.new ≡ media.old }
     ensures unchanged { IsErrOf result OperationFault.OutOfMemory → cache.new ≡ cache.old }
-    ensures want { IsErrOf result OperationFault.OutOfMemory → WantedBy (op_of task.old) task.old cache.old }
+    ensures want { IsErrOf result OperationFault.OutOfMemory → LacksRoom (op_of task.old) task.old cache.old }
     ensures places { ¬ (HasPlaces task.old cache.old) }
     ensures steady { IsSteady M.size M.faults media.old media.new }
 {

@@ -12,7 +12,7 @@ ghost use Rattle.fam_cache.specs.Operations.{LeavesCache};
 ghost use Rattle.fam_run.specs.Looked.{IfDone, ending_answer};
 ghost use Rattle.fam_run.specs.Operation.{GoesOn, HasTurned, IsNoFault, KeepsLines};
 ghost use Rattle.fam_run.specs.Places.{HasPlaces};
-ghost use Rattle.fam_run.specs.Wanted.{WantedBy};
+ghost use Rattle.fam_run.specs.Room.{LacksRoom};
 
 use crate::checking::check_next;
 use crate::comparing::compare_next;
@@ -85,7 +85,7 @@ pub fn look_next<M: Media>(
 
     ensures undone { IsErrOf result OperationFault.OutOfMemory → media.new ≡ media.old }
     ensures unchanged { IsErrOf result OperationFault.OutOfMemory → cache.new ≡ cache.old }
-    ensures want { IsErrOf result OperationFault.OutOfMemory → WantedBy (op_of task.old) task.old cache.old }
+    ensures want { IsErrOf result OperationFault.OutOfMemory → LacksRoom (op_of task.old) task.old cache.old }
     ensures places { IfOk result (λ looked. IfDone looked (λ _. ¬ (HasPlaces task.old cache.old))) }
     ensures enough { IsErrOf result OperationFault.OutOfMemory → ¬ (HasPlaces task.old cache.old) }
     ensures steady { IsSteady M.size M.faults media.old media.new }

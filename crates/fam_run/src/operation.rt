@@ -11,7 +11,7 @@ ghost use Rattle.fam_cache.specs.Operations.{LeavesCache};
 ghost use Rattle.fam_tasks.specs.declared.answer.Turn.TheVariants.{Go};
 ghost use Rattle.fam_run.specs.Operation.{GoesOn, HasTurned, IsNoFault, KeepsLines, ended};
 ghost use Rattle.fam_run.specs.Places.{HasPlaces, IsReady, KeepsPlaces};
-ghost use Rattle.fam_run.specs.Wanted.{WantedBy};
+ghost use Rattle.fam_run.specs.Room.{LacksRoom};
 
 use fam_cache::{HostCache, OperationFault};
 use fam_machine::Op;
@@ -54,7 +54,7 @@ pub fn operate<M: Media>(
 
     ensures undone { IsErrOf result OperationFault.OutOfMemory → media.new ≡ media.old }
     ensures unchanged { IsErrOf result OperationFault.OutOfMemory → cache.new ≡ cache.old }
-    ensures want { IsErrOf result OperationFault.OutOfMemory → WantedBy (op_of task.old) task.old cache.old }
+    ensures want { IsErrOf result OperationFault.OutOfMemory → LacksRoom (op_of task.old) task.old cache.old }
 
     // An append that has its places keeps them, and finds memory.
     ensures places { IfOk result (λ turn. ended turn ≡ None → IsReady task.old cache.old

@@ -11,7 +11,7 @@ ghost use Rattle.fam_cache.specs.Faults.{IfMediaFault};
 ghost use Rattle.fam_cache.specs.Operations.{LeavesCache};
 ghost use Rattle.fam_run.specs.Operation.{GoesOn, HasTurned, KeepsLines};
 ghost use Rattle.fam_run.specs.Places.{HasPlaces, IsReady, KeepsPlaces};
-ghost use Rattle.fam_run.specs.Wanted.{WantedBy};
+ghost use Rattle.fam_run.specs.Room.{LacksRoom};
 ghost use Rattle.fam_tasks.specs.Begins.{IsFirst};
 ghost use Rattle.fam_tasks.specs.declared.answer.Turn.TheVariants.{Go};
 
@@ -47,7 +47,7 @@ fn load_first<M: Media>(
     ensures err { OnErr result (task.new ≡ task.old) }
     ensures undone { IsErrOf result OperationFault.OutOfMemory → media.new ≡ media.old }
     ensures unchanged { IsErrOf result OperationFault.OutOfMemory → cache.new ≡ cache.old }
-    ensures want { IsErrOf result OperationFault.OutOfMemory → WantedBy (op_of task.old) task.old cache.old }
+    ensures want { IsErrOf result OperationFault.OutOfMemory → LacksRoom (op_of task.old) task.old cache.old }
     ensures places { OnOk result (¬ (HasPlaces task.old cache.old)) }
     ensures enough { IsErrOf result OperationFault.OutOfMemory → ¬ (HasPlaces task.old cache.old) }
     ensures steady { IsSteady M.size M.faults media.old media.new }
@@ -90,7 +90,7 @@ pub fn read_next<M: Media>(
     ensures err { OnErr result (task.new ≡ task.old) }
     ensures undone { IsErrOf result OperationFault.OutOfMemory → media.new ≡ media.old }
     ensures unchanged { IsErrOf result OperationFault.OutOfMemory → cache.new ≡ cache.old }
-    ensures want { IsErrOf result OperationFault.OutOfMemory → WantedBy (op_of task.old) task.old cache.old }
+    ensures want { IsErrOf result OperationFault.OutOfMemory → LacksRoom (op_of task.old) task.old cache.old }
     ensures places { IfOk result (λ reads. reads ≡ true → IsReady task.old cache.old
         → KeepsPlaces task.old cache.old task.new cache.new) }
     ensures enough { IsErrOf result OperationFault.OutOfMemory → ¬ (HasPlaces task.old cache.old) }
@@ -102,6 +102,10 @@ pub fn read_next<M: Media>(
             Ok(()) => Ok(true),
             Err(fault) => Err(fault),
         };
+    }
+    // A task that looks at the words of a slot reads on only once it knows what they are.
+    if let Some(_slot) = task.checked() {
+        return Ok(false);
     }
     read_other(cache, task, media)
 }
@@ -136,7 +140,7 @@ fn read_other<M: Media>(
     ensures err { OnErr result (task.new ≡ task.old) }
     ensures undone { IsErrOf result OperationFault.OutOfMemory → media.new ≡ media.old }
     ensures unchanged { IsErrOf result OperationFault.OutOfMemory → cache.new ≡ cache.old }
-    ensures want { IsErrOf result OperationFault.OutOfMemory → WantedBy (op_of task.old) task.old cache.old }
+    ensures want { IsErrOf result OperationFault.OutOfMemory → LacksRoom (op_of task.old) task.old cache.old }
     ensures places { IfOk result (λ reads. reads ≡ true → IsReady task.old cache.old
         → KeepsPlaces task.old cache.old task.new cache.new) }
     ensures enough { IsErrOf result OperationFault.OutOfMemory → ¬ (HasPlaces task.old cache.old) }

@@ -1,50 +1,59 @@
 //! Operations of a task on copies of its host alone: on the line that the host has just brought, the loads of its other
 //! words or the stores into them.
 
-ghost use Rattle.std.specs.Prelude.{◌≡◌, ◌≤◌, false};
+ghost use Rattle.std.specs.Prelude.{◌≡◌, ◌<◌, ◌≤◌, IfSome, None};
 ghost use Rattle.fam_commands.specs.FirstStore.{IsFirstStore};
 ghost use Rattle.fam_run.specs.Held.{HeldRun};
 ghost use Rattle.fam_run.specs.Places.{KeepsPlaces};
 
 use fam_cache::HostCache;
+use fam_format::LINE_WORDS;
 use fam_tasks::Task;
+
+/// How many operations the rest of a line may be: those on its words but the first.
+const REST_OPERATIONS: u64 = 7;
 
 /// Does the operations that come next of a task, as long as they are the rest of a line of which the task has loaded or
 /// stored the first word, and which the cache holds: all of a slot's line and of one that is stored, and up to the last
-/// load of another, behind which a task may end. They ask nothing of the media and can't fail. Where none of them comes
-/// next, nothing is done.
+/// load of another, behind which a task may end. They ask nothing of the media and can't fail. It says how many were done:
+/// none where none of them comes next, nor where the rest of a line may be more than `most`.
 #[inline(always)]
-pub fn operate_held(cache: &mut HostCache, task: &mut Task)
-    ensures run { HeldRun task.old cache.old.lines task.new cache.new.lines }
+pub fn operate_held(cache: &mut HostCache, task: &mut Task, most: u64) -> u64
+    ensures run { HeldRun task.old cache.old.lines task.new cache.new.lines result }
+    ensures most { result ≤ most }
     ensures places { KeepsPlaces task.old cache.old task.new cache.new }
     ensures idle { IsFirstStore task.old → task.new ≡ task.old }
 {
-    if load_held(cache, task) {
-        return;
+    if most < REST_OPERATIONS {
+        return 0;
     }
-    store_held(cache, task);
+    match load_held(cache, task) {
+        Some(count) => count,
+        None => store_held(cache, task),
+    }
 }
 
-/// Does those that are loads, and says whether there were any.
+/// Does those that are loads, and says how many these were, if there were any.
 #[inline(always)]
-fn load_held(cache: &HostCache, task: &mut Task) -> bool
-    ensures run { HeldRun task.old cache.now.lines task.new cache.now.lines }
-    ensures other { result ≡ false → task.new ≡ task.old }
+fn load_held(cache: &HostCache, task: &mut Task) -> Option<u64>
+    ensures run { IfSome result (HeldRun task.old cache.now.lines task.new cache.now.lines) }
+    ensures most { IfSome result (λ count. count < LINE_WORDS) }
+    ensures other { result ≡ None → task.new ≡ task.old }
     ensures idle { IsFirstStore task.old → task.new ≡ task.old }
 {
     if let Some(line) = task.rest() {
         if let Some(words) = cache.held(line) {
-            task.take_rest(line, &words);
-            return true;
+            return Some(task.take_rest(line, &words));
         }
     }
-    false
+    None
 }
 
-/// Does those that are stores.
+/// Does those that are stores, and says how many these were.
 #[inline(always)]
-fn store_held(cache: &mut HostCache, task: &mut Task)
-    ensures run { HeldRun task.old cache.old.lines task.new cache.new.lines }
+fn store_held(cache: &mut HostCache, task: &mut Task) -> u64
+    ensures run { HeldRun task.old cache.old.lines task.new cache.new.lines result }
+    ensures most { result < LINE_WORDS }
     ensures spare { cache.old.spare ≤ cache.new.spare }
     ensures idle { IsFirstStore task.old → task.new ≡ task.old }
 {
@@ -53,6 +62,8 @@ fn store_held(cache: &mut HostCache, task: &mut Task)
         let words = rest.1;
         if cache.store_rest(line, &words) {
             task.store_rest(line, &words);
+            return REST_OPERATIONS;
         }
     }
+    0
 }

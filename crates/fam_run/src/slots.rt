@@ -10,7 +10,7 @@ ghost use Rattle.fam_tasks.specs.declared.answer.Turn.TheVariants.{Go};
 ghost use Rattle.fam_run.specs.Led.{HasBrokenOff, HasDone};
 ghost use Rattle.fam_run.specs.Places.{HasPlaces};
 ghost use Rattle.fam_run.specs.Step.{around};
-ghost use Rattle.fam_run.specs.Wanted.{WantedWhole};
+ghost use Rattle.fam_run.specs.Room.{LacksRoomWhole};
 
 use fam_cache::{CacheFault, HostCache, OperationFault};
 use fam_format::SLOT_LINES;
@@ -46,7 +46,7 @@ fn load_line<M: Media>(
     ensures undone { IsErrOf result OperationFault.OutOfMemory → media.new ≡ media.old }
     ensures unchanged { IsErrOf result OperationFault.OutOfMemory → cache.new ≡ cache.old }
     ensures unmoved { IsErrOf result OperationFault.OutOfMemory → task.new ≡ task.old }
-    ensures want { IsErrOf result OperationFault.OutOfMemory → WantedWhole task.old cache.old }
+    ensures want { IsErrOf result OperationFault.OutOfMemory → LacksRoomWhole task.old cache.old }
     ensures places { IfOk result (λ loaded. loaded ≡ true → ¬ (HasPlaces task.old cache.old)) }
     ensures enough { IsErrOf result OperationFault.OutOfMemory → ¬ (HasPlaces task.old cache.old) }
     ensures image { M.image media.new ≡ M.image media.old }
@@ -95,7 +95,7 @@ pub(crate) fn load_slot<M: Media>(
     ensures undone { IsErrOf result OperationFault.OutOfMemory → media.new ≡ media.old }
     ensures unchanged { IsErrOf result OperationFault.OutOfMemory → cache.new ≡ cache.old }
     ensures unmoved { IsErrOf result OperationFault.OutOfMemory → task.new ≡ task.old }
-    ensures want { IsErrOf result OperationFault.OutOfMemory → WantedWhole task.old cache.old }
+    ensures want { IsErrOf result OperationFault.OutOfMemory → LacksRoomWhole task.old cache.old }
     ensures places { IfOk result (λ loaded. loaded ≡ true → ¬ (HasPlaces task.old cache.old)) }
     ensures enough { IsErrOf result OperationFault.OutOfMemory → ¬ (HasPlaces task.old cache.old) }
     ensures steady { IsSteady M.size M.faults media.old media.new }

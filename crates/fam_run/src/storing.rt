@@ -8,7 +8,7 @@ ghost use Rattle.fam_tasks.specs.declared.answer.Turn.TheVariants.{Go};
 ghost use Rattle.fam_run.specs.Led.{HasBrokenOff, HasDone};
 ghost use Rattle.fam_run.specs.Places.{HasPlaces, IsReady, KeepsPlaces};
 ghost use Rattle.fam_run.specs.Step.{around};
-ghost use Rattle.fam_run.specs.Wanted.{WantedWhole};
+ghost use Rattle.fam_run.specs.Room.{LacksRoomWhole};
 
 use fam_cache::{CacheFault, HostCache, OperationFault};
 use fam_media::Media;
@@ -38,7 +38,7 @@ pub(crate) fn store_next<M: Media>(
 
     ensures undone { IsErrOf result OperationFault.OutOfMemory → media.new ≡ media.old }
     ensures unchanged { IsErrOf result OperationFault.OutOfMemory → cache.new ≡ cache.old }
-    ensures want { IsErrOf result OperationFault.OutOfMemory → WantedWhole task.old cache.old }
+    ensures want { IsErrOf result OperationFault.OutOfMemory → LacksRoomWhole task.old cache.old }
     ensures places { IfOk result (λ stored. stored ≡ true → KeepsPlaces task.old cache.old task.new cache.new) }
     ensures ready { IfOk result (λ stored. stored ≡ false → IsReady task.old cache.old) }
     ensures enough { IsErrOf result OperationFault.OutOfMemory → ¬ (HasPlaces task.old cache.old) }

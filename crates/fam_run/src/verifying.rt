@@ -8,7 +8,7 @@ ghost use Rattle.fam_run.specs.Led.{HasBrokenOff, HasDone};
 ghost use Rattle.fam_run.specs.Step.{around};
 ghost use Rattle.fam_run.specs.Whole.{IfWhole};
 ghost use Rattle.fam_run.specs.Places.{HasPlaces};
-ghost use Rattle.fam_run.specs.Wanted.{WantedWhole};
+ghost use Rattle.fam_run.specs.Room.{LacksRoomWhole};
 
 use crate::whole::WholeLine;
 use fam_cache::{CacheFault, HostCache, OperationFault};
@@ -39,7 +39,7 @@ pub(crate) fn compare_whole<M: Media>(
 
     ensures undone { IsErrOf result OperationFault.OutOfMemory → media.new ≡ media.old }
     ensures unchanged { IsErrOf result OperationFault.OutOfMemory → cache.new ≡ cache.old }
-    ensures want { IsErrOf result OperationFault.OutOfMemory → WantedWhole task.old cache.old }
+    ensures want { IsErrOf result OperationFault.OutOfMemory → LacksRoomWhole task.old cache.old }
     ensures places { IfOk result (λ whole. IfWhole whole (λ _. ¬ (HasPlaces task.old cache.old))) }
     ensures enough { IsErrOf result OperationFault.OutOfMemory → ¬ (HasPlaces task.old cache.old) }
     ensures unmoved { IsErrOf result OperationFault.OutOfMemory → task.new ≡ task.old }

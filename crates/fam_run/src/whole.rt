@@ -9,7 +9,7 @@ ghost use Rattle.fam_run.specs.Step.{around};
 ghost use Rattle.fam_run.specs.Whole.{IfWhole};
 ghost use Rattle.fam_run.specs.Places.{HasPlaces, IsReady, KeepsPlaces};
 ghost use Rattle.fam_run.specs.Operation.{ended};
-ghost use Rattle.fam_run.specs.Wanted.{WantedWhole};
+ghost use Rattle.fam_run.specs.Room.{LacksRoomWhole};
 
 use crate::slots::load_slot;
 use crate::storing::store_next;
@@ -54,7 +54,7 @@ pub fn whole_next<M: Media>(
 
     ensures undone { IsErrOf result OperationFault.OutOfMemory → media.new ≡ media.old }
     ensures unchanged { IsErrOf result OperationFault.OutOfMemory → cache.new ≡ cache.old }
-    ensures want { IsErrOf result OperationFault.OutOfMemory → WantedWhole task.old cache.old }
+    ensures want { IsErrOf result OperationFault.OutOfMemory → LacksRoomWhole task.old cache.old }
 
     // An append that has its places keeps them, and finds memory. Where nothing was done, a line of its file that comes
     // next is held.

@@ -24,7 +24,7 @@ use Rattle.fam_sources.specs.declared.sourced.Given.{Given}
 use Rattle.fam_sources.specs.declared.sourced.Given.TheVariants as given
 use Rattle.fam_sources.specs.declared.sourced.Resolved.{Resolved}
 use Rattle.fam_sources.specs.declared.sourced.Sourced.TheVariants as sourced
-use Rattle.fam_sources.specs.Sourced.{IsAbsent, IsEnded, IsGiven, IsReady, IsSourced, IsUnfit}
+use Rattle.fam_sources.specs.Sourced.{IsAbsent, IsEnded, IsGiven, HoldsSource, IsSourced, IsUnfit}
 use Rattle.fam_sources.specs.declared.whole.WholeFault.{WholeFault}
 use Rattle.fam_sources.specs.declared.whole.WholeFault.TheVariants as whole
 use Rattle.fam_sources.specs.Whole.{HoldsBytes, ShelfChange, Wanted, WholeSays, sum_of}
@@ -102,22 +102,22 @@ module _ (change : ShelfChange) (copied : ℕ) (name : List ℕ) where
   }
 
   module _ (bytes : List ℕ) (within : copied + length bytes ≤ copy_limit) (held : IfModelled change.files (λ files. map.get files name ≡ Some bytes)) where
-    pub cp_ready : (path : List ℕ) (attr : Attr) (stripe : Option Stripe) → IsReady change copied (ask.Cp name path attr stripe) (copied + length bytes) (cmd.Cp path attr stripe bytes)
+    pub cp_ready : (path : List ℕ) (attr : Attr) (stripe : Option Stripe) → HoldsSource change copied (ask.Cp name path attr stripe) (copied + length bytes) (cmd.Cp path attr stripe bytes)
     cp_ready path attr stripe = record {
       form = (bytes, refl);
       sound = λ sound. sound;
       says = λ files at. bytes_say name (map.get files name) copied bytes (CpReads path attr stripe) _ (held files at) within refl;
     }
 
-    pub verify_ready : (path : List ℕ) → IsReady change copied (ask.VerifySource path name) (copied + length bytes) (cmd.Verify path (content.Bytes bytes))
+    pub verify_ready : (path : List ℕ) → HoldsSource change copied (ask.VerifySource path name) (copied + length bytes) (cmd.Verify path (content.Bytes bytes))
     verify_ready path = record {
       form = (bytes, refl);
       sound = λ sound. tt;
       says = λ files at. bytes_say name (map.get files name) copied bytes (VerifyReads path) _ (held files at) within refl;
     }
 
-    pub check_ready : (c : Cmd) (entries : List Entry) → c ≡ cmd.Check entries → IsListing entries → ListingSays bytes (Ok entries) → IsReady change copied (ask.Check name) (copied + length bytes) c
-    check_ready c entries is listing says = subst (λ (c : Cmd). IsReady change copied (ask.Check name) (copied + length bytes) c) (sym is) record {
+    pub check_ready : (c : Cmd) (entries : List Entry) → c ≡ cmd.Check entries → IsListing entries → ListingSays bytes (Ok entries) → HoldsSource change copied (ask.Check name) (copied + length bytes) c
+    check_ready c entries is listing says = subst (λ (c : Cmd). HoldsSource change copied (ask.Check name) (copied + length bytes) c) (sym is) record {
       form = (entries, refl);
       sound = λ sound. listing;
       says = λ files at. bytes_say name (map.get files name) copied bytes ListingIs _ (held files at) within (inl (entries, says, refl));

@@ -36,7 +36,7 @@ HasEndCause change Faulted = Rose change.faults change.faults_now
 HasEndCause change (Short size got) = Rose change.shorts change.shorts_now × (got < size)
 
 -- the command holds the bytes of the source, or the entries of its listing
-pub record IsReady (change : ShelfChange) (copied : ℕ) (what : Ask) (now : ℕ) (cmd : Cmd) : Type 0 where
+pub record HoldsSource (change : ShelfChange) (copied : ℕ) (what : Ask) (now : ℕ) (cmd : Cmd) : Type 0 where
   pub form : AskForm what cmd
   pub sound : IsSoundAsk what → IsSoundCmd cmd
   pub says : IfModelled change.files (λ files. SourceSays files copied what (Ready cmd now))
@@ -55,7 +55,7 @@ pub record IsEnded (change : ShelfChange) (copied : ℕ) (what : Ask) (end : Sou
 
 -- one of them; `now` bytes of sources were read then
 abbrev pub IsSourced : ShelfChange → ℕ → Ask → ℕ → Sourced → Type 0
-IsSourced change copied what now (sourced.Ready cmd) = IsReady change copied what now cmd
+IsSourced change copied what now (sourced.Ready cmd) = HoldsSource change copied what now cmd
 IsSourced change copied what now (sourced.Unfit cause) = IsUnfit change copied what now cause
 IsSourced change copied what now (sourced.Ended end) = IsEnded change copied what end
 

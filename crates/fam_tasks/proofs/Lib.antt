@@ -1,6 +1,7 @@
 pub mod Lines
 pub mod Found
 pub mod Compared
+mod EightWords
 pub mod FileLines
 pub mod Phases
 pub mod FileTurns

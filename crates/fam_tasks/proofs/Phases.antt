@@ -1,5 +1,5 @@
 -- The phase behind a slot.
-use Rattle.std.proofs.Common.{◌≡◌, ℕ, ◌≤◌, Bool, true, false, cond, nat_lt, length, refl, sym, ap, subst, ◌∙◌, arith}
+use Rattle.std.proofs.Common.{◌≡◌, ℕ, ◌≤◌, Bool, true, false, cond, nat_lt, length, refl, sym, ap, subst, arith}
 use Rattle.std.proofs.lemmas.Bool.{ltb-true, ltb-false}
 use Rattle.fam_base.specs.declared.cmd.Cmd.{Cmd}
 use Rattle.fam_base.specs.declared.cmd.Cmd.TheVariants.{Logplay, Mkdir, Creat, Cp, Verify, Read, Check, Fsck}
@@ -9,7 +9,7 @@ use Rattle.fam_commands.specs.declared.phase.Part.TheVariants.{Slot}
 use Rattle.fam_commands.specs.declared.phase.Phase.{Phase}
 use Rattle.fam_commands.specs.declared.phase.Phase.TheVariants as at
 use Rattle.fam_commands.specs.Task.{Task}
-use Rattle.fam_commands.specs.Turns.{slots_read, slot_or_decide}
+use Rattle.fam_commands.specs.Turns.{slots_read}
 use Rattle.fam_tasks.specs.declared.task.Task.TheInside.{Inside}
 use Rattle.fam_tasks.specs.Commands.{is_fsck, slots_told}
 use Rattle.fam_tasks.specs.Held.{HasLooked, IsHeldAt}
@@ -32,10 +32,6 @@ slots_by Fsck t is = rw is refl
 
 pub slots_are : (t : Task) → slots_read t ≡ slots_told t.cmd t.params t.gate
 slots_are t = slots_by t.cmd t refl
-
--- the phase is the definition's
-pub phase_is : (t : Task) (i n : ℕ) (r : Phase) → n ≡ slots_told t.cmd t.params t.gate → r ≡ next_phase i n → r ≡ slot_or_decide t i
-phase_is t i n r slots is = is ∙ ap (next_phase i) (slots ∙ sym (slots_are t))
 
 -- all slots are at least those below the gate
 told_within : (b : Bool) (gate slots : ℕ) → gate ≤ slots → cond b slots gate ≤ slots

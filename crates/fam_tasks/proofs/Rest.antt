@@ -29,6 +29,8 @@ first_taken line words part j t phase rest =
     let part_is : rest.part ≡ part = cc in
     let number_is : rest.j ≡ j = cc in
     record {
+      count = 0;
+      behind = refl;
       loads = none;
       phase = phase;
       is = rest.is ∙ ap (λ (p : Part). part_line t p rest.j) part_is ∙ ap (part_line t part) number_is;
@@ -40,6 +42,8 @@ pub next_taken : (line : LineNo) (words : List ℕ) (part : Part) (j k : ℕ) (t
 next_taken line words part j k t now next sound small is turn taken =
     let op : op_of now ≡ Load line k = load_next line part j k now taken.phase taken.is in
     record {
+      count = suc taken.count;
+      behind = omega (arith, taken.behind);
       loads = more taken.loads sound k op (subst (IsWithin now.lines) (sym op) (taken.within, omega (arith, small))) turn;
       phase = ap (λ (u : Task). u.phase) is;
       is = taken.is ∙ sym (ap (λ (u : Task). part_line u part j) is);
@@ -142,10 +146,17 @@ file_sent line words j t now next turn phase rest sound last tells stored =
     }
 
 -- the last word of a line of a slot was taken
-pub last_taken : (line : LineNo) (words : List ℕ) (part : Part) (slot j : ℕ) (t now next : Task) (turn : answer.Turn) → part ≡ Slot slot → IsSound now → Tells (line_turn (with_word now (slice_index words 7)) (Slot slot) j) turn next → Taken line words part j t now 7 → Loads line words t next
+pub last_taken : (line : LineNo) (words : List ℕ) (part : Part) (slot j : ℕ) (t now next : Task) (turn : answer.Turn) → part ≡ Slot slot → IsSound now → Tells (line_turn (with_word now (slice_index words 7)) (Slot slot) j) turn next → Taken line words part j t now 7 → Loads line words t next 7
 last_taken line words part slot j t now next turn is sound tells taken =
     let word : ℕ = slice_index words 7 in
     let phase : now.phase ≡ at.Word (Slot slot) j 7 = taken.phase ∙ ap (λ (p : Part). at.Word p j 7) is in
     let told = told_goes (word_turn (with_word now word) (Slot slot) j 7) _ next turn (slot_goes (with_word now word) slot j) tells in
     let op : op_of now ≡ Load line 7 = load_next line part j 7 now taken.phase taken.is in
-    more taken.loads sound 7 op (subst (IsWithin now.lines) (sym op) (taken.within, omega arith)) (turn_in now (at.Word (Slot slot) j 7) (Some word) phase ∙ told.0)
+    subst (Loads line words t next) (sym taken.behind)
+    (more taken.loads sound 7 op (subst (IsWithin now.lines) (sym op) (taken.within, omega arith)) (turn_in now (at.Word (Slot slot) j 7) (Some word) phase ∙ told.0))
+
+-- the words before the last one were taken
+pub six_taken : (line : LineNo) (words : List ℕ) (part : Part) (j : ℕ) (t now : Task) → Taken line words part j t now 7 → Loads line words t now 6
+six_taken line words part j t now taken =
+    let six : taken.count ≡ 6 = let behind = taken.behind in omega (arith, behind) in
+    subst (Loads line words t now) six taken.loads

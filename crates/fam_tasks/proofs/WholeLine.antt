@@ -17,7 +17,7 @@ use Rattle.fam_tasks.specs.Tells.{Tells, turn_by}
 use Rattle.fam_tasks.proofs.FileLines.{same_proper, verify_kept}
 use Rattle.fam_tasks.proofs.FileTurns.{no_words}
 use Rattle.fam_tasks.proofs.Phases.{same_gate}
-use Rattle.fam_tasks.proofs.Rest.{first_taken, next_taken, turn_in, word_goes}
+use Rattle.fam_tasks.proofs.Rest.{first_taken, next_taken, six_taken, turn_in, word_goes}
 
 -- the line is wanted still
 same_wanted : (t : Task) (j : ℕ) (phase : Phase) (words : List ℕ) → IsWantedLine j t → IsWantedLine j (record t { phase = phase; words = words })
@@ -138,7 +138,7 @@ module _ (line : LineNo) (words : List ℕ) (j : ℕ) (t : Task) (sound : IsSoun
     begun = first;
     turn = word_turn_goes (dropped j t) j 0 words (omega arith) refl;
     due = due;
-    loads = reads.taken.loads;
+    loads = six_taken line words File j first due reads.taken;
     due_sound = reads.sound;
     due_lines = refl;
     last = ap (λ (l : ℕ). Load (line_no l) 7) (sym is);

@@ -25,14 +25,17 @@ pub record IsRest (line : LineNo) (t : Task) : Type 0 where
   pub is : line.0 ≡ part_line t part j
   pub within : line.0 < t.lines
 
--- the first task loads words of this line, one after another, which are among these, and goes on up to the last task
-pub data Loads (line : LineNo) (words : List ℕ) : Task → Task → Type 0 where
-  none : {t : Task} → Loads line words t t
-  more : {t mid next : Task} → Loads line words t mid → IsSound mid → (k : ℕ) → op_of mid ≡ Load line k → IsWithin mid.lines (op_of mid) → turn_of mid (Some (slice_index words k)) ≡ Goes next → Loads line words t next
+-- the first task loads so many words of this line, one after another, which are among these, and goes on up to the last
+-- task
+pub data Loads (line : LineNo) (words : List ℕ) : Task → Task → ℕ → Type 0 where
+  none : {t : Task} → Loads line words t t 0
+  more : {t mid next : Task} {n : ℕ} → Loads line words t mid n → IsSound mid → (k : ℕ) → op_of mid ≡ Load line k → IsWithin mid.lines (op_of mid) → turn_of mid (Some (slice_index words k)) ≡ Goes next → Loads line words t next (suc n)
 
--- the words of line j of a part were loaded up to word k, which comes next
+-- the words of line j of a part were loaded, from word 1 on, up to word k, which comes next
 pub record Taken (line : LineNo) (words : List ℕ) (part : Part) (j : ℕ) (t now : Task) (k : ℕ) : Type 0 where
-  pub loads : Loads line words t now
+  pub count : ℕ
+  pub behind : k ≡ suc count
+  pub loads : Loads line words t now count
   pub phase : now.phase ≡ at.Word part j k
   pub is : line.0 ≡ part_line now part j
   pub within : line.0 < now.lines
@@ -114,7 +117,7 @@ pub record ComparesLine (line : LineNo) (words : List ℕ) (t next : Task) (endi
   pub turn : turn_of dropped (Some (slice_index words 0)) ≡ Goes begun
   -- before the last one
   pub due : Task
-  pub loads : Loads line words begun due
+  pub loads : Loads line words begun due 6
   pub due_sound : IsSound due
   pub due_lines : due.lines ≡ t.lines
   pub last : op_of due ≡ Load line last_word

@@ -25,4 +25,4 @@ pub record LoadsSlotLine (line : LineNo) (words : List ℕ) (t next : Task) : Ty
   -- behind the first word
   pub begun : Task
   pub turn : turn_of dropped (Some (slice_index words 0)) ≡ Goes begun
-  pub rest : Loads line words begun next
+  pub rest : Loads line words begun next 7

@@ -1,9 +1,9 @@
 -- What the slots that were read have told: a plan of their entries, or a check of their words.
-use Rattle.std.specs.Prelude.{ℕ, ⊤, ◌≡◌, ◌<◌, List, [], ◌∷◌, ◌++◌, length, Option, Some, None}
+use Rattle.std.specs.Prelude.{ℕ, ⊤, ◌≡◌, ◌⊎◌, ◌<◌, IsOk, List, [], ◌∷◌, ◌++◌, length, Option, Some, None}
 use Rattle.fam_base.specs.declared.entry.Entry.{Entry}
 use Rattle.fam_base.specs.declared.entry.Params.{Params}
 use Rattle.fam_format.specs.declared.faults.Reason.{Reason}
-use Rattle.fam_format.specs.Slot.{Proper}
+use Rattle.fam_format.specs.Slot.{Proper, entry_of}
 use Rattle.fam_format.specs.Tree.{join_fault}
 use Rattle.fam_plan.specs.State.{PlanState}
 use Rattle.fam_fsck.specs.Scan.{Scan}
@@ -33,6 +33,11 @@ added_in (Some s) = s.added
 abbrev pub IsScanFor : Params → ℕ → Option Scan → Type 0
 IsScanFor p gate None = ⊤
 IsScanFor p gate (Some s) = (s.params ≡ p) × (s.gate ≡ gate)
+
+-- a check wants memory for a slot of this number and these words: for a map of the units before the first slot, or for an
+-- entry below the gate
+abbrev pub ShowWants : Params → ℕ → ℕ → List ℕ → Type 0
+ShowWants p gate slot words = (slot ≡ 0) ⊎ ((slot < gate) × IsOk (entry_of p words slot))
 
 -- the entry joined the list, or it doesn't for this reason
 abbrev pub JoinsOrNames : Option Reason → Params → List Entry → Entry → List Entry → Type 0

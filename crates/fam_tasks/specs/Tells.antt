@@ -39,8 +39,8 @@ Tells (turns.Writes seq e t) turn new = (turn ≡ Note (Writes seq e)) × (new �
 Tells (turns.Ends reply) turn new = Replies turn reply
 
 -- a refusal to append, since no room was found in the units
-abbrev pub IsNoSpace : Reply → Type 0
-IsNoSpace reply = (k : ℕ) × (reply ≡ NotAppended (NoSpace k))
+abbrev pub TellsNoSpace : Reply → Type 0
+TellsNoSpace reply = (k : ℕ) × (reply ≡ NotAppended (NoSpace k))
 
 -- a turn for which memory may be wanted, of a task that has read these entries: it goes on, or goes on to append; or it
 -- finds no room in the units of a log with no entry, of which no map was made so far
@@ -49,7 +49,7 @@ WantsMemory list (turns.Goes t) = ⊤
 WantsMemory list (turns.Marks t) = ⊥
 WantsMemory list (turns.Finds n t) = ⊥
 WantsMemory list (turns.Writes seq e t) = ⊤
-WantsMemory list (turns.Ends reply) = (list ≡ []) × IsNoSpace reply
+WantsMemory list (turns.Ends reply) = (list ≡ []) × TellsNoSpace reply
 
 -- the operation that thinks
 abbrev pub is_digest : Op → Bool

@@ -14,6 +14,7 @@ mod contents;
 mod parts;
 mod replica;
 mod replies;
+mod same;
 mod slots;
 mod task;
 #[cfg(test)]

@@ -1,20 +1,20 @@
 //! What the words of a part tell, once they were loaded.
 
-ghost use Rattle.std.specs.Prelude.{◌≡◌, ◌+◌, ◌*◌, ◌^◌, ◌≤◌, ◌<◌, IfOk, Some, None, length};
+ghost use Rattle.std.specs.Prelude.{◌≡◌, ◌+◌, ◌*◌, ◌^◌, ◌≤◌, ◌<◌, ℕ, IfOk, OnOk, Some, None, length, slice_index};
 ghost use Rattle.std.specs.Bool.{OnTrue, OnFalse};
 ghost use Rattle.fam_format.specs.Layout.{device_limit, slot_line};
 ghost use Rattle.fam_format.specs.Log.{log_fault};
 ghost use Rattle.fam_format.specs.Params.{SoundParams};
-ghost use Rattle.fam_format.specs.Slot.{entry_of, Proper};
+ghost use Rattle.fam_format.specs.Slot.{entry_of, fields_of, Proper};
 ghost use Rattle.fam_format.specs.Super.{super_body_of};
 ghost use Rattle.fam_rules.specs.Decide.{wish_of};
 ghost use Rattle.fam_rules.specs.declared.answers.Refused.TheVariants.{NotMaster};
 ghost use Rattle.fam_commands.specs.Turns.{host_refusal};
-ghost use Rattle.fam_entry.specs.Tests.{NamesFault};
+ghost use Rattle.fam_entry.specs.Tests.{HasFields, NamesFault, read_as};
 
 use crate::buffer::Buffer;
-use fam_base::{Cmd, Entry, LineNo, Params};
-use fam_entry::{LogFault, Reason, read_entry, read_log};
+use fam_base::{Cmd, Entry, LineNo, PATH_LIMIT, Params};
+use fam_entry::{LogFault, Reason, check_entry, checked_entry, read_log};
 use fam_format::{LINE_WORDS, LOG_LINE, SLOT_LINES, SLOT_WORDS, SuperFault};
 use fam_super::{MAGIC, read_super};
 use uuid::Uuid;
@@ -52,14 +52,31 @@ pub(crate) fn read_header(words: &Buffer, params: &Params) -> Result<(), LogFaul
     read_log(&words.line(0), params)
 }
 
-/// The entry of slot `i`, or the first reason against its words.
-pub(crate) fn read_slot(words: &Buffer, i: u64, params: &Params) -> Result<Entry, Reason>
+/// Whether the words are an entry's that slot `i` may hold, whose path is put into a field of zeros, and otherwise the first
+/// reason against them.
+pub(crate) fn check_slot(
+    words: &Buffer,
+    i: u64,
+    params: &Params,
+    field: &mut [u8; PATH_LIMIT],
+) -> Result<(), Reason>
     requires sound { SoundParams params.now }
     requires count { length words.now ≡ SLOT_WORDS }
-    ensures value { result ≡ entry_of params.now words.now i }
-    ensures proper { IfOk result (Proper params.now) }
+    requires empty { (k : ℕ) → slice_index field.old k ≡ 0 }
+    ensures value { read_as words.now result ≡ entry_of params.now words.now i }
+    ensures proper { OnOk result (Proper params.now (fields_of words.now)) }
+    ensures fields { OnOk result (HasFields words.now field.new) }
 {
-    read_entry(words.slot(), i, params)
+    check_entry(words.slot(), i, params, field)
+}
+
+/// The entry of a slot whose words were checked, and whose path lies in a field.
+pub(crate) fn checked_slot(words: &Buffer, field: &[u8; PATH_LIMIT]) -> Entry
+    requires count { length words.now ≡ SLOT_WORDS }
+    requires fields { HasFields words.now field.now }
+    ensures { result ≡ fields_of words.now }
+{
+    checked_entry(words.slot(), field)
 }
 
 /// Whether this host may not go on, since the command appends and another host is the master.

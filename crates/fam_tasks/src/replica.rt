@@ -13,6 +13,7 @@ ghost use Rattle.fam_plan.specs.Faults.{reason_of};
 ghost use Rattle.fam_plan.specs.State.{IsHistory, MayBeAdded};
 ghost use Rattle.fam_tasks.specs.Replica.{AreRead, FindsNext, KeepsWords};
 
+use crate::same::same_slot;
 use fam_base::{Cmd, Entry, Params, Path};
 use fam_format::SLOT_WORDS;
 use fam_fsck::check;
@@ -86,7 +87,7 @@ fn is_kept(slots: &[[u64; SLOT_WORDS]], slot: u64, words: &[u64; SLOT_WORDS]) ->
     ensures { result ≡ true → slice_get slots.now slot ≡ Some words.now }
 {
     match kept_at(slots, slot) {
-        Some(kept) => *kept == *words,
+        Some(kept) => same_slot(kept, words),
         None => false,
     }
 }

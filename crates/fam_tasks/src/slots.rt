@@ -14,7 +14,7 @@ ghost use Rattle.fam_rules.specs.Reports.{report_by, survey_slot};
 ghost use Rattle.fam_plan.specs.Faults.{reason_of};
 ghost use Rattle.fam_plan.specs.Needs.{NeedsUnits};
 ghost use Rattle.fam_tasks.specs.Replica.{FindsNext};
-ghost use Rattle.fam_tasks.specs.Slots.{added_in, entries_in, survey_in, IsPlanFor, IsRoomFor, IsScanFor, JoinsOrNames};
+ghost use Rattle.fam_tasks.specs.Slots.{added_in, entries_in, survey_in, IsPlanFor, IsRoomFor, IsScanFor, JoinsOrNames, ShowWants};
 
 use crate::replica::Replica;
 use fam_base::{Cmd, Entry, OutOfMemory, Params, Path};
@@ -286,6 +286,7 @@ fn begin_scan(
       survey = survey_in scan.old;
     })) }
     ensures err { OnErr result (scan.new ≡ scan.old) }
+    ensures none { OnErr result (scan.old ≡ None) }
 {
     if scan.is_none() {
         *scan = Some(Fsck::new(alloc, params, gate)?);
@@ -293,7 +294,8 @@ fn begin_scan(
     Ok(())
 }
 
-/// Shows a check the words of the next slot.
+/// Shows a check the words of the next slot. `OutOfMemory` comes at the first slot, for whose check the units are mapped,
+/// or at an entry below the gate; then the check has told what it had told before.
 pub(crate) fn show(
     alloc: Global,
     scan: &mut Option<Fsck>,
@@ -310,6 +312,7 @@ pub(crate) fn show(
     ensures fits { IsScanFor params.now gate scan.new }
     ensures err { OnErr result (survey_in scan.new ≡ survey_in scan.old) }
     ensures err_added { OnErr result (added_in scan.new ≡ added_in scan.old) }
+    ensures want { OnErr result (ShowWants params.now gate (added_in scan.old) words.now) }
 {
     begin_scan(alloc, scan, params, gate)?;
     match scan {

@@ -1,6 +1,6 @@
 //! A task: a command, its phase, and what it has read. Its turns stand in the files of `task/`.
 
-ghost use Rattle.std.specs.Prelude.{◌≡◌, ◌≢◌, ◌≤◌, ◌<◌, nat_lt, if◌then◌else◌, true, false, None, IfOk, IfSome, OnErr};
+ghost use Rattle.std.specs.Prelude.{ℕ, ◌≡◌, ◌≢◌, ◌≤◌, ◌<◌, nat_lt, if◌then◌else◌, true, false, None, IfOk, IfSome, OnErr};
 ghost use Rattle.fam_base.specs.Commands.{IsSoundCmd};
 ghost use Rattle.fam_base.specs.declared.line.LineNo.{LineNo};
 ghost use Rattle.fam_format.specs.Layout.{least_lines};
@@ -12,6 +12,8 @@ ghost use Rattle.fam_commands.specs.Turns.{turn_of};
 ghost use Rattle.fam_machine.specs.Operations.{IsWithin};
 ghost use Rattle.fam_tasks.specs.declared.answer.Answer.TheVariants.{MediaFault};
 ghost use Rattle.fam_tasks.specs.declared.answer.Turn.TheVariants.{Done, Go};
+ghost use Rattle.fam_tasks.specs.Commands.{is_fsck};
+ghost use Rattle.fam_tasks.specs.Slots.{ShowWants};
 ghost use Rattle.fam_tasks.specs.Sound.{most_lines, HasSuper, IsFileLine, IsLine, IsSound, IsWantedLine};
 ghost use Rattle.fam_tasks.specs.Tells.{Tells, WantsMemory, is_digest, is_reading};
 
@@ -170,6 +172,7 @@ impl Task {
     }
 
     /// The operation that comes next, of a task that has not answered.
+    #[inline(always)]
     pub fn next(&self) -> Op
         ensures op { result ≡ op_of self.now }
         ensures within { IsWithin self.now.lines result }
@@ -270,6 +273,8 @@ impl Task {
         ensures own { (line : LineNo) → IfOk result (λ turn. turn ≢ Done (MediaFault line)) }
         ensures err { OnErr result (self.new ≡ self.old) }
         ensures want { OnErr result (WantsMemory self.old.entries (turn_of self.old None)) }
+        ensures shows { (slot : ℕ) → self.old.phase ≡ at.Check slot → is_fsck self.old.cmd ≡ true
+            → OnErr result (ShowWants self.old.params self.old.gate slot self.old.words) }
     {
         match self.phase {
             Phase::Check { slot } => self.digest_slot(slot),

@@ -1,37 +1,54 @@
--- What becomes of a run's boxes.
-use Rattle.std.proofs.Common.{◌≡◌, ℕ, zero, suc, Bool, true, false, List, [], ◌∷◌, ◌++◌, take, drop, if◌then◌else◌, Some, Box, Global, refl, sym, ap, subst, ◌∙◌, arith}
+-- What becomes of a run's places.
+use Rattle.std.proofs.Common.{◌≡◌, ℕ, zero, suc, ◌+◌, ◌<◌, ◌≤◌, Bool, true, false, List, [], ◌∷◌, ◌++◌, length, get_or, set, map as list_map, take, drop, if◌then◌else◌, Some, refl, sym, ap, subst, ◌∙◌, arith, length-append}
 use Rattle.std.specs.Prelude.{option_map}
-use Rattle.std.specs.Bool.{OnTrue}
-use Rattle.std.specs.List.{insert, remove}
-use Rattle.std.proofs.lemmas.List.{take-append-drop}
+use Rattle.std.specs.List.{AllByRecursion, insert, remove}
+use Rattle.std.proofs.Math.Seq.{get_or-append_seam}
+use Rattle.std.proofs.lemmas.List.{drop-map, length-map, map-append, take-append-drop, take-map}
 use Rattle.fam_base.specs.declared.entry.Entry.{Entry}
-use Rattle.fam_tree.specs.Runs.{InOrder, IsAt, IsGap, IsPut, IsTaken}
-use Rattle.fam_tree.proofs.Ordered.{IsCut, cut_order, held_order, order_back, order_front}
-use Rattle.fam_tree.proofs.Boxes.{Boxes, values}
+use Rattle.fam_tree.specs.Runs.{AreWithin, IsAt, IsGap, IsPut, IsTaken, entry_at, no_entry, run_of}
+use Rattle.fam_tree.proofs.Ordered.{IsCut, all_back, all_front, all_joined}
+use Rattle.fam_tree.proofs.Places.{grown_run, within_more}
 
-values_take : (n : ℕ) (xs : Boxes) → values (take n xs) ≡ take n (values xs)
-values_take zero xs = refl
-values_take (suc n) [] = refl
-values_take (suc n) (x ∷ xs) = ap (λ (l : List Entry). x.value ∷ l) (values_take n xs)
-
-values_drop : (n : ℕ) (xs : Boxes) → values (drop n xs) ≡ drop n (values xs)
-values_drop zero xs = refl
-values_drop (suc n) [] = refl
-values_drop (suc n) (x ∷ xs) = values_drop n xs
-
-values_append : (xs ys : Boxes) → values (xs ++ ys) ≡ values xs ++ values ys
-values_append [] ys = refl
-values_append (x ∷ xs) ys = ap (λ (l : List Entry). x.value ∷ l) (values_append xs ys)
-
-pub joined : (a b c d : List Entry) → a ≡ b → c ≡ d → a ++ c ≡ b ++ d
+pub joined : {X : Type 0} (a b c d : List X) → a ≡ b → c ≡ d → a ++ c ≡ b ++ d
 joined a b c d e f = cc (e, f)
 
-insert_values : (xs : Boxes) (i : ℕ) (b : Box Entry Global) → values (insert xs i b) ≡ insert (values xs) i b.value
-insert_values xs i b =
-    values_append (take i xs) (b ∷ drop i xs) ∙ joined _ _ _ _ (values_take i xs) (ap (λ (l : List Entry). b.value ∷ l) (values_drop i xs))
+-- ---- a function over edits
 
-remove_values : (xs : Boxes) (i : ℕ) → values (remove xs i) ≡ remove (values xs) i
-remove_values xs i = values_append (take i xs) (drop (suc i) xs) ∙ joined _ _ _ _ (values_take i xs) (values_drop (suc i) xs)
+module _ {X Y : Type 0} (f : X → Y) where
+  pub map_insert : (xs : List X) (i : ℕ) (x : X) → list_map f (insert xs i x) ≡ insert (list_map f xs) i (f x)
+  map_insert xs i x =
+      map-append f (take i xs) (x ∷ drop i xs)
+      ∙ joined _ _ _ _ (sym (take-map f i xs)) (ap (λ (l : List Y). f x ∷ l) (sym (drop-map f i xs)))
+
+  pub map_remove : (xs : List X) (i : ℕ) → list_map f (remove xs i) ≡ remove (list_map f xs) i
+  map_remove xs i =
+      map-append f (take i xs) (drop (suc i) xs) ∙ joined _ _ _ _ (sym (take-map f i xs)) (sym (drop-map f (suc i) xs))
+
+-- ---- what holds of each element
+
+module _ {X : Type 0} (P : X → Type 0) where
+  pub all_insert : (xs : List X) (i : ℕ) (x : X) → AllByRecursion P xs → P x → AllByRecursion P (insert xs i x)
+  all_insert xs i x all one =
+      let parts : AllByRecursion P (take i xs ++ drop i xs) = subst (AllByRecursion P) (sym (take-append-drop i xs)) all in
+      all_joined P (take i xs) (x ∷ drop i xs) (all_front P (take i xs) (drop i xs) parts) (one, all_back P (take i xs) (drop i xs) parts)
+
+  pub all_remove : (xs : List X) (i : ℕ) → AllByRecursion P xs → AllByRecursion P (remove xs i)
+  all_remove [] zero all = tt
+  all_remove [] (suc i) all = tt
+  all_remove (x ∷ xs) zero all = all.1
+  all_remove (x ∷ xs) (suc i) all = (all.0, all_remove xs i all.1)
+
+  pub all_set : (xs : List X) (i : ℕ) (x : X) → AllByRecursion P xs → P x → AllByRecursion P (set xs i x)
+  all_set [] i x all one = tt
+  all_set (y ∷ xs) zero x all one = (one, all.1)
+  all_set (y ∷ xs) (suc i) x all one = (all.0, all_set xs i x all.1 one)
+
+  pub all_at : (xs : List X) (i : ℕ) (d : X) → AllByRecursion P xs → i < length xs → P (get_or xs i d)
+  all_at [] i d all within = absurd (omega arith)
+  all_at (x ∷ xs) zero d all within = all.0
+  all_at (x ∷ xs) (suc i) d all within = all_at xs i d all.1 (omega arith)
+
+-- ---- entries
 
 -- a gap cuts the entries
 pub cut_of_gap : (es : List Entry) (q : List ℕ) (i : ℕ) → IsGap es q i → IsCut q es (take i es) (drop i es)
@@ -53,36 +70,28 @@ there (x ∷ es) q (suc i) at =
     let more = there es q i (record { within = omega (arith, at.within); own = at.own }) in
     record { entry = more.entry; own = more.own; whole = ap (λ (l : List Entry). x ∷ l) more.whole }
 
--- an entry that is put into a run
-module _ (xs : Boxes) (i : ℕ) (b : Box Entry Global) (gap : IsGap (values xs) b.value.path i) where
-  pub put_order : (t : Bool) (ys : Boxes) → ys ≡ (if t then insert xs i b else xs) → InOrder (values xs) → InOrder (values ys)
-  put_order true ys is order =
-      subst InOrder (sym (ap values is ∙ insert_values xs i b))
-      (cut_order b.value.path (values xs) (take i (values xs)) (drop i (values xs)) (cut_of_gap (values xs) b.value.path i gap) order b.value refl)
-  put_order false ys is order = subst InOrder (sym (ap values is)) order
+-- ---- an entry that is put into a run, behind all entries
 
-  pub put_is : (t : Bool) (ys : Boxes) → ys ≡ (if t then insert xs i b else xs) → OnTrue t (IsPut (values xs) (values ys) b.value)
-  put_is true ys is = record { place = i; gap = gap; more = ap values is ∙ insert_values xs i b }
-  put_is false ys is = tt
+module _ (es more : List Entry) (xs ys : List ℕ) (i : ℕ) (e : Entry) (within : AreWithin (length es) xs) (longer : more ≡ es ++ e ∷ []) (is : ys ≡ insert xs i (length es)) where
+  pub put_is : IsGap (run_of es xs) e.path i → IsPut (run_of es xs) (run_of more ys) e
+  put_is gap = record {
+    place = i;
+    gap = gap;
+    more =
+        ap (λ (l : List Entry). run_of l ys) longer
+        ∙ ap (run_of (es ++ e ∷ [])) is
+        ∙ map_insert (entry_at (es ++ e ∷ [])) xs i (length es)
+        ∙ ap (λ (l : List Entry). insert l i (entry_at (es ++ e ∷ []) (length es))) (grown_run es (e ∷ []) xs within)
+        ∙ ap (λ (x : Entry). insert (run_of es xs) i x) (get_or-append_seam es e [] no_entry);
+  }
 
--- an entry that is taken out
-module _ (xs ys : Boxes) (q : List ℕ) (i : ℕ) (at : IsAt (values xs) q i) (is : ys ≡ remove xs i) where
-  pub taken_order : InOrder (values xs) → InOrder (values ys)
-  taken_order order =
-      let e = there (values xs) q i at in
-      subst InOrder (sym (ap values is ∙ remove_values xs i))
-      (held_order (values xs) (take i (values xs)) e.entry (drop (suc i) (values xs)) (record { whole = e.whole; order = order }))
+  pub put_within : AreWithin (length more) ys
+  put_within =
+      let count : length more ≡ length es + 1 = ap length longer ∙ length-append es (e ∷ []) in
+      subst (λ (l : List ℕ). AreWithin (length more) l) (sym is)
+      (all_insert (λ (k : ℕ). k < length more) xs i (length es) (within_more (length es) (length more) xs (omega (arith, count)) within) (omega (arith, count)))
 
-  pub taken_is : IsTaken (values xs) (values ys) q
-  taken_is = record { place = i; here = at; less = ap values is ∙ remove_values xs i }
+-- ---- an entry that is taken out
 
--- the halves of a run
-module _ (xs : Boxes) (n : ℕ) where
-  pub halves : values (take n xs) ++ values (drop n xs) ≡ values xs
-  halves = sym (values_append (take n xs) (drop n xs)) ∙ ap values (take-append-drop n xs)
-
-  pub lower_order : InOrder (values xs) → InOrder (values (take n xs))
-  lower_order order = order_front (values (take n xs)) (values (drop n xs)) (subst InOrder (sym halves) order)
-
-  pub upper_order : InOrder (values xs) → InOrder (values (drop n xs))
-  upper_order order = order_back (values (take n xs)) (values (drop n xs)) (subst InOrder (sym halves) order)
+pub taken_is : (es : List Entry) (xs ys : List ℕ) (q : List ℕ) (i : ℕ) → ys ≡ remove xs i → IsAt (run_of es xs) q i → IsTaken (run_of es xs) (run_of es ys) q
+taken_is es xs ys q i is at = record { place = i; here = at; less = ap (run_of es) is ∙ map_remove (entry_at es) xs i }

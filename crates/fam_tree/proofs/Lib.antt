@@ -1,9 +1,10 @@
 pub mod Views
 pub mod Ordered
-pub mod Boxes
+pub mod Places
 pub mod Edits
 pub mod Nested
 pub mod Search
+pub mod RunPlaces
 pub mod TakenBack
 pub mod Words
 pub mod Printed

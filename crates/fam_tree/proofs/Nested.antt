@@ -12,7 +12,7 @@ use Rattle.fam_base.specs.PathOrder.{path_cmp}
 use Rattle.fam_base.specs.declared.entry.Entry.{Entry}
 use Rattle.fam_format.specs.Tree.{Tree, with_entry}
 use Rattle.fam_tree.specs.Runs.{AreFilled, AreRuns, InOrder, IsAbsent, IsFound, IsPut, IsRunFor, IsTaken, entries_in, tree_of}
-use Rattle.fam_tree.proofs.Ordered.{IsCut, cut_absent, cut_order, cut_view, IsHeld, held_found, held_order, held_view, all_joined}
+use Rattle.fam_tree.proofs.Ordered.{AllApart, IsCut, cut_absent, cut_order, cut_view, IsHeld, held_apart, held_found, held_order, held_view, all_joined}
 use Rattle.fam_tree.proofs.Views.{get_of_view, path_cmp-IsAntisymmetric}
 use Rattle.fam_tree.proofs.Edits.{IsThere, cut_of_gap, there}
 
@@ -172,6 +172,11 @@ module _ (runs : Runs) (q : List ℕ) (k : ℕ) (r : List Entry) (for : IsRunFor
         let was = ap length gone_held.whole in
         omega (arith, more, less, now, was)
 
+    pub gone_apart : AllApart q (entries_in (set runs k new))
+    gone_apart =
+        subst (AllApart q) (sym gone_whole)
+        (subst (λ (p : List ℕ). AllApart p (gone_front ++ gone_back)) gone.own (held_apart (entries_in runs) gone_front gone.entry gone_back gone_held))
+
     pub gone_order : InOrder (entries_in (set runs k new))
     gone_order = subst InOrder (sym gone_whole) (held_order (entries_in runs) gone_front gone.entry gone_back gone_held)
 
@@ -202,21 +207,6 @@ module _ (runs : Runs) (k : ℕ) (lower upper r : List Entry) (within : k < leng
     order = subst InOrder (sym cut_whole) are.order;
     filled = subst AreFilled (sym next) (filled_insert (set runs k lower) (suc k) upper (filled_set runs k lower are.filled low) up);
   }
-
--- the first entry
-only : (r : List Entry) (e : Entry) → IsPut [] r e → r ≡ e ∷ []
-only r e put = at put.place put.more
-  where
-    at : (i : ℕ) → r ≡ insert [] i e → r ≡ e ∷ []
-    at zero is = is
-    at (suc i) is = is
-
-first_runs : (e : Entry) → AreRuns ((e ∷ []) ∷ [])
-first_runs e = record { order = (tt, tt); filled = (omega arith, tt) }
-
-pub begun_runs : (t : Bool) (old new : Runs) (r : List Entry) (e : Entry) → IsPut [] r e → old ≡ [] → new ≡ (if t then old ++ r ∷ [] else old) → AreRuns new
-begun_runs true old new r e put none is = subst AreRuns (sym (is ∙ ap (λ (l : Runs). l ++ r ∷ []) none ∙ ap (λ (l : List Entry). l ∷ []) (only r e put))) (first_runs e)
-begun_runs false old new r e put none is = subst AreRuns (sym (is ∙ none)) (record { order = tt; filled = tt })
 
 -- an empty run is left out
 pub empty_out : (runs : Runs) (k : ℕ) (r : List Entry) → k < length runs → length r ≡ 0 → entries_in (remove (set runs k r) k) ≡ entries_in (set runs k r)

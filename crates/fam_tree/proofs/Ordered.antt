@@ -45,6 +45,26 @@ pub above_weaker : (p q : List ℕ) (es : List Entry) → path_cmp p q ≡ Less 
 above_weaker p q [] less h = tt
 above_weaker p q (e ∷ es) less h = (nat_list_cmp_total.trans p q e.path less h.0, above_weaker p q es less h.1)
 
+-- a path ties with itself
+pub itself : (q : List ℕ) → path_cmp q q ≡ Equal
+itself q = elim (path_cmp q q) as (λ o. path_cmp q q ≡ o → path_cmp q q ≡ Equal) [
+  | Less ↦ λ is. absurd (cc (is, nat_list_cmp_total.antisymm q q ∙ ap ordering_reverse is))
+  | Equal ↦ λ is. is
+  | Greater ↦ λ is. absurd (cc (is, nat_list_cmp_total.antisymm q q ∙ ap ordering_reverse is))
+] refl
+
+-- what is below a path, or above it, doesn't tie with it
+abbrev pub AllApart : List ℕ → List Entry → Type 0
+AllApart q es = AllByRecursion (λ e. path_cmp e.path q ≡ Equal → ⊥) es
+
+pub below_apart : (q : List ℕ) (es : List Entry) → AllBelow q es → AllApart q es
+below_apart q [] below = tt
+below_apart q (e ∷ es) below = (λ same. cc (same, below.0), below_apart q es below.1)
+
+pub above_apart : (q : List ℕ) (es : List Entry) → AllAbove q es → AllApart q es
+above_apart q [] above = tt
+above_apart q (e ∷ es) above = (λ same. cc (same, nat_list_cmp_total.antisymm e.path q ∙ ap ordering_reverse above.0), above_apart q es above.1)
+
 -- ---- parts of entries in order
 
 pub order_front : (a b : List Entry) → InOrder (a ++ b) → InOrder a
@@ -159,16 +179,15 @@ module _ (es before : List Entry) (e : Entry) (after : List Entry) (held : IsHel
   held_found =
       get_of_view (keyed es) e.path ∙ at_each e.path
       ∙ ap (λ (t : Bool). cond t (Some e) (lookup (is_at (path_cmp e.path)) (keyed (before ++ after)))) (ap is_eq (itself e.path))
-    where
-      itself : (q : List ℕ) → path_cmp q q ≡ Equal
-      itself q = elim (path_cmp q q) as (λ o. path_cmp q q ≡ o → path_cmp q q ≡ Equal) [
-        | Less ↦ λ is. absurd (cc (is, nat_list_cmp_total.antisymm q q ∙ ap ordering_reverse is))
-        | Equal ↦ λ is. is
-        | Greater ↦ λ is. absurd (cc (is, nat_list_cmp_total.antisymm q q ∙ ap ordering_reverse is))
-      ] refl
 
   pub held_order : InOrder (before ++ after)
   held_order = order_without before after e inner
+
+  -- the others don't tie with it
+  pub held_apart : AllApart e.path (before ++ after)
+  held_apart =
+      all_joined (λ (x : Entry). path_cmp x.path e.path ≡ Equal → ⊥) before after
+      (below_apart e.path before (below_held before after e inner)) (above_apart e.path after (above_held before after e inner))
 
   pub held_view : tree_of (before ++ after) ≡ finmap.remove (tree_of es) e.path
   held_view =

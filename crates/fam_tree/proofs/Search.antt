@@ -14,7 +14,7 @@ use Rattle.fam_tree.specs.Runs.{AllAbove, AllBelow, AreFilled, AreRuns, InOrder,
 use Rattle.fam_tree.proofs.Ordered.{above_weaker, all_back, all_front, all_joined, order_back, order_front}
 use Rattle.fam_tree.proofs.Views.{path_cmp-IsAntisymmetric}
 
-abbrev Runs : Type 0
+abbrev pub Runs : Type 0
 Runs = List (List Entry)
 
 -- the last of more than one is the last of the others
@@ -55,7 +55,7 @@ after_end q (x ∷ y ∷ es) rest some order ends = after_end q (y ∷ es) rest 
 
 -- ---- one run of many
 
-run_order : (runs : Runs) (j : ℕ) (d : List Entry) → InOrder (entries_in runs) → j < length runs → InOrder (get_or runs j d)
+pub run_order : (runs : Runs) (j : ℕ) (d : List Entry) → InOrder (entries_in runs) → j < length runs → InOrder (get_or runs j d)
 run_order [] j d order within = absurd (omega arith)
 run_order (r ∷ runs) zero d order within = order_front r (entries_in runs) order
 run_order (r ∷ runs) (suc j) d order within = run_order runs j d (order_back r (entries_in runs) order) (omega arith)

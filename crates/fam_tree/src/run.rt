@@ -1,52 +1,50 @@
-//! Some entries that follow one another in a tree.
+//! Some entries that follow one another in a tree, by their places in the list of all entries.
 
-ghost use Rattle.std.specs.Prelude.{◌≡◌, ◌≤◌, ◌++◌, [], IfOk, IfErr, OnOk, OnErr, IfSome, IfNone, length, map};
+ghost use Rattle.std.specs.Prelude.{◌≡◌, ◌<◌, ◌≤◌, ◌++◌, ◌∷◌, [], IfOk, IfErr, OnOk, OnErr, OnSome, IfSome, IfNone, length};
 ghost use Rattle.std.specs.Bool.{OnTrue, OnFalse};
-ghost use Rattle.fam_base.specs.PathOrder.{path_cmp};
-ghost use Rattle.fam_tree.specs.Runs.{IsAbsent, IsAt, IsFound, IsGap, IsPut, IsTaken, ends_below};
+ghost use Rattle.fam_tree.specs.Runs.{AreWithin, InOrder, IsAbsent, IsAt, IsFound, IsGap, IsPut, IsTaken, ends_before, entry_at, place_cmp, run_of};
 
 use fam_base::{Entry, OutOfMemory, Path};
 use std::alloc::{AllocError, Global};
 use std::cmp::Ordering;
 use std::marker::Model;
 
-/// Entries in byte order of their paths, each alone on the heap, so that to make room among them moves no entry.
+/// Where entries stand in the list of all entries, in byte order of their paths, so that to make room among them moves no
+/// entry.
 #[derive(Drop)]
 pub(crate) struct Run {
-    entries: Vec<Box<Entry>>,
+    places: Vec<usize>,
 }
 
 impl Model for Run {
-    ghost use Rattle.std.specs.Prelude.{List, map};
-    ghost use Rattle.std.specs.Coded.{coded_list};
-    ghost use Rattle.fam_base.specs.declared.entry.Entry.{Entry};
-    ghost use Rattle.fam_base.specs.contracts.entry.Entry as entry_type;
-    ghost use Rattle.fam_tree.specs.Runs.{InOrder};
+    ghost use Rattle.std.specs.Prelude.{List, ℕ};
+    ghost use Rattle.std.specs.Coded.{coded_list, coded_ℕ};
 
-    ghost Value = { List Entry };
+    ghost Value = { List ℕ };
 
-    ghost coded = { coded_list entry_type.the_row.coded };
+    ghost coded = { coded_list coded_ℕ };
 
-    ghost view = { λ r. map (λ b. b.value) r.entries.items };
-
-    ghost invariant = { λ r. InOrder (map (λ b. b.value) r.entries.items) };
+    ghost view = { λ r. r.places.items };
 }
 
 impl Clone for Run {
     ghost is_clone = { λ run copy. copy ≡ run };
 
     fn clone(&self) -> Result<Run, AllocError> {
-        let entries = self.entries.clone()?;
-        Ok(Run { entries })
+        let places = self.places.clone()?;
+        Ok(Run { places })
     }
 }
 
-/// The order of an entry's path and another.
+/// The order of the path of the entry at a place and another.
 #[inline(always)]
-fn order_of(entry: &Box<Entry>, path: &Path) -> Ordering
-    ensures { result ≡ path_cmp entry.now.value.path path.now }
+fn order_at(entries: &[Entry], place: usize, path: &Path) -> Ordering
+    ensures { result ≡ place_cmp entries.now path.now place }
 {
-    entry.path.cmp(path)
+    match entries.get(place) {
+        Some(entry) => entry.path.cmp(path),
+        None => Ordering::Less,
+    }
 }
 
 impl Run {
@@ -55,7 +53,7 @@ impl Run {
         ensures { result ≡ [] }
     {
         Run {
-            entries: Vec::new(alloc),
+            places: Vec::new(alloc),
         }
     }
 
@@ -63,72 +61,93 @@ impl Run {
     pub(crate) fn len(&self) -> usize
         ensures { result ≡ length self.now }
     {
-        self.entries.len()
+        self.places.len()
     }
 
-    /// The entries, each behind its box.
-    pub(crate) fn boxes(&self) -> &[Box<Entry>]
-        ensures { map (λ b. b.value) result.now ≡ self.now }
+    /// The places of the entries.
+    pub(crate) fn places(&self) -> &[usize]
+        ensures { result.now ≡ self.now }
     {
-        &self.entries
+        &self.places
     }
 
     /// Whether the last entry is below a path.
     #[inline]
-    pub(crate) fn is_below(&self, path: &Path) -> bool
-        ensures { result ≡ ends_below path.now self.now }
+    pub(crate) fn is_below(&self, entries: &[Entry], path: &Path) -> bool
+        ensures { result ≡ ends_before entries.now path.now self.now }
     {
-        match self.entries.last() {
-            Some(last) => last.path.cmp(path).is_lt(),
+        match self.places.last() {
+            Some(last) => order_at(entries, *last, path).is_lt(),
             None => true,
         }
     }
 
-    /// Where the entry at a path stands, or else where it would.
+    /// Where the place of the entry at a path stands, or else where it would.
     #[inline]
-    fn place(&self, path: &Path) -> Result<usize, usize>
-        ensures found { IfOk result (λ i. IsAt self.now path.now i) }
-        ensures gap { IfErr result (λ i. IsGap self.now path.now i) }
+    fn seek(&self, entries: &[Entry], path: &Path) -> Result<usize, usize>
+        requires order { InOrder (run_of entries.now self.now) }
+        requires inside { AreWithin (length entries.now) self.now }
+        ensures found { IfOk result (λ i. IsAt (run_of entries.now self.now) path.now i) }
+        ensures gap { IfErr result (λ i. IsGap (run_of entries.now self.now) path.now i) }
+        ensures within { IfOk result (λ i. i < length self.now) }
+        ensures end { IfErr result (λ i. i ≤ length self.now) }
     {
-        self.entries.binary_search_by(|entry| order_of(entry, path))
+        self.places
+            .binary_search_by(|place| order_at(entries, *place, path))
     }
 
     /// The entry at a path.
-    pub(crate) fn get(&self, path: &Path) -> Option<&Entry>
-        ensures found { IfSome result (λ entry. IsFound self.now path.now entry.now) }
-        ensures none { IfNone result (IsAbsent self.now path.now) }
+    pub(crate) fn get<'a>(&self, entries: &'a [Entry], path: &Path) -> Option<&'a Entry>
+        requires order { InOrder (run_of entries.now self.now) }
+        requires inside { AreWithin (length entries.now) self.now }
+        ensures found { IfSome result (λ entry. IsFound (run_of entries.now self.now) path.now entry.now) }
+        ensures none { IfNone result (IsAbsent (run_of entries.now self.now) path.now) }
     {
-        match self.place(path) {
-            Ok(i) => Some(&*self.entries[i]),
+        match self.seek(entries, path) {
+            Ok(i) => entries.get(self.places[i]),
             Err(_) => None,
         }
     }
 
-    /// Adds an entry where none has its path. Else, and if there is no memory, nothing changes.
-    pub(crate) fn add(&mut self, alloc: Global, entry: &Entry) -> bool
-        ensures added { OnTrue result (IsPut self.old self.new entry.now) }
+    /// Adds an entry where none has its path, behind all entries. Else, and if there is no memory, nothing changes.
+    pub(crate) fn add(&mut self, entries: &mut Vec<Entry>, entry: &Entry) -> bool
+        requires order { InOrder (run_of entries.old.items self.old) }
+        requires inside { AreWithin (length entries.old.items) self.old }
+        ensures added { OnTrue result
+            (IsPut (run_of entries.old.items self.old) (run_of entries.new.items self.new) entry.now) }
+        ensures entries { OnTrue result (entries.new.items ≡ entries.old.items ++ entry.now ∷ []) }
+        ensures inside { OnTrue result (AreWithin (length entries.new.items) self.new) }
         ensures same { OnFalse result (self.new ≡ self.old) }
+        ensures kept { OnFalse result (entries.new.items ≡ entries.old.items) }
     {
-        let Err(i) = self.place(&entry.path) else {
+        let Err(i) = self.seek(entries, &entry.path) else {
             return false;
         };
-        let Ok(boxed) = Box::new(alloc, *entry) else {
+        let place = entries.len();
+        if entries.push(*entry).is_err() {
             return false;
-        };
-        self.entries.insert(i, boxed).is_ok()
+        }
+        if self.places.insert(i, place).is_ok() {
+            return true;
+        }
+        let _ = entries.pop();
+        false
     }
 
-    /// Removes the entry at a path, and says whether one stood there.
-    pub(crate) fn take_out(&mut self, path: &Path) -> bool
-        ensures gone { OnTrue result (IsTaken self.old self.new path.now) }
-        ensures same { OnFalse result (self.new ≡ self.old) }
-        ensures absent { OnFalse result (IsAbsent self.old path.now) }
+    /// Takes the entry at a path out of the run, and says at which place it stands among all entries.
+    pub(crate) fn take_out(&mut self, entries: &[Entry], path: &Path) -> Option<usize>
+        requires order { InOrder (run_of entries.now self.old) }
+        requires inside { AreWithin (length entries.now) self.old }
+        ensures gone { OnSome result (IsTaken (run_of entries.now self.old) (run_of entries.now self.new) path.now) }
+        ensures own { IfSome result (λ place. (entry_at entries.now place).path ≡ path.now) }
+        ensures inside { AreWithin (length entries.now) self.new }
+        ensures same { IfNone result (self.new ≡ self.old) }
+        ensures absent { IfNone result (IsAbsent (run_of entries.now self.old) path.now) }
     {
-        let Ok(i) = self.place(path) else {
-            return false;
+        let Ok(i) = self.seek(entries, path) else {
+            return None;
         };
-        let _ = self.entries.remove(i);
-        true
+        Some(self.places.remove(i))
     }
 
     /// Cuts the upper half off. If there is no memory, nothing changes.
@@ -139,10 +158,10 @@ impl Run {
         ensures upper { IfOk result (λ upper. 1 ≤ length upper) }
         ensures same { OnErr result (self.new ≡ self.old) }
     {
-        let half = self.entries.len() / 2;
-        let Ok(entries) = self.entries.split_off(half) else {
+        let half = self.places.len() / 2;
+        let Ok(places) = self.places.split_off(half) else {
             return Err(OutOfMemory);
         };
-        Ok(Run { entries })
+        Ok(Run { places })
     }
 }

@@ -13,7 +13,6 @@ ghost use Rattle.fam_tree.specs.Faults.{reason_of};
 ghost use Rattle.fam_tree.specs.Iter.{tree_iter_rest};
 ghost use Rattle.fam_tree.specs.Keyed.{IsKeyed, paths_of};
 ghost use Rattle.fam_tree.specs.Parents as parents;
-ghost use Rattle.fam_tree.specs.Runs.{AreFilled, AreRuns, entries_in, tree_of};
 
 use crate::fault::ApplyFault;
 use crate::run::Run;
@@ -23,10 +22,12 @@ use fam_base::{Entry, Kind, OutOfMemory, Path};
 use std::alloc::Global;
 use std::marker::Model;
 
-/// The entries of a file system by their paths. They lie in runs, so that one more moves no more than a run's.
+/// The entries of a file system by their paths. Runs tell their order, so that one more moves no entry.
 #[derive(Drop)]
 pub struct Tree {
     alloc: Global,
+    /// In the order in which they were added, with some that were taken back.
+    entries: Vec<Entry>,
     runs: Vec<Run>,
     count: u64,
 }
@@ -38,15 +39,15 @@ impl Model for Tree {
     ghost use Rattle.fam_base.specs.declared.entry.Entry.{Entry};
     ghost use Rattle.std.specs.Coded.{coded_list, coded_ℕ};
     ghost use Rattle.fam_base.specs.contracts.entry.Entry as entry_type;
-    ghost use Rattle.fam_tree.specs.Runs.{IsTree, entries_in, tree_of};
+    ghost use Rattle.fam_tree.specs.Runs.{IsTree, listed, tree_of};
 
     ghost Value = { map.FinMap path_cmp Entry };
 
     ghost coded = { map.code (coded_list coded_ℕ) entry_type.the_row.coded };
 
-    ghost view = { λ t. tree_of (entries_in t.runs.items) };
+    ghost view = { λ t. tree_of (listed t.entries.items t.runs.items) };
 
-    ghost invariant = { λ t. IsTree t.runs.items t.count };
+    ghost invariant = { λ t. IsTree t.entries.items t.runs.items t.count };
 }
 
 impl Tree {
@@ -56,6 +57,7 @@ impl Tree {
     {
         Tree {
             alloc,
+            entries: Vec::new(alloc),
             runs: Vec::new(alloc),
             count: 0,
         }
@@ -85,6 +87,7 @@ impl Tree {
         ensures order { IsStrictlySortedBy path_cmp (paths_of self.now) }
     {
         TreeIter {
+            entries: &self.entries,
             run: &[],
             runs: &self.runs,
         }
@@ -95,7 +98,7 @@ impl Tree {
         ensures value { option_map (λ entry. entry.now) result ≡ map.get self.now path.now }
         ensures own { IfSome result (λ entry. entry.now.path ≡ path.now) }
     {
-        entry_in(&self.runs, path)
+        entry_in(&self.entries, &self.runs, path)
     }
 
     /// What stands at a path, as a fault, or else this one.
@@ -149,7 +152,7 @@ impl Tree {
         let Some(count) = self.count.checked_add(1) else {
             return Err(self.fault_at(&entry.path, ApplyFault::OutOfMemory));
         };
-        if put(&mut self.runs, self.alloc, entry) {
+        if put(&mut self.entries, &mut self.runs, self.alloc, entry) {
             self.count = count;
             return Ok(());
         }
@@ -161,7 +164,7 @@ impl Tree {
     pub fn take_back(&mut self, path: &Path)
         ensures { self.new ≡ map.remove self.old path.now }
     {
-        if drop_from(&mut self.runs, path) {
+        if drop_from(&mut self.entries, &mut self.runs, path) {
             self.count -= 1;
         }
     }
@@ -170,9 +173,13 @@ impl Tree {
     pub fn copy(&self, alloc: Global) -> Result<Tree, OutOfMemory>
         ensures { IfOk result (λ tree. tree ≡ self.now) }
     {
+        let Ok(entries) = self.entries.clone() else {
+            return Err(OutOfMemory);
+        };
         match self.runs.clone() {
             Ok(runs) => Ok(Tree {
                 alloc,
+                entries,
                 runs,
                 count: self.count,
             }),

@@ -1,8 +1,9 @@
 //! The entries of a tree one by one.
 
+ghost use Rattle.std.specs.Prelude.{length};
 ghost use Rattle.std.specs.Iterator.{YieldsFirstRef, item_count};
 ghost use Rattle.std.proofs.Props.{props};
-ghost use Rattle.fam_tree.specs.Runs.{AreFilled};
+ghost use Rattle.fam_tree.specs.Runs.{AreFilled, AreWithin, RunsWithin, runs_of};
 
 use crate::run::Run;
 use fam_base::Entry;
@@ -10,9 +11,12 @@ use fam_base::Entry;
 /// The entries of a tree, in byte order of their paths.
 #[derive(Drop)]
 pub struct TreeIter<'a> {
-    pub(crate) run: &'a [Box<Entry>],
+    pub(crate) entries: &'a [Entry],
+    pub(crate) run: &'a [usize],
     pub(crate) runs: &'a [Run],
-    ghost filled: { AreFilled runs.now } by { Prim.hlevel props },
+    ghost filled: { AreFilled (runs_of entries.now runs.now) } by { Prim.hlevel props },
+    ghost inside: { AreWithin (length entries.now) run.now } by { Prim.hlevel props },
+    ghost within: { RunsWithin (length entries.now) runs.now } by { Prim.hlevel props },
 }
 
 impl<'a> Iterator for TreeIter<'a> {
@@ -28,13 +32,13 @@ impl<'a> Iterator for TreeIter<'a> {
         if let [run, runs @ ..] = self.runs
             && self.run.is_empty()
         {
-            self.run = run.boxes();
+            self.run = run.places();
             self.runs = runs;
         }
         let [first, rest @ ..] = self.run else {
             return None;
         };
         self.run = rest;
-        Some(&**first)
+        Some(&self.entries[*first])
     }
 }

@@ -21,7 +21,7 @@ use Rattle.fam_journal.specs.Members.{index_from}
 use Rattle.fam_journal.specs.Names.{AreNamed}
 use Rattle.fam_journal.specs.Notes.{Note}
 use Rattle.fam_journal.specs.View.{HostStandsAt, HostView, TaskStands, WorldView}
-use Rattle.fam_journal.specs.ByWorld.{number_in, refusal_in, shown_host}
+use Rattle.fam_journal.specs.ByWorld.{busy_in, number_in, refusal_in, shown_host}
 use Rattle.fam_journal.proofs.Calls.Cases.{by_host}
 use Rattle.fam_journal.proofs.Calls.Shown.{number_shown}
 use Rattle.fam_journal.proofs.Forms.Operations.{forms_both}
@@ -240,23 +240,52 @@ module _ (name : List ℕ) (at lines : ℕ) (old : WorldView) (told_old : Option
         keeps = finish_keeps;
       }
 
-    -- no memory was left
-    pub finish_wants : (IsUnstoredAt at old → IfModelled told_old (λ image. told ≡ Some image)) → FinishOutOfMemory name lines told_old told faults_old faults old cur
-    finish_wants same = record {
-      adds = record { notes = far.notes; joined = far.joined; counted = far.counted; later = far.later; named = subst (λ (n : ℕ). AreNamed n far.notes) (sym count_now) far.named; hosts = far.headings; fits = far.fits; formed = far.formed };
-      form = λ is. inr (at, sym (number_formed lines old is name) ∙ number, far.form is);
-      parts = λ start state told_is held.
-          let r = far.ran start state told_is held in
-          record {
-            state = r.left;
-            notes = far.notes;
-            row = inl record { host = at; number = number_shown (length start) state old name held.stands ∙ number; count = r.count; does = r.does };
-            told_is = r.told_is;
-            joined = far.joined;
-            held = r.held;
-          };
-      same = λ h is. subst (λ (k : ℕ). IsUnstoredAt k old → IfModelled told_old (λ image. told ≡ Some image)) (same_Some at h (sym number ∙ is)) same;
-    }
+    -- no memory was left, and the task runs on
+    module _ (last : HostView) (last_is : slice_get cur.hosts at ≡ Some last) (runs : is_some last.task ≡ true) where
+      some_runs : (me : List ℕ) (t : Option Task) (o : Option TaskForm) → is_some t ≡ true → TaskFormed me t o → is_some o ≡ true
+      some_runs me None o runs is = absurd cc
+      some_runs me (Some t) None runs is = absurd is
+      some_runs me (Some t) (Some f) runs is = refl
+
+      form_runs : IsFormed old → runs_form (slice_get (forms_behind (forms_of old.journal) far.notes) at) ≡ true
+      form_runs is =
+          let f = pairs_at HostFormed cur.hosts (forms_of cur.journal) at last (far.formed is) last_is in
+          ap (λ (fs : List HostForm). runs_form (slice_get fs at)) forms_now ∙ ap runs_form f.1 ∙ some_runs last.uuid last.task f.0.task runs f.2.task
+
+      busy_now : (lines : ℕ) (o : Option HostState) → HostStandsAt lines o (Some last) → is_busy_host o ≡ true
+      busy_now lines None stands = absurd stands
+      busy_now lines (Some s) stands = has_task s.task last.task runs stands.task
+        where
+          has_task : (s : Option TaskState) (t : Option Task) → is_some t ≡ true → TaskStands lines s t → is_some s ≡ true
+          has_task s None runs stands = absurd cc
+          has_task None (Some t) runs stands = absurd stands
+          has_task (Some s) (Some t) runs stands = refl
+
+      runs_in : busy_in at cur ≡ true
+      runs_in = ap is_busy_host (map_at shown_host cur.hosts at last last_is) ∙ shown_busy last.task ∙ runs
+        where
+          shown_busy : (o : Option Task) → is_some (shown_task o) ≡ is_some o
+          shown_busy None = refl
+          shown_busy (Some t) = refl
+
+      pub finish_wants : busy_in at old ≡ true → (IsUnstoredAt at old → IfModelled told_old (λ image. told ≡ Some image)) → FinishOutOfMemory name lines told_old told faults_old faults old cur
+      finish_wants before same = record {
+        adds = record { notes = far.notes; joined = far.joined; counted = far.counted; later = far.later; named = subst (λ (n : ℕ). AreNamed n far.notes) (sym count_now) far.named; hosts = far.headings; fits = far.fits; formed = far.formed };
+        form = λ is. inr record { host = at; number = sym (number_formed lines old is name) ∙ number; part = record { operations = far.form is; runs = form_runs is } };
+        parts = λ start state told_is held.
+            let r = far.ran start state told_is held in
+            let busy : busy_at at r.left ≡ true = busy_now (length start) (slice_get r.left.hosts at) (subst (λ (o : Option HostView). HostStandsAt (length start) (slice_get r.left.hosts at) o) last_is (r.held.stands at)) in
+            record {
+              state = r.left;
+              notes = far.notes;
+              row = inl record { host = at; number = number_shown (length start) state old name held.stands ∙ number; does = record { count = r.count; does = r.does; runs = busy } };
+              told_is = r.told_is;
+              joined = far.joined;
+              held = r.held;
+            };
+        runs = λ h is. subst (λ (k : ℕ). busy_in k cur ≡ busy_in k old) (same_Some at h (sym number ∙ is)) (runs_in ∙ sym before);
+        same = λ h is. subst (λ (k : ℕ). IsUnstoredAt k old → IfModelled told_old (λ image. told ≡ Some image)) (same_Some at h (sym number ∙ is)) same;
+      }
 
 -- not even for the note of a refusal
 pub finish_nothing : (name : List ℕ) (lines : ℕ) (told : Option Image) (faults : ℕ) (old : WorldView) → FinishOutOfMemory name lines told told faults faults old old
@@ -264,6 +293,7 @@ finish_nothing name lines told faults old = record {
   adds = record { notes = []; joined = sym (append-nil old.journal); counted = omega arith; later = omega arith; named = tt; hosts = refl; fits = λ was. was; formed = λ is. is };
   form = λ is. inl refl;
   parts = λ start state told_is held. record { state = state; notes = []; row = inr (refl, refl); told_is = told_is; joined = sym (append-nil old.journal); held = held };
+  runs = λ h is. refl;
   same = λ h is unstored. λ image told_is. told_is;
 }
 
@@ -353,10 +383,12 @@ module _ (name : List ℕ) (at lines : ℕ) (old : WorldView) (told_old : Option
       let last = member_of cur.hosts at (subst (λ (n : ℕ). at < n) (sym (count_same cur.hosts old.hosts far.headings)) within) in
       finish_call name at lines old told_old faults_old cur told faults far view.0 number view.1 (finishes_as_steps name old lines None free) modelled last.0 last.1 (over last.0 last.1)
 
-  pub finish_lacks : (IsUnstoredAt at old → IfModelled told_old (λ image. told ≡ Some image)) → FinishOutOfMemory name lines told_old told faults_old faults old cur
-  finish_lacks same =
+  pub finish_lacks : ((view : HostView) → slice_get cur.hosts at ≡ Some view → is_some view.task ≡ true) → (IsUnstoredAt at old → IfModelled told_old (λ image. told ≡ Some image)) → FinishOutOfMemory name lines told_old told faults_old faults old cur
+  finish_lacks runs same =
       let view = member_of old.hosts at within in
-      finish_wants name at lines old told_old faults_old cur told faults far view.0 number view.1 (finishes_as_steps name old lines None free) modelled same
+      let last = member_of cur.hosts at (subst (λ (n : ℕ). at < n) (sym (count_same cur.hosts old.hosts far.headings)) within) in
+      let before : busy_in at old ≡ true = busy_of (busy_in at old) (sym (steps_first old.hosts old.journal name lines (Some at) number) ∙ free) in
+      finish_wants name at lines old told_old faults_old cur told faults far view.0 number view.1 (finishes_as_steps name old lines None free) modelled last.0 last.1 (runs last.0 last.1) before same
 
 -- One turn of the loop.
 

@@ -24,23 +24,23 @@ use Rattle.fam_world.proofs.Members.{map_at, map_set}
 use Rattle.fam_world.proofs.Saying.{some_of}
 
 module _ (name : List ℕ) (at lines : ℕ) (old : WorldView) (told_old : Option Image) (faults_old : ℕ) (number_old : number_in name old ≡ Some at) (told : Option Image) (faults : ℕ) (normal : IsNormal told) (modelled : IfModelled told (λ image. length image ≡ lines)) (cur : WorldView) (far : SoFar at lines old told_old faults_old cur told faults) (view : HostView) (view_is : slice_get cur.hosts at ≡ Some view) (within : at < length cur.hosts) where
-  pub far_held : (t next : Task) (held after : Cache) → HeldRun t held next after → view.task ≡ Some t → view.cache ≡ held → t.lines ≡ lines → SoFar at lines old told_old faults_old (world_held at view cur next after) told faults
+  pub far_held : (t next : Task) (held after : Cache) {n : ℕ} → HeldRun t held next after n → view.task ≡ Some t → view.cache ≡ held → t.lines ≡ lines → SoFar at lines old told_old faults_old (world_held at view cur next after) told faults
   far_held t next held after run =
       far_led name at lines old told_old faults_old number_old told faults modelled cur far view view_is within t next held after (held_led told normal t next held after t held none run)
 
 -- The host of a world that was written so.
 
 -- what a host has behind such operations, from what it had
-pub record HeldHost (x z : Host) : Type 0 where
+pub record HeldHost (x z : Host) (n : ℕ) : Type 0 where
   pub old : Task
   pub old_is : x.task ≡ Some old
   pub new : Task
   pub new_is : z.task ≡ Some new
-  pub run : HeldRun old x.cache.lines new z.cache.lines
+  pub run : HeldRun old x.cache.lines new z.cache.lines n
   pub sound : IsSound new
 
-pub held_host : (x z : Host) → is_some x.task ≡ true → is_some z.task ≡ true → IfSome x.task (λ t. IfSome z.task (λ next. HeldRun t x.cache.lines next z.cache.lines)) → IfSome z.task IsSound → HeldHost x z
-held_host x z runs runs_on held sound =
+pub held_host : (x z : Host) (n : ℕ) → is_some x.task ≡ true → is_some z.task ≡ true → IfSome x.task (λ t. IfSome z.task (λ next. HeldRun t x.cache.lines next z.cache.lines n)) → IfSome z.task IsSound → HeldHost x z n
+held_host x z k runs runs_on held sound =
     let t = some_of x.task runs in
     let next = some_of z.task runs_on in
     record {
@@ -48,12 +48,12 @@ held_host x z runs runs_on held sound =
       old_is = t.1;
       new = next.0;
       new_is = next.1;
-      run = subst (λ (o : Option Task). IfSome o (λ n. HeldRun t.0 x.cache.lines n z.cache.lines)) next.1
-          (subst (λ (o : Option Task). IfSome o (λ m. IfSome z.task (λ n. HeldRun m x.cache.lines n z.cache.lines))) t.1 held);
+      run = subst (λ (o : Option Task). IfSome o (λ n. HeldRun t.0 x.cache.lines n z.cache.lines k)) next.1
+          (subst (λ (o : Option Task). IfSome o (λ m. IfSome z.task (λ n. HeldRun m x.cache.lines n z.cache.lines k))) t.1 held);
       sound = subst (λ (o : Option Task). IfSome o IsSound) next.1 sound;
     }
 
-module _ (items : List Host) (at : ℕ) (x z : Host) (is : slice_get items at ≡ Some x) (h : HeldHost x z) where
+module _ (items : List Host) (at : ℕ) (x z : Host) (is : slice_get items at ≡ Some x) (n : ℕ) (h : HeldHost x z n) where
   pub held_world : (journal : List Kept) → heading (host_view z) ≡ heading (host_view x) → world_view (set items at z) journal ≡ world_held at (host_view x) (world_view items journal) h.new z.cache.lines
   held_world journal same =
       let view : host_view z ≡ host_held (host_view x) h.new z.cache.lines =
@@ -67,13 +67,13 @@ module _ (items : List Host) (at : ℕ) (x z : Host) (is : slice_get items at �
       let less = held_left h.old h.new x.cache.lines z.cache.lines h.run h.sound in
       omega (arith, before, now, less)
 
-  pub held_runs : is_some z.task ≡ true
-  held_runs = ap is_some h.new_is
+pub held_runs : (x z : Host) (n : ℕ) → HeldHost x z n → is_some z.task ≡ true
+held_runs x z n h = ap is_some h.new_is
 
-  pub held_fits : (lines : ℕ) → TaskFits lines x.task → TaskFits lines z.task
-  held_fits lines fits =
-      let was : h.old.lines ≡ lines = subst (TaskFits lines) h.old_is fits in
-      subst (TaskFits lines) (sym h.new_is) (held_lines h.old h.new x.cache.lines z.cache.lines h.run ∙ was)
+pub held_fits : (x z : Host) (n : ℕ) → HeldHost x z n → (lines : ℕ) → TaskFits lines x.task → TaskFits lines z.task
+held_fits x z n h lines fits =
+    let was : h.old.lines ≡ lines = subst (TaskFits lines) h.old_is fits in
+    subst (TaskFits lines) (sym h.new_is) (held_lines h.old h.new x.cache.lines z.cache.lines h.run ∙ was)
 
 pub falls_on : (a b c : ℕ) → a < b → c ≤ a → c < b
 falls_on a b c fell near = omega (arith, fell, near)

@@ -36,13 +36,13 @@ abbrev pub world_held : ℕ → HostView → WorldView → Task → Cache → Wo
 world_held at view cur next after = record cur { hosts = changed_at at (λ v. host_held view next after) cur.hosts }
 
 -- a member that is put where it stands
-put_own : {A : Type 0} (at : ℕ) (x : A) (xs : List A) → slice_get xs at ≡ Some x → changed_at at (λ v. x) xs ≡ xs
+pub put_own : {A : Type 0} (at : ℕ) (x : A) (xs : List A) → slice_get xs at ≡ Some x → changed_at at (λ v. x) xs ≡ xs
 put_own at x [] is = refl
 put_own {A = A} zero x (y ∷ xs) is = ap (λ (z : A). z ∷ xs) (sym (same_Some y x is))
 put_own {A = A} (suc at) x (y ∷ xs) is = ap (λ (zs : List A). y ∷ zs) (put_own at x xs is)
 
 -- of two that are put behind each other the second stays
-put_twice : {A : Type 0} (at : ℕ) (x y : A) (xs : List A) → changed_at at (λ v. y) (changed_at at (λ v. x) xs) ≡ changed_at at (λ v. y) xs
+pub put_twice : {A : Type 0} (at : ℕ) (x y : A) (xs : List A) → changed_at at (λ v. y) (changed_at at (λ v. x) xs) ≡ changed_at at (λ v. y) xs
 put_twice at x y [] = refl
 put_twice zero x y (z ∷ xs) = refl
 put_twice {A = A} (suc at) x y (z ∷ xs) = ap (λ (zs : List A). z ∷ zs) (put_twice at x y xs)
@@ -60,8 +60,8 @@ module _ (name : List ℕ) (at lines : ℕ) (old : WorldView) (told_old : Option
       let mid_lines : mid.lines ≡ lines = led_lines told t mid held now before ∙ fits in
       let step : IsStep at mid (record { old = mid_view; new = next_view; before = cur.journal; after = cur.journal; told = told; now = told; size = lines; faults = faults; faults_now = faults }) false =
       step_done at Go _ false mid (Some next) refl refl refl (sym (append-nil cur.journal)) refl (omega arith) refl
-      quiet.turned quiet.goes (λ on. (kept_on after mid next Go refl quiet.sound quiet.goes).lines)
-      quiet.leaves quiet.within mid_lines in
+      record { within = quiet.within; turned = quiet.turned; cache = quiet.leaves; goes = quiet.goes; keeps = λ on. (kept_on after mid next Go refl quiet.sound quiet.goes).lines }
+      mid_lines in
       far_on name at lines old told_old faults_old (world_held at view cur mid now) told faults (far_led t mid held now before runs cache_is fits) number_old
       mid_view mid (changed_at_member at (λ v. mid_view) cur.hosts view view_is) refl
       (subst (λ (n : ℕ). at < n) (sym (length_kept (λ v. mid_view) at cur.hosts)) within) modelled

@@ -19,3 +19,4 @@ pub mod Fits
 pub mod KeptNotes
 pub mod Kept
 pub mod UpToOn
+pub mod Counting

@@ -1,6 +1,6 @@
 -- What a task says of an operation, as notes and as its turn.
 use Rattle.std.proofs.Common.{◌≡◌, ◌≢◌, ◌⊎◌, ℕ, ◌<◌, ◌≤◌, ◌++◌, ◌∷◌, [], inl, inr, Bool, true, List, Option, Some, None, refl, ap, sym, ◌∙◌, subst}
-use Rattle.std.specs.Prelude.{⊤, IfSome, is_some, unwrap_or, option_map}
+use Rattle.std.specs.Prelude.{IfSome, is_some, unwrap_or, option_map}
 use Rattle.std.specs.List.{list_any}
 use Rattle.std.proofs.lemmas.Bool.{cases_eq}
 use Rattle.fam_base.specs.declared.line.LineNo.{LineNo}
@@ -44,6 +44,7 @@ use Rattle.fam_journal.specs.Ends.{is_answer_note}
 use Rattle.fam_journal.specs.Machines.{notes_of}
 use Rattle.fam_journal.specs.Notes.{Answered, MediaFault, Note, Refused, Replied}
 use Rattle.fam_journal.specs.Notes as journal
+use Rattle.fam_world.specs.OnTask.{IsBroken, IsTurned, OnTask}
 use Rattle.fam_world.specs.Steps.{Around, IsStep}
 use Rattle.fam_world.specs.Turns.{is_done, kept_by, turn_notes}
 
@@ -196,13 +197,17 @@ step_cut at t a line joined host later task cache failed rose = record {
 fault_at : (f : OperationFault) (line : LineNo) (P : LineNo → Type 0) → f ≡ operation_fault.MediaFault line → IfMediaFault f P → P line
 fault_at f line P is p = subst (λ (z : OperationFault). IfMediaFault z P) is p
 
-pub step_lost : (at : ℕ) (t : Task) (a : Around) (line : LineNo) (f : OperationFault) → f ≡ operation_fault.MediaFault line → a.old.task ≡ Some t → a.after ≡ a.before ++ Answered at (MediaFault line.0) ∷ [] → heading a.new ≡ heading a.old → a.faults ≤ a.faults_now → a.new.task ≡ None → a.new.cache ≡ a.old.cache
-    → IfMediaFault f (λ line. IfSome a.old.task (λ t. IfModelled a.told (λ image. HasFailed (op_of t) (machine image a.old.cache) line a.now a.new.cache))) → IfMediaFault f (λ line. Rose a.faults a.faults_now) → IsStep at t a true
-step_lost at t a line f is e joined host later task cache failed rose =
-    step_cut at t a line joined host later task cache
-    (subst (λ (o : Option Task). IfSome o (λ t. IfModelled a.told (λ image. HasFailed (op_of t) (machine image a.old.cache) line a.now a.new.cache))) e
-    (fault_at f line (λ line. IfSome a.old.task (λ t. IfModelled a.told (λ image. HasFailed (op_of t) (machine image a.old.cache) line a.now a.new.cache))) is failed))
-    (fault_at f line (λ line. Rose a.faults a.faults_now) is rose)
+-- an operation of a host's task, from its task, its cache and what the media tells
+abbrev task_in : Around → Option Task → OnTask
+task_in a mid = record { task = a.old.task; next = mid; old = a.old.cache; new = a.new.cache; told = a.told; now = a.now; faults = a.faults; faults_now = a.faults_now }
+
+pub step_lost : (at : ℕ) (t : Task) (a : Around) (line : LineNo) (f : OperationFault) (mid : Option Task) → f ≡ operation_fault.MediaFault line → a.old.task ≡ Some t → a.after ≡ a.before ++ Answered at (MediaFault line.0) ∷ [] → heading a.new ≡ heading a.old → a.faults ≤ a.faults_now → a.new.task ≡ None
+    → IfMediaFault f (IsBroken (task_in a mid)) → IsStep at t a true
+step_lost at t a line f mid is e joined host later task broken =
+    let b : IsBroken (task_in a mid) line = fault_at f line (IsBroken (task_in a mid)) is broken in
+    step_cut at t a line joined host later task b.copies
+    (subst (λ (o : Option Task). IfSome o (λ t. IfModelled a.told (λ image. HasFailed (op_of t) (machine image a.old.cache) line a.now a.new.cache))) e b.failed)
+    b.rose
 
 -- What came of an operation that looks at what was read.
 
@@ -222,18 +227,15 @@ some_of (Some x) e = (x, refl)
 
 -- of a host that has one
 pub step_done : (at : ℕ) (said : Turn) (a : Around) (over : Bool) (t : Task) (mid : Option Task) → a.old.task ≡ Some t → is_some mid ≡ true → a.new.task ≡ kept_by said mid → a.after ≡ a.before ++ turn_notes at said
-    → heading a.new ≡ heading a.old → a.faults ≤ a.faults_now → over ≡ is_done said
-    → IfSome a.old.task (λ t. IfSome mid (λ next. IfModelled a.told (λ image. HasTurned t (machine image a.old.cache) said next a.now a.new.cache)))
-    → IfSome a.old.task (λ t. IfSome mid (GoesOn t a.new.cache said)) → IfSome a.old.task (λ t. IfSome mid (KeepsLines said t)) → IfSome a.old.task (λ t. LeavesCache (op_of t) a.told a.old.cache a.new.cache)
-    → IfSome a.old.task (λ t. IsWithin t.lines (op_of t)) → TaskFits a.size a.old.task → IsStep at t a over
-step_done at said a over t mid e some task joined host later over_is turned goes keeps leaves within lines =
+    → heading a.new ≡ heading a.old → a.faults ≤ a.faults_now → over ≡ is_done said → IsTurned (task_in a mid) said → TaskFits a.size a.old.task → IsStep at t a over
+step_done at said a over t mid e some task joined host later over_is x lines =
     let next = some_of mid some in
     step_served at t next.0 said a over
-    (subst (λ (o : Option Task). IfSome o (GoesOn t a.new.cache said)) next.1 (subst (λ (o : Option Task). IfSome o (λ t. IfSome mid (GoesOn t a.new.cache said))) e goes))
+    (subst (λ (o : Option Task). IfSome o (GoesOn t a.new.cache said)) next.1 (subst (λ (o : Option Task). IfSome o (λ t. IfSome mid (GoesOn t a.new.cache said))) e x.goes))
     mid next.1 task joined host later over_is
     (subst (λ (o : Option Task). IfSome o (λ n. IfModelled a.told (λ image. HasTurned t (machine image a.old.cache) said n a.now a.new.cache))) next.1
-    (subst (λ (o : Option Task). IfSome o (λ t. IfSome mid (λ n. IfModelled a.told (λ image. HasTurned t (machine image a.old.cache) said n a.now a.new.cache)))) e turned))
-    (subst (λ (o : Option Task). IfSome o (KeepsLines said t)) next.1 (subst (λ (o : Option Task). IfSome o (λ t. IfSome mid (KeepsLines said t))) e keeps))
-    (subst (λ (o : Option Task). IfSome o (λ t. LeavesCache (op_of t) a.told a.old.cache a.new.cache)) e leaves)
-    (subst (λ (o : Option Task). IfSome o (λ t. IsWithin t.lines (op_of t))) e within)
+    (subst (λ (o : Option Task). IfSome o (λ t. IfSome mid (λ n. IfModelled a.told (λ image. HasTurned t (machine image a.old.cache) said n a.now a.new.cache)))) e x.turned))
+    (subst (λ (o : Option Task). IfSome o (KeepsLines said t)) next.1 (subst (λ (o : Option Task). IfSome o (λ t. IfSome mid (KeepsLines said t))) e x.keeps))
+    (subst (λ (o : Option Task). IfSome o (λ t. LeavesCache (op_of t) a.told a.old.cache a.new.cache)) e x.cache)
+    (subst (λ (o : Option Task). IfSome o (λ t. IsWithin t.lines (op_of t))) e x.within)
     (subst (TaskFits a.size) e lines)

@@ -111,7 +111,7 @@ led_clean image normal t next held after (led.more {mid = mid} {now = now} first
     subst IsClean (sym (quiet.turned image refl).is.cache)
     (reads_clean image normal now (led_clean image normal t mid held now first before clean) mid.phase mid (led_before (Some image) t mid held now first before))
 
-held_before : (t next : Task) (held after : Cache) → HeldRun t held next after → IsBeforeWrites t.phase → IsBeforeWrites next.phase
+held_before : (t next : Task) (held after : Cache) {n : ℕ} → HeldRun t held next after n → IsBeforeWrites t.phase → IsBeforeWrites next.phase
 held_before t _ held _ run.none before = before
 held_before t next held after (run.more {mid = mid} {now = now} first sound within of is turn) before =
     before_next mid next (unwrap_or (word_of (op_of mid) now) 0) (held_before t mid held now first before) turn
@@ -133,7 +133,7 @@ held_clean_at (at.SendSlot i) t held before of clean = absurd before
 held_clean_at at.StoreGate t held before of clean = absurd before
 held_clean_at at.SendGate t held before of clean = absurd before
 
-held_clean : (t next : Task) (held after : Cache) → HeldRun t held next after → IsBeforeWrites t.phase → IsClean held → IsClean after
+held_clean : (t next : Task) (held after : Cache) {n : ℕ} → HeldRun t held next after n → IsBeforeWrites t.phase → IsClean held → IsClean after
 held_clean t _ held _ run.none before clean = clean
 held_clean t next held after (run.more {mid = mid} {now = now} first sound within of is turn) before clean =
     subst IsClean (sym is) (held_clean_at mid.phase mid now (held_before t mid held now first before) of (held_clean t mid held now first before clean))
@@ -145,7 +145,7 @@ first_behind t first before = elim (first_phase t first) [
   | inr file ↦ subst IsBeforeWrites file before
 ]
 
-pub held_safe : (t next : Task) (cache after : CacheState) (told now : Option Image) (notes room : ℕ) → HeldRun t cache.lines next after.lines → (HasPlaces t cache → HasPlaces next after) → (IsFirstStore t → next ≡ t)
+pub held_safe : (t next : Task) (cache after : CacheState) (told now : Option Image) (notes room : ℕ) {n : ℕ} → HeldRun t cache.lines next after.lines n → (HasPlaces t cache → HasPlaces next after) → (IsFirstStore t → next ≡ t)
     → (IsUpToStore t × IsCalm told now t cache.lines) ⊎ (HasPlaces t cache × (notes < room)) → (IsUpToStore next × IsCalm told now next after.lines) ⊎ (HasPlaces next after × (notes < room))
 held_safe t next cache after told now notes room ran places idle (inl (inl before, calm)) =
     inl (

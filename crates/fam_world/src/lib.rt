@@ -4,6 +4,7 @@
 //! (`fam_journal/specs/View.antt`). Each call promises the record that `fam_journal/specs/CallRecords.antt` has for it.
 #![tactic(auto)]
 
+mod counted;
 mod fault;
 mod find;
 mod hosts;

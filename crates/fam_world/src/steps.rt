@@ -4,18 +4,14 @@ ghost use Rattle.std.specs.Prelude.{ℕ, ◌≡◌, ◌⊎◌, ◌++◌, ◌∷�
 ghost use Rattle.fam_base.specs.Image.{Image};
 ghost use Rattle.fam_commands.specs.FirstStore.{IsFirstStore};
 ghost use Rattle.fam_commands.specs.Task as spec;
-ghost use Rattle.fam_commands.specs.Task.{op_of};
-ghost use Rattle.fam_machine.specs.Cuts.{HasFailed};
-ghost use Rattle.fam_machine.specs.Operations.{IsWithin, machine};
-ghost use Rattle.fam_media.specs.Causes.{IsSteady, Rose};
+ghost use Rattle.fam_media.specs.Causes.{IsSteady};
 ghost use Rattle.fam_media.specs.Outside.{IfModelled};
 ghost use Rattle.fam_cache.specs.Faults.{IfMediaFault};
-ghost use Rattle.fam_cache.specs.Operations.{LeavesCache};
 ghost use Rattle.fam_tasks.specs.Sound.{IsSound};
 ghost use Rattle.fam_tasks.specs.declared.answer.Turn.TheVariants.{Go};
 ghost use Rattle.fam_run.specs.Held.{HeldRun};
 ghost use Rattle.fam_run.specs.Looked.{IfDone};
-ghost use Rattle.fam_run.specs.Operation.{GoesOn, HasTurned, KeepsLines, ended};
+ghost use Rattle.fam_run.specs.Operation.{ended};
 ghost use Rattle.fam_run.specs.Places.{HasPlaces};
 ghost use Rattle.fam_journal.specs.ByWorld.{number_in};
 ghost use Rattle.fam_journal.specs.Calls.{Finishes};
@@ -23,9 +19,10 @@ ghost use Rattle.fam_journal.specs.CallRecords.{FinishOutOfMemory, FitsMedia, Me
 ghost use Rattle.fam_journal.specs.Notes.{Answered, MediaFault};
 ghost use Rattle.fam_journal.specs.View.{HostView};
 ghost use Rattle.fam_world.specs.Finishes.{SoFar};
+ghost use Rattle.fam_world.specs.OnTask.{IsBroken, IsTurned, IsUntouched, KeepsTask, on_task};
 ghost use Rattle.fam_world.specs.Answers.{IfAnswered, IfStepped, is_over};
 ghost use Rattle.fam_world.specs.Places.{AreUnstored, IfPlaced, IsSafe, LacksPlaces, ReadyKeepsPlaces, TaskHasPlaces};
-ghost use Rattle.fam_world.specs.Steps.{IsStep};
+ghost use Rattle.fam_world.specs.Steps.{IsStep, around_step};
 ghost use Rattle.fam_world.specs.Turns.{is_done, kept_by, task_note, turn_notes};
 ghost use Rattle.fam_world.specs.Whole.{IsLedStep};
 ghost use Rattle.fam_world.specs.View.{host_view, note_view, notes_view, views, world_view};
@@ -116,31 +113,17 @@ fn read_on<M: Media>(
     requires runs { is_some task.old ≡ true }
     requires fits { TaskFits (M.size media.old) task.old }
 
-    ensures runs { is_some task.new ≡ true }
-    ensures turned { IfOk result (λ reads. reads ≡ true → IfSome task.old (λ t. IfSome task.new (λ next.
-        IfModelled (M.image media.old) (λ image.
-        HasTurned t (machine image cache.old.lines) Go next (M.image media.new) cache.new.lines)))) }
-    ensures failed { IfErr result (λ fault. IfMediaFault fault (λ line. IfSome task.old (λ t.
-        IfModelled (M.image media.old) (λ image.
-        HasFailed (op_of t) (machine image cache.old.lines) line (M.image media.new) cache.new.lines)))) }
-    ensures cache { IfOk result (λ reads. reads ≡ true → IfSome task.old (λ t.
-        LeavesCache (op_of t) (M.image media.old) cache.old.lines cache.new.lines)) }
-    ensures goes { IfOk result (λ reads. reads ≡ true → IfSome task.old (λ t.
-        IfSome task.new (GoesOn t cache.new.lines Go))) }
-    ensures keeps { IfOk result (λ reads. reads ≡ true → IfSome task.old (λ t. IfSome task.new (KeepsLines Go t))) }
-    ensures copies { OnErr result (cache.new.lines ≡ cache.old.lines) }
-    ensures err { OnErr result (task.new ≡ task.old) }
-    ensures within { IfSome task.old (λ t. IsWithin t.lines (op_of t)) }
-    ensures sound { IfSome task.old IsSound }
-    ensures sound_on { IfSome task.new IsSound }
-    ensures rose { IfErr result (λ fault. IfMediaFault fault (λ line. Rose (M.faults media.old) (M.faults media.new))) }
-    ensures other { IfOk result (λ reads. reads ≡ false → media.new ≡ media.old) }
-    ensures other_cache { IfOk result (λ reads. reads ≡ false → cache.new ≡ cache.old) }
-    ensures other_task { IfOk result (λ reads. reads ≡ false → task.new ≡ task.old) }
-    ensures undone { IsErrOf result OperationFault.OutOfMemory → media.new ≡ media.old }
-    ensures unchanged { IsErrOf result OperationFault.OutOfMemory → cache.new ≡ cache.old }
+    ensures turned { IfOk result (λ reads. reads ≡ true → IsTurned
+        (on_task M.image M.faults task.old task.new cache.old cache.new media.old media.new) Go) }
+    ensures failed { IfErr result (λ fault. IfMediaFault fault (IsBroken
+        (on_task M.image M.faults task.old task.new cache.old cache.new media.old media.new))) }
+    ensures other { IfOk result (λ reads. reads ≡ false
+        → IsUntouched task.old task.new cache.old cache.new media.old media.new) }
+    ensures undone { IsErrOf result OperationFault.OutOfMemory
+        → IsUntouched task.old task.new cache.old cache.new media.old media.new }
     ensures places { IfOk result (λ reads. reads ≡ true → ReadyKeepsPlaces task.old cache.old task.new cache.new) }
     ensures enough { IsErrOf result OperationFault.OutOfMemory → LacksPlaces task.old cache.old }
+    ensures keeps { KeepsTask task.old task.new }
     ensures steady { IsSteady M.size M.faults media.old media.new }
 {
     match task {
@@ -163,32 +146,17 @@ fn look_on<M: Media>(
     requires runs { is_some task.old ≡ true }
     requires fits { TaskFits (M.size media.old) task.old }
 
-    ensures runs { is_some task.new ≡ true }
-    ensures turned { IfOk result (λ looked. IfDone looked (λ turn. IfSome task.old (λ t. IfSome task.new (λ next.
-        IfModelled (M.image media.old) (λ image.
-        HasTurned t (machine image cache.old.lines) turn next (M.image media.new) cache.new.lines))))) }
-    ensures failed { IfErr result (λ fault. IfMediaFault fault (λ line. IfSome task.old (λ t.
-        IfModelled (M.image media.old) (λ image.
-        HasFailed (op_of t) (machine image cache.old.lines) line (M.image media.new) cache.new.lines)))) }
-    ensures cache { IfOk result (λ looked. IfDone looked (λ turn. IfSome task.old (λ t.
-        LeavesCache (op_of t) (M.image media.old) cache.old.lines cache.new.lines))) }
-    ensures goes { IfOk result (λ looked. IfDone looked (λ turn. IfSome task.old (λ t.
-        IfSome task.new (GoesOn t cache.new.lines turn)))) }
-    ensures keeps { IfOk result (λ looked. IfDone looked (λ turn. IfSome task.old (λ t.
-        IfSome task.new (KeepsLines turn t)))) }
-    ensures copies { OnErr result (cache.new.lines ≡ cache.old.lines) }
-    ensures err { OnErr result (task.new ≡ task.old) }
-    ensures within { IfSome task.old (λ t. IsWithin t.lines (op_of t)) }
-    ensures sound { IfSome task.old IsSound }
-    ensures sound_on { IfSome task.new IsSound }
-    ensures rose { IfErr result (λ fault. IfMediaFault fault (λ line. Rose (M.faults media.old) (M.faults media.new))) }
-    ensures other { IfOk result (λ looked. looked ≡ Looked.Other → media.new ≡ media.old) }
-    ensures other_cache { IfOk result (λ looked. looked ≡ Looked.Other → cache.new ≡ cache.old) }
-    ensures other_task { IfOk result (λ looked. looked ≡ Looked.Other → task.new ≡ task.old) }
-    ensures undone { IsErrOf result OperationFault.OutOfMemory → media.new ≡ media.old }
-    ensures unchanged { IsErrOf result OperationFault.OutOfMemory → cache.new ≡ cache.old }
+    ensures turned { IfOk result (λ looked. IfDone looked (IsTurned
+        (on_task M.image M.faults task.old task.new cache.old cache.new media.old media.new))) }
+    ensures failed { IfErr result (λ fault. IfMediaFault fault (IsBroken
+        (on_task M.image M.faults task.old task.new cache.old cache.new media.old media.new))) }
+    ensures other { IfOk result (λ looked. looked ≡ Looked.Other
+        → IsUntouched task.old task.new cache.old cache.new media.old media.new) }
+    ensures undone { IsErrOf result OperationFault.OutOfMemory
+        → IsUntouched task.old task.new cache.old cache.new media.old media.new }
     ensures places { IfOk result (λ looked. IfDone looked (λ _. LacksPlaces task.old cache.old)) }
     ensures enough { IsErrOf result OperationFault.OutOfMemory → LacksPlaces task.old cache.old }
+    ensures keeps { KeepsTask task.old task.new }
     ensures steady { IsSteady M.size M.faults media.old media.new }
 {
     match task {
@@ -211,28 +179,17 @@ fn operate_on<M: Media>(
     requires runs { is_some task.old ≡ true }
     requires fits { TaskFits (M.size media.old) task.old }
 
-    ensures runs { is_some task.new ≡ true }
-    ensures turned { IfOk result (λ turn. IfSome task.old (λ t. IfSome task.new (λ next. IfModelled (M.image media.old)
-        (λ image. HasTurned t (machine image cache.old.lines) turn next (M.image media.new) cache.new.lines)))) }
-    ensures failed { IfErr result (λ fault. IfMediaFault fault (λ line. IfSome task.old (λ t.
-        IfModelled (M.image media.old) (λ image.
-        HasFailed (op_of t) (machine image cache.old.lines) line (M.image media.new) cache.new.lines)))) }
-    ensures cache { OnOk result (IfSome task.old (λ t.
-        LeavesCache (op_of t) (M.image media.old) cache.old.lines cache.new.lines)) }
-    ensures goes { IfOk result (λ turn. IfSome task.old (λ t. IfSome task.new (GoesOn t cache.new.lines turn))) }
-    ensures keeps { IfOk result (λ turn. IfSome task.old (λ t. IfSome task.new (KeepsLines turn t))) }
-    ensures copies { OnErr result (cache.new.lines ≡ cache.old.lines) }
-    ensures err { OnErr result (task.new ≡ task.old) }
-    ensures within { IfSome task.old (λ t. IsWithin t.lines (op_of t)) }
-    ensures sound { IfSome task.old IsSound }
-    ensures sound_on { IfSome task.new IsSound }
-    ensures rose { IfErr result (λ fault. IfMediaFault fault (λ line. Rose (M.faults media.old) (M.faults media.new))) }
-    ensures undone { IsErrOf result OperationFault.OutOfMemory → media.new ≡ media.old }
-    ensures unchanged { IsErrOf result OperationFault.OutOfMemory → cache.new ≡ cache.old }
+    ensures turned { IfOk result (IsTurned
+        (on_task M.image M.faults task.old task.new cache.old cache.new media.old media.new)) }
+    ensures failed { IfErr result (λ fault. IfMediaFault fault (IsBroken
+        (on_task M.image M.faults task.old task.new cache.old cache.new media.old media.new))) }
+    ensures undone { IsErrOf result OperationFault.OutOfMemory
+        → IsUntouched task.old task.new cache.old cache.new media.old media.new }
     ensures places { IfOk result (λ turn. ended turn ≡ None
         → ReadyKeepsPlaces task.old cache.old task.new cache.new) }
     ensures quiet { IfOk result (λ turn. ended turn ≡ None → IfPlaced task.old cache.old (turn ≡ Go)) }
     ensures enough { IsErrOf result OperationFault.OutOfMemory → LacksPlaces task.old cache.old }
+    ensures keeps { KeepsTask task.old task.new }
     ensures steady { IsSteady M.size M.faults media.old media.new }
 {
     match task {
@@ -259,17 +216,8 @@ fn turn_host<M: Media>(
     requires few { at < MOST_HOSTS }
     requires room { vec_len journal.old < vec_capacity journal.old }
 
-    ensures step { IfOk result (λ moved. (t : spec.Task) → host.old.task ≡ Some t → IsStep at t (record {
-      old = host_view host.old;
-      new = host_view host.new;
-      before = notes_view journal.old.items;
-      after = notes_view journal.new.items;
-      told = M.image media.old;
-      now = M.image media.new;
-      size = M.size media.old;
-      faults = M.faults media.old;
-      faults_now = M.faults media.new;
-    }) (is_over moved)) }
+    ensures step { IfOk result (λ moved. (t : spec.Task) → host.old.task ≡ Some t → IsStep at t (around_step
+        M.image M.size M.faults host.old host.new journal.old.items journal.new.items media.old media.new) (is_over moved)) }
     ensures sound { IfSome host.old.task IsSound }
     ensures sound_on { IfSome host.new.task IsSound }
     ensures size { M.size media.new ≡ M.size media.old }
@@ -317,17 +265,8 @@ fn look_host<M: Media>(
     requires few { at < MOST_HOSTS }
     requires room { vec_len journal.old < vec_capacity journal.old }
 
-    ensures step { IfOk result (λ moved. (t : spec.Task) → host.old.task ≡ Some t → IsStep at t (record {
-      old = host_view host.old;
-      new = host_view host.new;
-      before = notes_view journal.old.items;
-      after = notes_view journal.new.items;
-      told = M.image media.old;
-      now = M.image media.new;
-      size = M.size media.old;
-      faults = M.faults media.old;
-      faults_now = M.faults media.new;
-    }) (is_over moved)) }
+    ensures step { IfOk result (λ moved. (t : spec.Task) → host.old.task ≡ Some t → IsStep at t (around_step
+        M.image M.size M.faults host.old host.new journal.old.items journal.new.items media.old media.new) (is_over moved)) }
     ensures sound { IfSome host.old.task IsSound }
     ensures sound_on { IfSome host.new.task IsSound }
     ensures size { M.size media.new ≡ M.size media.old }
@@ -377,17 +316,8 @@ pub(crate) fn step_host<M: Media>(
     requires few { at < MOST_HOSTS }
     requires room { vec_len journal.old < vec_capacity journal.old }
 
-    ensures step { IfOk result (λ moved. (t : spec.Task) → host.old.task ≡ Some t → IsStep at t (record {
-      old = host_view host.old;
-      new = host_view host.new;
-      before = notes_view journal.old.items;
-      after = notes_view journal.new.items;
-      told = M.image media.old;
-      now = M.image media.new;
-      size = M.size media.old;
-      faults = M.faults media.old;
-      faults_now = M.faults media.new;
-    }) (is_over moved)) }
+    ensures step { IfOk result (λ moved. (t : spec.Task) → host.old.task ≡ Some t → IsStep at t (around_step
+        M.image M.size M.faults host.old host.new journal.old.items journal.new.items media.old media.new) (is_over moved)) }
     ensures sound { IfSome host.old.task IsSound }
     ensures sound_on { IfSome host.new.task IsSound }
     ensures size { M.size media.new ≡ M.size media.old }
@@ -448,38 +378,45 @@ pub(crate) fn step_in<M: Media>(
     }
 }
 
-/// Does operations of a task that a host runs on its copies alone, as long as they come next.
-fn held_by(cache: &mut HostCache, task: &mut Option<Task>)
+/// Does operations of a task that a host runs on its copies alone, as long as they come next, but no more than `most`, and
+/// says how many.
+#[inline(always)]
+fn held_by(cache: &mut HostCache, task: &mut Option<Task>, most: u64) -> u64
     requires runs { is_some task.old ≡ true }
     ensures runs { is_some task.new ≡ true }
     ensures held { IfSome task.old (λ t. IfSome task.new (λ next.
-        HeldRun t cache.old.lines next cache.new.lines)) }
+        HeldRun t cache.old.lines next cache.new.lines result)) }
+    ensures most { result ≤ most }
     ensures sound_on { IfSome task.new IsSound }
     ensures safe { (told now : Option Image) (notes room : ℕ) → IsSafe told now task.old cache.old notes room
         → IsSafe told now task.new cache.new notes room }
 {
     match task {
         Some(task) => {
-            operate_held(cache, task);
+            let count = operate_held(cache, task, most);
             task.is_sound();
+            count
         }
         None => unreachable!(),
     }
 }
 
-/// Does operations of a host's task on its copies alone, as long as they come next: none of them is noted.
-fn held_on(host: &mut Host)
+/// Does operations of a host's task on its copies alone, as long as they come next, but no more than `most`, and says how
+/// many: none of them is noted.
+#[inline(always)]
+pub(crate) fn held_on(host: &mut Host, most: u64) -> u64
     requires runs { is_some host.old.task ≡ true }
     ensures runs { is_some host.new.task ≡ true }
     ensures held { IfSome host.old.task (λ t. IfSome host.new.task (λ next.
-        HeldRun t host.old.cache.lines next host.new.cache.lines)) }
+        HeldRun t host.old.cache.lines next host.new.cache.lines result)) }
+    ensures most { result ≤ most }
     ensures heading { heading (host_view host.new) ≡ heading (host_view host.old) }
     ensures sound_on { IfSome host.new.task IsSound }
     ensures safe { (told now : Option Image) (notes room : ℕ)
         → IsSafe told now host.old.task host.old.cache notes room
         → IsSafe told now host.new.task host.new.cache notes room }
 {
-    held_by(&mut host.cache, &mut host.task);
+    held_by(&mut host.cache, &mut host.task, most)
 }
 
 /// The places that the lines of an append want of its host's cache: one for the line of its file at hand, eight for its
@@ -518,17 +455,8 @@ fn go_on<M: Media>(
     requires few { at < MOST_HOSTS }
     requires room { vec_len journal.old < vec_capacity journal.old }
 
-    ensures step { IfOk result (λ moved. (t : spec.Task) → host.old.task ≡ Some t → IsLedStep at t (record {
-      old = host_view host.old;
-      new = host_view host.new;
-      before = notes_view journal.old.items;
-      after = notes_view journal.new.items;
-      told = M.image media.old;
-      now = M.image media.new;
-      size = M.size media.old;
-      faults = M.faults media.old;
-      faults_now = M.faults media.new;
-    }) (is_over moved)) }
+    ensures step { IfOk result (λ moved. (t : spec.Task) → host.old.task ≡ Some t → IsLedStep at t (around_step
+        M.image M.size M.faults host.old host.new journal.old.items journal.new.items media.old media.new) (is_over moved)) }
     ensures sound_on { OnOk result (IfSome host.new.task IsSound) }
     ensures size { M.size media.new ≡ M.size media.old }
     ensures undone { OnErr result (media.new ≡ media.old) }
@@ -546,8 +474,9 @@ fn go_on<M: Media>(
     whole_host(host, journal, media, at)
 }
 
-/// Does operations of a host's task up to its answer. Where no memory was found those before stand; but where
-/// nothing of the task was stored at first, and its host's cache had nothing to send, memory is as it was then.
+/// Does operations of a host's task up to its answer. Where no memory was found those before stand, and the host has its
+/// task still; but where nothing of the task was stored at first, and its host's cache had nothing to send, memory is as
+/// it was then.
 fn finish_at<M: Media>(
     hosts: &mut Vec<Host>,
     journal: &mut Vec<Note>,
@@ -567,6 +496,8 @@ fn finish_at<M: Media>(
         (world_view hosts.new.items journal.new.items) (M.image media.new) (M.faults media.new) }
     ensures over { OnOk result ((view : HostView) → slice_get (views hosts.new.items) at ≡ Some view
         → view.task ≡ None) }
+    ensures runs { OnErr result ((view : HostView) → slice_get (views hosts.new.items) at ≡ Some view
+        → is_some view.task ≡ true) }
     ensures same { OnErr result (AreUnstored at hosts.old.items
         → IfModelled (M.image media.old) (λ image. M.image media.new ≡ Some image)) }
     ensures size { M.size media.new ≡ M.size media.old }
@@ -575,7 +506,9 @@ fn finish_at<M: Media>(
     'operations: loop {
         make_room(journal)?;
         match go_on(&mut hosts[at], journal, media, at)? {
-            Moved::Going => held_on(&mut hosts[at]),
+            Moved::Going => {
+                let _ = held_on(&mut hosts[at], u64::MAX);
+            }
             Moved::Answered => return Ok(()),
         }
     }

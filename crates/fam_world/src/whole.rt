@@ -15,9 +15,11 @@ ghost use Rattle.fam_run.specs.Step.{around};
 ghost use Rattle.fam_run.specs.Whole.{IfWhole};
 ghost use Rattle.fam_journal.specs.CallRecords.{TaskFits};
 ghost use Rattle.fam_world.specs.Answers.{is_over};
+ghost use Rattle.fam_world.specs.OnTask.{IsUntouched, KeepsTask};
 ghost use Rattle.fam_world.specs.Places.{IfPlaced, KeepsTaskPlaces, LacksPlaces};
+ghost use Rattle.fam_world.specs.Steps.{around_step};
 ghost use Rattle.fam_world.specs.Turns.{is_done, kept_by, turn_notes};
-ghost use Rattle.fam_world.specs.View.{host_view, notes_view};
+ghost use Rattle.fam_world.specs.View.{notes_view};
 ghost use Rattle.fam_world.specs.Whole.{IsLedStep};
 
 use crate::fault::Moved;
@@ -42,23 +44,19 @@ fn whole_on<M: Media>(
     requires runs { is_some task.old ≡ true }
     requires fits { TaskFits (M.size media.old) task.old }
 
-    ensures runs { is_some task.new ≡ true }
     ensures done { IfOk result (λ whole. IfWhole whole (λ turn. IfSome task.old (λ t. IfSome task.new (λ next.
         HasDone (around M.image M.size M.faults t next cache.old cache.new media.old media.new) turn)))) }
     ensures failed { IfErr result (λ fault. IfMediaFault fault (λ line. IfSome task.old (λ t. IfSome task.new (λ next.
         HasBrokenOff (around M.image M.size M.faults t next cache.old cache.new media.old media.new) line)))) }
-    ensures sound { IfSome task.old IsSound }
-    ensures sound_on { IfSome task.new IsSound }
-    ensures other { IfOk result (λ whole. whole ≡ WholeLine.Other → media.new ≡ media.old) }
-    ensures other_cache { IfOk result (λ whole. whole ≡ WholeLine.Other → cache.new ≡ cache.old) }
-    ensures other_task { IfOk result (λ whole. whole ≡ WholeLine.Other → task.new ≡ task.old) }
-    ensures undone { IsErrOf result OperationFault.OutOfMemory → media.new ≡ media.old }
-    ensures unchanged { IsErrOf result OperationFault.OutOfMemory → cache.new ≡ cache.old }
-    ensures unmoved { IsErrOf result OperationFault.OutOfMemory → task.new ≡ task.old }
+    ensures other { IfOk result (λ whole. whole ≡ WholeLine.Other
+        → IsUntouched task.old task.new cache.old cache.new media.old media.new) }
+    ensures undone { IsErrOf result OperationFault.OutOfMemory
+        → IsUntouched task.old task.new cache.old cache.new media.old media.new }
     ensures places { IfOk result (λ whole. IfWhole whole (λ turn. ended turn ≡ None
         → KeepsTaskPlaces task.old cache.old task.new cache.new)) }
     ensures ready { IfOk result (λ whole. whole ≡ WholeLine.Other → IfSome task.old (λ t. IsReady t cache.old)) }
     ensures enough { IsErrOf result OperationFault.OutOfMemory → LacksPlaces task.old cache.old }
+    ensures keeps { KeepsTask task.old task.new }
     ensures steady { IsSteady M.size M.faults media.old media.new }
 {
     match task {
@@ -103,17 +101,8 @@ pub(crate) fn whole_host<M: Media>(
     requires few { at < MOST_HOSTS }
     requires room { vec_len journal.old < vec_capacity journal.old }
 
-    ensures step { IfOk result (λ moved. (t : spec.Task) → host.old.task ≡ Some t → IsLedStep at t (record {
-      old = host_view host.old;
-      new = host_view host.new;
-      before = notes_view journal.old.items;
-      after = notes_view journal.new.items;
-      told = M.image media.old;
-      now = M.image media.new;
-      size = M.size media.old;
-      faults = M.faults media.old;
-      faults_now = M.faults media.new;
-    }) (is_over moved)) }
+    ensures step { IfOk result (λ moved. (t : spec.Task) → host.old.task ≡ Some t → IsLedStep at t (around_step
+        M.image M.size M.faults host.old host.new journal.old.items journal.new.items media.old media.new) (is_over moved)) }
     ensures sound { IfSome host.old.task IsSound }
     ensures sound_on { IfSome host.new.task IsSound }
     ensures size { M.size media.new ≡ M.size media.old }

@@ -1,6 +1,6 @@
 //! The world.
 
-ghost use Rattle.std.specs.Prelude.{◌≡◌, ◌≤◌, ℕ, IfOk, IsErrOf, OnErr, None, option_map, slice_get};
+ghost use Rattle.std.specs.Prelude.{◌≡◌, ◌<◌, ◌≤◌, ℕ, IfOk, IsErrOf, OnErr, None, option_map, slice_get};
 ghost use Rattle.fam_base.specs.declared.cmd.Cmd.{Cmd};
 ghost use Rattle.fam_machine.specs.HostMoves as how;
 ghost use Rattle.fam_journal.specs.ByWorld.{refusal_in};
@@ -10,8 +10,10 @@ ghost use Rattle.fam_journal.specs.View.{HostView, empty_world};
 ghost use Rattle.fam_base.specs.Commands.{IsSoundCmd};
 ghost use Rattle.fam_tasks.specs.Sound.{most_lines};
 ghost use Rattle.fam_world.specs.Answers.{IfAnswered, IfStepped, refusal_told};
+ghost use Rattle.fam_world.specs.Counted.{StepsSay, standing};
 ghost use Rattle.fam_world.specs.View.{notes_view};
 
+use crate::counted::steps_in;
 use crate::fault::{Moved, WorldFault};
 use crate::find;
 use crate::hosts::{Host, MOST_HOSTS};
@@ -124,9 +126,29 @@ impl World {
         step_in(&mut self.hosts, &mut self.journal, media, name)
     }
 
+    /// Does so many operations of a host's task, one behind another, as `step` does each, or fewer where it answers. Refused
+    /// as `step`.
+    ///
+    /// On `OutOfMemory` fewer were done, and the task may be gone on with.
+    pub fn steps<M: Media>(
+        &mut self,
+        media: &mut M,
+        name: &HostName,
+        most: u64,
+    ) -> Result<Moved, WorldFault>
+        requires some { 0 < most }
+        requires fits { FitsMedia (M.size media.old) self.old.hosts }
+
+        ensures says { StepsSay name.now (M.size media.old) most (standing M.image M.faults media.old self.old)
+            (standing M.image M.faults media.new self.new) result }
+        ensures size { M.size media.new ≡ M.size media.old }
+    {
+        steps_in(&mut self.hosts, &mut self.journal, media, name, most)
+    }
+
     /// Does operations of a host's task up to its answer. Refused as `step`.
     ///
-    /// On `OutOfMemory` the operations before were done, and the task may be gone on with.
+    /// On `OutOfMemory` the operations before were done, and the task, which has not answered, may be gone on with.
     pub fn finish<M: Media>(&mut self, media: &mut M, name: &HostName) -> Result<(), WorldFault>
         requires fits { FitsMedia (M.size media.old) self.old.hosts }
 

@@ -218,9 +218,9 @@ module _ (start : Image) (files : Files) (w : Wishes) (image : IsImage start) wh
             whole_notes = first;
             part_notes = notes;
             whole = (at_session mid, first, [], (row, refl), (refl, refl), sym (append-nil first));
-            part = record { host = x.host; number = x.number; busy = ap (λ (b : Bool). when (not b) why.Idle) is; does = record { count = x.count; does = x.does }; copied = refl };
+            part = record { host = x.host; number = x.number; busy = ap (λ (b : Bool). when (not b) why.Idle) is; does = x.does; copied = refl };
             joined = joined;
           }
           by_busy false is =
-              let none = idle_none x.host x.count mid new notes is x.does in
+              let none = idle_none x.host x.does.count mid new notes is x.does.does in
               inl record { count = 1; follows = (at_session mid, first, notes, (row, refl), (none.0, ap at_session none.1), joined) }

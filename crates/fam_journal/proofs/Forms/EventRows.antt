@@ -14,17 +14,17 @@ use Rattle.fam_journal.specs.declared.event.Event.TheVariants as event
 use Rattle.fam_journal.specs.declared.refusal.Refusal.{Refusal}
 use Rattle.fam_journal.specs.declared.refusal.Refusal.TheVariants as why
 use Rattle.fam_journal.specs.Calls as call
-use Rattle.fam_journal.specs.Calls.{Call, Completes, Does, DoesOperations, busy_at, has_name, idle_refusal, may_begin, number_of, on_host, when}
+use Rattle.fam_journal.specs.Calls.{Call, Completes, Does, DoesOperations, Unfinished, busy_at, has_name, idle_refusal, may_begin, number_of, on_host, when}
 use Rattle.fam_journal.specs.Ends.{AllDone, Ending, EventsDone, MkfsFails, EndsOutOfMemory, EndsOutOfMemoryBroken, SinkFails, SourceFails}
 use Rattle.fam_journal.specs.EventForms.{AskForm, BeginForm, EndsForm, EventBreaksForm, EventForm, EventPartForm, FollowsForm, FormPrefix, FormUpTo, NoMore, StartForm, StepForm, StepsForm, UnfitForm, UnfitNotes}
-use Rattle.fam_journal.specs.Events.{BreaksEvent, BytesSay, DoesEvent, Continues, IsBegun, RefusesEvent, ListingIs, MayNotStep, PartOf, Ready, Session, SomeOperations, SourceSays, Sourced, Unfit, WithinSays, copy_limit, source_of}
+use Rattle.fam_journal.specs.Events.{BreaksEvent, BytesSay, DoesEvent, Continues, IsBegun, RefusesEvent, ListingIs, MayNotStep, PartOf, Ready, Session, SourceSays, Sourced, Unfit, WithinSays, copy_limit, source_of}
 use Rattle.fam_journal.specs.Follows.{Follows, FollowsUpTo}
-use Rattle.fam_journal.specs.Forms.{AreFormed, CompletesForm, DoesForm, FormByRefusal, HostForm, OperationsForm, forms_after, forms_behind, shown_form, shown_forms}
+use Rattle.fam_journal.specs.Forms.{AreFormed, CompletesForm, DoesForm, FormByRefusal, HostForm, SomeForm, UnfinishedForm, forms_after, forms_behind, shown_form, shown_forms}
 use Rattle.fam_journal.specs.Machines.{Machines}
 use Rattle.fam_journal.specs.Members.{index_from}
 use Rattle.fam_journal.specs.Notes.{Note, Start}
 use Rattle.fam_journal.proofs.Forms.Operations.{forms_both, operates_form, runs_same}
-use Rattle.fam_journal.proofs.Forms.Rows.{Formed, breaks_form, does_form, formed_as, may_told, number_told, step_told}
+use Rattle.fam_journal.proofs.Forms.Rows.{Formed, breaks_form, does_form, formed_as, may_told, number_told, step_told, unfinished_form}
 
 -- Sources.
 
@@ -197,9 +197,9 @@ module _ (lines : ℕ) (files : Files) (old : Session) (hosts : List HostForm) (
         next = o.next;
       }
 
-  some : (h : ℕ) (m : Machines) (hosts : List HostForm) → AreFormed lines m hosts → (notes : List Note) (new : Machines) → SomeOperations h m notes new → Formed (OperationsForm h hosts) lines hosts notes new
-  some h m hosts formed notes new x =
-      let o = operates_form lines h x.count m hosts formed notes new x.does in record { form = o.form; next = o.next }
+  -- operations of the host of a name, which has not answered
+  unfinished : (name : List ℕ) (h : ℕ) (notes : List Note) (new : Machines) → number_of name m ≡ Some h → Unfinished h m notes new → SomeForm name lines hosts notes
+  unfinished name h notes new n x = record { host = h; number = sym (number_told lines m hosts formed name) ∙ n; part = (unfinished_form lines m hosts formed h notes new x).form }
 
   begin_free : (name : List ℕ) (what : Ask) (new : Session) (notes : List Note) → Continues Completes files name what old notes new → Formed (BeginForm CompletesForm name what lines hosts) lines hosts notes new.machines
   begin_free name what new notes x =
@@ -241,15 +241,12 @@ module _ (lines : ℕ) (files : Files) (old : Session) (hosts : List HostForm) (
   event_part (event.Host name uuid) notes new x = absurd x
   event_part (event.Mkfs name fs unit log force) notes new x = absurd x
   event_part (event.Begin name what) notes new x = absurd x
-  event_part (event.Run name what) notes new x = (goes name what SomeOperations OperationsForm some new notes x).form
+  event_part (event.Run name what) notes new x = (goes name what Unfinished UnfinishedForm (λ h m hosts formed notes new x. unfinished_form lines m hosts formed h notes new x) new notes x).form
   event_part (event.Step name count) notes new x =
-      let r = steps name x.does.count notes new.machines x.host x.number x.does.does in
-      let few = r.form.within in
+      let few = (operates_form lines x.host x.does.does.count m hosts formed notes new.machines x.does.does.does).within in
       let most = x.does.within in
-      record { host = r.form.host; number = r.form.number; operations = r.form.operations; within = omega (arith, few, most) }
-  event_part (event.Finish name) notes new x =
-      let r = steps name x.does.count notes new.machines x.host x.number x.does.does in
-      record { host = r.form.host; number = r.form.number; operations = r.form.operations }
+      (unfinished name x.host notes new.machines x.number x.does.does, omega (arith, few, most))
+  event_part (event.Finish name) notes new x = unfinished name x.host notes new.machines x.number x.does
   event_part (event.Stop name) notes new x = absurd x
   event_part (event.Halt name) notes new x = absurd x
   event_part (event.Evict name line) notes new x = absurd x

@@ -18,8 +18,7 @@ use Rattle.fam_journal.specs.Machines.{HostState, Machines, TaskState}
 use Rattle.fam_journal.specs.Notes.{Note}
 use Rattle.fam_journal.specs.View.{HostStands, HostView, HostStandsAt, TaskStands, WorldStands, WorldView}
 use Rattle.fam_journal.proofs.Forms.EventRows.{ends_form, follows_form}
-use Rattle.fam_journal.proofs.Forms.Operations.{operates_form}
-use Rattle.fam_journal.proofs.Forms.Rows.{breaks_form, does_form, number_told}
+use Rattle.fam_journal.proofs.Forms.Rows.{breaks_form, does_form, number_told, unfinished_form}
 
 -- A state that a world stands for, whose hosts are what its journal tells.
 
@@ -80,7 +79,7 @@ module _ (lines : ℕ) (state left : Machines) (hosts : List HostForm) (notes : 
   part_form (call.Begins name cmd) x = x.0
   part_form (call.Steps name) x = x.0
   part_form (call.Finishes name) (inl x) =
-      inr (x.host, sym (number_told lines state hosts formed name) ∙ x.number, (operates_form lines x.host x.count state hosts formed notes left x.does).form)
+      inr record { host = x.host; number = sym (number_told lines state hosts formed name) ∙ x.number; part = (unfinished_form lines state hosts formed x.host notes left x.does).form }
   part_form (call.Finishes name) (inr x) = inl x.0
   part_form (call.Stops name) x = x.0
   part_form (call.Halts name) x = x.0

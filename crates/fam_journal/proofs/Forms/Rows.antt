@@ -16,8 +16,8 @@ use Rattle.fam_rules.specs.Place.{line_bytes}
 use Rattle.fam_journal.specs.declared.refusal.Refusal.{Refusal}
 use Rattle.fam_journal.specs.declared.refusal.Refusal.TheVariants as why
 use Rattle.fam_journal.specs.Calls as call
-use Rattle.fam_journal.specs.Calls.{Acts, ActsAt, AtNumber, BreaksOff, ByRefusal, Call, CutsAt, Does, MayBeRefused, OnHost, busy_at, busy_refusal, cause_of, dirty_from, dirty_refusal, is_busy, makes_refusal, may_begin, name_of, number_of, on_host, refusal_of}
-use Rattle.fam_journal.specs.Forms.{ActsForm, AreFormed, AtForm, BreaksForm, DirtyForm, DoesForm, FaultForm, FormByRefusal, FreeForm, HostActsForm, HostForm, OfHostForm, Pairs, StateFormed, forms_behind, makes_told, refusal_told, shown_forms}
+use Rattle.fam_journal.specs.Calls.{Acts, ActsAt, AtNumber, BreaksOff, ByRefusal, Call, CutsAt, Does, MayBeRefused, OnHost, Unfinished, busy_at, busy_refusal, cause_of, dirty_from, dirty_refusal, is_busy, makes_refusal, may_begin, name_of, number_of, on_host, refusal_of}
+use Rattle.fam_journal.specs.Forms.{ActsForm, AreFormed, AtForm, BreaksForm, DirtyForm, DoesForm, FaultForm, FormByRefusal, FreeForm, HostActsForm, HostForm, OfHostForm, Pairs, StateFormed, UnfinishedForm, forms_behind, makes_told, refusal_told, shown_forms}
 use Rattle.fam_journal.specs.Machines.{HostState, Machines, machine_of, with_machine}
 use Rattle.fam_journal.specs.Members.{index_of}
 use Rattle.fam_journal.specs.Notes.{Note, Made, Refused}
@@ -51,6 +51,15 @@ module _ (lines : ℕ) (m : Machines) (hosts : List HostForm) (formed : AreForme
 
   pub step_told : (name : List ℕ) → on_host (number_of name m) (λ h. call.idle_refusal h m) ≡ on_host (number_of name told) (λ h. call.idle_refusal h told)
   step_told name = step_same m told look same_lines name
+
+  -- operations of a host's task, which has not answered
+  pub unfinished_form : (h : ℕ) (notes : List Note) (new : Machines) → Unfinished h m notes new → Formed (UnfinishedForm h hosts) lines hosts notes new
+  unfinished_form h notes new x =
+      let o = operates_form lines h x.count m hosts formed notes new x.does in
+      record {
+        form = record { operations = o.form; runs = sym (runs_same lines h new.hosts (forms_behind hosts notes) o.next.formed) ∙ x.runs };
+        next = o.next;
+      }
 
   -- Of a declared host.
 

@@ -13,9 +13,9 @@ use Rattle.fam_journal.specs.declared.event.Event.TheVariants as event
 use Rattle.fam_journal.specs.declared.refusal.Refusal.{Refusal}
 use Rattle.fam_journal.specs.declared.refusal.Refusal.TheVariants as why
 use Rattle.fam_journal.specs.Calls as call
-use Rattle.fam_journal.specs.Calls.{ActsAt, ActsOf, Acts, AtNumber, BreaksOff, ByRefusal, Call, Completes, CutsAt, Does, OnHost, DoesOperations, begins_refusal, line_refusal, makes_refusal, name_of, number_of, on_host, refusal_of}
+use Rattle.fam_journal.specs.Calls.{ActsAt, ActsOf, Acts, AtNumber, BreaksOff, ByRefusal, Call, Completes, CutsAt, Does, OnHost, DoesOperations, Unfinished, begins_refusal, line_refusal, makes_refusal, name_of, number_of, on_host, refusal_of}
 use Rattle.fam_journal.specs.Ends.{AllDone, Ending, EventsDone, MkfsFails, EndsOutOfMemory, EndsOutOfMemoryBroken, ReadsAs, SinkFails, SourceFails}
-use Rattle.fam_journal.specs.Events.{BreaksEvent, DoesEvent, Continues, IsBegun, RefusesEvent, MayNotStep, PartOf, Session, SomeOperations, first_session}
+use Rattle.fam_journal.specs.Events.{BreaksEvent, DoesEvent, Continues, IsBegun, RefusesEvent, MayNotStep, PartOf, Session, first_session}
 use Rattle.fam_journal.specs.Follows.{Follows, FollowsBroken}
 use Rattle.fam_journal.specs.Kept.{Kept}
 use Rattle.fam_journal.specs.CallRecords.{IsSoundCall}
@@ -151,8 +151,8 @@ module _ (start : Image) (files : Files) where
   completes_kept : (h : ℕ) (state : Machines) (journal : List Note) → Kept start state journal → (notes : List Note) (new : Machines) → Completes h state notes new → Kept start new (journal ++ notes)
   completes_kept h state journal kept notes new x = operates_kept start h x.count state journal kept notes new x.does
 
-  some_kept : (h : ℕ) (state : Machines) (journal : List Note) → Kept start state journal → (notes : List Note) (new : Machines) → SomeOperations h state notes new → Kept start new (journal ++ notes)
-  some_kept h state journal kept notes new x = operates_kept start h x.count state journal kept notes new x.does
+  unfinished_kept : (h : ℕ) (state : Machines) (journal : List Note) → Kept start state journal → (notes : List Note) (new : Machines) → Unfinished h state notes new → Kept start new (journal ++ notes)
+  unfinished_kept h state journal kept notes new x = operates_kept start h x.count state journal kept notes new x.does
 
   pub event_kept : (e : Event) → IsSoundEvent e → (old new : Session) (journal notes : List Note) → Kept start old.machines journal → DoesEvent files e old notes new → Kept start new.machines (journal ++ notes)
   event_kept (event.Host name uuid) sound old new journal notes kept x = does_kept start old.machines journal kept notes new.machines (call.Declares name uuid) sound x.0
@@ -174,9 +174,9 @@ module _ (start : Image) (files : Files) where
   part_kept (event.Host name uuid) sound old new journal notes kept x = absurd x
   part_kept (event.Mkfs name fs unit log force) sound old new journal notes kept x = absurd x
   part_kept (event.Begin name what) sound old new journal notes kept x = absurd x
-  part_kept (event.Run name what) sound old new journal notes kept x = goes_kept SomeOperations some_kept name what old new journal notes kept x
-  part_kept (event.Step name count) sound old new journal notes kept x = operates_kept start x.host x.does.count old.machines journal kept notes new.machines x.does.does
-  part_kept (event.Finish name) sound old new journal notes kept x = operates_kept start x.host x.does.count old.machines journal kept notes new.machines x.does.does
+  part_kept (event.Run name what) sound old new journal notes kept x = goes_kept Unfinished unfinished_kept name what old new journal notes kept x
+  part_kept (event.Step name count) sound old new journal notes kept x = unfinished_kept x.host old.machines journal kept notes new.machines x.does.does
+  part_kept (event.Finish name) sound old new journal notes kept x = unfinished_kept x.host old.machines journal kept notes new.machines x.does
   part_kept (event.Stop name) sound old new journal notes kept x = absurd x
   part_kept (event.Halt name) sound old new journal notes kept x = absurd x
   part_kept (event.Evict name line) sound old new journal notes kept x = absurd x

@@ -8,6 +8,7 @@ ghost use Rattle.fam_commands.specs.declared.phase.Phase.TheVariants as at;
 ghost use Rattle.fam_commands.specs.Turns as turns;
 ghost use Rattle.fam_commands.specs.Turns.{turn_of};
 ghost use Rattle.fam_tasks.specs.Commands.{is_fsck};
+ghost use Rattle.fam_tasks.specs.Slots.{ShowWants};
 ghost use Rattle.fam_tasks.specs.declared.answer.Answer.TheVariants.{MediaFault};
 ghost use Rattle.fam_tasks.specs.declared.answer.Turn.TheVariants.{Done};
 ghost use Rattle.fam_tasks.specs.Tells.{Tells, WantsMemory, slot_turn_by};
@@ -15,9 +16,9 @@ ghost use Rattle.fam_tasks.specs.Tells.{Tells, WantsMemory, slot_turn_by};
 use super::{Task, slot_or_decide};
 use crate::answer::{Answer, Turn};
 use crate::commands::is_fsck;
-use crate::parts::read_slot;
+use crate::parts::{check_slot, checked_slot};
 use crate::slots::{find, join, show};
-use fam_base::{Entry, OutOfMemory};
+use fam_base::{Entry, OutOfMemory, PATH_LIMIT};
 use fam_format::Reason;
 
 impl Task {
@@ -28,6 +29,8 @@ impl Task {
         ensures own { (line : LineNo) → IfOk result (λ turn. turn ≢ Done (MediaFault line)) }
         ensures err { OnErr result (self.new ≡ self.old) }
         ensures want { OnErr result (WantsMemory self.old.entries (turn_of self.old None)) }
+        ensures shows { OnErr result (is_fsck self.old.cmd ≡ true
+            → ShowWants self.old.params self.old.gate slot self.old.words) }
     {
         match self.check_slot(slot) {
             Ok(None) => Ok(Turn::Go),
@@ -44,6 +47,10 @@ impl Task {
             Tells (turn_of self.old None) (slot_turn_by slot reason) self.new) }
         ensures err { OnErr result (self.new ≡ self.old) }
         ensures want { OnErr result (WantsMemory self.old.entries (turn_of self.old None)) }
+
+        // A fsck goes on behind any slot. It wants memory for the first one, and for entries below the gate.
+        ensures shows { OnErr result (is_fsck self.old.cmd ≡ true
+            → ShowWants self.old.params self.old.gate slot self.old.words) }
     {
         if is_fsck(&self.cmd) {
             return self.show_slot(slot);
@@ -81,9 +88,13 @@ impl Task {
         ensures want { OnErr result (WantsMemory self.old.entries (turns.slot_turn self.old slot
             (entry_of self.old.params self.old.words slot))) }
     {
-        match &read_slot(&self.buffer, slot, &self.params) {
-            Ok(entry) => self.join(slot, entry),
-            Err(reason) => Ok(Some(*reason)),
+        let mut field = [0; PATH_LIMIT];
+        match check_slot(&self.buffer, slot, &self.params, &mut field) {
+            Ok(()) => {
+                let entry = checked_slot(&self.buffer, &field);
+                self.join(slot, &entry)
+            }
+            Err(reason) => Ok(Some(reason)),
         }
     }
 
@@ -124,6 +135,7 @@ impl Task {
         ensures turn { IfOk result (λ reason.
             Tells (turns.survey_turn self.old slot) (slot_turn_by slot reason) self.new) }
         ensures err { OnErr result (self.new ≡ self.old) }
+        ensures want { OnErr result (ShowWants self.old.params self.old.gate slot self.old.words) }
     {
         let words = self.buffer.slot();
         show(self.alloc, &mut self.scan, &self.params, self.gate, words)?;

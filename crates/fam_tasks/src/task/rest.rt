@@ -33,11 +33,12 @@ impl Task {
     }
 
     /// Takes the words of the line of which word 1 is loaded next, from that one on: up to the last one of a slot's
-    /// line, and else up to the one before, behind which a task may end.
+    /// line, and else up to the one before, behind which a task may end. It says how many these are.
     #[inline(always)]
-    pub fn take_rest(&mut self, line: LineNo, words: &Line)
+    pub fn take_rest(&mut self, line: LineNo, words: &Line) -> u64
         requires rest { IsRest line self.old }
-        ensures { Loads line words.now self.old self.new }
+        ensures loads { Loads line words.now self.old self.new result }
+        ensures most { result < LINE_WORDS }
     {
         match self.phase {
             Phase::Word {
@@ -51,16 +52,19 @@ impl Task {
 
     /// Takes the words of a line of a part from word 1 on.
     #[inline(always)]
-    fn load_rest(&mut self, line: LineNo, part: Part, number: u64, words: &Line)
+    fn load_rest(&mut self, line: LineNo, part: Part, number: u64, words: &Line) -> u64
         requires phase { self.old.phase ≡ at.Word part number 1 }
         requires rest { IsRest line self.old }
-        ensures { Loads line words.now self.old self.new }
+        ensures loads { Loads line words.now self.old self.new result }
+        ensures most { result < LINE_WORDS }
     {
         self.load_six(line, part, number, words);
         if let Part::Slot(slot) = part {
             self.is_sound();
             self.load_slot(slot, number, words[7]);
+            return 7;
         }
+        6
     }
 
     /// Takes words 1 to 6 of a line of a part.

@@ -1,6 +1,6 @@
 //! A world over a media of its own, on which scripts are played.
 
-ghost use Rattle.std.specs.Prelude.{◌≤◌};
+ghost use Rattle.std.specs.Prelude.{◌<◌, ◌≤◌};
 
 use super::asks::{Ask, Event, command};
 use super::texts::note_text;
@@ -144,14 +144,11 @@ impl Scene {
         )
     }
 
-    /// So many steps, fewer where the task answers.
-    fn steps(&mut self, name: &HostName, count: u64) -> Result<(), OutOfMemory> {
-        for _ in 0..count {
-            if !self.operate(name)? {
-                return Ok(());
-            }
-        }
-        Ok(())
+    /// So many steps, fewer where the task answers. Whether the task goes on.
+    fn steps(&mut self, name: &HostName, count: u64) -> Result<bool, OutOfMemory>
+        requires { 0 < count }
+    {
+        goes(self.world.steps(&mut self.media, name, count))
     }
 
     fn run(&mut self, name: &HostName, ask: Ask) -> Result<(), Fail> {
@@ -174,7 +171,11 @@ impl Scene {
                 self.begin(&HostName::read(&[name])?, ask)?;
             }
             Event::Run(name, ask) => self.run(&HostName::read(&[name])?, ask)?,
-            Event::Step(name, count) => self.steps(&HostName::read(&[name])?, count)?,
+            Event::Step(name, count) => {
+                if count > 0 {
+                    self.steps(&HostName::read(&[name])?, count)?;
+                }
+            }
             Event::Finish(name) => {
                 self.finish(&HostName::read(&[name])?)?;
             }

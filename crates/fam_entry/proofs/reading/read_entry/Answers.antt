@@ -11,12 +11,12 @@ check-requires-clause-empty c = λ k. zero_at 168 k
 pub returns-in-Ok-clause-found : goal.returns-in-Ok-clause-found
 returns-in-Ok-clause-found c =
     let as_read : Entry → Result Entry Reason = λ e. Ok e in
-    entry_found c.args.params.now c.args.words.now c.args.seq (Ok c.fields_of.result) (ap as_read c.fields_of.ensures ∙ sym c.in-Ok.ensures.value) c.in-Ok.ensures.words
+    entry_found c.args.params.now c.args.words.now c.args.seq (Ok c.checked_entry.result) (ap as_read c.checked_entry.ensures ∙ sym c.in-Ok.ensures.value) c.in-Ok.ensures.words
 
 pub returns-in-Ok-clause-only : goal.returns-in-Ok-clause-only
 returns-in-Ok-clause-only c =
     let as_read : Entry → Result Entry Reason = λ e. Ok e in
-    entry_only c.args.params.now c.args.words.now c.args.seq (Ok c.fields_of.result) (ap as_read c.fields_of.ensures ∙ sym c.in-Ok.ensures.value)
+    entry_only c.args.params.now c.args.words.now c.args.seq (Ok c.checked_entry.result) (ap as_read c.checked_entry.ensures ∙ sym c.in-Ok.ensures.value)
 
 pub returns-in-Err-clause-only : goal.returns-in-Err-clause-only
 returns-in-Err-clause-only c = entry_only c.args.params.now c.args.words.now c.args.seq (Err c.in-Err.reason) (sym c.in-Err.ensures.value)

@@ -12,9 +12,9 @@ returns-then-is_some c =
 pub returns-in-Some : goal.returns-in-Some
 returns-in-Some c =
     units_alone c.args.params.now c.args.entry.now (Some c.in-Some.unit) (none_of_false (parent_of c.args.entry.now.path) (c.if-is_some.ensures ∙ ap is_some c.parent.ensures))
-    (sym c.in-Some.is ∙ c.first_overlap.ensures)
+    (sym c.in-Some.is ∙ c.overlap_alone.ensures)
 
 pub returns-in-None : goal.returns-in-None
 returns-in-None c =
     units_alone c.args.params.now c.args.entry.now None (none_of_false (parent_of c.args.entry.now.path) (c.if-is_some.ensures ∙ ap is_some c.parent.ensures))
-    (sym c.in-None.is ∙ c.first_overlap.ensures)
+    (sym c.in-None.is ∙ c.overlap_alone.ensures)

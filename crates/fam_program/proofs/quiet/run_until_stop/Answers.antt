@@ -12,6 +12,7 @@ use Rattle.fam_events.specs.Happens.{EventSays}
 use Rattle.fam_program.specs.Far.{AreSoundEvents, Base, Far, Now}
 use Rattle.fam_program.specs.Quiet.{AreShotEvents, GoesOn}
 use Rattle.fam_program.proofs.Going.{first_far, more_far, next_of}
+use Rattle.fam_program.proofs.Hiding.{fault_hides}
 use Rattle.fam_program.proofs.Leaving.{done_spares, fault_spares}
 use Rattle.fam_program.proofs.Loops.{all_taken, next_is, one_more, rest_is}
 use Rattle.fam_program.proofs.Quietly.{fault_ended, fault_goes, taken_ended}
@@ -116,6 +117,7 @@ returns-in-Err-clause-ended g c =
     λ sink. (
       fault_ended b count n m inv.far e is shelf sink.faults sink.faults_now sink.bytes sink.bytes_now c.in-Err.fault says,
       fault_goes b n m e (subst AreShotEvents c.in-Some.ensures.steps.0 inv.shot).0 shelf c.in-Err.fault inv.goes says,
+      fault_hides b n m e (subst AreShotEvents c.in-Some.ensures.steps.0 inv.shot).0 shelf c.in-Err.fault inv.goes says,
     )
 
 pub returns-in-Err-clause-steady : goal.returns-in-Err-clause-steady

@@ -1,17 +1,10 @@
-use Rattle.fam_run.specs.Held.{none}
 use Rattle.fam_run.proofs.Held.{loads_held}
 use Rattle.fam_run.proofs.FirstStores.{no_rest}
 use Rattle.fam_run.proofs.rest.load_held.Goals as goal
 
 pub returns-in-Some-held-clause-run : goal.returns-in-Some-held-clause-run
 returns-in-Some-held-clause-run c =
-    loads_held c.in-Some.line c.in-Some-held.words c.args.task.now c.take_rest.new.self c.args.cache.now.lines c.in-Some-held.ensures.held c.in-Some-held.ensures.value c.take_rest.ensures
-
-pub returns-in_default-held-clause-run : goal.returns-in_default-held-clause-run
-returns-in_default-held-clause-run c = none
-
-pub returns-in_default-clause-run : goal.returns-in_default-clause-run
-returns-in_default-clause-run c = none
+    loads_held c.in-Some.line c.in-Some-held.words c.args.task.now c.take_rest.new.self c.args.cache.now.lines c.in-Some-held.ensures.held c.in-Some-held.ensures.value c.take_rest.ensures.loads
 
 pub returns-in-Some-held-clause-idle : goal.returns-in-Some-held-clause-idle
 returns-in-Some-held-clause-idle c = λ first. absurd (no_rest c.args.task.now first c.in-Some.line c.in-Some.ensures)

@@ -12,7 +12,7 @@ returns-then-store_rest-clause-run c =
 
 pub returns-else-store_rest-clause-run : goal.returns-else-store_rest-clause-run
 returns-else-store_rest-clause-run c =
-    subst (λ (s : CacheState). HeldRun c.args.task.now c.args.cache.now.lines c.args.task.now s.lines) (sym (c.if-store_rest.ensures.other refl)) none
+    subst (λ (s : CacheState). HeldRun c.args.task.now c.args.cache.now.lines c.args.task.now s.lines 0) (sym (c.if-store_rest.ensures.other refl)) none
 
 pub returns-in_default-clause-run : goal.returns-in_default-clause-run
 returns-in_default-clause-run c = none

@@ -1,9 +1,10 @@
-use Rattle.std.proofs.Common.{◌≡◌, ℕ, List, Option, Some, None, IfSome, IfNone, Bor, get_or, sym}
+use Rattle.std.proofs.Common.{◌≡◌, ℕ, List, Option, Some, None, IfSome, IfNone, Bor, get_or, sym, ap}
 use Rattle.std.specs.Prelude.{option_map}
 use Rattle.std.specs.FinMap as map
 use Rattle.fam_base.specs.declared.entry.Entry.{Entry}
-use Rattle.fam_tree.specs.Runs.{InOrder, IsAbsent, IsFound, IsRunFor, entries_in, tree_of}
+use Rattle.fam_tree.specs.Runs.{InOrder, IsAbsent, IsFound, IsRunFor, entries_in, run_of, runs_of, tree_of}
 use Rattle.fam_tree.proofs.Nested.{Runs, absent_of_run, found_in_run, nothing_without_runs}
+use Rattle.fam_tree.proofs.RunPlaces.{run_at, run_in_order}
 use Rattle.fam_tree.proofs.runs.entry_in.Goals as goal
 
 told : (runs : Runs) (q : List ℕ) (k : ℕ) (r : List Entry) → IsRunFor runs q k → r ≡ get_or runs k r → InOrder (entries_in runs)
@@ -12,8 +13,19 @@ told : (runs : Runs) (q : List ℕ) (k : ℕ) (r : List Entry) → IsRunFor runs
 told runs q k r for is order (Some e) found none = sym (found_in_run runs q k r for is order e.now found)
 told runs q k r for is order None found none = sym (absent_of_run runs q k r for is none)
 
+pub get-requires-clause-order : goal.get-requires-clause-order
+get-requires-clause-order c =
+    run_in_order c.args.entries.now c.args.runs.now c.in-Some.k c.in-Some.ensures.within c.requires c.index-runs-k.result c.index-runs-k.is
+
 pub returns-in-Some-clause-value : goal.returns-in-Some-clause-value
-returns-in-Some-clause-value c = told c.args.runs.now c.args.path.now c.in-Some.k c.index-runs-k.result c.in-Some.ensures.some c.index-runs-k.is c.requires.order c.get.result c.get.ensures.found c.get.ensures.none
+returns-in-Some-clause-value c =
+    let es = c.args.entries.now in
+    let runs = c.args.runs.now in
+    let run = c.index-runs-k.result in
+    told (runs_of es runs) c.args.path.now c.in-Some.k (run_of es run) c.in-Some.ensures.some (run_at es runs c.in-Some.k c.in-Some.ensures.within run c.index-runs-k.is)
+    c.requires.held.order c.get.result c.get.ensures.found c.get.ensures.none
 
 pub returns-in-None-clause-value : goal.returns-in-None-clause-value
-returns-in-None-clause-value c = sym (nothing_without_runs c.args.runs.now c.args.path.now c.in-None.ensures.none)
+returns-in-None-clause-value c =
+    let es = c.args.entries.now in
+    sym (nothing_without_runs (runs_of es c.args.runs.now) c.args.path.now (ap (runs_of es) c.in-None.ensures.none))

@@ -1,7 +1,9 @@
-use Rattle.std.proofs.Common.{Bool, true, false, length, refl, ap, ◌∙◌}
+use Rattle.std.proofs.Common.{◌≡◌, ◌<◌, Bool, true, false, List, [], length, set, sym, ap, subst, ◌∙◌}
 use Rattle.std.specs.Bool.{OnTrue}
-use Rattle.fam_tree.specs.Runs.{IsRunFor, tree_of}
-use Rattle.fam_tree.proofs.Nested.{nothing_without_runs, put_count, put_free, put_runs, put_view}
+use Rattle.fam_base.specs.declared.entry.Entry.{Entry}
+use Rattle.fam_tree.specs.Runs.{AreRunsOf, IsRunFor, listed, runs_of, tree_of}
+use Rattle.fam_tree.proofs.Nested.{nothing_without_runs}
+use Rattle.fam_tree.proofs.RunPlaces.{Places, added_are, added_count, added_free, added_view, run_in_order}
 use Rattle.fam_tree.proofs.runs.put.Goals as goal
 
 on_any : (t : Bool) (P : Type 0) → P → OnTrue t P
@@ -10,26 +12,48 @@ on_any false P p = tt
 
 pub returns-in_default-clause-free : goal.returns-in_default-clause-free
 returns-in_default-clause-free c =
-    on_any c.begin.result _ (nothing_without_runs c.args.runs.now.items c.args.entry.now.path (rw (← c.deref.ensures.value) c.in_default.ensures.none))
+    let es = c.args.entries.now.items in
+    let items = c.args.runs.now.items in
+    let none : items ≡ [] = rw (← c.deref-2.ensures.value) c.in_default.ensures.none in
+    on_any c.begin.result _ (nothing_without_runs (runs_of es items) c.args.entry.now.path (ap (λ (l : Places). runs_of es l) none))
+
+pub add-requires-clause-order : goal.add-requires-clause-order
+add-requires-clause-order c =
+    let items = c.args.runs.now.items in
+    let below : c.in-Some.k < length items = rw (← c.deref-2.ensures.value) c.in-Some.ensures.within in
+    run_in_order c.args.entries.now.items items c.in-Some.k below c.requires c.index_mut.result.now c.index_mut.ensures.value
 
 pub split-requires-clause-runs : goal.split-requires-clause-runs
 split-requires-clause-runs c =
-    let for : IsRunFor c.args.runs.now.items c.args.entry.now.path c.in-Some.k = rw (← c.deref.ensures.value) c.in-Some.ensures.some in
-    put_runs c.args.runs.now.items c.args.entry.now.path c.in-Some.k c.index_mut.result.now for c.index_mut.ensures.value c.add.new.self c.args.entry.now refl c.if-not-add.ensures.added c.requires
+    let es = c.args.entries.now.items in
+    let items = c.args.runs.now.items in
+    let for : IsRunFor (runs_of es items) c.args.entry.now.path c.in-Some.k = rw (← c.deref.ensures.value, ← c.deref-2.ensures.value) c.in-Some.ensures.some in
+    let below : c.in-Some.k < length items = rw (← c.deref-2.ensures.value) c.in-Some.ensures.within in
+    subst (λ (l : List Entry). AreRunsOf l (set items c.in-Some.k c.add.new.self)) (sym c.deref-3.ensures.value)
+    (added_are es c.add.new.entries.items items c.in-Some.k c.add.new.self c.args.entry.now c.requires c.if-not-add.ensures.entries c.index_mut.result.now for below c.index_mut.ensures.value c.if-not-add.ensures.added c.if-not-add.ensures.inside)
 
 pub returns-clause-free : goal.returns-clause-free
 returns-clause-free c =
-    let for : IsRunFor c.args.runs.now.items c.args.entry.now.path c.in-Some.k = rw (← c.deref.ensures.value) c.in-Some.ensures.some in
-    put_free c.args.runs.now.items c.args.entry.now.path c.in-Some.k c.index_mut.result.now for c.index_mut.ensures.value c.add.new.self c.args.entry.now refl c.if-not-add.ensures.added
+    let es = c.args.entries.now.items in
+    let items = c.args.runs.now.items in
+    let for : IsRunFor (runs_of es items) c.args.entry.now.path c.in-Some.k = rw (← c.deref.ensures.value, ← c.deref-2.ensures.value) c.in-Some.ensures.some in
+    let below : c.in-Some.k < length items = rw (← c.deref-2.ensures.value) c.in-Some.ensures.within in
+    added_free es c.add.new.entries.items items c.in-Some.k c.add.new.self c.args.entry.now c.requires c.if-not-add.ensures.entries c.index_mut.result.now for below c.index_mut.ensures.value c.if-not-add.ensures.added
 
 pub returns-clause-added : goal.returns-clause-added
 returns-clause-added c =
-    let for : IsRunFor c.args.runs.now.items c.args.entry.now.path c.in-Some.k = rw (← c.deref.ensures.value) c.in-Some.ensures.some in
-    ap tree_of c.split.ensures.entries
-    ∙ put_view c.args.runs.now.items c.args.entry.now.path c.in-Some.k c.index_mut.result.now for c.index_mut.ensures.value c.add.new.self c.args.entry.now refl c.if-not-add.ensures.added
+    let es = c.args.entries.now.items in
+    let items = c.args.runs.now.items in
+    let for : IsRunFor (runs_of es items) c.args.entry.now.path c.in-Some.k = rw (← c.deref.ensures.value, ← c.deref-2.ensures.value) c.in-Some.ensures.some in
+    let below : c.in-Some.k < length items = rw (← c.deref-2.ensures.value) c.in-Some.ensures.within in
+    let kept : listed c.add.new.entries.items c.split.new.runs.items ≡ listed c.add.new.entries.items (set items c.in-Some.k c.add.new.self) = rw (← c.deref-3.ensures.value) c.split.ensures.entries in
+    ap tree_of kept ∙ added_view es c.add.new.entries.items items c.in-Some.k c.add.new.self c.args.entry.now c.requires c.if-not-add.ensures.entries c.index_mut.result.now for below c.index_mut.ensures.value c.if-not-add.ensures.added
 
 pub returns-clause-count : goal.returns-clause-count
 returns-clause-count c =
-    let for : IsRunFor c.args.runs.now.items c.args.entry.now.path c.in-Some.k = rw (← c.deref.ensures.value) c.in-Some.ensures.some in
-    ap (λ l. length l) c.split.ensures.entries
-    ∙ put_count c.args.runs.now.items c.args.entry.now.path c.in-Some.k c.index_mut.result.now for c.index_mut.ensures.value c.add.new.self c.args.entry.now refl c.if-not-add.ensures.added
+    let es = c.args.entries.now.items in
+    let items = c.args.runs.now.items in
+    let for : IsRunFor (runs_of es items) c.args.entry.now.path c.in-Some.k = rw (← c.deref.ensures.value, ← c.deref-2.ensures.value) c.in-Some.ensures.some in
+    let below : c.in-Some.k < length items = rw (← c.deref-2.ensures.value) c.in-Some.ensures.within in
+    let kept : listed c.add.new.entries.items c.split.new.runs.items ≡ listed c.add.new.entries.items (set items c.in-Some.k c.add.new.self) = rw (← c.deref-3.ensures.value) c.split.ensures.entries in
+    ap (λ (l : List Entry). length l) kept ∙ added_count es c.add.new.entries.items items c.in-Some.k c.add.new.self c.args.entry.now c.requires c.if-not-add.ensures.entries c.index_mut.result.now for below c.index_mut.ensures.value c.if-not-add.ensures.added

@@ -1,14 +1,14 @@
 use Rattle.std.proofs.Common.{◌≡◌, ◌<◌, false, length, Result, Ok, Err, IsOk, OnOk, if◌then◌else◌, sym, ap, ◌∙◌, arith}
 use Rattle.std.specs.Result.{is_err, is_ok}
-use Rattle.fam_tree.specs.Runs.{entries_in}
-use Rattle.fam_tree.proofs.Nested.{Runs, cut_runs, cut_whole}
+use Rattle.fam_tree.specs.Runs.{listed}
+use Rattle.fam_tree.proofs.RunPlaces.{Places, are_cut, listed_cut}
 use Rattle.fam_tree.proofs.runs.split.Goals as goal
 
 where_ok : {T E : Type 0} (r : Result T E) (P : Type 0) → is_err r ≡ false → OnOk r P → P
 where_ok (Ok x) P not p = p
 where_ok (Err e) P not p = absurd (cc (not))
 
-chosen : {T E : Type 0} (r : Result T E) (x y z : Runs) → IsOk r → z ≡ (if is_ok r then x else y) → z ≡ x
+chosen : {T E : Type 0} (r : Result T E) (x y z : Places) → IsOk r → z ≡ (if is_ok r then x else y) → z ≡ x
 chosen (Ok t) x y z ok is = is
 chosen (Err e) x y z ok is = absurd (cc (ok))
 
@@ -19,7 +19,7 @@ returns-in-Ok-clause-runs c =
     let runs = c.reserve.new.self.items in
     let within : c.args.k < length runs = rw c.reserve.ensures.items c.requires.within in
     let is = chosen c.insert.result _ _ _ ok c.insert.ensures.items in
-    cut_runs runs c.args.k c.split.new.self c.in-Ok.upper c.index_mut.result.now within c.index_mut.ensures.value c.in-Ok.ensures.cut c.insert.new.self.items is
+    are_cut c.args.entries.now runs c.args.k c.split.new.self c.in-Ok.upper c.index_mut.result.now within c.index_mut.ensures.value c.in-Ok.ensures.cut c.insert.new.self.items is
     (rw c.reserve.ensures.items c.requires.runs) c.in-Ok.ensures.lower c.in-Ok.ensures.upper
 
 pub returns-in-Ok-clause-entries : goal.returns-in-Ok-clause-entries
@@ -29,5 +29,5 @@ returns-in-Ok-clause-entries c =
     let runs = c.reserve.new.self.items in
     let within : c.args.k < length runs = rw c.reserve.ensures.items c.requires.within in
     let is = chosen c.insert.result _ _ _ ok c.insert.ensures.items in
-    cut_whole runs c.args.k c.split.new.self c.in-Ok.upper c.index_mut.result.now within c.index_mut.ensures.value c.in-Ok.ensures.cut c.insert.new.self.items is
-    ∙ ap entries_in c.reserve.ensures.items
+    listed_cut c.args.entries.now runs c.args.k c.split.new.self c.in-Ok.upper c.index_mut.result.now within c.index_mut.ensures.value c.in-Ok.ensures.cut c.insert.new.self.items is
+    ∙ ap (listed c.args.entries.now) c.reserve.ensures.items

@@ -1,6 +1,6 @@
 use Rattle.std.proofs.Common.{◌≡◌, ◌⊎◌, ◌<◌, Some, length, set, refl, ap, ap₂, sym, subst, ◌∙◌, arith, true, vec_len, List, Option}
 use Rattle.std.proofs.lemmas.List.{length-map, length-set}
-use Rattle.std.specs.Prelude.{IfSome, is_some, vec_capacity}
+use Rattle.std.specs.Prelude.{IfSome, is_some, slice_get, vec_capacity}
 use Rattle.std.proofs.lemmas.Option.{same_Some, slice_get_read}
 use Rattle.fam_media.specs.Outside.{IfModelled}
 use Rattle.fam_commands.specs.FirstStore.{IsFirstStore}
@@ -87,10 +87,10 @@ operations-smaller g c =
     let task_then : y.task ≡ x_then.task = ap (λ (v : HostView). v.task) (same_Some (host_view y) (host_view x_then) (sym (view_set items at x y at_is) ∙ then_view)) in
     let runs_then = sym (ap is_some task_then) ∙ come_runs at t.0 _ over going step in
     let z = c.held_on.new.host in
-    let held = held_host x_then z runs_then c.held_on.ensures.runs c.held_on.ensures.held c.held_on.ensures.sound_on in
+    let held = held_host x_then z c.held_on.result runs_then c.held_on.ensures.runs c.held_on.ensures.held c.held_on.ensures.sound_on in
     falls_on _ _ _
     (come_falls items at x y t.0 _ over at_is t.1 refl going step c.in_ok-go_on.ensures.sound_on)
-    (held_nearer items_then at x_then z then_is held)
+    (held_nearer items_then at x_then z then_is c.held_on.result held)
 
 pub operations-preserved : goal.operations-preserved
 operations-preserved g c =
@@ -112,7 +112,7 @@ operations-preserved g c =
     let task_then : y.task ≡ x_then.task = ap (λ (v : HostView). v.task) (same_Some (host_view y) (host_view x_then) (sym (view_set items at x y at_is) ∙ then_view)) in
     let runs_then = sym (ap is_some task_then) ∙ come_runs at t.0 _ over going step in
     let z = c.held_on.new.host in
-    let held = held_host x_then z runs_then c.held_on.ensures.runs c.held_on.ensures.held c.held_on.ensures.sound_on in
+    let held = held_host x_then z c.held_on.result runs_then c.held_on.ensures.runs c.held_on.ensures.held c.held_on.ensures.sound_on in
     let lines : t.0.lines ≡ g.M.Media.size c.operations.media = subst (TaskFits (g.M.Media.size c.operations.media)) t.1 (inv.fits (host_view x) view_is) in
     let size = g.M.Media.size c.args.media.now in
     let journal = c.go_on.new.journal.items in
@@ -133,10 +133,10 @@ operations-preserved g c =
     let now = view_set items_then at x_then z then_is in
     record {
       far = subst (λ (w : WorldView). SoFar at size (world_view c.args.hosts.now.items c.args.journal.now.items) (g.M.Media.image c.args.media.now) (g.M.Media.faults c.args.media.now) w (g.M.Media.image c.go_on.new.media) (g.M.Media.faults c.go_on.new.media))
-          (sym (held_world items_then at x_then z then_is held journal c.held_on.ensures.heading)) far_then;
+          (sym (held_world items_then at x_then z then_is c.held_on.result held journal c.held_on.ensures.heading)) far_then;
       size = same_size;
       len = inv.len;
-      runs = λ view is. subst (λ (v : HostView). is_some v.task ≡ true) (same_Some (host_view z) view (sym now ∙ is)) (held_runs items_then at x_then z then_is held);
+      runs = λ view is. subst (λ (v : HostView). is_some v.task ≡ true) (same_Some (host_view z) view (sym now ∙ is)) (held_runs x_then z c.held_on.result held);
       safe = λ start h is.
           let notes = vec_len c.go_on.new.journal in
           let room = vec_capacity c.go_on.new.journal in
@@ -151,7 +151,7 @@ operations-preserved g c =
           let safe_here : IsSafe told now_told x_then.task x_then.cache notes room =
           subst (λ (v : Host). IsSafe told now_told v.task v.cache notes room) (same_Some y x_then (sym (set_member items at x y at_is) ∙ then_is)) safe_then in
           subst (λ (v : Host). IsSafe told now_told v.task v.cache notes room) (same_Some z h (sym (set_member items_then at x_then z then_is) ∙ is)) (c.held_on.ensures.safe told now_told notes room safe_here);
-      fits = λ view is. subst (λ (v : HostView). TaskFits (g.M.Media.size c.go_on.new.media) v.task) (same_Some (host_view z) view (sym now ∙ is)) (held_fits items_then at x_then z then_is held (g.M.Media.size c.go_on.new.media) fits_then);
+      fits = λ view is. subst (λ (v : HostView). TaskFits (g.M.Media.size c.go_on.new.media) v.task) (same_Some (host_view z) view (sym now ∙ is)) (held_fits x_then z c.held_on.result held (g.M.Media.size c.go_on.new.media) fits_then);
     }
 
 pub returns-in-Answered-clause-far : goal.returns-in-Answered-clause-far
@@ -221,3 +221,17 @@ returns-in_err-go_on-clause-far g c =
     ap₂ (λ (hosts : List HostView) (journal : List Note). record { hosts = hosts; journal = journal }) (map_same host_view items at y x at_is c.in_err-go_on.ensures.view) notes in
     subst (λ m. SoFar at size old told faults (world_view (set items at y) c.go_on.new.journal.items) (g.M.Media.image m) (g.M.Media.faults m)) (sym c.in_err-go_on.ensures.undone)
     (subst (λ (w : WorldView). SoFar at size old told faults w (g.M.Media.image c.operations.media) (g.M.Media.faults c.operations.media)) (sym world) c.operations.invariant.far)
+
+pub returns-in_err-make_room-clause-runs : goal.returns-in_err-make_room-clause-runs
+returns-in_err-make_room-clause-runs g c = on_err_of c.from_residual.result c.operations.invariant.runs
+
+pub returns-in_err-go_on-clause-runs : goal.returns-in_err-go_on-clause-runs
+returns-in_err-go_on-clause-runs g c =
+    let items = c.operations.hosts.items in
+    let x = c.index_mut.result.now in
+    let y = c.go_on.new.host in
+    let at = c.args.at in
+    let inv = c.operations.invariant in
+    let at_is = slice_get_read items (length items) at x refl (omega (arith, c.requires.within, inv.len)) c.index_mut.ensures.value in
+    on_err_of c.from_residual-in_err-go_on.result
+    (λ view is. inv.runs view (subst (λ (vs : List HostView). slice_get vs at ≡ Some view) (map_same host_view items at y x at_is c.in_err-go_on.ensures.view) is))

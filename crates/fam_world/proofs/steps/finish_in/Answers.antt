@@ -46,7 +46,7 @@ returns-in-Err-finish_at-clause-want g c = λ _.
     let free = c.in-Ok.ensures.placed size old.journal in
     let far = subst (λ (j : List Note). SoFar at size (record { hosts = views c.args.hosts.now.items; journal = j }) (g.M.Media.image c.args.media.now) (g.M.Media.faults c.args.media.now) (world_view c.finish_at.new.hosts.items c.finish_at.new.journal.items) (g.M.Media.image c.finish_at.new.media) (g.M.Media.faults c.finish_at.new.media)) (ap notes_view c.make_room.ensures.same) c.finish_at.ensures.far in
     finish_lacks c.args.name.now at size old _ _ _ _ _ far free.number free.free free.within (g.met.M.Media.modelled c.args.media.now)
-    (λ unstored. c.in-Err-finish_at.ensures.same (unstored_views at c.args.hosts.now.items old.journal unstored))
+    c.in-Err-finish_at.ensures.runs (λ unstored. c.in-Err-finish_at.ensures.same (unstored_views at c.args.hosts.now.items old.journal unstored))
 
 pub returns-then-is_err-clause-want : goal.returns-then-is_err-clause-want
 returns-then-is_err-clause-want g c = λ _.

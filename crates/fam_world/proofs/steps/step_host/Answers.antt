@@ -7,12 +7,10 @@ use Rattle.fam_world.proofs.steps.step_host.Goals as goal
 pub returns-in-Ok-true-clause-step : goal.returns-in-Ok-true-clause-step
 returns-in-Ok-true-clause-step g c = λ t e.
     let ok = c.in-Ok-true in
-    let reads = ok.field-0-test in
-    step_done c.args.at Go _ _ t c.read_on.new.task e c.read_on.ensures.runs refl (sym (append-nil (notes_view c.args.journal.now.items))) refl c.read_on.ensures.steady.later refl
-    (ok.ensures.turned reads) (ok.ensures.goes reads) (ok.ensures.keeps reads) (ok.ensures.cache reads) c.read_on.ensures.within c.requires.fits
+    step_done c.args.at Go _ _ t c.read_on.new.task e c.read_on.ensures.keeps.runs refl (sym (append-nil (notes_view c.args.journal.now.items))) refl c.read_on.ensures.steady.later refl
+    (ok.ensures.turned ok.field-0-test) c.requires.fits
 
 pub returns-in-Err-MediaFault-clause-step : goal.returns-in-Err-MediaFault-clause-step
 returns-in-Err-MediaFault-clause-step g c = λ t e.
     let f = c.in-Err-MediaFault in
-    step_lost c.args.at t _ f.line f.field-0 f.field-0-is e c.end_at_fault.ensures.notes refl c.read_on.ensures.steady.later c.end_at_fault.ensures.task f.ensures.copies
-    f.ensures.failed f.ensures.rose
+    step_lost c.args.at t _ f.line f.field-0 c.read_on.new.task f.field-0-is e c.end_at_fault.ensures.notes refl c.read_on.ensures.steady.later c.end_at_fault.ensures.task f.ensures.failed

@@ -19,7 +19,7 @@ use Rattle.fam_world.proofs.whole.whole_host.Goals as goal
 pub returns-in-Ok-Going-clause-step : goal.returns-in-Ok-Going-clause-step
 returns-in-Ok-Going-clause-step g c = λ t e.
     let w = c.in-Ok-Going in
-    let b = both_there c.args.host.now.task c.whole_on.new.task t _ e c.whole_on.ensures.runs (going_done w.field-0 _ w.field-0-is w.ensures.done) in
+    let b = both_there c.args.host.now.task c.whole_on.new.task t _ e c.whole_on.ensures.keeps.runs (going_done w.field-0 _ w.field-0-is w.ensures.done) in
     whole_done c.args.at Go _ _ t b.0 b.2 c.whole_on.new.task b.1 refl (sym (append-nil (notes_view c.args.journal.now.items))) refl c.whole_on.ensures.steady.later refl
     (subst (TaskFits (g.M.Media.size c.args.media.now)) e c.requires.fits)
 
@@ -27,7 +27,7 @@ returns-in-Ok-Going-clause-step g c = λ t e.
 pub returns-in-Ok-Ended-clause-step : goal.returns-in-Ok-Ended-clause-step
 returns-in-Ok-Ended-clause-step g c = λ t e.
     let w = c.in-Ok-Ended in
-    let b = both_there c.args.host.now.task c.whole_on.new.task t _ e c.whole_on.ensures.runs (ended_done w.field-0 w.ended _ w.field-0-is w.ensures.done) in
+    let b = both_there c.args.host.now.task c.whole_on.new.task t _ e c.whole_on.ensures.keeps.runs (ended_done w.field-0 w.ended _ w.field-0-is w.ensures.done) in
     let said = c.end_compared.ensures in
     whole_done c.args.at (Done (answer_by w.ended)) _ _ t b.0 b.2 c.whole_on.new.task b.1 said.task said.notes refl c.whole_on.ensures.steady.later said.over
     (subst (TaskFits (g.M.Media.size c.args.media.now)) e c.requires.fits)
@@ -47,7 +47,7 @@ returns-in-Ok-Other-clause-step g c =
       faults = g.M.Media.faults c.whole_on.new.media;
       faults_now = g.M.Media.faults c.step_host.new.media;
     } in
-    let sound : (t : Task) → c.whole_on.new.task ≡ Some t → IsSound t = λ t e. subst (λ o. IfSome o IsSound) e c.whole_on.ensures.sound_on in
+    let sound : (t : Task) → c.whole_on.new.task ≡ Some t → IsSound t = λ t e. subst (λ o. IfSome o IsSound) e c.whole_on.ensures.keeps.sound_on in
     let all : IfOk c.step_host.result (λ moved. (t : Task) → c.whole_on.new.task ≡ Some t → IsLedStep c.args.at t around (is_over moved)) =
     IfOk-weaker c.step_host.result _ _ (λ moved step. λ t e. come_step c.args.at t around (is_over moved) e (sound t e) (step t e)) c.step_host.ensures.step in
     search (rules, all)
@@ -56,5 +56,5 @@ returns-in-Ok-Other-clause-step g c =
 pub returns-in-Err-MediaFault-clause-step : goal.returns-in-Err-MediaFault-clause-step
 returns-in-Err-MediaFault-clause-step g c = λ t e.
     let f = c.in-Err-MediaFault in
-    let b = both_there c.args.host.now.task c.whole_on.new.task t _ e c.whole_on.ensures.runs (fault_at f.field-0 f.line _ f.field-0-is f.ensures.failed) in
+    let b = both_there c.args.host.now.task c.whole_on.new.task t _ e c.whole_on.ensures.keeps.runs (fault_at f.field-0 f.line _ f.field-0-is f.ensures.failed) in
     whole_cut c.args.at _ t b.0 f.line b.2 c.end_at_fault.ensures.notes refl c.whole_on.ensures.steady.later c.end_at_fault.ensures.task

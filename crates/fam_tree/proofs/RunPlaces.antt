@@ -1,0 +1,235 @@
+-- Runs of places, as runs of the entries there.
+use Rattle.std.proofs.Common.{◌≡◌, ℕ, zero, suc, ◌+◌, ◌-◌, ◌<◌, ◌≤◌, min, Bool, true, false, List, [], ◌∷◌, ◌++◌, length, get_or, set, None, refl, sym, ap, subst, ◌∙◌, arith, length-append}
+use Rattle.std.specs.FinMap as finmap
+use Rattle.std.specs.List.{AllByRecursion, insert, remove}
+use Rattle.std.specs.List.Sorted.{IsPartitionedBy, IsPartitionPoint}
+use Rattle.std.proofs.lemmas.List.{get_or-map, length-map, map-append, map-set}
+use Rattle.fam_base.specs.PathOrder.{path_cmp}
+use Rattle.fam_base.specs.declared.entry.Entry.{Entry}
+use Rattle.std.specs.declared.cmp.Ordering.TheVariants.{Equal}
+use Rattle.fam_format.specs.Tree.{with_entry}
+use Rattle.fam_tree.specs.Runs.{AreApart, AreFilled, AreRuns, AreRunsOf, AreWithin, HasLetGo, InOrder, IsAbsent, IsPut, IsRunFor, IsTaken, RunsWithin, ends_before, ends_below, entries_in, entry_at, listed, run_of, runs_of, tree_of}
+use Rattle.fam_tree.proofs.Ordered.{AllApart, all_back, all_front, itself}
+use Rattle.fam_tree.proofs.Places.{ends_told, grown_run, within_more}
+use Rattle.fam_tree.proofs.Edits.{all_at, all_insert, all_remove, all_set, map_insert, map_remove}
+use Rattle.fam_tree.proofs.Search.{parted, placed, run_order}
+use Rattle.fam_tree.proofs.Nested.{absent_of_run, cut_runs, cut_whole, empty_out, filled_remove, filled_set, gone_apart, gone_count, gone_order, gone_view, none_removed, put_count, put_free, put_runs, put_view, same_run}
+
+abbrev pub Places : Type 0
+Places = List (List ℕ)
+
+-- ---- places within so many entries
+
+pub runs_within_more : (n m : ℕ) (runs : Places) → n ≤ m → RunsWithin n runs → RunsWithin m runs
+runs_within_more n m [] most within = tt
+runs_within_more n m (run ∷ runs) most within = (within_more n m run most within.0, runs_within_more n m runs most within.1)
+
+-- more entries change no runs of these
+pub grown_runs : (es more : List Entry) (runs : Places) → RunsWithin (length es) runs → runs_of (es ++ more) runs ≡ runs_of es runs
+grown_runs es more [] within = refl
+grown_runs es more (run ∷ runs) within =
+    ap (λ (l : List Entry). l ∷ runs_of (es ++ more) runs) (grown_run es more run within.0)
+    ∙ ap (λ (l : List (List Entry)). run_of es run ∷ l) (grown_runs es more runs within.1)
+
+-- ---- one run of some
+
+module _ (es : List Entry) (runs : Places) (k : ℕ) (below : k < length runs) where
+  pub below_map : k < length (runs_of es runs)
+  below_map = subst (λ (n : ℕ). k < n) (sym (length-map runs (run_of es))) below
+
+  -- as it is among the runs of entries
+  pub run_at : (run : List ℕ) → run ≡ get_or runs k run → run_of es run ≡ get_or (runs_of es runs) k (run_of es run)
+  run_at run is = ap (run_of es) is ∙ sym (get_or-map (run_of es) runs k run (run_of es run) below)
+
+  module _ (are : AreRunsOf es runs) (run : List ℕ) (is : run ≡ get_or runs k run) where
+    pub run_in_order : InOrder (run_of es run)
+    run_in_order =
+        subst InOrder (sym (run_at run is)) (run_order (runs_of es runs) k (run_of es run) are.held.order below_map)
+
+    pub run_within : AreWithin (length es) run
+    run_within = subst (AreWithin (length es)) (sym is) (all_at (AreWithin (length es)) runs k run are.within below)
+
+-- ---- the search
+
+module _ (es : List Entry) (q : List ℕ) (runs : Places) (are : AreRunsOf es runs) where
+  ends_at : (k : ℕ) (d : List ℕ) (e : List Entry) → k < length runs → ends_before es q (get_or runs k d) ≡ ends_below q (get_or (runs_of es runs) k e)
+  ends_at k d e below =
+      ends_told es q (get_or runs k d) (all_at (AreWithin (length es)) runs k d are.within below)
+      ∙ ap (ends_below q) (sym (get_or-map (run_of es) runs k d e below))
+
+  as_many : length (runs_of es runs) ≡ length runs
+  as_many = length-map runs (run_of es)
+
+  pub parted_places : IsPartitionedBy (ends_before es q) runs
+  parted_places i j d le below ends =
+      ends_at i d [] (omega arith)
+      ∙ parted q (runs_of es runs) are.held.order are.held.filled i j [] le (omega (arith, as_many)) (sym (ends_at j d [] below) ∙ ends)
+
+  pub placed_places : (n m : ℕ) → m + 1 ≡ length runs → n ≤ length runs
+      → IsPartitionPoint (λ r. ends_before es q r ≡ true) (λ r. ends_before es q r ≡ false) runs n → IsRunFor (runs_of es runs) q (min n m)
+  placed_places n m last most point =
+      placed q (runs_of es runs) are.held n m (last ∙ sym as_many) (omega (arith, as_many, most)) (
+        λ k e low high. sym (ends_at k [] e (omega (arith, most, high))) ∙ point.0 k [] low high,
+        λ k e low high. sym (ends_at k [] e (omega (arith, as_many, high))) ∙ point.1 k [] low (omega (arith, as_many, high)),
+      )
+
+-- ---- an entry that was put into a run
+
+module _ (es more : List Entry) (runs : Places) (k : ℕ) (run : List ℕ) (e : Entry) (are : AreRunsOf es runs) (longer : more ≡ es ++ e ∷ []) where
+  count : length more ≡ length es + 1
+  count = ap length longer ∙ length-append es (e ∷ [])
+
+  runs_put : runs_of more (set runs k run) ≡ set (runs_of es runs) k (run_of more run)
+  runs_put =
+      map-set (run_of more) runs k run
+      ∙ ap (λ (l : List (List Entry)). set l k (run_of more run)) (ap (λ (l : List Entry). runs_of l runs) longer ∙ grown_runs es (e ∷ []) runs are.within)
+
+  within_put : AreWithin (length more) run → RunsWithin (length more) (set runs k run)
+  within_put one = all_set (AreWithin (length more)) runs k run (runs_within_more (length es) (length more) runs (omega (arith, count)) are.within) one
+
+  module _ (before : List ℕ) (for : IsRunFor (runs_of es runs) e.path k) (below : k < length runs) (is : before ≡ get_or runs k before) (put : IsPut (run_of es before) (run_of more run) e) where
+    at : run_of es before ≡ get_or (runs_of es runs) k (run_of es before)
+    at = run_at es runs k below before is
+
+    pub added_free : finmap.get (tree_of (listed es runs)) e.path ≡ None
+    added_free = put_free (runs_of es runs) e.path k (run_of es before) for at (run_of more run) e refl put
+
+    pub added_view : tree_of (listed more (set runs k run)) ≡ with_entry (tree_of (listed es runs)) e
+    added_view =
+        ap (λ (l : List (List Entry)). tree_of (entries_in l)) runs_put ∙ put_view (runs_of es runs) e.path k (run_of es before) for at (run_of more run) e refl put
+
+    pub added_count : length (listed more (set runs k run)) ≡ length (listed es runs) + 1
+    added_count =
+        ap (λ (l : List (List Entry)). length (entries_in l)) runs_put ∙ put_count (runs_of es runs) e.path k (run_of es before) for at (run_of more run) e refl put
+
+    pub added_are : AreWithin (length more) run → AreRunsOf more (set runs k run)
+    added_are inside = record {
+      held = subst AreRuns (sym runs_put) (put_runs (runs_of es runs) e.path k (run_of es before) for at (run_of more run) e refl put are.held);
+      within = within_put inside;
+    }
+
+-- ---- a run that is cut
+
+module _ (es : List Entry) (runs : Places) (k : ℕ) (lower upper run : List ℕ) (below : k < length runs) (is : run ≡ get_or runs k run) (cut : lower ++ upper ≡ run) (new : Places) (new_is : new ≡ insert (set runs k lower) (k + 1) upper) where
+  cut_of : run_of es lower ++ run_of es upper ≡ run_of es run
+  cut_of = sym (map-append (entry_at es) lower upper) ∙ ap (run_of es) cut
+
+  runs_cut : runs_of es new ≡ insert (set (runs_of es runs) k (run_of es lower)) (k + 1) (run_of es upper)
+  runs_cut =
+      ap (runs_of es) new_is ∙ map_insert (run_of es) (set runs k lower) (k + 1) upper
+      ∙ ap (λ (l : List (List Entry)). insert l (k + 1) (run_of es upper)) (map-set (run_of es) runs k lower)
+
+  pub listed_cut : listed es new ≡ listed es runs
+  listed_cut = cut_whole (runs_of es runs) k (run_of es lower) (run_of es upper) (run_of es run) (below_map es runs k below) (run_at es runs k below run is) cut_of (runs_of es new) runs_cut
+
+  pub are_cut : AreRunsOf es runs → 1 ≤ length lower → 1 ≤ length upper → AreRunsOf es new
+  are_cut are low up =
+      let parts : AreWithin (length es) (lower ++ upper) = subst (AreWithin (length es)) (sym cut) (run_within es runs k below are run is) in
+      let inside = λ (i : ℕ). i < length es in
+      record {
+        held = cut_runs (runs_of es runs) k (run_of es lower) (run_of es upper) (run_of es run) (below_map es runs k below) (run_at es runs k below run is) cut_of (runs_of es new) runs_cut
+            are.held (omega (arith, low, length-map lower (entry_at es))) (omega (arith, up, length-map upper (entry_at es)));
+        within = subst (RunsWithin (length es)) (sym new_is)
+            (all_insert (AreWithin (length es)) (set runs k lower) (k + 1) upper
+            (all_set (AreWithin (length es)) runs k lower are.within (all_front inside lower upper parts)) (all_back inside lower upper parts));
+      }
+
+-- ---- an entry that was taken out
+
+run_apart : (es : List Entry) (q : List ℕ) (p : ℕ) → (entry_at es p).path ≡ q → (run : List ℕ) → AllApart q (run_of es run) → AllByRecursion (λ (i : ℕ). i ≡ p → ⊥) run
+run_apart es q p own [] apart = tt
+run_apart es q p own (x ∷ run) apart =
+    (λ same. apart.0 (ap (λ (i : ℕ). path_cmp (entry_at es i).path q) same ∙ ap (λ (r : List ℕ). path_cmp r q) own ∙ itself q), run_apart es q p own run apart.1)
+
+-- no other place is that entry's
+pub runs_apart : (es : List Entry) (q : List ℕ) (p : ℕ) → (entry_at es p).path ≡ q → (runs : Places) → AllApart q (listed es runs) → AreApart p runs
+runs_apart es q p own [] apart = tt
+runs_apart es q p own (run ∷ runs) apart =
+    let other = λ (e : Entry). path_cmp e.path q ≡ Equal → ⊥ in
+    (run_apart es q p own run (all_front other (run_of es run) (listed es runs) apart), runs_apart es q p own runs (all_back other (run_of es run) (listed es runs) apart))
+
+module _ (es : List Entry) (runs : Places) (q : List ℕ) (k : ℕ) (run new : List ℕ) (are : AreRunsOf es runs) (for : IsRunFor (runs_of es runs) q k) (below : k < length runs) (is : run ≡ get_or runs k run) where
+  among : run_of es run ≡ get_or (runs_of es runs) k (run_of es run)
+  among = run_at es runs k below run is
+
+  runs_with : runs_of es (set runs k new) ≡ set (runs_of es runs) k (run_of es new)
+  runs_with = map-set (run_of es) runs k new
+
+  -- a run that has no such entry stays
+  pub stays : new ≡ run → IsAbsent (run_of es run) q → tree_of (listed es (set runs k new)) ≡ finmap.remove (tree_of (listed es runs)) q
+  stays same none =
+      ap tree_of (ap entries_in runs_with ∙ same_run (runs_of es runs) k (run_of es run) (run_of es new) (below_map es runs k below) among (ap (run_of es) same))
+      ∙ none_removed (tree_of (listed es runs)) q (absent_of_run (runs_of es runs) q k (run_of es run) for among none)
+
+  module _ (taken : IsTaken (run_of es run) (run_of es new) q) where
+    pub taken_view : tree_of (listed es (set runs k new)) ≡ finmap.remove (tree_of (listed es runs)) q
+    taken_view =
+        ap (λ (l : List (List Entry)). tree_of (entries_in l)) runs_with ∙ gone_view (runs_of es runs) q k (run_of es run) for among (run_of es new) taken are.held.order
+
+    pub taken_count : length (listed es (set runs k new)) + 1 ≡ length (listed es runs)
+    taken_count =
+        ap (λ (l : List (List Entry)). length (entries_in l) + 1) runs_with ∙ gone_count (runs_of es runs) q k (run_of es run) for among (run_of es new) taken are.held.order
+
+    taken_order : InOrder (listed es (set runs k new))
+    taken_order =
+        subst (λ (l : List (List Entry)). InOrder (entries_in l)) (sym runs_with) (gone_order (runs_of es runs) q k (run_of es run) for among (run_of es new) taken are.held.order)
+
+    pub taken_apart : (p : ℕ) → (entry_at es p).path ≡ q → AreApart p (set runs k new)
+    taken_apart p own =
+        runs_apart es q p own (set runs k new)
+        (subst (λ (l : List (List Entry)). AllApart q (entries_in l)) (sym runs_with) (gone_apart (runs_of es runs) q k (run_of es run) for among (run_of es new) taken are.held.order))
+
+    pub taken_are : AreWithin (length es) new → 1 ≤ length new → AreRunsOf es (set runs k new)
+    taken_are inside some = record {
+      held = record {
+        order = taken_order;
+        filled = subst AreFilled (sym runs_with) (filled_set (runs_of es runs) k (run_of es new) are.held.filled (omega (arith, some, length-map new (entry_at es))));
+      };
+      within = all_set (AreWithin (length es)) runs k new are.within inside;
+    }
+
+    -- a run that is empty then is left out
+    module _ (left : Places) (none : length new ≡ 0) (out : left ≡ remove (set runs k new) k) where
+      runs_left : runs_of es left ≡ remove (set (runs_of es runs) k (run_of es new)) k
+      runs_left = ap (runs_of es) out ∙ map_remove (run_of es) (set runs k new) k ∙ ap (λ (l : List (List Entry)). remove l k) runs_with
+
+      pub left_listed : listed es left ≡ listed es (set runs k new)
+      left_listed =
+          ap entries_in runs_left
+          ∙ empty_out (runs_of es runs) k (run_of es new) (below_map es runs k below) (length-map new (entry_at es) ∙ none)
+          ∙ ap entries_in (sym runs_with)
+
+      pub left_are : AreWithin (length es) new → AreRunsOf es left
+      left_are inside = record {
+        held = record {
+          order = subst InOrder (sym left_listed) taken_order;
+          filled = subst AreFilled (sym runs_left) (filled_remove (runs_of es runs) k (run_of es new) are.held.filled);
+        };
+        within = subst (RunsWithin (length es)) (sym out)
+            (all_remove (AreWithin (length es)) (set runs k new) k (all_set (AreWithin (length es)) runs k new are.within inside));
+      }
+
+      pub left_apart : (p : ℕ) → (entry_at es p).path ≡ q → AreApart p left
+      left_apart p own =
+          subst (AreApart p) (sym out)
+          (all_remove (λ (run : List ℕ). AllByRecursion (λ (i : ℕ). i ≡ p → ⊥) run) (set runs k new) k (taken_apart p own))
+
+-- an entry that is let go
+module _ (old new : List Entry) (p : ℕ) (gone : HasLetGo old new p) where
+  kept_run : (run : List ℕ) → AreWithin (length old) run → AllByRecursion (λ (i : ℕ). i ≡ p → ⊥) run → AreWithin (length new) run
+  kept_run [] within apart = tt
+  kept_run (x ∷ run) within apart = (gone.kept x within.0 apart.0, kept_run run within.1 apart.1)
+
+  pub kept_runs : (runs : Places) → RunsWithin (length old) runs → AreApart p runs → RunsWithin (length new) runs
+  kept_runs [] within apart = tt
+  kept_runs (run ∷ runs) within apart = (kept_run run within.0 apart.0, kept_runs runs within.1 apart.1)
+
+  pub kept_same : (runs : Places) → RunsWithin (length old) runs → AreApart p runs → runs_of new runs ≡ runs_of old runs
+  kept_same runs within apart =
+      sym (ap (λ (l : List Entry). runs_of l runs) gone.whole ∙ grown_runs new gone.gone runs (kept_runs runs within apart))
+
+  pub kept_are : (runs : Places) → AreRunsOf old runs → AreApart p runs → AreRunsOf new runs
+  kept_are runs are apart = record {
+    held = subst AreRuns (sym (kept_same runs are.within apart)) are.held;
+    within = kept_runs runs are.within apart;
+  }
