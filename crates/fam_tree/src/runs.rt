@@ -54,7 +54,7 @@ fn split(entries: &[Entry], runs: &mut Vec<Run>, k: usize)
     }
 }
 
-/// A first run, of one entry. If there is no memory, nothing changes.
+/// A first run, of one entry. If there is no memory, there is no run, and perhaps an entry that stands in none.
 fn begin(entries: &mut Vec<Entry>, runs: &mut Vec<Run>, alloc: Global, entry: &Entry) -> bool
     requires { runs.old.items ≡ [] }
     ensures runs { AreRunsOf entries.new.items runs.new.items }

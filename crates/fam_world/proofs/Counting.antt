@@ -72,8 +72,14 @@ held_steps at lines view notes told faults normal modelled t next held after (ru
       modelled = modelled;
       step = step_done at Go (record { old = host_held view mid now; new = host_held view next after; before = notes; after = notes; told = told; now = told; size = lines; faults = faults; faults_now = faults }) false
           mid (Some next) refl refl refl (sym (append-nil notes)) refl (omega arith) refl
-          (held_turned mid next now after of is turn told normal) goes (λ on. (kept_on after mid next Go refl sound goes).lines)
-          (held_leaves (op_of mid) told now after of is) within (held_lines t mid held now before ∙ fits);
+          (record {
+            within = within;
+            turned = held_turned mid next now after of is turn told normal;
+            cache = held_leaves (op_of mid) told now after of is;
+            goes = goes;
+            keeps = λ on. (kept_on after mid next Go refl sound goes).lines;
+          })
+          (held_lines t mid held now before ∙ fits);
     }
 
 -- a host that a call leaves so
