@@ -17,12 +17,12 @@ use Rattle.fam_journal.specs.declared.event.Event.TheVariants.{Begin}
 use Rattle.fam_journal.specs.declared.refusal.Refusal.{Refusal}
 use Rattle.fam_journal.specs.declared.refusal.Refusal.TheVariants as why
 use Rattle.fam_journal.specs.Calls as call
-use Rattle.fam_journal.specs.Calls.{Does, IsOfSource, MayBeRefused, begins_refusal, may_begin, number_of, on_host, refusal_of}
+use Rattle.fam_journal.specs.Calls.{Does, IsOfSource, may_begin, number_of, refusal_of}
 use Rattle.fam_journal.specs.CallRecords.{FitsMedia, WorldCall, heading}
-use Rattle.fam_journal.specs.EventForms.{NoMore, StartForm, UnfitForm}
+use Rattle.fam_journal.specs.EventForms.{UnfitForm}
 use Rattle.fam_journal.specs.Events.{event_source, named_source}
 use Rattle.fam_journal.specs.Forms as form
-use Rattle.fam_journal.specs.Forms.{AtForm, DoesForm, FormByRefusal, FreeForm, HostForm, IsFormed, OfHostForm, forms_after, forms_behind, forms_of, runs_form, shown_forms}
+use Rattle.fam_journal.specs.Forms.{AtForm, DoesForm, FormByRefusal, FreeForm, HostForm, IsFormed, OfHostForm, forms_behind, forms_of, runs_form, shown_forms}
 use Rattle.fam_journal.specs.Kept.{Held}
 use Rattle.fam_journal.specs.Machines.{Machines}
 use Rattle.fam_journal.specs.Notes.{Note, Refused, Start}

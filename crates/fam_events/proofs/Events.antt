@@ -1,5 +1,5 @@
 -- What calls come to is what their events come to.
-use Rattle.std.proofs.Common.{◌≡◌, ◌⊎◌, ℕ, ◌+◌, ◌≤◌, inl, inr, Bool, true, false, List, [], ◌∷◌, ◌++◌, length, Option, Some, None, Result, Ok, Err, refl, ap, sym, ◌∙◌, subst, arith}
+use Rattle.std.proofs.Common.{◌≡◌, ◌⊎◌, ℕ, ◌+◌, inl, inr, Bool, true, false, List, [], ◌∷◌, ◌++◌, length, Option, Some, None, Result, Ok, Err, refl, ap, sym, ◌∙◌, subst, arith}
 use Prim.Native.Nat.{zero, suc}
 use Rattle.std.specs.Prelude.{not, slice_get}
 use Rattle.std.proofs.lemmas.List.{append_assoc}
@@ -18,7 +18,7 @@ use Rattle.fam_journal.specs.declared.event.Event.TheVariants as event
 use Rattle.fam_journal.specs.declared.refusal.Refusal.{Refusal}
 use Rattle.fam_journal.specs.declared.refusal.Refusal.TheVariants as why
 use Rattle.fam_journal.specs.Calls as call
-use Rattle.fam_journal.specs.Calls.{Acts, ActsAt, AtNumber, BreaksOff, ByRefusal, Call, Completes, CutsAt, Does, OnHost, Unfinished, name_of, DoesOperations, busy_at, idle_refusal, may_begin, number_of, on_host, refusal_of, when}
+use Rattle.fam_journal.specs.Calls.{Acts, ActsAt, AtNumber, BreaksOff, ByRefusal, Call, Completes, CutsAt, Does, OnHost, Unfinished, name_of, DoesOperations, busy_at, may_begin, number_of, refusal_of, when}
 use Rattle.fam_journal.specs.CallRecords.{FinishPart, FitsMedia}
 use Rattle.fam_journal.specs.EventForms.{BeginForm, EventBreaksForm, EventForm, NoMore, StartForm, UnfitNotes}
 use Rattle.fam_journal.specs.Events.{BreaksEvent, Calls, DoesEvent, Session}

@@ -13,7 +13,7 @@ use Rattle.fam_base.specs.Image.{Image}
 use Rattle.fam_journal.specs.declared.refusal.Refusal.{Refusal}
 use Rattle.fam_journal.specs.declared.refusal.Refusal.TheVariants as why
 use Rattle.fam_journal.specs.Calls as call
-use Rattle.fam_journal.specs.Calls.{BreaksOff, Call, Does, busy_refusal, cause_of, is_busy, number_of, on_host}
+use Rattle.fam_journal.specs.Calls.{Call, busy_refusal, cause_of, is_busy, number_of, on_host}
 use Rattle.fam_journal.specs.CallRecords.{Adds, Answers, CallForm, CallKeeps, CallBreaks, CallParts, FinishOutOfMemory, FitsMedia, MakeCall, MediaCall, heading, refusal_noted}
 use Rattle.fam_journal.specs.Ends.{cause_faults}
 use Rattle.fam_journal.specs.Forms.{ActsForm, AtForm, BreaksForm, DoesForm, FormByRefusal, FreeForm, HostForm, IsFormed, OfHostForm, PartForm, forms_of, makes_told, refusal_told, shown_forms}

@@ -9,7 +9,6 @@ use Rattle.fam_journal.specs.declared.refusal.Refusal.{Refusal}
 use Rattle.fam_journal.specs.Calls as call
 use Rattle.fam_journal.specs.Calls.{Call, Does}
 use Rattle.fam_journal.specs.CallRecords.{DoesPart, DoesRow, FitsMedia, IsSoundCall, WorldCall}
-use Rattle.fam_journal.specs.Events.{Calls}
 use Rattle.fam_journal.specs.Forms.{DoesForm, HostForm, IsFormed, PartForm, forms_of}
 use Rattle.fam_journal.specs.Kept.{Held}
 use Rattle.fam_journal.specs.Machines.{Machines}

@@ -6,7 +6,7 @@ use Rattle.std.specs.List.{list_any}
 use Rattle.fam_base.specs.Image.{Image}
 use Rattle.fam_journal.specs.declared.refusal.Refusal.TheVariants as why
 use Rattle.fam_journal.specs.Calls as call
-use Rattle.fam_journal.specs.Calls.{DoesOperations, busy_at, idle_refusal, is_busy_host, number_of, on_host, refusal_of, when}
+use Rattle.fam_journal.specs.Calls.{busy_at, idle_refusal, is_busy_host, on_host, refusal_of, when}
 use Rattle.fam_journal.specs.Ends.{is_answer_note}
 use Rattle.fam_commands.specs.Appends.{HasWish}
 use Rattle.fam_journal.specs.Forms.{AnswerForm, Begun, CommandStage, EntryForm, HostForm, Marked, Met, Named, IsFormed, OfRunning, OfTask, OperationsForm, TaskForm, TaskNote, forms_after, forms_behind, forms_of, runs_form, shown_form, shown_forms, shown_running, with_stage}

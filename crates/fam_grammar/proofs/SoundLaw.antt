@@ -1,14 +1,11 @@
 -- What a line reads as is within its limits.
-use Rattle.std.proofs.Common.{◌≡◌, ℕ, ◌+◌, ◌*◌, ◌-◌, ◌<◌, ◌≤◌, Bool, true, false, List, [], ◌∷◌, length, Option, Some, None, Ok, Err, refl, ap, sym, ◌∙◌, subst, arith}
+use Rattle.std.proofs.Common.{◌≡◌, ℕ, ◌+◌, ◌-◌, ◌<◌, ◌≤◌, Bool, true, false, List, [], ◌∷◌, length, Option, Some, None, Ok, Err, refl, subst, arith}
 use Rattle.std.specs.Prelude.{⊤, codes, fold, nat_le, nat_lt, ◌==◌, ◌&&◌, unwrap_or, option_map, option_and_then, if◌then◌else◌}
 use Rattle.std.specs.List.{list_all}
 use Rattle.std.proofs.lemmas.Bool.Decides.{nat_tests}
 use Rattle.std.proofs.lemmas.Option.{same_Some}
 use Rattle.fam_base.specs.Commands.{mode_limit, read_limit}
-use Rattle.fam_journal.specs.declared.event.Ask.{Ask}
-use Rattle.fam_journal.specs.declared.event.Ask.TheVariants as ask
 use Rattle.fam_journal.specs.declared.event.Event.{Event}
-use Rattle.fam_journal.specs.declared.event.Event.TheVariants as event
 use Rattle.fam_grammar.specs.declared.keywords.CommandWord.{CommandWord}
 use Rattle.fam_grammar.specs.declared.keywords.CommandWord.TheVariants as command
 use Rattle.fam_grammar.specs.declared.keywords.EventWord.{EventWord}

@@ -5,7 +5,7 @@ use Rattle.fam_commands.specs.Task.{Task, starting}
 use Rattle.fam_journal.specs.Calls as call
 use Rattle.fam_base.specs.declared.cmd.Cmd.TheVariants.{Logplay}
 use Rattle.fam_journal.specs.declared.refusal.Refusal.{Refusal}
-use Rattle.fam_journal.specs.Calls.{refusal_of, Call, Does, BreaksOff, IsOfSource, DoesOperations, busy_at, name_of, number_of}
+use Rattle.fam_journal.specs.Calls.{refusal_of, Call, Does, IsOfSource, busy_at, name_of, number_of}
 use Rattle.fam_journal.specs.Machines.{task_begun, HostState, Machines, TaskState}
 use Rattle.fam_journal.specs.Members.{changed_at}
 use Rattle.fam_journal.specs.Notes.{Note, Host, Start, Stop, Halt, Refused}

@@ -16,7 +16,7 @@ use Rattle.fam_protocol.specs.Tasks.{IsCommand}
 use Rattle.fam_journal.specs.Calls as call
 use Rattle.fam_journal.specs.declared.refusal.Refusal.{Refusal}
 use Rattle.fam_journal.specs.declared.refusal.Refusal.TheVariants as why
-use Rattle.fam_journal.specs.Calls.{refusal_of, Call, Does, BreaksOff, IsOfSource, Unfinished, name_of, number_of}
+use Rattle.fam_journal.specs.Calls.{Call, Does, BreaksOff, Unfinished, name_of, number_of}
 use Rattle.fam_journal.specs.Ends.{HasCounted, is_answer_note}
 use Rattle.fam_journal.specs.Forms.{BreaksForm, DoesForm, HostForm, IsFormed, PartForm, forms_of}
 use Rattle.fam_journal.specs.Legal.{Legal}

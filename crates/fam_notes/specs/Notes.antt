@@ -1,5 +1,5 @@
 -- A note of the code as a note of a journal.
-use Rattle.std.specs.Prelude.{ℕ, ⊤, ◌<◌, Option, Some, None, option_map}
+use Rattle.std.specs.Prelude.{ℕ, ⊤, ◌<◌, Option, Some, option_map}
 use Rattle.fam_tasks.specs.declared.answer.Answer.{Answer as Given}
 use Rattle.fam_tasks.specs.declared.answer.Answer.TheVariants as given
 use Rattle.fam_tasks.specs.Answers.{reply_of}

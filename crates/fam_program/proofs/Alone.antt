@@ -16,7 +16,7 @@ use Rattle.fam_journal.specs.declared.refusal.Refusal.{Refusal}
 use Rattle.fam_journal.specs.declared.refusal.Refusal.TheVariants as why
 use Rattle.fam_journal.specs.declared.status.Status.{Status}
 use Rattle.fam_journal.specs.declared.status.Status.TheVariants as status
-use Rattle.fam_journal.specs.Ends.{AllDone, Ending, IsFaultless, EndsOutOfMemory, EndsOutOfMemoryBroken, MkfsFails, SourceFails}
+use Rattle.fam_journal.specs.Ends.{AllDone, Ending, IsFaultless, EndsOutOfMemory, MkfsFails, SourceFails}
 use Rattle.fam_journal.specs.EventForms.{FollowsForm}
 use Rattle.fam_journal.specs.Follows.{SourceEnd}
 use Rattle.fam_journal.specs.Names.{NameDeclared}

@@ -15,15 +15,15 @@ use Rattle.fam_format.specs.Line.{last_word}
 use Rattle.fam_media.specs.Files.{Files}
 use Rattle.fam_machine.specs.declared.cell.Cell.{Cell}
 use Rattle.fam_machine.specs.declared.cell.Cell.TheVariants.{Absent, Clean, Dirty}
-use Rattle.fam_machine.specs.Caches.{Cache, IsClean, IsCleanCell, cell_at}
+use Rattle.fam_machine.specs.Caches.{IsClean, IsCleanCell, cell_at}
 use Rattle.fam_machine.specs.OneLine.{failed_send}
-use Rattle.fam_machine.specs.Operations.{Failure, Machine, failed, given, given_by, line_no, not_brought, not_sent, operated, torn_at}
+use Rattle.fam_machine.specs.Operations.{Failure, Machine, failed, given, given_by, not_brought, not_sent, operated, torn_at}
 use Rattle.fam_machine.proofs.CleanCaches.{clean_empty}
 use Rattle.fam_machine.proofs.OneOperation.{operated_length, same_given}
 use Rattle.fam_commands.specs.declared.phase.Phase.{Phase}
 use Rattle.fam_commands.specs.declared.phase.Phase.TheVariants as at
 use Rattle.fam_commands.specs.Appends.{IsBeforeWrites}
-use Rattle.fam_commands.specs.FirstStore.{IsFirstStore, IsUpToStore}
+use Rattle.fam_commands.specs.FirstStore.{IsUpToStore}
 use Rattle.fam_commands.specs.Stands.{StandsFor, goes, note_of, starts, task_after, turn_given, with_given}
 use Rattle.fam_commands.specs.Task.{Task, op_at, op_of, size_of, starting}
 use Rattle.fam_commands.specs.Turns.{Turn, Goes, Marks, Finds, Writes, Ends, turn_at}
@@ -35,7 +35,7 @@ use Rattle.fam_journal.specs.declared.event.Event.TheVariants as event
 use Rattle.fam_journal.specs.declared.refusal.Refusal.{Refusal}
 use Rattle.fam_journal.specs.Calls as call
 use Rattle.fam_journal.specs.Calls.{Acts, ActsAt, ByRefusal, Completes, Does, DoesOperations, busy_at, has_name, is_busy_host, number_of, refusal_of}
-use Rattle.fam_journal.specs.Events.{Continues, DoesEvent, IsBegun, RefusesEvent, Session, first_session}
+use Rattle.fam_journal.specs.Events.{Continues, DoesEvent, Session, first_session}
 use Rattle.fam_journal.specs.Follows.{Follows}
 use Rattle.fam_journal.specs.Machines as machine
 use Rattle.fam_journal.specs.Machines.{Fails, HostState, Machines, Outcome, Passes, TaskState, cut, machine_of, notes_of, operation, task_begun, task_on, unused, with_machine, with_task}

@@ -1,5 +1,5 @@
 -- Eight words that are the same.
-use Rattle.std.proofs.Common.{◌≡◌, ℕ, true, ◌&&◌, List, length, slice_index_or, nat_eq, sym, ap, ◌∙◌, arith}
+use Rattle.std.proofs.Common.{◌≡◌, ℕ, true, ◌&&◌, List, length, slice_index_or, nat_eq, sym, ◌∙◌, arith}
 use Rattle.std.proofs.lemmas.Bool.Decides.{nat_tests}
 use Rattle.fam_base.specs.Image.{eight}
 use Rattle.fam_super.proofs.Lines.{eight_is}

@@ -1,15 +1,12 @@
 -- What a host keeps of slots is found again.
-use Rattle.std.proofs.Common.{◌≡◌, ℕ, zero, suc, ◌+◌, ◌<◌, ◌≤◌, List, [], ◌∷◌, ◌++◌, length, take, get_or, Some, Ok, refl, sym, ap, subst, ◌∙◌, inl, inr, arith}
+use Rattle.std.proofs.Common.{◌≡◌, ℕ, ◌+◌, ◌<◌, List, [], ◌∷◌, ◌++◌, length, take, get_or, Some, Ok, sym, ap, subst, ◌∙◌, arith}
 use Rattle.std.specs.List.{slice_get}
-use Rattle.std.proofs.lemmas.Bool.{cases_lt}
-use Rattle.std.proofs.lemmas.List.{length-append, length-take, length-take-le, take_all, take_more}
-use Rattle.std.proofs.lemmas.Option.{none-some, slice_get_within, get_or_from_slice_get, same_Some, slice_get-get_or}
+use Rattle.std.proofs.lemmas.List.{length-take, length-take-le, take_all, take_more}
+use Rattle.std.proofs.lemmas.Option.{slice_get_within, get_or_from_slice_get, slice_get-get_or}
 use Rattle.fam_base.specs.declared.entry.Entry.{Entry}
-use Rattle.fam_base.specs.declared.entry.Params.{Params}
-use Rattle.fam_commands.proofs.ListPlaces.{get-append_left, get-append_right}
 use Rattle.fam_format.specs.Slot.{entry_of}
 use Rattle.fam_plan.specs.State.{PlanState, IsHistory}
-use Rattle.fam_tasks.specs.Replica.{AreRead, IsReplica, KeepsWords, FindsNext}
+use Rattle.fam_tasks.specs.Replica.{IsReplica, FindsNext}
 
 -- The next entry is one that is kept.
 module _ (s : PlanState) (slots : List (List ℕ)) (found : ℕ) (words : List ℕ) (is : IsReplica s slots found) (history : IsHistory s) (kept : slice_get slots found ≡ Some words) where

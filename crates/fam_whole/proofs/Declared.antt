@@ -18,7 +18,7 @@ use Rattle.fam_journal.specs.declared.event.Event.TheVariants as event
 use Rattle.fam_journal.specs.declared.refusal.Refusal.{Refusal}
 use Rattle.fam_journal.specs.declared.status.Status.{Status}
 use Rattle.fam_journal.specs.Calls as call
-use Rattle.fam_journal.specs.Calls.{Does, begins_refusal, cause_of, makes_refusal, may_begin, number_of, on_host, refusal_of, when}
+use Rattle.fam_journal.specs.Calls.{Does, begins_refusal, cause_of, makes_refusal, may_begin, number_of, on_host, refusal_of}
 use Rattle.fam_journal.specs.Ends.{IsFaultless}
 use Rattle.fam_journal.specs.Events.{DoesEvent, Session, first_session}
 use Rattle.fam_journal.specs.Follows.{Follows}

@@ -1,7 +1,7 @@
 -- Whole events, one after another: the image is the fold of the notes, nothing is pending, and answers are of all of it.
 use Prim.Native.Nat.{zero, suc}
 use Rattle.std.proofs.Common.{◌≡◌, ℕ, ◌*◌, ◌≤◌, inl, inr, Bool, List, [], ◌∷◌, ◌++◌, length, map, Option, Some, None, refl, ap, sym, ◌∙◌, subst}
-use Rattle.std.specs.Prelude.{⊤, nat_lt, if◌then◌else◌, slice_get}
+use Rattle.std.specs.Prelude.{slice_get}
 use Rattle.std.specs.FinMap as finmap
 use Rattle.std.proofs.lemmas.Bool.{cases_eq}
 use Rattle.std.proofs.lemmas.List.{append-nil, append_assoc}
@@ -25,7 +25,7 @@ use Rattle.fam_journal.specs.declared.event.Event.{Event}
 use Rattle.fam_journal.specs.declared.event.Event.TheVariants as event
 use Rattle.fam_journal.specs.declared.refusal.Refusal.{Refusal}
 use Rattle.fam_journal.specs.Calls as call
-use Rattle.fam_journal.specs.Calls.{Acts, ActsAt, ActsOf, AtNumber, ByRefusal, Call, Completes, Does, OnHost, begins_refusal, busy_at, has_name, name_of, number_of, on_host, refusal_of}
+use Rattle.fam_journal.specs.Calls.{Acts, ActsAt, ByRefusal, Completes, Does, begins_refusal, has_name, number_of, on_host, refusal_of}
 use Rattle.fam_journal.specs.Ends.{IsFaultless as AreFaultless}
 use Rattle.fam_journal.specs.Events.{DoesEvent, Continues, Session, first_session}
 use Rattle.fam_journal.specs.Follows.{Follows}

@@ -10,7 +10,7 @@ use Rattle.fam_format.specs.Reading as read
 use Rattle.fam_format.specs.Reading.{Reading, reading}
 use Rattle.fam_format.proofs.JoinLaws.{joins_from}
 use Rattle.fam_rules.specs.Asks.{File, entries_of}
-use Rattle.fam_rules.specs.Place.{AreApart, IsLaidOut, StandsAt, line_bytes}
+use Rattle.fam_rules.specs.Place.{IsLaidOut, StandsAt}
 use Rattle.fam_rules.specs.Solo.{held_file}
 use Rattle.fam_rules.proofs.AskProofs.{member_from}
 use Rattle.fam_rules.proofs.ListPlaces.{bytes_apart, laid_apart}

@@ -5,7 +5,7 @@ use Rattle.std.proofs.lemmas.List.{append_assoc}
 use Rattle.fam_base.specs.Image.{Image}
 use Rattle.fam_format.specs.Layout.{least_lines}
 use Rattle.fam_format.specs.Reading as read
-use Rattle.fam_format.specs.Reading.{Lines, Reading, reading}
+use Rattle.fam_format.specs.Reading.{Reading, reading}
 use Rattle.fam_rules.specs.Reply.{Reply}
 use Rattle.fam_commands.specs.Solo.{noted}
 use Rattle.fam_commands.specs.Table as row

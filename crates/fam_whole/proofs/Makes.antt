@@ -21,7 +21,7 @@ use Rattle.fam_journal.specs.declared.refusal.Refusal.TheVariants as why
 use Rattle.fam_journal.specs.declared.status.Status.{Status}
 use Rattle.fam_journal.specs.declared.status.Status.TheVariants as status
 use Rattle.fam_journal.specs.Calls as call
-use Rattle.fam_journal.specs.Calls.{Acts, ActsAt, ByRefusal, Does, MakesFileSystem, Meets, cause_of, refusal_of}
+use Rattle.fam_journal.specs.Calls.{Acts, ActsAt, ByRefusal, Does, MakesFileSystem, Meets, cause_of}
 use Rattle.fam_journal.specs.Laws.{IsImage}
 use Rattle.fam_journal.specs.Machines.{HostState, Machines, machine_of}
 use Rattle.fam_journal.specs.Notes.{Host, Made, Note, Refused}

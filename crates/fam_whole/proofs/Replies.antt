@@ -12,7 +12,7 @@ use Rattle.fam_base.specs.declared.entry.Kind.TheVariants as kind
 use Rattle.fam_base.specs.declared.entry.Params.{Params}
 use Rattle.fam_base.specs.Image.{Image, line_at}
 use Rattle.fam_format.specs.Reading as read
-use Rattle.fam_format.specs.Reading.{Reading, reading, reading_of, super_in}
+use Rattle.fam_format.specs.Reading.{Reading, reading, super_in}
 use Rattle.fam_rules.specs.declared.answers.Refused.{Refused}
 use Rattle.fam_rules.specs.Solo.{solo_image, solo_reply, appended, content_of, decision_image, held_file, reading_image, reading_reply, reply_in, reply_unless, sound_reply, client_refusal}
 use Rattle.fam_rules.specs.Asks.{File, ask, compared, compared_at, file_at, first_difference, of_file, of_kind, verified}

@@ -12,7 +12,7 @@ use Rattle.fam_machine.specs.Caches.{IsClean, IsCleanCell}
 use Rattle.fam_commands.specs.Task.{Task}
 use Rattle.fam_rules.specs.Asks.{File}
 use Rattle.fam_rules.specs.Place.{line_bytes}
-use Rattle.fam_protocol.specs.Invariant.{Hosts, Known, Owner, Settled, Invariant, settled_at_first}
+use Rattle.fam_protocol.specs.Invariant.{Hosts, Known, Owner, Invariant, settled_at_first}
 use Rattle.fam_protocol.specs.Invariant as invariant
 use Rattle.fam_protocol.proofs.Hosts.Resting.{rests_settled}
 use Rattle.fam_journal.specs.View.{HostView, HostStandsAt, TaskStands}
@@ -21,7 +21,7 @@ use Rattle.fam_journal.specs.Machines.{HostState, Machines, TaskState}
 use Rattle.fam_journal.specs.Members.{index_of}
 use Rattle.fam_journal.specs.Notes.{Note}
 use Rattle.fam_journal.specs.Past as past
-use Rattle.fam_journal.specs.Past.{Damage, FewLines, State, Bad, Sound, HostPast, first_state, past_of}
+use Rattle.fam_journal.specs.Past.{FewLines, State, Bad, Sound, first_state, past_of}
 use Rattle.fam_journal.proofs.Settled.BadStates.{bad_own}
 use Rattle.fam_journal.proofs.Calls.Begin.{settled_first}
 use Rattle.fam_journal.proofs.Calls.Declares.{none_passes}

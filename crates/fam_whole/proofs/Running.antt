@@ -28,7 +28,7 @@ use Rattle.fam_journal.specs.View.{TaskStands}
 use Rattle.fam_journal.specs.Kept.{IfRuns, Kept, TaskTold, hosts_of, run_at, run_of, run_with, shared_of, settled_of}
 use Rattle.fam_journal.specs.Legal.{AnswerAllowed, LegalBehind, OfHost, WritesAllowed}
 use Rattle.fam_journal.specs.Machines as machine
-use Rattle.fam_journal.specs.Machines.{Done, HostState, Machines, Operation, Passes, TaskState, machine_of, next_op, notes_of, operation, served, task_on, with_machine}
+use Rattle.fam_journal.specs.Machines.{Done, HostState, Machines, Operation, Passes, TaskState, notes_of, operation, task_on, with_machine}
 use Rattle.fam_journal.specs.Notes.{Note, Answered, Mark, Found, Writes as NoteWrites, Replied}
 use Rattle.fam_journal.specs.Past.{HostPast, Past, State, Bad, Sound, cmd_of, filled_bytes, finds, first_past, past_behind, past_of, pends}
 use Rattle.fam_journal.proofs.Runs.Following.{operation_kept}

@@ -12,7 +12,7 @@ use Rattle.fam_format.specs.Layout.{device_limit}
 use Rattle.fam_format.specs.Reading.{super_in}
 use Rattle.fam_machine.specs.Caches.{Cache, IsClean, cell_at, dirty_count}
 use Rattle.fam_machine.specs.Operations.{operated, operated_all}
-use Rattle.fam_commands.specs.Solo.{SoloRun, Stand, notes_up_to, stand_after}
+use Rattle.fam_commands.specs.Solo.{Stand, notes_up_to, stand_after}
 use Rattle.fam_commands.specs.Task.{op_of}
 use Rattle.fam_commands.specs.Turns.{Ends}
 use Rattle.fam_machine.proofs.CleanCaches.{not_dirty}
@@ -30,7 +30,7 @@ use Rattle.fam_journal.specs.declared.event.Event.TheVariants as event
 use Rattle.fam_journal.specs.declared.refusal.Refusal.{Refusal}
 use Rattle.fam_journal.specs.declared.refusal.Refusal.TheVariants as why
 use Rattle.fam_journal.specs.Calls as call
-use Rattle.fam_journal.specs.Calls.{Acts, ActsAt, ByRefusal, Call, Completes, Does, has_name, may_begin, name_of, number_of, refusal_of}
+use Rattle.fam_journal.specs.Calls.{Acts, ActsAt, ByRefusal, Call, Completes, Does, may_begin, name_of, number_of, refusal_of}
 use Rattle.fam_journal.specs.Ends.{IsFaultless as AreFaultless}
 use Rattle.fam_journal.specs.Events.{DoesEvent, Continues, HasNoSource, RefusesEvent, Ready, Session, SourceSays, Unfit}
 use Rattle.fam_machine.specs.HostMoves.{Evict, Fetch, Leak, Move}
@@ -38,7 +38,7 @@ use Rattle.fam_journal.specs.Machines.{HostState, Machines, machine_of, with_mac
 use Rattle.fam_journal.specs.Members.{changed_at}
 use Rattle.fam_machine.specs.Mkfs as here
 use Rattle.fam_journal.specs.Notes.{Answered, Made, Note, Refused, Replied, Start}
-use Rattle.fam_journal.specs.Past.{Past, first_state, past_behind, past_of}
+use Rattle.fam_journal.specs.Past.{Past}
 use Rattle.fam_journal.proofs.Calls.Cases.{by_host, by_refusal}
 use Rattle.fam_journal.proofs.Settled.Journals.{past_both}
 use Rattle.fam_journal.proofs.Texts.Printed.{one_listing}

@@ -4,7 +4,7 @@ use Rattle.std.specs.Prelude.{slice_get}
 use Rattle.std.proofs.lemmas.Option.{same_Some}
 use Rattle.fam_journal.specs.declared.refusal.Refusal.{Refusal}
 use Rattle.fam_journal.specs.Calls as call
-use Rattle.fam_journal.specs.Calls.{Call, name_of, number_of}
+use Rattle.fam_journal.specs.Calls.{Call, name_of}
 use Rattle.fam_journal.specs.CallRecords.{Answers, CallForm, FitsMedia, IsLate, heading, refusal_noted}
 use Rattle.fam_journal.specs.Ends.{HasCounted}
 use Rattle.fam_journal.specs.Forms.{ActsForm, AtForm, FormByRefusal, FreeForm, HostActsForm, HostForm, HostFormed, IsFormed, OfHostForm, Pairs, forms_behind, forms_of, refusal_told}

@@ -1,5 +1,5 @@
 -- So many operations of a host's task, one behind another, are steps of the world.
-use Rattle.std.proofs.Common.{◌≡◌, ℕ, suc, ◌+◌, ◌<◌, List, [], ◌∷◌, ◌++◌, length, map, Bool, true, false, Option, Some, None, Result, Ok, Err, refl, ap, ap₂, sym, subst, ◌∙◌, arith, append-nil}
+use Rattle.std.proofs.Common.{◌≡◌, ℕ, suc, ◌+◌, ◌<◌, List, length, map, Bool, true, false, Option, Some, None, Result, Ok, Err, refl, ap, ap₂, sym, subst, ◌∙◌, arith, append-nil}
 use Rattle.std.specs.Prelude.{is_some, not, slice_get}
 use Rattle.fam_base.specs.Image.{Image, IsNormal}
 use Rattle.fam_base.specs.declared.line.OutOfMemory.{OutOfMemory}
@@ -20,7 +20,7 @@ use Rattle.fam_journal.specs.Members.{changed_at}
 use Rattle.fam_journal.specs.Notes.{Note}
 use Rattle.fam_journal.specs.View.{HostView, WorldView}
 use Rattle.fam_journal.proofs.Calls.Members.{changed_alike, changed_at_member}
-use Rattle.fam_world.specs.Counted.{EndsWithin, HostStanding, HostStep, HostStepsSay, Iterated, StepsSay, StopsWithin, WorldStanding, WorldStep, none, more}
+use Rattle.fam_world.specs.Counted.{HostStanding, HostStep, HostStepsSay, Iterated, StepsSay, WorldStanding, WorldStep, none, more}
 use Rattle.fam_world.specs.Steps.{IsStep}
 use Rattle.fam_world.specs.View.{host_view}
 use Rattle.fam_world.specs.declared.hosts.Host.{Host}

@@ -27,7 +27,7 @@ use Rattle.fam_mkfs.specs.Parts.{IsElsewhere}
 use Rattle.fam_journal.specs.declared.refusal.Refusal.{Refusal}
 use Rattle.fam_journal.specs.declared.refusal.Refusal.TheVariants as why
 use Rattle.fam_journal.specs.Calls as call
-use Rattle.fam_journal.specs.Calls.{ActsAt, AtNumber, BreaksOff, CutsAt, MakesCut, MakesFileSystem, Meets, OnHost, number_of, refusal_of}
+use Rattle.fam_journal.specs.Calls.{AtNumber, BreaksOff, CutsAt, MakesCut, MakesFileSystem, Meets, OnHost, number_of}
 use Rattle.fam_journal.specs.CallRecords.{Answers, CallBreaks, CallKeeps, FitsMedia, HostFits, IsLateMake, KeepsOrBreaks, MakeCall, heading}
 use Rattle.fam_journal.specs.Ends.{HasCounted, cause_faults}
 use Rattle.fam_journal.specs.Forms.{HostFormed, IsFormed, Pairs, forms_behind, forms_of}

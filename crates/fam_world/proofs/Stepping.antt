@@ -17,10 +17,9 @@ use Rattle.fam_commands.specs.Turns.{Turn}
 use Rattle.fam_commands.proofs.Steps.Standing.{operation_from_start}
 use Rattle.fam_journal.specs.declared.refusal.Refusal.{Refusal}
 use Rattle.fam_journal.specs.Calls as call
-use Rattle.fam_journal.specs.Calls.{Does}
 use Rattle.fam_journal.specs.CallRecords.{Answers, CallForm, CallKeeps, FitsMedia, HostFits, IsLate, MediaCall, StepCall, TaskFits, heading, own_turn, refusal_noted, stepped_world}
 use Rattle.fam_journal.specs.Ends.{HasCounted, faults_of, is_answer_note}
-use Rattle.fam_journal.specs.Forms.{HostForm, HostFormed, IsFormed, Pairs, forms_behind, forms_of}
+use Rattle.fam_journal.specs.Forms.{HostForm, HostFormed, IsFormed, Pairs, forms_of}
 use Rattle.fam_journal.specs.Machines as machines
 use Rattle.fam_journal.specs.Machines.{Fails, HostState, Machines, Operation, TaskState, cut, machine_of, next_op, notes_of, operation, with_machine}
 use Rattle.fam_journal.specs.Members.{changed_at}

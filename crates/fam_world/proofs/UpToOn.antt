@@ -1,14 +1,12 @@
 -- Operations of a task of which nothing was stored lead no further than to its first store, and leave memory.
-use Rattle.std.proofs.Common.{◌≡◌, ◌⊎◌, ℕ, ◌<◌, ◌≤◌, Bool, false, true, List, [], ◌∷◌, length, Option, Some, None, Result, Ok, Err, inl, inr, set, refl, sym, ap, subst, ◌∙◌, arith}
+use Rattle.std.proofs.Common.{◌≡◌, ◌⊎◌, ℕ, ◌<◌, ◌≤◌, Bool, false, true, List, [], ◌∷◌, Option, Some, None, Result, Ok, Err, inl, inr, set, refl, sym, ap, subst, ◌∙◌, arith}
 use Prim.Native.Nat.{zero, suc}
 use Rattle.std.specs.Prelude.{IfOk, IfSome, OnErr, is_some, map, slice_get, unwrap_or}
-use Rattle.std.proofs.lemmas.Option.{same_Some}
 use Rattle.fam_base.specs.Image.{Image, IsNormal, eight, line_at, with_line}
 use Rattle.fam_base.proofs.ImageLemmas.{with_line-line_at}
 use Rattle.fam_cache.specs.States.{CacheState}
 use Rattle.fam_cache.specs.Operations.{word_of}
 use Rattle.fam_machine.specs.declared.cell.Cell.TheVariants.{Absent}
-use Rattle.fam_machine.specs.declared.op.Op.{Op}
 use Rattle.fam_machine.specs.Caches.{Cache, IsClean, cell_at, line_changed, with_cell}
 use Rattle.fam_machine.specs.OneLine.{brought, sent}
 use Rattle.fam_machine.specs.Operations.{given_by, machine, operated}
@@ -16,7 +14,6 @@ use Rattle.fam_machine.proofs.CleanCaches.{clean_brought, clean_sent, clean_with
 use Rattle.fam_media.specs.Outside.{IfModelled}
 use Rattle.fam_commands.specs.Appends.{IsBeforeWrites}
 use Rattle.fam_commands.specs.FirstStore.{IsFirstStore, IsUnstored, IsUpToStore}
-use Rattle.fam_commands.specs.Stands.{task_after, turn_given}
 use Rattle.fam_commands.specs.declared.phase.Phase.{Phase}
 use Rattle.fam_commands.specs.declared.phase.Phase.TheVariants as at
 use Rattle.fam_commands.specs.Task.{Task, op_at, op_of}
@@ -25,7 +22,6 @@ use Rattle.fam_commands.specs.Turns.{turn_of}
 use Rattle.fam_commands.proofs.UpToStores.{before_next, up_to_next}
 use Rattle.fam_journal.specs.CallRecords.{IsUnstoredAt}
 use Rattle.fam_journal.specs.Notes.{Note}
-use Rattle.fam_journal.specs.View.{HostView}
 use Rattle.fam_tasks.specs.declared.answer.Turn.TheVariants.{Go}
 use Rattle.fam_tasks.specs.Tells.{Tells}
 use Rattle.fam_run.specs.Held as run
@@ -38,7 +34,7 @@ use Rattle.fam_base.specs.declared.line.OutOfMemory.{OutOfMemory}
 use Rattle.fam_world.specs.declared.fault.Moved.{Moved}
 use Rattle.fam_world.specs.Answers.{is_over}
 use Rattle.fam_world.specs.Places.{AreUnstored, IsCalm, IsSafe, KeepsTaskPlaces, TaskHasPlaces}
-use Rattle.fam_world.specs.Steps.{Around, IsStep}
+use Rattle.fam_world.specs.Steps.{Around}
 use Rattle.fam_world.specs.View.{host_view, views}
 use Rattle.fam_world.specs.Whole.{IsLedStep}
 use Rattle.fam_world.specs.declared.hosts.Host.{Host}

@@ -23,7 +23,7 @@ use Rattle.fam_rules.specs.Place.{line_bytes}
 use Rattle.fam_machine.proofs.MkfsOps.{early_free}
 use Rattle.fam_journal.specs.declared.refusal.Refusal.{Refusal}
 use Rattle.fam_journal.specs.Calls as call
-use Rattle.fam_journal.specs.Calls.{ActsAt, Acts, AtNumber, ByRefusal, Call, Completes, Does, MakesFileSystem, Meets, MoveFails, Moved, OnHost, DoesOperations, begins_refusal, busy_at, has_name, host_limit, idle_refusal, is_busy, is_busy_host, is_same, line_refusal, makes_refusal, name_of, number_of, on_host, refusal_of}
+use Rattle.fam_journal.specs.Calls.{begins_refusal, is_busy, is_same, makes_refusal, refusal_of}
 use Rattle.fam_journal.specs.View.{HostStands, HostView, HostStandsAt, TaskStands, WorldView}
 use Rattle.fam_journal.specs.Kept.{Agrees, IfRuns, Kept, TaskTold, hosts_of, run_at, run_of, run_with, shared_of, settled_of}
 use Rattle.fam_machine.specs.HostMoves.{Move, move_failed, moved}

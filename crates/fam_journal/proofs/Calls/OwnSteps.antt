@@ -9,10 +9,10 @@ use Rattle.fam_commands.specs.Turns.{Turn}
 use Rattle.fam_journal.specs.declared.refusal.Refusal.{Refusal}
 use Rattle.fam_journal.specs.declared.refusal.Refusal.TheVariants as why
 use Rattle.fam_journal.specs.Calls as call
-use Rattle.fam_journal.specs.Calls.{ActsAt, Acts, AtNumber, ByRefusal, Does, OnHost, busy_at, is_busy_host, number_of, on_host, refusal_of, when}
+use Rattle.fam_journal.specs.Calls.{ActsAt, Acts, AtNumber, ByRefusal, OnHost, busy_at, is_busy_host, number_of, on_host, refusal_of, when}
 use Rattle.fam_journal.specs.CallRecords.{IsStepped}
 use Rattle.fam_journal.specs.Machines as machine
-use Rattle.fam_journal.specs.Machines.{Done, HostState, Machines, Operation, Passes, TaskState, machine_of, next_op, notes_of, operation, served, task_on, with_machine}
+use Rattle.fam_journal.specs.Machines.{HostState, Machines, Passes, TaskState, machine_of, notes_of, task_on, with_machine}
 use Rattle.fam_journal.specs.Notes.{Note}
 use Rattle.fam_journal.specs.View.{HostStands, HostView, HostStandsAt, TaskStands, WorldStands, WorldView}
 use Rattle.fam_journal.specs.ByWorld.{number_in}

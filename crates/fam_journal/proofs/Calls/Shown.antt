@@ -1,7 +1,7 @@
 -- A refusal is told by the world that stands for the state.
 use Prim.Native.Nat.{zero, suc}
 use Rattle.std.proofs.Common.{◌≡◌, ℕ, ◌+◌, ◌*◌, Bool, List, [], ◌∷◌, length, map, Option, Some, None, refl, ap, ap₂, sym, ◌∙◌}
-use Rattle.std.specs.Prelude.{⊤, slice_get, replicate, is_some, not, option_map, ◌==◌, ◌&&◌, nat_lt, if◌then◌else◌}
+use Rattle.std.specs.Prelude.{⊤, slice_get, is_some, not, option_map, ◌==◌, ◌&&◌, nat_lt, if◌then◌else◌}
 use Rattle.std.proofs.lemmas.List.{length-replicate}
 use Rattle.fam_format.specs.Stop.{or_else}
 use Rattle.fam_machine.specs.Caches.{dirty_count}
@@ -11,7 +11,7 @@ use Rattle.fam_machine.specs.Mkfs.{early_refusal}
 use Rattle.fam_journal.specs.declared.refusal.Refusal.{Refusal}
 use Rattle.fam_journal.specs.declared.refusal.Refusal.TheVariants as why
 use Rattle.fam_journal.specs.Calls as call
-use Rattle.fam_journal.specs.Calls.{Call, begins_refusal, busy_at, busy_refusal, cause_of, dirty_from, dirty_refusal, has_name, host_limit, idle_refusal, is_busy, is_busy_host, is_same, line_refusal, makes_refusal, number_of, on_host, refusal_of, same_refusal, when}
+use Rattle.fam_journal.specs.Calls.{Call, begins_refusal, busy_refusal, cause_of, dirty_from, dirty_refusal, has_name, host_limit, idle_refusal, is_busy, is_busy_host, is_same, line_refusal, makes_refusal, number_of, on_host, refusal_of, same_refusal, when}
 use Rattle.fam_journal.specs.View.{HostStands, HostView, HostStandsAt, TaskStands, WorldStands, WorldView}
 use Rattle.fam_journal.specs.ByWorld.{refusal_in, shown_host, shown_state, shown_task}
 use Rattle.fam_journal.specs.Machines.{HostState, Machines, TaskState}

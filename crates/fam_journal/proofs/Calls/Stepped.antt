@@ -29,7 +29,7 @@ use Rattle.fam_protocol.specs.Bad.{MaySayBad}
 use Rattle.fam_journal.specs.Laws.{IsOwn}
 use Rattle.fam_journal.specs.Legal.{LegalBehind}
 use Rattle.fam_journal.specs.Machines as machine
-use Rattle.fam_journal.specs.Machines.{Done, HostState, Machines, Passes, TaskState, machine_of, next_op, notes_of, operation, served, task_on, with_machine}
+use Rattle.fam_journal.specs.Machines.{HostState, Machines, Passes, TaskState, machine_of, notes_of, operation, task_on, with_machine}
 use Rattle.fam_journal.specs.Members.{changed_at}
 use Rattle.fam_journal.specs.Notes.{Note}
 use Rattle.fam_journal.specs.Past as past

@@ -10,7 +10,7 @@ use Rattle.fam_commands.specs.Task.{starting}
 use Rattle.fam_journal.specs.declared.refusal.Refusal.{Refusal}
 use Rattle.fam_journal.specs.declared.refusal.Refusal.TheVariants as why
 use Rattle.fam_journal.specs.Calls as call
-use Rattle.fam_journal.specs.Calls.{Acts, ActsAt, ActsOf, AtNumber, ByRefusal, Call, Does, MayBeRefused, OnHost, begins_refusal, has_name, idle_refusal, may_begin, name_of, number_of, on_host, refusal_of}
+use Rattle.fam_journal.specs.Calls.{Acts, ActsAt, ActsOf, AtNumber, ByRefusal, Call, Does, MayBeRefused, OnHost, begins_refusal, has_name, idle_refusal, name_of, number_of, on_host, refusal_of}
 use Rattle.fam_journal.specs.View.{HostStands, HostView, HostStandsAt, TaskStands, WorldStands, WorldView}
 use Rattle.fam_journal.specs.ByWorld.{IsRow, TakesNoMedia, acted, acted_by, number_in, refusal_in, with_host, world_after}
 use Rattle.fam_journal.specs.Machines.{HostState, Machines, task_begun, with_machine, with_task}

@@ -14,7 +14,7 @@ use Rattle.fam_journal.specs.declared.event.Event.TheVariants as event
 use Rattle.fam_journal.specs.declared.refusal.Refusal.{Refusal}
 use Rattle.fam_journal.specs.declared.refusal.Refusal.TheVariants as why
 use Rattle.fam_journal.specs.Calls as call
-use Rattle.fam_journal.specs.Calls.{Call, Completes, Does, DoesOperations, Unfinished, busy_at, has_name, idle_refusal, may_begin, number_of, on_host, when}
+use Rattle.fam_journal.specs.Calls.{Call, Completes, Does, DoesOperations, Unfinished, has_name, idle_refusal, may_begin, number_of, on_host}
 use Rattle.fam_journal.specs.Ends.{AllDone, Ending, EventsDone, MkfsFails, EndsOutOfMemory, EndsOutOfMemoryBroken, SinkFails, SourceFails}
 use Rattle.fam_journal.specs.EventForms.{AskForm, BeginForm, EndsForm, EventBreaksForm, EventForm, EventPartForm, FollowsForm, FormPrefix, FormUpTo, NoMore, StartForm, StepForm, StepsForm, UnfitForm, UnfitNotes}
 use Rattle.fam_journal.specs.Events.{BreaksEvent, BytesSay, DoesEvent, Continues, IsBegun, RefusesEvent, ListingIs, MayNotStep, PartOf, Ready, Session, SourceSays, Sourced, Unfit, WithinSays, copy_limit, source_of}

@@ -7,7 +7,7 @@ use Rattle.fam_media.specs.Files.{Files}
 use Rattle.fam_commands.specs.Task.{Task}
 use Rattle.fam_journal.specs.declared.event.Event.{Event}
 use Rattle.fam_journal.specs.Calls as call
-use Rattle.fam_journal.specs.Calls.{AtNumber, BreaksOff, Call, CutsAt, Does, OnHost, name_of, number_of}
+use Rattle.fam_journal.specs.Calls.{AtNumber, BreaksOff, Call, CutsAt, Does, OnHost, number_of}
 use Rattle.fam_journal.specs.CallRecords.{DoesPart}
 use Rattle.fam_journal.specs.Ends.{Ending, EventsDone}
 use Rattle.fam_journal.specs.EventForms.{EndsForm, FollowsForm}

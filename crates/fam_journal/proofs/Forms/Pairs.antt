@@ -2,14 +2,14 @@
 -- at names, UUIDs and who has a task are the same for both.
 use Prim.Native.Nat.{zero, suc}
 use Rattle.std.proofs.Common.{◌≡◌, ◌≢◌, ℕ, ◌+◌, ◌<◌, Bool, true, false, List, [], ◌∷◌, ◌++◌, length, Option, Some, None, refl, ap, ap₂, sym, ◌∙◌, subst, arith}
-use Rattle.std.specs.Prelude.{⊤, slice_get, replicate, is_some, not, option_map, ◌==◌, ◌&&◌, nat_lt, nat_le, if◌then◌else◌}
+use Rattle.std.specs.Prelude.{⊤, slice_get, is_some, not, ◌==◌, ◌&&◌, nat_lt, nat_le, if◌then◌else◌}
 use Rattle.std.proofs.lemmas.Bool.Decides.{nat_tests}
 use Rattle.std.proofs.lemmas.Option.{same_Some}
 use Rattle.fam_base.specs.PathOrder.{path_eq}
 use Rattle.fam_journal.specs.declared.refusal.Refusal.{Refusal}
 use Rattle.fam_journal.specs.declared.refusal.Refusal.TheVariants as why
 use Rattle.fam_journal.specs.Calls as call
-use Rattle.fam_journal.specs.Calls.{Call, begins_refusal, busy_at, busy_refusal, dirty_from, has_name, host_limit, idle_refusal, is_busy, is_busy_host, is_same, line_refusal, number_of, on_host, refusal_of, same_refusal, when}
+use Rattle.fam_journal.specs.Calls.{Call, begins_refusal, dirty_from, has_name, host_limit, idle_refusal, is_busy, is_busy_host, is_same, line_refusal, number_of, on_host, refusal_of, same_refusal, when}
 use Rattle.fam_format.specs.Stop.{or_else}
 use Rattle.fam_format.specs.Layout.{least_lines}
 use Rattle.fam_machine.specs.Caches.{dirty_count}

@@ -16,7 +16,7 @@ use Rattle.fam_rules.specs.Place.{line_bytes}
 use Rattle.fam_journal.specs.declared.refusal.Refusal.{Refusal}
 use Rattle.fam_journal.specs.declared.refusal.Refusal.TheVariants as why
 use Rattle.fam_journal.specs.Calls as call
-use Rattle.fam_journal.specs.Calls.{Acts, ActsAt, AtNumber, BreaksOff, ByRefusal, Call, CutsAt, Does, MayBeRefused, OnHost, Unfinished, busy_at, busy_refusal, cause_of, dirty_from, dirty_refusal, is_busy, makes_refusal, may_begin, name_of, number_of, on_host, refusal_of}
+use Rattle.fam_journal.specs.Calls.{Acts, ActsAt, AtNumber, BreaksOff, ByRefusal, Call, CutsAt, Does, MayBeRefused, OnHost, Unfinished, busy_refusal, cause_of, dirty_from, dirty_refusal, is_busy, makes_refusal, may_begin, name_of, number_of, on_host, refusal_of}
 use Rattle.fam_journal.specs.Forms.{ActsForm, AreFormed, AtForm, BreaksForm, DirtyForm, DoesForm, FaultForm, FormByRefusal, FreeForm, HostActsForm, HostForm, OfHostForm, Pairs, StateFormed, UnfinishedForm, forms_behind, makes_told, refusal_told, shown_forms}
 use Rattle.fam_journal.specs.Machines.{HostState, Machines, machine_of, with_machine}
 use Rattle.fam_journal.specs.Members.{index_of}

@@ -33,7 +33,7 @@ use Rattle.fam_commands.specs.Task.{Task, op_of, part_count, size_of, wanted_end
 use Rattle.fam_commands.specs.Turns.{Turn, Goes, Marks, Finds, Writes, Ends, super_fault_reply, log_fault_reply, magic_turn, host_refusal, host_turn, super_turn, header_turn, slot_or_decide, slots_read, finds_or_goes, gate_loaded, gate_turn, join_turn, slot_turn, check_turn, first_store, append_turn, verify_lines, verify_turn, bytes_turn, kind_turn, found_turn, wish_turn, decide_turn, line_or, line_difference, compare_turn, file_turn, line_turn, with_word, word_turn, turn_at}
 use Rattle.fam_rules.specs.declared.answers.Refused.{Refused}
 use Rattle.fam_rules.specs.declared.answers.Refused.TheVariants as cause
-use Rattle.fam_rules.specs.Decide.{Wish, Room, decide_wish, entry_or, exists_refusal, full_refusal, master_refusal, parent_refusal, room_for, stripe_refusal, wish_of, file_refusal, found_refusal, is_stripe, room_or, room_by, simple_room, striped_room}
+use Rattle.fam_rules.specs.Decide.{Wish, Room, decide_wish, entry_or, exists_refusal, full_refusal, master_refusal, parent_refusal, room_for, stripe_refusal, wish_of, file_refusal, found_refusal, is_stripe, room_or, room_by}
 use Rattle.fam_rules.specs.Place.{line_bytes}
 use Rattle.fam_rules.specs.Reports.{log_report, report_by}
 use Rattle.fam_rules.specs.Written.{lines_of}

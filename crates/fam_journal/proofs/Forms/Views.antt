@@ -11,7 +11,7 @@ use Rattle.fam_commands.specs.Appends.{HasWish}
 use Rattle.fam_rules.specs.Reply.{Reply}
 use Rattle.fam_journal.specs.declared.refusal.Refusal.{Refusal}
 use Rattle.fam_journal.specs.Calls as call
-use Rattle.fam_journal.specs.Calls.{Call, is_busy_host, number_of, on_host, refusal_of, when}
+use Rattle.fam_journal.specs.Calls.{Call, number_of, refusal_of}
 use Rattle.fam_journal.specs.Forms.{AtForm, DoesForm, EntryForm, FormByRefusal, FreeForm, HostForm, HostFormed, IsFormed, IsTaskForm, Marked, Met, Named, OfHostForm, OfRunning, OfTask, OperationsForm, Pairs, ReplyForm, CommandStage, TaskForm, TaskFormed, TaskNote, ActsForm, forms_behind, forms_of, shown_form, shown_forms, shown_running, stage_of, with_stage}
 use Rattle.fam_journal.specs.Machines.{notes_of}
 use Rattle.fam_journal.specs.Members.{changed_at}

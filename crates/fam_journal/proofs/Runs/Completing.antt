@@ -20,7 +20,7 @@ use Rattle.fam_journal.specs.declared.event.Event.{Event}
 use Rattle.fam_journal.specs.declared.event.Event.TheVariants as event
 use Rattle.fam_journal.specs.declared.refusal.Refusal.{Refusal}
 use Rattle.fam_journal.specs.Calls as call
-use Rattle.fam_journal.specs.Calls.{Acts, ActsAt, ActsOf, AtNumber, ByRefusal, Call, Completes, Does, OnHost, DoesOperations, busy_at, has_name, is_busy_host, name_of, number_of, refusal_of}
+use Rattle.fam_journal.specs.Calls.{Acts, ActsAt, AtNumber, ByRefusal, Call, Completes, Does, OnHost, DoesOperations, busy_at, has_name, is_busy_host, name_of, number_of, refusal_of}
 use Rattle.fam_journal.specs.Complete.{AreRuled, EndsInAnswer}
 use Rattle.fam_journal.specs.Ends.{IsFaultless}
 use Rattle.fam_journal.specs.Events.{DoesEvent, Continues, Session, first_session}
@@ -29,7 +29,7 @@ use Rattle.fam_journal.specs.Kept.{Kept, hosts_of, run_at, run_of, run_with, sha
 use Rattle.fam_journal.specs.Laws.{AreSound, IsImage, IsSoundEvent}
 use Rattle.fam_journal.specs.Legal.{LegalBehind}
 use Rattle.fam_machine.specs.HostMoves.{Evict, Fetch, Leak}
-use Rattle.fam_journal.specs.Machines.{Done, HostState, Machines, Operation, Passes, TaskState, host_done, machine_of, next_note, next_op, notes_of, op_done, operation, served, task_begun, task_done, task_on, with_machine}
+use Rattle.fam_journal.specs.Machines.{Done, HostState, Machines, Operation, Passes, TaskState, host_done, machine_of, next_note, next_op, op_done, operation, served, task_begun, task_done, task_on, with_machine}
 use Rattle.fam_journal.specs.Notes.{Answered, MediaFault, Note, Refused, Replied}
 use Rattle.fam_journal.specs.Past.{Past, first_past, past_of}
 use Rattle.fam_journal.proofs.Calls.Cases.{by_host, place_same}

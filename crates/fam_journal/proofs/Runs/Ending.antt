@@ -16,7 +16,7 @@ use Rattle.fam_journal.specs.Ends.{IsFaultless}
 use Rattle.fam_journal.specs.View.{HostView, HostStandsAt, TaskStands}
 use Rattle.fam_journal.specs.Kept.{Kept}
 use Rattle.fam_journal.specs.Machines as machine
-use Rattle.fam_journal.specs.Machines.{Done, HostState, Machines, Operation, Passes, TaskState, machine_of, next_op, notes_of, operation, served, task_on, with_machine}
+use Rattle.fam_journal.specs.Machines.{HostState, Machines, Operation, Passes, TaskState, machine_of, notes_of, operation, served, task_on, with_machine}
 use Rattle.fam_journal.specs.Notes.{Note}
 use Rattle.fam_journal.proofs.Runs.Halting.{Halts, begin_halts, halts}
 use Rattle.fam_journal.proofs.Calls.Members.{changed_at_member}

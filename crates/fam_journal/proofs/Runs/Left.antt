@@ -11,7 +11,7 @@ use Rattle.fam_format.specs.declared.faults.LogFault.TheVariants.{BadLog}
 use Rattle.fam_format.specs.declared.faults.Reason.{Reason}
 use Rattle.fam_format.specs.Log.{gate_fault}
 use Rattle.fam_format.specs.Reading as read
-use Rattle.fam_format.specs.Reading.{Lines, Reading, gate_in, joined_or, read_below, read_log, read_slots, read_super, reading, reading_of, slot_in, slot_or, super_in}
+use Rattle.fam_format.specs.Reading.{gate_in, joined_or, read_below, read_log, read_slots, read_super, reading, reading_of, slot_or}
 use Rattle.fam_rules.specs.Asks.{File, entries_of}
 use Rattle.fam_rules.specs.Place.{line_bytes}
 use Rattle.fam_protocol.specs.Core.{Core, EntryStands, System}

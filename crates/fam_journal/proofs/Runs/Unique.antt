@@ -18,7 +18,7 @@ use Rattle.fam_journal.specs.declared.event.Event.{Event}
 use Rattle.fam_journal.specs.declared.event.Event.TheVariants as event
 use Rattle.fam_journal.specs.declared.refusal.Refusal.{Refusal}
 use Rattle.fam_journal.specs.Calls as call
-use Rattle.fam_journal.specs.Calls.{Call, Acts, ActsAt, AtHost, AtNumber, ByRefusal, Completes, Does, MakesFileSystem, Meets, MoveFails, Moved, DoesOperations, busy_at, OnHost, name_of, number_of, refusal_of}
+use Rattle.fam_journal.specs.Calls.{Call, Acts, ActsAt, AtNumber, ByRefusal, Completes, Does, Meets, DoesOperations, busy_at, OnHost, name_of, number_of, refusal_of}
 use Rattle.fam_journal.specs.Ends.{IsFaultless, faults_of, note_faults}
 use Rattle.fam_journal.specs.Events.{BytesSay, DoesEvent, Continues, HasNoSource, IsBegun, RefusesEvent, ListingIs, MayNot, MayNotStep, Ready, Session, SourceSays, Sourced, StepsBy, Unfit, WithinSays, copy_limit}
 use Rattle.fam_journal.specs.Follows.{Follows}

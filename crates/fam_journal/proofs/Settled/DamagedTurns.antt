@@ -6,7 +6,7 @@ use Rattle.fam_base.specs.declared.entry.Entry.{Entry}
 use Rattle.fam_base.specs.declared.entry.Params.{Params}
 use Rattle.fam_base.specs.Image.{Image, line_at}
 use Rattle.fam_format.specs.Reading as read
-use Rattle.fam_format.specs.Reading.{Lines, Reading, gate_in, reading_of, super_in}
+use Rattle.fam_format.specs.Reading.{Lines, Reading, reading_of, super_in}
 use Rattle.fam_commands.specs.Stands.{note_of}
 use Rattle.fam_commands.specs.Task.{Task}
 use Rattle.fam_commands.specs.Turns.{Turn, Goes, Marks, Finds, Writes, Ends}
@@ -21,7 +21,7 @@ use Rattle.fam_journal.specs.Kept.{settled_bad, settled_of}
 use Rattle.fam_journal.specs.Legal.{DamageAllowed, FoundAllowed, LegalBehind, OfHost, ReplyAllowed, ReportAllowed, master_of, master_read}
 use Rattle.fam_journal.specs.Machines.{notes_of}
 use Rattle.fam_journal.specs.Past as past
-use Rattle.fam_journal.specs.Past.{Damage, FewLines, State, Bad, Sound, HostPast, Past, past_behind, replied, reported_count, shows_count, state_read}
+use Rattle.fam_journal.specs.Past.{Damage, FewLines, State, Bad, Sound, HostPast, past_behind, replied, state_read}
 use Rattle.fam_journal.proofs.Settled.BadStates.{not_super}
 
 -- Nothing is settled.

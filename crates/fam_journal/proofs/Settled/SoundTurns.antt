@@ -23,7 +23,7 @@ use Rattle.fam_protocol.specs.Lines.{IsAtLeast}
 use Rattle.fam_protocol.specs.Steps.{turn_settles}
 use Rattle.fam_protocol.specs.Invariant.{Known}
 use Rattle.fam_journal.specs.Kept.{run_of, settled_of}
-use Rattle.fam_journal.specs.Legal.{Allowed, FoundAllowed, WritesAllowed, InBounds, IsAskedOf, IsDecided, IsReportOf, LegalBehind, OfHost, ReplyAllowed, CauseAllowed, DecideAllowed}
+use Rattle.fam_journal.specs.Legal.{FoundAllowed, WritesAllowed, InBounds, IsAskedOf, IsDecided, IsReportOf, LegalBehind, OfHost, ReplyAllowed, CauseAllowed}
 use Rattle.fam_journal.specs.Machines.{notes_of}
 use Rattle.fam_journal.specs.Past.{State, Sound, HostPast, Past, cmd_of, filled_bytes, past_behind, replied, reported_count, shows_count, with_pending}
 use Rattle.fam_journal.proofs.Settled.Settles.{acknowledged, acknowledges_settles, finds_settles, shows_settles, length-pending}

@@ -12,7 +12,7 @@ use Rattle.fam_protocol.specs.Steps.{run_after, settled_count}
 use Rattle.fam_journal.specs.Kept.{IfRuns, TaskTold, run_of, run_with, settled_of}
 use Rattle.fam_journal.specs.Machines.{notes_of}
 use Rattle.fam_journal.specs.Past as past
-use Rattle.fam_journal.specs.Past.{Damage, FewLines, State, Bad, Sound, HostPast, Past, count_of, past_behind, settled_length}
+use Rattle.fam_journal.specs.Past.{FewLines, State, Bad, Sound, HostPast, Past, past_behind, settled_length}
 use Rattle.fam_journal.proofs.Calls.Members.{changed_at_member, changed_other}
 
 -- what the journal has of a host after a turn of its task

@@ -20,7 +20,7 @@ use Rattle.fam_journal.specs.declared.event.Event.TheVariants as event
 use Rattle.fam_journal.specs.declared.refusal.Refusal.{Refusal}
 use Rattle.fam_journal.specs.declared.refusal.Refusal.TheVariants as why
 use Rattle.fam_journal.specs.Calls as call
-use Rattle.fam_journal.specs.Calls.{Acts, ActsAt, AtNumber, ByRefusal, Call, Completes, Does, OnHost, DoesOperations, begins_refusal, busy_at, busy_refusal, cause_of, dirty_from, dirty_refusal, has_name, host_limit, idle_refusal, is_busy, is_same, line_refusal, makes_refusal, may_begin, name_of, number_of, on_host, refusal_of, same_refusal, when}
+use Rattle.fam_journal.specs.Calls.{Acts, ActsAt, AtNumber, ByRefusal, Call, Does, OnHost, DoesOperations, begins_refusal, busy_at, busy_refusal, cause_of, dirty_from, dirty_refusal, has_name, host_limit, idle_refusal, is_busy, is_same, line_refusal, makes_refusal, may_begin, name_of, number_of, on_host, refusal_of, same_refusal, when}
 use Rattle.fam_journal.specs.Events.{BytesSay, DoesEvent, IsBegun, RefusesEvent, ListingIs, MayNotStep, Session, SourceSays, Sourced, Unfit, WithinSays, copy_limit}
 use Rattle.fam_journal.specs.Follows.{Follows}
 use Rattle.fam_journal.specs.Machines.{Done, Fails, HostState, Machines, Operation, Outcome, Passes, TaskState, cut, host_done, notes_of, op_done, operation, served, task_done}

@@ -1,4 +1,4 @@
-use Rattle.std.proofs.Common.{ℕ, List, inl, inr, Some, refl, ap, subst, sym, ◌∙◌}
+use Rattle.std.proofs.Common.{ℕ, List, inl, inr, refl, ap, subst, sym, ◌∙◌}
 use Rattle.fam_journal.specs.Programs.{last_passes}
 use Rattle.fam_journal.specs.Texts.{shown}
 use Rattle.fam_program.specs.Puts.{Put, SinkChange, sink_changed}

@@ -1,4 +1,4 @@
-use Rattle.std.proofs.Common.{◌≡◌, refl, subst, sym, arith}
+use Rattle.std.proofs.Common.{◌≡◌, subst, sym, arith}
 use Rattle.fam_commands.specs.Task.{Task}
 use Rattle.fam_run.specs.Held.{none}
 use Rattle.fam_run.specs.Places.{HasPlaces}

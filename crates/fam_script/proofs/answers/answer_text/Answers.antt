@@ -1,8 +1,3 @@
-use Rattle.std.proofs.Common.{◌≡◌, ◌++◌, ◌∙◌, List, ℕ, refl, sym, ap}
-use Rattle.std.proofs.lemmas.List.{append_assoc}
-use Rattle.std.proofs.lemmas.Result.{IfOk-weaker}
-use Rattle.fam_journal.specs.Texts as text
-use Rattle.fam_script.proofs.TextLemmas.{mode_digits, OnOk-more}
 use Rattle.fam_script.proofs.answers.answer_text.Goals as goal
 
 pub returns-in-Ok : goal.returns-in-Ok

@@ -1,8 +1,6 @@
-use Rattle.std.proofs.Common.{◌≡◌, codes, ◌++◌, ◌∷◌, [], ◌∙◌, List, ℕ, Option, refl, sym, ap, decimal, append-nil, string_bytes}
-use Rattle.std.proofs.lemmas.List.{append_assoc}
+use Rattle.std.proofs.Common.{codes, ◌∙◌}
 use Rattle.std.proofs.lemmas.Result.{IfOk-weaker}
 use Rattle.fam_journal.specs.Texts as text
-use Rattle.fam_script.specs.Prints.{checked_prefix}
 use Rattle.fam_script.proofs.TextLemmas.{assoc9}
 use Rattle.fam_script.proofs.answers.checked_text.Goals as goal
 

@@ -1,8 +1,3 @@
-use Rattle.std.proofs.Common.{◌≡◌, codes, ◌++◌, ◌∷◌, [], ◌∙◌, List, ℕ, refl, sym, ap, decimal, append-nil, string_bytes}
-use Rattle.std.proofs.lemmas.List.{append_assoc}
-use Rattle.std.proofs.lemmas.Result.{IfOk-weaker}
-use Rattle.fam_journal.specs.Texts as text
-use Rattle.fam_script.specs.Prints.{checked_prefix}
 use Rattle.fam_script.specs.Reports.{files_text, units_text}
 use Rattle.fam_script.proofs.TextLemmas.{OnOk-more, two_lines}
 use Rattle.fam_script.proofs.reports.put_counts.Goals as goal

@@ -1,8 +1,5 @@
-use Rattle.std.proofs.Common.{◌≡◌, codes, ◌++◌, ◌∷◌, [], ◌∙◌, List, ℕ, refl, sym, ap, decimal, append-nil}
-use Rattle.std.proofs.lemmas.List.{append_assoc}
-use Rattle.std.proofs.lemmas.Result.{IfOk-weaker}
-use Rattle.fam_journal.specs.Texts as text
-use Rattle.fam_script.proofs.TextLemmas.{mode_digits, OnOk-more, file_parts, two_parts, three_parts, four_parts, two_lines, three_lines}
+use Rattle.std.proofs.Common.{◌++◌, ◌∙◌, List, ℕ, ap}
+use Rattle.fam_script.proofs.TextLemmas.{OnOk-more, three_lines}
 use Rattle.fam_script.proofs.reports.put_states.Goals as goal
 
 pub returns : goal.returns

@@ -1,4 +1,4 @@
-use Rattle.std.proofs.Common.{◌≡◌, ◌<◌, sym, ap, ◌∙◌, arith, rules}
+use Rattle.std.proofs.Common.{◌<◌, sym, ap, ◌∙◌, arith, rules}
 use Rattle.std.specs.Prelude.{min, ◌+◌, ◌-◌, ◌^◌}
 use Rattle.fam_sources.proofs.Files.{holds_of}
 use Rattle.fam_sources.proofs.whole.size_of.Goals as goal

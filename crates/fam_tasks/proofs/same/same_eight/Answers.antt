@@ -1,4 +1,4 @@
-use Rattle.std.proofs.Common.{◌≡◌, ℕ, length, arith}
+use Rattle.std.proofs.Common.{arith}
 use Rattle.fam_tasks.proofs.EightWords.{same_by_places}
 use Rattle.fam_tasks.proofs.same.same_eight.Goals as goal
 

@@ -1,4 +1,4 @@
-use Rattle.std.proofs.Common.{◌≡◌, length}
+use Rattle.std.proofs.Common.{◌≡◌}
 use Rattle.fam_tasks.proofs.same.same_slot.Given as goal
 
 abbrev pub invariant-lines : goal.invariant-lines

@@ -1,6 +1,6 @@
 use Rattle.std.proofs.Common.{sym, ap, subst, ◌∙◌, Option}
 use Rattle.std.specs.FinMap as map
-use Rattle.fam_format.specs.Tree.{Tree, replay}
+use Rattle.fam_format.specs.Tree.{replay}
 use Rattle.fam_plan.specs.State.{PlanState, IsHistory}
 use Rattle.fam_tasks.specs.Slots.{entries_in, IsPlanFor}
 use Rattle.fam_tasks.proofs.Found.{found_if, nothing_found}

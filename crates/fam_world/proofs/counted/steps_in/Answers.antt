@@ -1,8 +1,8 @@
-use Rattle.std.proofs.Common.{◌≡◌, ◌<◌, ◌++◌, ◌∷◌, [], List, length, Ok, Err, false, refl, ap, sym, subst, ◌∙◌, arith}
+use Rattle.std.proofs.Common.{◌++◌, ◌∷◌, [], List, length, Ok, Err, false, refl, ap, sym, subst, ◌∙◌, arith}
 use Rattle.std.proofs.lemmas.Option.{slice_get_read}
 use Rattle.fam_journal.specs.Calls as call
 use Rattle.fam_journal.specs.Notes.{Note, Refused}
-use Rattle.fam_journal.specs.View.{HostView, WorldView}
+use Rattle.fam_journal.specs.View.{WorldView}
 use Rattle.fam_notes.specs.declared.note.Note.{Note as Kept}
 use Rattle.fam_world.specs.Counted.{HostStepsSay, Iterated, StepsSay, WorldStep, host_standing, none, standing}
 use Rattle.fam_world.specs.View.{host_view, notes_view, views, world_view}

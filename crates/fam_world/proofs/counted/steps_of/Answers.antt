@@ -1,7 +1,5 @@
-use Rattle.std.proofs.Common.{◌≡◌, ◌+◌, ◌<◌, ◌≤◌, false, true, suc, ℕ, List, Option, Some, refl, ap, sym, subst, ◌∙◌, arith}
-use Rattle.std.specs.Prelude.{IfSome, is_some}
+use Rattle.std.proofs.Common.{◌≡◌, ◌+◌, false, true, suc, ℕ, List, refl, ap, sym, subst, ◌∙◌, arith}
 use Rattle.std.proofs.lemmas.Bool.Decides.{nat_tests}
-use Rattle.fam_commands.specs.Task.{Task}
 use Rattle.fam_journal.specs.CallRecords.{TaskFits}
 use Rattle.fam_journal.specs.Notes.{Note}
 use Rattle.fam_world.specs.Answers.{is_over}

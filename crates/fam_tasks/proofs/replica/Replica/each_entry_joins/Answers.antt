@@ -1,5 +1,4 @@
-use Rattle.std.proofs.Common.{List, sym, ap, subst, ◌∙◌}
-use Rattle.std.proofs.lemmas.List.{take_all}
+use Rattle.std.proofs.Common.{List, sym, subst}
 use Rattle.fam_base.specs.declared.entry.Entry.{Entry}
 use Rattle.fam_plan.specs.State.{IsHistory}
 use Rattle.fam_tasks.proofs.Replicas.{all_found}

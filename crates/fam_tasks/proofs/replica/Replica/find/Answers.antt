@@ -1,4 +1,4 @@
-use Rattle.std.proofs.Common.{◌≡◌, ◌+◌, List, Some, sym, ap, subst, take, ◌∙◌}
+use Rattle.std.proofs.Common.{◌≡◌, ◌+◌, Some, sym, ap, subst, take, ◌∙◌}
 use Rattle.std.specs.List.{slice_get}
 use Rattle.fam_plan.specs.State.{PlanState}
 use Rattle.fam_tasks.specs.Replica.{FindsNext}

@@ -1,5 +1,5 @@
-use Rattle.std.proofs.Common.{◌≡◌, ℕ, List, [], ◌∷◌, ◌++◌, length, Result, Ok, Err, Bool, true, false, if◌then◌else◌, rules, sym, ap, ◌∙◌}
-use Rattle.std.specs.Result.{is_err, is_ok}
+use Rattle.std.proofs.Common.{◌≡◌, [], ◌∷◌, ◌++◌, length, Result, Ok, Err, true, if◌then◌else◌, rules, sym, ap, ◌∙◌}
+use Rattle.std.specs.Result.{is_ok}
 use Rattle.std.specs.List.{insert}
 use Rattle.fam_tree.specs.Runs.{AreWithin, IsGap, run_of}
 use Rattle.fam_tree.proofs.Edits.{put_is, put_within}
