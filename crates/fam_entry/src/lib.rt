@@ -1,5 +1,5 @@
-//! The log's header and its slots. `spell` and `spell_log` give the words, `read_entry` and `read_log` tell
-//! what words are: exactly the spelling of a proper entry, or of the header of these parameters, and else the
+//! The log's header and its slots. `spell` and `spell_log` give the words, `read_entry`, `check_entry` and
+//! `read_log` tell what words are: exactly the spelling of a proper entry, or of the header of these parameters, and else the
 //! first thing that is wrong with them.
 //!
 //! The definitions stand in `fam_format`: `specs/Slot.antt` has the words of a slot, the proper entries and the

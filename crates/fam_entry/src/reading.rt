@@ -224,8 +224,8 @@ fn check(
 }
 
 /// Whether the words of slot `seq` are the spelling of an entry that these parameters allow, whose path is put into a
-/// field of zeros: `checked_entry` gives it. If they are no such spelling, the first reason against them, in the order of
-/// `Reason`.
+/// field of zeros; `checked_entry` then gives the entry. If they are no such spelling, the first reason against them, in
+/// the order of `Reason`.
 pub fn check_entry(
     words: &[u64; SLOT_WORDS],
     seq: u64,

@@ -163,7 +163,7 @@ module _ (name : List ℕ) (a : Around) (formed : IsFormed a.old) (fits : FitsMe
                 held = d.held;
               }
 
-  -- How the loop goes.
+  -- Steps, one behind another.
 
   -- one more step of what was done so far
   pub next_so_far : (count : ℕ) → StepsSoFar name count a → IfModelled a.told_now (λ image. length image ≡ a.lines) → (over : Bool) (new : WorldView) (told : Option Image) (faults : ℕ) → StepCall name a.lines None over a.told_now told a.faults_now faults a.new new

@@ -9,6 +9,6 @@ pub enum EventFault {
     MkfsFailed,
     /// The reading of the event's source ended early. Nothing of the event was done.
     SourceEnded(SourceEnd),
-    /// No memory was left. Of the event nothing was done, or some operations of its host.
+    /// No memory was left. Of the event nothing was done, or some operations of its host, whose command has not answered.
     OutOfMemory,
 }

@@ -73,7 +73,7 @@ impl Fsck {
         })
     }
 
-    /// What a slot below the gate reads as. The path of an entry lies in a field.
+    /// Adds what a slot below the gate reads as; where that is an entry, its path lies in the field.
     fn add_below(
         &mut self,
         words: &[u64; SLOT_WORDS],
@@ -104,11 +104,12 @@ impl Fsck {
         }
     }
 
-    /// What a slot at or past the gate reads as.
+    /// Adds what a slot at or past the gate reads as.
     fn add_past(&mut self, words: &[u64; SLOT_WORDS], read: &Result<(), Reason>)
         requires fewer { self.old.added < self.old.params.slots }
         ensures { self.new ≡ with_survey self.old (past_gate self.old.survey (read_as words.now read.now)) }
     {
+        // The contract alone speaks of them.
         let _ = words;
         self.added += 1;
         if read.is_ok() {

@@ -72,7 +72,7 @@ DoesPart (call.Moves name line move) state notes left = (notes ≡ []) × (left 
 DoesPart (call.Refuses name cause) state notes left = (notes ≡ []) × (left ≡ state)
 
 -- what a call of the world promises where the media's image is modelled and the world was held: its row is done, or where no
--- memory was left a part of it, or memory cut it, which only making a file system may be
+-- memory was left a part of it, or a media fault cut it, which only making a file system may be
 abbrev pub CallKeeps : Call → Image → Option Image → Option Image → WorldView → WorldView → Type 0
 CallKeeps call start before told old new =
     (state : Machines) → before ≡ Some state.memory → Held start state old state.memory → DoesRow start told (Does call state) old new
@@ -134,7 +134,7 @@ pub record Adds (lines before now : ℕ) (old new : WorldView) : Type 0 where
   pub fits : FitsMedia lines old.hosts → FitsMedia lines new.hosts
   pub formed : IsFormed old → IsFormed new
 
--- what a call adds that didn't lack memory: all of its row, or memory cut it
+-- what a call adds that didn't lack memory: all of its row, or what a media fault left of it
 abbrev pub CallForm : Call → ℕ → List HostForm → List Note → Type 0
 CallForm c lines hosts notes = DoesForm c lines hosts notes ⊎ BreaksForm c lines hosts notes
 
@@ -217,12 +217,6 @@ pub record AnswersStep (name : List ℕ) (lines : ℕ) (answered : Option Refusa
   pub answers : Answers (call.Steps name) lines answered before now old new
   pub over_is : over ≡ list_any is_answer_note answers.adds.notes
 
--- where no memory was left the world and the media are as they were; but a finish adds the notes of what it did (`Adds`)
-pub record LeavesAll (told_before told : Option Image) (before now : ℕ) (old new : WorldView) : Type 0 where
-  pub world : new ≡ old
-  pub media : told ≡ told_before
-  pub count : now ≡ before
-
 -- Calls and their answers: one record for each, which a contract cites. `answered` is the refusal that the call gave, if any.
 
 -- host, begin, stop, halt, refuse: the world alone tells what becomes of it, and what is answered
@@ -240,7 +234,7 @@ pub record StepCall (name : List ℕ) (lines : ℕ) (answered : Option Refusal) 
   pub answers : AnswersStep name lines answered over faults faults_now old new
   pub keeps : (start : Image) → CallKeeps (call.Steps name) start told told_now old new
 
--- a mkfs is cut by memory where it answers that, and else does its row
+-- a mkfs is cut by a media fault where it answers that, and else does its row
 abbrev pub KeepsOrBreaks : Refusal → Call → Image → Option Image → Option Image → WorldView → WorldView → Type 0
 KeepsOrBreaks why.NoHost c start told told_now old new = CallKeeps c start told told_now old new
 KeepsOrBreaks (why.SameHost host) c start told told_now old new = CallKeeps c start told told_now old new
@@ -273,7 +267,7 @@ abbrev pub IsUnstoredAt : ℕ → WorldView → Type 0
 IsUnstoredAt h world =
     (view : HostView) → slice_get world.hosts h ≡ Some view → IfSome view.task (λ t. IsUnstored t view.cache)
 
--- a finish that found no memory: what it did until then stands. Any other call has done nothing (`LeavesAll`)
+-- a finish that found no memory: what it did until then stands
 pub record FinishOutOfMemory (name : List ℕ) (lines : ℕ) (told told_now : Option Image) (faults faults_now : ℕ) (old new : WorldView) : Type 0 where
   pub adds : Adds lines faults faults_now old new
   pub form : IsFormed old → PartForm (call.Finishes name) lines (forms_of old.journal) adds.notes

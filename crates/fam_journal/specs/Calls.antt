@@ -268,7 +268,7 @@ ByRefusal name None notes old new acts = acts
 abbrev pub Does : Call → Machines → List Note → Machines → Type 0
 Does call old notes new = ByRefusal (name_of call) (refusal_of call old) notes old new (Acts call old notes new)
 
--- making a file system is cut by memory: nothing goes on behind it
+-- making a file system is cut by a media fault: nothing goes on behind it
 abbrev pub CutsAt : Call → ℕ → HostState → Machines → List Note → Machines → Type 0
 CutsAt (Makes name fs unit log force) h host old notes new = MakesCut h (asked unit log fs host.uuid (length old.memory)) force name host old notes new
 CutsAt (Declares name uuid) h host old notes new = ⊥

@@ -129,7 +129,7 @@ last_passes test (note ∷ []) = test note
 last_passes test (note ∷ next ∷ notes) = last_passes test (next ∷ notes)
 
 -- it puts its last note; or the line that ends it early, alone. The media fails a mkfs alone; and where no memory was left
--- no note tells that it failed
+-- no note tells a media fault
 abbrev pub ShotText : OneShot → Ending → List Note → List ℕ → Type 0
 ShotText shot AllDone journal text = (last_passes (ends_shot shot) journal ≡ true) × (text ≡ shown journal)
 ShotText (Makes fs unit log force) MkfsFails journal text = text ≡ shown journal

@@ -103,7 +103,7 @@ pub fn read_next<M: Media>(
             Err(fault) => Err(fault),
         };
     }
-    // A task that looks at the words of a slot reads on only once it knows what they are.
+    // The digest of a slot is left to `look_next`: `reads_on` refuses it too, but later.
     if let Some(_slot) = task.checked() {
         return Ok(false);
     }

@@ -18,8 +18,8 @@ use fam_tasks::Task;
 /// Drops the line of a file that is compared which the task drops next, loads its words, and compares them. Where none
 /// comes next, or the host's copy is dirty, nothing is done.
 ///
-/// `MediaFault` names the line: it was dropped, and the task stands before its first load. `OutOfMemory` comes where the cache has no room
-/// for one more line, and then nothing was done.
+/// `MediaFault` names the line: it was dropped, and the task stands before its first load. `OutOfMemory` comes where the
+/// cache has no room for one more line, and then nothing was done.
 #[inline(always)]
 pub(crate) fn compare_whole<M: Media>(
     cache: &mut HostCache,

@@ -109,7 +109,8 @@ impl Run {
         }
     }
 
-    /// Adds an entry where none has its path, behind all entries. Else, and if there is no memory, nothing changes.
+    /// Adds an entry where none has its path: to the end of the list, and its place to the run. Else, and if there is no
+    /// memory, nothing changes.
     pub(crate) fn add(&mut self, entries: &mut Vec<Entry>, entry: &Entry) -> bool
         requires order { InOrder (run_of entries.old.items self.old) }
         requires inside { AreWithin (length entries.old.items) self.old }

@@ -45,6 +45,7 @@ fn split(entries: &[Entry], runs: &mut Vec<Run>, k: usize)
     ensures runs { AreRunsOf entries.now runs.new.items }
     ensures entries { listed entries.now runs.new.items ≡ listed entries.now runs.old.items }
 {
+    // The contract alone speaks of them.
     let _ = entries;
     if runs[k].len() <= MOST || runs.reserve(1).is_err() {
         return;
@@ -118,7 +119,7 @@ fn take_from(entries: &[Entry], runs: &mut Vec<Run>, path: &Path) -> Option<usiz
     Some(place)
 }
 
-/// Lets the entry at a place go that stands in no run, where it is the last one. Any other stays, and its room is lost.
+/// Lets the entry at a place go that stands in no run, where it is the last one. Any other stays, unused.
 fn let_go(entries: &mut Vec<Entry>, place: usize)
     ensures { HasLetGo entries.old.items entries.new.items place }
 {

@@ -22,7 +22,8 @@ use fam_base::{Entry, Kind, OutOfMemory, Path};
 use std::alloc::Global;
 use std::marker::Model;
 
-/// The entries of a file system by their paths. Runs tell their order, so that one more moves no entry.
+/// The entries of a file system by their paths. Runs tell their order, so that one more moves no entry but where the list
+/// grows.
 #[derive(Drop)]
 pub struct Tree {
     alloc: Global,

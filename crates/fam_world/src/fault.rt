@@ -7,11 +7,11 @@ use fam_journal::Refusal;
 pub enum WorldFault {
     /// The call is refused, and the journal says so.
     Refused(Refusal),
-    /// No memory was left. But for a finish nothing was done.
+    /// No memory was left. But for `steps` and `finish` nothing was done.
     OutOfMemory,
 }
 
-/// What came of a step.
+/// What came of a step, or of several.
 #[derive(Clone, Copy, Debug, PartialEq, Eq)]
 pub enum Moved {
     /// The task goes on.

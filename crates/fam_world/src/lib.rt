@@ -1,7 +1,8 @@
 //! Any number of hosts over one media, operation by operation, and their journal.
 //!
 //! A contract sees a `World` as its hosts, each with its cache and the task that it runs, and the notes of its journal
-//! (`fam_journal/specs/View.antt`). Each call promises the record that `fam_journal/specs/CallRecords.antt` has for it.
+//! (`fam_journal/specs/View.antt`). Each call promises the record that `fam_journal/specs/CallRecords.antt` has for it, and
+//! `steps` that of each of its steps (`specs/Counted.antt`).
 #![tactic(auto)]
 
 mod counted;

@@ -50,7 +50,7 @@ impl Task {
         }
     }
 
-    /// Takes the words of a line of a part from word 1 on.
+    /// Takes the words of a line of a part from word 1 on, and says how many these are.
     #[inline(always)]
     fn load_rest(&mut self, line: LineNo, part: Part, number: u64, words: &Line) -> u64
         requires phase { self.old.phase ≡ at.Word part number 1 }
