@@ -285,9 +285,9 @@ module _ (name me : List ℕ) (out : Outside) (journal : List Note) where
     -- by how the run has ended, and what was put then
     pub shot_top : (shot : OneShot) (ended_so : Result (Unit {0}) EventFault) → SparedRun shot out (MayLack ended_so journal) → ShotEnded ended_so out (alone_events name me shot) journal → ShotSays ended_so (done_status shot journal) journal (sink_of out) given → TopEnds script_events storm (Some (Single me shot)) out given
     shot_top shot (Ok x) spared stopped says = done name me shot out journal given later spared stopped (shot_ends shot stopped) says
-    shot_top shot (Err fault.MkfsFailed) spared x says = broken shot x.0 x.1.0 says
-    shot_top shot (Err (fault.SourceEnded end)) spared x says = ended name me shot out journal given later (lack_spares shot status.OutOfMemory out ⊤ spared tt) (end_of end) x.0 x.1.0 x.1.1 says
-    shot_top shot (Err fault.OutOfMemory) spared x says = wants name me shot out journal given later (lack_spares shot status.OutOfMemory out ⊤ spared tt) x.0 x.1.0 x.1.1 says
+    shot_top shot (Err fault.MkfsFailed) spared x says = broken shot x.0 x.1 says
+    shot_top shot (Err (fault.SourceEnded end)) spared x says = ended name me shot out journal given later (lack_spares shot status.OutOfMemory out ⊤ spared tt) (end_of end) x.0 x.1 x.2 says
+    shot_top shot (Err fault.OutOfMemory) spared x says = wants name me shot out journal given later (lack_spares shot status.OutOfMemory out ⊤ spared tt) x.0 x.1 x.2 says
 
 -- the notes of a run name hosts that were declared before them
 pub shot_named : (ended : Result (Unit {0}) EventFault) (out : Outside) (events : List Event) (journal : List Note) → ShotEnded ended out events journal → NameDeclared 0 journal

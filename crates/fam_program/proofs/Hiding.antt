@@ -141,7 +141,9 @@ part_faultless (event.Host name uuid) is lines hosts notes x = absurd x
 part_faultless (event.Mkfs name fs unit log force) is lines hosts notes x = absurd x
 part_faultless (event.Begin name what) is lines hosts notes x = absurd is
 part_faultless (event.Run name what) is lines hosts notes x =
-    ap faults_of x.notes_are ∙ running_faultless x.host (forms_after hosts (Start x.host x.cmd)) x.rest x.follow.operations x.follow.runs
+    let rest = running_faultless x.host (forms_after hosts (Start x.host x.cmd)) x.rest x.follow.operations x.follow.runs in
+    let all : IsFaultless (Start x.host x.cmd ∷ x.rest) = omega (arith, rest) in
+    ap faults_of x.notes_are ∙ all
 part_faultless (event.Step name count) is lines hosts notes x = absurd is
 part_faultless (event.Finish name) is lines hosts notes x = absurd is
 part_faultless (event.Stop name) is lines hosts notes x = absurd is
