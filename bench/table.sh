@@ -8,6 +8,7 @@ work=$(mktemp -d)
 trap 'rm -rf "$work"' EXIT
 cd "$work"
 python3 "$top/bench/image.py" 8388608 16777216 "$work/log"
+python3 "$top/bench/image.py" 67108864 134217728 "$work/large"
 python3 - <<'PY'
 lines = ["host m 00000000-0000-0000-0000-000000000001", "mkfs m 11111111-1111-4111-8111-111111111111 unit=4K log=1M"]
 lines += ["run m mkdir directory-%05d" % i for i in range(2000)]
@@ -41,10 +42,13 @@ def row(what, make, words):
     make()
     told = calls(words)
     make()
-    print("| %s | %.1f M | %s | %.1f MiB |" % (what, count / 1e6, "-" if told is None else format(told, ","), peak(words) / 1024))
+    print("| %s | %s M | %s | %.1f MiB |" % (what, format(count / 1e6, ",.1f"), "-" if told is None else format(told, ","), peak(words) / 1024))
 
 def log():
     shutil.copyfile("log", "image")
+
+def large():
+    shutil.copyfile("large", "image")
 
 def file():
     blank(128 << 20)
@@ -62,5 +66,6 @@ row("fsck of them", log, ["fsck", "image"])
 row("creat of 64 MiB of a seed's bytes", file, ["creat", "image", "f", "-s", "64M", "-S", "1"])
 row("verify of it", filled, ["verify", "image", "f", "-S", "1"])
 row("script of 2,000 mkdirs, log of 1 MiB", lambda: blank(16 << 20), ["script", "mkdirs", "image"])
-row("storm of 2,000 turns", lambda: blank(4 << 20), ["storm", "7", "2000", "image"])
+row("`storm 7 20000`", lambda: blank(4 << 20), ["storm", "7", "20000", "image"])
+row("logplay of 131,070 directories", large, ["logplay", "image"])
 PY
