@@ -21,40 +21,53 @@ fn filled(alloc: Global, lines: u64, word: u64) -> Result<MemMedia, Fail> {
     Ok(media)
 }
 
-/// Whether fsck and logplay end with the status of a damaged image and these texts.
-fn both_show(alloc: Global, media: &mut MemMedia, fsck: &str, logplay: &str) -> Result<bool, Fail> {
-    let checked = shows(alloc, media, "fsck img", Status::Damaged, fsck)?;
-    let played = shows(alloc, media, "logplay img", Status::Damaged, logplay)?;
-    Ok(checked && played)
-}
-
 #[test]
-fn images_of_too_few_lines_are_refused(rt: HostRuntime) -> Result<(), Fail> {
+fn strange_images_are_reported(rt: HostRuntime) -> Result<(), Fail> {
     let alloc = rt.alloc();
-    let images = [
-        (0, 0),
-        (1, 0),
-        (32_769, 0),
-        (0, u64::MAX),
-        (1, u64::MAX),
-        (32_769, u64::MAX),
-    ];
-    for (lines, word) in images {
-        let mut small = filled(alloc, lines, word)?;
-        let want = format!(in alloc; "refused image too small {lines}\n")?;
-        assert!(rt; both_show(alloc, &mut small, want.as_str(), want.as_str())?);
-    }
-    Ok(())
-}
-
-#[test]
-fn images_of_one_word_have_no_superblock(rt: HostRuntime) -> Result<(), Fail> {
-    let alloc = rt.alloc();
-    for word in [0, u64::MAX] {
+    for word in [0, 18_446_744_073_709_551_615] {
+        for lines in [0, 1, 32_769] {
+            let mut small = filled(alloc, lines, word)?;
+            let want = format!(in alloc; "refused image too small {lines}\n")?;
+            assert!(rt;
+                shows(
+                    alloc,
+                    &mut small,
+                    "fsck img",
+                    Status::Damaged,
+                    want.as_str()
+                )?
+            );
+            assert!(rt;
+                shows(
+                    alloc,
+                    &mut small,
+                    "logplay img",
+                    Status::Damaged,
+                    want.as_str()
+                )?
+            );
+        }
         let mut image = filled(alloc, 32_770, word)?;
-        let fsck = format!(in alloc; "fsck damaged\nno superblock {word}\n{UNREAD}")?;
-        let logplay = format!(in alloc; "no superblock {word}\n")?;
-        assert!(rt; both_show(alloc, &mut image, fsck.as_str(), logplay.as_str())?);
+        let want = format!(in alloc; "fsck damaged\nno superblock {word}\n{UNREAD}")?;
+        assert!(rt;
+            shows(
+                alloc,
+                &mut image,
+                "fsck img",
+                Status::Damaged,
+                want.as_str()
+            )?
+        );
+        let want = format!(in alloc; "no superblock {word}\n")?;
+        assert!(rt;
+            shows(
+                alloc,
+                &mut image,
+                "logplay img",
+                Status::Damaged,
+                want.as_str()
+            )?
+        );
     }
     Ok(())
 }
