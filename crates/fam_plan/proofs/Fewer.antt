@@ -1,5 +1,5 @@
 -- A plan without its last entry.
-use Rattle.std.proofs.Common.{◌≡◌, ℕ, zero, suc, ◌+◌, ◌-◌, ◌<◌, ◌==◌, ◌&&◌, ◌||◌, Bool, true, false, not, cond, List, [], ◌∷◌, ◌++◌, length, take, fold, Option, Some, None, refl, sym, ap, subst, ◌∙◌, inl, inr, arith}
+use Rattle.std.proofs.Common.{◌≡◌, ℕ, zero, suc, ◌-◌, ◌<◌, ◌==◌, ◌&&◌, ◌||◌, Bool, true, false, not, cond, List, [], ◌∷◌, ◌++◌, length, take, fold, Option, Some, None, refl, sym, ap, subst, ◌∙◌, inl, inr, arith}
 use Rattle.std.specs.Prelude.{IsSome}
 use Rattle.std.specs.FinMap as finmap
 use Rattle.std.specs.FinMap.{get-insert}
@@ -29,7 +29,7 @@ use Rattle.fam_alloc.proofs.MapLemmas.{overlap_head, units_below}
 use Rattle.fam_tree.proofs.TakenBack.{taken_back}
 use Rattle.fam_plan.specs.State.{IsAdded, IsHistory, IsPlan, IsPlanAt, AreHeld, entries_at, paths_in}
 use Rattle.fam_plan.proofs.Histories.{lie_within, used_more}
-use Rattle.fam_plan.proofs.Order.{free_there, entries_count, entries_stay}
+use Rattle.fam_plan.proofs.Entries.{free_there, entries_count, entries_stay}
 
 -- Units that don't overlap those that are used.
 

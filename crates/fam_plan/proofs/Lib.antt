@@ -1,5 +1,6 @@
 pub mod Histories
 pub mod Decisions
-pub mod Order
+pub mod Entries
 pub mod FirstEntries
 pub mod Fewer
+pub mod PieceLemmas

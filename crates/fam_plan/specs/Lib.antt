@@ -2,3 +2,4 @@ pub mod State
 pub mod Faults
 pub mod Wishes
 pub mod Needs
+pub mod Pieces

@@ -9,6 +9,7 @@ mod decide;
 mod fault;
 mod first;
 mod laws;
+mod order;
 mod plan;
 mod room;
 mod wish;
@@ -18,5 +19,7 @@ pub use first::{first_entry_fault, first_entry_refusal};
 pub use laws::{a_decided_entry_may_be_added, no_unit_stands_twice};
 pub use plan::Plan;
 
+#[cfg(test)]
+mod order_tests;
 #[cfg(test)]
 mod tests;

@@ -1,6 +1,6 @@
 //! The entries of a log with their tree and their units.
 
-ghost use Rattle.std.specs.Prelude.{◌≡◌, ◌<◌, ◌≤◌, ◌||◌, ◌++◌, ◌-◌, ◌∷◌, [], ℕ, None, IfOk, IfSome, OnOk, IfErr, OnErr, length, take, option_map, slice_get};
+ghost use Rattle.std.specs.Prelude.{◌≡◌, ◌<◌, ◌≤◌, ◌||◌, ◌++◌, ◌-◌, ◌∷◌, [], ℕ, None, IfOk, OnOk, IfErr, OnErr, length, take, slice_get};
 ghost use Rattle.fam_format.specs.Params.{SoundParams};
 ghost use Rattle.fam_format.specs.Slot.{Proper};
 ghost use Rattle.fam_format.specs.Stop.{or_else};
@@ -13,8 +13,9 @@ ghost use Rattle.fam_plan.specs.Faults.{reason_of};
 ghost use Rattle.fam_plan.specs.State.{IsHistory};
 
 use crate::fault::AddFault;
+use crate::order::Order;
 use fam_alloc::{AllocMap, TakeFault};
-use fam_base::{Entry, OutOfMemory, Params, Path};
+use fam_base::{Entry, OutOfMemory, Params};
 use fam_format::LOG_OFFSET;
 use fam_tree::{ApplyFault, Tree};
 use std::alloc::Global;
@@ -26,7 +27,7 @@ use std::marker::Model;
 pub struct Plan {
     pub(crate) params: Params,
     pub(crate) tree: Tree,
-    pub(crate) order: Vec<Path>,
+    pub(crate) order: Order,
     pub(crate) used: AllocMap,
 }
 
@@ -37,10 +38,10 @@ impl Model for Plan {
 
     ghost coded = { state_code };
 
-    ghost view = { λ p. record { params = p.params; entries = entries_at p.tree p.order.items } };
+    ghost view = { λ p. record { params = p.params; entries = entries_at p.tree p.order } };
 
-    ghost invariant = { λ p. IsPlanAt (record { params = p.params; entries = entries_at p.tree p.order.items })
-        p.tree p.order.items p.used };
+    ghost invariant = { λ p. IsPlanAt (record { params = p.params; entries = entries_at p.tree p.order })
+        p.tree p.order p.used };
 }
 
 /// The overlap that keeps an entry from joining, and out of memory where there is none.
@@ -92,26 +93,21 @@ fn take_units(used: &mut AllocMap, entry: &Entry, unit: u64) -> Result<(), AddFa
 }
 
 /// Puts an entry's path behind others and takes its units, or does neither.
-fn append(
-    order: &mut Vec<Path>,
-    used: &mut AllocMap,
-    entry: &Entry,
-    unit: u64,
-) -> Result<(), AddFault>
+fn append(order: &mut Order, used: &mut AllocMap, entry: &Entry, unit: u64) -> Result<(), AddFault>
     requires unit { 0 < unit }
     requires within { LieWithin unit (length used.old) entry.now.extents }
-    ensures added { OnOk result (order.new.items ≡ order.old.items ++ entry.now.path ∷ []) }
+    ensures added { OnOk result (order.new ≡ order.old ++ entry.now.path ∷ []) }
     ensures fits { OnOk result
         (overlap_fault (first_overlap (is_taken used.old) (units_in unit entry.now.extents)) ≡ None) }
     ensures taken { OnOk result ((u : ℕ) →
         is_taken used.new u ≡ (is_taken used.old u || holds (units_in unit entry.now.extents) u)) }
     ensures cause { IfErr result (λ fault. reason_of fault
         ≡ overlap_fault (first_overlap (is_taken used.old) (units_in unit entry.now.extents))) }
-    ensures list { OnErr result (order.new.items ≡ order.old.items) }
+    ensures list { OnErr result (order.new ≡ order.old) }
     ensures map { OnErr result (used.new ≡ used.old) }
     ensures units { length used.new ≡ length used.old }
 {
-    if order.push(entry.path).is_err() {
+    if order.push(&entry.path).is_err() {
         return Err(overlap_or_memory(used, entry, unit));
     }
     match take_units(used, entry, unit) {
@@ -121,29 +117,6 @@ fn append(
             Err(fault)
         }
     }
-}
-
-/// Path `i`, from 0.
-fn path_at(order: &Vec<Path>, i: u64) -> Option<&Path>
-    ensures { option_map (λ path. path.now) result ≡ slice_get order.now.items i }
-{
-    order.get(i as usize)
-}
-
-/// The last path, which is taken away.
-fn take_path(order: &mut Vec<Path>) -> Option<Path>
-    ensures some { IfSome result (λ path. order.old.items ≡ order.new.items ++ path ∷ []) }
-    ensures none { result ≡ None → order.new.items ≡ order.old.items }
-    ensures empty { result ≡ None → order.old.items ≡ [] }
-{
-    order.pop()
-}
-
-/// How many paths there are.
-fn count_of(order: &Vec<Path>) -> u64
-    ensures { result ≡ length order.now.items }
-{
-    order.len() as u64
 }
 
 impl Plan {
@@ -159,7 +132,7 @@ impl Plan {
         Ok(Plan {
             params: *params,
             tree: Tree::new(alloc),
-            order: Vec::new(alloc),
+            order: Order::new(alloc),
             used,
         })
     }
@@ -199,7 +172,7 @@ impl Plan {
         ensures fewer { self.new.entries ≡ take (length self.old.entries - 1) self.old.entries }
         ensures params { self.new.params ≡ self.old.params }
     {
-        let Some(path) = take_path(&mut self.order) else {
+        let Some(path) = self.order.pop() else {
             return;
         };
         let Some(entry) = self.tree.get(&path) else {
@@ -245,15 +218,15 @@ impl Plan {
         ensures count { result ≡ length self.now.entries }
         ensures few { length self.now.entries ≤ self.now.params.slots }
     {
-        count_of(&self.order)
+        self.order.len()
     }
 
     /// Entry `i`, from 0, in the order in which they were added.
     pub fn at(&self, i: u64) -> Option<Entry>
         ensures { result ≡ slice_get self.now.entries i }
     {
-        match path_at(&self.order, i) {
-            Some(path) => self.tree.get(path),
+        match self.order.at(i) {
+            Some(path) => self.tree.get(&path),
             None => None,
         }
     }
