@@ -1,5 +1,4 @@
 use Rattle.std.proofs.Common.{◌≡◌, ◌++◌, map, drop}
-use Rattle.fam_base.specs.declared.entry.Entry.{Entry}
 use Rattle.fam_plain.proofs.report.entries_of.Given as goal
 
 abbrev pub invariant-loop-f : goal.invariant-loop-f
