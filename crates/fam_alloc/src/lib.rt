@@ -17,6 +17,3 @@ pub use bits::MOST_UNITS;
 pub use overlap::{overlap_behind, repeats_unit, shares_unit};
 pub use starts::Starts;
 pub use used_units::UsedUnits;
-
-#[cfg(test)]
-mod tests;

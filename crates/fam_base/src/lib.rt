@@ -18,8 +18,6 @@ mod name_text;
 mod path;
 mod path_order;
 mod shared;
-#[cfg(test)]
-mod tests;
 mod units;
 
 pub use cmd::{Attr, Cmd, Content, Stripe};

@@ -15,8 +15,6 @@ mod fault;
 mod perform;
 mod places;
 mod renewal;
-#[cfg(test)]
-mod tests;
 
 pub use cache::HostCache;
 pub use fault::{CacheFault, OperationFault};

@@ -9,8 +9,6 @@ mod difference;
 mod given;
 mod prefix;
 mod stream;
-#[cfg(test)]
-mod tests;
 
 pub use difference::compare;
 pub use stream::ContentStream;

@@ -14,6 +14,3 @@ mod words;
 pub use crate::bytes::crc_more;
 pub use crate::laws::{is_only_remainder, is_remainder, is_remainder_of_words};
 pub use crate::words::crc_words;
-
-#[cfg(test)]
-mod tests;

@@ -20,6 +20,3 @@ pub use log::{read_log, spell_log};
 pub use places::SLOT_WORDS;
 pub use reading::{check_entry, read_entry};
 pub use slot::spell;
-
-#[cfg(test)]
-mod tests;

@@ -9,6 +9,3 @@ mod lines;
 
 pub use bytes::place;
 pub use lines::{file_line, lines_of};
-
-#[cfg(test)]
-mod tests;

@@ -11,6 +11,3 @@ mod merge;
 
 pub use fsck::Fsck;
 pub use merge::check;
-
-#[cfg(test)]
-mod tests;

@@ -13,8 +13,6 @@ mod numbers;
 mod options;
 mod script;
 mod spellings;
-#[cfg(test)]
-mod tests;
 mod words;
 
 pub use fault::LineFault;

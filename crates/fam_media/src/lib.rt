@@ -21,6 +21,3 @@ pub use memory_shelf::MemShelf;
 pub use memory_sink::MemSink;
 pub use shelf::Shelf;
 pub use sink::Sink;
-
-#[cfg(test)]
-mod tests;

@@ -108,6 +108,13 @@ impl MemMedia {
         self.lines[line.0 as usize]
     }
 
+    /// How many calls there were: the number of the next one.
+    pub fn calls(&self) -> u64
+        ensures count { result ≡ self.now.calls }
+    {
+        self.calls
+    }
+
     /// Counts a call, and tells the mask where it is to fail.
     fn next_call(&mut self) -> Option<Mask>
         ensures mask { result ≡ next_mask self.old }

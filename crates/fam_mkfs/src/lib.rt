@@ -8,6 +8,3 @@ mod lines;
 mod make;
 
 pub use make::{MkfsEnd, asked, mkfs, refusal};
-
-#[cfg(test)]
-mod tests;

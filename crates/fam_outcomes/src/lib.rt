@@ -8,8 +8,6 @@
 mod components;
 mod counts;
 mod statuses;
-#[cfg(test)]
-mod tests;
 mod texts;
 
 pub use components::prefixes;

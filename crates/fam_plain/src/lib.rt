@@ -17,6 +17,3 @@ mod units;
 pub use crate::crc::{plain_crc, plain_crc_words};
 pub use crate::reading::{Reading, plain_reading};
 pub use crate::report::plain_report;
-
-#[cfg(test)]
-mod tests;

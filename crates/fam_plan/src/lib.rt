@@ -18,8 +18,3 @@ pub use fault::AddFault;
 pub use first::{first_entry_fault, first_entry_refusal};
 pub use laws::{a_decided_entry_may_be_added, no_unit_stands_twice};
 pub use plan::Plan;
-
-#[cfg(test)]
-mod order_tests;
-#[cfg(test)]
-mod tests;

@@ -8,8 +8,6 @@
 mod fault;
 mod lines;
 mod numbers;
-#[cfg(test)]
-mod parent_tests;
 mod parents;
 mod puts;
 mod quiet;
@@ -17,11 +15,7 @@ mod read;
 mod script;
 mod script_file;
 mod shots;
-#[cfg(test)]
-mod storm_tests;
 mod storms;
-#[cfg(test)]
-mod tests;
 
 pub use fault::{PutFault, ScriptFault};
 pub use puts::{put_memory, put_usage};

@@ -11,8 +11,6 @@ mod lines;
 mod notes;
 mod refusals;
 mod reports;
-#[cfg(test)]
-mod tests;
 
 pub use answers::answer_text;
 pub use fam_grammar::{LineFault, read_line};

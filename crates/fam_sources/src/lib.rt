@@ -8,6 +8,3 @@ mod whole;
 
 pub use sourced::{COPY_LIMIT, Resolved, SourceEnd, Sourced, resolve};
 pub use whole::{WholeFault, read_whole};
-
-#[cfg(test)]
-mod tests;

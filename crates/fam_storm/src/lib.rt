@@ -7,8 +7,6 @@ mod draw;
 mod laws;
 mod lines;
 mod script;
-#[cfg(test)]
-mod tests;
 mod turns;
 
 pub use laws::{

@@ -16,6 +16,3 @@ pub use master::role;
 pub use read::{LOG_LIMIT, is_unit, read_super};
 pub use spell::Super;
 pub use words::MAGIC;
-
-#[cfg(test)]
-mod tests;

@@ -17,8 +17,6 @@ mod replies;
 mod same;
 mod slots;
 mod task;
-#[cfg(test)]
-mod tests;
 mod wanted;
 
 pub use answer::{Answer, TaskNote, Turn, Verified};

@@ -12,8 +12,6 @@ mod lines;
 mod listings;
 mod run;
 mod runs;
-#[cfg(test)]
-mod tests;
 mod tree;
 mod tree_iter;
 

@@ -14,8 +14,6 @@ mod moves;
 mod notes;
 mod quiet;
 mod steps;
-#[cfg(test)]
-mod tests;
 mod whole;
 mod world;
 

@@ -1,6 +1,0 @@
-use Rattle.fam_content.specs.Stream.{StreamStandsFor}
-use Rattle.fam_content.proofs.tests.line_of.Given as goal
-
--- the stream stands behind the lines so far
-abbrev pub invariant-lines : goal.invariant-lines
-invariant-lines l = StreamStandsFor l.stream l.content l._given
