@@ -1,16 +1,14 @@
-//! The famfs command: what it does is the top call in `top`; here the real image, shelf and output are made and
-//! handed to it.
+//! The famfs command: what it does is the top call of fam_top; here the real image, shelf and output are made and handed
+//! to it.
 #![tactic(auto)]
 
 mod file_media;
 mod file_shelf;
-mod fresh;
 mod std_sink;
-mod top;
-mod words;
 
 use fam_base::OutOfMemory;
 use fam_journal::Status;
+use fam_top::{famfs, image_of};
 use file_media::FileMedia;
 use file_shelf::FileShelf;
 use std::env;
@@ -19,9 +17,7 @@ use std::io::ErrorKind;
 use std::os::unix::fs::FileExt;
 use std::process::ExitCode;
 use std_sink::StdSink;
-use top::famfs;
 use uuid::Uuid;
-use words::image_of;
 
 /// The UUID of this host where no word names another: 00000000-0000-0000-0000-000000000001.
 const SYSTEM: [u8; 16] = [0, 0, 0, 0, 0, 0, 0, 0, 0, 0, 0, 0, 0, 0, 0, 1];
@@ -103,9 +99,6 @@ fn run(rt: &HostRuntime, words: &Vec<String>) -> Result<Status, OutOfMemory> {
     );
     Ok(status)
 }
-
-#[cfg(test)]
-mod tests;
 
 /// Does what the program's words say.
 fn ran(rt: &HostRuntime) -> Result<Status, OutOfMemory> {

@@ -4,10 +4,10 @@ use Rattle.fam_program.specs.Puts.{sink_changed}
 use Rattle.fam_program.specs.Runs.{outside_of}
 use Rattle.fam_sources.specs.Whole.{changed}
 use Rattle.fam_words.specs.declared.wanted.Order.{Order}
-use Rattle.famfs.specs.Calls.{CallEnds, command_of}
-use Rattle.famfs.specs.Words.{order_named}
-use Rattle.famfs.proofs.Endings.{no_command, no_memory}
-use Rattle.famfs.proofs.top.famfs.Goals as goal
+use Rattle.fam_top.specs.Calls.{CallEnds, command_of}
+use Rattle.fam_top.specs.Words.{order_named}
+use Rattle.fam_top.proofs.Endings.{no_command, no_memory}
+use Rattle.fam_top.proofs.top.famfs.Goals as goal
 
 -- what is asked for was done, or not
 pub returns-in-Ok-Some-clause-ends : goal.returns-in-Ok-Some-clause-ends

@@ -9,9 +9,9 @@ ghost use Rattle.fam_program.specs.Runs.{outside_of};
 ghost use Rattle.fam_sources.specs.Whole.{IsShelfSteady, changed};
 ghost use Rattle.fam_storm.specs.Storm.{storm};
 ghost use Rattle.fam_words.specs.Calls.{IsSoundOrder, IsSoundShot};
-ghost use Rattle.famfs.specs.Calls as calls;
-ghost use Rattle.famfs.specs.Calls.{CallEnds, command_of, shot_of};
-ghost use Rattle.famfs.specs.Words.{order_named};
+ghost use Rattle.fam_top.specs.Calls as calls;
+ghost use Rattle.fam_top.specs.Calls.{CallEnds, command_of, shot_of};
+ghost use Rattle.fam_top.specs.Words.{order_named};
 
 use crate::fresh::fs_or;
 use crate::words::order;

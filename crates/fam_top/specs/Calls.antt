@@ -9,7 +9,7 @@ use Rattle.fam_words.specs.declared.wanted.Order.{Order}
 use Rattle.fam_words.specs.declared.wanted.Order.TheVariants as order
 use Rattle.fam_words.specs.declared.wanted.Shot.{Shot}
 use Rattle.fam_words.specs.declared.wanted.Shot.TheVariants as shot
-use Rattle.famfs.specs.Fresh.{version4_of}
+use Rattle.fam_top.specs.Fresh.{version4_of}
 
 -- the UUID of the host: that of the words, or this host's
 abbrev pub host_or : List ℕ → Option (List ℕ) → List ℕ

@@ -7,8 +7,8 @@ use Rattle.fam_program.specs.Runs.{outside_of}
 use Rattle.fam_sources.specs.Whole.{changed}
 use Rattle.fam_storm.specs.Storm.{storm}
 use Rattle.fam_words.specs.declared.wanted.Order.{Order}
-use Rattle.famfs.specs.Calls.{command_of, shot_of}
-use Rattle.famfs.proofs.top.run_order.Goals as goal
+use Rattle.fam_top.specs.Calls.{command_of, shot_of}
+use Rattle.fam_top.proofs.top.run_order.Goals as goal
 
 -- a command of its own, on its host
 pub returns-in-Single-clause-ends : goal.returns-in-Single-clause-ends

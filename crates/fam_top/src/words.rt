@@ -2,7 +2,7 @@
 
 ghost use Rattle.std.specs.Prelude.{◌≡◌, map, string_bytes, IfOk, IfSome};
 ghost use Rattle.fam_words.specs.Calls.{IsSoundOrder};
-ghost use Rattle.famfs.specs.Words.{image_named, order_named};
+ghost use Rattle.fam_top.specs.Words.{image_named, order_named};
 
 use fam_base::{NameText, OutOfMemory};
 use fam_words::{Order, read_words};

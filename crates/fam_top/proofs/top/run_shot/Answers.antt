@@ -7,8 +7,8 @@ use Rattle.fam_program.specs.Runs.{outside_of}
 use Rattle.fam_sources.specs.Whole.{changed}
 use Rattle.fam_storm.specs.Storm.{storm}
 use Rattle.fam_words.specs.declared.wanted.Shot.{Shot}
-use Rattle.famfs.specs.Calls.{shot_of}
-use Rattle.famfs.proofs.top.run_shot.Goals as goal
+use Rattle.fam_top.specs.Calls.{shot_of}
+use Rattle.fam_top.proofs.top.run_shot.Goals as goal
 
 -- a command on the log
 pub returns-in-Run-clause-ends : goal.returns-in-Run-clause-ends

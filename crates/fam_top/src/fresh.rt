@@ -1,8 +1,8 @@
 //! A UUID from random bytes. `specs/Fresh.antt` has its form.
 
 ghost use Rattle.std.specs.Prelude.{◌≡◌};
-ghost use Rattle.famfs.specs.Calls as calls;
-ghost use Rattle.famfs.specs.Fresh.{version4_of};
+ghost use Rattle.fam_top.specs.Calls as calls;
+ghost use Rattle.fam_top.specs.Fresh.{version4_of};
 
 use uuid::Uuid;
 
