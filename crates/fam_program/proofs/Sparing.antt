@@ -93,12 +93,12 @@ writes_on at.SendGate t word writing = (t.gate, refl)
 clean_send : (through : ℕ) (words : List ℕ) (c : Cell) → IsCleanCell c → failed_send through words c ≡ None
 clean_send through words Absent clean = refl
 clean_send through words (Clean copy) clean = refl
-clean_send through words (Dirty copy) clean = absurd clean
+clean_send through words (Dirty a copy) clean = absurd clean
 
 brought_same : (l : LineNo) (m : Machine) (c : Cell) (x : Failure) → not_brought l m c ≡ Some x → x.left.image ≡ m.image
 brought_same l m Absent x is = ap (λ (f : Failure). f.left.image) (sym (same_Some _ x is))
 brought_same l m (Clean words) x is = absurd cc
-brought_same l m (Dirty words) x is = absurd cc
+brought_same l m (Dirty a words) x is = absurd cc
 
 module _ (through : ℕ) (m : Machine) (clean : IsClean m.cache) (x : Failure) where
   sent_same : (l : LineNo) → not_sent through l m ≡ Some x → x.left.image ≡ m.image
@@ -131,7 +131,7 @@ module _ (h : ℕ) where
     host_is : slice_get state.hosts h ≡ Some host
     s : TaskState
     s_is : host.task ≡ Some s
-    standing : StandsFor s.cmd s.me (length state.memory) t s.words s.made
+    standing : StandsFor None s.cmd s.me (length state.memory) t s.words s.made
 
   -- nothing comes behind the answer
   none_behind : (count : ℕ) (state new : Machines) (rest : List Note) → busy_at h state ≡ false → DoesOperations h count state rest new → (rest ≡ []) × (new ≡ state)
@@ -183,8 +183,8 @@ module _ (h : ℕ) where
       s = on;
       s_is = task;
       standing =
-          subst (λ (k : ℕ). StandsFor here.s.cmd here.s.me k n (with_given here.s.words (given (op_of t) m)) (here.s.made + 1)) (sym (operated_length (op_of t) m))
-          (subst (λ (o : Option ℕ). StandsFor here.s.cmd here.s.me (length state.memory) n (with_given here.s.words o) (here.s.made + 1)) (same_given (op_of t) m) (goes word here.standing next));
+          subst (λ (k : ℕ). StandsFor None here.s.cmd here.s.me k n (with_given here.s.words (given (op_of t) m)) (here.s.made + 1)) (sym (operated_length (op_of t) m))
+          (subst (λ (o : Option ℕ). StandsFor None here.s.cmd here.s.me (length state.memory) n (with_given here.s.words o) (here.s.made + 1)) (same_given (op_of t) m) (goes word here.standing next));
     }
 
     -- the media failed in it

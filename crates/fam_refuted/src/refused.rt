@@ -1,5 +1,5 @@
 //! Wrong protocols, each with a run that shows it: why a reader drops the lines that it drops when it does, and why a
-//! master sends a slot before it stores the gate.
+//! master sends a slot by a fence before it stores the gate.
 //!
 //! A run begins with an image that reads as sound, and with empty caches. Its master appends an entry behind those of
 //! the image, by any command that the rules allow it, and a reader loads the gate and the slots that it counts. Their
@@ -62,9 +62,9 @@ pub fn without_a_drop_an_old_gate_is_read()
     ensures { (c : Scene) → Begins c → Misses c (fetches_gate c) (keeps_gate c) }
 {}
 
-/// A master must send the whole slot before it stores the gate. Where it sends the gate first, a reader that drops
-/// each line before it loads it may be given a gate that counts the entry, and words of its slot that don't read as
-/// it.
+/// A master must send the whole slot before it stores the gate: to ask for its lines isn't enough. Where no fence stands
+/// between, its cache may send the gate's line first, by itself. Then a reader that drops each line before it loads it is
+/// given a gate that counts the entry, and words of its slot that don't read as it.
 pub fn a_gate_before_its_slot_tears_the_entry()
     ensures { (c : Scene) → Begins c → TearsEntry c (gate_first c) (reads_well c) (sends_late c) }
 {}

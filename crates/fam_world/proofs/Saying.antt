@@ -8,7 +8,7 @@ use Rattle.fam_base.specs.Image.{Image, line_at}
 use Rattle.fam_media.specs.Causes.{Rose}
 use Rattle.fam_media.specs.Outside.{IfModelled}
 use Rattle.fam_machine.specs.declared.op.Op.{Op}
-use Rattle.fam_machine.specs.declared.op.Op.TheVariants.{Load, Store, WriteBack, Invalidate, Digest}
+use Rattle.fam_machine.specs.declared.op.Op.TheVariants.{Load, Store, WriteBack, Fence, Invalidate, Digest}
 use Rattle.fam_machine.specs.Caches.{Cache, cell_at}
 use Rattle.fam_machine.specs.Cuts.{HasFailed, IsMachine}
 use Rattle.fam_machine.specs.OneLine.{IsHeld, brought, words_of}
