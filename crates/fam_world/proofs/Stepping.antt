@@ -193,7 +193,7 @@ module _ (name : List ℕ) (at lines : ℕ) (old : WorldView) (view : HostView) 
         fault_fits : HostFits lines view → HostFits lines next
         fault_fits was = record {
           task = subst (TaskFits lines) (sym x.task) tt;
-          cache = λ l is. was.cache l (subst (λ (k : Cache). IsHeld (cell_at k l)) x.cache is);
+          cache = λ l is. was.cache l (x.held l is);
         }
 
         counted : Rose faults faults_now → HasCounted faults faults_now (fault ∷ [])

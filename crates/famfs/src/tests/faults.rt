@@ -11,12 +11,19 @@ use std::test::Fail;
 /// The line of each call of the media where a file system is made.
 const MKFS_LINES: [u64; 12] = [0, 1, 2, 0, 32_769, 32_769, 32_768, 32_768, 1, 2, 0, 0];
 
-/// The line of each call of the media where a directory is made on a log of one entry: lines that are read, then a
-/// read and a write for each line of the new slot, and the write of the gate.
+/// The line of each call of the media where a directory is made on a log of one entry: lines that are read, the last
+/// ones those of the new slot, then the fence's write of each of these, and the write of the gate.
 const MKDIR_LINES: [u64; 30] = [
     0, 1, 2, 32_768, 32_769, 32_776, 32_777, 32_778, 32_779, 32_780, 32_781, 32_782, 32_783,
-    32_784, 32_784, 32_785, 32_785, 32_786, 32_786, 32_787, 32_787, 32_788, 32_788, 32_789, 32_789,
-    32_790, 32_790, 32_791, 32_791, 32_769,
+    32_784, 32_785, 32_786, 32_787, 32_788, 32_789, 32_790, 32_791, 32_784, 32_785, 32_786, 32_787,
+    32_788, 32_789, 32_790, 32_791, 32_769,
+];
+
+/// The same where a file of two lines is made: they are written before the slot is read.
+const CREAT_LINES: [u64; 32] = [
+    0, 1, 2, 32_768, 32_769, 32_776, 32_777, 32_778, 32_779, 32_780, 32_781, 32_782, 32_783,
+    33_792, 33_793, 32_784, 32_785, 32_786, 32_787, 32_788, 32_789, 32_790, 32_791, 32_784, 32_785,
+    32_786, 32_787, 32_788, 32_789, 32_790, 32_791, 32_769,
 ];
 
 /// Calls of the media that make an image of one entry.
@@ -27,6 +34,9 @@ const ONE: &str = "played 1\nd 0755 0 0 0 - a\n";
 
 /// The same of two.
 const TWO: &str = "played 2\nd 0755 0 0 0 - a\nd 0755 0 0 0 - b\n";
+
+/// The same of a directory and a file of two lines.
+const FILE: &str = "played 2\nd 0755 0 0 0 - a\nf 0644 0 0 100 2162688+4096 b\n";
 
 /// Whether a mkfs of which this call fails names the line, and leaves a file system or none.
 fn mkfs_breaks(alloc: Global, number: u64, mask: u8, line: u64, made: bool) -> Result<bool, Fail> {
@@ -78,15 +88,22 @@ fn a_file_system_is_made_by_twelve_calls(rt: HostRuntime) -> Result<(), Fail> {
     Ok(())
 }
 
-/// Whether a mkdir of which this call fails names the line, and a logplay shows this then.
-fn mkdir_breaks(alloc: Global, number: u64, mask: u8, line: u64, left: &str) -> Result<bool, Fail> {
+/// Whether an append of which this call fails names the line, and a logplay shows this then.
+fn append_breaks(
+    alloc: Global,
+    words: &str,
+    number: u64,
+    mask: u8,
+    line: u64,
+    left: &str,
+) -> Result<bool, Fail> {
     let mut media = holding(alloc, &[directory(b"a")?])?;
     media.fail(HOLDING_CALLS.wrapping_add(number), Mask(mask))?;
     let want = format!(in alloc; "media fault {line}\n")?;
     if !shows(
         alloc,
         &mut media,
-        "mkdir img b",
+        words,
         Status::MediaFault,
         want.as_str(),
     )? {
@@ -102,11 +119,29 @@ fn a_mkdir_that_fails_leaves_the_tree_before_or_after(rt: HostRuntime) -> Result
         let left = if number == 29 { TWO } else { ONE };
         let number = number as u64;
         assert!(rt;
-            mkdir_breaks(alloc, number, 0, *line, ONE)?,
+            append_breaks(alloc, "mkdir img b", number, 0, *line, ONE)?,
             "call {number}"
         );
         assert!(rt;
-            mkdir_breaks(alloc, number, 255, *line, left)?,
+            append_breaks(alloc, "mkdir img b", number, 255, *line, left)?,
+            "call {number}, whole"
+        );
+    }
+    Ok(())
+}
+
+#[test]
+fn a_creat_that_fails_leaves_the_tree_before_or_after(rt: HostRuntime) -> Result<(), Fail> {
+    let alloc = rt.alloc();
+    for (number, line) in CREAT_LINES.iter().enumerate() {
+        let left = if number == 31 { FILE } else { ONE };
+        let number = number as u64;
+        assert!(rt;
+            append_breaks(alloc, "creat img b -s 100", number, 0, *line, ONE)?,
+            "call {number}"
+        );
+        assert!(rt;
+            append_breaks(alloc, "creat img b -s 100", number, 255, *line, left)?,
             "call {number}, whole"
         );
     }

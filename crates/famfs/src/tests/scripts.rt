@@ -42,25 +42,25 @@ const ROWS: [Row; 13] = [
     ),
     (
         "a dead entry with a right checksum",
-        "begin m mkdir x\nstep m 104\nfetch c 32776 255\nfetch c 32777 255\nfetch c 32778 255\nfetch c 32779 255\nfetch c 32780 255\nfetch c 32781 255\nfetch c 32782 255\nfetch c 32783 255\nhalt m\nrun c fsck\nrun m mkdir y\nrun c logplay\n",
+        "begin m mkdir x\nstep m 105\nfetch c 32776 255\nfetch c 32777 255\nfetch c 32778 255\nfetch c 32779 255\nfetch c 32780 255\nfetch c 32781 255\nfetch c 32782 255\nfetch c 32783 255\nhalt m\nrun c fsck\nrun m mkdir y\nrun c logplay\n",
         Status::Done,
         "m start mkdir x mode=0755 uid=0 gid=0\nm mark\nm found 0\nm writes 0 d 0755 0 0 0 - x\nm halt\nc start fsck\nc mark\nc fsck sound\nsuperblock sound\nlog sound 0 of 127\nfiles 0 directories 0\nunits used 528 free 496\noverlap none\nbad entry none\npast gate 1\nm start mkdir y mode=0755 uid=0 gid=0\nm mark\nm found 0\nm writes 0 d 0755 0 0 0 - y\nm ok 0\nc start logplay\nc mark\nc played 1\nd 0755 0 0 0 - y\n",
     ),
     (
         "the gate in the master's own cache",
-        "begin m mkdir x\nstep m 105\nstop m\nbegin m mkdir x/y\nstep m 31\nhalt m\nrun m mkdir x/z\nrun c logplay\n",
+        "begin m mkdir x\nstep m 106\nstop m\nbegin m mkdir x/y\nstep m 31\nhalt m\nrun m mkdir x/z\nrun c logplay\n",
         Status::Done,
         "m start mkdir x mode=0755 uid=0 gid=0\nm mark\nm found 0\nm writes 0 d 0755 0 0 0 - x\nm stop\nm start mkdir x/y mode=0755 uid=0 gid=0\nm mark\nm found 1\nm halt\nm start mkdir x/z mode=0755 uid=0 gid=0\nm mark\nm found 1\nm writes 1 d 0755 0 0 0 - x/z\nm ok 1\nc start logplay\nc mark\nc played 2\nd 0755 0 0 0 - x\nd 0755 0 0 0 - x/z\n",
     ),
     (
         "a leaked gate",
-        "begin m mkdir x\nstep m 105\nleak m 32769 1\nrun c logplay\nhalt m\nrun m logplay\n",
+        "begin m mkdir x\nstep m 106\nleak m 32769 1\nrun c logplay\nhalt m\nrun m logplay\n",
         Status::Done,
         "m start mkdir x mode=0755 uid=0 gid=0\nm mark\nm found 0\nm writes 0 d 0755 0 0 0 - x\nc start logplay\nc mark\nc played 1\nd 0755 0 0 0 - x\nm halt\nm start logplay\nm mark\nm played 1\nd 0755 0 0 0 - x\n",
     ),
     (
         "a lost gate",
-        "begin m creat p 4096\nstep m 681\nrun c logplay\nhalt m\nrun m creat q 4096\nrun c logplay\n",
+        "begin m creat p 4096\nstep m 682\nrun c logplay\nhalt m\nrun m creat q 4096\nrun c logplay\n",
         Status::Done,
         "m start creat p 4096 mode=0644 uid=0 gid=0\nm mark\nm found 0\nm writes 0 f 0644 0 0 4096 2162688+4096 p\nc start logplay\nc mark\nc played 0\nm halt\nm start creat q 4096 mode=0644 uid=0 gid=0\nm mark\nm found 0\nm writes 0 f 0644 0 0 4096 2162688+4096 q\nm ok 0\nc start logplay\nc mark\nc played 1\nf 0644 0 0 4096 2162688+4096 q\n",
     ),
@@ -72,7 +72,7 @@ const ROWS: [Row; 13] = [
     ),
     (
         "roles and refusals of the world",
-        "run c mkdir z\nhost d 00000000-0000-0000-0000-000000000001\nrun x logplay\nstep c\nevict c 65536\nmkfs m 11111111-1111-4111-8111-111111111111 unit=4096 log=65536\nmkfs m 11111111-1111-4111-8111-111111111111 unit=5000\nbegin c logplay\nmkfs m 11111111-1111-4111-8111-111111111111 unit=4096 log=65536 force\nstop c\nbegin m mkdir x\nstep m 105\nstop m\nmkfs c 11111111-1111-4111-8111-111111111111 unit=4096 log=65536 force\nhalt m\nmkfs c 11111111-1111-4111-8111-111111111111 unit=4096 log=65536 force\nrun m mkdir q\n",
+        "run c mkdir z\nhost d 00000000-0000-0000-0000-000000000001\nrun x logplay\nstep c\nevict c 65536\nmkfs m 11111111-1111-4111-8111-111111111111 unit=4096 log=65536\nmkfs m 11111111-1111-4111-8111-111111111111 unit=5000\nbegin c logplay\nmkfs m 11111111-1111-4111-8111-111111111111 unit=4096 log=65536 force\nstop c\nbegin m mkdir x\nstep m 106\nstop m\nmkfs c 11111111-1111-4111-8111-111111111111 unit=4096 log=65536 force\nhalt m\nmkfs c 11111111-1111-4111-8111-111111111111 unit=4096 log=65536 force\nrun m mkdir q\n",
         Status::Refused,
         "c start mkdir z mode=0755 uid=0 gid=0\nc not master 00000000-0000-0000-0000-000000000002 00000000-0000-0000-0000-000000000001\nd refused same host m\nx refused no host\nc refused idle\nc refused no line 65536 65536\nm refused has superblock 11111111-1111-4111-8111-111111111111\nm refused bad geometry 5000 8388608\nc start logplay\nm refused busy c\nc stop\nm start mkdir x mode=0755 uid=0 gid=0\nm mark\nm found 0\nm writes 0 d 0755 0 0 0 - x\nm stop\nc refused dirty m\nm halt\nc made 11111111-1111-4111-8111-111111111111 unit 4096 log 65536 device 4194304\nm start mkdir q mode=0755 uid=0 gid=0\nm not master 00000000-0000-0000-0000-000000000001 00000000-0000-0000-0000-000000000002\n",
     ),
