@@ -1,4 +1,4 @@
--- The four runs of the protocols that are refused.
+-- The five runs of the protocols that are refused.
 use Rattle.std.proofs.Common.{ℕ, zero, suc, Option, Some, None, true, ◌≡◌, ◌≢◌, inr, ◌+◌, ◌-◌, ◌*◌, ◌<◌, not, List, [], ◌∷◌, ◌++◌, length, map, refl, sym, ap, subst, ◌∙◌, append_assoc, arith}
 use Rattle.std.specs.Prelude.{flat_map, slice_get, slice_index, slice_set}
 use Rattle.std.specs.List.{range_with_len}
@@ -26,7 +26,7 @@ use Rattle.fam_protocol.specs.After.{Run}
 use Rattle.fam_protocol.specs.Invariant.{Known, Invariant, solo, held_file}
 use Rattle.fam_refuted.proofs.Runs.{are_here, ran_on}
 use Rattle.fam_refuted.proofs.Appends.{all_drops, appends_answers, master_is, reader_is, run_at, invariant_answers, invariant_drops, invariant_fetches, invariant_named, with_run}
-use Rattle.fam_refuted.specs.Refused.{Step, Does, Transfers, at_slots, is_drop, Scene, Begins, RanSteps, Misreads, Misses, TearsEntry, AnswersSettled, IsPublished, IsWrong, all_by, appends, drops, drops_early, fetches, fetches_gate, fetches_slot, gate_first, history, keeps_gate, keeps_slots, next, old_history, reads_gate, reads_slot, reads_well, sends_gate, sends_late, slot_lines, stores_gate, without_drops, writes_slot}
+use Rattle.fam_refuted.specs.Refused.{Step, Does, Transfers, at_slots, is_drop, Scene, Begins, RanSteps, Misleads, Misreads, Misses, TearsEntry, AnswersSettled, IsPublished, IsWrong, all_by, answers_early, appends, drops, drops_early, drops_gate, fetches, fetches_gate, fetches_slot, gate_first, history, keeps_gate, keeps_slots, next, old_history, reads_gate, reads_slot, reads_well, sends_gate, sends_late, slot_lines, stores_gate, without_drops, writes_slot}
 use Rattle.fam_protocol.proofs.Lines.Apart.{last_member, line_behind, slot_no_file}
 use Rattle.fam_machine.proofs.WideLines.{eight_whole}
 use Rattle.fam_protocol.proofs.Lines.Publish.{slot_of_parts}
@@ -400,4 +400,26 @@ module _ (c : Scene) where
           after = last.after;
           ended = ran_as (ask_gate ∷ send ∷ []) read.after w (sends_late c) [] last refl refl;
           published = published last.after (λ j there. last.shown.words (Slot j) there) (last.shown.words Gate tt);
+        }
+
+    -- The answer comes before the gate is sent.
+
+    abbrev put_unfenced : List Phase
+    put_unfenced = put_data ∷ put_slot ∷ send ∷ put_gate ∷ []
+
+    unfenced_steps : steps_of_all c.params (next c) host two put_unfenced ≡ answers_early c
+    unfenced_steps = sym (split_at c.master (data_ops c.entry (content_of c.cmd)) (writes_slot c) (Fence ∷ stores_gate c ++ WriteBack (line_no gate_line) ∷ []))
+
+    pub early_answer : Misleads c (answers_early c) (drops_gate c)
+    early_answer =
+        let first : Goes put_unfenced (solo c.image) at_first = pass_all c.params (next c) host two put_unfenced (solo c.image) at_first shown (data_elsewhere, ((λ j. refl), (tt, (refl, tt)))) in
+        let v = then_all put_unfenced at_first in
+        let went : Goes (read_gate ∷ []) first.after v = pass_all c.params (next c) host two (read_gate ∷ []) first.after v first.shown (refl, tt) in
+        record {
+          middle = first.after;
+          began = ran_as put_unfenced (solo c.image) at_first (answers_early c) [] first unfenced_steps refl;
+          gate = next c;
+          after = went.after;
+          ran = ran_as (read_gate ∷ []) first.after v (drops_gate c) (next c ∷ []) went refl (ap (λ (gate : ℕ). gate ∷ []) old_gate);
+          low = omega arith;
         }

@@ -1,4 +1,4 @@
--- Four protocols that look right and aren't, each with a run in which a reader is given something wrong. docs/MODEL.md,
+-- Five protocols that look right and aren't, each with a run in which a reader is given something wrong. docs/MODEL.md,
 -- "The protocol".
 use Rattle.std.specs.Prelude.{ℕ, ◌≡◌, ◌≢◌, ◌+◌, ◌*◌, ◌<◌, ◌≤◌, not, Bool, true, false, List, [], ◌∷◌, ◌++◌, length, map, filter, flat_map, slice_get, Option, Some, None, Ok}
 use Rattle.std.specs.List.{range_with_len}
@@ -149,7 +149,7 @@ drops ops = filter is_drop ops
 abbrev pub without_drops : List Op → List Op
 without_drops ops = filter (λ op. not (is_drop op)) ops
 
--- The four runs: what happens before the reader loads the gate, and how it reads from then on.
+-- The five runs: what happens before the reader loads the gate, and how it reads from then on.
 
 -- the reader drops each slot of the log, and an early fetch brings the new entry's slot back as it was
 abbrev pub drops_early : Scene → List Step
@@ -183,6 +183,14 @@ reads_well c = all_by c.reader (reads_gate ++ at_slots (reads_slot c) (next c + 
 -- and the master goes on to its end: the fence sends the slot
 abbrev pub sends_late : Scene → List Step
 sends_late c = all_by c.master sends_gate
+
+-- the master writes back the gate, and answers at once, without a fence behind it
+abbrev pub answers_early : Scene → List Step
+answers_early c = all_by c.master (data_ops c.entry (content_of c.cmd) ++ writes_slot c ++ Fence ∷ stores_gate c ++ WriteBack (line_no gate_line) ∷ [])
+
+-- the reader drops the gate's line before it loads the gate, as it should
+abbrev pub drops_gate : Scene → List Step
+drops_gate c = all_by c.reader reads_gate
 
 -- What comes of them.
 
@@ -231,6 +239,16 @@ pub record Misses (c : Scene) (before reads : List Step) : Type 0 where
   pub middle : SharedState
   pub began : RanSteps before [] (solo c.image) middle
   pub answered : AnswersSettled c middle
+  pub gate : ℕ
+  pub after : SharedState
+  pub ran : RanSteps reads (gate ∷ []) middle after
+  pub low : gate < settled_by_answer c
+
+-- this may happen from the image and empty caches, and a master that did so has answered. Then the reader may read so, and
+-- it is given a gate below what that answer settles
+pub record Misleads (c : Scene) (before reads : List Step) : Type 0 where
+  pub middle : SharedState
+  pub began : RanSteps before [] (solo c.image) middle
   pub gate : ℕ
   pub after : SharedState
   pub ran : RanSteps reads (gate ∷ []) middle after
