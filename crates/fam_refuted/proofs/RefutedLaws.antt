@@ -408,7 +408,7 @@ module _ (c : Scene) where
     put_unfenced = put_data ∷ put_slot ∷ send ∷ put_gate ∷ []
 
     unfenced_steps : steps_of_all c.params (next c) host two put_unfenced ≡ answers_early c
-    unfenced_steps = sym (split_at c.master (data_ops c.entry (content_of c.cmd)) (writes_slot c) (Fence ∷ stores_gate c ++ WriteBack (line_no gate_line) ∷ []))
+    unfenced_steps = sym (split_at c.master (data_ops c.entry (content_of c.cmd)) (writes_slot c) (Fence ∷ Store (line_no gate_line) 0 (next c + 1) ∷ WriteBack (line_no gate_line) ∷ []))
 
     pub early_answer : Misleads c (answers_early c) (drops_gate c)
     early_answer =

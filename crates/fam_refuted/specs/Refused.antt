@@ -186,7 +186,7 @@ sends_late c = all_by c.master sends_gate
 
 -- the master writes back the gate, and answers at once, without a fence behind it
 abbrev pub answers_early : Scene → List Step
-answers_early c = all_by c.master (data_ops c.entry (content_of c.cmd) ++ writes_slot c ++ Fence ∷ stores_gate c ++ WriteBack (line_no gate_line) ∷ [])
+answers_early c = all_by c.master (data_ops c.entry (content_of c.cmd) ++ writes_slot c ++ Fence ∷ Store (line_no gate_line) 0 (next c + 1) ∷ WriteBack (line_no gate_line) ∷ [])
 
 -- the reader drops the gate's line before it loads the gate, as it should
 abbrev pub drops_gate : Scene → List Step
