@@ -1,6 +1,8 @@
 pub mod InOrder
 pub mod HeldLemmas
 pub mod CountLemmas
+pub mod AskedLines
+pub mod Fenced
 pub mod MemoryLemmas
 pub mod SpotLemmas
 pub mod StoreLemmas

@@ -16,7 +16,7 @@ Places = List (ℕ × Cell)
 abbrev pub normal : Cell → Cell
 normal Absent = Absent
 normal (Clean words) = Clean (eight words)
-normal (Dirty words) = Dirty (eight words)
+normal (Dirty a words) = Dirty a (eight words)
 
 -- the cache that the places stand for
 abbrev pub cache_of : Places → Cache
@@ -65,7 +65,7 @@ is_gap (Gap at) = true
 abbrev pub is_absent : Cell → Bool
 is_absent Absent = true
 is_absent (Clean words) = false
-is_absent (Dirty words) = false
+is_absent (Dirty a words) = false
 
 -- the last place is absent
 pub record EndsAbsent (places : Places) : Type 0 where
