@@ -1,5 +1,5 @@
 -- The lines that a fence sends, among the places.
-use Rattle.std.proofs.Common.{◌≡◌, ℕ, suc, ◌+◌, ◌<◌, ◌≤◌, Bool, true, false, cond, [], ◌∷◌, ◌++◌, List, length, get_or, set, take, drop, map, refl, sym, ap, ◌∙◌, arith}
+use Rattle.std.proofs.Common.{◌≡◌, ℕ, zero, suc, ◌+◌, ◌<◌, ◌≤◌, Bool, true, false, cond, [], ◌∷◌, ◌++◌, List, length, get_or, set, take, drop, map, refl, sym, ap, ◌∙◌, arith}
 use Rattle.std.specs.List.{filter}
 use Rattle.std.proofs.lemmas.List.{get_or_default, take-append-drop, take_more, take_more_set, take_all, drop_more, drop-set-lt}
 use Rattle.std.specs.Ordering.{nat_cmp}
@@ -9,7 +9,7 @@ use Rattle.fam_machine.specs.declared.cell.Cell.TheVariants.{Absent, Clean, Dirt
 use Rattle.fam_machine.specs.Caches.{CachedLine, asked_lines, is_marked_asked}
 use Rattle.fam_machine.specs.OneLine.{cleaned, is_asked}
 use Rattle.fam_machine.proofs.DirtyLemmas.{Lines}
-use Rattle.fam_cache.specs.Places.{IsPlaceOf, Places, normal, cache_of, no_place}
+use Rattle.fam_cache.specs.Places.{IsPlaceOf, Places, normal, cache_of, copy_in_place, no_place}
 use Rattle.fam_cache.proofs.InOrder.{stands_here}
 use Rattle.fam_cache.proofs.CountLemmas.{entries_of, lines_behind, lines_of}
 
@@ -54,7 +54,7 @@ unfolding asked_of
 asked_append [] fs = refl
 asked_append (e ∷ es) fs = append_first (is_asked e.1) e.0 (asked_of (es ++ fs)) (asked_of es) (asked_of fs) (asked_append es fs)
 
-asked_split : (es : Places) (at : ℕ) → asked_of (take at es) ≡ [] → asked_of es ≡ asked_of (drop at es)
+pub asked_split : (es : Places) (at : ℕ) → asked_of (take at es) ≡ [] → asked_of es ≡ asked_of (drop at es)
 asked_split es at none =
     sym (ap asked_of (take-append-drop at es)) ∙ asked_append (take at es) (drop at es) ∙ ap (λ (ls : List ℕ). ls ++ asked_of (drop at es)) none
 
@@ -120,3 +120,24 @@ module _ (es new : Places) (at : ℕ) (y : ℕ × Cell) (copy : Cell) (within : 
 -- behind the last place no line is asked
 pub none_left : (es : Places) (at : ℕ) → is_sorted nat_cmp es ≡ true → length es ≤ at → asked_of (take at es) ≡ [] → asked_lines (cache_of es) ≡ []
 none_left es at sorted past none = asked_places es sorted ∙ none_at_all es at past none
+
+-- Where the copies aren't asked, in some places.
+
+none_in : (es : Places) → ((j : ℕ) → j < length es → is_asked (copy_in_place es j) ≡ false) → asked_of es ≡ []
+unfolding asked_of
+none_in [] all = refl
+none_in (e ∷ es) all =
+    ap (λ (b : Bool). cond b (e.0 ∷ asked_of es) (asked_of es)) (all 0 (omega arith)) ∙ none_in es (λ j inside. all (suc j) (omega (arith, inside)))
+
+pub none_before : (es : Places) (at : ℕ) → ((j : ℕ) → j < at → j < length es → is_asked (copy_in_place es j) ≡ false) → asked_of (take at es) ≡ []
+unfolding asked_of
+none_before es zero all = refl
+none_before [] (suc at) all = refl
+none_before (e ∷ es) (suc at) all =
+    ap (λ (b : Bool). cond b (e.0 ∷ asked_of (take at es)) (asked_of (take at es))) (all 0 (omega arith) (omega arith))
+    ∙ none_before es at (λ j up inside. all (suc j) (omega (arith, up)) (omega (arith, inside)))
+
+pub none_behind : (es : Places) (at : ℕ) → ((j : ℕ) → at ≤ j → j < length es → is_asked (copy_in_place es j) ≡ false) → asked_of (drop at es) ≡ []
+none_behind es zero all = none_in es (λ j inside. all j (omega arith) inside)
+none_behind [] (suc at) all = none_of_none
+none_behind (e ∷ es) (suc at) all = none_behind es at (λ j from inside. all (suc j) (omega (arith, from)) (omega (arith, inside)))

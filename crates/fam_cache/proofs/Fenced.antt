@@ -56,7 +56,7 @@ clean_more [] l cache = refl
 clean_more (x ∷ lines) l cache = clean_more lines l (cell_changed x cleaned cache)
 
 -- what is sent is clean
-sent_cleaned : (lines : List ℕ) (m : Machine) → (send_lines lines m).cache ≡ cleaned_lines lines m.cache
+pub sent_cleaned : (lines : List ℕ) (m : Machine) → (send_lines lines m).cache ≡ cleaned_lines lines m.cache
 sent_cleaned [] m = refl
 sent_cleaned (x ∷ lines) m = sent_cleaned lines (send_line x m)
 

@@ -3,6 +3,7 @@ pub mod HeldLemmas
 pub mod CountLemmas
 pub mod AskedLines
 pub mod Fenced
+pub mod AskedRange
 pub mod MemoryLemmas
 pub mod SpotLemmas
 pub mod StoreLemmas

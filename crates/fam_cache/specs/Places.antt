@@ -4,7 +4,8 @@ use Rattle.std.specs.FinMap as map
 use Rattle.fam_base.specs.Image.{eight}
 use Rattle.fam_machine.specs.declared.cell.Cell.{Cell}
 use Rattle.fam_machine.specs.declared.cell.Cell.TheVariants.{Absent, Clean, Dirty}
-use Rattle.fam_machine.specs.Caches.{Cache, with_cell}
+use Rattle.fam_machine.specs.Caches.{Cache, cell_at, with_cell}
+use Rattle.fam_machine.specs.OneLine.{IsAsked}
 use Rattle.fam_cache.specs.declared.places.Spot.{Spot}
 use Rattle.fam_cache.specs.declared.places.Spot.TheVariants.{Place, Gap}
 
@@ -71,3 +72,8 @@ is_absent (Dirty a words) = false
 pub record EndsAbsent (places : Places) : Type 0 where
   pub some : 0 < length places
   pub absent : is_absent (copy_in_place places (length places - 1)) ≡ true
+
+-- every asked line lies between these two
+pub record AskedWithin (first last : ℕ) (cache : Cache) : Type 0 where
+  pub low : (line : ℕ) → IsAsked (cell_at cache line) → first ≤ line
+  pub high : (line : ℕ) → IsAsked (cell_at cache line) → line ≤ last

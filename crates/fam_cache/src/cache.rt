@@ -16,13 +16,14 @@ ghost use Rattle.fam_media.specs.Causes.{HasCause, IsSteady, Rose};
 ghost use Rattle.fam_media.specs.Outside.{IfModelled, IsTorn};
 ghost use Rattle.fam_cache.specs.Effects.{FailsTo, FromMemory};
 ghost use Rattle.fam_cache.specs.Operations.{CleansSome, cleaned_lines, rest_stored};
-ghost use Rattle.fam_cache.specs.Places.{IsPlaceOf, IsSpot, cache_of, copy_in_place};
+ghost use Rattle.fam_cache.specs.Places.{AskedWithin, IsPlaceOf, IsSpot, cache_of, copy_in_place};
 
 use crate::copies::{fetch_copy, leak_copy, send_copy};
 use crate::fault::{CacheFault, FenceFailed};
 use crate::places::{
-    Spot, ask_copy, clean_place, copy, dirty_lines_of, drop_copy, held_at, held_line, held_word,
-    is_asked_copy, make_room, place_of, put_copy, seek, seek_next, set_rest, set_word, word_at,
+    Spot, ask_copy, bisect, clean_place, copy, dirty_lines_of, drop_copy, held_at, held_line,
+    held_word, is_asked_copy, make_room, place_of, put_copy, seek, seek_next, set_rest, set_word,
+    word_at,
 };
 use crate::renewal::{bring_to_gap, renew_in_place};
 use fam_base::{Line, LineNo, Mask, OutOfMemory};
@@ -199,10 +200,16 @@ fn send_place<M: Media>(
     }
 }
 
-/// Sends each line that was asked for, in the order of their numbers. Where the media fails, those before that line were
-/// sent.
-fn send_asked<M: Media>(places: &mut Vec<(u64, Cell)>, media: &mut M) -> Result<(), FenceFailed>
+/// Sends each line that was asked for, in the order of their numbers: none of them lies before `first` or behind `last`.
+/// Where the media fails, those before that line were sent.
+fn send_asked<M: Media>(
+    places: &mut Vec<(u64, Cell)>,
+    media: &mut M,
+    first: u64,
+    last: u64,
+) -> Result<(), FenceFailed>
     requires sorted { IsTrue (is_sorted nat_cmp places.old.items) }
+    requires range { AskedWithin first last (cache_of places.old.items) }
     requires within { (line : ℕ) → IsAsked (cell_at (cache_of places.old.items) line) → line < M.size media.old }
 
     ensures operated { OnOk result (IfModelled (M.image media.old) (λ image. IsMachine
@@ -224,8 +231,11 @@ fn send_asked<M: Media>(places: &mut Vec<(u64, Cell)>, media: &mut M) -> Result<
     ensures capacity { vec_capacity places.new ≡ vec_capacity places.old }
     ensures len { vec_len places.new ≡ vec_len places.old }
 {
-    let mut at = 0;
+    let mut at = bisect(places, first);
     while at < places.len() {
+        if last < places[at].0 {
+            return Ok(());
+        }
         if is_asked_copy(&places[at].1) {
             let line = LineNo(places[at].0);
             match send_place(places, at, media, line) {
@@ -314,13 +324,16 @@ pub struct HostCache {
     places: Vec<(u64, Cell)>,
     /// The place of the last access, or any number: the next line is looked for there first.
     last: usize,
+    /// No line before this one is asked for, and none behind the other one.
+    first_asked: u64,
+    last_asked: u64,
 }
 
 impl Model for HostCache {
     ghost use Rattle.std.specs.Prelude.{IsTrue, ◌-◌, vec_len, vec_capacity};
     ghost use Rattle.std.specs.Ordering.{nat_cmp};
     ghost use Rattle.std.specs.FinMap.{is_sorted};
-    ghost use Rattle.fam_cache.specs.Places.{cache_of};
+    ghost use Rattle.fam_cache.specs.Places.{AskedWithin, cache_of};
     ghost use Rattle.fam_cache.specs.States.{CacheState, state_code};
 
     ghost Value = { CacheState };
@@ -329,7 +342,8 @@ impl Model for HostCache {
 
     ghost view = { λ c. record { lines = cache_of c.places.items; spare = vec_capacity c.places - vec_len c.places } };
 
-    ghost invariant = { λ c. IsTrue (is_sorted nat_cmp c.places.items) };
+    ghost invariant = { λ c. (IsTrue (is_sorted nat_cmp c.places.items))
+        × (AskedWithin c.first_asked c.last_asked (cache_of c.places.items)) };
 }
 
 impl HostCache {
@@ -340,6 +354,8 @@ impl HostCache {
         HostCache {
             places: Vec::new(alloc),
             last: 0,
+            first_asked: u64::MAX,
+            last_asked: 0,
         }
     }
 
@@ -645,6 +661,8 @@ impl HostCache {
         let spot = seek(&self.places, self.last, line.0);
         ask_copy(&mut self.places, spot, line.0);
         self.last = place_of(spot);
+        self.first_asked = self.first_asked.min(line.0);
+        self.last_asked = self.last_asked.max(line.0);
     }
 
     /// Sends each line that was asked for whole to memory, in the order of their numbers, and makes it clean.
@@ -672,7 +690,14 @@ impl HostCache {
         ensures size { M.size media.new ≡ M.size media.old }
         ensures spare { self.new.spare ≡ self.old.spare }
     {
-        send_asked(&mut self.places, media)
+        match send_asked(&mut self.places, media, self.first_asked, self.last_asked) {
+            Ok(()) => {
+                self.first_asked = u64::MAX;
+                self.last_asked = 0;
+                Ok(())
+            }
+            Err(fault) => Err(fault),
+        }
     }
 
     /// Sends a dirty line whole to memory, and makes the line absent: no copy from before is read again.

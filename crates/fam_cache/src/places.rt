@@ -26,7 +26,7 @@ pub enum Spot {
 }
 
 /// The first place whose line isn't below this one, by bisection.
-fn bisect(places: &[(u64, Cell)], line: u64) -> usize
+pub(crate) fn bisect(places: &[(u64, Cell)], line: u64) -> usize
     requires { IsTrue (is_sorted nat_cmp places.now) }
     ensures within { result ≤ length places.now }
     ensures before { Before places.now result line }
