@@ -193,12 +193,12 @@ module _ (cmd : Cmd) (image : Image) (p : Params) (n : ℕ) (e : Entry) (sound :
     writes_on at.FenceSlot floor a gate is =
         on at.StoreGate (operated Fence m) is
         (λ l none other.
-            let was = others l none other in
-            let same = fence_away m l (clean_unasked (cell_at m.cache l) was.1) in (same.0 ∙ was.0, subst IsCleanCell (sym same.1) was.1)) (
-          let same = fence_away m gate_line (fresh_unasked (line_at m.image gate_line) (cell_at m.cache gate_line) gate.1) in (
-            same.0 ∙ gate.0,
-            subst (λ (w : List ℕ). Fresh w (cell_at (operated Fence m).cache gate_line)) (sym same.0) (subst (Fresh (line_at m.image gate_line)) (sym same.1) gate.1),
-          )
+        let was = others l none other in
+        let same = fence_away m l (clean_unasked (cell_at m.cache l) was.1) in (same.0 ∙ was.0, subst IsCleanCell (sym same.1) was.1)) (
+        let same = fence_away m gate_line (fresh_unasked (line_at m.image gate_line) (cell_at m.cache gate_line) gate.1) in (
+          same.0 ∙ gate.0,
+          subst (λ (w : List ℕ). Fresh w (cell_at (operated Fence m).cache gate_line)) (sym same.0) (subst (Fresh (line_at m.image gate_line)) (sym same.1) gate.1),
+        )
         )
     writes_on at.SendGate floor a gate is =
         on at.FenceGate (operated (op_at t at.SendGate) m) is (λ l none other. away (λ w c. (w ≡ line_at image l) × IsCleanCell c) (op_at t at.SendGate) m gate_line l refl other (others l none other)) (

@@ -132,9 +132,10 @@ decided_told kept cmd me lines t words made joined stands is reads =
     let here : TieAt at.Decide t words made = subst (λ (p : Phase). TieAt p t words made) is tied.tie in
     let slots : TaskSlots t words t.gate = subst (λ (n : ℕ). TaskSlots t words n) (below_gate t reads) here.0 in
     let params : params_or no_params (fed_super words t.lines) ≡ t.params = ap (params_or no_params) here.0.gated.log.head.super in
-    let entries : told_entries (used_told t.kept t.cmd words t.lines) words t.lines ≡ t.entries = told_are t.kept t.cmd t.me t.lines t.params t.gate t.entries t.survey words reads slots in
-    (sym params ∙ ap (λ (l : ℕ). params_or no_params (fed_super words l)) tied.lines_is,
-    sym entries ∙ ap (λ (k : Option Kept). told_entries (used_told k t.cmd words t.lines) words t.lines) tied.kept_is ∙ ap (λ (c : Cmd). told_entries (used_told kept c words t.lines) words t.lines) tied.cmd_is ∙ ap (λ (l : ℕ). told_entries (used_told kept cmd words l) words l) tied.lines_is)
+    let entries : told_entries (used_told t.kept t.cmd words t.lines) words t.lines ≡ t.entries = told_are t.kept t.cmd t.me t.lines t.params t.gate t.entries t.survey words reads slots in (
+      sym params ∙ ap (λ (l : ℕ). params_or no_params (fed_super words l)) tied.lines_is,
+      sym entries ∙ ap (λ (k : Option Kept). told_entries (used_told k t.cmd words t.lines) words t.lines) tied.kept_is ∙ ap (λ (c : Cmd). told_entries (used_told kept c words t.lines) words t.lines) tied.cmd_is ∙ ap (λ (l : ℕ). told_entries (used_told kept cmd words l) words l) tied.lines_is,
+    )
 
 -- On a host that keeps nothing.
 

@@ -100,13 +100,7 @@ fn append_breaks(
     let mut media = holding(alloc, &[directory(b"a")?])?;
     media.fail(HOLDING_CALLS.wrapping_add(number), Mask(mask))?;
     let want = format!(in alloc; "media fault {line}\n")?;
-    if !shows(
-        alloc,
-        &mut media,
-        words,
-        Status::MediaFault,
-        want.as_str(),
-    )? {
+    if !shows(alloc, &mut media, words, Status::MediaFault, want.as_str())? {
         return Ok(false);
     }
     shows(alloc, &mut media, "logplay img", Status::Done, left)
