@@ -81,13 +81,12 @@ held_fits x z n h lines fits =
 
 -- and its lines are still those of the media
 run_below : (t next : Task) (held after : Cache) {n : ℕ} (lines : ℕ) → HeldRun t held next after n → t.lines ≡ lines → ((l : ℕ) → IsHeld (cell_at held l) → l < lines) → (l : ℕ) → IsHeld (cell_at after l) → l < lines
-run_below t _ held _ lines run.none fits below = below
+run_below t _ held _ lines run.none fits below l is_held = below l is_held
 run_below t next held after lines (run.more {mid = mid} {now = now} before sound within of is turn) fits below l is_held =
-    by (lines_held (op_of mid) lines None now after (subst (λ (n : ℕ). IsWithin n (op_of mid)) (held_lines t mid held now before ∙ fits) within) (held_leaves (op_of mid) None now after of is) l is_held)
-  where
-    by : (l < lines) ⊎ IsHeld (cell_at now l) → l < lines
-    by (inl less) = less
-    by (inr was) = run_below t mid held now lines before fits below l was
+    elim (lines_held (op_of mid) lines None now after (subst (λ (n : ℕ). IsWithin n (op_of mid)) (held_lines t mid held now before ∙ fits) within) (held_leaves (op_of mid) None now after of is) l is_held) [
+      | inl less ↦ less
+      | inr was ↦ run_below t mid held now lines before fits below l was
+    ]
 
 pub held_cached : (x z : Host) (n : ℕ) → HeldHost x z n → (lines : ℕ) → TaskFits lines x.task → CacheFits lines x.cache → CacheFits lines z.cache
 held_cached x z n h lines fits was =

@@ -1,6 +1,6 @@
 -- What a task says of an operation, as notes and as its turn.
-use Rattle.std.proofs.Common.{◌≡◌, ◌≢◌, ◌⊎◌, ℕ, ◌<◌, ◌≤◌, ◌++◌, ◌∷◌, [], inl, inr, Bool, true, List, Option, Some, None, refl, ap, sym, ◌∙◌, subst}
-use Rattle.std.specs.Prelude.{IfSome, is_some, unwrap_or, option_map}
+use Rattle.std.proofs.Common.{◌≡◌, ◌≢◌, ◌⊎◌, ℕ, ◌<◌, ◌≤◌, ◌++◌, ◌∷◌, [], inl, inr, Bool, true, List, Option, Some, None, Result, Ok, Err, refl, ap, sym, ◌∙◌, subst}
+use Rattle.std.specs.Prelude.{IfErr, IfSome, OnErr, is_some, unwrap_or, option_map}
 use Rattle.std.specs.List.{list_any}
 use Rattle.std.proofs.lemmas.Bool.{cases_eq}
 use Rattle.fam_base.specs.declared.line.LineNo.{LineNo}
@@ -17,8 +17,8 @@ use Rattle.fam_machine.proofs.CacheLemmas.{cell_at-with_cell_same}
 use Rattle.fam_cache.specs.declared.fault.OperationFault.{OperationFault}
 use Rattle.fam_cache.specs.declared.fault.OperationFault.TheVariants as operation_fault
 use Rattle.fam_cache.specs.Faults.{IfMediaFault}
-use Rattle.fam_cache.specs.Operations.{LeavesCache, word_of}
-use Rattle.fam_cache.proofs.Performed.{cleaned_held, others_left}
+use Rattle.fam_cache.specs.Operations.{LeavesCache, LeavesFailed, word_of}
+use Rattle.fam_cache.proofs.Performed.{cleaned_held, left_held, others_left}
 use Rattle.fam_cache.proofs.StoreLemmas.{brought_words}
 use Rattle.fam_commands.specs.Stands.{note_of, task_after, turn_given}
 use Rattle.fam_commands.specs.Task.{Task, op_of}
@@ -228,6 +228,18 @@ step_lost at t a line f mid is e joined host later task broken =
     step_cut at t a line joined host later task b.held
     (subst (λ (o : Option Task). IfSome o (λ t. IfModelled a.told (λ image. HasFailed (op_of t) (machine image a.old.cache) line a.now a.new.cache))) e b.failed)
     b.rose
+
+-- the media failed in an operation of a task
+pub broken_by : (a : OnTask) (t next : Task) (r : Result Turn OperationFault) → a.task ≡ Some t → a.next ≡ Some next → OnErr r (next ≡ t) → OnErr r (LeavesFailed (op_of t) a.old a.new)
+    → IfErr r (λ f. IfMediaFault f (λ line. IfModelled a.told (λ image. HasFailed (op_of t) (machine image a.old) line a.now a.new))) → IfErr r (λ f. IfMediaFault f (λ line. Rose a.faults a.faults_now)) → IfErr r (λ f. IfMediaFault f (IsBroken a))
+broken_by a t next (Ok turn) is next_is same left fails rose = tt
+broken_by a t next (Err operation_fault.OutOfMemory) is next_is same left fails rose = tt
+broken_by a t next (Err (operation_fault.MediaFault line)) is next_is same left fails rose = record {
+  task = next_is ∙ ap Some same ∙ sym is;
+  held = left_held (op_of t) a.old a.new left;
+  failed = subst (λ (o : Option Task). IfSome o (λ t. IfModelled a.told (λ image. HasFailed (op_of t) (machine image a.old) line a.now a.new))) (sym is) fails;
+  rose = rose;
+}
 
 -- What came of an operation that looks at what was read.
 

@@ -9,7 +9,7 @@ use Rattle.fam_media.specs.Outside.{IfModelled}
 use Rattle.fam_machine.specs.Caches.{Cache, cell_at}
 use Rattle.fam_machine.specs.Cuts.{HasFailed, IsMachine}
 use Rattle.fam_machine.specs.OneLine.{IsHeld}
-use Rattle.fam_machine.specs.Operations.{Machine, failed, machine, operated}
+use Rattle.fam_machine.specs.Operations.{Breaking, Machine, failed, machine, operated}
 use Rattle.fam_commands.specs.Stands.{StandsFor, note_of, task_after, turn_given}
 use Rattle.fam_commands.specs.Table as row
 use Rattle.fam_commands.specs.Task.{Task, op_of}
@@ -80,7 +80,7 @@ module _ (state : Machines) (h : ℕ) (host : HostState) (host_is : slice_get st
   op_is : next_op s (length state.memory) ≡ Some (op_of t)
   op_is = operation_from_start s.cmd s.me (length state.memory) t s.words s.made standing
 
-  pub row_cut : (through : ℕ) (line : LineNo) (left : Machine) → failed through (op_of t) (machine_of state host) ≡ Some (record { line = line; left = left })
+  pub row_cut : (through : Breaking) (line : LineNo) (left : Machine) → failed through (op_of t) (machine_of state host) ≡ Some (record { line = line; left = left })
       → operation (Fails through) h state ≡ Some (record { notes = Answered h (MediaFault line.0) ∷ []; left = with_machine h left None state })
   unfolding operation
   row_cut through line left fails =
