@@ -8,6 +8,7 @@ _famfs_options() {
         creat) echo "-s --size -S --seed -m --mode -u --uid -g --gid -N --nstrips -B --nbuckets -C --chunksize --system" ;;
         cp) echo "-m --mode -u --uid -g --gid -N --nstrips -B --nbuckets -C --chunksize --system" ;;
         verify) echo "-S --seed --source --system" ;;
+        logplay) echo "--shadow --system" ;;
         storm) echo "-p --print" ;;
         script) ;;
         *) echo "--system" ;;
