@@ -1,22 +1,47 @@
 # Completes the words of famfs and mkfs.famfs in bash.
 
-# the options of a command
+# the options of a command, each with its other name behind a comma
 _famfs_options() {
     case $1 in
-        mkfs) echo "-u --unit -l --loglen -f --force --uuid --system" ;;
-        mkdir) echo "-p --parents -m --mode -u --uid -g --gid --system" ;;
-        creat) echo "-s --size -S --seed -m --mode -u --uid -g --gid -N --nstrips -B --nbuckets -C --chunksize --system" ;;
-        cp) echo "-m --mode -u --uid -g --gid -N --nstrips -B --nbuckets -C --chunksize --system" ;;
-        verify) echo "-S --seed --source --system" ;;
+        mkfs) echo "-u,--unit -l,--loglen -f,--force --uuid --system" ;;
+        mkdir) echo "-p,--parents -m,--mode -u,--uid -g,--gid --system" ;;
+        creat) echo "-s,--size -S,--seed -m,--mode -u,--uid -g,--gid -N,--nstrips -B,--nbuckets -C,--chunksize --system" ;;
+        cp) echo "-m,--mode -u,--uid -g,--gid -N,--nstrips -B,--nbuckets -C,--chunksize --system" ;;
+        verify) echo "-S,--seed --source --system" ;;
+        storm) echo "-p,--print" ;;
         logplay) echo "--shadow --system" ;;
-        storm) echo "-p --print" ;;
-        script) ;;
-        *) echo "--system" ;;
+        read | check | fsck) echo "--system" ;;
     esac
 }
 
+# whether an option takes no value
+_famfs_is_flag() {
+    case $1-$2 in
+        mkfs--f | mkfs---force | mkdir--p | mkdir---parents | storm--p | storm---print) return 0 ;;
+    esac
+    return 1
+}
+
+# what the words behind a command are, in order
+_famfs_places() {
+    case $1 in
+        mkfs | logplay | fsck) echo "file" ;;
+        mkdir | creat | verify) echo "file path" ;;
+        cp) echo "file file path" ;;
+        read) echo "file path none none" ;;
+        check | script) echo "file file" ;;
+        storm) echo "none none file" ;;
+    esac
+}
+
+# the paths inside an image
+_famfs_paths() {
+    [ -f "$1" ] || return
+    famfs logplay "$1" 2>/dev/null | awk 'NR > 1 { print $7 }'
+}
+
 _famfs() {
-    local word=${COMP_WORDS[COMP_CWORD]} name=${COMP_WORDS[0]##*/} command=mkfs
+    local word=${COMP_WORDS[COMP_CWORD]} name=${COMP_WORDS[0]##*/} command=mkfs first=1
     COMPREPLY=()
     if [ "$name" = famfs ]; then
         if [ "$COMP_CWORD" = 1 ]; then
@@ -24,13 +49,50 @@ _famfs() {
             return
         fi
         command=${COMP_WORDS[1]}
+        first=2
     fi
-    case $word in
-        -*) mapfile -t COMPREPLY < <(compgen -W "$(_famfs_options "$command")" -- "$word") ;;
-        *)
+    local at given="" place=0 waits="" behind="" image="" pair
+    for ((at = first; at < COMP_CWORD; at++)); do
+        local before=${COMP_WORDS[at]}
+        if [ -n "$waits" ] && [ "$before" != = ]; then
+            waits=""
+        elif [ "$before" = = ]; then
+            continue
+        elif [ -z "$behind" ] && [ "$before" = -- ]; then
+            behind=yes
+        elif [ -z "$behind" ] && [[ $before == -?* ]]; then
+            given="$given $before"
+            _famfs_is_flag "$command" "$before" || waits=$before
+        else
+            [ $place != 0 ] || image=$before
+            place=$((place + 1))
+        fi
+    done
+    [ "$word" != = ] || word=""
+    if [ -n "$waits" ]; then
+        [ "$waits" != --source ] || { compopt -o filenames; mapfile -t COMPREPLY < <(compgen -f -- "$word"); }
+        return
+    fi
+    if [[ $word == -* ]] && [ -z "$behind" ]; then
+        local left=""
+        for pair in $(_famfs_options "$command"); do
+            case " $given " in
+                *" ${pair%,*} "* | *" ${pair#*,} "*) ;;
+                *) left="$left ${pair/,/ }" ;;
+            esac
+        done
+        mapfile -t COMPREPLY < <(compgen -W "$left" -- "$word")
+        return
+    fi
+    local places
+    read -ra places <<<"$(_famfs_places "$command")"
+    [ "$command" != storm ] || image=""
+    case ${places[place]-none} in
+        file)
             compopt -o filenames
             mapfile -t COMPREPLY < <(compgen -f -- "$word")
             ;;
+        path) mapfile -t COMPREPLY < <(compgen -W "$(_famfs_paths "$image")" -- "$word") ;;
     esac
 }
 

@@ -1,5 +1,5 @@
 -- Dirty places are as many as dirty lines.
-use Rattle.std.proofs.Common.{◌≡◌, ℕ, ◌+◌, true, cond, [], ◌∷◌, length, refl, sym, ap, ◌∙◌, arith}
+use Rattle.std.proofs.Common.{◌≡◌, ℕ, ◌+◌, true, false, cond, [], ◌∷◌, length, refl, sym, ap, ◌∙◌, arith}
 use Rattle.std.specs.Prelude.{count_by}
 use Rattle.std.proofs.lemmas.Bool.{and_parts}
 use Rattle.std.proofs.lemmas.List.Sums.{sum_by-cons}
@@ -13,7 +13,7 @@ use Rattle.std.specs.FinMap.Entries.{below_all, by_order}
 use Rattle.fam_machine.specs.declared.cell.Cell.{Cell}
 use Rattle.fam_machine.specs.declared.cell.Cell.TheVariants.{Absent, Clean, Dirty}
 use Rattle.fam_machine.specs.OneLine.{is_dirty}
-use Rattle.fam_machine.specs.Caches.{clean, dirty, CachedLine, with_cell, dirty_count}
+use Rattle.fam_machine.specs.Caches.{clean, unsent_mark, CachedLine, with_cell, dirty_count}
 use Rattle.fam_machine.proofs.CacheLemmas.{with_cell_own}
 use Rattle.fam_base.specs.Image.{eight}
 use Rattle.fam_cache.specs.Places.{Places, normal, cache_of, IsGap}
@@ -22,12 +22,12 @@ use Rattle.fam_machine.proofs.DirtyLemmas.{Lines, count_lines, count_first}
 use Rattle.fam_cache.proofs.InOrder.{below_at}
 
 -- the lines that places hold, in order
-lines_behind : ℕ → Cell → Lines → Lines
+unfoldable pub lines_behind : ℕ → Cell → Lines → Lines
 lines_behind k Absent rest = rest
 lines_behind k (Clean words) rest = (k, record { words = eight words; mark = clean }) ∷ rest
-lines_behind k (Dirty words) rest = (k, record { words = eight words; mark = dirty }) ∷ rest
+lines_behind k (Dirty a words) rest = (k, record { words = eight words; mark = unsent_mark a }) ∷ rest
 
-lines_of : Places → Lines
+unfoldable pub lines_of : Places → Lines
 lines_of [] = []
 lines_of (e ∷ es) = lines_behind e.0 e.1 (lines_of es)
 
@@ -35,7 +35,7 @@ below_behind : (x k : ℕ) (c : Cell) (rest : Lines) → is_lt (nat_cmp x k) ≡
 unfolding lines_behind
 below_behind x k Absent rest first behind = behind
 below_behind x k (Clean words) rest first behind = rw first behind
-below_behind x k (Dirty words) rest first behind = rw first behind
+below_behind x k (Dirty a words) rest first behind = rw first behind
 
 below_lines : (x : ℕ) (es : Places) → below_all nat_cmp x es ≡ true → below_all nat_cmp x (lines_of es) ≡ true
 unfolding lines_of
@@ -70,14 +70,14 @@ entries_with k Absent es sorted below same =
     ap finite.entries (ap (λ (c : Cell). with_cell k c (cache_of es)) (sym (cell_gap es k sorted 0 (first_gap k es below))) ∙ with_cell_own k (cache_of es)) ∙ same
 entries_with k (Clean words) es sorted below same =
     entries-insert nat_cmp_total (cache_of es) k _ ∙ ap (put nat_cmp k (record { words = eight words; mark = clean })) same ∙ put_prefix k _ (lines_of es) (below_lines k es below)
-entries_with k (Dirty words) es sorted below same =
-    entries-insert nat_cmp_total (cache_of es) k _ ∙ ap (put nat_cmp k (record { words = eight words; mark = dirty })) same ∙ put_prefix k _ (lines_of es) (below_lines k es below)
+entries_with k (Dirty a words) es sorted below same =
+    entries-insert nat_cmp_total (cache_of es) k _ ∙ ap (put nat_cmp k (record { words = eight words; mark = unsent_mark a })) same ∙ put_prefix k _ (lines_of es) (below_lines k es below)
 
 none_of : (lines : Lines) → length lines ≡ 0 → lines ≡ []
 none_of [] is = refl
 none_of (e ∷ lines) is = absurd (omega arith)
 
-entries_of : (es : Places) → is_sorted nat_cmp es ≡ true → finite.entries (cache_of es) ≡ lines_of es
+pub entries_of : (es : Places) → is_sorted nat_cmp es ≡ true → finite.entries (cache_of es) ≡ lines_of es
 unfolding lines_of
 entries_of [] sorted = none_of _ (sym (len-entries finite.empty) ∙ len-empty nat_cmp CachedLine)
 entries_of (e ∷ es) sorted =
@@ -88,7 +88,8 @@ count_behind : (k : ℕ) (c : Cell) (rest : Lines) → count_lines (lines_behind
 unfolding lines_behind
 count_behind k Absent rest = omega arith
 count_behind k (Clean words) rest = count_first (k, _) rest
-count_behind k (Dirty words) rest = count_first (k, _) rest
+count_behind k (Dirty false words) rest = count_first (k, _) rest
+count_behind k (Dirty true words) rest = count_first (k, _) rest
 
 count_of : (es : Places) → count_lines (lines_of es) ≡ count_by (λ (e : ℕ × Cell). is_dirty e.1) es
 unfolding lines_of count_lines

@@ -89,7 +89,7 @@ module _ (es : Places) (k : ℕ) (sorted : is_sorted nat_cmp es ≡ true) where
 absent_copy : (copy : Cell) → is_absent copy ≡ true → normal copy ≡ Absent
 absent_copy Absent is = refl
 absent_copy (Clean words) is = absurd (false≢true is)
-absent_copy (Dirty words) is = absurd (false≢true is)
+absent_copy (Dirty a words) is = absurd (false≢true is)
 
 absent_alone : (e : ℕ × Cell) → is_absent e.1 ≡ true → cache_of (e ∷ []) ≡ cache_of []
 absent_alone e is =
@@ -125,7 +125,7 @@ cell_read es k i x sorted at read =
 held_normal : (copy : Cell) → is_held (normal copy) ≡ is_held copy
 held_normal Absent = refl
 held_normal (Clean words) = refl
-held_normal (Dirty words) = refl
+held_normal (Dirty a words) = refl
 
 -- it is held where its place holds a copy
 pub held_read : (es : Places) (k i : ℕ) (x : ℕ × Cell) → is_sorted nat_cmp es ≡ true → IsPlaceOf es i k → x ≡ get_or es i x → true ≡ is_held x.1 → IsHeld (cell_at (cache_of es) k)
@@ -134,7 +134,7 @@ held_read es k i x sorted at read is = ap is_held (cell_read es k i x sorted at 
 unheld : (copy : Cell) → false ≡ is_held copy → normal copy ≡ Absent
 unheld Absent is = refl
 unheld (Clean words) is = absurd (false≢true is)
-unheld (Dirty words) is = absurd (false≢true is)
+unheld (Dirty a words) is = absurd (false≢true is)
 
 -- and absent where it holds none
 pub absent_read : (es : Places) (k i : ℕ) (x : ℕ × Cell) → is_sorted nat_cmp es ≡ true → IsPlaceOf es i k → x ≡ get_or es i x → false ≡ is_held x.1 → cell_at (cache_of es) k ≡ Absent
@@ -144,7 +144,7 @@ absent_read es k i x sorted at read is = cell_read es k i x sorted at read ∙ u
 pub dirty_normal : (copy : Cell) → is_dirty (normal copy) ≡ is_dirty copy
 dirty_normal Absent = refl
 dirty_normal (Clean words) = refl
-dirty_normal (Dirty words) = refl
+dirty_normal (Dirty a words) = refl
 
 -- an absent place that was taken from the end
 pub given_up : (es new : Places) (last : Option (ℕ × Cell)) (n : ℕ) → EndsAbsent es → n ≡ length es → es ≡ new ++ option_to_list last → last ≡ Some (get_or es (n - 1) no_place) → cache_of new ≡ cache_of es

@@ -1,6 +1,9 @@
 pub mod InOrder
 pub mod HeldLemmas
 pub mod CountLemmas
+pub mod AskedLines
+pub mod Fenced
+pub mod AskedRange
 pub mod MemoryLemmas
 pub mod SpotLemmas
 pub mod StoreLemmas

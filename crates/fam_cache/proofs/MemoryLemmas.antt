@@ -1,5 +1,5 @@
 -- What the calls of the media make of one line, as the machine says it.
-use Rattle.std.proofs.Common.{◌≡◌, ℕ, List, [], Option, Some, None, unwrap_or, refl, sym, ap, subst, ◌∙◌, lit<}
+use Rattle.std.proofs.Common.{Bool, ◌≡◌, ℕ, List, [], Option, Some, None, unwrap_or, refl, sym, ap, subst, ◌∙◌, lit<}
 use Rattle.std.specs.Option.{option_map}
 use Rattle.fam_base.specs.Image.{Image, eight, line_at, with_line, masked, with_masked, IsNormal}
 use Rattle.fam_base.proofs.ImageLemmas.{with_line-line_at}
@@ -34,12 +34,12 @@ from_any (Some image) line P all = record {
 held_stays : (copy : Cell) → IsHeld (normal copy) → (memory : List ℕ) → normal copy ≡ brought memory (normal copy)
 held_stays Absent is memory = absurd cc
 held_stays (Clean words) is memory = refl
-held_stays (Dirty words) is memory = refl
+held_stays (Dirty a words) is memory = refl
 
 dirty_stays : (copy : Cell) (mask : ℕ) → IsDirty (normal copy) → (memory : List ℕ) → normal copy ≡ fetched mask memory (normal copy)
 dirty_stays Absent mask is memory = absurd cc
 dirty_stays (Clean words) mask is memory = absurd cc
-dirty_stays (Dirty words) mask is memory = refl
+dirty_stays (Dirty a words) mask is memory = refl
 
 -- a held line is not brought
 pub held_kept : (modelled : Option Image) (line : ℕ) (copy : Cell) → IsHeld (normal copy) → FromMemory modelled line (λ memory. normal copy ≡ brought memory (normal copy))
@@ -49,7 +49,7 @@ held_kept modelled line copy is = from_any modelled line (λ memory. normal copy
 pub held_still : (cell : Cell) → IsHeld cell → (memory : List ℕ) → brought memory cell ≡ cell
 held_still Absent is memory = absurd cc
 held_still (Clean words) is memory = refl
-held_still (Dirty words) is memory = refl
+held_still (Dirty a words) is memory = refl
 
 -- to bring a held line changes nothing
 pub held_same : (modelled : Option Image) (line : ℕ) (cache : Cache) → IsHeld (cell_at cache line) → FromMemory modelled line (λ memory. cache ≡ cell_changed line (brought memory) cache)
@@ -94,17 +94,17 @@ leak_words : (image : Image) (line mask : ℕ) (words read new : List ℕ) → e
 unfolding masked
 leak_words image line mask words read new is_read new_is = new_is ∙ ap (masked mask (eight words)) is_read
 
-leaked_line : (modelled : Option Image) (line mask : ℕ) (words read new : List ℕ) → IfModelled modelled (λ lines. eight read ≡ line_at lines line) → new ≡ masked mask words read →
-    option_map (with_line line new) modelled ≡ option_map (line_changed line (λ memory. leaked mask memory (normal (Dirty words)))) modelled
-leaked_line None line mask words read new is_read new_is = refl
-leaked_line (Some image) line mask words read new is_read new_is =
+leaked_line : (a : Bool) (modelled : Option Image) (line mask : ℕ) (words read new : List ℕ) → IfModelled modelled (λ lines. eight read ≡ line_at lines line) → new ≡ masked mask words read →
+    option_map (with_line line new) modelled ≡ option_map (line_changed line (λ memory. leaked mask memory (normal (Dirty a words)))) modelled
+leaked_line a None line mask words read new is_read new_is = refl
+leaked_line a (Some image) line mask words read new is_read new_is =
     ap (λ (w : List ℕ). Some (with_line line w image)) (leak_words image line mask words read new (is_read image refl) new_is)
 
 -- a leak that was written
-pub leaked_image : (old between after : Option Image) (line mask : ℕ) (words read new : List ℕ) (copy : Cell) → between ≡ old → IfModelled old (λ lines. eight read ≡ line_at lines line) → new ≡ masked mask words read → copy ≡ Dirty words →
+pub leaked_image : {a : Bool} (old between after : Option Image) (line mask : ℕ) (words read new : List ℕ) (copy : Cell) → between ≡ old → IfModelled old (λ lines. eight read ≡ line_at lines line) → new ≡ masked mask words read → copy ≡ Dirty a words →
     after ≡ option_map (with_line line new) between → after ≡ option_map (line_changed line (λ memory. leaked mask memory (normal copy))) old
-leaked_image old between after line mask words read new copy same is_read new_is copy_is written =
-    written ∙ ap (option_map (with_line line new)) same ∙ leaked_line old line mask words read new is_read new_is
+leaked_image {a} old between after line mask words read new copy same is_read new_is copy_is written =
+    written ∙ ap (option_map (with_line line new)) same ∙ leaked_line a old line mask words read new is_read new_is
     ∙ sym (ap (λ (c : Cell). option_map (line_changed line (λ memory. leaked mask memory (normal c))) old) copy_is)
 
 torn_line : (image : Image) (line through : ℕ) (words : List ℕ) → with_masked line words through image ≡ with_line line (masked through (eight words) (line_at image line)) image
@@ -112,7 +112,7 @@ unfolding masked
 torn_line image line through words = refl
 
 -- a send that failed
-pub torn_send : (old after : Option Image) (line : ℕ) (words : List ℕ) (copy : Cell) → copy ≡ Dirty words → IsTorn old after line words →
+pub torn_send : {a : Bool} (old after : Option Image) (line : ℕ) (words : List ℕ) (copy : Cell) → copy ≡ Dirty a words → IsTorn old after line words →
     IfModelled old (λ image. FailsTo line (λ through memory. failed_send through memory (normal copy)) image after)
 torn_send old after line words copy copy_is torn image is = record {
   through = torn.mask;
@@ -129,7 +129,7 @@ torn_leak_line image line through mask words new new_is =
     ∙ ap (λ (w : List ℕ). with_line line (masked through w (line_at image line)) image) (ap eight new_is ∙ eight_masked_words mask (eight words) (line_at image line))
 
 -- a leak whose write failed
-pub torn_leak : (old between after : Option Image) (line mask : ℕ) (words read new : List ℕ) (copy : Cell) → between ≡ old → IfModelled old (λ lines. eight read ≡ line_at lines line) → new ≡ masked mask words read → copy ≡ Dirty words →
+pub torn_leak : {a : Bool} (old between after : Option Image) (line mask : ℕ) (words read new : List ℕ) (copy : Cell) → between ≡ old → IfModelled old (λ lines. eight read ≡ line_at lines line) → new ≡ masked mask words read → copy ≡ Dirty a words →
     IsTorn between after line new → IfModelled old (λ image. FailsTo line (λ through memory. failed_leak mask through memory (normal copy)) image after)
 torn_leak old between after line mask words read new copy same is_read new_is copy_is torn image is = record {
   through = torn.mask;
@@ -149,7 +149,7 @@ normal_modelled : (old : Option Image) (image : Image) → IsNormal old → old 
 normal_modelled old image known is = subst IsNormal is known
 
 -- a leak whose read failed
-pub unread_leak : (old after : Option Image) (line mask : ℕ) (words : List ℕ) (copy : Cell) → IsNormal old → copy ≡ Dirty words → after ≡ old →
+pub unread_leak : {a : Bool} (old after : Option Image) (line mask : ℕ) (words : List ℕ) (copy : Cell) → IsNormal old → copy ≡ Dirty a words → after ≡ old →
     IfModelled old (λ image. FailsTo line (λ through memory. failed_leak mask through memory (normal copy)) image after)
 unread_leak old after line mask words copy known copy_is same image is = record {
   through = 0;

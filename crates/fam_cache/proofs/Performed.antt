@@ -1,17 +1,18 @@
 -- One operation on a cache, as the machine says it.
-use Rattle.std.proofs.Common.{◌≡◌, ◌≢◌, ℕ, List, Option, Some, refl, sym, ap, subst, ◌∙◌, arith}
+use Rattle.std.proofs.Common.{◌≡◌, ◌≢◌, ◌<◌, ℕ, inl, inr, List, [], ◌∷◌, Option, Some, take, refl, sym, ap, subst, ◌∙◌, arith}
 use Rattle.std.specs.Prelude.{option_map, slice_index}
+use Rattle.std.proofs.lemmas.Bool.{cases_eq}
 use Rattle.fam_base.specs.declared.line.LineNo.{LineNo}
 use Rattle.fam_base.specs.Image.{Image, line_at}
 use Rattle.fam_machine.specs.declared.cell.Cell.{Cell}
 use Rattle.fam_machine.specs.declared.cell.Cell.TheVariants.{Absent, Clean, Dirty}
 use Rattle.fam_machine.specs.declared.op.Op.{Op}
-use Rattle.fam_machine.specs.declared.op.Op.TheVariants.{Load, Store, WriteBack, Invalidate, Digest}
-use Rattle.fam_machine.specs.Caches.{Cache, cell_at, cell_changed, with_cell}
+use Rattle.fam_machine.specs.declared.op.Op.TheVariants.{Load, Store, WriteBack, Fence, Invalidate, Digest}
+use Rattle.fam_machine.specs.Caches.{Cache, asked_lines, cell_at, cell_changed, with_cell}
 use Rattle.fam_machine.specs.Cuts.{HasFailed}
-use Rattle.fam_machine.specs.OneLine.{IsHeld, brought, cleaned, current, failed_send, stored, words_of}
-use Rattle.fam_machine.specs.Operations.{Machine, failed, given, line_no, machine, not_brought, not_sent, op_line, torn_at}
-use Rattle.fam_cache.specs.Operations.{LeavesCache}
+use Rattle.fam_machine.specs.OneLine.{IsAsked, IsHeld, asked_for, brought, cleaned, current, failed_send, stored, words_of}
+use Rattle.fam_machine.specs.Operations.{Breaking, Machine, failed, given, line_no, machine, not_brought, not_sent, op_line, torn_at}
+use Rattle.fam_cache.specs.Operations.{IsOneLine, LeavesCache, LeavesFailed, SendsWithin, cleaned_lines}
 use Rattle.fam_machine.proofs.CacheLemmas.{cell_at-with_cell_same, cell_at-with_cell_other, with_cell_own}
 use Rattle.fam_media.specs.Outside.{IfModelled}
 use Rattle.fam_cache.specs.Effects.{FailsTo, FromMemory}
@@ -33,15 +34,15 @@ load_gives op line k value modelled old new is reads from image modelled_is =
 not_held : (line : LineNo) (m : Machine) (cell : Cell) → (IsHeld cell → ⊥) → not_brought line m cell ≡ Some (record { line = line; left = m })
 not_held line m Absent never = refl
 not_held line m (Clean words) never = absurd (never refl)
-not_held line m (Dirty words) never = absurd (never refl)
+not_held line m (Dirty a words) never = absurd (never refl)
 
-bring_fails : (op : Op) (line at : LineNo) (modelled now : Option Image) (old new : Cache) → at ≡ line → ((image : Image) → (through : ℕ) → failed through op (machine image old) ≡ not_brought line (machine image old) (cell_at old line.0)) → (IsHeld (cell_at old line.0) → ⊥) → now ≡ modelled → new ≡ old → IfModelled modelled (λ image. HasFailed op (machine image old) at now new)
+bring_fails : (op : Op) (line at : LineNo) (modelled now : Option Image) (old new : Cache) → at ≡ line → ((image : Image) → (through : Breaking) → failed through op (machine image old) ≡ not_brought line (machine image old) (cell_at old line.0)) → (IsHeld (cell_at old line.0) → ⊥) → now ≡ modelled → new ≡ old → IfModelled modelled (λ image. HasFailed op (machine image old) at now new)
 bring_fails op line at modelled now old new here brings never same kept image is = record {
   left = machine image old;
   fails = record {
-    through = 0;
+    through = record { mask = 0; sent = 0 };
     fits = omega arith;
-    is = brings image 0
+    is = brings image (record { mask = 0; sent = 0 })
         ∙ not_held line (machine image old) (cell_at old line.0) never
         ∙ ap (λ (l : LineNo). Some (record { line = l; left = machine image old })) (sym here);
   };
@@ -57,21 +58,18 @@ pub store_failed : (op : Op) (line : LineNo) (k value : ℕ) (modelled now : Opt
 store_failed op line k value modelled now old new is = bring_fails op line line modelled now old new refl (λ image through. ap (λ (o : Op). failed through o (machine image old)) is)
 
 -- a send fails
-send_failed : (op : Op) (line : LineNo) (modelled now : Option Image) (old new : Cache) → ((image : Image) → (through : ℕ) → failed through op (machine image old) ≡ not_sent through line (machine image old)) → IfModelled modelled (λ image. FailsTo line.0 (λ through memory. failed_send through memory (cell_at old line.0)) image now) → new ≡ old → IfModelled modelled (λ image. HasFailed op (machine image old) line now new)
+send_failed : (op : Op) (line : LineNo) (modelled now : Option Image) (old new : Cache) → ((image : Image) → (through : Breaking) → failed through op (machine image old) ≡ not_sent through.mask line (machine image old)) → IfModelled modelled (λ image. FailsTo line.0 (λ through memory. failed_send through memory (cell_at old line.0)) image now) → new ≡ old → IfModelled modelled (λ image. HasFailed op (machine image old) line now new)
 send_failed op line modelled now old new sends torn kept image is =
     let t = torn image is in
     record {
       left = (torn_at line (machine image old) t.words).left;
       fails = record {
-        through = t.through;
+        through = record { mask = t.through; sent = 0 };
         fits = t.fits;
-        is = sends image t.through ∙ ap (option_map (torn_at line (machine image old))) t.left;
+        is = sends image (record { mask = t.through; sent = 0 }) ∙ ap (option_map (torn_at line (machine image old))) t.left;
       };
       is = record { image = t.written; cache = kept };
     }
-
-pub write_back_failed : (op : Op) (line : LineNo) (modelled now : Option Image) (old new : Cache) → op ≡ WriteBack line → IfModelled modelled (λ image. FailsTo line.0 (λ through memory. failed_send through memory (cell_at old line.0)) image now) → new ≡ old → IfModelled modelled (λ image. HasFailed op (machine image old) line now new)
-write_back_failed op line modelled now old new is = send_failed op line modelled now old new (λ image through. ap (λ (o : Op). failed through o (machine image old)) is)
 
 pub invalidate_failed : (op : Op) (line : LineNo) (modelled now : Option Image) (old new : Cache) → op ≡ Invalidate line → IfModelled modelled (λ image. FailsTo line.0 (λ through memory. failed_send through memory (cell_at old line.0)) image now) → new ≡ old → IfModelled modelled (λ image. HasFailed op (machine image old) line now new)
 invalidate_failed op line modelled now old new is = send_failed op line modelled now old new (λ image through. ap (λ (o : Op). failed through o (machine image old)) is)
@@ -81,7 +79,7 @@ invalidate_failed op line modelled now old new is = send_failed op line modelled
 brought_held : (memory : List ℕ) (cell : Cell) → IsHeld (brought memory cell)
 brought_held memory Absent = refl
 brought_held memory (Clean words) = refl
-brought_held memory (Dirty words) = refl
+brought_held memory (Dirty a words) = refl
 
 -- the line is held after a load, and after a store
 pub held_after_load : (modelled : Option Image) (line : ℕ) (old new : Cache) → FromMemory modelled line (λ memory. new ≡ cell_changed line (brought memory) old) → IsHeld (cell_at new line)
@@ -101,9 +99,70 @@ one_changed : (line : ℕ) (cell : Cell) (old new : Cache) → new ≡ with_cell
 one_changed line cell old new is other differs = ap (λ (cache : Cache). cell_at cache other) is ∙ cell_at-with_cell_other line cell old other differs
 
 -- every line that the operation doesn't ask for is as before
-pub others_left : (op : Op) (modelled : Option Image) (old new : Cache) → LeavesCache op modelled old new → (other : ℕ) → op_line op ≢ Some (line_no other) → cell_at new other ≡ cell_at old other
-others_left (Load line k) modelled old new from other differs = one_changed line.0 (brought from.memory (cell_at old line.0)) old new from.is other (λ e. differs (ap (λ (l : ℕ). Some (line_no l)) (sym e)))
-others_left (Store line k value) modelled old new from other differs = one_changed line.0 (stored k value from.memory (cell_at old line.0)) old new from.is other (λ e. differs (ap (λ (l : ℕ). Some (line_no l)) (sym e)))
-others_left (WriteBack line) modelled old new is other differs = one_changed line.0 (cleaned (cell_at old line.0)) old new is other (λ e. differs (ap (λ (l : ℕ). Some (line_no l)) (sym e)))
-others_left (Invalidate line) modelled old new is other differs = one_changed line.0 Absent old new is other (λ e. differs (ap (λ (l : ℕ). Some (line_no l)) (sym e)))
-others_left Digest modelled old new is other differs = ap (λ (cache : Cache). cell_at cache other) is
+pub others_left : (op : Op) (modelled : Option Image) (old new : Cache) → LeavesCache op modelled old new → IsOneLine op → (other : ℕ) → op_line op ≢ Some (line_no other) → cell_at new other ≡ cell_at old other
+others_left (Load line k) modelled old new from one other differs = one_changed line.0 (brought from.memory (cell_at old line.0)) old new from.is other (λ e. differs (ap (λ (l : ℕ). Some (line_no l)) (sym e)))
+others_left (Store line k value) modelled old new from one other differs = one_changed line.0 (stored k value from.memory (cell_at old line.0)) old new from.is other (λ e. differs (ap (λ (l : ℕ). Some (line_no l)) (sym e)))
+others_left Fence modelled old new is one other differs = absurd one
+others_left (WriteBack line) modelled old new is one other differs = one_changed line.0 (asked_for (cell_at old line.0)) old new is other (λ e. differs (ap (λ (l : ℕ). Some (line_no l)) (sym e)))
+others_left (Invalidate line) modelled old new is one other differs = one_changed line.0 Absent old new is other (λ e. differs (ap (λ (l : ℕ). Some (line_no l)) (sym e)))
+others_left Digest modelled old new is one other differs = ap (λ (cache : Cache). cell_at cache other) is
+
+-- An operation at one line, or at none.
+
+pub sends_one : (op : Op) (lines : ℕ) (cache : Cache) → IsOneLine op → SendsWithin op lines cache
+sends_one (Load line k) lines cache one = tt
+sends_one (Store line k value) lines cache one = tt
+sends_one (WriteBack line) lines cache one = tt
+sends_one Fence lines cache one = absurd one
+sends_one (Invalidate line) lines cache one = tt
+sends_one Digest lines cache one = tt
+
+pub left_one : (op : Op) (old new : Cache) → IsOneLine op → LeavesFailed op old new → new ≡ old
+left_one (Load line k) old new one left = left
+left_one (Store line k value) old new one left = left
+left_one (WriteBack line) old new one left = left
+left_one Fence old new one left = absurd one
+left_one (Invalidate line) old new one left = left
+left_one Digest old new one left = left
+
+-- A line that is cleaned is held as before.
+
+held_cleaned : (cell : Cell) → IsHeld (cleaned cell) → IsHeld cell
+held_cleaned Absent held = held
+held_cleaned (Clean words) held = held
+held_cleaned (Dirty a words) held = refl
+
+pub cleaned_held : (lines : List ℕ) (cache : Cache) (l : ℕ) → IsHeld (cell_at (cleaned_lines lines cache) l) → IsHeld (cell_at cache l)
+cleaned_held [] cache l held = held
+cleaned_held (x ∷ lines) cache l held =
+    let later : IsHeld (cell_at (cell_changed x cleaned cache) l) = cleaned_held lines (cell_changed x cleaned cache) l held in
+    elim (cases_eq l x) [
+      | inl same ↦ held_cleaned (cell_at cache l) (subst IsHeld (ap (λ (k : ℕ). cell_at (cell_changed k cleaned cache) l) (sym same) ∙ cell_at-with_cell_same l (cleaned (cell_at cache l)) cache) later)
+      | inr other ↦ subst IsHeld (cell_at-with_cell_other x (cleaned (cell_at cache x)) cache l other) later
+    ]
+
+same_held : (old new : Cache) → new ≡ old → (l : ℕ) → IsHeld (cell_at new l) → IsHeld (cell_at old l)
+same_held old new is l held = subst (λ (cache : Cache). IsHeld (cell_at cache l)) is held
+
+-- where the media failed, no line is held that wasn't so before
+pub left_held : (op : Op) (old new : Cache) → LeavesFailed op old new → (l : ℕ) → IsHeld (cell_at new l) → IsHeld (cell_at old l)
+left_held (Load line k) old new left = same_held old new left
+left_held (Store line k value) old new left = same_held old new left
+left_held (WriteBack line) old new left = same_held old new left
+left_held Fence old new left = λ l held. cleaned_held (take left.count (asked_lines old)) old l (subst (λ (cache : Cache). IsHeld (cell_at cache l)) left.is held)
+left_held (Invalidate line) old new left = same_held old new left
+left_held Digest old new left = same_held old new left
+
+asked_held : (cell : Cell) → IsAsked cell → IsHeld cell
+asked_held Absent asked = asked
+asked_held (Clean words) asked = refl
+asked_held (Dirty a words) asked = refl
+
+-- a fence sends lines of the media, where the cache holds no other
+pub held_sends : (op : Op) (lines : ℕ) (cache : Cache) → ((l : ℕ) → IsHeld (cell_at cache l) → l < lines) → SendsWithin op lines cache
+held_sends (Load line k) lines cache below = tt
+held_sends (Store line k value) lines cache below = tt
+held_sends (WriteBack line) lines cache below = tt
+held_sends Fence lines cache below = λ line asked. below line (asked_held (cell_at cache line) asked)
+held_sends (Invalidate line) lines cache below = tt
+held_sends Digest lines cache below = tt

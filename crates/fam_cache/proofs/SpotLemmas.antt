@@ -25,7 +25,7 @@ when_err (Err e) P on is = on
 pub dirty_held : (cell : Cell) → IsDirty cell → IsHeld cell
 dirty_held Absent is = is
 dirty_held (Clean words) is = refl
-dirty_held (Dirty words) is = refl
+dirty_held (Dirty a words) is = refl
 
 module _ (es : Places) (k : ℕ) (sorted : is_sorted nat_cmp es ≡ true) where
   -- a line that is held has its place, and needs no room
@@ -40,7 +40,7 @@ module _ (es : Places) (k : ℕ) (sorted : is_sorted nat_cmp es ≡ true) where
 brought_held : (memory : List ℕ) (cell : Cell) → IsHeld (brought memory cell)
 brought_held memory Absent = refl
 brought_held memory (Clean words) = refl
-brought_held memory (Dirty words) = refl
+brought_held memory (Dirty a words) = refl
 
 -- a line that was brought is held
 pub held_after : (modelled : Option Image) (line : ℕ) (old new : Cell) (before after : Cache) → FromMemory modelled line (λ memory. new ≡ brought memory old) → after ≡ with_cell line new before → IsHeld (cell_at after line)

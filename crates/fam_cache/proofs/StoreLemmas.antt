@@ -1,5 +1,5 @@
 -- A store: the line is brought, and then its word is set.
-use Rattle.std.proofs.Common.{◌≡◌, ℕ, List, Option, Result, Ok, Err, set, refl, ap, ◌∙◌}
+use Rattle.std.proofs.Common.{false, ◌≡◌, ℕ, List, Option, Result, Ok, Err, set, refl, ap, ◌∙◌}
 use Rattle.std.specs.Prelude.{OnErr}
 use Rattle.fam_base.specs.Image.{Image}
 use Rattle.fam_machine.specs.declared.cell.Cell.{Cell}
@@ -18,21 +18,21 @@ on_err_too (Err e) p = p
 pub brought_words : (memory : List ℕ) (cell : Cell) → words_of (brought memory cell) ≡ current memory cell
 brought_words memory Absent = refl
 brought_words memory (Clean words) = refl
-brought_words memory (Dirty words) = refl
+brought_words memory (Dirty a words) = refl
 
 module _ (line word value : ℕ) (before between after : Cache) where
   stored_cell : (memory : List ℕ) → between ≡ cell_changed line (brought memory) before →
-      with_cell line (Dirty (set (words_of (cell_at between line)) word value)) between ≡ cell_changed line (stored word value memory) before
+      with_cell line (Dirty false (set (words_of (cell_at between line)) word value)) between ≡ cell_changed line (stored word value memory) before
   stored_cell memory is =
       let cell : Cell = cell_at before line in
       let words : words_of (cell_at between line) ≡ current memory cell = ap words_of (ap (λ (cache : Cache). cell_at cache line) is ∙ cell_at-with_cell_same line (brought memory cell) before) ∙ brought_words memory cell in
-      ap (λ (ws : List ℕ). with_cell line (Dirty (set ws word value)) between) words
-      ∙ ap (with_cell line (Dirty (set (current memory cell) word value))) is
-      ∙ with_cell_twice line (brought memory cell) (Dirty (set (current memory cell) word value)) before
+      ap (λ (ws : List ℕ). with_cell line (Dirty false (set ws word value)) between) words
+      ∙ ap (with_cell line (Dirty false (set (current memory cell) word value))) is
+      ∙ with_cell_twice line (brought memory cell) (Dirty false (set (current memory cell) word value)) before
 
   -- the word was set in the line that was brought
   pub stored_after : (modelled : Option Image) → FromMemory modelled line (λ memory. between ≡ cell_changed line (brought memory) before) →
-      after ≡ with_cell line (Dirty (set (words_of (cell_at between line)) word value)) between →
+      after ≡ with_cell line (Dirty false (set (words_of (cell_at between line)) word value)) between →
       FromMemory modelled line (λ memory. after ≡ cell_changed line (stored word value memory) before)
   stored_after modelled from is = record {
     memory = from.memory;

@@ -4,7 +4,8 @@ use Rattle.std.specs.FinMap as map
 use Rattle.fam_base.specs.Image.{eight}
 use Rattle.fam_machine.specs.declared.cell.Cell.{Cell}
 use Rattle.fam_machine.specs.declared.cell.Cell.TheVariants.{Absent, Clean, Dirty}
-use Rattle.fam_machine.specs.Caches.{Cache, with_cell}
+use Rattle.fam_machine.specs.Caches.{Cache, cell_at, with_cell}
+use Rattle.fam_machine.specs.OneLine.{IsAsked}
 use Rattle.fam_cache.specs.declared.places.Spot.{Spot}
 use Rattle.fam_cache.specs.declared.places.Spot.TheVariants.{Place, Gap}
 
@@ -16,7 +17,7 @@ Places = List (ℕ × Cell)
 abbrev pub normal : Cell → Cell
 normal Absent = Absent
 normal (Clean words) = Clean (eight words)
-normal (Dirty words) = Dirty (eight words)
+normal (Dirty a words) = Dirty a (eight words)
 
 -- the cache that the places stand for
 abbrev pub cache_of : Places → Cache
@@ -65,9 +66,14 @@ is_gap (Gap at) = true
 abbrev pub is_absent : Cell → Bool
 is_absent Absent = true
 is_absent (Clean words) = false
-is_absent (Dirty words) = false
+is_absent (Dirty a words) = false
 
 -- the last place is absent
 pub record EndsAbsent (places : Places) : Type 0 where
   pub some : 0 < length places
   pub absent : is_absent (copy_in_place places (length places - 1)) ≡ true
+
+-- every asked line lies between these two
+pub record AskedWithin (first last : ℕ) (cache : Cache) : Type 0 where
+  pub low : (line : ℕ) → IsAsked (cell_at cache line) → first ≤ line
+  pub high : (line : ℕ) → IsAsked (cell_at cache line) → line ≤ last

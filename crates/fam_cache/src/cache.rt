@@ -1,25 +1,29 @@
 //! A host's cache, as a task and the machine use it.
 
-ghost use Rattle.std.specs.Prelude.{◌≡◌, ◌+◌, ◌-◌, ◌<◌, ◌≤◌, IsTrue, IsOk, IfOk, IfSome, OnOk, OnErr, IsErrOf, None, length, slice_index, vec_len, vec_capacity, true, false};
+ghost use Rattle.std.specs.Prelude.{ℕ, ◌≡◌, ◌+◌, ◌-◌, ◌<◌, ◌≤◌, IsTrue, IsOk, IfErr, IfOk, IfSome, OnOk, OnErr, IsErrOf, None, length, slice_index, slice_set, vec_len, vec_capacity, true, false};
 ghost use Rattle.std.specs.Option.{option_map};
 ghost use Rattle.std.specs.Ordering.{nat_cmp};
 ghost use Rattle.std.specs.FinMap as map;
 ghost use Rattle.std.specs.FinMap.{is_sorted};
 ghost use Rattle.fam_base.specs.Image.{eight, line_at, with_line};
 ghost use Rattle.fam_machine.specs.declared.cell.Cell.{Cell};
-ghost use Rattle.fam_machine.specs.Caches.{cell_at, cell_changed, dirty_count, line_changed, with_cell};
-ghost use Rattle.fam_machine.specs.OneLine.{IsDirty, IsHeld, brought, cleaned, failed_leak, failed_send, fetched, leaked, sent, stored, words_of};
+ghost use Rattle.fam_machine.specs.Caches.{asked_lines, cell_at, cell_changed, dirty_count, line_changed, with_cell};
+ghost use Rattle.fam_machine.specs.OneLine.{IsAsked, IsDirty, IsHeld, asked_for, brought, cleaned, failed_leak, failed_send, fetched, leaked, sent, stored, words_of};
+ghost use Rattle.fam_machine.specs.declared.op.Op.{Op};
+ghost use Rattle.fam_machine.specs.Cuts.{HasFailed, IsMachine};
+ghost use Rattle.fam_machine.specs.Operations.{machine, operated};
 ghost use Rattle.fam_media.specs.Causes.{HasCause, IsSteady, Rose};
 ghost use Rattle.fam_media.specs.Outside.{IfModelled, IsTorn};
 ghost use Rattle.fam_cache.specs.Effects.{FailsTo, FromMemory};
-ghost use Rattle.fam_cache.specs.Operations.{rest_stored};
-ghost use Rattle.fam_cache.specs.Places.{IsPlaceOf, IsSpot, cache_of};
+ghost use Rattle.fam_cache.specs.Operations.{CleansSome, cleaned_lines, rest_stored};
+ghost use Rattle.fam_cache.specs.Places.{AskedWithin, IsPlaceOf, IsSpot, cache_of, copy_in_place};
 
 use crate::copies::{fetch_copy, leak_copy, send_copy};
-use crate::fault::CacheFault;
+use crate::fault::{CacheFault, FenceFailed};
 use crate::places::{
-    Spot, clean_copy, copy, dirty_lines_of, drop_copy, held_at, held_line, held_word, make_room,
-    place_of, put_copy, seek, seek_next, set_rest, set_word, word_at,
+    Spot, ask_copy, bisect, clean_place, copy, dirty_lines_of, drop_copy, held_at, held_line,
+    held_word, is_asked_copy, make_room, place_of, put_copy, seek, seek_next, set_rest, set_word,
+    word_at,
 };
 use crate::renewal::{bring_to_gap, renew_in_place};
 use fam_base::{Line, LineNo, Mask, OutOfMemory};
@@ -157,43 +161,91 @@ fn refresh<M: Media>(
     }
 }
 
-/// Sends a dirty line to memory, which is clean then. Returns the place to remember.
-fn write_line<M: Media>(
+/// Sends the copy in a line's place to memory, if it is dirty, and it is clean then.
+fn send_place<M: Media>(
     places: &mut Vec<(u64, Cell)>,
-    last: usize,
+    at: usize,
     media: &mut M,
     line: LineNo,
-) -> Result<usize, Failed>
+) -> Result<(), Failed>
     requires sorted { IsTrue (is_sorted nat_cmp places.old.items) }
+    requires stands { IsPlaceOf places.old.items at line.0 }
     requires within { line.0 < M.size media.old }
 
     ensures cache { OnOk result
         (cache_of places.new.items ≡ cell_changed line.0 cleaned (cache_of places.old.items)) }
+    ensures items { OnOk result (places.new.items
+        ≡ slice_set places.old.items at (line.0, cleaned (copy_in_place places.old.items at))) }
     ensures memory { OnOk result (M.image media.new ≡ option_map
         (line_changed line.0 (λ memory. sent memory (cell_at (cache_of places.old.items) line.0)))
         (M.image media.old)) }
-    ensures err { OnErr result (cache_of places.new.items ≡ cache_of places.old.items) }
+    ensures err { OnErr result (places.new.items ≡ places.old.items) }
     ensures torn { OnErr result (IfModelled (M.image media.old) (λ image. FailsTo line.0
         (λ through memory. failed_send through memory (cell_at (cache_of places.old.items) line.0))
         image (M.image media.new))) }
 
-    ensures idle { ¬ (IsDirty (cell_at (cache_of places.old.items) line.0)) → IsOk result }
-    ensures same { ¬ (IsDirty (cell_at (cache_of places.old.items) line.0)) → media.new ≡ media.old }
     ensures cause { HasCause (M.faults media.old) (M.faults media.new) result }
     ensures size { M.size media.new ≡ M.size media.old }
     ensures sorted { IsTrue (is_sorted nat_cmp places.new.items) }
     ensures capacity { vec_capacity places.new ≡ vec_capacity places.old }
-    ensures len { vec_len places.new ≤ vec_len places.old }
+    ensures len { vec_len places.new ≡ vec_len places.old }
 {
-    let spot = seek(places, last, line.0);
-    let held = copy(places, spot, line.0);
+    let held = places[at].1;
     match send_copy(held, media, line) {
         Ok(()) => {
-            clean_copy(places, spot, line.0);
-            Ok(place_of(spot))
+            clean_place(places, at, line.0);
+            Ok(())
         }
         Err(fault) => Err(fault),
     }
+}
+
+/// Sends each line that was asked for, in the order of their numbers: none of them lies before `first` or behind `last`.
+/// Where the media fails, those before that line were sent.
+fn send_asked<M: Media>(
+    places: &mut Vec<(u64, Cell)>,
+    media: &mut M,
+    first: u64,
+    last: u64,
+) -> Result<(), FenceFailed>
+    requires sorted { IsTrue (is_sorted nat_cmp places.old.items) }
+    requires range { AskedWithin first last (cache_of places.old.items) }
+    requires within { (line : ℕ) → IsAsked (cell_at (cache_of places.old.items) line) → line < M.size media.old }
+
+    ensures operated { OnOk result (IfModelled (M.image media.old) (λ image. IsMachine
+        (operated Op.Fence (machine image (cache_of places.old.items)))
+        (M.image media.new) (cache_of places.new.items))) }
+    ensures cache { OnOk result (cache_of places.new.items
+        ≡ cleaned_lines (asked_lines (cache_of places.old.items)) (cache_of places.old.items)) }
+    ensures failed { IfErr result (λ fault. IfModelled (M.image media.old) (λ image. HasFailed Op.Fence
+        (machine image (cache_of places.old.items)) fault.0 (M.image media.new) (cache_of places.new.items))) }
+    ensures err { OnErr result (CleansSome (cache_of places.old.items) (cache_of places.new.items)) }
+    ensures line { IfErr result (λ fault. IsAsked (cell_at (cache_of places.old.items) fault.0.0)) }
+
+    ensures idle { ((line : ℕ) → ¬ (IsAsked (cell_at (cache_of places.old.items) line))) → IsOk result }
+    ensures same { ((line : ℕ) → ¬ (IsAsked (cell_at (cache_of places.old.items) line))) →
+        media.new ≡ media.old }
+    ensures cause { HasCause (M.faults media.old) (M.faults media.new) result }
+    ensures size { M.size media.new ≡ M.size media.old }
+    ensures sorted { IsTrue (is_sorted nat_cmp places.new.items) }
+    ensures capacity { vec_capacity places.new ≡ vec_capacity places.old }
+    ensures len { vec_len places.new ≡ vec_len places.old }
+{
+    let mut at = bisect(places, first);
+    while at < places.len() {
+        if last < places[at].0 {
+            return Ok(());
+        }
+        if is_asked_copy(&places[at].1) {
+            let line = LineNo(places[at].0);
+            match send_place(places, at, media, line) {
+                Ok(()) => {}
+                Err(_) => return Err(FenceFailed(line)),
+            }
+        }
+        at += 1;
+    }
+    Ok(())
 }
 
 /// Sends a dirty line to memory, and makes the line absent. Returns the place to remember.
@@ -272,13 +324,16 @@ pub struct HostCache {
     places: Vec<(u64, Cell)>,
     /// The place of the last access, or any number: the next line is looked for there first.
     last: usize,
+    /// No line before this one is asked for, and none behind the other one.
+    first_asked: u64,
+    last_asked: u64,
 }
 
 impl Model for HostCache {
     ghost use Rattle.std.specs.Prelude.{IsTrue, ◌-◌, vec_len, vec_capacity};
     ghost use Rattle.std.specs.Ordering.{nat_cmp};
     ghost use Rattle.std.specs.FinMap.{is_sorted};
-    ghost use Rattle.fam_cache.specs.Places.{cache_of};
+    ghost use Rattle.fam_cache.specs.Places.{AskedWithin, cache_of};
     ghost use Rattle.fam_cache.specs.States.{CacheState, state_code};
 
     ghost Value = { CacheState };
@@ -287,7 +342,8 @@ impl Model for HostCache {
 
     ghost view = { λ c. record { lines = cache_of c.places.items; spare = vec_capacity c.places - vec_len c.places } };
 
-    ghost invariant = { λ c. IsTrue (is_sorted nat_cmp c.places.items) };
+    ghost invariant = { λ c. (IsTrue (is_sorted nat_cmp c.places.items))
+        × (AskedWithin c.first_asked c.last_asked (cache_of c.places.items)) };
 }
 
 impl HostCache {
@@ -298,6 +354,8 @@ impl HostCache {
         HostCache {
             places: Vec::new(alloc),
             last: 0,
+            first_asked: u64::MAX,
+            last_asked: 0,
         }
     }
 
@@ -421,7 +479,7 @@ impl HostCache {
         ensures held { result ≡ true → IsHeld (cell_at self.old.lines line.0) }
         ensures whole { result ≡ true → length (words_of (cell_at self.old.lines line.0)) ≡ 8 }
         ensures stored { result ≡ true → self.new.lines ≡ with_cell line.0
-            (Cell.Dirty (rest_stored words.now (words_of (cell_at self.old.lines line.0)))) self.old.lines }
+            (Cell.Dirty false (rest_stored words.now (words_of (cell_at self.old.lines line.0)))) self.old.lines }
         ensures other { result ≡ false → self.new ≡ self.old }
         ensures spare { self.new.spare ≡ self.old.spare }
     {
@@ -517,7 +575,7 @@ impl HostCache {
         ensures failed { IsErrOf result CacheFault.Failed → Rose (M.faults media.old) (M.faults media.new) }
         ensures failed_absent { IsErrOf result CacheFault.Failed → cell_at self.old.lines line.0 ≡ Cell.Absent }
         ensures failed_lines { IsErrOf result CacheFault.Failed →
-            self.new.lines ≡ with_cell line.0 (Cell.Dirty (eight words.now)) self.old.lines }
+            self.new.lines ≡ with_cell line.0 (Cell.Dirty false (eight words.now)) self.old.lines }
         ensures torn { IsErrOf result CacheFault.Failed →
             IsTorn (M.image media.old) (M.image media.new) line.0 words.now }
 
@@ -543,7 +601,15 @@ impl HostCache {
                 Ok(true)
             }
             Err(_) => {
-                self.last = put_copy(&mut self.places, spot, line.0, Cell::Dirty(*words));
+                self.last = put_copy(
+                    &mut self.places,
+                    spot,
+                    line.0,
+                    Cell::Dirty {
+                        asked: false,
+                        words: *words,
+                    },
+                );
                 Err(CacheFault::Failed)
             }
         }
@@ -587,31 +653,51 @@ impl HostCache {
         Ok(())
     }
 
-    /// Sends a dirty line whole to memory, and makes it clean.
-    pub fn write_back<M: Media>(&mut self, media: &mut M, line: LineNo) -> Result<(), Failed>
-        requires within { line.0 < M.size media.old }
+    /// Asks for a dirty line to be sent, and touches no memory.
+    pub fn write_back(&mut self, line: LineNo)
+        ensures cache { self.new.lines ≡ cell_changed line.0 asked_for self.old.lines }
+        ensures spare { self.old.spare ≤ self.new.spare }
+    {
+        let spot = seek(&self.places, self.last, line.0);
+        ask_copy(&mut self.places, spot, line.0);
+        self.last = place_of(spot);
+        self.first_asked = self.first_asked.min(line.0);
+        self.last_asked = self.last_asked.max(line.0);
+    }
 
-        ensures cache { OnOk result (self.new.lines ≡ cell_changed line.0 cleaned self.old.lines) }
-        ensures memory { OnOk result (M.image media.new ≡ option_map
-            (line_changed line.0 (λ memory. sent memory (cell_at self.old.lines line.0)))
-            (M.image media.old)) }
+    /// Sends each line that was asked for whole to memory, in the order of their numbers, and makes it clean.
+    ///
+    /// A send that fails leaves each word of its line old or new. The lines before it were sent, and the host keeps its
+    /// copies of it and of those behind it, which are still asked for.
+    pub fn fence<M: Media>(&mut self, media: &mut M) -> Result<(), FenceFailed>
+        requires within { (line : ℕ) → IsAsked (cell_at self.old.lines line) → line < M.size media.old }
 
-        // A send that fails leaves each word of this line old or new, and the host keeps its copy.
-        ensures err { OnErr result (self.new.lines ≡ self.old.lines) }
-        ensures torn { OnErr result (IfModelled (M.image media.old) (λ image. FailsTo line.0
-            (λ through memory. failed_send through memory (cell_at self.old.lines line.0))
-            image (M.image media.new))) }
+        // Where the image is modelled, it and the cache are those of the machine.
+        ensures operated { OnOk result (IfModelled (M.image media.old) (λ image. IsMachine
+            (operated Op.Fence (machine image self.old.lines)) (M.image media.new) self.new.lines)) }
+        ensures failed { IfErr result (λ fault. IfModelled (M.image media.old) (λ image. HasFailed Op.Fence
+            (machine image self.old.lines) fault.0 (M.image media.new) self.new.lines)) }
 
-        // Only a dirty line is sent.
-        ensures ok { ¬ (IsDirty (cell_at self.old.lines line.0)) → IsOk result }
-        ensures same { ¬ (IsDirty (cell_at self.old.lines line.0)) → media.new ≡ media.old }
+        ensures cache { OnOk result (self.new.lines ≡ cleaned_lines (asked_lines self.old.lines) self.old.lines) }
+        ensures err { OnErr result (CleansSome self.old.lines self.new.lines) }
+        ensures line { IfErr result (λ fault. IsAsked (cell_at self.old.lines fault.0.0)) }
+
+        // Where no line was asked for, it asks nothing of memory.
+        ensures ok { ((line : ℕ) → ¬ (IsAsked (cell_at self.old.lines line))) → IsOk result }
+        ensures same { ((line : ℕ) → ¬ (IsAsked (cell_at self.old.lines line))) → media.new ≡ media.old }
 
         ensures cause { HasCause (M.faults media.old) (M.faults media.new) result }
         ensures size { M.size media.new ≡ M.size media.old }
-        ensures spare { self.old.spare ≤ self.new.spare }
+        ensures spare { self.new.spare ≡ self.old.spare }
     {
-        self.last = write_line(&mut self.places, self.last, media, line)?;
-        Ok(())
+        match send_asked(&mut self.places, media, self.first_asked, self.last_asked) {
+            Ok(()) => {
+                self.first_asked = u64::MAX;
+                self.last_asked = 0;
+                Ok(())
+            }
+            Err(fault) => Err(fault),
+        }
     }
 
     /// Sends a dirty line whole to memory, and makes the line absent: no copy from before is read again.

@@ -30,7 +30,7 @@ fn bring_copy<M: Media>(copy: Cell, media: &mut M, line: LineNo) -> Result<Cell,
             Err(fault) => Err(fault),
         },
         Cell::Clean(_) => Ok(copy),
-        Cell::Dirty(_) => Ok(copy),
+        Cell::Dirty { .. } => Ok(copy),
     }
 }
 
@@ -56,7 +56,7 @@ pub(crate) fn fetch_copy<M: Media>(
             Ok(memory) => Ok(Cell::Clean(masked_line(mask, &memory, &words))),
             Err(fault) => Err(fault),
         },
-        Cell::Dirty(words) => Ok(Cell::Dirty(words)),
+        Cell::Dirty { asked, words } => Ok(Cell::Dirty { asked, words }),
     }
 }
 
@@ -75,7 +75,7 @@ pub(crate) fn send_copy<M: Media>(copy: Cell, media: &mut M, line: LineNo) -> Re
     match copy {
         Cell::Absent => Ok(()),
         Cell::Clean(_) => Ok(()),
-        Cell::Dirty(words) => media.write(line, &words),
+        Cell::Dirty { words, .. } => media.write(line, &words),
     }
 }
 
@@ -98,7 +98,7 @@ pub(crate) fn leak_copy<M: Media>(
 {
     match copy {
         Cell::Clean(_) | Cell::Absent => Ok(()),
-        Cell::Dirty(words) => match media.read(line) {
+        Cell::Dirty { words, .. } => match media.read(line) {
             Ok(memory) => media.write(line, &masked_line(mask, &words, &memory)),
             Err(fault) => Err(fault),
         },

@@ -11,6 +11,10 @@ pub enum CacheFault {
     OutOfMemory,
 }
 
+/// The media failed at this line, which a fence was to send.
+#[derive(Clone, Copy, Debug, PartialEq, Eq)]
+pub struct FenceFailed(pub LineNo);
+
 /// Why an operation of the machine's table was not done.
 #[derive(Clone, Copy, Debug, PartialEq, Eq)]
 pub enum OperationFault {

@@ -1,12 +1,12 @@
 //! One operation of the machine's table, on a host's cache and the shared memory.
 
-ghost use Rattle.std.specs.Prelude.{◌≡◌, ◌+◌, ◌<◌, ◌≤◌, IsOk, IfErr, IfOk, OnErr, OnOk, IsErrOf, Some};
+ghost use Rattle.std.specs.Prelude.{◌≡◌, ◌+◌, ◌<◌, ◌≤◌, IsOk, IfErr, IfOk, OnErr, OnOk, IsErrOf};
 ghost use Rattle.fam_machine.specs.Cuts.{HasFailed, IsMachine};
-ghost use Rattle.fam_machine.specs.Operations.{IsWithin, given, machine, op_line, operated};
+ghost use Rattle.fam_machine.specs.Operations.{IsWithin, given, machine, operated};
 ghost use Rattle.fam_media.specs.Causes.{IsSteady, Rose};
 ghost use Rattle.fam_media.specs.Outside.{IfModelled};
 ghost use Rattle.fam_cache.specs.Faults.{IfMediaFault};
-ghost use Rattle.fam_cache.specs.Operations.{AsksNothing, BringsNone, LeavesCache, word_of};
+ghost use Rattle.fam_cache.specs.Operations.{AsksNothing, BringsNone, IsAtLine, LeavesCache, LeavesFailed, SendsWithin, word_of};
 
 use crate::cache::HostCache;
 use crate::fault::{CacheFault, OperationFault};
@@ -16,7 +16,7 @@ use fam_media::Media;
 impl HostCache {
     /// Does an operation, and gives the word of a load. A Digest does nothing.
     ///
-    /// `MediaFault` names the operation's line. `OutOfMemory` comes where an absent line is to be brought and there is
+    /// `MediaFault` names the operation's line, and of a Fence the first one that it couldn't send. `OutOfMemory` comes where an absent line is to be brought and there is
     /// no room for it, and then nothing was done.
     #[inline(always)]
     pub fn perform<M: Media>(
@@ -25,6 +25,7 @@ impl HostCache {
         op: Op,
     ) -> Result<Option<u64>, OperationFault>
         requires within { IsWithin (M.size media.old) op }
+        requires asked { SendsWithin op (M.size media.old) self.old.lines }
 
         // Where the image is modelled, it, the cache and the word are those of the machine.
         ensures operated { OnOk result (IfModelled (M.image media.old) (λ image.
@@ -37,8 +38,8 @@ impl HostCache {
         // On any media the cache is what the table makes of the operation's line, and the word is that of the copy.
         ensures cache { OnOk result (LeavesCache op (M.image media.old) self.old.lines self.new.lines) }
         ensures word { IfOk result (λ word. word ≡ word_of op self.new.lines) }
-        ensures err { OnErr result (self.new.lines ≡ self.old.lines) }
-        ensures line { IfErr result (λ fault. IfMediaFault fault (λ line. op_line op ≡ Some line)) }
+        ensures err { OnErr result (LeavesFailed op self.old.lines self.new.lines) }
+        ensures line { IfErr result (λ fault. IfMediaFault fault (λ line. IsAtLine op line self.old.lines)) }
         ensures inside { IfErr result (λ fault. IfMediaFault fault (λ line. line.0 < M.size media.old)) }
         ensures rose { IfErr result (λ fault. IfMediaFault fault (λ line.
             Rose (M.faults media.old) (M.faults media.new))) }
@@ -70,9 +71,13 @@ impl HostCache {
                 Err(CacheFault::Failed) => Err(OperationFault::MediaFault(line)),
                 Err(CacheFault::OutOfMemory) => Err(OperationFault::OutOfMemory),
             },
-            Op::WriteBack(line) => match self.write_back(media, line) {
+            Op::WriteBack(line) => {
+                self.write_back(line);
+                Ok(None)
+            }
+            Op::Fence => match self.fence(media) {
                 Ok(()) => Ok(None),
-                Err(_) => Err(OperationFault::MediaFault(line)),
+                Err(fault) => Err(OperationFault::MediaFault(fault.0)),
             },
             Op::Invalidate(line) => match self.invalidate(media, line) {
                 Ok(()) => Ok(None),

@@ -8,10 +8,10 @@ ghost use Rattle.std.specs.Ordering.{nat_cmp};
 ghost use Rattle.std.specs.FinMap.{is_sorted};
 ghost use Rattle.fam_base.specs.Image.{eight};
 ghost use Rattle.fam_machine.specs.Caches.{cell_at, dirty_count, with_cell};
-ghost use Rattle.fam_machine.specs.OneLine.{IsHeld, cleaned, is_dirty, is_held, words_of};
+ghost use Rattle.fam_machine.specs.OneLine.{IsHeld, asked_for, cleaned, is_asked, is_dirty, is_held, words_of};
 ghost use Rattle.fam_machine.specs.declared.cell.Cell.{Cell};
 ghost use Rattle.fam_cache.specs.Operations.{rest_stored};
-ghost use Rattle.fam_cache.specs.Places.{Before, IsSpot, IsPlaceOf, EndsAbsent, cache_of, is_gap, normal, number_at};
+ghost use Rattle.fam_cache.specs.Places.{Before, IsSpot, IsPlaceOf, EndsAbsent, cache_of, copy_in_place, is_gap, normal, number_at};
 
 use fam_base::{Line, OutOfMemory};
 use fam_machine::Cell;
@@ -26,7 +26,7 @@ pub enum Spot {
 }
 
 /// The first place whose line isn't below this one, by bisection.
-fn bisect(places: &[(u64, Cell)], line: u64) -> usize
+pub(crate) fn bisect(places: &[(u64, Cell)], line: u64) -> usize
     requires { IsTrue (is_sorted nat_cmp places.now) }
     ensures within { result ≤ length places.now }
     ensures before { Before places.now result line }
@@ -213,6 +213,7 @@ pub(crate) fn set_copy(places: &mut Vec<(u64, Cell)>, at: usize, line: u64, copy
     requires sorted { IsTrue (is_sorted nat_cmp places.old.items) }
     requires stands { IsPlaceOf places.old.items at line }
     ensures cache { cache_of places.new.items ≡ with_cell line (normal copy) (cache_of places.old.items) }
+    ensures items { places.new.items ≡ slice_set places.old.items at (line, copy) }
     ensures sorted { IsTrue (is_sorted nat_cmp places.new.items) }
     ensures stands { IsPlaceOf places.new.items at line }
     ensures len { vec_len places.new ≡ vec_len places.old }
@@ -298,28 +299,56 @@ pub(crate) fn drop_copy(places: &mut Vec<(u64, Cell)>, spot: Spot, line: u64)
 
 /// The copy after its line was sent whole.
 fn clean(copy: Cell) -> Cell
-    ensures { normal result ≡ cleaned (normal copy) }
+    ensures is { result ≡ cleaned copy }
+    ensures normal { normal result ≡ cleaned (normal copy) }
 {
     match copy {
-        Cell::Dirty(words) => Cell::Clean(words),
+        Cell::Dirty { words, .. } => Cell::Clean(words),
         _ => copy,
     }
 }
 
-/// Makes a dirty line clean.
-pub(crate) fn clean_copy(places: &mut Vec<(u64, Cell)>, spot: Spot, line: u64)
+/// Makes the copy of a line clean, in its place.
+#[inline(always)]
+pub(crate) fn clean_place(places: &mut Vec<(u64, Cell)>, at: usize, line: u64)
+    requires sorted { IsTrue (is_sorted nat_cmp places.old.items) }
+    requires stands { IsPlaceOf places.old.items at line }
+    ensures cache { cache_of places.new.items
+        ≡ with_cell line (cleaned (cell_at (cache_of places.old.items) line)) (cache_of places.old.items) }
+    ensures items { places.new.items
+        ≡ slice_set places.old.items at (line, cleaned (copy_in_place places.old.items at)) }
+    ensures sorted { IsTrue (is_sorted nat_cmp places.new.items) }
+    ensures len { vec_len places.new ≡ vec_len places.old }
+    ensures capacity { vec_capacity places.new ≡ vec_capacity places.old }
+{
+    let sent = clean(places[at].1);
+    set_copy(places, at, line, sent);
+}
+
+/// The copy after it was asked for its line to be sent.
+fn ask(copy: Cell) -> Cell
+    ensures { normal result ≡ asked_for (normal copy) }
+{
+    match copy {
+        Cell::Dirty { words, .. } => Cell::Dirty { asked: true, words },
+        _ => copy,
+    }
+}
+
+/// Asks for a dirty line to be sent.
+pub(crate) fn ask_copy(places: &mut Vec<(u64, Cell)>, spot: Spot, line: u64)
     requires sorted { IsTrue (is_sorted nat_cmp places.old.items) }
     requires spot { IsSpot places.old.items spot line }
     ensures cache { cache_of places.new.items
-        ≡ with_cell line (cleaned (cell_at (cache_of places.old.items) line)) (cache_of places.old.items) }
+        ≡ with_cell line (asked_for (cell_at (cache_of places.old.items) line)) (cache_of places.old.items) }
     ensures sorted { IsTrue (is_sorted nat_cmp places.new.items) }
     ensures len { vec_len places.new ≡ vec_len places.old }
     ensures capacity { vec_capacity places.new ≡ vec_capacity places.old }
 {
     match spot {
         Spot::Place(at) => {
-            let sent = clean(places[at].1);
-            set_copy(places, at, line, sent);
+            let asked = ask(places[at].1);
+            set_copy(places, at, line, asked);
         }
         Spot::Gap(_) => {}
     }
@@ -332,7 +361,7 @@ fn words_in(copy: Cell) -> Line
     match copy {
         Cell::Absent => [0; 8],
         Cell::Clean(words) => words,
-        Cell::Dirty(words) => words,
+        Cell::Dirty { words, .. } => words,
     }
 }
 
@@ -345,7 +374,7 @@ fn word_in(copy: &Cell, word: u8) -> Option<u64>
     match copy {
         Cell::Absent => None,
         Cell::Clean(words) => Some(words[word as usize]),
-        Cell::Dirty(words) => Some(words[word as usize]),
+        Cell::Dirty { words, .. } => Some(words[word as usize]),
     }
 }
 
@@ -373,7 +402,7 @@ fn line_in(copy: &Cell) -> Option<Line>
     match copy {
         Cell::Absent => None,
         Cell::Clean(words) => Some(*words),
-        Cell::Dirty(words) => Some(*words),
+        Cell::Dirty { words, .. } => Some(*words),
     }
 }
 
@@ -413,13 +442,21 @@ pub(crate) fn set_rest(
     requires sorted { IsTrue (is_sorted nat_cmp places.old.items) }
     requires stands { IsPlaceOf places.old.items at line }
     ensures cache { cache_of places.new.items
-        ≡ with_cell line (Cell.Dirty (rest_stored words.now (eight old.now))) (cache_of places.old.items) }
+        ≡ with_cell line (Cell.Dirty false (rest_stored words.now (eight old.now))) (cache_of places.old.items) }
     ensures sorted { IsTrue (is_sorted nat_cmp places.new.items) }
     ensures len { vec_len places.new ≡ vec_len places.old }
     ensures capacity { vec_capacity places.new ≡ vec_capacity places.old }
 {
     let stored = with_rest(old, words);
-    set_copy(places, at, line, Cell::Dirty(stored));
+    set_copy(
+        places,
+        at,
+        line,
+        Cell::Dirty {
+            asked: false,
+            words: stored,
+        },
+    );
 }
 
 /// A word of the copy in a place.
@@ -453,7 +490,7 @@ pub(crate) fn set_word(places: &mut Vec<(u64, Cell)>, at: usize, line: u64, word
     requires held { IsHeld (cell_at (cache_of places.old.items) line) }
     requires word { word < 8 }
     ensures cache { cache_of places.new.items ≡ with_cell line
-        (Cell.Dirty (slice_set (words_of (cell_at (cache_of places.old.items) line)) word value))
+        (Cell.Dirty false (slice_set (words_of (cell_at (cache_of places.old.items) line)) word value))
         (cache_of places.old.items) }
     ensures sorted { IsTrue (is_sorted nat_cmp places.new.items) }
     ensures len { vec_len places.new ≡ vec_len places.old }
@@ -461,7 +498,15 @@ pub(crate) fn set_word(places: &mut Vec<(u64, Cell)>, at: usize, line: u64, word
 {
     let words = words_in(places[at].1);
     let stored = with_word(&words, word, value);
-    set_copy(places, at, line, Cell::Dirty(stored));
+    set_copy(
+        places,
+        at,
+        line,
+        Cell::Dirty {
+            asked: false,
+            words: stored,
+        },
+    );
 }
 
 /// Whether the host stored into the copy at a spot.
@@ -483,7 +528,18 @@ fn is_dirty_copy(copy: &Cell) -> bool
     ensures { result ≡ is_dirty copy.now }
 {
     match copy {
-        Cell::Dirty(_) => true,
+        Cell::Dirty { .. } => true,
+        _ => false,
+    }
+}
+
+/// Whether the next fence sends the copy.
+#[inline(always)]
+pub(crate) fn is_asked_copy(copy: &Cell) -> bool
+    ensures { result ≡ is_asked copy.now }
+{
+    match copy {
+        Cell::Dirty { asked, .. } => *asked,
         _ => false,
     }
 }

@@ -21,6 +21,7 @@ use Rattle.fam_commands.specs.declared.phase.Part.{Part}
 use Rattle.fam_commands.specs.declared.phase.Part.TheVariants.{Superblock, Header, Slot, File}
 use Rattle.fam_commands.specs.declared.phase.Phase.{Phase}
 use Rattle.fam_commands.specs.declared.phase.Phase.TheVariants as at
+use Rattle.fam_commands.specs.Kept.{first_slot}
 use Rattle.fam_commands.specs.Task.{Task, part_count, wanted_end}
 use Rattle.fam_commands.specs.Turns.{Turn, Goes, Marks, Finds, Writes, Ends, super_fault_reply, log_fault_reply, magic_turn, host_refusal, host_turn, super_turn, header_turn, slot_or_decide, slots_read, finds_or_goes, gate_loaded, gate_turn, join_turn, slot_turn, check_turn, first_store, append_turn, verify_lines, verify_turn, bytes_turn, kind_turn, found_turn, wish_turn, decide_turn, line_or, line_difference, compare_turn, file_turn, line_turn, with_word, word_turn, turn_at}
 use Rattle.fam_rules.specs.declared.answers.Refused.{Refused}
@@ -50,7 +51,9 @@ IsBehindSuper (at.SendData j) = ⊤
 IsBehindSuper (at.StoreSlot j k) = ⊤
 IsBehindSuper (at.SendSlot j) = ⊤
 IsBehindSuper at.StoreGate = ⊤
+IsBehindSuper at.FenceSlot = ⊤
 IsBehindSuper at.SendGate = ⊤
+IsBehindSuper at.FenceGate = ⊤
 
 -- the append begins, with the first line of the file or of the slot
 pub record Begins (cmd : Cmd) (seq : ℕ) (e : Entry) (next : Task) : Type 0 where
@@ -139,8 +142,8 @@ module _ (p : Phase) (behind : IsBehindSuper p) (t : Task) where
   gate_says n None = by_wish (wish_of t.cmd)
     where
       by_wish : (o : Option Wish) → SaysAt p t.cmd (finds_or_goes o n (gate_loaded t n))
-      by_wish None = slot_or (record t { gate = n }) t.first_slot
-      by_wish (Some w) = slot_or (record t { gate = n }) t.first_slot
+      by_wish None = slot_or (record t { gate = n }) (first_slot t.kept t.cmd t.params n)
+      by_wish (Some w) = slot_or (record t { gate = n }) (first_slot t.kept t.cmd t.params n)
 
   join_says : (t.cmd ≡ Fsck → ⊥) → (i : ℕ) (e : Entry) (o : Option Reason) → SaysAt p t.cmd (join_turn t i e o)
   join_says other i e (Some reason) = (behind, other)
@@ -231,4 +234,6 @@ turn_says (at.SendData j) t word before is = absurd before
 turn_says (at.StoreSlot j k) t word before is = absurd before
 turn_says (at.SendSlot j) t word before is = absurd before
 turn_says at.StoreGate t word before is = absurd before
+turn_says at.FenceSlot t word before is = absurd before
 turn_says at.SendGate t word before is = absurd before
+turn_says at.FenceGate t word before is = absurd before

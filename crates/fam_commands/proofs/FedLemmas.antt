@@ -38,47 +38,47 @@ gate_stays words more long = ap (λ (l : List ℕ). slice_index l 0) (range_stay
 -- Slots.
 
 -- a line of the slots is none of those before them
-far_line : (p : Params) (words : List ℕ) (line from : ℕ) → slot_line p 0 0 ≤ line → fed_from p 0 line ≡ from → fed p 0 words line ≡ slice_range words from (from + line_words)
-far_line p words line from far is =
-    let behind : nat_lt line (slot_line p 0 0) ≡ false = le-ltb line (slot_line p 0 0) far in
-    ap (λ (b : Bool). if b then fed_head words line else slice_range words (fed_from p 0 line) (fed_from p 0 line + line_words)) behind
+far_line : (p : Params) (words : List ℕ) (f line from : ℕ) → slot_line p f 0 ≤ line → fed_from p f line ≡ from → fed p f words line ≡ slice_range words from (from + line_words)
+far_line p words f line from far is =
+    let behind : nat_lt line (slot_line p f 0) ≡ false = le-ltb line (slot_line p f 0) far in
+    ap (λ (b : Bool). if b then fed_head words line else slice_range words (fed_from p f line) (fed_from p f line + line_words)) behind
     ∙ ap (λ (n : ℕ). slice_range words n (n + line_words)) is
 
 -- the words of a line of a slot
-pub slot_line_fed : (words : List ℕ) (p : Params) (i j : ℕ) → fed p 0 words (slot_line p i j) ≡ slice_range words (26 + (64 * i + 8 * j)) (26 + (64 * i + 8 * j) + 8)
-slot_line_fed words p i j = far_line p words (slot_line p i j) (26 + (64 * i + 8 * j)) (omega arith) (omega arith)
+pub slot_line_fed : (words : List ℕ) (p : Params) (f i j : ℕ) → f ≤ i → fed p f words (slot_line p i j) ≡ slice_range words (26 + (64 * (i - f) + 8 * j)) (26 + (64 * (i - f) + 8 * j) + 8)
+slot_line_fed words p f i j behind = far_line p words f (slot_line p i j) (26 + (64 * (i - f) + 8 * j)) (omega arith) (omega arith)
 
 -- a word of a slot, by its place among the loaded words
-pub slot_word_fed : (words : List ℕ) (p : Params) (i k : ℕ) → k < 64 → slot_word (fed p 0 words) p i k ≡ slice_index words (26 + 64 * i + k)
-slot_word_fed words p i k below =
-    ap (λ (l : List ℕ). slice_index l (k % 8)) (slot_line_fed words p i (k / 8))
-    ∙ get_or-take (26 + (64 * i + 8 * (k / 8)) + 8 - (26 + (64 * i + 8 * (k / 8)))) (drop (26 + (64 * i + 8 * (k / 8))) words) (k % 8) 0 (omega arith)
-    ∙ get_or-drop (26 + (64 * i + 8 * (k / 8))) words (k % 8) 0
-    ∙ ap (λ (n : ℕ). slice_index words n) (let z : 26 + (64 * i + 8 * (k / 8)) + k % 8 ≡ 26 + 64 * i + k = omega arith in z)
+pub slot_word_fed : (words : List ℕ) (p : Params) (f i k : ℕ) → f ≤ i → k < 64 → slot_word (fed p f words) p i k ≡ slice_index words (26 + 64 * (i - f) + k)
+slot_word_fed words p f i k behind below =
+    ap (λ (l : List ℕ). slice_index l (k % 8)) (slot_line_fed words p f i (k / 8) behind)
+    ∙ get_or-take (26 + (64 * (i - f) + 8 * (k / 8)) + 8 - (26 + (64 * (i - f) + 8 * (k / 8)))) (drop (26 + (64 * (i - f) + 8 * (k / 8))) words) (k % 8) 0 (omega arith)
+    ∙ get_or-drop (26 + (64 * (i - f) + 8 * (k / 8))) words (k % 8) 0
+    ∙ ap (λ (n : ℕ). slice_index words n) (let z : 26 + (64 * (i - f) + 8 * (k / 8)) + k % 8 ≡ 26 + 64 * (i - f) + k = omega arith in z)
 
 length-slot : (line : Lines) (p : Params) (i : ℕ) → length (slot_words line p i) ≡ 64
 unfolding slot_words
 length-slot line p i = length-map-range_with_len (slot_word line p i) 0 64
 
-get-slot : (words : List ℕ) (p : Params) (i k d : ℕ) → k < 64 → get_or (slot_words (fed p 0 words) p i) k d ≡ slice_index words (26 + 64 * i + k)
+get-slot : (words : List ℕ) (p : Params) (f i k d : ℕ) → f ≤ i → k < 64 → get_or (slot_words (fed p f words) p i) k d ≡ slice_index words (26 + 64 * (i - f) + k)
 unfolding slot_words
-get-slot words p i k d below = get_or-map-range_with_len (slot_word (fed p 0 words) p i) 0 64 k k d below (omega arith) ∙ slot_word_fed words p i k below
+get-slot words p f i k d behind below = get_or-map-range_with_len (slot_word (fed p f words) p i) 0 64 k k d below (omega arith) ∙ slot_word_fed words p f i k behind below
 
 -- the words of the slot that was loaded last
-pub slot_held : (words : List ℕ) (p : Params) (i : ℕ) → length words ≡ 26 + 64 * i + 64 → slot_words (fed p 0 words) p i ≡ drop (26 + 64 * i) words
-slot_held words p i long =
-    same_lists (slot_words (fed p 0 words) p i) (drop (26 + 64 * i) words) (length-slot (fed p 0 words) p i ∙ omega (arith, length-drop (26 + 64 * i) words))
+pub slot_held : (words : List ℕ) (p : Params) (f i : ℕ) → f ≤ i → length words ≡ 26 + 64 * (i - f) + 64 → slot_words (fed p f words) p i ≡ drop (26 + 64 * (i - f)) words
+slot_held words p f i behind long =
+    same_lists (slot_words (fed p f words) p i) (drop (26 + 64 * (i - f)) words) (length-slot (fed p f words) p i ∙ omega (arith, length-drop (26 + 64 * (i - f)) words))
     (λ k d below.
-    let small : k < 64 = omega (arith, length-slot (fed p 0 words) p i) in
-    get-slot words p i k d small ∙ get_or_default words (26 + 64 * i + k) 0 d (omega arith) ∙ sym (get_or-drop (26 + 64 * i) words k d))
+    let small : k < 64 = omega (arith, length-slot (fed p f words) p i) in
+    get-slot words p f i k d behind small ∙ get_or_default words (26 + 64 * (i - f) + k) 0 d (omega arith) ∙ sym (get_or-drop (26 + 64 * (i - f)) words k d))
 
 -- the words of a slot stay
-pub slot_stays : (words more : List ℕ) (p : Params) (i : ℕ) → 26 + 64 * i + 64 ≤ length words → slot_words (fed p 0 (words ++ more)) p i ≡ slot_words (fed p 0 words) p i
-slot_stays words more p i long =
-    same_lists (slot_words (fed p 0 (words ++ more)) p i) (slot_words (fed p 0 words) p i) (length-slot (fed p 0 (words ++ more)) p i ∙ sym (length-slot (fed p 0 words) p i))
+pub slot_stays : (words more : List ℕ) (p : Params) (f i : ℕ) → f ≤ i → 26 + 64 * (i - f) + 64 ≤ length words → slot_words (fed p f (words ++ more)) p i ≡ slot_words (fed p f words) p i
+slot_stays words more p f i behind long =
+    same_lists (slot_words (fed p f (words ++ more)) p i) (slot_words (fed p f words) p i) (length-slot (fed p f (words ++ more)) p i ∙ sym (length-slot (fed p f words) p i))
     (λ k d below.
-    let small : k < 64 = omega (arith, length-slot (fed p 0 (words ++ more)) p i) in
-    get-slot (words ++ more) p i k d small ∙ index_stays words more (26 + 64 * i + k) (omega arith) ∙ sym (get-slot words p i k d small))
+    let small : k < 64 = omega (arith, length-slot (fed p f (words ++ more)) p i) in
+    get-slot (words ++ more) p f i k d behind small ∙ index_stays words more (26 + 64 * (i - f) + k) (omega arith) ∙ sym (get-slot words p f i k d behind small))
 
 -- Slots that are read.
 
@@ -87,26 +87,26 @@ or_same : (p : Params) (list : List Entry) (i : ℕ) (r : Result Entry Reason) (
 or_same p list i (Ok e) f g same = ap (joined_or i (join_fault p list e)) (same e)
 or_same p list i (Err reason) f g same = refl
 
-read_same : (a b : Lines) (p : Params) (n from : ℕ) (list : List Entry) → ((i : ℕ) → i < from + n → slot_words a p i ≡ slot_words b p i) → read_slots a p from n list ≡ read_slots b p from n list
+read_same : (a b : Lines) (p : Params) (n from : ℕ) (list : List Entry) → ((i : ℕ) → from ≤ i → i < from + n → slot_words a p i ≡ slot_words b p i) → read_slots a p from n list ≡ read_slots b p from n list
 read_same a b p zero from list same = refl
 read_same a b p (suc n) from list same =
-    ap (λ (w : List ℕ). slot_or p list from (entry_of p w from) (λ e. read_slots a p (from + 1) n (list ++ e ∷ []))) (same from (omega arith))
+    ap (λ (w : List ℕ). slot_or p list from (entry_of p w from) (λ e. read_slots a p (from + 1) n (list ++ e ∷ []))) (same from (omega arith) (omega arith))
     ∙ or_same p list from (slot_in b p from) (λ e. read_slots a p (from + 1) n (list ++ e ∷ [])) (λ e. read_slots b p (from + 1) n (list ++ e ∷ []))
-    (λ e. read_same a b p n (from + 1) (list ++ e ∷ []) (λ i below. same i (omega arith)))
+    (λ e. read_same a b p n (from + 1) (list ++ e ∷ []) (λ i behind below. same i (omega arith) (omega arith)))
 
 -- what the slots say stays
-pub slots_stay : (words more : List ℕ) (p : Params) (n : ℕ) → 26 + 64 * n ≤ length words → fed_slots (words ++ more) p 0 n ≡ fed_slots words p 0 n
-slots_stay words more p n long = read_same (fed p 0 (words ++ more)) (fed p 0 words) p (n - 0) 0 [] (λ i below. slot_stays words more p i (omega arith))
+pub slots_stay : (words more : List ℕ) (p : Params) (used : List Entry) (n : ℕ) → 26 + 64 * (n - length used) ≤ length words → fed_slots (words ++ more) p used n ≡ fed_slots words p used n
+slots_stay words more p used n long = read_same (fed p (length used) (words ++ more)) (fed p (length used) words) p (n - length used) (length used) used (λ i behind below. slot_stays words more p (length used) i behind (omega arith))
 
-survey_same : (a b : Lines) (p : Params) (gate n from : ℕ) (s : Survey) → ((i : ℕ) → i < from + n → slot_words a p i ≡ slot_words b p i) → survey_slots a p gate from n s ≡ survey_slots b p gate from n s
+survey_same : (a b : Lines) (p : Params) (gate n from : ℕ) (s : Survey) → ((i : ℕ) → from ≤ i → i < from + n → slot_words a p i ≡ slot_words b p i) → survey_slots a p gate from n s ≡ survey_slots b p gate from n s
 survey_same a b p gate zero from s same = refl
 survey_same a b p gate (suc n) from s same =
-    ap (λ (w : List ℕ). survey_slots a p gate (from + 1) n (survey_slot p gate from w s)) (same from (omega arith))
-    ∙ survey_same a b p gate n (from + 1) (survey_slot p gate from (slot_words b p from) s) (λ i below. same i (omega arith))
+    ap (λ (w : List ℕ). survey_slots a p gate (from + 1) n (survey_slot p gate from w s)) (same from (omega arith) (omega arith))
+    ∙ survey_same a b p gate n (from + 1) (survey_slot p gate from (slot_words b p from) s) (λ i behind below. same i (omega arith) (omega arith))
 
 -- so does what a check of the whole file system finds in them
 pub survey_stays : (words more : List ℕ) (p : Params) (gate n : ℕ) → 26 + 64 * n ≤ length words → survey_slots (fed p 0 (words ++ more)) p gate 0 n no_survey ≡ survey_slots (fed p 0 words) p gate 0 n no_survey
-survey_stays words more p gate n long = survey_same (fed p 0 (words ++ more)) (fed p 0 words) p gate n 0 no_survey (λ i below. slot_stays words more p i (omega arith))
+survey_stays words more p gate n long = survey_same (fed p 0 (words ++ more)) (fed p 0 words) p gate n 0 no_survey (λ i behind below. slot_stays words more p 0 i behind (omega arith))
 
 -- One slot more.
 
@@ -130,12 +130,13 @@ read_more line p (suc n) from list =
     (λ e. read_more line p n (from + 1) (list ++ e ∷ []) ∙ ap (λ (i : ℕ). slot_after line p i (read_slots line p (from + 1) n (list ++ e ∷ []))) (let z : (from + 1) + n ≡ from + suc n = omega arith in z))
 
 -- slot i is read behind those before it
-pub slots_more : (words : List ℕ) (p : Params) (i : ℕ) (list : List Entry) → fed_slots words p 0 i ≡ Sound p list → fed_slots words p 0 (i + 1) ≡ slot_or p list i (slot_in (fed p 0 words) p i) (λ e. Sound p (list ++ e ∷ []))
-slots_more words p i list is =
-    ap (λ (n : ℕ). read_slots (fed p 0 words) p 0 n []) (let z : i + 1 - 0 ≡ suc (i - 0) = omega arith in z)
-    ∙ read_more (fed p 0 words) p (i - 0) 0 []
-    ∙ ap (λ (n : ℕ). slot_after (fed p 0 words) p n (read_slots (fed p 0 words) p 0 (i - 0) [])) (let z : 0 + (i - 0) ≡ i = omega arith in z)
-    ∙ ap (slot_after (fed p 0 words) p i) is
+pub slots_more : (words : List ℕ) (p : Params) (used : List Entry) (i : ℕ) (list : List Entry) → length used ≤ i → fed_slots words p used i ≡ Sound p list → fed_slots words p used (i + 1) ≡ slot_or p list i (slot_in (fed p (length used) words) p i) (λ e. Sound p (list ++ e ∷ []))
+slots_more words p used i list behind is =
+    let f : ℕ = length used in
+    ap (λ (n : ℕ). read_slots (fed p f words) p f n used) (let z : i + 1 - f ≡ suc (i - f) = omega arith in z)
+    ∙ read_more (fed p f words) p (i - f) f used
+    ∙ ap (λ (n : ℕ). slot_after (fed p f words) p n (read_slots (fed p f words) p f (i - f) used)) (let z : f + (i - f) ≡ i = omega arith in z)
+    ∙ ap (slot_after (fed p f words) p i) is
 
 survey_last : (line : Lines) (p : Params) (gate n from : ℕ) (s : Survey) → survey_slots line p gate from (suc n) s ≡ survey_slot p gate (from + n) (slot_words line p (from + n)) (survey_slots line p gate from n s)
 survey_last line p gate zero from s = ap (λ (i : ℕ). survey_slot p gate i (slot_words line p i) s) (let z : from ≡ from + 0 = omega arith in z)

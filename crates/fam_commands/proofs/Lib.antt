@@ -1,4 +1,6 @@
 pub mod ListPlaces
+pub mod KeptUsed
+pub mod UsedCounts
 pub mod FedLemmas
 pub mod FaultReplies
 pub mod Finds

@@ -48,6 +48,14 @@ module _ {A : Type 0} (f : ℕ → List A) (w : ℕ) (even : (j : ℕ) → lengt
   pub piece_at : (n j r m : ℕ) (rest : List A) → j < n → r < w → m ≡ w * j + r → slice_get (flat_map f (range_with_len 0 n) ++ rest) m ≡ slice_get (f j) r
   piece_at n j r m rest below small is = piece_from 0 n j r m rest below small is ∙ ap (λ (k : ℕ). slice_get (f k) r) (let z : 0 + j ≡ j = omega arith in z)
 
+  -- a place in the piece of number i, where the first one has number first
+  pub pieces_from : (first n i r m : ℕ) (rest : List A) → first ≤ i → i < first + n → r < w → m ≡ w * (i - first) + r → slice_get (flat_map f (range_with_len first n) ++ rest) m ≡ slice_get (f i) r
+  pieces_from first n i r m rest behind below small is = piece_from first n (i - first) r m rest (omega arith) small is ∙ ap (λ (k : ℕ). slice_get (f k) r) (let z : first + (i - first) ≡ i = omega arith in z)
+
+  -- and what stands behind them
+  pub after_from : (first n r m : ℕ) (rest : List A) → m ≡ w * n + r → slice_get (flat_map f (range_with_len first n) ++ rest) m ≡ slice_get rest r
+  after_from first n r m rest is = get-append_right (flat_map f (range_with_len first n)) rest (w * n) r m (length-pieces first n) is
+
   -- what stands behind the pieces
   pub after_pieces : (n r m : ℕ) (rest : List A) → m ≡ w * n + r → slice_get (flat_map f (range_with_len 0 n) ++ rest) m ≡ slice_get rest r
   after_pieces n r m rest is = get-append_right (flat_map f (range_with_len 0 n)) rest (w * n) r m (length-pieces 0 n) is

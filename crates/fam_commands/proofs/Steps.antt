@@ -8,3 +8,4 @@ pub mod Outcomes
 pub mod Standing
 pub mod TieStays
 pub mod Ties
+pub mod UsedTold

@@ -20,7 +20,9 @@ IsBeforeWrites (at.SendData j) = ⊥
 IsBeforeWrites (at.StoreSlot j k) = ⊥
 IsBeforeWrites (at.SendSlot j) = ⊥
 IsBeforeWrites at.StoreGate = ⊥
+IsBeforeWrites at.FenceSlot = ⊥
 IsBeforeWrites at.SendGate = ⊥
+IsBeforeWrites at.FenceGate = ⊥
 
 -- the command appends
 abbrev pub HasWish : Cmd → Type 0

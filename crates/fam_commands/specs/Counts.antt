@@ -1,5 +1,5 @@
 -- How many operations a command makes, by its answer. docs/MODEL.md, "The table of operations".
-use Rattle.std.specs.Prelude.{ℕ, ◌+◌, ◌-◌, ◌*◌, ◌/◌, List, Option, Some, None}
+use Rattle.std.specs.Prelude.{ℕ, ◌+◌, ◌-◌, ◌*◌, ◌/◌, List, length, Option, Some, None}
 use Rattle.std.specs.FinMap as finmap
 use Rattle.fam_base.specs.declared.cmd.Cmd.{Cmd}
 use Rattle.fam_base.specs.declared.cmd.Cmd.TheVariants.{Logplay, Mkdir, Creat, Cp, Verify, Read, Check, Fsck}
@@ -22,6 +22,7 @@ use Rattle.fam_rules.specs.declared.answers.LogState.TheVariants as log
 use Rattle.fam_rules.specs.Decide.{Wish, wish_of}
 use Rattle.fam_rules.specs.Reply.{Reply, Appended, NotAppended, Played, Same, Differs, Length, Bytes, NotFound, IsDirectory, Checks, Reports, NoSuperblock, BadHeader, BadSlot}
 use Rattle.fam_rules.specs.Written.{lines_of}
+use Rattle.fam_commands.specs.Kept.{Kept, used}
 use Rattle.fam_commands.specs.Task.{no_params, size_of, wanted_lines}
 use Rattle.fam_commands.specs.Table.{fed_super, fed_gate, fed_slots, entries_read, params_or}
 
@@ -53,9 +54,9 @@ slot_steps g = line_steps * g.lines + 1
 abbrev pub decided_steps : Geometry → ℕ → ℕ → ℕ
 decided_steps g first n = head_steps + slot_steps g * (n - first) + 1
 
--- an append: the lines of the file and of the slot, and two operations for the gate
+-- an append: the lines of the file and of the slot, two operations for the gate, and a fence behind the slot and the gate
 abbrev pub append_steps : Geometry → ℕ → ℕ
-append_steps g d = line_steps * d + line_steps * g.lines + word_steps
+append_steps g d = line_steps * d + line_steps * g.lines + 1 + word_steps + 1
 
 -- the magic is the second word of all; lines 1 and 2 follow it
 abbrev pub super_steps : SuperFault → ℕ
@@ -130,12 +131,20 @@ file_lines (Cp path attr stripe bytes) entries = wish_lines (wish_of (Cp path at
 file_lines (Check listing) entries = 0
 file_lines Fsck entries = 0
 
--- the entries that the words tell, of a command that reads slots from `first` on
-abbrev pub told_entries : ℕ → List ℕ → ℕ → List Entry
-told_entries first words lines =
-    entries_read (fed_slots words (params_or no_params (fed_super words lines)) first (fed_gate words))
+-- the kept entries that a command uses, by the words
+abbrev pub used_told : Option Kept → Cmd → List ℕ → ℕ → List Entry
+used_told kept cmd words lines = used kept cmd (params_or no_params (fed_super words lines)) (fed_gate words)
+
+-- the entries that the words tell behind these
+abbrev pub told_entries : List Entry → List ℕ → ℕ → List Entry
+told_entries used words lines =
+    entries_read (fed_slots words (params_or no_params (fed_super words lines)) used (fed_gate words))
+
+-- by the kept entries that are used
+abbrev pub steps_behind : List Entry → Cmd → ℕ → List ℕ → Reply → ℕ
+steps_behind used cmd lines words reply =
+    steps_by (geometry (params_or no_params (fed_super words lines))) (length used) (fed_gate words) (file_lines cmd (told_entries used words lines)) reply
 
 -- the operations up to this answer, with the one that gives it
-abbrev pub steps_of : ℕ → Cmd → ℕ → List ℕ → Reply → ℕ
-steps_of first cmd lines words reply =
-    steps_by (geometry (params_or no_params (fed_super words lines))) first (fed_gate words) (file_lines cmd (told_entries first words lines)) reply
+abbrev pub steps_of : Option Kept → Cmd → ℕ → List ℕ → Reply → ℕ
+steps_of kept cmd lines words reply = steps_behind (used_told kept cmd words lines) cmd lines words reply

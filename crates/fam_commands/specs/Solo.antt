@@ -4,7 +4,7 @@ use Rattle.std.specs.FinMap as map
 use Rattle.fam_base.specs.declared.cmd.Cmd.{Cmd}
 use Rattle.fam_base.specs.Image.{Image, line_at}
 use Rattle.fam_machine.specs.declared.op.Op.{Op}
-use Rattle.fam_machine.specs.declared.op.Op.TheVariants.{Load, Store, WriteBack, Invalidate, Digest}
+use Rattle.fam_machine.specs.declared.op.Op.TheVariants.{Load, Store, WriteBack, Fence, Invalidate, Digest}
 use Rattle.fam_machine.specs.Caches.{Cache}
 use Rattle.fam_machine.specs.Operations.{Machine, given, operated, IsInImage}
 use Rattle.fam_commands.specs.Stands.{note_of, task_after, with_given}
@@ -24,7 +24,7 @@ with_empty_cache image = record { image = image; cache = map.empty }
 -- left of memory and cache
 pub data SoloRun (cmd : Cmd) (me : List ℕ) (image : Image) (cache : Cache) : Task → List ℕ → ℕ → Machine → Type 0 where
   starts : SoloRun cmd me image cache (starting cmd me (length image)) [] 0 (record { image = image; cache = cache })
-  goes : {t next : Task} {words : List ℕ} {made : ℕ} {m : Machine} → SoloRun cmd me image cache t words made m → IsInImage (op_of t) m.image → task_after (turn_on t m) ≡ Some next → SoloRun cmd me image cache next (with_given words (given (op_of t) m)) (made + 1) (operated (op_of t) m)
+  goes : {t next : Task} {words : List ℕ} {made : ℕ} {m : Machine} → SoloRun cmd me image cache t words made m → IsInImage (op_of t) m → task_after (turn_on t m) ≡ Some next → SoloRun cmd me image cache next (with_given words (given (op_of t) m)) (made + 1) (operated (op_of t) m)
 
 -- What is noted, by the operations and by the image alone.
 
@@ -46,6 +46,7 @@ abbrev pub image_word : Image → Op → Option ℕ
 image_word image (Load line k) = Some (slice_index (line_at image line.0) k)
 image_word image (Store line k value) = None
 image_word image (WriteBack line) = None
+image_word image Fence = None
 image_word image (Invalidate line) = None
 image_word image Digest = None
 

@@ -2,7 +2,8 @@
 use Rattle.std.specs.Prelude.{ℕ, ◌≡◌, ◌+◌, List, [], ◌∷◌, ◌++◌, Option, Some, None}
 use Rattle.fam_base.specs.declared.cmd.Cmd.{Cmd}
 use Rattle.fam_machine.specs.Operations.{given_by}
-use Rattle.fam_commands.specs.Task.{Task, starting, op_of}
+use Rattle.fam_commands.specs.Kept.{Kept}
+use Rattle.fam_commands.specs.Task.{Task, mounted, op_of}
 use Rattle.fam_commands.specs.Turns.{Turn, Goes, Marks, Finds, Writes, Ends, turn_of}
 use Rattle.fam_commands.specs.Table.{RowNote, Quiet, Mark, Found, Writing, Answer}
 
@@ -31,7 +32,7 @@ note_of (Ends reply) = Answer reply
 abbrev pub turn_given : Task → ℕ → Turn
 turn_given t word = turn_of t (given_by (op_of t) word)
 
--- the task is where the command stands after these words and so many operations
-pub data StandsFor (cmd : Cmd) (me : List ℕ) (lines : ℕ) : Task → List ℕ → ℕ → Type 0 where
-  starts : StandsFor cmd me lines (starting cmd me lines) [] 0
-  goes : {t next : Task} {words : List ℕ} {made : ℕ} (word : ℕ) → StandsFor cmd me lines t words made → task_after (turn_given t word) ≡ Some next → StandsFor cmd me lines next (with_given words (given_by (op_of t) word)) (made + 1)
+-- the task is where the command, on a host that kept this, stands after these words and so many operations
+pub data StandsFor (kept : Option Kept) (cmd : Cmd) (me : List ℕ) (lines : ℕ) : Task → List ℕ → ℕ → Type 0 where
+  starts : StandsFor kept cmd me lines (mounted kept cmd me lines) [] 0
+  goes : {t next : Task} {words : List ℕ} {made : ℕ} (word : ℕ) → StandsFor kept cmd me lines t words made → task_after (turn_given t word) ≡ Some next → StandsFor kept cmd me lines next (with_given words (given_by (op_of t) word)) (made + 1)

@@ -28,8 +28,9 @@ use Rattle.fam_rules.specs.Reply.{Reply}
 use Rattle.fam_rules.specs.Reports.{report_of}
 use Rattle.fam_rules.specs.Written.{lines_of, file_line, slot_part}
 use Rattle.fam_machine.specs.declared.op.Op.{Op}
-use Rattle.fam_machine.specs.declared.op.Op.TheVariants.{Load, Store, WriteBack, Invalidate, Digest}
+use Rattle.fam_machine.specs.declared.op.Op.TheVariants.{Load, Store, WriteBack, Fence, Invalidate, Digest}
 use Rattle.fam_machine.specs.Operations.{line_no, load_ops, store_ops}
+use Rattle.fam_commands.specs.Kept.{Kept, used}
 use Rattle.fam_commands.specs.Task.{no_params, first_line, wanted_lines, content_of}
 
 -- what comes with an operation
@@ -61,15 +62,15 @@ slot_ops p i = flat_map (λ j. load_ops (slot_line p i j) line_words) (range_wit
 abbrev pub data_ops : Entry → Content → List Op
 data_ops e fill = flat_map (λ j. store_ops (file_line e j) (content_line fill e.size j) ++ Invalidate (line_no (file_line e j)) ∷ []) (range_with_len 0 (lines_of e.size))
 
--- the lines of a new slot: each is stored and written back
+-- the lines of a new slot: each is stored, and it is asked for it to be sent
 abbrev pub new_slot_ops : Params → ℕ → Entry → List Op
 new_slot_ops p seq e =
     flat_map (λ j. store_ops (slot_line p seq j) (slot_part (spelling (geometry p) e seq) j) ++ WriteBack (line_no (slot_line p seq j)) ∷ []) (range_with_len 0 (geometry p).lines)
 
--- an entry is appended: its file, its slot, and the gate
+-- an entry is appended: its file; its slot, which is sent by a fence; and then the gate, which is sent by another one
 abbrev pub append_ops : Params → ℕ → Entry → Content → List Op
 append_ops p seq e fill =
-    data_ops e fill ++ new_slot_ops p seq e ++ Store (line_no gate_line) 0 (seq + 1) ∷ WriteBack (line_no gate_line) ∷ []
+    data_ops e fill ++ new_slot_ops p seq e ++ Fence ∷ Store (line_no gate_line) 0 (seq + 1) ∷ WriteBack (line_no gate_line) ∷ Fence ∷ []
 
 -- The words.
 
@@ -109,9 +110,9 @@ fed_super words lines = super_in (fed_head words) (line_bytes * lines)
 abbrev pub fed_gate : List ℕ → ℕ
 fed_gate words = gate_in (fed_head words)
 
--- and of the slots from `first` on, up to slot n
-abbrev pub fed_slots : List ℕ → Params → ℕ → ℕ → Reading
-fed_slots words p first n = read_slots (fed p first words) p first (n - first) []
+-- and of the slots behind the kept entries that are used, up to slot n
+abbrev pub fed_slots : List ℕ → Params → List Entry → ℕ → Reading
+fed_slots words p used n = read_slots (fed p (length used) words) p (length used) (n - length used) used
 
 -- the entries of a sound reading
 abbrev pub entries_read : Reading → List Entry
@@ -184,15 +185,15 @@ reading_note (BadSlot i reason) = Answer (reply.BadSlot i reason)
 reading_note (Sound p entries) = Quiet
 
 -- with the Digest of slot i: a check of the whole file system goes on
-abbrev pub slot_note : Cmd → List ℕ → Params → ℕ → ℕ → RowNote
-slot_note Fsck words p first i = Quiet
-slot_note Logplay words p first i = reading_note (fed_slots words p first (i + 1))
-slot_note (Mkdir path attr) words p first i = reading_note (fed_slots words p first (i + 1))
-slot_note (Creat path size attr stripe fill) words p first i = reading_note (fed_slots words p first (i + 1))
-slot_note (Cp path attr stripe bytes) words p first i = reading_note (fed_slots words p first (i + 1))
-slot_note (Verify path against) words p first i = reading_note (fed_slots words p first (i + 1))
-slot_note (Read path offset count) words p first i = reading_note (fed_slots words p first (i + 1))
-slot_note (Check listing) words p first i = reading_note (fed_slots words p first (i + 1))
+abbrev pub slot_note : Cmd → List ℕ → Params → List Entry → ℕ → RowNote
+slot_note Fsck words p used i = Quiet
+slot_note Logplay words p used i = reading_note (fed_slots words p used (i + 1))
+slot_note (Mkdir path attr) words p used i = reading_note (fed_slots words p used (i + 1))
+slot_note (Creat path size attr stripe fill) words p used i = reading_note (fed_slots words p used (i + 1))
+slot_note (Cp path attr stripe bytes) words p used i = reading_note (fed_slots words p used (i + 1))
+slot_note (Verify path against) words p used i = reading_note (fed_slots words p used (i + 1))
+slot_note (Read path offset count) words p used i = reading_note (fed_slots words p used (i + 1))
+slot_note (Check listing) words p used i = reading_note (fed_slots words p used (i + 1))
 
 -- an answer, where there is one
 abbrev pub answer_or : Option Reply → RowNote
@@ -294,10 +295,10 @@ abbrev pub head_rows : Cmd → List ℕ → ℕ → List ℕ → Params → List
 head_rows cmd me lines words p =
     rows (load_ops 0 1) (magic_note cmd words lines (magic_fault (slice_index words 0))) ++ rows (load_ops 1 line_words ++ load_ops 2 line_words) (super_note cmd me words lines (fed_super words lines)) ++ rows (load_ops log_line line_words) (header_note cmd words lines (log_fault (fed_head words log_line) p)) ++ rows (Invalidate (line_no gate_line) ∷ []) Mark ++ rows (Load (line_no gate_line) 0 ∷ []) (gate_note cmd words lines (gate_fault (fed_gate words) p))
 
--- the slots from `first` on, up to slot n
-abbrev pub slots_rows : Cmd → List ℕ → Params → ℕ → ℕ → List Row
-slots_rows cmd words p first n =
-    flat_map (λ i. rows (slot_ops p i) (slot_note cmd words p first i)) (range_with_len first (n - first))
+-- the slots behind the kept entries that are used, up to slot n
+abbrev pub slots_rows : Cmd → List ℕ → Params → List Entry → ℕ → List Row
+slots_rows cmd words p used n =
+    flat_map (λ i. rows (slot_ops p i) (slot_note cmd words p used i)) (range_with_len (length used) (n - length used))
 
 -- the lines of a file that hold wanted bytes
 abbrev pub file_rows : Cmd → List ℕ → Params → ℕ → List Entry → Entry → List Row
@@ -344,19 +345,23 @@ slots_of_cmd (Verify path against) p gate = gate
 slots_of_cmd (Read path offset count) p gate = gate
 slots_of_cmd (Check listing) p gate = gate
 
--- the rows behind the gate, by the parameters
-abbrev pub body_rows : ℕ → Cmd → List ℕ → ℕ → List ℕ → Params → List Row
-body_rows first cmd me lines words p =
-    let entries = entries_read (fed_slots words p first (fed_gate words)) in
-    slots_rows cmd words p first (slots_of_cmd cmd p (fed_gate words)) ++ record { op = Digest; note = decision_note cmd me words lines p first entries } ∷ last_rows cmd me words p first entries
+-- the rows behind the gate, by the parameters and the kept entries that are used
+abbrev pub rows_behind : List Entry → Cmd → List ℕ → ℕ → List ℕ → Params → List Row
+rows_behind used cmd me lines words p =
+    let entries = entries_read (fed_slots words p used (fed_gate words)) in
+    slots_rows cmd words p used (slots_of_cmd cmd p (fed_gate words)) ++ record { op = Digest; note = decision_note cmd me words lines p (length used) entries } ∷ last_rows cmd me words p (length used) entries
+
+-- by the parameters alone
+abbrev pub body_rows : Option Kept → Cmd → List ℕ → ℕ → List ℕ → Params → List Row
+body_rows kept cmd me lines words p = rows_behind (used kept cmd p (fed_gate words)) cmd me lines words p
 
 -- the parameters that the words tell, or none
 abbrev pub params_or : Params → Result Params SuperFault → Params
 params_or default (Ok p) = p
 params_or default (Err fault) = default
 
--- the whole table of a command that reads slots from `first` on, after these words
-abbrev pub table : ℕ → Cmd → List ℕ → ℕ → List ℕ → List Row
-table first cmd me lines words =
+-- the whole table of a command on a host that keeps this, after these words
+abbrev pub table : Option Kept → Cmd → List ℕ → ℕ → List ℕ → List Row
+table kept cmd me lines words =
     let p = params_or no_params (fed_super words lines) in
-    head_rows cmd me lines words p ++ body_rows first cmd me lines words p
+    head_rows cmd me lines words p ++ body_rows kept cmd me lines words p

@@ -1,6 +1,6 @@
 -- A task: a command on its way, and the operation that it does next. It knows nothing of memory but the words that
 -- its own loads gave. docs/MODEL.md, "Tasks".
-use Rattle.std.specs.Prelude.{ℕ, ◌+◌, ◌-◌, ◌*◌, ◌/◌, nat_le, if◌then◌else◌, min, List, [], replicate, slice_index, Option, Some, None}
+use Rattle.std.specs.Prelude.{ℕ, ◌+◌, ◌-◌, ◌*◌, ◌/◌, nat_le, if◌then◌else◌, min, List, [], length, replicate, slice_index, Option, Some, None}
 use Rattle.fam_base.specs.declared.cmd.Cmd.{Cmd}
 use Rattle.fam_base.specs.declared.cmd.Cmd.TheVariants.{Logplay, Mkdir, Creat, Cp, Verify, Read, Check, Fsck}
 use Rattle.fam_base.specs.declared.entry.Params.{Params}
@@ -13,8 +13,9 @@ pub use Rattle.fam_rules.specs.Solo.{content_of}
 use Rattle.fam_rules.specs.Reports.{Survey, no_survey}
 use Rattle.fam_rules.specs.Written.{lines_of, file_line}
 use Rattle.fam_machine.specs.declared.op.Op.{Op}
-use Rattle.fam_machine.specs.declared.op.Op.TheVariants.{Load, Store, WriteBack, Invalidate, Digest}
+use Rattle.fam_machine.specs.declared.op.Op.TheVariants.{Load, Store, WriteBack, Fence, Invalidate, Digest}
 use Rattle.fam_machine.specs.Operations.{line_no}
+use Rattle.fam_commands.specs.Kept.{Kept, used}
 use Rattle.fam_commands.specs.declared.phase.Part.{Part}
 use Rattle.fam_commands.specs.declared.phase.Part.TheVariants.{Superblock, Header, Slot, File}
 use Rattle.fam_commands.specs.declared.phase.Phase.{Phase}
@@ -29,8 +30,8 @@ pub record Task : Type 0 where
   pub phase : Phase
   -- what the superblock says, once it has been read
   pub params : Params
-  -- the first slot that it reads
-  pub first_slot : ℕ
+  -- what its host kept when it began
+  pub kept : Option Kept
   -- the gate, once it has been loaded
   pub gate : ℕ
   -- the entries of the slots that were read, in order
@@ -47,25 +48,32 @@ abbrev pub no_params : Params
 no_params =
     record { log_length = 0; slots = 0; unit = 0; device = 0; fs = replicate uuid_bytes 0; master = replicate uuid_bytes 0 }
 
--- the slot from which on a command reads the log: a host keeps nothing of what earlier commands read
-abbrev pub start_slot : ℕ
-start_slot = 0
-
--- a command before its first operation
-abbrev pub starting : Cmd → List ℕ → ℕ → Task
-starting cmd me lines = record {
+-- a command before its first operation, on a host that keeps this
+abbrev pub mounted : Option Kept → Cmd → List ℕ → ℕ → Task
+mounted kept cmd me lines = record {
   cmd = cmd;
   me = me;
   lines = lines;
   phase = at.DropMagic;
   params = no_params;
-  first_slot = start_slot;
+  kept = kept;
   gate = 0;
   entries = [];
   words = [];
   entry = None;
   survey = no_survey;
 }
+
+-- on a host that keeps nothing
+abbrev pub starting : Cmd → List ℕ → ℕ → Task
+starting cmd me lines = mounted None cmd me lines
+
+-- the kept entries that it uses, and the first slot that it reads
+abbrev pub used_in : Task → List Entry
+used_in t = used t.kept t.cmd t.params t.gate
+
+abbrev pub first_in : Task → ℕ
+first_in t = length (used_in t)
 
 -- Which lines a command reads and writes.
 
@@ -143,8 +151,10 @@ op_at t (at.StoreData j k) = Store (line_no (line_of t.entry j)) k (slice_index 
 op_at t (at.SendData j) = Invalidate (line_no (line_of t.entry j))
 op_at t (at.StoreSlot j k) = Store (line_no (slot_line t.params t.gate j)) k (slice_index t.words (line_words * j + k))
 op_at t (at.SendSlot j) = WriteBack (line_no (slot_line t.params t.gate j))
+op_at t at.FenceSlot = Fence
 op_at t at.StoreGate = Store (line_no gate_line) 0 (t.gate + 1)
 op_at t at.SendGate = WriteBack (line_no gate_line)
+op_at t at.FenceGate = Fence
 
 abbrev pub op_of : Task → Op
 op_of t = op_at t t.phase

@@ -30,6 +30,7 @@ use Rattle.fam_commands.specs.declared.phase.Part.{Part}
 use Rattle.fam_commands.specs.declared.phase.Part.TheVariants.{Superblock, Header, Slot, File}
 use Rattle.fam_commands.specs.declared.phase.Phase.{Phase}
 use Rattle.fam_commands.specs.declared.phase.Phase.TheVariants as at
+use Rattle.fam_commands.specs.Kept.{used, first_slot}
 use Rattle.fam_commands.specs.Task.{Task, size_of, wanted_end, part_count}
 
 pub data Turn : Type 0 where
@@ -118,9 +119,9 @@ abbrev pub finds_or_goes : Option Wish → ℕ → Task → Turn
 finds_or_goes None n t = Goes t
 finds_or_goes (Some w) n t = Finds n t
 
--- the gate that was loaded: the first slot comes next, where the command reads one
+-- the gate that was loaded: behind the kept entries the first slot comes next, where the command reads one
 abbrev pub gate_loaded : Task → ℕ → Task
-gate_loaded t n = record t { gate = n; phase = slot_or_decide (record t { gate = n }) t.first_slot }
+gate_loaded t n = record t { gate = n; entries = used t.kept t.cmd t.params n; phase = slot_or_decide (record t { gate = n }) (first_slot t.kept t.cmd t.params n) }
 
 -- the gate is within the slots, or the answer
 abbrev pub gate_turn : Task → ℕ → Option LogFault → Turn
@@ -266,9 +267,9 @@ store_or_send k store send = if nat_lt k last_word then store else send
 abbrev pub data_or_slot : Task → ℕ → Phase
 data_or_slot t j = if nat_lt (j + 1) (lines_of (size_of t.entry)) then at.StoreData (j + 1) 0 else at.StoreSlot 0 0
 
--- the next line of the slot, or the gate
-abbrev pub slot_or_gate : Task → ℕ → Phase
-slot_or_gate t j = if nat_lt (j + 1) (geometry t.params).lines then at.StoreSlot (j + 1) 0 else at.StoreGate
+-- the next line of the slot, or the fence behind them
+abbrev pub slot_or_fence : Task → ℕ → Phase
+slot_or_fence t j = if nat_lt (j + 1) (geometry t.params).lines then at.StoreSlot (j + 1) 0 else at.FenceSlot
 
 -- What comes of the operation in a phase; `word` is what a load gave.
 
@@ -284,9 +285,11 @@ turn_at at.Decide t word = decide_turn t.cmd t
 turn_at (at.StoreData j k) t word = Goes (record t { phase = store_or_send k (at.StoreData j (k + 1)) (at.SendData j) })
 turn_at (at.SendData j) t word = Goes (record t { phase = data_or_slot t j })
 turn_at (at.StoreSlot j k) t word = Goes (record t { phase = store_or_send k (at.StoreSlot j (k + 1)) (at.SendSlot j) })
-turn_at (at.SendSlot j) t word = Goes (record t { phase = slot_or_gate t j })
+turn_at (at.SendSlot j) t word = Goes (record t { phase = slot_or_fence t j })
+turn_at at.FenceSlot t word = Goes (record t { phase = at.StoreGate })
 turn_at at.StoreGate t word = Goes (record t { phase = at.SendGate })
-turn_at at.SendGate t word = Ends (Appended t.gate)
+turn_at at.SendGate t word = Goes (record t { phase = at.FenceGate })
+turn_at at.FenceGate t word = Ends (Appended t.gate)
 
 -- a load gives a word, and no other operation does
 abbrev pub turn_of : Task → Option ℕ → Turn

@@ -15,6 +15,6 @@ pub use counts::the_first_format_takes_these_counts;
 pub use phase::{Part, Phase};
 pub use solo::a_solo_command_is_a_run_of_operations;
 pub use table::{
-    a_task_reads_from_the_start, the_number_of_operations, the_table_has_the_next_operation,
+    a_task_keeps_what_its_host_kept, the_number_of_operations, the_table_has_the_next_operation,
     the_table_has_the_note,
 };

@@ -39,10 +39,14 @@ pub enum Phase {
     SendData { line: u64 },
     /// Store a word of a line of the new slot.
     StoreSlot { line: u64, word: u8 },
-    /// Send that line.
+    /// Ask for that line to be sent.
     SendSlot { line: u64 },
+    /// Send the lines of the slot.
+    FenceSlot,
     /// Store the gate, one higher.
     StoreGate,
-    /// Send the gate.
+    /// Ask for the gate to be sent.
     SendGate,
+    /// Send the gate.
+    FenceGate,
 }

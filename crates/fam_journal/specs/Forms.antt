@@ -381,7 +381,9 @@ stage_at (at.SendData j) t = Named t.gate
 stage_at (at.StoreSlot j k) t = Named t.gate
 stage_at (at.SendSlot j) t = Named t.gate
 stage_at at.StoreGate t = Named t.gate
+stage_at at.FenceSlot t = Named t.gate
 stage_at at.SendGate t = Named t.gate
+stage_at at.FenceGate t = Named t.gate
 
 abbrev pub stage_of : Task → CommandStage
 stage_of t = stage_at t.phase t
@@ -419,7 +421,7 @@ IsFormed world = Pairs HostFormed world.hosts (forms_of world.journal)
 -- a task of the machine stands for one whose notes tell where it is
 pub record IsStateTask (lines : ℕ) (me : List ℕ) (state : TaskState) (form : TaskForm) : Type 0 where
   pub task : Task
-  pub stands : StandsFor state.cmd state.me lines task state.words state.made
+  pub stands : StandsFor None state.cmd state.me lines task state.words state.made
   pub is : IsTaskForm me task form
 
 abbrev pub StateTaskFormed : ℕ → List ℕ → Option TaskState → Option TaskForm → Type 0

@@ -74,7 +74,7 @@ copy_at (Some view) l = cell_at view.cache l
 
 abbrev pub hosts_of : List HostView → List HostPast → Hosts
 hosts_of views told =
-    record { uuid = λ h. uuid_at (slice_get views h); run = λ h. run_at (slice_get views h) (slice_get told h) }
+    record { uuid = λ h. uuid_at (slice_get views h); run = λ h. run_at (slice_get views h) (slice_get told h); kept = λ h. None }
 
 abbrev pub shared_of : Image → List HostView → SharedState
 shared_of image views = record { memory = line_at image; copy = λ h l. copy_at (slice_get views h) l }

@@ -118,7 +118,7 @@ pub record TaskAt : Type 0 where
   pub words : List ℕ
   pub made : ℕ
   pub word : ℕ
-  pub standing : StandsFor task.cmd task.me (length past.start) task words made
+  pub standing : StandsFor None task.cmd task.me (length past.start) task words made
   pub was : TaskTold task told
   pub me : told.uuid ≡ task.me
 

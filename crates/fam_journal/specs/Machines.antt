@@ -5,11 +5,10 @@ use Rattle.fam_base.specs.declared.cmd.Cmd.{Cmd}
 use Rattle.fam_base.specs.Image.{Image}
 use Rattle.fam_machine.specs.declared.op.Op.{Op}
 use Rattle.fam_machine.specs.Caches.{Cache}
-use Rattle.fam_machine.specs.Operations.{Failure, Machine, failed, given, operated}
+use Rattle.fam_machine.specs.Operations.{Breaking, Failure, Machine, failed, given, operated}
 use Rattle.fam_commands.specs.Stands.{with_given}
 use Rattle.fam_commands.specs.Table as row
 use Rattle.fam_commands.specs.Table.{Row, table}
-use Rattle.fam_commands.specs.Task.{start_slot}
 use Rattle.fam_journal.specs.Members.{changed_at}
 use Rattle.fam_journal.specs.Notes.{Note, Mark, Found, Writes, Answered, Replied, MediaFault}
 
@@ -57,10 +56,10 @@ with_task h task m = record m { hosts = changed_at h (λ host. record host { tas
 
 -- How an operation comes out.
 
--- the media serves it; or fails, and of the words that it sends, where it sends, a mask says which came through
+-- the media serves it; or fails, so
 pub data Outcome : Type 0 where
   Passes : Outcome
-  Fails : (through : ℕ) → Outcome
+  Fails : (through : Breaking) → Outcome
 
 -- what is noted, and what is left
 pub record Done : Type 0 where
@@ -71,11 +70,11 @@ pub record Done : Type 0 where
 
 -- the operation that comes next, on an image of so many lines
 abbrev pub next_op : TaskState → ℕ → Option Op
-next_op t lines = option_map (λ (r : Row). r.op) (slice_get (table start_slot t.cmd t.me lines t.words) t.made)
+next_op t lines = option_map (λ (r : Row). r.op) (slice_get (table None t.cmd t.me lines t.words) t.made)
 
 -- what comes with it: the table is made of the words that the loads gave, this one's with them
 abbrev pub next_note : TaskState → ℕ → Option ℕ → Option row.RowNote
-next_note t lines word = option_map (λ (r : Row). r.note) (slice_get (table start_slot t.cmd t.me lines (with_given t.words word)) t.made)
+next_note t lines word = option_map (λ (r : Row). r.note) (slice_get (table None t.cmd t.me lines (with_given t.words word)) t.made)
 
 -- the task, one operation on
 abbrev pub task_on : TaskState → Option ℕ → TaskState

@@ -27,7 +27,7 @@ empty_world = record { hosts = []; journal = [] }
 -- a task stands for its command, after the words that its loads gave and the operations that it made
 abbrev pub TaskStands : ℕ → Option TaskState → Option Task → Type 0
 TaskStands lines None None = ⊤
-TaskStands lines (Some s) (Some t) = StandsFor s.cmd s.me lines t s.words s.made
+TaskStands lines (Some s) (Some t) = StandsFor None s.cmd s.me lines t s.words s.made
 TaskStands lines None (Some t) = ⊥
 TaskStands lines (Some s) None = ⊥
 

@@ -14,6 +14,7 @@ ghost use Rattle.fam_journal.specs.declared.event.Event.TheVariants as event;
 ghost use Rattle.fam_journal.specs.declared.refusal.Refusal.TheVariants as why;
 ghost use Rattle.fam_journal_checks.specs.Scene.{beginning, client, host_m, master, mkdir, one_host, one_line, session, ten_events, ten_notes, uuid, x};
 ghost use Rattle.fam_machine.specs.HostMoves.{Evict, Fetch, moved};
+ghost use Rattle.fam_machine.specs.Operations.{Breaking};
 ghost use Rattle.fam_media.specs.Files.{Files};
 
 /// The first refusal of each call, in its order.
@@ -66,7 +67,7 @@ pub fn moves_and_operations()
 
     // A task drops line 0 first, which asks nothing of memory while no copy is dirty, so it can't fail.
     ensures first { option_map (λ (d : Done). d.notes) (operation Passes 0 (one_host [] (Some beginning))) ≡ Some [] }
-    ensures first_serves { (through : ℕ) → operation (Fails through) 0 (one_host [] (Some beginning)) ≡ None }
+    ensures first_serves { (through : Breaking) → operation (Fails through) 0 (one_host [] (Some beginning)) ≡ None }
     ensures no_host { operation Passes 1 (one_host [] (Some beginning)) ≡ None }
     ensures no_task { operation Passes 0 (one_host [] None) ≡ None }
 {}

@@ -8,7 +8,7 @@ use Rattle.std.specs.FinMap as map
 use Rattle.std.specs.FinMap.{get-empty, get-insert, get-remove, same_map, nat_cmp-IsAntisymmetric}
 use Rattle.fam_machine.specs.declared.cell.Cell.{Cell}
 use Rattle.fam_machine.specs.declared.cell.Cell.TheVariants.{Absent, Clean, Dirty}
-use Rattle.fam_machine.specs.Caches.{Mark, clean, dirty, CachedLine, Cache, cell_marked, cell_of, cell_at, with_cell}
+use Rattle.fam_machine.specs.Caches.{Mark, clean, dirty, asked, unsent_mark, CachedLine, Cache, cell_marked, cell_of, cell_at, with_cell}
 
 -- the order of numbers, case by case
 pub less : (k x : ℕ) → k < x → nat_cmp k x ≡ Less
@@ -38,12 +38,13 @@ other_key k x other =
 pub copy_of : Cell → Option CachedLine
 copy_of Absent = None
 copy_of (Clean words) = Some (record { words = words; mark = clean })
-copy_of (Dirty words) = Some (record { words = words; mark = dirty })
+copy_of (Dirty a words) = Some (record { words = words; mark = unsent_mark a })
 
 copy_marked : (mark : Mark) (words : List ℕ) → copy_of (cell_marked mark words) ≡ Some (record { words = words; mark = mark })
 unfolding copy_of
 copy_marked clean words = refl
 copy_marked dirty words = refl
+copy_marked asked words = refl
 
 copy_back : (o : Option CachedLine) → copy_of (cell_of o) ≡ o
 unfolding copy_of
@@ -54,14 +55,15 @@ cell_back : (cell : Cell) → cell_of (copy_of cell) ≡ cell
 unfolding copy_of
 cell_back Absent = refl
 cell_back (Clean words) = refl
-cell_back (Dirty words) = refl
+cell_back (Dirty false words) = refl
+cell_back (Dirty true words) = refl
 
 -- what a cache with one copy put in has of any line
 pub get-with_cell : (line : ℕ) (cell : Cell) (cache : Cache) (q : ℕ) → map.get (with_cell line cell cache) q ≡ cond (eq_by_cmp nat_cmp q line) (copy_of cell) (map.get cache q)
 unfolding copy_of
 get-with_cell line Absent cache q = get-remove nat_cmp_total cache line q
 get-with_cell line (Clean words) cache q = get-insert nat_cmp_total cache line _ q
-get-with_cell line (Dirty words) cache q = get-insert nat_cmp_total cache line _ q
+get-with_cell line (Dirty a words) cache q = get-insert nat_cmp_total cache line _ q
 
 -- the copy of the line itself
 pub cell_at-with_cell_same : (line : ℕ) (cell : Cell) (cache : Cache) → cell_at (with_cell line cell cache) line ≡ cell

@@ -8,7 +8,7 @@ use Rattle.std.specs.declared.cmp.Ordering.{Ordering}
 use Rattle.std.specs.declared.cmp.Ordering.TheVariants.{Less, Equal, Greater}
 use Rattle.std.specs.FinMap.{is_sorted, find, entries, entries_sorted, get-entries}
 use Rattle.std.specs.FinMap.Entries.{below_all}
-use Rattle.fam_machine.specs.Caches.{Mark, clean, dirty, CachedLine, Cache, cell_of, cell_at, cell_marked, is_marked_dirty, dirty_count}
+use Rattle.fam_machine.specs.Caches.{Mark, clean, dirty, asked, CachedLine, Cache, cell_of, cell_at, cell_marked, is_marked_dirty, dirty_count}
 use Rattle.fam_machine.specs.OneLine.{is_dirty, IsDirty}
 use Rattle.fam_machine.proofs.CacheLemmas.{same_key, other_key}
 
@@ -28,6 +28,7 @@ count_first e rest = sum_by-cons {X = CachedLine} (λ x. cond (is_marked_dirty x
 dirty_marked : (mark : Mark) (words : List ℕ) → is_dirty (cell_marked mark words) ≡ is_marked_dirty mark
 dirty_marked clean words = refl
 dirty_marked dirty words = refl
+dirty_marked asked words = refl
 
 counted : (b : Bool) (n : ℕ) → cond b 1 0 + n ≡ 0 → (b ≡ false) × (n ≡ 0)
 counted true n is = absurd (omega arith)
@@ -49,7 +50,7 @@ less_differs Equal h = absurd cc
 less_differs Greater h = refl
 
 -- a line below all others isn't among them
-below_none : (q : ℕ) (lines : Lines) → below_all nat_cmp q lines ≡ true → find nat_cmp q lines ≡ None
+pub below_none : (q : ℕ) (lines : Lines) → below_all nat_cmp q lines ≡ true → find nat_cmp q lines ≡ None
 below_none q [] h = refl
 below_none q (e ∷ lines) h =
     let both = and_parts (is_lt (nat_cmp q e.0)) (below_all nat_cmp q lines) h in

@@ -1,5 +1,6 @@
 pub mod CacheLemmas
 pub mod DirtyLemmas
+pub mod FenceLemmas
 pub mod Transferring
 pub mod LinePuts
 pub mod CleanCaches

@@ -1,5 +1,5 @@
 -- The eight words of a line are loaded, or stored and sent.
-use Rattle.std.proofs.Common.{ℕ, ◌≡◌, List, [], ◌∷◌, ◌++◌, map, refl, sym, ap, ap₂, ◌∙◌}
+use Rattle.std.proofs.Common.{ℕ, ◌≡◌, false, List, [], ◌∷◌, ◌++◌, map, refl, sym, ap, ap₂, ◌∙◌}
 use Rattle.std.specs.Prelude.{slice_index, slice_set}
 use Rattle.fam_base.specs.Image.{Image, eight, line_at, with_line}
 use Rattle.fam_machine.specs.declared.cell.Cell.{Cell}
@@ -48,13 +48,13 @@ set_from words [] old = old
 set_from words (k ∷ ks) old = set_from words ks (slice_set old k (slice_index words k))
 
 -- a store into a line that was just stored into
-store_again : (line k value : ℕ) (image : Image) (words : List ℕ) (cache : Cache) → operated (Store (line_no line) k value) (machine image (with_cell line (Dirty words) cache)) ≡ machine image (with_cell line (Dirty (slice_set words k value)) cache)
+store_again : (line k value : ℕ) (image : Image) (words : List ℕ) (cache : Cache) → operated (Store (line_no line) k value) (machine image (with_cell line (Dirty false words) cache)) ≡ machine image (with_cell line (Dirty false (slice_set words k value)) cache)
 store_again line k value image words cache =
     ap (machine image)
-    (ap (λ (cell : Cell). with_cell line (stored k value (line_at image line) cell) (with_cell line (Dirty words) cache)) (cell_at-with_cell_same line (Dirty words) cache)
-    ∙ with_cell_twice line (Dirty words) (Dirty (slice_set words k value)) cache)
+    (ap (λ (cell : Cell). with_cell line (stored k value (line_at image line) cell) (with_cell line (Dirty false words) cache)) (cell_at-with_cell_same line (Dirty false words) cache)
+    ∙ with_cell_twice line (Dirty false words) (Dirty false (slice_set words k value)) cache)
 
-stores_again : (line : ℕ) (new : List ℕ) (ks : List ℕ) (image : Image) (words : List ℕ) (cache : Cache) → operated_all (map (λ k. Store (line_no line) k (slice_index new k)) ks) (machine image (with_cell line (Dirty words) cache)) ≡ machine image (with_cell line (Dirty (set_from new ks words)) cache)
+stores_again : (line : ℕ) (new : List ℕ) (ks : List ℕ) (image : Image) (words : List ℕ) (cache : Cache) → operated_all (map (λ k. Store (line_no line) k (slice_index new k)) ks) (machine image (with_cell line (Dirty false words) cache)) ≡ machine image (with_cell line (Dirty false (set_from new ks words)) cache)
 stores_again line new [] image words cache = refl
 stores_again line new (k ∷ ks) image words cache =
     ap (operated_all (map (λ k. Store (line_no line) k (slice_index new k)) ks)) (store_again line k (slice_index new k) image words cache)
@@ -65,18 +65,18 @@ all_set : (new old : List ℕ) → eight old ≡ old → set_from new (0 ∷ 1 �
 all_set new old whole = sym (ap (set_from new (0 ∷ 1 ∷ 2 ∷ 3 ∷ 4 ∷ 5 ∷ 6 ∷ 7 ∷ [])) whole)
 
 -- the eight stores
-pub line_stored : (line : ℕ) (words : List ℕ) (m : Machine) → eight (current (line_at m.image line) (cell_at m.cache line)) ≡ current (line_at m.image line) (cell_at m.cache line) → operated_all (store_ops line words) m ≡ machine m.image (with_cell line (Dirty (eight words)) m.cache)
+pub line_stored : (line : ℕ) (words : List ℕ) (m : Machine) → eight (current (line_at m.image line) (cell_at m.cache line)) ≡ current (line_at m.image line) (cell_at m.cache line) → operated_all (store_ops line words) m ≡ machine m.image (with_cell line (Dirty false (eight words)) m.cache)
 line_stored line words m whole =
     let old = current (line_at m.image line) (cell_at m.cache line) in
     stores_again line words (1 ∷ 2 ∷ 3 ∷ 4 ∷ 5 ∷ 6 ∷ 7 ∷ []) m.image (slice_set old 0 (slice_index words 0)) m.cache
-    ∙ ap (λ (words : List ℕ). machine m.image (with_cell line (Dirty words) m.cache)) (all_set words old whole)
+    ∙ ap (λ (words : List ℕ). machine m.image (with_cell line (Dirty false words) m.cache)) (all_set words old whole)
 
 -- a dirty line is sent and dropped
-line_sent : (line : ℕ) (image : Image) (words : List ℕ) (cache : Cache) → operated (Invalidate (line_no line)) (machine image (with_cell line (Dirty words) cache)) ≡ machine (with_line line words image) (with_cell line Absent cache)
+line_sent : (line : ℕ) (image : Image) (words : List ℕ) (cache : Cache) → operated (Invalidate (line_no line)) (machine image (with_cell line (Dirty false words) cache)) ≡ machine (with_line line words image) (with_cell line Absent cache)
 line_sent line image words cache =
     ap₂ machine
-    (ap (λ (cell : Cell). with_line line (sent (line_at image line) cell) image) (cell_at-with_cell_same line (Dirty words) cache))
-    (with_cell_twice line (Dirty words) Absent cache)
+    (ap (λ (cell : Cell). with_line line (sent (line_at image line) cell) image) (cell_at-with_cell_same line (Dirty false words) cache))
+    (with_cell_twice line (Dirty false words) Absent cache)
 
 -- the eight words of a line are stored, and the line is sent and dropped: memory has them, and the cache has no copy
 pub line_put : (line : ℕ) (words : List ℕ) (m : Machine) → eight (current (line_at m.image line) (cell_at m.cache line)) ≡ current (line_at m.image line) (cell_at m.cache line) → operated_all (store_ops line words ++ Invalidate (line_no line) ∷ []) m ≡ machine (with_line line words m.image) (with_cell line Absent m.cache)

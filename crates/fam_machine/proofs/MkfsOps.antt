@@ -1,7 +1,7 @@
 -- What the operations that make a file system leave of memory and of the maker's cache.
 use Rattle.std.proofs.Common.{ℕ, ◌≡◌, List, [], ◌∷◌, ◌++◌, length, map, get_or, inl, inr, refl, sym, ap, ap₂, subst, ◌∙◌, arith}
 use Rattle.std.specs.List.{flat_map}
-use Rattle.std.proofs.lemmas.Bool.{cases_eq}
+use Rattle.std.proofs.lemmas.Bool.{cases_eq, false≢true}
 use Rattle.fam_base.specs.declared.entry.Params.{Params}
 use Rattle.fam_base.specs.Image.{Image, eight, line_at, with_line}
 use Rattle.fam_base.proofs.ImageLemmas.{length-with_line, line_at-with_line_other, normal-with_line, with_line-line_at}
@@ -16,7 +16,7 @@ use Rattle.fam_machine.specs.declared.cell.Cell.{Cell}
 use Rattle.fam_machine.specs.declared.cell.Cell.TheVariants.{Absent, Clean}
 use Rattle.fam_machine.specs.declared.op.Op.TheVariants.{Invalidate}
 use Rattle.fam_machine.specs.Caches.{Cache, IsClean, cell_at, with_cell}
-use Rattle.fam_machine.specs.OneLine.{current, sent}
+use Rattle.fam_machine.specs.OneLine.{IsDirty, current, sent}
 use Rattle.fam_machine.specs.Operations.{Machine, machine, operated, operated_all, load_ops, line_no}
 use Rattle.fam_machine.proofs.CacheLemmas.{cell_at-with_cell_same, cell_at-with_cell_other}
 use Rattle.fam_machine.proofs.LinePuts.{line_loaded, line_put, operated_all-append}
@@ -228,3 +228,28 @@ early_free unit log have none = go (is_geometry unit log) (nat_lt have (need log
     go true true is lt none = absurd cc
     go true false is lt none = (is, grind (arith, nat_tests))
     go false few is lt none = absurd cc
+
+-- Nothing becomes dirty.
+
+with_undirty : (line : ℕ) (c : Cell) (cache : Cache) (l : ℕ) → (IsDirty c → ⊥) → IsDirty (cell_at (with_cell line c cache) l) → IsDirty (cell_at cache l)
+with_undirty line c cache l never dirty =
+    elim (cases_eq l line) [
+      | inl same ↦ absurd (never (subst IsDirty (cell_at-with_cell_same line c cache) (subst (λ (k : ℕ). IsDirty (cell_at (with_cell line c cache) k)) same dirty)))
+      | inr other ↦ subst IsDirty (cell_at-with_cell_other line c cache l other) dirty
+    ]
+
+loaded_dirty : (line : ℕ) (m : Machine) (l : ℕ) → IsDirty (cell_at (operated_all (load_ops line 8) m).cache l) → IsDirty (cell_at m.cache l)
+loaded_dirty line m l dirty = with_undirty line (Clean _) m.cache l (λ is. false≢true is) (subst (λ (z : Machine). IsDirty (cell_at z.cache l)) (line_loaded line m) dirty)
+
+read_dirty : (m : Machine) (l : ℕ) → IsDirty (cell_at (operated_all read_ops m).cache l) → IsDirty (cell_at m.cache l)
+read_dirty m l dirty =
+    loaded_dirty 0 m l (loaded_dirty 1 (operated_all (load_ops 0 8) m) l
+    (loaded_dirty 2 (operated_all (load_ops 1 8) (operated_all (load_ops 0 8) m)) l (subst (λ (z : Machine). IsDirty (cell_at z.cache l)) (read_in_turn m) dirty)))
+
+dropped_dirty : (puts : List Put) (cache : Cache) (l : ℕ) → IsDirty (cell_at (drop_lines puts cache) l) → IsDirty (cell_at cache l)
+dropped_dirty [] cache l dirty = dirty
+dropped_dirty (put ∷ puts) cache l dirty = with_undirty put.0 Absent cache l (λ is. false≢true is) (dropped_dirty puts (drop_line cache put) l dirty)
+
+-- by the operations of making a file system
+pub made_dirty : (p : Params) (m : Machine) (l : ℕ) → IsDirty (cell_at (drop_lines (format_puts p) (operated_all read_ops m).cache) l) → IsDirty (cell_at m.cache l)
+made_dirty p m l dirty = read_dirty m l (dropped_dirty (format_puts p) (operated_all read_ops m).cache l dirty)

@@ -5,10 +5,11 @@ use Rattle.fam_base.specs.Image.{eight, line_at}
 use Rattle.fam_base.proofs.ImageLemmas.{length-with_line, line_at-with_line_other, normal-with_line}
 use Rattle.fam_machine.specs.declared.cell.Cell.TheVariants.{Absent}
 use Rattle.fam_machine.specs.declared.op.Op.{Op}
-use Rattle.fam_machine.specs.declared.op.Op.TheVariants.{Load, Store, WriteBack, Invalidate, Digest}
-use Rattle.fam_machine.specs.Caches.{cell_at}
-use Rattle.fam_machine.specs.OneLine.{brought, cleaned, sent, stored}
+use Rattle.fam_machine.specs.declared.op.Op.TheVariants.{Load, Store, WriteBack, Fence, Invalidate, Digest}
+use Rattle.fam_machine.specs.Caches.{asked_lines, cell_at}
+use Rattle.fam_machine.specs.OneLine.{asked_for, brought, sent, stored}
 use Rattle.fam_machine.specs.Operations.{Machine, given, operated, given_by}
+use Rattle.fam_machine.proofs.FenceLemmas.{send_lines_length, send_lines_normal}
 use Rattle.fam_machine.proofs.CacheLemmas.{cell_at-with_cell_other}
 
 -- the word that a machine gives, or any where it gives none, is the word of the operation
@@ -17,6 +18,7 @@ same_given (Load line k) m = refl
 same_given (Store line k value) m = refl
 same_given (WriteBack line) m = refl
 same_given (Invalidate line) m = refl
+same_given Fence m = refl
 same_given Digest m = refl
 
 -- The form of the image.
@@ -24,14 +26,16 @@ same_given Digest m = refl
 pub operated_length : (op : Op) (m : Machine) → length (operated op m).image ≡ length m.image
 operated_length (Load l k) m = refl
 operated_length (Store l k value) m = refl
-operated_length (WriteBack l) m = length-with_line m.image l.0 (sent (line_at m.image l.0) (cell_at m.cache l.0))
+operated_length (WriteBack l) m = refl
+operated_length Fence m = send_lines_length (asked_lines m.cache) m
 operated_length (Invalidate l) m = length-with_line m.image l.0 (sent (line_at m.image l.0) (cell_at m.cache l.0))
 operated_length Digest m = refl
 
 pub operated_normal : (op : Op) (m : Machine) → map eight m.image ≡ m.image → map eight (operated op m).image ≡ (operated op m).image
 operated_normal (Load l k) m normal = normal
 operated_normal (Store l k value) m normal = normal
-operated_normal (WriteBack l) m normal = normal-with_line m.image normal l.0 (sent (line_at m.image l.0) (cell_at m.cache l.0))
+operated_normal (WriteBack l) m normal = normal
+operated_normal Fence m normal = send_lines_normal (asked_lines m.cache) m normal
 operated_normal (Invalidate l) m normal = normal-with_line m.image normal l.0 (sent (line_at m.image l.0) (cell_at m.cache l.0))
 operated_normal Digest m normal = normal
 
@@ -43,19 +47,22 @@ IsAt (Load l k) line = l.0 ≡ line
 IsAt (Store l k value) line = l.0 ≡ line
 IsAt (WriteBack l) line = l.0 ≡ line
 IsAt (Invalidate l) line = l.0 ≡ line
+IsAt Fence line = ⊥
 IsAt Digest line = ⊤
 
 -- other lines of memory and of the cache are as before
 pub memory_away : (op : Op) (m : Machine) (line l : ℕ) → IsAt op line → l ≢ line → line_at (operated op m).image l ≡ line_at m.image l
 memory_away (Load a k) m line l at other = refl
 memory_away (Store a k value) m line l at other = refl
-memory_away (WriteBack a) m line l at other = line_at-with_line_other m.image a.0 (sent (line_at m.image a.0) (cell_at m.cache a.0)) l (λ e. other (e ∙ at))
+memory_away (WriteBack a) m line l at other = refl
+memory_away Fence m line l at other = absurd at
 memory_away (Invalidate a) m line l at other = line_at-with_line_other m.image a.0 (sent (line_at m.image a.0) (cell_at m.cache a.0)) l (λ e. other (e ∙ at))
 memory_away Digest m line l at other = refl
 
 pub cache_away : (op : Op) (m : Machine) (line l : ℕ) → IsAt op line → l ≢ line → cell_at (operated op m).cache l ≡ cell_at m.cache l
 cache_away (Load a k) m line l at other = cell_at-with_cell_other a.0 (brought (line_at m.image a.0) (cell_at m.cache a.0)) m.cache l (λ e. other (e ∙ at))
 cache_away (Store a k value) m line l at other = cell_at-with_cell_other a.0 (stored k value (line_at m.image a.0) (cell_at m.cache a.0)) m.cache l (λ e. other (e ∙ at))
-cache_away (WriteBack a) m line l at other = cell_at-with_cell_other a.0 (cleaned (cell_at m.cache a.0)) m.cache l (λ e. other (e ∙ at))
+cache_away Fence m line l at other = absurd at
+cache_away (WriteBack a) m line l at other = cell_at-with_cell_other a.0 (asked_for (cell_at m.cache a.0)) m.cache l (λ e. other (e ∙ at))
 cache_away (Invalidate a) m line l at other = cell_at-with_cell_other a.0 Absent m.cache l (λ e. other (e ∙ at))
 cache_away Digest m line l at other = refl

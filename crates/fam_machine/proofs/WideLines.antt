@@ -22,4 +22,4 @@ eight_whole (a ∷ b ∷ c ∷ d ∷ e ∷ f ∷ g ∷ h ∷ i ∷ more) is = ab
 pub sent_wide : (w : List ℕ) (c : Cell) → length w ≡ 8 → length (current w c) ≡ 8 → length (sent w c) ≡ 8
 sent_wide w Absent wide copy = wide
 sent_wide w (Clean words) wide copy = wide
-sent_wide w (Dirty words) wide copy = copy
+sent_wide w (Dirty a words) wide copy = copy

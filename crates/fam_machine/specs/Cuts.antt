@@ -4,7 +4,7 @@ use Rattle.fam_base.specs.Image.{Image}
 use Rattle.fam_base.specs.declared.line.LineNo.{LineNo}
 use Rattle.fam_machine.specs.declared.op.Op.{Op}
 use Rattle.fam_machine.specs.Caches.{Cache}
-use Rattle.fam_machine.specs.Operations.{Machine, failed, operated_all, line_no}
+use Rattle.fam_machine.specs.Operations.{Breaking, Machine, failed, operated_all, line_no}
 
 -- a modelled image and a cache are this machine's
 pub record IsMachine (m : Machine) (shown : Option Image) (held : Cache) : Type 0 where
@@ -12,10 +12,10 @@ pub record IsMachine (m : Machine) (shown : Option Image) (held : Cache) : Type 
   pub cache : held ≡ m.cache
 
 -- the media failed in the operation on this machine, at this line: of the words that it sends, where it sends, a mask of a
--- line's eight words says which came through. This machine is left
+-- line's eight words says which came through, and of a fence how many lines were sent before. This machine is left
 pub record Fails (op : Op) (m : Machine) (line : LineNo) (left : Machine) : Type 0 where
-  pub through : ℕ
-  pub fits : through < 256
+  pub through : Breaking
+  pub fits : through.mask < 256
   pub is : failed through op m ≡ Some (record { line = line; left = left })
 
 -- of the operations the first ones were done, and the next one failed at this line. This machine is left

@@ -32,7 +32,7 @@ moved_cell (Fetch mask) memory cell = fetched mask memory cell
 abbrev pub failed_fetch : List ℕ → Cell → Option (List ℕ)
 failed_fetch memory Absent = Some memory
 failed_fetch memory (Clean words) = Some memory
-failed_fetch memory (Dirty words) = None
+failed_fetch memory (Dirty a words) = None
 
 -- memory's words after it failed in the move; the copy is as before. None: the move asks nothing of memory
 abbrev pub failed_move : Move → ℕ → List ℕ → Cell → Option (List ℕ)

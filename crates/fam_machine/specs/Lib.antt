@@ -5,5 +5,6 @@ pub mod Operations
 pub mod Cuts
 pub mod HostMoves
 pub mod TearsLine
+pub mod Fences
 pub mod Whole
 pub mod Mkfs

@@ -1,5 +1,5 @@
 -- The moves that a cache may make by itself at one line, asked or not, and lists of them.
-use Rattle.std.specs.Prelude.{ℕ, List}
+use Rattle.std.specs.Prelude.{ℕ, Bool, true, List}
 use Rattle.fam_base.specs.Image.{masked}
 use Rattle.fam_machine.specs.declared.cell.Cell.{Cell}
 use Rattle.fam_machine.specs.declared.cell.Cell.TheVariants.{Absent, Clean, Dirty}
@@ -8,9 +8,10 @@ use Rattle.fam_machine.specs.declared.cell.Cell.TheVariants.{Absent, Clean, Dirt
 pub data Transfer : List ℕ → Cell → List ℕ → Cell → Type 0 where
   brings : {m : List ℕ} → Transfer m Absent m (Clean m)
   refreshes : {m w : List ℕ} (mask : ℕ) → Transfer m (Clean w) m (Clean (masked mask m w))
-  sends : {m w : List ℕ} (mask : ℕ) → Transfer m (Dirty w) (masked mask w m) (Dirty w)
-  sends_whole : {m w : List ℕ} → Transfer m (Dirty w) w (Dirty w)
-  cleans : {m : List ℕ} → Transfer m (Dirty m) m (Clean m)
+  sends : {m w : List ℕ} {asked : Bool} (mask : ℕ) → Transfer m (Dirty asked w) (masked mask w m) (Dirty asked w)
+  sends_whole : {m w : List ℕ} {asked : Bool} → Transfer m (Dirty asked w) w (Dirty asked w)
+  asks : {m w : List ℕ} {asked : Bool} → Transfer m (Dirty asked w) m (Dirty true w)
+  cleans : {m : List ℕ} {asked : Bool} → Transfer m (Dirty asked m) m (Clean m)
   drops : {m w : List ℕ} → Transfer m (Clean w) m Absent
 
 -- any number of moves, one after another

@@ -9,6 +9,7 @@ pub enum Cell {
     Absent,
     /// Words that were brought from memory or sent to it. Memory may have others by now.
     Clean(Line),
-    /// Words that the host stored into since they were brought or sent.
-    Dirty(Line),
+    /// Words that the host stored into since they were brought or sent, so that memory may lack them; and whether it
+    /// has asked for them to be sent since its last store.
+    Dirty { asked: bool, words: Line },
 }

@@ -9,9 +9,11 @@ pub enum Op {
     Load(LineNo, u8),
     /// Sets a word of a line.
     Store(LineNo, u8, u64),
-    /// Sends a line to memory where it is dirty, and keeps it.
+    /// Asks for a line to be sent where it is dirty, and touches no memory.
     WriteBack(LineNo),
-    /// Sends a line to memory where it is dirty, and drops it.
+    /// Sends all lines that were asked for, in the order of their numbers, and keeps them.
+    Fence,
+    /// Sends a line to memory where it is dirty, asked for or not, and drops it.
     Invalidate(LineNo),
     /// Thinks about the words that it has, and touches no line.
     Digest,

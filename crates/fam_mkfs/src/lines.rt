@@ -7,7 +7,7 @@ ghost use Rattle.fam_machine.specs.OneLine.{IsHeld, words_of};
 ghost use Rattle.fam_machine.specs.Operations.{IsWithin, line_no, load_ops, op_line};
 ghost use Rattle.fam_machine.specs.Mkfs.{put_ops};
 ghost use Rattle.fam_media.specs.Causes.{IsSteady, Rose};
-ghost use Rattle.fam_cache.specs.Operations.{BringsNone, LeavesCache, word_of};
+ghost use Rattle.fam_cache.specs.Operations.{BringsNone, IsOneLine, LeavesCache, word_of};
 ghost use Rattle.fam_cache.specs.Runs.{AreCut, AreDone, over};
 
 use fam_base::{Line, LineNo};
@@ -19,9 +19,10 @@ use fam_media::Media;
 #[derive(Clone, Copy, Debug, PartialEq, Eq)]
 pub struct FailedAt(pub LineNo);
 
-/// Does an operation, where the cache has room for the line that it brings.
+/// Does an operation at one line, where the cache has room for the line that it brings.
 fn operate<M: Media>(cache: &mut HostCache, media: &mut M, op: Op) -> Result<Option<u64>, FailedAt>
     requires within { IsWithin (M.size media.old) op }
+    requires one { IsOneLine op }
     requires room { ¬ (BringsNone op cache.old.lines) → 0 < cache.old.spare }
 
     ensures done { OnOk result (AreDone (op ∷ [])

@@ -17,7 +17,7 @@ use Rattle.fam_machine.specs.declared.cell.Cell.{Cell}
 use Rattle.fam_machine.specs.declared.cell.Cell.TheVariants.{Absent, Clean, Dirty}
 use Rattle.fam_machine.specs.Caches.{IsClean, IsCleanCell, cell_at}
 use Rattle.fam_machine.specs.OneLine.{failed_send}
-use Rattle.fam_machine.specs.Operations.{Failure, Machine, failed, given, given_by, not_brought, not_sent, operated, torn_at}
+use Rattle.fam_machine.specs.Operations.{Breaking, Failure, Machine, failed, given, given_by, not_brought, not_sent, operated, torn_at}
 use Rattle.fam_machine.proofs.CleanCaches.{clean_empty}
 use Rattle.fam_machine.proofs.OneOperation.{operated_length, same_given}
 use Rattle.fam_commands.specs.declared.phase.Phase.{Phase}
@@ -84,26 +84,28 @@ writes_on at.Decide t word writing = absurd (writing tt)
 writes_on (at.StoreData j k) t word writing = choose (nat_lt k last_word) (at.StoreData j (k + 1)) (at.SendData j) (λ x. x) (λ x. x)
 writes_on (at.SendData j) t word writing = choose (nat_lt (j + 1) (lines_of (size_of t.entry))) (at.StoreData (j + 1) 0) (at.StoreSlot 0 0) (λ x. x) (λ x. x)
 writes_on (at.StoreSlot j k) t word writing = choose (nat_lt k last_word) (at.StoreSlot j (k + 1)) (at.SendSlot j) (λ x. x) (λ x. x)
-writes_on (at.SendSlot j) t word writing = choose (nat_lt (j + 1) (geometry t.params).lines) (at.StoreSlot (j + 1) 0) at.StoreGate (λ x. x) (λ x. x)
+writes_on (at.SendSlot j) t word writing = choose (nat_lt (j + 1) (geometry t.params).lines) (at.StoreSlot (j + 1) 0) at.FenceSlot (λ x. x) (λ x. x)
+writes_on at.FenceSlot t word writing = λ x. x
 writes_on at.StoreGate t word writing = λ x. x
-writes_on at.SendGate t word writing = (t.gate, refl)
+writes_on at.SendGate t word writing = λ x. x
+writes_on at.FenceGate t word writing = (t.gate, refl)
 
 -- A fault of the media in an operation before the first store sends nothing.
 
 clean_send : (through : ℕ) (words : List ℕ) (c : Cell) → IsCleanCell c → failed_send through words c ≡ None
 clean_send through words Absent clean = refl
 clean_send through words (Clean copy) clean = refl
-clean_send through words (Dirty copy) clean = absurd clean
+clean_send through words (Dirty a copy) clean = absurd clean
 
 brought_same : (l : LineNo) (m : Machine) (c : Cell) (x : Failure) → not_brought l m c ≡ Some x → x.left.image ≡ m.image
 brought_same l m Absent x is = ap (λ (f : Failure). f.left.image) (sym (same_Some _ x is))
 brought_same l m (Clean words) x is = absurd cc
-brought_same l m (Dirty words) x is = absurd cc
+brought_same l m (Dirty a words) x is = absurd cc
 
-module _ (through : ℕ) (m : Machine) (clean : IsClean m.cache) (x : Failure) where
-  sent_same : (l : LineNo) → not_sent through l m ≡ Some x → x.left.image ≡ m.image
+module _ (through : Breaking) (m : Machine) (clean : IsClean m.cache) (x : Failure) where
+  sent_same : (l : LineNo) → not_sent through.mask l m ≡ Some x → x.left.image ≡ m.image
   sent_same l is =
-      let none : not_sent through l m ≡ None = ap (option_map (torn_at l m)) (clean_send through (line_at m.image l.0) (cell_at m.cache l.0) (clean l.0)) in
+      let none : not_sent through.mask l m ≡ None = ap (option_map (torn_at l m)) (clean_send through.mask (line_at m.image l.0) (cell_at m.cache l.0) (clean l.0)) in
       absurd (let bad = sym none ∙ is in cc)
 
   fails_same : (p : Phase) (t : Task) → IsBeforeWrites p → failed through (op_at t p) m ≡ Some x → x.left.image ≡ m.image
@@ -119,8 +121,10 @@ module _ (through : ℕ) (m : Machine) (clean : IsClean m.cache) (x : Failure) w
   fails_same (at.SendData j) t before is = absurd before
   fails_same (at.StoreSlot i k) t before is = absurd before
   fails_same (at.SendSlot i) t before is = absurd before
+  fails_same at.FenceSlot t before is = absurd before
   fails_same at.StoreGate t before is = absurd before
   fails_same at.SendGate t before is = absurd before
+  fails_same at.FenceGate t before is = absurd before
 
 -- Operations of a host's task up to its answer.
 
@@ -131,7 +135,7 @@ module _ (h : ℕ) where
     host_is : slice_get state.hosts h ≡ Some host
     s : TaskState
     s_is : host.task ≡ Some s
-    standing : StandsFor s.cmd s.me (length state.memory) t s.words s.made
+    standing : StandsFor None s.cmd s.me (length state.memory) t s.words s.made
 
   -- nothing comes behind the answer
   none_behind : (count : ℕ) (state new : Machines) (rest : List Note) → busy_at h state ≡ false → DoesOperations h count state rest new → (rest ≡ []) × (new ≡ state)
@@ -183,25 +187,25 @@ module _ (h : ℕ) where
       s = on;
       s_is = task;
       standing =
-          subst (λ (k : ℕ). StandsFor here.s.cmd here.s.me k n (with_given here.s.words (given (op_of t) m)) (here.s.made + 1)) (sym (operated_length (op_of t) m))
-          (subst (λ (o : Option ℕ). StandsFor here.s.cmd here.s.me (length state.memory) n (with_given here.s.words o) (here.s.made + 1)) (same_given (op_of t) m) (goes word here.standing next));
+          subst (λ (k : ℕ). StandsFor None here.s.cmd here.s.me k n (with_given here.s.words (given (op_of t) m)) (here.s.made + 1)) (sym (operated_length (op_of t) m))
+          (subst (λ (o : Option ℕ). StandsFor None here.s.cmd here.s.me (length state.memory) n (with_given here.s.words o) (here.s.made + 1)) (same_given (op_of t) m) (goes word here.standing next));
     }
 
     -- the media failed in it
-    cut_row : (through : ℕ) → operation (Fails through) h state ≡ cut h state (failed through (op_of t) m)
+    cut_row : (through : Breaking) → operation (Fails through) h state ≡ cut h state (failed through (op_of t) m)
     unfolding operation
     cut_row through =
         ap (machine.host_done (Fails through) h state) here.host_is
         ∙ ap (machine.task_done (Fails through) h state here.host) here.s_is
         ∙ ap (machine.op_done (Fails through) h state here.host here.s) (operation_from_start here.s.cmd here.s.me (length state.memory) t here.s.words here.s.made here.standing)
 
-    record IsCutAt (through : ℕ) (first : List Note) (mid : Machines) : Type 0 where
+    record IsCutAt (through : Breaking) (first : List Note) (mid : Machines) : Type 0 where
       failure : Failure
       fails : failed through (op_of t) m ≡ Some failure
       first_is : first ≡ Answered h (MediaFault failure.line.0) ∷ []
       mid_is : mid ≡ with_machine h failure.left None state
 
-    cut_of : (through : ℕ) (first : List Note) (mid : Machines) → operation (Fails through) h state ≡ Some (record { notes = first; left = mid }) → IsCutAt through first mid
+    cut_of : (through : Breaking) (first : List Note) (mid : Machines) → operation (Fails through) h state ≡ Some (record { notes = first; left = mid }) → IsCutAt through first mid
     cut_of through first mid is = by_failure (failed through (op_of t) m) refl
       where
         by_failure : (o : Option Failure) → failed through (op_of t) m ≡ o → IsCutAt through first mid
@@ -210,7 +214,7 @@ module _ (h : ℕ) where
             let same = same_Some (record { notes = Answered h (MediaFault x.line.0) ∷ []; left = with_machine h x.left None state }) (record { notes = first; left = mid }) (ap (cut h state) (sym fails) ∙ sym (cut_row through) ∙ is) in
             record { failure = x; fails = fails; first_is = sym (ap (λ (z : machine.Done). z.notes) same); mid_is = sym (ap (λ (z : machine.Done). z.left) same) }
 
-    cut_idle : (through : ℕ) (first : List Note) (mid : Machines) → IsCutAt through first mid → busy_at h mid ≡ false
+    cut_idle : (through : Breaking) (first : List Note) (mid : Machines) → IsCutAt through first mid → busy_at h mid ≡ false
     cut_idle through first mid x =
         ap (busy_at h) x.mid_is ∙ ap is_busy_host (changed_at_member h (λ y. record y { cache = x.failure.left.cache; task = None }) state.hosts here.host here.host_is)
 

@@ -5,6 +5,7 @@ pub mod Floors
 pub mod Free
 pub mod Keeping
 pub mod Transferring
+pub mod Fencing
 pub mod Apart
 pub mod Stored
 pub mod Publish

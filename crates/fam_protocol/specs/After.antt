@@ -44,7 +44,9 @@ HasNamed (at.SendData j) = ⊤
 HasNamed (at.StoreSlot j k) = ⊤
 HasNamed (at.SendSlot j) = ⊤
 HasNamed at.StoreGate = ⊤
+HasNamed at.FenceSlot = ⊤
 HasNamed at.SendGate = ⊤
+HasNamed at.FenceGate = ⊤
 HasNamed at.DropMagic = ⊥
 HasNamed at.Magic = ⊥
 HasNamed (at.Drop part j) = ⊥
@@ -76,7 +78,9 @@ HasMarked (at.SendData j) = ⊤
 HasMarked (at.StoreSlot j k) = ⊤
 HasMarked (at.SendSlot j) = ⊤
 HasMarked at.StoreGate = ⊤
+HasMarked at.FenceSlot = ⊤
 HasMarked at.SendGate = ⊤
+HasMarked at.FenceGate = ⊤
 
 -- what was settled at the mark is noted
 abbrev pub IsMarked : Option ℕ → Type 0

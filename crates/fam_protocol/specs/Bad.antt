@@ -23,11 +23,11 @@ use Rattle.fam_rules.specs.Decide.{Wish, wish_of}
 use Rattle.fam_rules.specs.Place.{line_bytes}
 use Rattle.fam_rules.specs.Reply.{Reply, NotAppended, Reports, Appended, Played, Same, Differs, Length, Bytes, NotFound, IsDirectory, Checks}
 use Rattle.fam_rules.specs.Reply as reply
-use Rattle.fam_rules.specs.Reports.{report_of, report_by, survey_slots}
+use Rattle.fam_rules.specs.Reports.{no_survey, report_of, report_by, survey_slots}
 use Rattle.fam_protocol.specs.SharedState.{SharedState}
 use Rattle.fam_protocol.specs.Lines.{Fresh}
 use Rattle.fam_protocol.specs.Core.{IsWide}
-use Rattle.fam_protocol.specs.Tasks.{NoSlot, HasLoaded, part_words}
+use Rattle.fam_protocol.specs.Tasks.{HasLoaded, part_words}
 use Rattle.fam_format.specs.Line.{line_words}
 
 -- memory is the image that was there, which reads as no sound file system, and no cache has anything to send
@@ -36,6 +36,12 @@ pub record Still (image : Lines) (have : ℕ) (s : SharedState) : Type 0 where
   pub memory : (l : ℕ) → s.memory l ≡ image l
   pub clean : (h l : ℕ) → IsDirty (s.copy h l) → ⊥
   pub bad : (p : Params) (entries : List Entry) → reading_of image have ≢ Sound p entries
+
+-- no slot is read, and its host keeps nothing
+pub record IsBare (t : Task) : Type 0 where
+  pub entries : t.entries ≡ []
+  pub survey : t.survey ≡ no_survey
+  pub kept : t.kept ≡ None
 
 -- word 0 of line 0 is a superblock's
 abbrev pub HasMagic : Lines → Type 0
@@ -72,21 +78,21 @@ pub record ReadsSlots (image : Lines) (have i : ℕ) (t : Task) : Type 0 where
 
 -- what is known when a line of a part is read. No file is read
 abbrev pub OnBadPart : Part → Lines → ℕ → Task → Type 0
-OnBadPart Superblock image have t = NoSlot t × HasMagic image
-OnBadPart Header image have t = NoSlot t × ReadsSuper image have t
+OnBadPart Superblock image have t = IsBare t × HasMagic image
+OnBadPart Header image have t = IsBare t × ReadsSuper image have t
 OnBadPart (Slot i) image have t = ReadsSlots image have i t × (i < slots_read t)
 OnBadPart FileLines image have t = ⊥
 
 -- A task in its phase. It never comes to an append
 abbrev pub AtDamagedPhase : Phase → Lines → ℕ → ℕ → Task → SharedState → Type 0
-AtDamagedPhase at.DropMagic image have host t s = NoSlot t
-AtDamagedPhase at.Magic image have host t s = NoSlot t × Fresh (s.memory 0) (s.copy host 0)
+AtDamagedPhase at.DropMagic image have host t s = IsBare t
+AtDamagedPhase at.Magic image have host t s = IsBare t × Fresh (s.memory 0) (s.copy host 0)
 AtDamagedPhase (at.Drop part j) image have host t s = OnBadPart part image have t × (j < part_count t part) × HasLoaded image t part j 0
 AtDamagedPhase (at.Word part j k) image have host t s =
     OnBadPart part image have t × (j < part_count t part) × (k < line_words) × Fresh (s.memory (part_line t part j)) (s.copy host (part_line t part j)) × HasLoaded image t part j k
-AtDamagedPhase at.DropGate image have host t s = NoSlot t × (t.words ≡ []) × ReadsHeader image have t
+AtDamagedPhase at.DropGate image have host t s = IsBare t × (t.words ≡ []) × ReadsHeader image have t
 AtDamagedPhase at.Gate image have host t s =
-    NoSlot t × (t.words ≡ []) × ReadsHeader image have t × Fresh (s.memory gate_line) (s.copy host gate_line)
+    IsBare t × (t.words ≡ []) × ReadsHeader image have t × Fresh (s.memory gate_line) (s.copy host gate_line)
 AtDamagedPhase (at.Check i) image have host t s = ReadsSlots image have i t × (i < slots_read t) × (t.words ≡ part_words image t (Slot i))
 AtDamagedPhase at.Decide image have host t s = ReadsSlots image have (slots_read t) t
 AtDamagedPhase (at.StoreData j k) image have host t s = ⊥
@@ -94,7 +100,9 @@ AtDamagedPhase (at.SendData j) image have host t s = ⊥
 AtDamagedPhase (at.StoreSlot j k) image have host t s = ⊥
 AtDamagedPhase (at.SendSlot j) image have host t s = ⊥
 AtDamagedPhase at.StoreGate image have host t s = ⊥
+AtDamagedPhase at.FenceSlot image have host t s = ⊥
 AtDamagedPhase at.SendGate image have host t s = ⊥
+AtDamagedPhase at.FenceGate image have host t s = ⊥
 
 -- a task is its host's, of an image of this size, and what its phase says holds
 pub record BadTaskHolds (image : Lines) (have : ℕ) (uuid : ℕ → Option (List ℕ)) (host : ℕ) (t : Task) (s : SharedState) : Type 0 where

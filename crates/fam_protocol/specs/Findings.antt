@@ -76,7 +76,9 @@ HasLoadedGate (at.SendData j) = ⊥
 HasLoadedGate (at.StoreSlot j k) = ⊥
 HasLoadedGate (at.SendSlot j) = ⊥
 HasLoadedGate at.StoreGate = ⊥
+HasLoadedGate at.FenceSlot = ⊥
 HasLoadedGate at.SendGate = ⊥
+HasLoadedGate at.FenceGate = ⊥
 
 -- What was loaded.
 

@@ -13,14 +13,16 @@ pub use Rattle.fam_rules.specs.Solo.{held_file}
 use Rattle.fam_rules.specs.Place.{line_bytes}
 use Rattle.fam_protocol.specs.SharedState.{SharedState}
 use Rattle.fam_protocol.specs.Core.{Core, IsWide}
-use Rattle.fam_protocol.specs.Tasks.{TaskHolds}
+use Rattle.fam_protocol.specs.Tasks.{KeepsPrefix, TaskHolds}
+use Rattle.fam_commands.specs.Kept.{Kept}
 use Rattle.fam_protocol.specs.After.{Run, HasMarked, HasNamed, HoldsNamed, IsMarked}
 use Rattle.fam_protocol.specs.Bad.{Still, BadTaskHolds}
 
--- the declared hosts: their UUIDs and their tasks
+-- the declared hosts: their UUIDs, their tasks and what they keep
 pub record Hosts : Type 0 where
   pub uuid : ℕ → Option (List ℕ)
   pub run : ℕ → Option Run
+  pub kept : ℕ → Option Kept
 
 -- what the journal settles: nothing of an image that is too small or damaged; or the file system, the history with
 -- the pending entry, and the history's length
@@ -34,26 +36,34 @@ pub record AreHosts (hosts : Hosts) (s : SharedState) : Type 0 where
   pub apart : (h k : ℕ) (id : List ℕ) → hosts.uuid h ≡ Some id → hosts.uuid k ≡ Some id → h ≡ k
   pub absent : (h l : ℕ) → hosts.uuid h ≡ None → s.copy h l ≡ Absent
   pub idle : (h : ℕ) → hosts.uuid h ≡ None → hosts.run h ≡ None
+  pub bare : (h : ℕ) → hosts.uuid h ≡ None → hosts.kept h ≡ None
 
 -- an image of too few lines for a gate: no task begins, and nobody stores
 pub record IsSmall (image : Lines) (lines : ℕ) (hosts : Hosts) (s : SharedState) : Type 0 where
   pub memory : (l : ℕ) → s.memory l ≡ image l
   pub few : lines < least_lines
   pub idle : (h : ℕ) → hosts.run h ≡ None
+  pub bare : (h : ℕ) → hosts.kept h ≡ None
   pub clean : (h l : ℕ) → IsDirty (s.copy h l) → ⊥
 
 -- a damaged image, and tasks on it
 pub record IsDamaged (image : Lines) (lines : ℕ) (hosts : Hosts) (s : SharedState) : Type 0 where
   pub enough : least_lines ≤ lines
   pub still : Still image (line_bytes * lines) s
+  -- nobody has listed a tree
+  pub bare : (h : ℕ) → hosts.kept h ≡ None
   pub tasks : (h : ℕ) (r : Run) → hosts.run h ≡ Some r → BadTaskHolds image (line_bytes * lines) hosts.uuid h r.task s
 
 -- a sound file system, and tasks on it
 pub record IsKnown (p : Params) (all : List File) (settled lines : ℕ) (hosts : Hosts) (s : SharedState) : Type 0 where
   pub enough : least_lines ≤ lines
+  -- what a cache has to send are lines of the image
+  pub inside : (h l : ℕ) → IsDirty (s.copy h l) → l < lines
   pub master : Option ℕ
   pub core : Core (record { params = p; have = line_bytes * lines; uuid = hosts.uuid; master = master }) s all settled
   pub tasks : (h : ℕ) (r : Run) → hosts.run h ≡ Some r → TaskHolds (record { params = p; have = line_bytes * lines; uuid = hosts.uuid; master = master }) h r.floor r.task s all settled
+  -- what is kept is the history's front
+  pub kept : (h : ℕ) → KeepsPrefix p all settled (hosts.kept h)
 
 abbrev pub InvariantBy : Settled → ℕ → Hosts → SharedState → Type 0
 InvariantBy (Small image) lines hosts s = IsSmall image lines hosts s
@@ -67,6 +77,8 @@ pub record Invariant (settled : Settled) (lines : ℕ) (hosts : Hosts) (s : Shar
   pub marked : (h : ℕ) (r : Run) → hosts.run h ≡ Some r → HasMarked r.task.phase → IsMarked r.floor
   -- a task that writes holds what it named
   pub named : (h : ℕ) (r : Run) → hosts.run h ≡ Some r → HasNamed r.task.phase → HoldsNamed r.task r.named
+  -- a task has what its host keeps
+  pub keeps : (h : ℕ) (r : Run) → hosts.run h ≡ Some r → r.task.kept ≡ hosts.kept h
   pub wide : IsWide s
   pub stage : InvariantBy settled lines hosts s
 
@@ -74,7 +86,7 @@ pub record Invariant (settled : Settled) (lines : ℕ) (hosts : Hosts) (s : Shar
 
 -- nobody is declared
 abbrev pub no_hosts : Hosts
-no_hosts = record { uuid = λ h. None; run = λ h. None }
+no_hosts = record { uuid = λ h. None; run = λ h. None; kept = λ h. None }
 
 -- an image, and no cache
 abbrev pub solo : Image → SharedState
@@ -103,9 +115,10 @@ pub record Owner (hosts : Hosts) (id : List ℕ) : Type 0 where
 abbrev pub shared_with : Image → (ℕ → ℕ → Cell) → SharedState
 shared_with image copy = record { memory = line_at image; copy = copy }
 
--- no host has a task, and no cache has anything to send: what copies there are may be stale
+-- no host has a task or keeps anything, and no cache has anything to send: what copies there are may be stale
 pub record Rests (hosts : Hosts) (s : SharedState) : Type 0 where
   pub declared : AreHosts hosts s
   pub owner : (id : List ℕ) → Owner hosts id
   pub idle : (h : ℕ) → hosts.run h ≡ None
+  pub bare : (h : ℕ) → hosts.kept h ≡ None
   pub clean : (h l : ℕ) → IsCleanCell (s.copy h l)

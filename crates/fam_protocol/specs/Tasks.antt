@@ -6,6 +6,7 @@ use Rattle.fam_base.specs.declared.cmd.Cmd.TheVariants.{Logplay, Mkdir, Creat, C
 use Rattle.fam_base.specs.declared.cmd.Content.{Content}
 use Rattle.fam_base.specs.declared.cmd.Content.TheVariants as content
 use Rattle.fam_base.specs.declared.entry.Kind.TheVariants as kind
+use Rattle.fam_base.specs.declared.entry.Params.{Params}
 use Rattle.fam_format.specs.Layout.{geometry, gate_line, slot_line}
 use Rattle.fam_format.specs.Line.{line_bytes, line_words}
 use Rattle.fam_format.specs.Slot.{spelling}
@@ -13,7 +14,8 @@ use Rattle.fam_commands.specs.declared.phase.Part.{Part}
 use Rattle.fam_commands.specs.declared.phase.Part.TheVariants.{Superblock, Header, Slot, File as FileLines}
 use Rattle.fam_commands.specs.declared.phase.Phase.{Phase}
 use Rattle.fam_commands.specs.declared.phase.Phase.TheVariants as at
-use Rattle.fam_commands.specs.Task.{Task, content_of, data_words, line_of, part_count, part_line, size_of, start_slot}
+use Rattle.fam_commands.specs.Task.{Task, content_of, data_words, line_of, part_count, part_line, size_of}
+use Rattle.fam_commands.specs.Kept.{Kept}
 use Rattle.fam_commands.specs.Turns.{slots_read}
 use Rattle.fam_rules.specs.Asks.{File, entries_of, file_at}
 use Rattle.fam_rules.specs.Content.{HoldsBytes, content_byte, fill}
@@ -22,7 +24,7 @@ use Rattle.fam_rules.specs.DecideLaws.{IsSoundWish}
 use Rattle.fam_rules.specs.Reports.{Survey, no_survey}
 use Rattle.fam_rules.specs.Written.{slot_part}
 use Rattle.fam_protocol.specs.SharedState.{SharedState}
-use Rattle.fam_protocol.specs.Lines.{IsAtLeast, Fresh, FreshGate, Holding, Finished, gate_of}
+use Rattle.fam_protocol.specs.Lines.{IsAtLeast, Fresh, FreshGate, Holding, Asked, IsHandedOver, Finished, gate_of}
 use Rattle.fam_protocol.specs.Core.{System, top_of}
 
 -- Commands.
@@ -31,6 +33,19 @@ use Rattle.fam_protocol.specs.Core.{System, top_of}
 pub record IsCommand (cmd : Cmd) : Type 0 where
   pub wish : (w : Wish) → wish_of cmd ≡ Some w → IsSoundWish w
   pub content : HoldsBytes (content_of cmd)
+
+-- What a host keeps.
+
+-- the first entries of the history, all of them settled, of the same file system
+pub record IsKeptPrefix (p : Params) (all : List File) (settled : ℕ) (k : Kept) : Type 0 where
+  pub params : k.params ≡ p
+  pub few : length k.entries ≤ settled
+  pub entries : k.entries ≡ entries_of (take (length k.entries) all)
+
+-- or nothing
+abbrev pub KeepsPrefix : Params → List File → ℕ → Option Kept → Type 0
+KeepsPrefix p all settled None = ⊤
+KeepsPrefix p all settled (Some k) = IsKeptPrefix p all settled k
 
 -- Reading.
 
@@ -73,9 +88,8 @@ abbrev pub IsBeingRead : ℕ → Task → Part → ℕ → ℕ → SharedState �
 IsBeingRead host t part j k s =
     IsStable t part → Fresh (s.memory (part_line t part j)) (s.copy host (part_line t part j)) × HasLoaded s.memory t part j k
 
--- no slot is read: the task is to read from the start on
+-- no slot is read
 pub record NoSlot (t : Task) : Type 0 where
-  pub first : t.first_slot ≡ start_slot
   pub entries : t.entries ≡ []
   pub survey : t.survey ≡ no_survey
 
@@ -215,6 +229,11 @@ abbrev pub HasWrittenLines : ℕ → ℕ → Task → SharedState → Type 0
 HasWrittenLines count host t s =
     (b : ℕ) → b < count → Finished (slot_part t.words b) (s.memory (slot_line t.params t.gate b)) (s.copy host (slot_line t.params t.gate b))
 
+-- the first so many lines of the new slot are stored whole, and asked for
+abbrev pub HasAskedLines : ℕ → ℕ → Task → SharedState → Type 0
+HasAskedLines count host t s =
+    (b : ℕ) → b < count → Asked (slot_part t.words b) (s.memory (slot_line t.params t.gate b)) (s.copy host (slot_line t.params t.gate b))
+
 -- k words of line j of the new file are stored
 pub record StoresData (j k : ℕ) (sys : System) (host : ℕ) (t : Task) (s : SharedState) (all : List File) (settled : ℕ) : Type 0 where
   pub writing : IsWriting sys host t s all settled
@@ -227,8 +246,14 @@ pub record StoresSlot (j k : ℕ) (sys : System) (host : ℕ) (t : Task) (s : Sh
   pub writing : IsWriting sys host t s all settled
   pub line : j < (geometry sys.params).lines
   pub contents : HasAllData host t s
-  pub before : HasWrittenLines j host t s
+  pub before : HasAskedLines j host t s
   pub here : Holding k (slot_part t.words j) (s.memory (slot_line t.params t.gate j)) (s.copy host (slot_line t.params t.gate j))
+
+-- all lines of the new slot are asked for
+pub record AwaitsSlot (sys : System) (host : ℕ) (t : Task) (s : SharedState) (all : List File) (settled : ℕ) : Type 0 where
+  pub writing : IsWriting sys host t s all settled
+  pub contents : HasAllData host t s
+  pub slot : HasAskedLines (geometry sys.params).lines host t s
 
 -- file and slot stand in memory
 pub record MayPublish (sys : System) (host : ℕ) (t : Task) (s : SharedState) (all : List File) (settled : ℕ) : Type 0 where
@@ -270,8 +295,10 @@ AtPhase (at.StoreData j k) sys host floor t s all settled = (k < line_words) × 
 AtPhase (at.SendData j) sys host floor t s all settled = StoresData j line_words sys host t s all settled
 AtPhase (at.StoreSlot j k) sys host floor t s all settled = (k < line_words) × StoresSlot j k sys host t s all settled
 AtPhase (at.SendSlot j) sys host floor t s all settled = StoresSlot j line_words sys host t s all settled
+AtPhase at.FenceSlot sys host floor t s all settled = AwaitsSlot sys host t s all settled
 AtPhase at.StoreGate sys host floor t s all settled = MayPublish sys host t s all settled
 AtPhase at.SendGate sys host floor t s all settled = HasPublished sys host t s all
+AtPhase at.FenceGate sys host floor t s all settled = HasPublished sys host t s all × IsHandedOver (s.copy host gate_line)
 
 -- a task is its host's, of an image of this size, and what its phase says holds
 pub record TaskHolds (sys : System) (host : ℕ) (floor : Option ℕ) (t : Task) (s : SharedState) (all : List File) (settled : ℕ) : Type 0 where

@@ -8,7 +8,7 @@ ghost use Rattle.fam_format.specs.Layout.{device_limit, least_lines};
 ghost use Rattle.fam_protocol.specs.After.{Run};
 ghost use Rattle.fam_protocol.specs.Core.{IsWide};
 ghost use Rattle.fam_protocol.specs.Events.{Declares, Formats, MayFormat, Starts, Stops};
-ghost use Rattle.fam_protocol.specs.SharedState.{TransfersAt, Loses, SharedState};
+ghost use Rattle.fam_protocol.specs.SharedState.{Breaks, TransfersAt, Loses, SharedState};
 ghost use Rattle.fam_protocol.specs.Steps.{StepHolds, Steps};
 ghost use Rattle.fam_protocol.specs.Invariant.{AreHosts, Hosts, Known, Rests, Settled, Invariant, solo, no_hosts, shared_with, settled_at_first};
 ghost use Rattle.fam_machine.specs.declared.cell.Cell.{Cell};
@@ -42,6 +42,11 @@ pub fn every_step_keeps_the_protocol()
     // A cache of a declared host moves by itself at any line: it brings, sends, drops or refreshes it, or a word.
     ensures transfer { (settled : Settled) (lines host line : ℕ) (hosts : Hosts) (s s2 : SharedState)
         → Invariant settled lines hosts s → TransfersAt host line s s2 → hosts.uuid host ≢ None
+        → Invariant settled lines hosts s2 }
+
+    // The media fails in an operation of a declared host.
+    ensures broken { (settled : Settled) (lines host line : ℕ) (hosts : Hosts) (s s2 : SharedState)
+        → Invariant settled lines hosts s → Breaks host line s s2 → hosts.uuid host ≢ None
         → Invariant settled lines hosts s2 }
 
     // A task does its operation and takes its turn. It also says what it may: `TurnSays`.

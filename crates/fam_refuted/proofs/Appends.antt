@@ -12,14 +12,14 @@ use Rattle.fam_format.specs.Layout.{geometry, slot_line}
 use Rattle.fam_format.specs.Slot.{spelling}
 use Rattle.fam_machine.specs.declared.cell.Cell.TheVariants.{Absent}
 use Rattle.fam_machine.specs.declared.op.Op.{Op}
-use Rattle.fam_machine.specs.declared.op.Op.TheVariants.{Load, Store, WriteBack, Invalidate, Digest}
+use Rattle.fam_machine.specs.declared.op.Op.TheVariants.{Load, Store, WriteBack, Fence, Invalidate, Digest}
 use Rattle.fam_commands.specs.declared.phase.Phase.{Phase}
 use Rattle.fam_commands.specs.declared.phase.Phase.TheVariants as at
 use Rattle.fam_commands.specs.Stands.{turn_given}
 use Rattle.fam_commands.specs.Table.{data_ops}
 use Rattle.fam_machine.specs.Operations.{store_ops, line_no}
 use Rattle.fam_commands.specs.Task.{Task, content_of, op_of}
-use Rattle.fam_commands.specs.Turns.{Turn, Goes, Writes, Ends, append_turn, data_or_slot, first_store, slots_read, slot_or_gate}
+use Rattle.fam_commands.specs.Turns.{Turn, Goes, Writes, Ends, append_turn, data_or_slot, first_store, slots_read, slot_or_fence}
 use Rattle.fam_machine.proofs.Transferring.{absent_transfers}
 use Rattle.fam_rules.specs.Asks.{File, entries_of}
 use Rattle.fam_rules.specs.Content.{content_line}
@@ -39,7 +39,7 @@ use Rattle.fam_refuted.specs.Refused.{Begins, RanSteps, Scene, ends, goes, moves
 use Rattle.fam_protocol.proofs.Lines.Free.{transfers_at, Same, same}
 use Rattle.fam_protocol.proofs.Hosts.Begins.{held_prefix}
 use Rattle.fam_protocol.proofs.Hosts.Events.{invariant_declared}
-use Rattle.fam_protocol.proofs.Hosts.Steps.{invariant_transferred, invariant_stepped}
+use Rattle.fam_protocol.proofs.Hosts.Steps.{invariant_transferred, invariant_stepped, keeps_none}
 use Rattle.fam_protocol.proofs.Lines.Stored.{part_word}
 use Rattle.fam_refuted.proofs.Scenes.{read, scene_invariant}
 
@@ -58,6 +58,7 @@ AreDrops (Invalidate l ∷ more) = AreDrops more
 AreDrops (Load l k ∷ more) = ⊥
 AreDrops (Store l k value ∷ more) = ⊥
 AreDrops (WriteBack l ∷ more) = ⊥
+AreDrops (Fence ∷ more) = ⊥
 AreDrops (Digest ∷ more) = ⊥
 
 -- of two lists
@@ -67,6 +68,7 @@ both_drops (Invalidate l ∷ more) ys a b = both_drops more ys a b
 both_drops (Load l k ∷ more) ys a b = absurd a
 both_drops (Store l k value ∷ more) ys a b = absurd a
 both_drops (WriteBack l ∷ more) ys a b = absurd a
+both_drops (Fence ∷ more) ys a b = absurd a
 both_drops (Digest ∷ more) ys a b = absurd a
 
 -- at each of some slots
@@ -81,15 +83,15 @@ module _ (c : Scene) where
 
   -- the master with a task, or with none
   abbrev pub with_run : Option Run → Hosts
-  with_run r = record { uuid = uuid; run = λ h. if h == c.master then r else None }
+  with_run r = record { uuid = uuid; run = λ h. if h == c.master then r else None; kept = λ h. None }
 
   -- the master alone
   abbrev one_host : Hosts
-  one_host = record { uuid = λ h. if h == c.master then Some c.params.master else None; run = λ h. None }
+  one_host = record { uuid = λ h. if h == c.master then Some c.params.master else None; run = λ h. None; kept = λ h. None }
 
   -- both, before the master has a task
   abbrev two_hosts : Hosts
-  two_hosts = record { uuid = uuid; run = λ h. None }
+  two_hosts = record { uuid = uuid; run = λ h. None; kept = λ h. None }
 
   -- the master's task that has read all slots
   abbrev pub reading_task : Cmd → Task
@@ -99,7 +101,7 @@ module _ (c : Scene) where
     lines = length c.image;
     phase = at.Decide;
     params = c.params;
-    first_slot = 0;
+    kept = None;
     gate = next c;
     entries = c.entries;
     words = [];
@@ -152,7 +154,7 @@ module _ (c : Scene) where
   stored_word j k lt = ap (Store (line_no (slot_line c.params (next c) j)) k) (sym (part_word new_words j k lt))
 
   -- the task stores and sends it
-  along_line : (j : ℕ) → Along (slot_line_ops j) (at.StoreSlot j 0) (slot_or_gate (writing (at.SendSlot j)) j)
+  along_line : (j : ℕ) → Along (slot_line_ops j) (at.StoreSlot j 0) (slot_or_fence (writing (at.SendSlot j)) j)
   along_line j =
       steps (stored_word j 0 (omega arith)) (λ word. refl)
       (steps (stored_word j 1 (omega arith)) (λ word. refl)
@@ -163,7 +165,7 @@ module _ (c : Scene) where
       (steps (stored_word j 6 (omega arith)) (λ word. refl) (steps (stored_word j 7 (omega arith)) (λ word. refl) (steps refl (λ word. refl) stays))))))))
 
   -- and all of them
-  along_slot : Along (writes_slot c) (at.StoreSlot 0 0) at.StoreGate
+  along_slot : Along (writes_slot c) (at.StoreSlot 0 0) at.FenceSlot
   along_slot =
       along_on (along_line 0) (along_on (along_line 1) (along_on (along_line 2) (along_on (along_line 3) (along_on (along_line 4) (along_on (along_line 5) (along_on (along_line 6) (along_on (along_line 7) stays)))))))
 
@@ -202,7 +204,7 @@ module _ (c : Scene) where
 
   -- file, slot and gate, and the answer
   pub appends_answers : Answers (appends c) (first_store c.entry.size)
-  appends_answers = answers_on (along_on along_data along_slot) (first refl (λ word. refl) (last refl (λ word. refl)))
+  appends_answers = answers_on (along_on along_data along_slot) (first refl (λ word. refl) (first refl (λ word. refl) (first refl (λ word. refl) (last refl (λ word. refl)))))
 
   module _ (scene : Begins c) where
     -- The two hosts are declared.
@@ -223,6 +225,7 @@ module _ (c : Scene) where
       is = rw (eq-eqb c.master c.master refl) refl;
       uuids = λ h ne. rw (ne_eqb h c.master ne) refl;
       runs = λ h. refl;
+      kept = λ h. refl;
     }
 
     other_id : (b : Bool) → (if b then Some c.params.master else None) ≢ Some (0 ∷ c.params.master)
@@ -236,6 +239,7 @@ module _ (c : Scene) where
       is = reader_is;
       uuids = λ h ne. rw (ne_eqb h c.reader ne) refl;
       runs = λ h. refl;
+      kept = λ h. refl;
     }
 
     -- what the protocol keeps holds while none of them has a task
@@ -303,6 +307,7 @@ module _ (c : Scene) where
           | inl (e, is) ↦ absurd (let some : uuid h ≡ Some c.params.master = ap uuid e ∙ master_is in cc)
           | inr (ne, is) ↦ is
         ];
+        bare = λ h none. refl;
       };
       marked = λ h r is has. elim (runs_is (Some deciding) (Some r) h is (same h c.master)) [
         | inl (e, run) ↦ subst (λ (q : Run). IsMarked q.floor) (same_run run) tt
@@ -312,9 +317,15 @@ module _ (c : Scene) where
         | inl (e, run) ↦ absurd (subst (λ (q : Run). HasNamed q.task.phase) (sym (same_run run)) has)
         | inr (ne, run) ↦ absurd (cc)
       ];
+      keeps = λ h r is. elim (runs_is (Some deciding) (Some r) h is (same h c.master)) [
+        | inl (e, run) ↦ ap (λ (q : Run). q.task.kept) (sym (same_run run))
+        | inr (ne, run) ↦ absurd (cc)
+      ];
       wide = invariant_idle.wide;
       stage = record {
         enough = invariant_idle.stage.enough;
+        inside = invariant_idle.stage.inside;
+        kept = λ h. tt;
         master = invariant_idle.stage.master;
         core = invariant_idle.stage.core;
         tasks = λ h r is. elim (runs_is (Some deciding) (Some r) h is (same h c.master)) [
@@ -349,6 +360,8 @@ module _ (c : Scene) where
           uuids = λ h. refl;
           mine = rw (eq-eqb c.master c.master refl, is, after) refl;
           runs = λ h ne. rw (ne_eqb h c.master ne) refl;
+          keeps = sym (keeps_none (turn_given r.task word) r.task);
+          kept = λ h ne. refl;
         } in
         let holds : StepHolds (Known c.params all settled) (length c.image) word r (with_run (Some r)) (with_run o) s' = invariant_stepped (length c.image) c.master word (Known c.params all settled) r (with_run (Some r)) (with_run o) s s' invariant steps in
         subst (λ (t : Turn). Invariant (turn_settles t (Known c.params all settled)) (length c.image) (with_run o) s') is holds.invariant
@@ -375,6 +388,7 @@ module _ (c : Scene) where
     invariant_drops (Load l k ∷ ops) settled all r are ran invariant = absurd are
     invariant_drops (Store l k value ∷ ops) settled all r are ran invariant = absurd are
     invariant_drops (WriteBack l ∷ ops) settled all r are ran invariant = absurd are
+    invariant_drops (Fence ∷ ops) settled all r are ran invariant = absurd are
     invariant_drops (Digest ∷ ops) settled all r are ran invariant = absurd are
 
     -- its cache moves by itself

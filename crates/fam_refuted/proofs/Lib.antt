@@ -1,4 +1,5 @@
 pub mod Runs
+pub mod Fencing
 pub mod Phases
 pub mod Scenes
 pub mod Appends

@@ -1,7 +1,8 @@
--- The four runs of the protocols that are refused.
-use Rattle.std.proofs.Common.{ℕ, zero, suc, Option, Some, None, ◌≡◌, ◌≢◌, inr, ◌+◌, ◌-◌, ◌*◌, ◌<◌, not, List, [], ◌∷◌, ◌++◌, length, map, refl, sym, ap, subst, ◌∙◌, append_assoc, arith}
+-- The five runs of the protocols that are refused.
+use Rattle.std.proofs.Common.{ℕ, zero, suc, Option, Some, None, true, ◌≡◌, ◌≢◌, inr, ◌+◌, ◌-◌, ◌*◌, ◌<◌, not, List, [], ◌∷◌, ◌++◌, length, map, refl, sym, ap, subst, ◌∙◌, append_assoc, arith}
 use Rattle.std.specs.Prelude.{flat_map, slice_get, slice_index, slice_set}
 use Rattle.std.specs.List.{range_with_len}
+use Rattle.std.proofs.lemmas.Bool.{false≢true}
 use Rattle.std.proofs.lemmas.List.{append-nil, get_or-set_same, length-map, map-append}
 use Rattle.std.proofs.lemmas.List.FromFn.{length-map-range_with_len}
 use Rattle.fam_base.specs.Image.{line_at}
@@ -11,7 +12,7 @@ use Rattle.fam_format.specs.Slot.{entry_of, spelling}
 use Rattle.fam_format.proofs.EntryLawsProofs.{spelling_count, spelling_read}
 use Rattle.fam_machine.specs.declared.cell.Cell.TheVariants.{Absent}
 use Rattle.fam_machine.specs.declared.op.Op.{Op}
-use Rattle.fam_machine.specs.declared.op.Op.TheVariants.{Load, Store, WriteBack, Invalidate, Digest}
+use Rattle.fam_machine.specs.declared.op.Op.TheVariants.{Load, Store, WriteBack, Fence, Invalidate, Digest}
 use Rattle.fam_commands.specs.Table.{data_ops}
 use Rattle.fam_machine.specs.Operations.{load_ops, store_ops, line_no}
 use Rattle.fam_commands.specs.Task.{content_of}
@@ -23,15 +24,15 @@ use Rattle.fam_protocol.specs.Lines.{gate_of}
 use Rattle.fam_commands.specs.Turns.{first_store}
 use Rattle.fam_protocol.specs.After.{Run}
 use Rattle.fam_protocol.specs.Invariant.{Known, Invariant, solo, held_file}
-use Rattle.fam_refuted.proofs.Runs.{ran_on}
+use Rattle.fam_refuted.proofs.Runs.{are_here, ran_on}
 use Rattle.fam_refuted.proofs.Appends.{all_drops, appends_answers, master_is, reader_is, run_at, invariant_answers, invariant_drops, invariant_fetches, invariant_named, with_run}
-use Rattle.fam_refuted.specs.Refused.{Step, Does, Transfers, at_slots, is_drop, Scene, Begins, RanSteps, Misreads, Misses, TearsEntry, AnswersSettled, IsPublished, IsWrong, all_by, appends, drops, drops_early, fetches, fetches_gate, fetches_slot, gate_first, history, keeps_gate, keeps_slots, next, old_history, publishes, reads_gate, reads_slot, reads_well, sends_late, slot_lines, without_drops, without_sends, writes_slot}
+use Rattle.fam_refuted.specs.Refused.{Step, Does, Transfers, at_slots, is_drop, Scene, Begins, RanSteps, Misleads, Misreads, Misses, TearsEntry, AnswersSettled, IsPublished, IsWrong, all_by, answers_early, appends, drops, drops_early, drops_gate, fetches, fetches_gate, fetches_slot, gate_first, history, keeps_gate, keeps_slots, next, old_history, reads_gate, reads_slot, reads_well, sends_gate, sends_late, slot_lines, stores_gate, without_drops, writes_slot}
 use Rattle.fam_protocol.proofs.Lines.Apart.{last_member, line_behind, slot_no_file}
 use Rattle.fam_machine.proofs.WideLines.{eight_whole}
 use Rattle.fam_protocol.proofs.Lines.Publish.{slot_of_parts}
 use Rattle.fam_protocol.proofs.Lines.Stored.{part_length}
 use Rattle.fam_refuted.proofs.Scenes.{may, read, sound}
-use Rattle.fam_refuted.proofs.Phases.{Who, Master, Reader, Which, Slot, Gate, IsThere, View, Phase, AtSlot, AtGate, Elsewhere, line, IsApart, AreAway, AreElsewhere, Loaded, Shown, all_away, both_away, some_away, load_away, loads_at, loads_in, PassedAll, all_elsewhere, pass_all, steps_of_all, then_all, words_of_all}
+use Rattle.fam_refuted.proofs.Phases.{Who, Master, Reader, Which, Slot, Gate, IsThere, View, Phase, AtSlot, AtGate, Elsewhere, Sending, line, IsApart, AreAway, AreElsewhere, Loaded, Shown, all_away, both_away, some_away, load_away, loads_at, loads_in, PassedAll, all_elsewhere, pass_all, steps_of_all, then_all, words_of_all}
 
 -- Lists.
 
@@ -83,14 +84,17 @@ module _ (c : Scene) where
   abbrev put_data : Phase
   put_data = Elsewhere Master (data_ops c.entry (content_of c.cmd))
 
-  abbrev store_slot : Phase
-  store_slot = AtSlot Master (λ j. all_by 0 (store_ops 0 (slot_part new_words j)))
-
-  abbrev send_slot : Phase
-  send_slot = AtSlot Master (λ j. all_by 0 (WriteBack (line_no 0) ∷ []))
-
   abbrev put_slot : Phase
   put_slot = AtSlot Master (λ j. all_by 0 (store_ops 0 (slot_part new_words j) ++ WriteBack (line_no 0) ∷ []))
+
+  abbrev send : Phase
+  send = Sending Master
+
+  abbrev move_gate : Phase
+  move_gate = AtGate Master (all_by 0 (stores_gate c) ++ Transfers 0 0 ∷ [])
+
+  abbrev ask_gate : Phase
+  ask_gate = AtGate Master (all_by 0 (WriteBack (line_no gate_line) ∷ []))
 
   abbrev put_gate : Phase
   put_gate = AtGate Master (all_by 0 (Store (line_no gate_line) 0 (next c + 1) ∷ WriteBack (line_no gate_line) ∷ []))
@@ -125,7 +129,7 @@ module _ (c : Scene) where
     two = begins.hosts
 
     shown : Shown c.params (next c) host two (solo c.image) at_first
-    shown = record { words = λ w there. refl; cell = λ h w there. refl }
+    shown = record { words = λ w there. refl; cell = λ h w there. refl; unasked = λ h l apart asked. false≢true asked }
 
     -- phases
     abbrev Goes : List Phase → SharedState → View → Type 0
@@ -219,14 +223,14 @@ module _ (c : Scene) where
     reads_by ops =
         ap (λ (more : List Op). all_by c.reader (reads_gate ++ more)) (slots_split ops) ∙ ap (λ (more : List Step). all_by c.reader reads_gate ++ more) (map-append (Does c.reader) (at_slots ops (next c)) (ops (next c) ++ []))
 
-    read_slots : (ops : ℕ → List Op) (slot : ℕ → List Step) (s : SharedState) (v : View) → Shown c.params (next c) host two s v → ((i : ℕ) → i ≢ next c → AreAway c.params (next c) (ops i)) → ((i : ℕ) → loads_in (ops i) ≡ 64)
+    read_slots : (ops : ℕ → List Op) (slot : ℕ → List Step) (s : SharedState) (v : View) → ((j : ℕ) → are_here (slot j) ≡ true) → Shown c.params (next c) host two s v → ((i : ℕ) → i ≢ next c → AreAway c.params (next c) (ops i)) → ((i : ℕ) → loads_in (ops i) ≡ 64)
         → steps_of_all c.params (next c) host two (AtSlot Reader slot ∷ think ∷ []) ≡ all_by c.reader (ops (next c) ++ []) → words_of_all (read_gate ∷ []) v ≡ (next c + 1) ∷ [] → words_of_all (AtSlot Reader slot ∷ think ∷ []) (then_all (read_gate ∷ []) v) ≡ slot_words memory c.params (next c) → HasRead ops slot s v
-    read_slots ops slot s v shown away loads steps gate words =
-        let first : Goes (read_gate ∷ []) s v = pass_all c.params (next c) host two (read_gate ∷ []) s v shown (tt, tt) in
+    read_slots ops slot s v here shown away loads steps gate words =
+        let first : Goes (read_gate ∷ []) s v = pass_all c.params (next c) host two (read_gate ∷ []) s v shown (refl, tt) in
         let w = then_all (read_gate ∷ []) v in
         let before : Loaded c.params (next c) host two Reader (at_slots ops (next c)) first.after w =
         load_away c.params (next c) host two Reader (at_slots ops (next c)) first.after w first.shown (all_away c.params (next c) ops 0 (next c) (λ i low high. away i (λ e. omega (arith, e, high)))) in
-        let last : Goes (AtSlot Reader slot ∷ think ∷ []) before.after w = pass_all c.params (next c) host two (AtSlot Reader slot ∷ think ∷ []) before.after w before.shown (tt, ((tt, tt), tt)) in
+        let last : Goes (AtSlot Reader slot ∷ think ∷ []) before.after w = pass_all c.params (next c) host two (AtSlot Reader slot ∷ think ∷ []) before.after w before.shown (here, ((tt, tt), tt)) in
         let gate_ran : RanSteps (all_by c.reader reads_gate) ((next c + 1) ∷ []) s first.after = ran_as (read_gate ∷ []) s v (all_by c.reader reads_gate) _ first refl gate in
         let last_ran : RanSteps (all_by c.reader (ops (next c) ++ [])) (slot_words memory c.params (next c)) before.after last.after = ran_as (AtSlot Reader slot ∷ think ∷ []) before.after w _ _ last steps words in
         record {
@@ -240,10 +244,10 @@ module _ (c : Scene) where
     -- The master appends, and answers.
 
     abbrev put : List Phase
-    put = put_data ∷ put_slot ∷ put_gate ∷ []
+    put = put_data ∷ put_slot ∷ send ∷ put_gate ∷ send ∷ []
 
     append_steps : steps_of_all c.params (next c) host two put ≡ all_by c.master (appends c)
-    append_steps = sym (split_at c.master (data_ops c.entry (content_of c.cmd)) (writes_slot c) (publishes c))
+    append_steps = sym (split_at c.master (data_ops c.entry (content_of c.cmd)) (writes_slot c) (Fence ∷ stores_gate c ++ sends_gate))
 
     -- behind early moves of the reader
     record Answered (early : List Step) (v : View) : Type 0 where
@@ -257,7 +261,7 @@ module _ (c : Scene) where
 
     append_behind : (early : List Step) (s : SharedState) (v : View) → RanSteps early [] (solo c.image) s → Shown c.params (next c) host two s v → Invariant (Known c.params (history c) (next c)) (length c.image) (with_run c named) s → words_of_all put v ≡ [] → Answered early v
     append_behind early s v ran shown invariant none =
-        let went : Goes put s v = pass_all c.params (next c) host two put s v shown (data_elsewhere, (tt, (tt, tt))) in
+        let went : Goes put s v = pass_all c.params (next c) host two put s v shown (data_elsewhere, ((λ j. refl), (tt, (refl, (tt, tt))))) in
         let appended : RanSteps (all_by c.master (appends c)) [] s went.after = ran_as put s v (all_by c.master (appends c)) [] went append_steps none in
         record {
           after = went.after;
@@ -273,7 +277,7 @@ module _ (c : Scene) where
 
     -- The slot's lines aren't dropped behind the gate.
 
-    kept_words : slot_words memory c.params (next c) ≡ words_of_all (load ∷ think ∷ []) (then_all (fetch ∷ put_data ∷ put_slot ∷ put_gate ∷ read_gate ∷ []) at_first)
+    kept_words : slot_words memory c.params (next c) ≡ words_of_all (load ∷ think ∷ []) (then_all (fetch ∷ put_data ∷ put_slot ∷ send ∷ put_gate ∷ send ∷ read_gate ∷ []) at_first)
     unfolding slot_words
     kept_words = refl
 
@@ -282,13 +286,13 @@ module _ (c : Scene) where
 
     read_kept : (early : List Step) → Answered early (then_all (fetch ∷ []) at_first) → Misreads c (early ++ all_by c.master (appends c)) (keeps_slots c)
     read_kept early done =
-        let read = read_slots (λ i. without_drops (reads_slot c i)) (λ j. all_by 0 (map (λ k. Load (line_no 0) k) (range_with_len 0 8))) done.after (then_all (fetch ∷ put) at_first) done.shown kept_away (λ i. refl) refl (sym gate_words) (sym kept_words) in
+        let read = read_slots (λ i. without_drops (reads_slot c i)) (λ j. all_by 0 (map (λ k. Load (line_no 0) k) (range_with_len 0 8))) done.after (then_all (fetch ∷ put) at_first) (λ j. refl) done.shown kept_away (λ i. refl) refl (sym gate_words) (sym kept_words) in
         record { middle = done.after; began = done.began; answered = done.answered; given = read.given; after = read.after; ran = read.ran; wrong = read.wrong }
 
     -- they are never dropped
     pub no_drop : Misreads c (fetches_slot c) (keeps_slots c)
     no_drop =
-        let first : Goes (fetch ∷ []) (solo c.image) at_first = pass_all c.params (next c) host two (fetch ∷ []) (solo c.image) at_first shown (tt, tt) in
+        let first : Goes (fetch ∷ []) (solo c.image) at_first = pass_all c.params (next c) host two (fetch ∷ []) (solo c.image) at_first shown ((λ j. refl), tt) in
         let ran : RanSteps (fetches c.reader (slot_lines c)) [] (solo c.image) first.after = first.ran in
         read_kept (fetches c.reader (slot_lines c))
         (append_behind (fetches c.reader (slot_lines c)) first.after (then_all (fetch ∷ []) at_first) ran first.shown (invariant_fetches c begins (slot_lines c) (next c) (history c) named ran (invariant_named c begins)) refl)
@@ -305,7 +309,7 @@ module _ (c : Scene) where
       cell_there h Gate there = dropped.cell h Gate there
 
       still : Shown c.params (next c) host two s at_first
-      still = record { words = words_there; cell = cell_there }
+      still = record { words = words_there; cell = cell_there; unasked = dropped.unasked }
 
     -- every slot of the log is dropped
     abbrev dropped : ℕ → List Op
@@ -332,10 +336,10 @@ module _ (c : Scene) where
     early_drop =
         let first : Goes drop_all (solo c.image) at_first =
         pass_all c.params (next c) host two drop_all (solo c.image) at_first shown
-        (all_elsewhere c.params (next c) dropped 0 (next c) (λ i low high. dropped_elsewhere i (λ e. omega (arith, e, high))), (tt, (all_elsewhere c.params (next c) dropped (next c + 1) rest (λ i low high. dropped_elsewhere i (λ e. omega (arith, e, low))), tt))) in
+        (all_elsewhere c.params (next c) dropped 0 (next c) (λ i low high. dropped_elsewhere i (λ e. omega (arith, e, high))), ((λ j. refl), (all_elsewhere c.params (next c) dropped (next c + 1) rest (λ i low high. dropped_elsewhere i (λ e. omega (arith, e, low))), tt))) in
         let early = all_by c.reader (at_slots dropped c.params.slots) in
         let gone : RanSteps early [] (solo c.image) first.after = ran_as drop_all (solo c.image) at_first early [] first drop_steps refl in
-        let second : Goes (fetch ∷ []) first.after at_first = pass_all c.params (next c) host two (fetch ∷ []) first.after at_first (still first.after first.shown) (tt, tt) in
+        let second : Goes (fetch ∷ []) first.after at_first = pass_all c.params (next c) host two (fetch ∷ []) first.after at_first (still first.after first.shown) ((λ j. refl), tt) in
         let ran : RanSteps (fetches c.reader (slot_lines c)) [] first.after second.after = second.ran in
         read_kept (early ++ fetches c.reader (slot_lines c))
         (append_behind (early ++ fetches c.reader (slot_lines c)) second.after (then_all (fetch ∷ []) at_first) (ran_on gone ran) second.shown
@@ -345,13 +349,13 @@ module _ (c : Scene) where
     pub no_gate_drop : Misses c (fetches_gate c) (keeps_gate c)
     no_gate_drop =
         let fetch_gate = AtGate Reader (Transfers 0 0 ∷ []) ∷ [] in
-        let first : Goes fetch_gate (solo c.image) at_first = pass_all c.params (next c) host two fetch_gate (solo c.image) at_first shown (tt, tt) in
+        let first : Goes fetch_gate (solo c.image) at_first = pass_all c.params (next c) host two fetch_gate (solo c.image) at_first shown (refl, tt) in
         let ran : RanSteps (fetches c.reader (gate_line ∷ [])) [] (solo c.image) first.after = first.ran in
         let done : Answered (fetches c.reader (gate_line ∷ [])) (then_all fetch_gate at_first) =
         append_behind (fetches c.reader (gate_line ∷ [])) first.after (then_all fetch_gate at_first) ran first.shown (invariant_fetches c begins (gate_line ∷ []) (next c) (history c) named ran (invariant_named c begins)) refl in
         let keep_gate = AtGate Reader (all_by 0 (without_drops reads_gate)) ∷ [] in
         let v = then_all put (then_all fetch_gate at_first) in
-        let went : Goes keep_gate done.after v = pass_all c.params (next c) host two keep_gate done.after v done.shown (tt, tt) in
+        let went : Goes keep_gate done.after v = pass_all c.params (next c) host two keep_gate done.after v done.shown (refl, tt) in
         record {
           middle = done.after;
           began = done.began;
@@ -365,30 +369,57 @@ module _ (c : Scene) where
     -- The gate is sent before the slot.
 
     abbrev put_early : List Phase
-    put_early = put_data ∷ store_slot ∷ put_gate ∷ []
+    put_early = put_data ∷ put_slot ∷ move_gate ∷ []
 
-    torn_words : slot_words memory c.params (next c) ≡ words_of_all (drop_load ∷ think ∷ []) (then_all (put_data ∷ store_slot ∷ put_gate ∷ read_gate ∷ []) at_first)
+    torn_words : slot_words memory c.params (next c) ≡ words_of_all (drop_load ∷ think ∷ []) (then_all (put_data ∷ put_slot ∷ move_gate ∷ read_gate ∷ []) at_first)
     unfolding slot_words
     torn_words = refl
 
     torn_gate : (next c + 1) ∷ [] ≡ words_of_all (read_gate ∷ []) (then_all put_early at_first)
     torn_gate = ap (λ (gate : ℕ). gate ∷ []) (sym new_gate)
 
+    early_steps : steps_of_all c.params (next c) host two put_early ≡ gate_first c
+    early_steps =
+        sym (append_assoc (all_by c.master (data_ops c.entry (content_of c.cmd))) (all_by c.master (writes_slot c ++ stores_gate c)) (Transfers c.master gate_line ∷ []))
+        ∙ ap (λ (steps : List Step). steps ++ Transfers c.master gate_line ∷ []) (sym (split_at c.master (data_ops c.entry (content_of c.cmd)) (writes_slot c) (stores_gate c)))
+
     pub early_gate : TearsEntry c (gate_first c) (reads_well c) (sends_late c)
     early_gate =
-        let first : Goes put_early (solo c.image) at_first = pass_all c.params (next c) host two put_early (solo c.image) at_first shown (data_elsewhere, (tt, (tt, tt))) in
+        let first : Goes put_early (solo c.image) at_first = pass_all c.params (next c) host two put_early (solo c.image) at_first shown (data_elsewhere, ((λ j. refl), (refl, tt))) in
         let v = then_all put_early at_first in
-        let read = read_slots (λ i. reads_slot c i) (λ j. all_by 0 (load_ops 0 8)) first.after v first.shown slot_away (λ i. refl) refl (sym torn_gate) (sym torn_words) in
+        let read = read_slots (λ i. reads_slot c i) (λ j. all_by 0 (load_ops 0 8)) first.after v (λ j. refl) first.shown slot_away (λ i. refl) refl (sym torn_gate) (sym torn_words) in
         let w = then_all (read_gate ∷ drop_load ∷ think ∷ []) v in
-        let last : Goes (send_slot ∷ []) read.after w = pass_all c.params (next c) host two (send_slot ∷ []) read.after w read.shown (tt, tt) in
+        let last : Goes (ask_gate ∷ send ∷ []) read.after w = pass_all c.params (next c) host two (ask_gate ∷ send ∷ []) read.after w read.shown (refl, (tt, tt)) in
         record {
           middle = first.after;
-          began = ran_as put_early (solo c.image) at_first (gate_first c) [] first (sym (split_at c.master (data_ops c.entry (content_of c.cmd)) (without_sends (writes_slot c)) (publishes c))) refl;
+          began = ran_as put_early (solo c.image) at_first (gate_first c) [] first early_steps refl;
           given = read.given;
           later = read.after;
           ran = read.ran;
           wrong = read.wrong;
           after = last.after;
-          ended = ran_as (send_slot ∷ []) read.after w (sends_late c) [] last refl refl;
+          ended = ran_as (ask_gate ∷ send ∷ []) read.after w (sends_late c) [] last refl refl;
           published = published last.after (λ j there. last.shown.words (Slot j) there) (last.shown.words Gate tt);
+        }
+
+    -- The answer comes before the gate is sent.
+
+    abbrev put_unfenced : List Phase
+    put_unfenced = put_data ∷ put_slot ∷ send ∷ put_gate ∷ []
+
+    unfenced_steps : steps_of_all c.params (next c) host two put_unfenced ≡ answers_early c
+    unfenced_steps = sym (split_at c.master (data_ops c.entry (content_of c.cmd)) (writes_slot c) (Fence ∷ Store (line_no gate_line) 0 (next c + 1) ∷ WriteBack (line_no gate_line) ∷ []))
+
+    pub early_answer : Misleads c (answers_early c) (drops_gate c)
+    early_answer =
+        let first : Goes put_unfenced (solo c.image) at_first = pass_all c.params (next c) host two put_unfenced (solo c.image) at_first shown (data_elsewhere, ((λ j. refl), (tt, (refl, tt)))) in
+        let v = then_all put_unfenced at_first in
+        let went : Goes (read_gate ∷ []) first.after v = pass_all c.params (next c) host two (read_gate ∷ []) first.after v first.shown (refl, tt) in
+        record {
+          middle = first.after;
+          began = ran_as put_unfenced (solo c.image) at_first (answers_early c) [] first unfenced_steps refl;
+          gate = next c;
+          after = went.after;
+          ran = ran_as (read_gate ∷ []) first.after v (drops_gate c) (next c ∷ []) went refl (ap (λ (gate : ℕ). gate ∷ []) old_gate);
+          low = omega arith;
         }

@@ -1,14 +1,15 @@
 -- Runs, computed at the lines that they touch.
 use Rattle.std.proofs.Common.{ℕ, ◌≡◌, ◌==◌, if◌then◌else◌, Bool, true, false, List, [], ◌∷◌, ◌++◌, map, Option, Some, None, refl, sym, subst, ◌∙◌}
-use Rattle.std.specs.Prelude.{slice_index}
-use Rattle.std.proofs.lemmas.Bool.{eq-eqb, ne_eqb}
+use Rattle.std.specs.Prelude.{slice_index, ◌&&◌}
+use Rattle.std.proofs.lemmas.Bool.{false≢true, and_parts, eq-eqb, ne_eqb}
 use Rattle.fam_machine.specs.declared.cell.Cell.{Cell}
-use Rattle.fam_machine.specs.declared.cell.Cell.TheVariants.{Absent}
+use Rattle.fam_machine.specs.declared.cell.Cell.TheVariants.{Absent, Clean, Dirty}
 use Rattle.fam_machine.specs.declared.op.Op.{Op}
-use Rattle.fam_machine.specs.declared.op.Op.TheVariants.{Load, Store, WriteBack, Invalidate, Digest}
-use Rattle.fam_machine.specs.OneLine.{brought, cleaned, current, sent, stored}
+use Rattle.fam_machine.specs.declared.op.Op.TheVariants.{Load, Store, WriteBack, Fence, Invalidate, Digest}
+use Rattle.fam_machine.specs.OneLine.{asked_for, brought, cleaned, current, sent, stored}
 use Rattle.fam_machine.specs.Operations.{given_by, line_no}
-use Rattle.fam_machine.proofs.Transferring.{brought_transfers}
+use Rattle.fam_machine.specs.Moves as machine
+use Rattle.fam_machine.proofs.Transferring.{brought_transfers, cleaned_transfers}
 use Rattle.fam_protocol.specs.SharedState.{SharedState, ChangesOnly, LeavesAt, Operates}
 use Rattle.fam_protocol.proofs.Lines.Free.{transfers_at}
 use Rattle.fam_refuted.specs.Refused.{Step, Does, Transfers, RanSteps, ends, goes, moves, with_first}
@@ -28,13 +29,13 @@ ran_on (moves first rest) more = moves first (ran_on rest more)
 
 -- One line of memory and one copy of it are replaced.
 
-abbrev with_line : SharedState → ℕ → ℕ → List ℕ → Cell → SharedState
+abbrev pub with_line : SharedState → ℕ → ℕ → List ℕ → Cell → SharedState
 with_line s host line words cell = record {
   memory = λ l. if l == line then words else s.memory l;
   copy = λ h l. if h == host then (if l == line then cell else s.copy h l) else s.copy h l;
 }
 
-leaves : (s : SharedState) (host line : ℕ) (words : List ℕ) (cell : Cell) → LeavesAt host line s (with_line s host line words cell) words cell
+pub leaves : (s : SharedState) (host line : ℕ) (words : List ℕ) (cell : Cell) → LeavesAt host line s (with_line s host line words cell) words cell
 leaves s host line words cell = record {
   only = record {
     memory = λ l ne. rw (ne_eqb l line ne) refl;
@@ -74,6 +75,7 @@ at_line l (Load line k) = Load (line_no l) k
 at_line l (Store line k value) = Store (line_no l) k value
 at_line l (WriteBack line) = WriteBack (line_no l)
 at_line l (Invalidate line) = Invalidate (line_no l)
+at_line l Fence = Fence
 at_line l Digest = Digest
 
 -- a step of another host, at another line
@@ -85,8 +87,9 @@ placed h l (Transfers host line) = Transfers h l
 abbrev pub made_by : Op → Here → Here
 made_by (Load line k) x = here x.words (brought x.words x.cell)
 made_by (Store line k value) x = here x.words (stored k value x.words x.cell)
-made_by (WriteBack line) x = here (sent x.words x.cell) (cleaned x.cell)
+made_by (WriteBack line) x = here x.words (asked_for x.cell)
 made_by (Invalidate line) x = here (sent x.words x.cell) Absent
+made_by Fence x = x
 made_by Digest x = x
 
 abbrev pub word_by : Op → Here → ℕ
@@ -94,12 +97,13 @@ word_by (Load line k) x = slice_index (current x.words x.cell) k
 word_by (Store line k value) x = 0
 word_by (WriteBack line) x = 0
 word_by (Invalidate line) x = 0
+word_by Fence x = 0
 word_by Digest x = 0
 
--- what a step leaves: a line that moves by itself is fetched, where it is absent
+-- what a step leaves: a line that moves by itself is fetched where it is absent, and sent where it is dirty
 abbrev pub left : Step → Here → Here
 left (Does host op) x = made_by op x
-left (Transfers host line) x = here x.words (brought x.words x.cell)
+left (Transfers host line) x = here (sent x.words x.cell) (cleaned (brought x.words x.cell))
 
 -- the word that it gives
 abbrev pub gives : Step → Here → Option ℕ
@@ -113,6 +117,30 @@ left_all (step ∷ more) x = left_all more (left step x)
 abbrev pub give_all : List Step → Here → List ℕ
 give_all [] x = []
 give_all (step ∷ more) x = with_first (gives step x) (give_all more (left step x))
+
+-- an operation at one line, or at none
+abbrev pub is_here : Op → Bool
+is_here (Load line k) = true
+is_here (Store line k value) = true
+is_here (WriteBack line) = true
+is_here (Invalidate line) = true
+is_here Fence = false
+is_here Digest = true
+
+-- a step at one line
+abbrev pub is_step_here : Step → Bool
+is_step_here (Does host op) = is_here op
+is_step_here (Transfers host line) = true
+
+abbrev pub are_here : List Step → Bool
+are_here [] = true
+are_here (step ∷ more) = is_step_here step && are_here more
+
+-- a line that moves by itself
+settled_transfers : (m : List ℕ) (c : Cell) → machine.Transfers m c (sent m c) (cleaned (brought m c))
+settled_transfers m Absent = brought_transfers m Absent
+settled_transfers m (Clean w) = cleaned_transfers m (Clean w)
+settled_transfers m (Dirty a w) = cleaned_transfers m (Dirty a w)
 
 -- memory and a host's copy of this line are such
 pub record Shows (s : SharedState) (h l : ℕ) (x : Here) : Type 0 where
@@ -130,24 +158,25 @@ module _ (h l : ℕ) (x : Here) (s : SharedState) (shows : Shows s h l x) where
   left_at : (op : Op) (y : Here) → Shows (with_line s h l y.words y.cell) h l y
   left_at op y = record { words = (leaves s h l y.words y.cell).memory_is; cell = (leaves s h l y.words y.cell).copy_is }
 
-  pub does_op : (op : Op) → Done h l op x s
-  does_op (Load line k) =
+  pub does_op : (op : Op) → is_here op ≡ true → Done h l op x s
+  does_op (Load line k) at =
       let y = made_by (Load line k) x in
       let done = leaves s h l y.words y.cell in
       record { next = with_line s h l y.words y.cell; operates = rw (shows.words, shows.cell) (done, refl); only = done.only; shows = left_at (Load line k) y }
-  does_op (Store line k value) =
+  does_op (Store line k value) at =
       let y = made_by (Store line k value) x in
       let done = leaves s h l y.words y.cell in
       record { next = with_line s h l y.words y.cell; operates = rw (shows.words, shows.cell) done; only = done.only; shows = left_at (Store line k value) y }
-  does_op (WriteBack line) =
+  does_op (WriteBack line) at =
       let y = made_by (WriteBack line) x in
       let done = leaves s h l y.words y.cell in
       record { next = with_line s h l y.words y.cell; operates = rw (shows.words, shows.cell) done; only = done.only; shows = left_at (WriteBack line) y }
-  does_op (Invalidate line) =
+  does_op (Invalidate line) at =
       let y = made_by (Invalidate line) x in
       let done = leaves s h l y.words y.cell in
       record { next = with_line s h l y.words y.cell; operates = rw (shows.words, shows.cell) done; only = done.only; shows = left_at (Invalidate line) y }
-  does_op Digest = record { next = s; operates = refl; only = unchanged h l s; shows = shows }
+  does_op Fence at = absurd (false≢true at)
+  does_op Digest at = record { next = s; operates = refl; only = unchanged h l s; shows = shows }
 
 -- an operation at another line gives a word where it does
 given_there : (l : ℕ) (op : Op) (word : ℕ) → given_by (at_line l op) word ≡ given_by op word
@@ -155,6 +184,7 @@ given_there l (Load line k) word = refl
 given_there l (Store line k value) word = refl
 given_there l (WriteBack line) word = refl
 given_there l (Invalidate line) word = refl
+given_there l Fence word = refl
 given_there l Digest word = refl
 
 -- Steps at one line.
@@ -166,25 +196,26 @@ pub record Did (h l : ℕ) (steps : List Step) (x : Here) (s : SharedState) : Ty
   pub only : ChangesOnly h l s after
   pub shows : Shows after h l (left_all steps x)
 
-pub at_one : (h l : ℕ) (steps : List Step) (x : Here) (s : SharedState) → Shows s h l x → Did h l steps x s
-at_one h l [] x s shows = record { after = s; ran = ends; only = unchanged h l s; shows = shows }
-at_one h l (Does host op ∷ more) x s shows =
-    let first = does_op h l x s shows op in
-    let rest = at_one h l more (made_by op x) first.next first.shows in
+pub at_one : (h l : ℕ) (steps : List Step) (x : Here) (s : SharedState) → Shows s h l x → are_here steps ≡ true → Did h l steps x s
+at_one h l [] x s shows are = record { after = s; ran = ends; only = unchanged h l s; shows = shows }
+at_one h l (Does host op ∷ more) x s shows are =
+    let both = and_parts (is_here op) (are_here more) are in
+    let first = does_op h l x s shows op both.0 in
+    let rest = at_one h l more (made_by op x) first.next first.shows both.1 in
     record {
       after = rest.after;
       ran = subst (λ (o : Option ℕ). RanSteps (Does h (at_line l op) ∷ map (placed h l) more) (with_first o (give_all more (made_by op x))) s rest.after) (given_there l op (word_by op x)) (goes (word_by op x) first.operates rest.ran);
       only = changes_on h l s first.next rest.after first.only rest.only;
       shows = rest.shows;
     }
-at_one h l (Transfers host line ∷ more) x s shows =
+at_one h l (Transfers host line ∷ more) x s shows are =
     let y = left (Transfers host line) x in
     let done = leaves s h l y.words y.cell in
     let next = with_line s h l y.words y.cell in
-    let rest = at_one h l more y next (record { words = done.memory_is; cell = done.copy_is }) in
+    let rest = at_one h l more y next (record { words = done.memory_is; cell = done.copy_is }) are in
     record {
       after = rest.after;
-      ran = moves (transfers_at h l s next y.words y.cell done (rw (shows.words, shows.cell) (brought_transfers x.words x.cell))) rest.ran;
+      ran = moves (transfers_at h l s next y.words y.cell done (rw (shows.words, shows.cell) (settled_transfers x.words x.cell))) rest.ran;
       only = changes_on h l s next rest.after done.only rest.only;
       shows = rest.shows;
     }

@@ -1,4 +1,4 @@
--- Four protocols that look right and aren't, each with a run in which a reader is given something wrong. docs/MODEL.md,
+-- Five protocols that look right and aren't, each with a run in which a reader is given something wrong. docs/MODEL.md,
 -- "The protocol".
 use Rattle.std.specs.Prelude.{ℕ, ◌≡◌, ◌≢◌, ◌+◌, ◌*◌, ◌<◌, ◌≤◌, not, Bool, true, false, List, [], ◌∷◌, ◌++◌, length, map, filter, flat_map, slice_get, Option, Some, None, Ok}
 use Rattle.std.specs.List.{range_with_len}
@@ -10,7 +10,7 @@ use Rattle.fam_format.specs.Layout.{device_limit, geometry, gate_line, least_lin
 use Rattle.fam_format.specs.Reading.{Sound, reading, slot_in}
 use Rattle.fam_format.specs.Slot.{entry_of}
 use Rattle.fam_machine.specs.declared.op.Op.{Op}
-use Rattle.fam_machine.specs.declared.op.Op.TheVariants.{Load, Store, WriteBack, Invalidate, Digest}
+use Rattle.fam_machine.specs.declared.op.Op.TheVariants.{Load, Store, WriteBack, Fence, Invalidate, Digest}
 use Rattle.fam_machine.specs.Operations.{given_by, load_ops, line_no}
 use Rattle.fam_commands.specs.Table.{append_ops, data_ops, new_slot_ops, slot_ops}
 use Rattle.fam_commands.specs.Task.{content_of}
@@ -50,7 +50,7 @@ pub data RanSteps : List Step → List ℕ → SharedState → SharedState → T
 abbrev pub all_by : ℕ → List Op → List Step
 all_by host ops = map (Does host) ops
 
--- a host's cache moves at each of these lines by itself. In the runs below it fetches them early
+-- a host's cache moves at each of these lines by itself. In the runs below a reader fetches them early
 abbrev pub fetches : ℕ → List ℕ → List Step
 fetches host lines = map (Transfers host) lines
 
@@ -104,13 +104,17 @@ pub record SceneOf (p : Params) (master reader : ℕ) : Type 0 where
 abbrev pub appends : Scene → List Op
 appends c = append_ops c.params (next c) c.entry (content_of c.cmd)
 
--- its stores and sends of the slot's lines
+-- its stores of the slot's lines, each of which it asks to be sent
 abbrev pub writes_slot : Scene → List Op
 writes_slot c = new_slot_ops c.params (next c) c.entry
 
--- its store and send of the gate
-abbrev pub publishes : Scene → List Op
-publishes c = Store (line_no gate_line) 0 (next c + 1) ∷ WriteBack (line_no gate_line) ∷ []
+-- its store of the gate
+abbrev pub stores_gate : Scene → List Op
+stores_gate c = Store (line_no gate_line) 0 (next c + 1) ∷ []
+
+-- and its send
+abbrev pub sends_gate : List Op
+sends_gate = WriteBack (line_no gate_line) ∷ Fence ∷ []
 
 -- a reader drops the gate's line and loads the gate
 abbrev pub reads_gate : List Op
@@ -135,14 +139,8 @@ is_drop (Invalidate line) = true
 is_drop (Load line word) = false
 is_drop (Store line word value) = false
 is_drop (WriteBack line) = false
+is_drop Fence = false
 is_drop Digest = false
-
-abbrev pub is_send : Op → Bool
-is_send (WriteBack line) = true
-is_send (Load line word) = false
-is_send (Store line word value) = false
-is_send (Invalidate line) = false
-is_send Digest = false
 
 -- a reader's drops alone, and its operations without them
 abbrev pub drops : List Op → List Op
@@ -151,14 +149,7 @@ drops ops = filter is_drop ops
 abbrev pub without_drops : List Op → List Op
 without_drops ops = filter (λ op. not (is_drop op)) ops
 
--- the sends of a slot's lines alone, and its stores without them
-abbrev pub sends : List Op → List Op
-sends ops = filter is_send ops
-
-abbrev pub without_sends : List Op → List Op
-without_sends ops = filter (λ op. not (is_send op)) ops
-
--- The four runs: what happens before the reader loads the gate, and how it reads from then on.
+-- The five runs: what happens before the reader loads the gate, and how it reads from then on.
 
 -- the reader drops each slot of the log, and an early fetch brings the new entry's slot back as it was
 abbrev pub drops_early : Scene → List Step
@@ -180,17 +171,26 @@ fetches_gate c = fetches c.reader (gate_line ∷ []) ++ all_by c.master (appends
 abbrev pub keeps_gate : Scene → List Step
 keeps_gate c = all_by c.reader (without_drops reads_gate)
 
--- the master stores the slot, and then stores and sends the gate
+-- the master stores the slot and asks for it to be sent, and stores the gate without a fence between. Then its cache sends
+-- the gate's line by itself
 abbrev pub gate_first : Scene → List Step
-gate_first c = all_by c.master (data_ops c.entry (content_of c.cmd) ++ without_sends (writes_slot c) ++ publishes c)
+gate_first c = all_by c.master (data_ops c.entry (content_of c.cmd) ++ writes_slot c ++ stores_gate c) ++ Transfers c.master gate_line ∷ []
 
 -- the reader does as it should: it drops each line before it loads it
 abbrev pub reads_well : Scene → List Step
 reads_well c = all_by c.reader (reads_gate ++ at_slots (reads_slot c) (next c + 1))
 
--- and the master sends the slot
+-- and the master goes on to its end: the fence sends the slot
 abbrev pub sends_late : Scene → List Step
-sends_late c = all_by c.master (sends (writes_slot c))
+sends_late c = all_by c.master sends_gate
+
+-- the master writes back the gate, and answers at once, without a fence behind it
+abbrev pub answers_early : Scene → List Step
+answers_early c = all_by c.master (data_ops c.entry (content_of c.cmd) ++ writes_slot c ++ Fence ∷ Store (line_no gate_line) 0 (next c + 1) ∷ WriteBack (line_no gate_line) ∷ [])
+
+-- the reader drops the gate's line before it loads the gate, as it should
+abbrev pub drops_gate : Scene → List Step
+drops_gate c = all_by c.reader reads_gate
 
 -- What comes of them.
 
@@ -239,6 +239,16 @@ pub record Misses (c : Scene) (before reads : List Step) : Type 0 where
   pub middle : SharedState
   pub began : RanSteps before [] (solo c.image) middle
   pub answered : AnswersSettled c middle
+  pub gate : ℕ
+  pub after : SharedState
+  pub ran : RanSteps reads (gate ∷ []) middle after
+  pub low : gate < settled_by_answer c
+
+-- this may happen from the image and empty caches, and a master that did so has answered. Then the reader may read so, and
+-- it is given a gate below what that answer settles
+pub record Misleads (c : Scene) (before reads : List Step) : Type 0 where
+  pub middle : SharedState
+  pub began : RanSteps before [] (solo c.image) middle
   pub gate : ℕ
   pub after : SharedState
   pub ran : RanSteps reads (gate ∷ []) middle after

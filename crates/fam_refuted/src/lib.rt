@@ -1,4 +1,4 @@
-//! Four protocols that fail: each has one change to the operations of the table of fam_commands, and a run that shows
+//! Five protocols that fail: each has one change to the operations of the table of fam_commands, and a run that shows
 //! what goes wrong.
 #![tactic(auto)]
 

@@ -1,5 +1,5 @@
 //! Wrong protocols, each with a run that shows it: why a reader drops the lines that it drops when it does, and why a
-//! master sends a slot before it stores the gate.
+//! master sends a slot by a fence before it stores the gate, and the gate before it answers.
 //!
 //! A run begins with an image that reads as sound, and with empty caches. Its master appends an entry behind those of
 //! the image, by any command that the rules allow it, and a reader loads the gate and the slots that it counts. Their
@@ -16,7 +16,7 @@ ghost use Rattle.fam_format.specs.ReadingLaws.{HasWords};
 ghost use Rattle.fam_format.specs.Slot.{spelling};
 ghost use Rattle.fam_commands.specs.Table.{Answer, append_rows, rows};
 ghost use Rattle.fam_protocol.specs.Core.{IsHistory};
-ghost use Rattle.fam_refuted.specs.Refused.{Begins, Misreads, Misses, Scene, SceneOf, TearsEntry, appends, drops_early, fetches_gate, fetches_slot, gate_first, history, keeps_gate, keeps_slots, next, old_history, reads_well, sends_late};
+ghost use Rattle.fam_refuted.specs.Refused.{Begins, Misleads, Misreads, Misses, Scene, SceneOf, TearsEntry, answers_early, appends, drops_early, drops_gate, fetches_gate, fetches_slot, gate_first, history, keeps_gate, keeps_slots, next, old_history, reads_well, sends_late};
 ghost use Rattle.fam_protocol.specs.Invariant.{Known, Invariant, solo, no_hosts};
 ghost use Rattle.fam_rules.specs.Decide.{decide};
 ghost use Rattle.fam_rules.specs.Reply.{Appended};
@@ -62,9 +62,16 @@ pub fn without_a_drop_an_old_gate_is_read()
     ensures { (c : Scene) → Begins c → Misses c (fetches_gate c) (keeps_gate c) }
 {}
 
-/// A master must send the whole slot before it stores the gate. Where it sends the gate first, a reader that drops
-/// each line before it loads it may be given a gate that counts the entry, and words of its slot that don't read as
-/// it.
+/// A master must send the whole slot before it stores the gate: to ask for its lines isn't enough. Where no fence stands
+/// between, its cache may send the gate's line first, by itself. Then a reader that drops each line before it loads it is
+/// given a gate that counts the entry, and words of its slot that don't read as it.
 pub fn a_gate_before_its_slot_tears_the_entry()
     ensures { (c : Scene) → Begins c → TearsEntry c (gate_first c) (reads_well c) (sends_late c) }
+{}
+
+/// A master must wait until the gate is sent before it answers: to ask for its line isn't enough. Where it answers behind
+/// the write-back, a reader that begins then, and drops the gate's line before it loads it, is given a gate below what
+/// that answer settles.
+pub fn an_answer_before_its_fence_is_missed()
+    ensures { (c : Scene) → Begins c → Misleads c (answers_early c) (drops_gate c) }
 {}

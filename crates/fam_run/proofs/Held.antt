@@ -1,5 +1,5 @@
 -- Operations of a task on copies of its host alone.
-use Rattle.std.proofs.Common.{ℕ, zero, suc, ◌≡◌, ◌≤◌, List, [], ◌∷◌, length, Option, Some, refl, sym, ap, subst, ◌∙◌, arith}
+use Rattle.std.proofs.Common.{ℕ, zero, suc, ◌≡◌, ◌≤◌, List, [], ◌∷◌, length, Option, Some, false, refl, sym, ap, subst, ◌∙◌, arith}
 use Rattle.std.specs.Prelude.{slice_index, slice_set}
 use Rattle.fam_base.specs.Image.{Image, IsNormal, line_at, with_line}
 use Rattle.fam_base.proofs.ImageLemmas.{with_line-line_at}
@@ -7,7 +7,7 @@ use Rattle.fam_base.specs.declared.line.LineNo.{LineNo}
 use Rattle.fam_machine.specs.declared.cell.Cell.{Cell}
 use Rattle.fam_machine.specs.declared.cell.Cell.TheVariants.{Absent, Clean, Dirty}
 use Rattle.fam_machine.specs.declared.op.Op.{Op}
-use Rattle.fam_machine.specs.declared.op.Op.TheVariants.{Load, Store, WriteBack, Invalidate, Digest}
+use Rattle.fam_machine.specs.declared.op.Op.TheVariants.{Load, Store, WriteBack, Fence, Invalidate, Digest}
 use Rattle.fam_machine.specs.Caches.{Cache, cell_at, cell_changed, with_cell}
 use Rattle.fam_machine.specs.OneLine.{IsDirty, IsHeld, brought, current, sent, stored, words_of}
 use Rattle.fam_machine.specs.Operations.{IsWithin, given, machine, operated}
@@ -49,7 +49,7 @@ unfolding stored_words
 held_still_stored line words held zero there = there
 held_still_stored line words held (suc n) there =
     let now = stored_words line words held n in
-    let cell : Cell = Dirty (slice_set (words_of (cell_at now line.0)) (suc n) (slice_index words (suc n))) in
+    let cell : Cell = Dirty false (slice_set (words_of (cell_at now line.0)) (suc n) (slice_index words (suc n))) in
     subst IsHeld {x = cell} (sym (cell_at-with_cell_same line.0 cell now)) refl
 
 stores_run : (line : LineNo) (words : List ℕ) (t next : Task) (held : Cache) (n : ℕ) → IsHeld (cell_at held line.0) → Stores line words t next n → HeldRun t held next (stored_words line words held n) n
@@ -63,17 +63,17 @@ stores_run line words t next held _ there (rest.stores {mid = mid} {n = n} befor
     (ap (λ (o : Op). turn_of mid (word_of o now)) op ∙ turn)
 
 -- one store behind another is both into the words of one copy
-store_behind : (line : LineNo) (k value : ℕ) (words : List ℕ) (held : Cache) → held_after (Store line k value) (with_cell line.0 (Dirty words) held) ≡ with_cell line.0 (Dirty (slice_set words k value)) held
+store_behind : (line : LineNo) (k value : ℕ) (words : List ℕ) (held : Cache) → held_after (Store line k value) (with_cell line.0 (Dirty false words) held) ≡ with_cell line.0 (Dirty false (slice_set words k value)) held
 store_behind line k value words held =
-    ap (λ (cell : Cell). with_cell line.0 (Dirty (slice_set (words_of cell) k value)) (with_cell line.0 (Dirty words) held)) (cell_at-with_cell_same line.0 (Dirty words) held)
-    ∙ with_cell_twice line.0 (Dirty words) (Dirty (slice_set words k value)) held
+    ap (λ (cell : Cell). with_cell line.0 (Dirty false (slice_set (words_of cell) k value)) (with_cell line.0 (Dirty false words) held)) (cell_at-with_cell_same line.0 (Dirty false words) held)
+    ∙ with_cell_twice line.0 (Dirty false words) (Dirty false (slice_set words k value)) held
 
 -- the words of a copy after stores of so many words from word 1 on
 set_words : List ℕ → List ℕ → ℕ → List ℕ
 set_words words old zero = old
 set_words words old (suc n) = slice_set (set_words words old n) (suc n) (slice_index words (suc n))
 
-stored_are : (line : LineNo) (words : List ℕ) (held : Cache) (n : ℕ) → stored_words line words held (suc n) ≡ with_cell line.0 (Dirty (set_words words (words_of (cell_at held line.0)) (suc n))) held
+stored_are : (line : LineNo) (words : List ℕ) (held : Cache) (n : ℕ) → stored_words line words held (suc n) ≡ with_cell line.0 (Dirty false (set_words words (words_of (cell_at held line.0)) (suc n))) held
 unfolding stored_words set_words
 stored_are line words held zero = refl
 stored_are line words held (suc n) =
@@ -86,10 +86,10 @@ all_set words (a ∷ b ∷ c ∷ d ∷ e ∷ f ∷ g ∷ h ∷ []) count = refl
 all_set words old count = absurd cc
 
 -- the seven stores of a line that the cache holds
-pub stores_held : (line : LineNo) (words : List ℕ) (t next : Task) (held after : Cache) → IsHeld (cell_at held line.0) → length (words_of (cell_at held line.0)) ≡ 8 → after ≡ with_cell line.0 (Dirty (rest_stored words (words_of (cell_at held line.0)))) held → Stores line words t next 7 → HeldRun t held next after 7
+pub stores_held : (line : LineNo) (words : List ℕ) (t next : Task) (held after : Cache) → IsHeld (cell_at held line.0) → length (words_of (cell_at held line.0)) ≡ 8 → after ≡ with_cell line.0 (Dirty false (rest_stored words (words_of (cell_at held line.0)))) held → Stores line words t next 7 → HeldRun t held next after 7
 stores_held line words t next held after there whole is run =
     subst (λ (c : Cache). HeldRun t held next c 7)
-    (stored_are line words held 6 ∙ ap (λ (w : List ℕ). with_cell line.0 (Dirty w) held) (all_set words (words_of (cell_at held line.0)) whole) ∙ sym is)
+    (stored_are line words held 6 ∙ ap (λ (w : List ℕ). with_cell line.0 (Dirty false w) held) (all_set words (words_of (cell_at held line.0)) whole) ∙ sym is)
     (stores_run line words t next held 7 there run)
 
 -- One of them.
@@ -98,21 +98,22 @@ stores_held line words t next held after there whole is run =
 current_held : (cell : Cell) → IsHeld cell → (memory : List ℕ) → current memory cell ≡ words_of cell
 current_held Absent is memory = absurd cc
 current_held (Clean words) is memory = refl
-current_held (Dirty words) is memory = refl
+current_held (Dirty a words) is memory = refl
 
 -- a line that isn't dirty is not sent
 not_sent : (cell : Cell) → ¬ (IsDirty cell) → (memory : List ℕ) → sent memory cell ≡ memory
 not_sent Absent is memory = refl
 not_sent (Clean words) is memory = refl
-not_sent (Dirty words) is memory = absurd (is refl)
+not_sent (Dirty a words) is memory = absurd (is refl)
 
 -- it leaves memory, and the cache that was said
 pub machine_after : (op : Op) (image : Image) (now : Cache) → IsNormal (Some image) → IsOfHeld op now → operated op (machine image now) ≡ machine image (held_after op now)
 machine_after (Load line k) image now normal is =
     ap (machine image) (ap (λ (cell : Cell). with_cell line.0 cell now) (held_still (cell_at now line.0) is (line_at image line.0)) ∙ with_cell_own line.0 now)
 machine_after (Store line k value) image now normal is =
-    ap (λ (words : List ℕ). machine image (with_cell line.0 (Dirty (slice_set words k value)) now)) (current_held (cell_at now line.0) is (line_at image line.0))
+    ap (λ (words : List ℕ). machine image (with_cell line.0 (Dirty false (slice_set words k value)) now)) (current_held (cell_at now line.0) is (line_at image line.0))
 machine_after (WriteBack line) image now normal is = absurd is
+machine_after Fence image now normal is = absurd is
 machine_after (Invalidate line) image now normal is =
     ap (λ (words : List ℕ). machine (with_line line.0 words image) (with_cell line.0 Absent now)) (not_sent (cell_at now line.0) is (line_at image line.0))
     ∙ ap (λ (i : Image). machine i (with_cell line.0 Absent now)) (with_line-line_at image normal line.0)
@@ -123,6 +124,7 @@ pub given_held : (op : Op) (image : Image) (now : Cache) → IsOfHeld op now →
 given_held (Load line k) image now is = ap (λ (words : List ℕ). Some (slice_index words k)) (current_held (cell_at now line.0) is (line_at image line.0))
 given_held (Store line k value) image now is = refl
 given_held (WriteBack line) image now is = absurd is
+given_held Fence image now is = absurd is
 given_held (Invalidate line) image now is = refl
 given_held Digest image now is = absurd is
 
@@ -131,6 +133,7 @@ word_after : (op : Op) (now : Cache) → IsOfHeld op now → word_of op (held_af
 word_after (Load line k) now is = refl
 word_after (Store line k value) now is = refl
 word_after (WriteBack line) now is = absurd is
+word_after Fence now is = absurd is
 word_after (Invalidate line) now is = refl
 word_after Digest now is = absurd is
 
@@ -141,8 +144,9 @@ held_leaves (Load line k) modelled now after of is =
     (λ memory. is ∙ sym (ap (λ (cell : Cell). with_cell line.0 cell now) (held_still (cell_at now line.0) of memory) ∙ with_cell_own line.0 now))
 held_leaves (Store line k value) modelled now after of is =
     from_any modelled line.0 (λ memory. after ≡ cell_changed line.0 (stored k value memory) now)
-    (λ memory. is ∙ ap (λ (words : List ℕ). with_cell line.0 (Dirty (slice_set words k value)) now) (sym (current_held (cell_at now line.0) of memory)))
+    (λ memory. is ∙ ap (λ (words : List ℕ). with_cell line.0 (Dirty false (slice_set words k value)) now) (sym (current_held (cell_at now line.0) of memory)))
 held_leaves (WriteBack line) modelled now after of is = absurd of
+held_leaves Fence modelled now after of is = absurd of
 held_leaves (Invalidate line) modelled now after of is = is
 held_leaves Digest modelled now after of is = absurd of
 

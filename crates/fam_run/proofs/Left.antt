@@ -30,8 +30,9 @@ use Rattle.fam_commands.specs.declared.phase.Phase.{Phase}
 use Rattle.fam_commands.specs.declared.phase.Phase.TheVariants as at
 use Rattle.fam_commands.specs.Counts.{line_steps, slot_steps}
 use Rattle.fam_commands.specs.Stands.{task_after}
+use Rattle.fam_commands.specs.Kept.{first_slot}
 use Rattle.fam_commands.specs.Task.{Task, first_line, size_of, wanted_end, wanted_lines, wanted_start}
-use Rattle.fam_commands.specs.Turns.{Turn, Goes, Marks, Finds, Writes, Ends, turn_at, magic_turn, super_turn, host_turn, host_refusal, header_turn, gate_turn, finds_or_goes, gate_loaded, slot_or_decide, check_turn, slot_turn, survey_turn, join_turn, decide_turn, wish_turn, append_turn, read_file, verify_lines, verify_turn, bytes_turn, kind_turn, found_turn, compare_turn, file_turn, line_difference, line_turn, word_turn, with_word, data_or_slot, slot_or_gate}
+use Rattle.fam_commands.specs.Turns.{Turn, Goes, Marks, Finds, Writes, Ends, turn_at, magic_turn, super_turn, host_turn, host_refusal, header_turn, gate_turn, finds_or_goes, gate_loaded, slot_or_decide, check_turn, slot_turn, survey_turn, join_turn, decide_turn, wish_turn, append_turn, read_file, verify_lines, verify_turn, bytes_turn, kind_turn, found_turn, compare_turn, file_turn, line_difference, line_turn, word_turn, with_word, data_or_slot, slot_or_fence}
 use Rattle.fam_format.specs.Layout.{geometry}
 use Rattle.fam_format.specs.Line.{line_words}
 use Rattle.fam_tasks.specs.Commands.{slots_told, LooksAtFile}
@@ -69,12 +70,14 @@ left_at at.DropGate t = behind_head t
 left_at at.Gate t = slot_steps (geometry t.params) * t.lines + behind_decision + 3
 left_at (at.Check i) t = from_slot t (i + 1)
 left_at at.Decide t = behind_decision
-left_at (at.StoreData j k) t = line_steps * (lines_of (size_of t.entry) - 1 - j) + (line_words - k) + 75
-left_at (at.SendData j) t = line_steps * (lines_of (size_of t.entry) - 1 - j) + 75
-left_at (at.StoreSlot j k) t = line_steps * ((geometry t.params).lines - 1 - j) + (line_words - k) + 3
-left_at (at.SendSlot j) t = line_steps * ((geometry t.params).lines - 1 - j) + 3
-left_at at.StoreGate t = 2
-left_at at.SendGate t = 1
+left_at (at.StoreData j k) t = line_steps * (lines_of (size_of t.entry) - 1 - j) + (line_words - k) + 77
+left_at (at.SendData j) t = line_steps * (lines_of (size_of t.entry) - 1 - j) + 77
+left_at (at.StoreSlot j k) t = line_steps * ((geometry t.params).lines - 1 - j) + (line_words - k) + 5
+left_at (at.SendSlot j) t = line_steps * ((geometry t.params).lines - 1 - j) + 5
+left_at at.FenceSlot t = 4
+left_at at.StoreGate t = 3
+left_at at.SendGate t = 2
+left_at at.FenceGate t = 1
 
 abbrev pub left : Task → ℕ
 left t = left_at t.phase t
@@ -235,7 +238,7 @@ gate_keeps : (t : Task) (m : ℕ) (fault : Option LogFault) → Keeps (left_at a
 gate_keeps t m (Some fault) = tt
 gate_keeps t m None =
     finds_keeps (left_at at.Gate t) t m (gate_loaded t m) (wish_of t.cmd)
-    (record { lines = refl; falls = slot_falls (gate_loaded t m) t.first_slot (left_at at.Gate t) _ (λ h. omega (arith, h)) (omega arith) })
+    (record { lines = refl; falls = slot_falls (gate_loaded t m) (first_slot t.kept t.cmd t.params m) (left_at at.Gate t) _ (λ h. omega (arith, h)) (omega arith) })
 
 join_keeps : (t : Task) (i : ℕ) (e : Entry) (fault : Option Reason) → Keeps (from_slot t (i + 1)) t (join_turn t i e fault)
 join_keeps t i e (Some reason) = tt
@@ -348,7 +351,7 @@ store_falls : (t next : Task) (j k : ℕ) (b : Bool) → k < 8 → left_at (cond
 store_falls t next j k true small = omega arith
 store_falls t next j k false small = omega arith
 
-send_falls : (t : Task) (j : ℕ) (b : Bool) → IsSoundAt (cond b (at.StoreSlot (j + 1) 0) at.StoreGate) t → left_at (cond b (at.StoreSlot (j + 1) 0) at.StoreGate) t < left_at (at.SendSlot j) t
+send_falls : (t : Task) (j : ℕ) (b : Bool) → IsSoundAt (cond b (at.StoreSlot (j + 1) 0) at.FenceSlot) t → left_at (cond b (at.StoreSlot (j + 1) 0) at.FenceSlot) t < left_at (at.SendSlot j) t
 send_falls t j true h = omega (arith, h.1)
 send_falls t j false h = omega arith
 
@@ -368,9 +371,11 @@ keeps_at (at.SendData j) t word stands =
     record { lines = refl; falls = sent_falls (record t { phase = data_or_slot t j }) j (nat_lt (j + 1) (lines_of (size_of t.entry))) }
 keeps_at (at.StoreSlot j k) t word stands = record { lines = refl; falls = λ _. store_falls t _ j k (nat_lt k 7) stands.2 }
 keeps_at (at.SendSlot j) t word stands =
-    record { lines = refl; falls = send_falls (record t { phase = slot_or_gate t j }) j (nat_lt (j + 1) 8) }
+    record { lines = refl; falls = send_falls (record t { phase = slot_or_fence t j }) j (nat_lt (j + 1) 8) }
 keeps_at at.StoreGate t word stands = record { lines = refl; falls = λ _. omega arith }
-keeps_at at.SendGate t word stands = tt
+keeps_at at.FenceSlot t word stands = record { lines = refl; falls = λ _. omega arith }
+keeps_at at.SendGate t word stands = record { lines = refl; falls = λ _. omega arith }
+keeps_at at.FenceGate t word stands = tt
 
 kept_by : (n : ℕ) (t next : Task) (turn : Turn) → Keeps n t turn → task_after turn ≡ Some next → Kept n t next
 kept_by n t next (Goes other) k is = subst (λ (x : Task). Kept n t x) (same_Some other next is) k

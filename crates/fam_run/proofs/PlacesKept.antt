@@ -14,7 +14,7 @@ use Rattle.fam_commands.specs.Turns as turns
 use Rattle.fam_commands.specs.Turns.{turn_at, turn_of}
 use Rattle.fam_format.specs.Layout.{slot_line}
 use Rattle.fam_machine.specs.declared.op.Op.{Op}
-use Rattle.fam_machine.specs.declared.op.Op.TheVariants.{Load, Store, WriteBack, Invalidate, Digest}
+use Rattle.fam_machine.specs.declared.op.Op.TheVariants.{Load, Store, WriteBack, Fence, Invalidate, Digest}
 use Rattle.fam_base.specs.declared.line.LineNo.{LineNo}
 use Rattle.fam_machine.specs.declared.cell.Cell.{Cell}
 use Rattle.fam_machine.specs.declared.cell.Cell.TheVariants.{Dirty}
@@ -39,6 +39,7 @@ abbrev IsHeldBy : Op → Cache → Type 0
 IsHeldBy (Load line k) held = ⊤
 IsHeldBy (Store line k value) held = IsHeld (cell_at held line.0)
 IsHeldBy (WriteBack line) held = ⊤
+IsHeldBy Fence held = ⊤
 IsHeldBy (Invalidate line) held = ⊤
 IsHeldBy Digest held = ⊤
 
@@ -51,6 +52,7 @@ held_by : (op : Op) (modelled : Option Image) (old new : Cache) → LeavesCache 
 held_by (Load line k) modelled old new leaves = tt
 held_by (Store line k value) modelled old new leaves = held_after_store modelled line.0 k value old new leaves
 held_by (WriteBack line) modelled old new leaves = tt
+held_by Fence modelled old new leaves = tt
 held_by (Invalidate line) modelled old new leaves = tt
 held_by Digest modelled old new leaves = tt
 
@@ -88,7 +90,7 @@ module _ (t : Task) (cache after : CacheState) where
   }
   slot_next false i k room held = room
 
-  gate_next : (b : Bool) (i : ℕ) → i < 8 → 9 ≤ after.spare + i → HasPlaces (record t { phase = cond b (at.StoreSlot (i + 1) 0) at.StoreGate }) after
+  gate_next : (b : Bool) (i : ℕ) → i < 8 → 9 ≤ after.spare + i → HasPlaces (record t { phase = cond b (at.StoreSlot (i + 1) 0) at.FenceSlot }) after
   gate_next true i below room = record {
     begun = omega (arith, room);
     first = λ _. omega (arith, room);
@@ -132,7 +134,9 @@ module _ (t : Task) (cache after : CacheState) where
       let kept : cache.spare ≤ after.spare = place.none tt in
       gate_next _ i sound.1 (omega (arith, has, kept))
   kept_at at.StoreGate word sound place ready has = tt
+  kept_at at.FenceSlot word sound place ready has = (let kept : cache.spare ≤ after.spare = place.none tt in omega (arith, has, kept))
   kept_at at.SendGate word sound place ready has = tt
+  kept_at at.FenceGate word sound place ready has = tt
 
 -- and no operation of it finds no place
 room_at : (p : Phase) (t : Task) (cache : CacheState) → IsSoundAt p t → HasPlacesAt p t cache → LacksRoom (op_at t p) t cache → ⊥
@@ -149,7 +153,9 @@ room_at (at.SendData j) t cache sound has wants = wants
 room_at (at.StoreSlot i k) t cache sound has wants = omega (arith, has.begun, wants.0, sound.1)
 room_at (at.SendSlot i) t cache sound has wants = wants
 room_at at.StoreGate t cache sound has wants = omega (arith, has, wants.0)
+room_at at.FenceSlot t cache sound has wants = wants
 room_at at.SendGate t cache sound has wants = wants
+room_at at.FenceGate t cache sound has wants = wants
 
 -- Of the operation that comes next.
 
@@ -177,7 +183,9 @@ digest_at (at.SendData j) t cache is has = absurd cc
 digest_at (at.StoreSlot i k) t cache is has = absurd cc
 digest_at (at.SendSlot i) t cache is has = absurd cc
 digest_at at.StoreGate t cache is has = absurd cc
+digest_at at.FenceSlot t cache is has = absurd cc
 digest_at at.SendGate t cache is has = absurd cc
+digest_at at.FenceGate t cache is has = absurd cc
 
 pub digest_none : (t : Task) (cache : CacheState) → op_of t ≡ Digest → ¬ (HasPlaces t cache)
 digest_none t cache is has = digest_at t.phase t cache is has
@@ -191,9 +199,10 @@ none_in p t cache is none has = none (subst (λ (q : Phase). HasPlacesAt q t cac
 held_of : (op : Op) (now after : Cache) → IsOfHeld op now → after ≡ held_after op now → IsHeldBy op after
 held_of (Load line k) now after of is = tt
 held_of (Store line k value) now after of is =
-    let cell : Cell = Dirty (slice_set (words_of (cell_at now line.0)) k value) in
+    let cell : Cell = Dirty false (slice_set (words_of (cell_at now line.0)) k value) in
     subst (λ (c : Cache). IsHeld (cell_at c line.0)) (sym is) (subst IsHeld {x = cell} (sym (cell_at-with_cell_same line.0 cell now)) refl)
 held_of (WriteBack line) now after of is = tt
+held_of Fence now after of is = tt
 held_of (Invalidate line) now after of is = tt
 held_of Digest now after of is = tt
 
@@ -211,7 +220,9 @@ ready_of (at.SendData j) t cache of = tt
 ready_of (at.StoreSlot i k) t cache of = tt
 ready_of (at.SendSlot i) t cache of = tt
 ready_of at.StoreGate t cache of = tt
+ready_of at.FenceSlot t cache of = tt
 ready_of at.SendGate t cache of = tt
+ready_of at.FenceGate t cache of = tt
 
 -- a cache of these lines, with so many places
 abbrev pub with_places : Cache → ℕ → CacheState
@@ -252,7 +263,9 @@ more_places (at.StoreSlot i k) t lines spare now le has = record {
 }
 more_places (at.SendSlot i) t lines spare now le has = omega (arith, has)
 more_places at.StoreGate t lines spare now le has = omega (arith, has)
+more_places at.FenceSlot t lines spare now le has = omega (arith, has)
 more_places at.SendGate t lines spare now le has = tt
+more_places at.FenceGate t lines spare now le has = tt
 
 pub more_has : (t : Task) (cache after : CacheState) → after.lines ≡ cache.lines → cache.spare ≤ after.spare → HasPlaces t cache → HasPlaces t after
 more_has t cache after same le has =
@@ -276,7 +289,9 @@ sent_ready (at.SendData j) t cache is = tt
 sent_ready (at.StoreSlot i k) t cache is = tt
 sent_ready (at.SendSlot i) t cache is = tt
 sent_ready at.StoreGate t cache is = tt
+sent_ready at.FenceSlot t cache is = tt
 sent_ready at.SendGate t cache is = tt
+sent_ready at.FenceGate t cache is = tt
 
 -- A line of the file that is stored whole. Its stores are as those into a copy, which takes no place.
 
@@ -300,7 +315,7 @@ module _ (line : LineNo) (words : List ℕ) (t : Task) (cache : CacheState) (due
 
   pub put_kept : (sent next : Task) (after : CacheState) → IsSound t → IsSound sent → StoresFileLine line words t sent → cache.spare ≤ after.spare → Tells (turn_of sent None) Go next → HasPlaces t cache → HasPlaces next after
   put_kept sent next after sound sound_sent stores le tells has =
-      let cell : Cell = Dirty words in
+      let cell : Cell = Dirty false words in
       let lines : Cache = with_cell line.0 cell cache.lines in
       let held : IsHeld (cell_at lines line.0) = subst IsHeld {x = cell} (sym (cell_at-with_cell_same line.0 cell cache.lines)) refl in
       let first : HasPlacesAt (at.StoreData due.j 0) t (with_places lines cache.spare) = (ten has, λ some. absurd (omega (arith, some))) in
@@ -330,7 +345,9 @@ not_due (at.SendData j) t cache none = tt
 not_due (at.StoreSlot i k) t cache none = tt
 not_due (at.SendSlot i) t cache none = tt
 not_due at.StoreGate t cache none = tt
+not_due at.FenceSlot t cache none = tt
 not_due at.SendGate t cache none = tt
+not_due at.FenceGate t cache none = tt
 
 pub none_due : (t : Task) (cache : CacheState) → ((j : ℕ) → t.phase ≢ at.StoreData j 0) → IsReadyAt t.phase t cache
 none_due t cache none = not_due t.phase t cache none
@@ -358,7 +375,9 @@ going_at (at.SendData j) t word cache has = tt
 going_at (at.StoreSlot i k) t word cache has = tt
 going_at (at.SendSlot i) t word cache has = tt
 going_at at.StoreGate t word cache has = tt
+going_at at.FenceSlot t word cache has = tt
 going_at at.SendGate t word cache has = tt
+going_at at.FenceGate t word cache has = tt
 
 says_go : (wanted : turns.Turn) (turn : Turn) (next : Task) → IsGoing wanted → ended turn ≡ None → Tells wanted turn next → turn ≡ Go
 says_go (turns.Goes t) turn next going on tells = tells.0

@@ -1,5 +1,5 @@
 -- A line of the new file is stored whole and sent: nine operations, by one write.
-use Rattle.std.proofs.Common.{ℕ, ◌≡◌, ◌<◌, List, [], length, Option, Some, None, refl, sym, ap, subst, ◌∙◌, arith}
+use Rattle.std.proofs.Common.{ℕ, ◌≡◌, ◌<◌, List, [], length, Option, Some, None, false, refl, sym, ap, subst, ◌∙◌, arith}
 use Rattle.std.specs.Prelude.{⊤, slice_index, slice_set}
 use Rattle.std.specs.Option.{option_map}
 use Rattle.fam_base.specs.Image.{Image, IsNormal, eight, line_at, with_line}
@@ -56,7 +56,7 @@ module _ (line : LineNo) (words : List ℕ) (t u : Task) (modelled : Option Imag
 
   -- the copy is there, all of it
   abbrev full : Cache
-  full = with_cell line.0 (Dirty (eight words)) old
+  full = with_cell line.0 (Dirty false (eight words)) old
 
   -- the first word is stored
   begins : IsQuiet modelled t old stores.begun first
@@ -79,38 +79,38 @@ module _ (line : LineNo) (words : List ℕ) (t u : Task) (modelled : Option Imag
         };
       }
 
-  first_cell : cell_at first line.0 ≡ Dirty (slice_set (eight from.memory) 0 (slice_index words 0))
+  first_cell : cell_at first line.0 ≡ Dirty false (slice_set (eight from.memory) 0 (slice_index words 0))
   unfolding first
   first_cell =
       cell_at-with_cell_same line.0 (stored 0 (slice_index words 0) from.memory (cell_at old line.0)) old
       ∙ ap (stored 0 (slice_index words 0) from.memory) absent
-      ∙ ap (λ (w : List ℕ). Dirty (slice_set w 0 (slice_index words 0))) (sym from.whole)
+      ∙ ap (λ (w : List ℕ). Dirty false (slice_set w 0 (slice_index words 0))) (sym from.whole)
 
   -- and the others
-  full_is : full ≡ with_cell line.0 (Dirty (rest_stored words (words_of (cell_at first line.0)))) first
+  full_is : full ≡ with_cell line.0 (Dirty false (rest_stored words (words_of (cell_at first line.0)))) first
   unfolding first
   full_is =
       sym
-      (ap (λ (c : Cell). with_cell line.0 (Dirty (rest_stored words (words_of c))) first) first_cell
-      ∙ ap (λ (w : List ℕ). with_cell line.0 (Dirty w) first) (words_stored words from.memory)
-      ∙ with_cell_twice line.0 (stored 0 (slice_index words 0) from.memory (cell_at old line.0)) (Dirty (eight words)) old)
+      (ap (λ (c : Cell). with_cell line.0 (Dirty false (rest_stored words (words_of c))) first) first_cell
+      ∙ ap (λ (w : List ℕ). with_cell line.0 (Dirty false w) first) (words_stored words from.memory)
+      ∙ with_cell_twice line.0 (stored 0 (slice_index words 0) from.memory (cell_at old line.0)) (Dirty false (eight words)) old)
 
   led : Led modelled t old u full
   led =
       held_led modelled normal stores.begun u first full t old (more none begins)
       (stores_held line words stores.begun u first full
-      (subst IsHeld {x = Dirty (slice_set (eight from.memory) 0 (slice_index words 0))} (sym first_cell) refl)
+      (subst IsHeld {x = Dirty false (slice_set (eight from.memory) 0 (slice_index words 0))} (sym first_cell) refl)
       (ap (λ (c : Cell). length (words_of c)) first_cell)
       full_is stores.rest)
 
   -- the copy that is sent
-  full_cell : cell_at full line.0 ≡ Dirty (eight words)
-  full_cell = cell_at-with_cell_same line.0 (Dirty (eight words)) old
+  full_cell : cell_at full line.0 ≡ Dirty false (eight words)
+  full_cell = cell_at-with_cell_same line.0 (Dirty false (eight words)) old
 
   -- behind its sending no copy is left, as before
   none_left : (image : Image) → (operated (Invalidate line) (machine image full)).cache ≡ old
   none_left image =
-      with_cell_twice line.0 (Dirty (eight words)) Absent old
+      with_cell_twice line.0 (Dirty false (eight words)) Absent old
       ∙ ap (λ (c : Cell). with_cell line.0 c old) (sym absent)
       ∙ with_cell_own line.0 old
 
@@ -160,7 +160,7 @@ module _ (line : LineNo) (words : List ℕ) (t u : Task) (modelled : Option Imag
       failed =
           invalidate_failed (op_of u) line modelled shown full new stores.sends
           (subst (λ (c : Cell). IfModelled modelled (λ image. FailsTo line.0 (λ through memory. failed_send through memory c) image shown)) (sym full_cell)
-          (torn_send modelled shown line.0 words (Dirty words) refl torn))
+          (torn_send modelled shown line.0 words (Dirty false words) refl torn))
           same;
       rose = rose;
       inside = inside;

@@ -1,8 +1,8 @@
 -- Operations of a task on copies of its host alone, one after another: they ask nothing of the media, and can't fail.
-use Rattle.std.specs.Prelude.{ℕ, suc, ◌≡◌, slice_set}
+use Rattle.std.specs.Prelude.{ℕ, suc, ◌≡◌, false, slice_set}
 use Rattle.fam_machine.specs.declared.cell.Cell.TheVariants.{Absent, Dirty}
 use Rattle.fam_machine.specs.declared.op.Op.{Op}
-use Rattle.fam_machine.specs.declared.op.Op.TheVariants.{Load, Store, WriteBack, Invalidate, Digest}
+use Rattle.fam_machine.specs.declared.op.Op.TheVariants.{Load, Store, WriteBack, Fence, Invalidate, Digest}
 use Rattle.fam_machine.specs.Caches.{Cache, cell_at, with_cell}
 use Rattle.fam_machine.specs.OneLine.{IsDirty, IsHeld, words_of}
 use Rattle.fam_machine.specs.Operations.{IsWithin}
@@ -17,6 +17,7 @@ abbrev pub IsOfHeld : Op → Cache → Type 0
 IsOfHeld (Load line k) held = IsHeld (cell_at held line.0)
 IsOfHeld (Store line k value) held = IsHeld (cell_at held line.0)
 IsOfHeld (WriteBack line) held = ⊥
+IsOfHeld Fence held = ⊥
 IsOfHeld (Invalidate line) held = ¬ (IsDirty (cell_at held line.0))
 IsOfHeld Digest held = ⊥
 
@@ -24,8 +25,9 @@ IsOfHeld Digest held = ⊥
 -- drop all but the line
 abbrev pub held_after : Op → Cache → Cache
 held_after (Load line k) held = held
-held_after (Store line k value) held = with_cell line.0 (Dirty (slice_set (words_of (cell_at held line.0)) k value)) held
+held_after (Store line k value) held = with_cell line.0 (Dirty false (slice_set (words_of (cell_at held line.0)) k value)) held
 held_after (WriteBack line) held = held
+held_after Fence held = held
 held_after (Invalidate line) held = with_cell line.0 Absent held
 held_after Digest held = held
 

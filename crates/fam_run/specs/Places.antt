@@ -34,7 +34,9 @@ HasPlacesAt (at.SendData j) t cache = 10 ≤ cache.spare
 HasPlacesAt (at.StoreSlot i k) t cache = HasSlotPlaces i k (slot_line t.params t.gate i) cache
 HasPlacesAt (at.SendSlot i) t cache = 9 ≤ cache.spare + i
 HasPlacesAt at.StoreGate t cache = 1 ≤ cache.spare
+HasPlacesAt at.FenceSlot t cache = 1 ≤ cache.spare
 HasPlacesAt at.SendGate t cache = ⊤
+HasPlacesAt at.FenceGate t cache = ⊤
 
 abbrev pub HasPlaces : Task → CacheState → Type 0
 HasPlaces t cache = HasPlacesAt t.phase t cache
@@ -54,7 +56,9 @@ IsReadyAt (at.SendData j) t cache = ⊤
 IsReadyAt (at.StoreSlot i k) t cache = ⊤
 IsReadyAt (at.SendSlot i) t cache = ⊤
 IsReadyAt at.StoreGate t cache = ⊤
+IsReadyAt at.FenceSlot t cache = ⊤
 IsReadyAt at.SendGate t cache = ⊤
+IsReadyAt at.FenceGate t cache = ⊤
 
 abbrev pub IsReady : Task → CacheState → Type 0
 IsReady t cache = IsReadyAt t.phase t cache

@@ -3,7 +3,7 @@ use Rattle.std.specs.Prelude.{ℕ, List, ◌≡◌, ◌⊎◌, None}
 use Rattle.fam_base.specs.declared.line.LineNo.{LineNo}
 use Rattle.fam_cache.specs.States.{CacheState}
 use Rattle.fam_machine.specs.declared.op.Op.{Op}
-use Rattle.fam_machine.specs.declared.op.Op.TheVariants.{Load, Store, WriteBack, Invalidate, Digest}
+use Rattle.fam_machine.specs.declared.op.Op.TheVariants.{Load, Store, WriteBack, Fence, Invalidate, Digest}
 use Rattle.fam_machine.specs.Caches.{cell_at}
 use Rattle.fam_machine.specs.OneLine.{IsHeld}
 use Rattle.fam_commands.specs.Task.{Task}
@@ -21,6 +21,7 @@ abbrev pub LacksRoom : Op → Task → CacheState → Type 0
 LacksRoom (Load line k) task cache = IsFull line cache
 LacksRoom (Store line k value) task cache = IsFull line cache
 LacksRoom (WriteBack line) task cache = ⊥
+LacksRoom Fence task cache = ⊥
 LacksRoom (Invalidate line) task cache = ⊥
 LacksRoom Digest task cache = WantsMemory task.entries (turn_of task None)
 

@@ -55,7 +55,9 @@ behind_known (at.SendData j) image have t s behind a = absurd a
 behind_known (at.StoreSlot j k) image have t s behind a = absurd a
 behind_known (at.SendSlot j) image have t s behind a = absurd a
 behind_known at.StoreGate image have t s behind a = absurd a
+behind_known at.FenceSlot image have t s behind a = absurd a
 behind_known at.SendGate image have t s behind a = absurd a
+behind_known at.FenceGate image have t s behind a = absurd a
 
 damaged_by : (image : Lines) (r : Reading) → ((p : Params) (entries : List Entry) → r ≢ Sound p entries) → settled_by image r ≡ Damaged image
 damaged_by image (NoSuperblock fault) bad = refl
@@ -125,7 +127,7 @@ module _ (cmd : Cmd) (me : List ℕ) (image : Image) (cache : Cache) (enough : l
   still_damaged t words made m starts = refl
   still_damaged next _ _ _ (goes {t = t} {words = words} {made = made} {m = m} ran inside is) = ap (turn_settles (turn_on t m)) (still_damaged t words made m ran)
 
-  pub bad_ends : (t : Task) (words : List ℕ) (made : ℕ) (m : Machine) (given : Reply) → (ran : SoloRun cmd me image cache t words made m) → IsInImage (op_of t) m.image → turn_on t m ≡ Ends given → Answers image me cmd given (operated (op_of t) m).image × IsClean (operated (op_of t) m).cache
+  pub bad_ends : (t : Task) (words : List ℕ) (made : ℕ) (m : Machine) (given : Reply) → (ran : SoloRun cmd me image cache t words made m) → IsInImage (op_of t) m → turn_on t m ≡ Ends given → Answers image me cmd given (operated (op_of t) m).image × IsClean (operated (op_of t) m).cache
       × (turn_settles (Ends given) (settles_up_to cmd me image cache t words made m ran (settled_at_first image)) ≡ settled_at_first (operated (op_of t) m).image)
   bad_ends t words made m given ran inside is =
       let on : OnBad t m = on_bad t words made m ran in

@@ -73,7 +73,9 @@ module _ (image : Image) (me : List ℕ) (m : Machine) (normal : map eight m.ima
   says (at.StoreSlot j k) a = absurd a
   says (at.SendSlot j) a = absurd a
   says at.StoreGate a = absurd a
+  says at.FenceSlot a = absurd a
   says at.SendGate a = absurd a
+  says at.FenceGate a = absurd a
 
 module _ (me : List ℕ) (image : Image) (cache : Cache) (normal : map eight image ≡ image) (clean : IsClean cache) where
   Holds : Task → Machine → Type 0
@@ -101,7 +103,7 @@ module _ (me : List ℕ) (image : Image) (cache : Cache) (normal : map eight ima
 
   ran_holds : (t : Task) (words : List ℕ) (made : ℕ) (m : Machine) → SoloRun Fsck me image cache t words made m → Holds t m
   unfolding Holds
-  ran_holds t words made m starts = record { me = refl; lines = refl; phase = record { first = refl; entries = refl; survey = refl } }
+  ran_holds t words made m starts = record { me = refl; lines = refl; phase = record { entries = refl; survey = refl; kept = refl } }
   ran_holds next _ _ _ (goes {t = t} {words = words} {made = made} {m = m} ran inside is) =
       by_turn (turn_on t m) next (operated (op_of t) m) (turned t words made m ran (ran_holds t words made m ran)).task is
 

@@ -31,6 +31,7 @@ use Rattle.fam_machine.specs.Operations.{Machine, given, operated}
 use Rattle.fam_commands.specs.Solo.{SoloRun, Stand, starts, goes, image_turn, image_word, notes_up_to, noted, stand_after, stand_next, turn_on}
 use Rattle.fam_commands.specs.Stands.{note_of, task_after, with_given}
 use Rattle.fam_commands.specs.Table.{RowNote}
+use Rattle.fam_commands.specs.Kept.{first_slot}
 use Rattle.fam_commands.specs.Task.{Task, op_at, op_of, part_count, part_line, wanted_end}
 use Rattle.fam_commands.specs.Turns.{Turn, Goes, Marks, Finds, Writes, Ends, magic_turn, host_refusal, host_turn, super_turn, header_turn, slot_or_decide, slots_read, finds_or_goes, gate_loaded, gate_turn, join_turn, slot_turn, check_turn, append_turn, verify_lines, verify_turn, bytes_turn, kind_turn, found_turn, wish_turn, decide_turn, line_or, line_difference, compare_turn, file_turn, line_turn, with_word, turn_at, turn_of}
 use Rattle.fam_rules.specs.declared.answers.Refused.{Refused}
@@ -58,7 +59,9 @@ loads_from (at.SendData j) t = None
 loads_from (at.StoreSlot j k) t = None
 loads_from (at.SendSlot j) t = None
 loads_from at.StoreGate t = None
+loads_from at.FenceSlot t = None
 loads_from at.SendGate t = None
+loads_from at.FenceGate t = None
 
 abbrev pub reads_at : Phase → Task → Option ℕ
 reads_at at.DropMagic t = Some 0
@@ -74,7 +77,9 @@ reads_at (at.SendData j) t = None
 reads_at (at.StoreSlot j k) t = None
 reads_at (at.SendSlot j) t = None
 reads_at at.StoreGate t = None
+reads_at at.FenceSlot t = None
 reads_at at.SendGate t = None
+reads_at at.FenceGate t = None
 
 -- the next load, if it is one, is of the line at hand
 abbrev pub LoadsNext : Option ℕ → Task → Type 0
@@ -127,8 +132,8 @@ module _ (o : Option ℕ) where
   gate_loads t n None = by_wish (wish_of t.cmd)
     where
       by_wish : (w : Option Wish) → Loads o (finds_or_goes w n (gate_loaded t n))
-      by_wish None = slot_next (record t { gate = n }) (gate_loaded t n) t.first_slot refl
-      by_wish (Some w) = slot_next (record t { gate = n }) (gate_loaded t n) t.first_slot refl
+      by_wish None = slot_next (record t { gate = n }) (gate_loaded t n) (first_slot t.kept t.cmd t.params n) refl
+      by_wish (Some w) = slot_next (record t { gate = n }) (gate_loaded t n) (first_slot t.kept t.cmd t.params n) refl
 
   join_loads : (t : Task) (i : ℕ) (e : Entry) (f : Option Reason) → Loads o (join_turn t i e f)
   join_loads t i e (Some reason) = tt
@@ -229,7 +234,9 @@ turn_loads (at.SendData j) t word before is = absurd before
 turn_loads (at.StoreSlot j k) t word before is = absurd before
 turn_loads (at.SendSlot j) t word before is = absurd before
 turn_loads at.StoreGate t word before is = absurd before
+turn_loads at.FenceSlot t word before is = absurd before
 turn_loads at.SendGate t word before is = absurd before
+turn_loads at.FenceGate t word before is = absurd before
 
 -- What is loaded isn't stale.
 
@@ -253,7 +260,9 @@ module _ (m : Machine) (normal : map eight m.image ≡ m.image) (clean : IsClean
   fresh_then (at.StoreSlot j k) t before f = absurd before
   fresh_then (at.SendSlot j) t before f = absurd before
   fresh_then at.StoreGate t before f = absurd before
+  fresh_then at.FenceSlot t before f = absurd before
   fresh_then at.SendGate t before f = absurd before
+  fresh_then at.FenceGate t before f = absurd before
 
 -- the word of a load is the image's
 word_given : (image : Image) (m : Machine) (p : Phase) (t : Task) → (IsBeforeWrites p → m.image ≡ image) → (IsBeforeWrites p → FreshAt (loads_from p t) m) → given (op_at t p) m ≡ image_word image (op_at t p)
@@ -276,7 +285,9 @@ word_given image m p t same fresh = by_phase p same fresh
     by_phase (at.StoreSlot j k) is f = refl
     by_phase (at.SendSlot j) is f = refl
     by_phase at.StoreGate is f = refl
+    by_phase at.FenceSlot is f = refl
     by_phase at.SendGate is f = refl
+    by_phase at.FenceGate is f = refl
 
 module _ (cmd : Cmd) (me : List ℕ) (image : Image) (cache : Cache) (normal : map eight image ≡ image) (clean : IsClean cache) where
   pub ran_fresh : (t : Task) (words : List ℕ) (made : ℕ) (m : Machine) → SoloRun cmd me image cache t words made m → IsBeforeWrites t.phase → FreshAt (loads_from t.phase t) m

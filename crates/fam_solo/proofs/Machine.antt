@@ -12,13 +12,13 @@ use Rattle.fam_base.proofs.ImageLemmas.{with_line-line_at}
 use Rattle.fam_machine.specs.declared.cell.Cell.{Cell}
 use Rattle.fam_machine.specs.declared.cell.Cell.TheVariants.{Absent, Clean, Dirty}
 use Rattle.fam_machine.specs.declared.op.Op.{Op}
-use Rattle.fam_machine.specs.declared.op.Op.TheVariants.{Load, Store, WriteBack, Invalidate, Digest}
+use Rattle.fam_machine.specs.declared.op.Op.TheVariants.{Load, Store, WriteBack, Fence, Invalidate, Digest}
 use Rattle.fam_commands.specs.declared.phase.Phase.{Phase}
 use Rattle.fam_commands.specs.declared.phase.Phase.TheVariants as at
 use Rattle.fam_machine.specs.Caches.{Cache, IsClean, IsCleanCell, cell_at, with_cell}
 use Rattle.fam_commands.specs.Counts.{steps_of}
-use Rattle.fam_machine.specs.OneLine.{brought, cleaned, failed_send, sent}
-use Rattle.fam_machine.specs.Operations.{Failure, Machine, failed, given, operated, torn_at}
+use Rattle.fam_machine.specs.OneLine.{IsAsked, brought, failed_send, sent}
+use Rattle.fam_machine.specs.Operations.{Breaking, Failure, Machine, failed, given, operated, torn_at}
 use Rattle.fam_commands.specs.Solo.{SoloRun, starts, goes, turn_on}
 use Rattle.fam_commands.specs.Stands.{StandsFor, task_after, turn_given, with_given}
 use Rattle.fam_commands.specs.Stands as stands
@@ -26,7 +26,7 @@ use Rattle.fam_commands.specs.Task.{Task, op_at, op_of, size_of}
 use Rattle.fam_commands.specs.Turns.{Turn, Goes, Marks, Finds, Writes, Ends, turn_at, turn_of}
 use Rattle.fam_machine.proofs.Failing.{brought_fails}
 use Rattle.fam_machine.proofs.CacheLemmas.{cell_at-with_cell_same, cell_at-with_cell_other}
-use Rattle.fam_machine.proofs.CleanCaches.{clean_brought, clean_cleaned, clean_sent, clean_with}
+use Rattle.fam_machine.proofs.CleanCaches.{clean_brought, clean_sent, clean_with}
 use Rattle.fam_machine.proofs.OneOperation.{operated_length, operated_normal, same_given}
 use Rattle.fam_commands.proofs.Steps.Standing.{standing_tied, steps_at_end}
 use Rattle.fam_rules.specs.Decide.{wish_of}
@@ -47,27 +47,27 @@ pub same_turn : (t : Task) (m : Machine) → turn_given t (word_of t m) ≡ turn
 same_turn t m = ap (turn_of t) (same_given (op_of t) m)
 
 module _ (cmd : Cmd) (me : List ℕ) (image : Image) (cache : Cache) where
-  pub ran_stands : (t : Task) (words : List ℕ) (made : ℕ) (m : Machine) → SoloRun cmd me image cache t words made m → StandsFor cmd me (length image) t words made
+  pub ran_stands : (t : Task) (words : List ℕ) (made : ℕ) (m : Machine) → SoloRun cmd me image cache t words made m → StandsFor None cmd me (length image) t words made
   ran_stands t words made m starts = stands.starts
   ran_stands next _ _ _ (goes {t = t} {words = words} {made = made} {m = m} before inside is) =
-      subst (λ (o : Option ℕ). StandsFor cmd me (length image) next (with_given words o) (made + 1)) (same_given (op_of t) m)
+      subst (λ (o : Option ℕ). StandsFor None cmd me (length image) next (with_given words o) (made + 1)) (same_given (op_of t) m)
       (stands.goes (word_of t m) (ran_stands t words made m before) (ap task_after (same_turn t m) ∙ is))
 
   -- the operations are as many as the answer says
   pub ran_steps : (t : Task) (words : List ℕ) (made : ℕ) (m : Machine) (reply : Reply) → SoloRun cmd me image cache t words made m → turn_on t m ≡ Ends reply
-      → made + 1 ≡ steps_of t.first_slot cmd (length image) (with_given words (given (op_of t) m)) reply
+      → made + 1 ≡ steps_of None cmd (length image) (with_given words (given (op_of t) m)) reply
   ran_steps t words made m reply ran ends =
-      steps_at_end cmd me (length image) t words made (ran_stands t words made m ran) (word_of t m) reply (same_turn t m ∙ ends)
-      ∙ ap (λ (o : Option ℕ). steps_of t.first_slot cmd (length image) (with_given words o) reply) (same_given (op_of t) m)
+      steps_at_end None cmd me (length image) t words made tt (ran_stands t words made m ran) (word_of t m) reply (same_turn t m ∙ ends)
+      ∙ ap (λ (o : Option ℕ). steps_of None cmd (length image) (with_given words o) reply) (same_given (op_of t) m)
 
   pub ran_cmd : (t : Task) (words : List ℕ) (made : ℕ) (m : Machine) → SoloRun cmd me image cache t words made m → t.cmd ≡ cmd
-  ran_cmd t words made m ran = (standing_tied cmd me (length image) t words made (ran_stands t words made m ran)).cmd_is
+  ran_cmd t words made m ran = (standing_tied None cmd me (length image) t words made tt (ran_stands t words made m ran)).cmd_is
 
   pub ran_me : (t : Task) (words : List ℕ) (made : ℕ) (m : Machine) → SoloRun cmd me image cache t words made m → t.me ≡ me
-  ran_me t words made m ran = (standing_tied cmd me (length image) t words made (ran_stands t words made m ran)).me_is
+  ran_me t words made m ran = (standing_tied None cmd me (length image) t words made tt (ran_stands t words made m ran)).me_is
 
-  pub ran_first : (t : Task) (words : List ℕ) (made : ℕ) (m : Machine) → SoloRun cmd me image cache t words made m → t.first_slot ≡ 0
-  ran_first t words made m ran = (standing_tied cmd me (length image) t words made (ran_stands t words made m ran)).first_is
+  pub ran_kept : (t : Task) (words : List ℕ) (made : ℕ) (m : Machine) → SoloRun cmd me image cache t words made m → t.kept ≡ None
+  ran_kept t words made m ran = (standing_tied None cmd me (length image) t words made tt (ran_stands t words made m ran)).kept_is
 
 -- The form of the image.
 
@@ -82,11 +82,12 @@ module _ (cmd : Cmd) (me : List ℕ) (image : Image) (cache : Cache) where
 
 -- Copies that memory needn't get.
 
--- the operation stores nothing
+-- the operation is one of a reading
 abbrev pub IsQuiet : Op → Type 0
 IsQuiet (Load l k) = ⊤
 IsQuiet (Store l k value) = ⊥
-IsQuiet (WriteBack l) = ⊤
+IsQuiet (WriteBack l) = ⊥
+IsQuiet Fence = ⊥
 IsQuiet (Invalidate l) = ⊤
 IsQuiet Digest = ⊤
 
@@ -104,23 +105,31 @@ quiet_before t (at.SendData j) before = absurd before
 quiet_before t (at.StoreSlot j k) before = absurd before
 quiet_before t (at.SendSlot j) before = absurd before
 quiet_before t at.StoreGate before = absurd before
+quiet_before t at.FenceSlot before = absurd before
 quiet_before t at.SendGate before = absurd before
+quiet_before t at.FenceGate before = absurd before
 
 fresh_brought : (w : List ℕ) (c : Cell) → Fresh w c → Fresh w (brought w c)
 fresh_brought w Absent f = refl
 fresh_brought w (Clean words) f = f
-fresh_brought w (Dirty words) f = absurd f
-
-fresh_cleaned : (w : List ℕ) (c : Cell) → Fresh w c → Fresh w (cleaned c)
-fresh_cleaned w Absent f = tt
-fresh_cleaned w (Clean words) f = f
-fresh_cleaned w (Dirty words) f = absurd f
+fresh_brought w (Dirty a words) f = absurd f
 
 -- a copy that can't be stale has nothing to send
 pub clean_fresh : (w : List ℕ) (c : Cell) → length w ≡ 8 → Fresh w c → IsCleanCell c
 clean_fresh w Absent wide f = tt
 clean_fresh w (Clean words) wide f = ap length f ∙ wide
-clean_fresh w (Dirty words) wide f = absurd f
+clean_fresh w (Dirty a words) wide f = absurd f
+
+-- a copy that has nothing to send isn't asked for
+pub clean_unasked : (c : Cell) → IsCleanCell c → IsAsked c → ⊥
+clean_unasked Absent clean is = absurd (cc)
+clean_unasked (Clean words) clean is = absurd (cc)
+clean_unasked (Dirty a words) clean is = clean
+
+pub fresh_unasked : (w : List ℕ) (c : Cell) → Fresh w c → IsAsked c → ⊥
+fresh_unasked w Absent f is = absurd (cc)
+fresh_unasked w (Clean words) f is = absurd (cc)
+fresh_unasked w (Dirty a words) f is = f
 
 -- a line that was dropped
 pub dropped_fresh : (w : List ℕ) (line : ℕ) (cache : Cache) → Fresh w (cell_at (with_cell line Absent cache) line)
@@ -134,14 +143,16 @@ module _ (m : Machine) (normal : map eight m.image ≡ m.image) (clean : IsClean
   pub quiet_image : (op : Op) → IsQuiet op → (operated op m).image ≡ m.image
   quiet_image (Load l k) quiet = refl
   quiet_image (Store l k value) quiet = absurd quiet
-  quiet_image (WriteBack l) quiet = sent_same l.0
+  quiet_image (WriteBack l) quiet = absurd quiet
+  quiet_image Fence quiet = absurd quiet
   quiet_image (Invalidate l) quiet = sent_same l.0
   quiet_image Digest quiet = refl
 
   pub quiet_clean : (op : Op) → IsQuiet op → IsClean (operated op m).cache
   quiet_clean (Load a k) quiet = clean_with a.0 _ m.cache clean (clean_brought (line_at m.image a.0) (cell_at m.cache a.0) refl (clean a.0))
   quiet_clean (Store a k value) quiet = absurd quiet
-  quiet_clean (WriteBack a) quiet = clean_with a.0 _ m.cache clean (clean_cleaned (cell_at m.cache a.0) (clean a.0))
+  quiet_clean (WriteBack a) quiet = absurd quiet
+  quiet_clean Fence quiet = absurd quiet
   quiet_clean (Invalidate a) quiet = clean_with a.0 Absent m.cache clean tt
   quiet_clean Digest quiet = clean
 
@@ -158,7 +169,8 @@ module _ (m : Machine) (normal : map eight m.image ≡ m.image) (clean : IsClean
   fresh_cell : (op : Op) → IsQuiet op → (l : ℕ) → Fresh (line_at m.image l) (cell_at m.cache l) → Fresh (line_at m.image l) (cell_at (operated op m).cache l)
   fresh_cell (Load a k) quiet = still_fresh a.0 _ (fresh_brought (line_at m.image a.0) (cell_at m.cache a.0))
   fresh_cell (Store a k value) quiet = absurd quiet
-  fresh_cell (WriteBack a) quiet = still_fresh a.0 _ (fresh_cleaned (line_at m.image a.0) (cell_at m.cache a.0))
+  fresh_cell (WriteBack a) quiet = absurd quiet
+  fresh_cell Fence quiet = absurd quiet
   fresh_cell (Invalidate a) quiet = still_fresh a.0 Absent (λ f. tt)
   fresh_cell Digest quiet = λ l f. f
 
@@ -168,13 +180,14 @@ module _ (m : Machine) (normal : map eight m.image ≡ m.image) (clean : IsClean
   not_sent_same : (through : ℕ) (l : LineNo) (w : List ℕ) (c : Cell) (failure : Failure) → IsCleanCell c → option_map (torn_at l m) (failed_send through w c) ≡ Some failure → failure.left.image ≡ m.image
   not_sent_same through l w Absent failure f is = absurd (cc)
   not_sent_same through l w (Clean words) failure f is = absurd (cc)
-  not_sent_same through l w (Dirty words) failure f is = absurd f
+  not_sent_same through l w (Dirty a words) failure f is = absurd f
 
-  pub quiet_failed : (op : Op) (through : ℕ) (failure : Failure) → failed through op m ≡ Some failure → IsQuiet op → failure.left.image ≡ m.image
+  pub quiet_failed : (op : Op) (through : Breaking) (failure : Failure) → failed through op m ≡ Some failure → IsQuiet op → failure.left.image ≡ m.image
   quiet_failed (Load l k) through failure is quiet = ap (λ (f : Failure). f.left.image) (brought_fails l m (cell_at m.cache l.0) failure is)
   quiet_failed (Store l k value) through failure is quiet = absurd quiet
-  quiet_failed (WriteBack l) through failure is quiet = not_sent_same through l (line_at m.image l.0) (cell_at m.cache l.0) failure (clean l.0) is
-  quiet_failed (Invalidate l) through failure is quiet = not_sent_same through l (line_at m.image l.0) (cell_at m.cache l.0) failure (clean l.0) is
+  quiet_failed (WriteBack l) through failure is quiet = absurd quiet
+  quiet_failed Fence through failure is quiet = absurd quiet
+  quiet_failed (Invalidate l) through failure is quiet = not_sent_same through.mask l (line_at m.image l.0) (cell_at m.cache l.0) failure (clean l.0) is
   quiet_failed Digest through failure is quiet = absurd (cc)
 
 -- Up to the first store of an append.
@@ -212,11 +225,13 @@ stays_past (at.StoreSlot j k) t next word is before = by_test (nat_lt k 7) (ap (
     by_test false e = subst IsBeforeWrites (sym e) before
 stays_past (at.SendSlot j) t next word is before = by_test (nat_lt (j + 1) (geometry t.params).lines) (ap (λ (x : Task). x.phase) (same_Some _ next is))
   where
-    by_test : (b : Bool) → (if b then at.StoreSlot (j + 1) 0 else at.StoreGate) ≡ next.phase → ⊥
+    by_test : (b : Bool) → (if b then at.StoreSlot (j + 1) 0 else at.FenceSlot) ≡ next.phase → ⊥
     by_test true e = subst IsBeforeWrites (sym e) before
     by_test false e = subst IsBeforeWrites (sym e) before
 stays_past at.StoreGate t next word is before = subst IsBeforeWrites (sym (ap (λ (x : Task). x.phase) (same_Some _ next is))) before
-stays_past at.SendGate t next word is before = absurd (cc)
+stays_past at.FenceSlot t next word is before = subst IsBeforeWrites (sym (ap (λ (x : Task). x.phase) (same_Some _ next is))) before
+stays_past at.SendGate t next word is before = subst IsBeforeWrites (sym (ap (λ (x : Task). x.phase) (same_Some _ next is))) before
+stays_past at.FenceGate t next word is before = absurd (cc)
 
 -- a command that appends nothing stays before its stores
 reader_stays : (p : Phase) (cmd : Cmd) (turn : Turn) (next : Task) → wish_of cmd ≡ None → SaysAt p cmd turn → task_after turn ≡ Some next → IsBeforeWrites next.phase
@@ -258,7 +273,7 @@ module _ (cmd : Cmd) (me : List ℕ) (image : Image) (cache : Cache) where
 
     -- nor does a fault of memory change the image
     pub ran_failed : (t : Task) (words : List ℕ) (made : ℕ) (m : Machine) → SoloRun cmd me image cache t words made m → IsBeforeWrites t.phase
-        → (through : ℕ) (failure : Failure) → failed through (op_of t) m ≡ Some failure → failure.left.image ≡ image
+        → (through : Breaking) (failure : Failure) → failed through (op_of t) m ≡ Some failure → failure.left.image ≡ image
     ran_failed t words made m ran before through failure is =
         let looks : Looks image t.phase m = ran_looks t words made m ran before in
         quiet_failed m (ran_normal cmd me image cache normal t words made m ran) looks.clean (op_of t) through failure is (quiet_before t t.phase before) ∙ looks.image_is

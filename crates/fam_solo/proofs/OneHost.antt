@@ -27,7 +27,7 @@ use Rattle.fam_protocol.specs.Steps.{TurnSays, Steps, run_after, settled_count, 
 use Rattle.fam_solo.proofs.Machine.{same_turn, word_of}
 use Rattle.fam_protocol.proofs.Hosts.Begins.{begins_with}
 use Rattle.fam_protocol.proofs.Hosts.Events.{one_or_two, invariant_begun}
-use Rattle.fam_protocol.proofs.Hosts.Steps.{invariant_stepped}
+use Rattle.fam_protocol.proofs.Hosts.Steps.{invariant_stepped, keeps_none}
 
 -- Host 0, and no other.
 
@@ -41,7 +41,7 @@ abbrev pub shared : Machine → SharedState
 shared m = record { memory = line_at m.image; copy = λ h l. only (cell_at m.cache l) Absent h }
 
 abbrev pub hosts_of : List ℕ → Option Run → Hosts
-hosts_of me run = record { uuid = only (Some me) None; run = only run None }
+hosts_of me run = record { uuid = only (Some me) None; run = only run None; kept = λ h. None }
 
 -- a task of host 0
 abbrev pub run_of : Task → Option ℕ → Option Named → Run
@@ -62,7 +62,7 @@ pub record Stepped (settled : Settled) (lines : ℕ) (me : List ℕ) (r : Run) (
   pub says : TurnSays turn r settled lines (hosts_of me (Some r))
   pub invariant : Invariant (turn_settles turn settled) lines (hosts_of me (run_after turn (settled_count settled) r)) (shared m)
 
-module _ (settled : Settled) (lines : ℕ) (me : List ℕ) (r : Run) (m : Machine) (invariant : Invariant settled lines (hosts_of me (Some r)) (shared m)) (inside : IsInImage (op_of r.task) m.image) where
+module _ (settled : Settled) (lines : ℕ) (me : List ℕ) (r : Run) (m : Machine) (invariant : Invariant settled lines (hosts_of me (Some r)) (shared m)) (inside : IsInImage (op_of r.task) m) where
   others_idle : (x y : Option Run) (h : ℕ) → h ≢ 0 → only x None h ≡ only y None h
   others_idle x y zero other = absurd (other refl)
   others_idle x y (suc h) other = refl
@@ -75,6 +75,8 @@ module _ (settled : Settled) (lines : ℕ) (me : List ℕ) (r : Run) (m : Machin
     uuids = λ h. refl;
     mine = ap (λ (x : Turn). run_after x (settled_count settled) r) (sym is);
     runs = λ h other. others_idle (run_after turn (settled_count settled) r) (Some r) h other;
+    keeps = sym (keeps_none (turn_given r.task (word_of r.task m)) r.task);
+    kept = λ h other. refl;
   }
 
   by_turn : (turn : Turn) → turn_given r.task (word_of r.task m) ≡ turn → Stepped settled lines me r turn (operated (op_of r.task) m)
@@ -120,7 +122,7 @@ module _ (me : List ℕ) (image : Image) (cache : Cache) (clean : IsClean cache)
 
   declared : AreHosts (hosts_of me None) (shared_with image copies)
   unfolding copies
-  declared = record { apart = apart; absent = absent; idle = idle }
+  declared = record { apart = apart; absent = absent; idle = idle; bare = λ h none. refl }
     where
       apart : (h k : ℕ) (id : List ℕ) → only (Some me) None h ≡ Some id → only (Some me) None k ≡ Some id → h ≡ k
       apart zero zero id one other = refl
@@ -141,7 +143,7 @@ module _ (me : List ℕ) (image : Image) (cache : Cache) (clean : IsClean cache)
 
   pub rests_alone : Rests (hosts_of me None) (shared (record { image = image; cache = cache }))
   unfolding copies
-  rests_alone = record { declared = declared; owner = owner; idle = all_idle; clean = clean_copies }
+  rests_alone = record { declared = declared; owner = owner; idle = all_idle; bare = λ h. refl; clean = clean_copies }
 
 -- what an image settles at first
 pub first_settled : (image : Image) → least_lines ≤ length image → settled_at_first image ≡ settled_by (line_at image) (reading_of (line_at image) (line_bytes * length image))
@@ -160,6 +162,7 @@ module _ (cmd : Cmd) (me : List ℕ) (image : Image) (cache : Cache) (enough : l
     is = refl;
     uuids = λ h. refl;
     runs = λ h other. runs h other;
+    kept = λ h. refl;
   }
     where
       runs : (h : ℕ) → h ≢ 0 → only (Some (run_of (starting cmd me (length image)) None None)) None h ≡ only {X = Option Run} None None h

@@ -43,7 +43,7 @@ use Rattle.fam_protocol.specs.Steps.{TurnSays}
 use Rattle.fam_protocol.specs.Tasks.{AtPhase, IsCommand, KnowsGate}
 use Rattle.fam_protocol.specs.Invariant.{Damaged, Known}
 use Rattle.fam_solo.proofs.Damaged.{OnBad, on_bad}
-use Rattle.fam_solo.proofs.Machine.{ran_cmd, ran_first, ran_looks, ran_me, word_of}
+use Rattle.fam_solo.proofs.Machine.{ran_cmd, ran_kept, ran_looks, ran_me, word_of}
 use Rattle.fam_solo.proofs.Replies.{no_client}
 use Rattle.fam_solo.proofs.Slots.{ChecksAt, EndsRead, HasTold, IsAllRead, ReadAt, SaysRead, turn_reads}
 use Rattle.fam_solo.proofs.Sound.{OnSound, OnWrites, on_invariant}
@@ -163,7 +163,9 @@ module _ (cmd : Cmd) (me : List ℕ) (image : Image) (cache : Cache) (enough : l
   CheckedAt (at.StoreSlot j k) t = ⊤
   CheckedAt (at.SendSlot j) t = ⊤
   CheckedAt at.StoreGate t = ⊤
+  CheckedAt at.FenceSlot t = ⊤
   CheckedAt at.SendGate t = ⊤
+  CheckedAt at.FenceGate t = ⊤
 
   plays_on : (t : Task) → t.cmd ≡ cmd → Plays t.cmd
   plays_on t cmd_is = subst Plays (sym cmd_is) (other_command cmd other)
@@ -244,7 +246,9 @@ module _ (cmd : Cmd) (me : List ℕ) (image : Image) (cache : Cache) (enough : l
       gate_at (at.StoreSlot j k) read before a = absurd before
       gate_at (at.SendSlot j) read before a = absurd before
       gate_at at.StoreGate read before a = absurd before
+      gate_at at.FenceSlot read before a = absurd before
       gate_at at.SendGate read before a = absurd before
+      gate_at at.FenceGate read before a = absurd before
 
     no_check : (phase : Phase) (t : Task) (e : Entry) (m : Machine) → GateAt phase cmd image p (length entries) e m → CheckedAt phase t
     no_check (at.Check i) t e m gate = absurd gate
@@ -290,7 +294,7 @@ module _ (cmd : Cmd) (me : List ℕ) (image : Image) (cache : Cache) (enough : l
   says_read : (t : Task) (words : List ℕ) (made : ℕ) (m : Machine) → SoloRun cmd me image cache t words made m → ReadAt (line_at image) (line_bytes * length image) t.phase t.gate t.entries
       → SaysRead (line_at image) (line_bytes * length image) t.phase t.gate t.entries (turn_on t m)
   says_read t words made m ran at_phase =
-      turn_reads (line_at image) (line_bytes * length image) t.phase t (word_of t m) (plays_on t (ran_cmd cmd me image cache t words made m ran)) (ran_first cmd me image cache t words made m ran) refl at_phase (checks_at t.phase t (checked t words made m ran))
+      turn_reads (line_at image) (line_bytes * length image) t.phase t (word_of t m) (plays_on t (ran_cmd cmd me image cache t words made m ran)) (ran_kept cmd me image cache t words made m ran) refl at_phase (checks_at t.phase t (checked t words made m ran))
 
   read_at : (t : Task) (words : List ℕ) (made : ℕ) (m : Machine) → SoloRun cmd me image cache t words made m → ReadAt (line_at image) (line_bytes * length image) t.phase t.gate t.entries
   read_at t words made m starts = refl
@@ -349,7 +353,9 @@ module _ (cmd : Cmd) (me : List ℕ) (image : Image) (cache : Cache) (enough : l
         written_finished (at.StoreSlot j k) floor gate a read = all_told (at_gate a.1.writing.pending) read
         written_finished (at.SendSlot j) floor gate a read = all_told (at_gate a.writing.pending) read
         written_finished at.StoreGate floor gate a read = all_told (at_gate a.writing.pending) read
+        written_finished at.FenceSlot floor gate a read = all_told (at_gate a.writing.pending) read
         written_finished at.SendGate floor gate a read = all_told (at_gate a.pending) read
+        written_finished at.FenceGate floor gate a read = all_told (at_gate a.0.pending) read
         written_finished at.DropMagic floor gate a read = absurd gate
         written_finished at.Magic floor gate a read = absurd gate
         written_finished (at.Drop part j) floor gate a read = absurd gate
@@ -359,7 +365,7 @@ module _ (cmd : Cmd) (me : List ℕ) (image : Image) (cache : Cache) (enough : l
         written_finished (at.Check i) floor gate a read = absurd gate
         written_finished at.Decide floor gate a read = absurd gate
 
-  module _ (t : Task) (words : List ℕ) (made : ℕ) (m : Machine) (given : Reply) (ran : SoloRun cmd me image cache t words made m) (inside : IsInImage (op_of t) m.image) (ends : turn_on t m ≡ Ends given) where
+  module _ (t : Task) (words : List ℕ) (made : ℕ) (m : Machine) (given : Reply) (ran : SoloRun cmd me image cache t words made m) (inside : IsInImage (op_of t) m) (ends : turn_on t m ≡ Ends given) where
     cmd_of : t.cmd ≡ cmd
     cmd_of = ran_cmd cmd me image cache t words made m ran
 

@@ -25,6 +25,8 @@ use Rattle.fam_commands.specs.declared.phase.Part.{Part}
 use Rattle.fam_commands.specs.declared.phase.Part.TheVariants.{Superblock, Header, Slot, File}
 use Rattle.fam_commands.specs.declared.phase.Phase.{Phase}
 use Rattle.fam_commands.specs.declared.phase.Phase.TheVariants as at
+use Rattle.fam_commands.specs.Kept.{Kept, used}
+use Rattle.fam_commands.proofs.UsedCounts.{used_none}
 use Rattle.fam_commands.specs.Task.{Task, part_count, size_of, wanted_end}
 use Rattle.fam_commands.specs.Turns.{Turn, Goes, Marks, Finds, Writes, Ends, super_fault_reply, log_fault_reply, magic_turn, host_refusal, host_turn, super_turn, header_turn, slot_or_decide, slots_read, finds_or_goes, gate_loaded, gate_turn, join_turn, slot_turn, append_turn, verify_lines, verify_turn, bytes_turn, kind_turn, found_turn, wish_turn, decide_turn, line_or, line_difference, compare_turn, file_turn, line_turn, with_word, word_turn, turn_at}
 use Rattle.fam_rules.specs.declared.answers.Refused.{Refused}
@@ -57,7 +59,9 @@ IsAllRead (at.SendData j) = ⊤
 IsAllRead (at.StoreSlot j k) = ⊤
 IsAllRead (at.SendSlot j) = ⊤
 IsAllRead at.StoreGate = ⊤
+IsAllRead at.FenceSlot = ⊤
 IsAllRead at.SendGate = ⊤
+IsAllRead at.FenceGate = ⊤
 
 module _ (line : Lines) (have : ℕ) where
   -- the first i slots read as these entries
@@ -87,7 +91,9 @@ module _ (line : Lines) (have : ℕ) where
   ReadAt (at.StoreSlot j k) gate entries = HasTold gate entries
   ReadAt (at.SendSlot j) gate entries = HasTold gate entries
   ReadAt at.StoreGate gate entries = HasTold gate entries
+  ReadAt at.FenceSlot gate entries = HasTold gate entries
   ReadAt at.SendGate gate entries = HasTold gate entries
+  ReadAt at.FenceGate gate entries = HasTold gate entries
 
   -- what was read when it answers
   abbrev pub EndsRead : Phase → ℕ → List Entry → Reply → Type 0
@@ -134,7 +140,9 @@ module _ (line : Lines) (have : ℕ) where
   ChecksAt (at.StoreSlot j k) t = ⊤
   ChecksAt (at.SendSlot j) t = ⊤
   ChecksAt at.StoreGate t = ⊤
+  ChecksAt at.FenceSlot t = ⊤
   ChecksAt at.SendGate t = ⊤
+  ChecksAt at.FenceGate t = ⊤
 
   -- Lists.
 
@@ -209,14 +217,17 @@ module _ (line : Lines) (have : ℕ) where
           let all : i ≡ t.gate = omega (arith, ltb-false i (slots_read t) is, count, fits) in
           subst (λ (n : ℕ). HasTold n entries) all told
 
-  gate_reads : (p : Phase) (t : Task) → Plays t.cmd → t.first_slot ≡ 0 → (n : ℕ) (o : Option LogFault) → t.entries ≡ [] → SaysRead p t.gate t.entries (gate_turn t n o)
+  gate_reads : (p : Phase) (t : Task) → Plays t.cmd → t.kept ≡ None → (n : ℕ) (o : Option LogFault) → t.entries ≡ [] → SaysRead p t.gate t.entries (gate_turn t n o)
   gate_reads p t plays first n (Some fault) none = log_ends p t plays fault
   gate_reads p t plays first n None none = by_wish (wish_of t.cmd)
     where
-      reads_first : ReadAt (gate_loaded t n).phase n t.entries
+      nothing : used t.kept t.cmd t.params n ≡ []
+      nothing = ap (λ (k : Option Kept). used k t.cmd t.params n) first ∙ used_none t.cmd t.params n
+
+      reads_first : ReadAt (gate_loaded t n).phase n (used t.kept t.cmd t.params n)
       reads_first =
-          subst (λ (i : ℕ). ReadAt (slot_or_decide (record t { gate = n }) i) n t.entries) (sym first)
-          (slot_reads (record t { gate = n }) 0 t.entries plays (told_none t.entries none) (omega arith))
+          subst (λ (list : List Entry). ReadAt (slot_or_decide (record t { gate = n }) (length list)) n list) (sym nothing)
+          (slot_reads (record t { gate = n }) 0 [] plays (told_none [] refl) (omega arith))
 
       by_wish : (o : Option Wish) → SaysRead p t.gate t.entries (finds_or_goes o n (gate_loaded t n))
       by_wish None = reads_first
@@ -310,13 +321,13 @@ module _ (line : Lines) (have : ℕ) where
   slot_stored true j k gate entries told = told
   slot_stored false j k gate entries told = told
 
-  slot_sent : (b : Bool) (j gate : ℕ) (entries : List Entry) → HasTold gate entries → ReadAt (if b then at.StoreSlot (j + 1) 0 else at.StoreGate) gate entries
+  slot_sent : (b : Bool) (j gate : ℕ) (entries : List Entry) → HasTold gate entries → ReadAt (if b then at.StoreSlot (j + 1) 0 else at.FenceSlot) gate entries
   slot_sent true j gate entries told = told
   slot_sent false j gate entries told = told
 
   -- All places.
 
-  pub turn_reads : (p : Phase) (t : Task) (word : ℕ) → Plays t.cmd → t.first_slot ≡ 0 → t.phase ≡ p → ReadAt p t.gate t.entries → ChecksAt p t → SaysRead p t.gate t.entries (turn_at p t word)
+  pub turn_reads : (p : Phase) (t : Task) (word : ℕ) → Plays t.cmd → t.kept ≡ None → t.phase ≡ p → ReadAt p t.gate t.entries → ChecksAt p t → SaysRead p t.gate t.entries (turn_at p t word)
   turn_reads at.DropMagic t word plays first is a checks = a
   turn_reads at.Magic t word plays first is a checks = magic_reads at.Magic t plays (magic_fault word) a
   turn_reads (at.Drop part j) t word plays first is a checks = a
@@ -333,4 +344,6 @@ module _ (line : Lines) (have : ℕ) where
   turn_reads (at.StoreSlot j k) t word plays first is a checks = slot_stored (nat_lt k 7) j k t.gate t.entries a
   turn_reads (at.SendSlot j) t word plays first is a checks = slot_sent (nat_lt (j + 1) (geometry t.params).lines) j t.gate t.entries a
   turn_reads at.StoreGate t word plays first is a checks = a
-  turn_reads at.SendGate t word plays first is a checks = (tt, a)
+  turn_reads at.FenceSlot t word plays first is a checks = a
+  turn_reads at.SendGate t word plays first is a checks = a
+  turn_reads at.FenceGate t word plays first is a checks = (tt, a)

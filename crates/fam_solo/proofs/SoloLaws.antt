@@ -6,7 +6,7 @@ use Rattle.fam_base.specs.Image.{Image, eight, line_at}
 use Rattle.fam_format.specs.Layout.{device_limit, least_lines}
 use Rattle.fam_format.specs.Reading.{Reading, NoSuperblock, BadHeader, BadSlot, Sound, reading_of}
 use Rattle.fam_machine.specs.Caches.{Cache, IsClean}
-use Rattle.fam_machine.specs.Operations.{Failure, Machine, failed, operated, IsInImage}
+use Rattle.fam_machine.specs.Operations.{Breaking, Failure, Machine, failed, operated, IsInImage}
 use Rattle.fam_commands.specs.Solo.{SoloRun, turn_on}
 use Rattle.fam_commands.specs.Task.{Task, op_of}
 use Rattle.fam_commands.specs.Turns.{Ends}
@@ -31,7 +31,7 @@ module _ (image : Image) (me : List ℕ) (cmd : Cmd) (cache : Cache) (t : Task) 
 
   -- the answer and what is left are those of the rules, the cache has nothing to send, and
   -- what is settled is what the image says
-  pub solo : (reply : Reply) → least_lines ≤ length image → line_bytes * length image ≤ device_limit → map eight image ≡ image → IsClean cache → IsCommand cmd → (ran : SoloRun cmd me image cache t words made m) → IsInImage (op_of t) m.image → turn_on t m ≡ Ends reply
+  pub solo : (reply : Reply) → least_lines ≤ length image → line_bytes * length image ≤ device_limit → map eight image ≡ image → IsClean cache → IsCommand cmd → (ran : SoloRun cmd me image cache t words made m) → IsInImage (op_of t) m → turn_on t m ≡ Ends reply
       → Answers image me cmd reply (operated (op_of t) m).image × IsClean (operated (op_of t) m).cache × (turn_settles (Ends reply) (settles_up_to cmd me image cache t words made m ran (settled_at_first image)) ≡ settled_at_first (operated (op_of t) m).image)
   solo reply enough limit normal clean command ran inside is = by_reading (reading_of (line_at image) (line_bytes * length image)) refl
     where
@@ -45,5 +45,5 @@ module _ (image : Image) (me : List ℕ) (cmd : Cmd) (cache : Cache) (t : Task) 
   pub reader_image : map eight image ≡ image → IsClean cache → wish_of cmd ≡ None → SoloRun cmd me image cache t words made m → m.image ≡ image
   reader_image normal clean none ran = (ran_looks cmd me image cache normal clean t words made m ran (reader_before cmd me image cache none t words made m ran)).image_is
 
-  pub reader_failed : map eight image ≡ image → IsClean cache → wish_of cmd ≡ None → SoloRun cmd me image cache t words made m → (through : ℕ) (failure : Failure) → failed through (op_of t) m ≡ Some failure → failure.left.image ≡ image
+  pub reader_failed : map eight image ≡ image → IsClean cache → wish_of cmd ≡ None → SoloRun cmd me image cache t words made m → (through : Breaking) (failure : Failure) → failed through (op_of t) m ≡ Some failure → failure.left.image ≡ image
   reader_failed normal clean none ran through failure is = ran_failed cmd me image cache normal clean t words made m ran (reader_before cmd me image cache none t words made m ran) through failure is

@@ -12,11 +12,12 @@ use Rattle.fam_format.specs.Layout.{device_limit, gate_line, least_lines}
 use Rattle.fam_format.specs.Reading.{Reading, Sound, reading_of}
 use Rattle.fam_machine.specs.declared.cell.Cell.TheVariants.{Absent}
 use Rattle.fam_machine.specs.declared.op.Op.{Op}
-use Rattle.fam_machine.specs.declared.op.Op.TheVariants.{WriteBack}
+use Rattle.fam_machine.specs.declared.op.Op.TheVariants.{Fence}
 use Rattle.fam_commands.specs.declared.phase.Phase.{Phase}
 use Rattle.fam_commands.specs.declared.phase.Phase.TheVariants as at
 use Rattle.fam_machine.specs.Caches.{Cache, IsClean, cell_at}
-use Rattle.fam_machine.specs.Operations.{Machine, operated, IsInImage, line_no}
+use Rattle.fam_machine.specs.OneLine.{is_asked}
+use Rattle.fam_machine.specs.Operations.{Machine, operated, IsInImage}
 use Rattle.fam_commands.specs.Solo.{SoloRun, starts, goes, turn_on}
 use Rattle.fam_commands.specs.Stands.{task_after}
 use Rattle.fam_commands.specs.Task.{Task, op_at, op_of, starting}
@@ -71,7 +72,9 @@ plain (at.SendData j) t word cmd image p n e m gate = tt
 plain (at.StoreSlot j k) t word cmd image p n e m gate = tt
 plain (at.SendSlot j) t word cmd image p n e m gate = tt
 plain at.StoreGate t word cmd image p n e m gate = tt
+plain at.FenceSlot t word cmd image p n e m gate = tt
 plain at.SendGate t word cmd image p n e m gate = tt
+plain at.FenceGate t word cmd image p n e m gate = tt
 plain at.DropMagic t word cmd image p n e m gate = absurd gate
 plain at.Magic t word cmd image p n e m gate = absurd gate
 plain (at.Drop part j) t word cmd image p n e m gate = absurd gate
@@ -212,7 +215,7 @@ module _ (cmd : Cmd) (me : List ℕ) (image : Image) (cache : Cache) (enough : l
     pub may : (w : Wish) (e : Entry) → wish_of cmd ≡ Some w → decide_wish p me entries w ≡ Ok e → MayAppend p me entries e
     may w e wish decides = may_append p me entries w e params.sound (command.wish w wish) decides
 
-    writes_step : (m : Machine) (next : Task) (s : Settled) → (on : OnWrites t m) → s ≡ Known p on.all (length entries) → IsInImage (op_of t) m.image → task_after (turn_on t m) ≡ Some next → Staged next (operated (op_of t) m) (turn_settles (turn_on t m) s)
+    writes_step : (m : Machine) (next : Task) (s : Settled) → (on : OnWrites t m) → s ≡ Known p on.all (length entries) → IsInImage (op_of t) m → task_after (turn_on t m) ≡ Some next → Staged next (operated (op_of t) m) (turn_settles (turn_on t m) s)
     writes_step m next s on settled inside is =
         let step = stepped (Known p on.all (length entries)) (length image) me (run_of t on.floor on.named) m on.invariant inside in
         let right : MayAppend p me entries on.e = may on.w on.e on.wish on.decides in
@@ -314,7 +317,7 @@ module _ (cmd : Cmd) (me : List ℕ) (image : Image) (cache : Cache) (enough : l
   at_first : settled_at_first image ≡ Known p (map (held_file (line_at image)) entries) (length entries)
   at_first = first_settled image enough ∙ ap (settled_by (line_at image)) sound
 
-  module _ (t : Task) (words : List ℕ) (made : ℕ) (m : Machine) (given : Reply) (ran : SoloRun cmd me image cache t words made m) (inside : IsInImage (op_of t) m.image) (is : turn_on t m ≡ Ends given)
+  module _ (t : Task) (words : List ℕ) (made : ℕ) (m : Machine) (given : Reply) (ran : SoloRun cmd me image cache t words made m) (inside : IsInImage (op_of t) m) (is : turn_on t m ≡ Ends given)
       (reports : cmd ≡ Fsck → given ≡ Reports (report_of (line_at image) (line_bytes * length image))) where
     cmd_is : t.cmd ≡ cmd
     cmd_is = ran_cmd cmd me image cache t words made m ran
@@ -351,14 +354,14 @@ module _ (cmd : Cmd) (me : List ℕ) (image : Image) (cache : Cache) (enough : l
         let right : MayAppend p me entries on.e = may t cmd_is me_is on.w on.e on.wish on.decides in
         let there = ends_there cmd image p n on.e params.sound right.left right.proper (line_bytes * length image) (hosts_of me (Some (run_of t on.floor on.named))).uuid on.invariant.stage.master on.all t t m (word_of t m) cmd_is on.writing.entry on.writing.others t.phase given on.writing.gate is in
         let published = subst (λ (pl : Phase). AtPhase pl (record { params = p; have = line_bytes * length image; uuid = (hosts_of me (Some (run_of t on.floor on.named))).uuid; master = on.invariant.stage.master }) 0 on.floor t (shared m) on.all n) there.0 (on.invariant.stage.tasks 0 (run_of t on.floor on.named) refl).phase in
-        let gate_is : t.gate ≡ n = omega (arith, published.pending, on.count) in
-        let op_is : op_of t ≡ WriteBack (line_no gate_line) = ap (op_at t) there.0 in
+        let gate_is : t.gate ≡ n = omega (arith, published.0.pending, on.count) in
+        let op_is : op_of t ≡ Fence = ap (op_at t) there.0 in
         let gate = subst (λ (pl : Phase). GateAt pl cmd image p n on.e m) there.0 on.writing.gate in
-        let within : gate_line < length m.image = subst (λ (op : Op). IsInImage op m.image) op_is inside in
+        let within : gate_line < length m.image = (subst (λ (op : Op). IsInImage op m) op_is inside) gate_line (ap is_asked gate.1) in
         let lines = all_written cmd image p n on.e params.sound right.left right.proper (line_bytes * length image) (hosts_of me (Some (run_of t on.floor on.named))).uuid on.invariant.stage.master on.all t t m (word_of t m) cmd_is on.writing.entry on.writing.others (ran_length cmd me image cache t words made m ran) within gate in
         let phase : HasPhase p n on.e (length image) = place_of p entries on.e (length image) params.sound params.device right.left right.proper right.joins in
-        let left = appended_alike p n on.e (fill (content_of cmd) on.e.size) image (operated (WriteBack (line_no gate_line)) m).image (written image p n on.e (fill (content_of cmd) on.e.size)) lines
-        (lines_appended p n on.e (fill (content_of cmd) on.e.size) image phase) (operated_normal (WriteBack (line_no gate_line)) m (ran_normal cmd me image cache normal t words made m ran)) (written_normal image p n on.e (fill (content_of cmd) on.e.size) normal) in
+        let left = appended_alike p n on.e (fill (content_of cmd) on.e.size) image (operated Fence m).image (written image p n on.e (fill (content_of cmd) on.e.size)) lines
+        (lines_appended p n on.e (fill (content_of cmd) on.e.size) image phase) (operated_normal Fence m (ran_normal cmd me image cache normal t words made m ran)) (written_normal image p n on.e (fill (content_of cmd) on.e.size) normal) in
         let step = stepped (Known p on.all n) (length image) me (run_of t on.floor on.named) m on.invariant inside in
         let ended : Invariant (turn_settles (Ends given) (Known p on.all n)) (length image) (hosts_of me None) (shared (operated (op_of t) m)) =
         subst (λ (x : Turn). Invariant (turn_settles x (Known p on.all n)) (length image) (hosts_of me (run_after x n (run_of t on.floor on.named))) (shared (operated (op_of t) m))) is step.invariant in
@@ -366,7 +369,7 @@ module _ (cmd : Cmd) (me : List ℕ) (image : Image) (cache : Cache) (enough : l
         let all_now : turn_settles (Ends given) (Known p on.all n) ≡ Known p on.all (length on.all) = ap (Known p on.all) one_new in
         let settled_now : turn_settles (Ends given) before ≡ Known p on.all (length on.all) = ap (turn_settles (Ends given)) settled ∙ all_now in
         let count_now : length (operated (op_of t) m).image ≡ length image = operated_length (op_of t) m ∙ ran_length cmd me image cache t words made m ran in
-        let sent = all_sent cmd image p n on.e params.sound right.left right.proper (line_bytes * length image) (hosts_of me (Some (run_of t on.floor on.named))).uuid on.invariant.stage.master on.all t t m (word_of t m) cmd_is on.writing.entry on.writing.others gate in
+        let sent = all_sent cmd image p n on.e params.sound right.left right.proper (line_bytes * length image) (hosts_of me (Some (run_of t on.floor on.named))).uuid on.invariant.stage.master on.all t t m (word_of t m) cmd_is on.writing.entry on.writing.others within gate in
         let clean_now : IsClean (operated (op_of t) m).cache = subst (λ (op : Op). IsClean (operated op m).cache) (sym op_is) sent in (
           subst (λ (r : Reply). Answers image me cmd r (operated (op_of t) m).image) (sym (there.1 ∙ ap Appended gate_is))
               (subst (λ (op : Op). Answers image me cmd (Appended n) (operated op m).image) (sym op_is)

@@ -7,19 +7,18 @@ use Rattle.std.proofs.lemmas.Option.{same_Some}
 use Rattle.fam_base.specs.declared.cmd.Cmd.{Cmd}
 use Rattle.fam_base.specs.declared.entry.Params.{Params}
 use Rattle.fam_base.specs.declared.entry.Entry.{Entry}
-use Rattle.fam_base.specs.Image.{Image, eight, line_at}
-use Rattle.fam_base.proofs.ImageLemmas.{length-with_line, line_at-with_line}
+use Rattle.fam_base.specs.Image.{Image, line_at}
 use Rattle.fam_format.specs.Layout.{geometry, gate_line, slot_line}
 use Rattle.fam_format.specs.Params.{SoundParams}
 use Rattle.fam_format.specs.Slot.{Proper, spelling}
 use Rattle.fam_machine.specs.declared.cell.Cell.{Cell}
 use Rattle.fam_machine.specs.declared.cell.Cell.TheVariants.{Clean, Dirty}
 use Rattle.fam_machine.specs.declared.op.Op.{Op}
-use Rattle.fam_machine.specs.declared.op.Op.TheVariants.{Store, WriteBack}
+use Rattle.fam_machine.specs.declared.op.Op.TheVariants.{Store, Fence}
 use Rattle.fam_commands.specs.declared.phase.Phase.{Phase}
 use Rattle.fam_commands.specs.declared.phase.Phase.TheVariants as at
 use Rattle.fam_machine.specs.Caches.{IsClean, IsCleanCell, cell_at}
-use Rattle.fam_machine.specs.OneLine.{cleaned, sent, stored}
+use Rattle.fam_machine.specs.OneLine.{asked_for, stored}
 use Rattle.fam_machine.specs.Operations.{Machine, operated, line_no}
 use Rattle.fam_commands.specs.Stands.{task_after}
 use Rattle.fam_commands.specs.Task.{Task, line_of, op_at, size_of}
@@ -35,8 +34,9 @@ use Rattle.fam_rules.specs.WrittenLaws.{IsAppended}
 use Rattle.fam_protocol.specs.Core.{IsEntryLine, System}
 use Rattle.fam_protocol.specs.Lines.{Fresh}
 use Rattle.fam_protocol.specs.Tasks.{AtPhase, MayPublish}
-use Rattle.fam_machine.proofs.OneOperation.{IsAt, cache_away, memory_away}
-use Rattle.fam_solo.proofs.Machine.{clean_fresh}
+use Rattle.fam_machine.proofs.OneOperation.{IsAt, cache_away, memory_away, operated_length}
+use Rattle.fam_machine.proofs.FenceLemmas.{fence_away, fence_here}
+use Rattle.fam_solo.proofs.Machine.{clean_fresh, clean_unasked, fresh_unasked}
 use Rattle.fam_solo.proofs.OneHost.{shared}
 use Rattle.fam_solo.proofs.Written.{count_file, file_count, in_row}
 use Rattle.fam_protocol.proofs.Lines.Apart.{line_behind}
@@ -70,7 +70,9 @@ GateAt (at.SendData j) cmd image p n e m = Current image m gate_line
 GateAt (at.StoreSlot j k) cmd image p n e m = Current image m gate_line
 GateAt (at.SendSlot j) cmd image p n e m = Current image m gate_line
 GateAt at.StoreGate cmd image p n e m = Current image m gate_line
-GateAt at.SendGate cmd image p n e m = HasLines cmd p n e m × (cell_at m.cache gate_line ≡ Dirty (slice_set (line_at image gate_line) 0 (n + 1)))
+GateAt at.FenceSlot cmd image p n e m = Current image m gate_line
+GateAt at.SendGate cmd image p n e m = HasLines cmd p n e m × (cell_at m.cache gate_line ≡ Dirty false (slice_set (line_at image gate_line) 0 (n + 1)))
+GateAt at.FenceGate cmd image p n e m = HasLines cmd p n e m × (cell_at m.cache gate_line ≡ Dirty true (slice_set (line_at image gate_line) 0 (n + 1)))
 GateAt at.DropMagic cmd image p n e m = ⊥
 GateAt at.Magic cmd image p n e m = ⊥
 GateAt (at.Drop part j) cmd image p n e m = ⊥
@@ -124,7 +126,7 @@ module _ (cmd : Cmd) (image : Image) (p : Params) (n : ℕ) (e : Entry) (sound :
     then_slot true j k m' gate = gate
     then_slot false j k m' gate = gate
 
-    then_gate : (b : Bool) (j : ℕ) (m' : Machine) → Current image m' gate_line → GateAt (if b then at.StoreSlot (j + 1) 0 else at.StoreGate) cmd image p n e m'
+    then_gate : (b : Bool) (j : ℕ) (m' : Machine) → Current image m' gate_line → GateAt (if b then at.StoreSlot (j + 1) 0 else at.FenceSlot) cmd image p n e m'
     then_gate true j m' gate = gate
     then_gate false j m' gate = gate
 
@@ -158,11 +160,11 @@ module _ (cmd : Cmd) (image : Image) (p : Params) (n : ℕ) (e : Entry) (sound :
     }
 
     -- the store of the gate
-    gate_stored : n ≡ t.gate → Current image m gate_line → cell_at (operated (Store (line_no gate_line) 0 (t.gate + 1)) m).cache gate_line ≡ Dirty (slice_set (line_at image gate_line) 0 (n + 1))
+    gate_stored : n ≡ t.gate → Current image m gate_line → cell_at (operated (Store (line_no gate_line) 0 (t.gate + 1)) m).cache gate_line ≡ Dirty false (slice_set (line_at image gate_line) 0 (n + 1))
     gate_stored gate_is gate =
         cell_at-with_cell_same gate_line (stored 0 (t.gate + 1) (line_at m.image gate_line) (cell_at m.cache gate_line)) m.cache
-        ∙ ap (λ (w : List ℕ). Dirty (slice_set w 0 (t.gate + 1))) (fresh_current (line_at m.image gate_line) (cell_at m.cache gate_line) gate.1 ∙ gate.0)
-        ∙ ap (λ (i : ℕ). Dirty (slice_set (line_at image gate_line) 0 (i + 1))) (sym gate_is)
+        ∙ ap (λ (w : List ℕ). Dirty false (slice_set w 0 (t.gate + 1))) (fresh_current (line_at m.image gate_line) (cell_at m.cache gate_line) gate.1 ∙ gate.0)
+        ∙ ap (λ (i : ℕ). Dirty false (slice_set (line_at image gate_line) 0 (i + 1))) (sym gate_is)
 
     pub writes_on : (pl : Phase) (floor : Option ℕ) → AtPhase pl sys 0 floor t (shared m) all n → GateAt pl cmd image p n e m → task_after (turn_at pl t word) ≡ Some next → Writing cmd image p n e next (operated (op_at t pl) m)
     writes_on (at.StoreData j k) floor a gate is =
@@ -188,7 +190,28 @@ module _ (cmd : Cmd) (image : Image) (p : Params) (n : ℕ) (e : Entry) (sound :
               },
           gate_stored a.writing.settled_is gate,
         )
-    writes_on at.SendGate floor a gate is = absurd (cc)
+    writes_on at.FenceSlot floor a gate is =
+        on at.StoreGate (operated Fence m) is
+        (λ l none other.
+        let was = others l none other in
+        let same = fence_away m l (clean_unasked (cell_at m.cache l) was.1) in (same.0 ∙ was.0, subst IsCleanCell (sym same.1) was.1)) (
+        let same = fence_away m gate_line (fresh_unasked (line_at m.image gate_line) (cell_at m.cache gate_line) gate.1) in (
+          same.0 ∙ gate.0,
+          subst (λ (w : List ℕ). Fresh w (cell_at (operated Fence m).cache gate_line)) (sym same.0) (subst (Fresh (line_at m.image gate_line)) (sym same.1) gate.1),
+        )
+        )
+    writes_on at.SendGate floor a gate is =
+        on at.FenceGate (operated (op_at t at.SendGate) m) is (λ l none other. away (λ w c. (w ≡ line_at image l) × IsCleanCell c) (op_at t at.SendGate) m gate_line l refl other (others l none other)) (
+          let lines = gate.0 in
+              record {
+                file = lines.file;
+                slot = lines.slot;
+                file_sent = λ j below. subst IsCleanCell (sym (cache_away (op_at t at.SendGate) m gate_line (file_line e j) refl (λ same. no_gate (file_line e j) (inr (j, below, refl)) (sym same)))) (lines.file_sent j below);
+                slot_sent = λ j below. subst IsCleanCell (sym (cache_away (op_at t at.SendGate) m gate_line (slot_line p n j) refl (λ same. no_gate (slot_line p n j) (inl (j, below, refl)) (sym same)))) (lines.slot_sent j below);
+              },
+          cell_at-with_cell_same gate_line (asked_for (cell_at m.cache gate_line)) m.cache ∙ ap asked_for gate.1,
+        )
+    writes_on at.FenceGate floor a gate is = absurd (cc)
     writes_on at.DropMagic floor a gate is = absurd gate
     writes_on at.Magic floor a gate is = absurd gate
     writes_on (at.Drop part j) floor a gate is = absurd gate
@@ -200,21 +223,15 @@ module _ (cmd : Cmd) (image : Image) (p : Params) (n : ℕ) (e : Entry) (sound :
 
     -- The last operation.
 
-    gate_sent : (words : List ℕ) (c : Cell) → c ≡ Dirty words → sent (line_at m.image gate_line) c ≡ words
-    gate_sent words c is = ap (sent (line_at m.image gate_line)) is
-
-    pub all_written : length m.image ≡ length image → gate_line < length m.image → GateAt at.SendGate cmd image p n e m → IsAppended p n e (fill (content_of cmd) e.size) image (operated (WriteBack (line_no gate_line)) m).image
+    pub all_written : length m.image ≡ length image → gate_line < length m.image → GateAt at.FenceGate cmd image p n e m → IsAppended p n e (fill (content_of cmd) e.size) image (operated Fence m).image
     all_written count inside gate = record {
-      count = length-with_line m.image gate_line (sent (line_at m.image gate_line) (cell_at m.cache gate_line)) ∙ count;
-      file = λ j below.
-          memory_away (WriteBack (line_no gate_line)) m gate_line (file_line e j) refl (λ same. no_gate (file_line e j) (inr (j, below, refl)) (sym same)) ∙ gate.0.file j below;
-      slot = λ j below.
-          memory_away (WriteBack (line_no gate_line)) m gate_line (slot_line p n j) refl (λ same. no_gate (slot_line p n j) (inl (j, below, refl)) (sym same)) ∙ gate.0.slot j below;
-      gate = line_at-with_line m.image gate_line (sent (line_at m.image gate_line) (cell_at m.cache gate_line)) inside
-          ∙ ap eight (gate_sent (slice_set (line_at image gate_line) 0 (n + 1)) (cell_at m.cache gate_line) gate.1);
+      count = operated_length Fence m ∙ count;
+      file = λ j below. (fence_away m (file_line e j) (clean_unasked (cell_at m.cache (file_line e j)) (gate.0.file_sent j below))).0 ∙ gate.0.file j below;
+      slot = λ j below. (fence_away m (slot_line p n j) (clean_unasked (cell_at m.cache (slot_line p n j)) (gate.0.slot_sent j below))).0 ∙ gate.0.slot j below;
+      gate = (fence_here m gate_line (slice_set (line_at image gate_line) 0 (n + 1)) inside gate.1).1;
       others = λ l other off_slot off_file.
-          memory_away (WriteBack (line_no gate_line)) m gate_line l refl other
-          ∙ (others l (λ line. none_of l off_slot off_file line) other).0;
+          let was = others l (λ line. none_of l off_slot off_file line) other in
+          (fence_away m l (clean_unasked (cell_at m.cache l) was.1)).0 ∙ was.0;
     }
       where
         none_of : (l : ℕ) → ((j : ℕ) → j < (geometry p).lines → l ≢ slot_line p n j) → ((j : ℕ) → line_bytes * j < e.size → l ≢ file_line e j) → IsEntryLine p n e l → ⊥
@@ -237,19 +254,21 @@ module _ (cmd : Cmd) (image : Image) (p : Params) (n : ℕ) (e : Entry) (sound :
         of_neither l off_slot off_file (inl line) = off_slot line.0 line.1 line.2
         of_neither l off_slot off_file (inr line) = off_file line.0 line.1 line.2
 
-    pub all_sent : GateAt at.SendGate cmd image p n e m → IsClean (operated (WriteBack (line_no gate_line)) m).cache
-    all_sent gate l =
+    pub all_sent : gate_line < length m.image → GateAt at.FenceGate cmd image p n e m → IsClean (operated Fence m).cache
+    all_sent inside gate l =
         elim (cases_eq l gate_line) [
           | inl here ↦
-              let copy : cell_at (operated (WriteBack (line_no gate_line)) m).cache l ≡ Clean (slice_set (line_at image gate_line) 0 (n + 1)) =
-              ap (cell_at (operated (WriteBack (line_no gate_line)) m).cache) here ∙ cell_at-with_cell_same gate_line (cleaned (cell_at m.cache gate_line)) m.cache ∙ ap cleaned gate.1 in
+              let copy : cell_at (operated Fence m).cache l ≡ Clean (slice_set (line_at image gate_line) 0 (n + 1)) =
+              ap (cell_at (operated Fence m).cache) here ∙ (fence_here m gate_line (slice_set (line_at image gate_line) 0 (n + 1)) inside gate.1).0 in
               subst IsCleanCell (sym copy) refl
-          | inr other ↦ subst IsCleanCell (sym (cache_away (WriteBack (line_no gate_line)) m gate_line l refl other)) (elsewhere gate.0 l other)
+          | inr other ↦ let was = elsewhere gate.0 l other in subst IsCleanCell (sym (fence_away m l (clean_unasked (cell_at m.cache l) was)).1) was
         ]
 
     -- it ends there
-    pub ends_there : (pl : Phase) (given : Reply) → GateAt pl cmd image p n e m → turn_at pl t word ≡ Ends given → (pl ≡ at.SendGate) × (given ≡ Appended t.gate)
-    ends_there at.SendGate given gate is = (refl, cc)
+    pub ends_there : (pl : Phase) (given : Reply) → GateAt pl cmd image p n e m → turn_at pl t word ≡ Ends given → (pl ≡ at.FenceGate) × (given ≡ Appended t.gate)
+    ends_there at.FenceGate given gate is = (refl, cc)
+    ends_there at.FenceSlot given gate is = absurd (cc)
+    ends_there at.SendGate given gate is = absurd (cc)
     ends_there (at.StoreData j k) given gate is = absurd (cc)
     ends_there (at.SendData j) given gate is = absurd (cc)
     ends_there (at.StoreSlot j k) given gate is = absurd (cc)

@@ -7,7 +7,7 @@ ghost use Rattle.fam_base.specs.Image.{Image, eight};
 ghost use Rattle.fam_format.specs.Layout.{device_limit, least_lines};
 ghost use Rattle.fam_machine.specs.Caches.{Cache, IsClean};
 ghost use Rattle.fam_commands.specs.Counts.{steps_of};
-ghost use Rattle.fam_machine.specs.Operations.{Failure, Machine, failed, given, operated, IsInImage};
+ghost use Rattle.fam_machine.specs.Operations.{Breaking, Failure, Machine, failed, given, operated, IsInImage};
 ghost use Rattle.fam_commands.specs.Solo.{SoloRun, Stand, image_turn, image_word, notes_up_to, stand_after, turn_on};
 ghost use Rattle.fam_commands.specs.Stands.{StandsFor, with_given};
 ghost use Rattle.fam_commands.specs.Task.{Task, op_of};
@@ -31,19 +31,19 @@ pub fn a_solo_command_answers_by_the_image()
     ensures reply { (image : Image) (me : List ℕ) (cmd : Cmd) (cache : Cache) (t : Task) (words : List ℕ)
         (made : ℕ) (m : Machine) (reply : Reply) → least_lines ≤ length image → line_bytes * length image ≤ device_limit
         → map eight image ≡ image → IsClean cache → IsCommand cmd → SoloRun cmd me image cache t words made m
-        → IsInImage (op_of t) m.image → turn_on t m ≡ Ends reply → reply ≡ solo_reply image me cmd }
+        → IsInImage (op_of t) m → turn_on t m ≡ Ends reply → reply ≡ solo_reply image me cmd }
     ensures left { (image : Image) (me : List ℕ) (cmd : Cmd) (cache : Cache) (t : Task) (words : List ℕ) (made : ℕ)
         (m : Machine) (reply : Reply) → least_lines ≤ length image → line_bytes * length image ≤ device_limit
         → map eight image ≡ image → IsClean cache → IsCommand cmd → SoloRun cmd me image cache t words made m
-        → IsInImage (op_of t) m.image → turn_on t m ≡ Ends reply → (operated (op_of t) m).image ≡ solo_image image me cmd }
+        → IsInImage (op_of t) m → turn_on t m ≡ Ends reply → (operated (op_of t) m).image ≡ solo_image image me cmd }
     ensures sent { (image : Image) (me : List ℕ) (cmd : Cmd) (cache : Cache) (t : Task) (words : List ℕ) (made : ℕ)
         (m : Machine) (reply : Reply) → least_lines ≤ length image → line_bytes * length image ≤ device_limit
         → map eight image ≡ image → IsClean cache → IsCommand cmd → SoloRun cmd me image cache t words made m
-        → IsInImage (op_of t) m.image → turn_on t m ≡ Ends reply → IsClean (operated (op_of t) m).cache }
+        → IsInImage (op_of t) m → turn_on t m ≡ Ends reply → IsClean (operated (op_of t) m).cache }
     ensures settled { (image : Image) (me : List ℕ) (cmd : Cmd) (cache : Cache) (t : Task) (words : List ℕ)
         (made : ℕ) (m : Machine) (reply : Reply) → least_lines ≤ length image → line_bytes * length image ≤ device_limit
         → map eight image ≡ image → IsClean cache → IsCommand cmd → (ran : SoloRun cmd me image cache t words made m)
-        → IsInImage (op_of t) m.image → turn_on t m ≡ Ends reply
+        → IsInImage (op_of t) m → turn_on t m ≡ Ends reply
         → turn_settles (Ends reply) (settles_up_to cmd me image cache t words made m ran (settled_at_first image))
         ≡ settled_at_first (operated (op_of t) m).image }
 {}
@@ -78,7 +78,7 @@ pub fn a_reader_leaves_the_image()
         → m.image ≡ image }
     ensures failure { (image : Image) (me : List ℕ) (cmd : Cmd) (cache : Cache) (t : Task) (words : List ℕ)
         (made : ℕ) (m : Machine)
-        (through : ℕ) (failure : Failure) → map eight image ≡ image → IsClean cache → wish_of cmd ≡ None
+        (through : Breaking) (failure : Failure) → map eight image ≡ image → IsClean cache → wish_of cmd ≡ None
         → SoloRun cmd me image cache t words made m → failed through (op_of t) m ≡ Some failure
         → failure.left.image ≡ image }
 {}
@@ -92,7 +92,7 @@ pub fn an_append_leaves_the_image_up_to_its_first_store()
         → m.image ≡ image }
     ensures failure { (image : Image) (me : List ℕ) (cmd : Cmd) (cache : Cache) (t : Task) (words : List ℕ)
         (made : ℕ) (m : Machine)
-        (through : ℕ) (failure : Failure) → map eight image ≡ image → IsClean cache → SoloRun cmd me image cache t words made m
+        (through : Breaking) (failure : Failure) → map eight image ≡ image → IsClean cache → SoloRun cmd me image cache t words made m
         → IsBeforeWrites t.phase → failed through (op_of t) m ≡ Some failure
         → failure.left.image ≡ image }
 {}
@@ -102,8 +102,8 @@ pub fn an_append_leaves_the_image_up_to_its_first_store()
 pub fn the_operations_of_a_solo_command_are_counted()
     ensures stands { (image : Image) (me : List ℕ) (cmd : Cmd) (cache : Cache) (t : Task) (words : List ℕ)
         (made : ℕ) (m : Machine) →
-        SoloRun cmd me image cache t words made m → StandsFor cmd me (length image) t words made }
+        SoloRun cmd me image cache t words made m → StandsFor None cmd me (length image) t words made }
     ensures count { (image : Image) (me : List ℕ) (cmd : Cmd) (cache : Cache) (t : Task) (words : List ℕ)
         (made : ℕ) (m : Machine) (reply : Reply) → SoloRun cmd me image cache t words made m → turn_on t m ≡ Ends reply
-        → made + 1 ≡ steps_of t.first_slot cmd (length image) (with_given words (given (op_of t) m)) reply }
+        → made + 1 ≡ steps_of None cmd (length image) (with_given words (given (op_of t) m)) reply }
 {}

@@ -4,6 +4,7 @@ pub mod Compared
 mod EightWords
 pub mod FileLines
 pub mod Phases
+pub mod GateTurns
 pub mod FileTurns
 pub mod Rest
 pub mod WholeLine

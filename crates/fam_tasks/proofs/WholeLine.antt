@@ -46,7 +46,7 @@ drop_sound t j phase sound =
       least = sound.least;
       most = sound.most;
       stands = (record { line = same_wanted t j (at.Word File j 0) t.words stands.0.line; few = stands.0.few }, omega arith, omega (arith, stands.1));
-      first = sound.first;
+      nothing = sound.nothing;
     }
 
 word_sound : (t : Task) (j k : ℕ) (words : List ℕ) → k < 7 → t.phase ≡ at.Word File j k → IsSound t → IsSound (behind j k words t)
@@ -61,7 +61,7 @@ word_sound t j k words small phase sound =
         omega (arith, small),
         omega (arith, stands.2, length-append t.words (slice_index words k ∷ [])),
       );
-      first = sound.first;
+      nothing = sound.nothing;
     }
 
 word_turn_goes : (t : Task) (j k : ℕ) (words : List ℕ) → k < 7 → t.phase ≡ at.Word File j k → turn_of t (Some (slice_index words k)) ≡ Goes (behind j k words t)

@@ -65,7 +65,9 @@ IsHeldAt (at.SendData j) t = HoldsLine j t
 IsHeldAt (at.StoreSlot j k) t = ⊤
 IsHeldAt (at.SendSlot j) t = ⊤
 IsHeldAt at.StoreGate t = ⊤
+IsHeldAt at.FenceSlot t = ⊤
 IsHeldAt at.SendGate t = ⊤
+IsHeldAt at.FenceGate t = ⊤
 
 -- every task is sound, and its parts hang together
 pub record IsTask (t : Inside) : Type 0 where

@@ -1,4 +1,5 @@
 -- What a contract sees of a task.
+use Rattle.std.specs.Prelude.{None}
 use Rattle.fam_commands.specs.Task.{Task}
 use Rattle.fam_tasks.specs.declared.task.Task.TheInside.{Inside}
 use Rattle.fam_tasks.specs.Slots.{entries_in, survey_in}
@@ -11,7 +12,7 @@ task_of t = record {
   lines = t.lines;
   phase = t.phase;
   params = t.params;
-  first_slot = t.first_slot;
+  kept = None;
   gate = t.gate;
   entries = entries_in t.plan;
   words = t.buffer;

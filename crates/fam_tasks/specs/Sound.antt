@@ -11,7 +11,7 @@ use Rattle.fam_commands.specs.declared.phase.Part.{Part}
 use Rattle.fam_commands.specs.declared.phase.Part.TheVariants.{Superblock, Header, Slot, File}
 use Rattle.fam_commands.specs.declared.phase.Phase.{Phase}
 use Rattle.fam_commands.specs.declared.phase.Phase.TheVariants as at
-use Rattle.fam_commands.specs.Task.{Task, first_line, size_of, start_slot, wanted_lines}
+use Rattle.fam_commands.specs.Task.{Task, first_line, size_of, wanted_lines}
 use Rattle.fam_tasks.specs.Commands.{kept_of_file, slots_told, LooksAtFile}
 
 -- the most lines of an image: 1 TiB
@@ -91,12 +91,14 @@ IsSoundAt (at.SendData j) t = HasSpelledSlot t × IsFileLine j t
 IsSoundAt (at.StoreSlot j k) t = HasSpelledSlot t × (j < (geometry t.params).lines) × (k < line_words)
 IsSoundAt (at.SendSlot j) t = HasSpelledSlot t × (j < (geometry t.params).lines)
 IsSoundAt at.StoreGate t = HasSpelledSlot t
+IsSoundAt at.FenceSlot t = HasSpelledSlot t
 IsSoundAt at.SendGate t = ⊤
+IsSoundAt at.FenceGate t = ⊤
 
--- a task of such a command, on an image with a gate, that reads the slots from the start on
+-- a task of such a command, on an image with a gate, whose host keeps nothing
 pub record IsSound (t : Task) : Type 0 where
   pub command : IsSoundCmd t.cmd
   pub least : least_lines ≤ t.lines
   pub most : t.lines ≤ most_lines
   pub stands : IsSoundAt t.phase t
-  pub first : t.first_slot ≡ start_slot
+  pub nothing : t.kept ≡ None

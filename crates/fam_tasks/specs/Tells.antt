@@ -6,7 +6,7 @@ use Rattle.fam_format.specs.declared.faults.Reason.{Reason}
 use Rattle.fam_rules.specs.declared.answers.Refused.TheVariants.{NoSpace}
 use Rattle.fam_rules.specs.Reply.{NotAppended, Reply}
 use Rattle.fam_machine.specs.declared.op.Op.{Op}
-use Rattle.fam_machine.specs.declared.op.Op.TheVariants.{Load, Store, WriteBack, Invalidate, Digest}
+use Rattle.fam_machine.specs.declared.op.Op.TheVariants.{Load, Store, WriteBack, Fence, Invalidate, Digest}
 use Rattle.fam_commands.specs.declared.phase.Part.{Part}
 use Rattle.fam_commands.specs.declared.phase.Part.TheVariants as part
 use Rattle.fam_commands.specs.declared.phase.Phase.{Phase}
@@ -56,6 +56,7 @@ abbrev pub is_digest : Op → Bool
 is_digest (Load line word) = false
 is_digest (Store line word value) = false
 is_digest (WriteBack line) = false
+is_digest Fence = false
 is_digest (Invalidate line) = false
 is_digest Digest = true
 
@@ -81,7 +82,9 @@ is_reading (at.SendData j) = true
 is_reading (at.StoreSlot j k) = true
 is_reading (at.SendSlot j) = true
 is_reading at.StoreGate = true
+is_reading at.FenceSlot = false
 is_reading at.SendGate = false
+is_reading at.FenceGate = false
 
 -- the answer of a file that was compared to its end
 abbrev pub answer_by : Verified → Answer

@@ -56,7 +56,6 @@ pub struct Task {
     lines: u64,
     phase: Phase,
     params: Params,
-    first_slot: u64,
     gate: u64,
     /// What is kept from the host's earlier commands, and for later ones.
     kept: Kept,
@@ -88,9 +87,9 @@ impl Model for Task {
 /// The task is done: it stands in the last phase from here on.
 fn done(phase: &mut Phase, answer: Answer) -> Turn
     ensures turn { result ≡ Done answer }
-    ensures last { phase.new ≡ at.SendGate }
+    ensures last { phase.new ≡ at.FenceGate }
 {
-    *phase = Phase::SendGate;
+    *phase = Phase::FenceGate;
     Turn::Done(answer)
 }
 
@@ -132,7 +131,6 @@ impl Task {
                 fs: none,
                 master: none,
             },
-            first_slot: 0,
             gate: 0,
             kept: Kept {
                 replica: None,
@@ -189,6 +187,7 @@ impl Task {
             Phase::SendData { line } => Op::Invalidate(self.file_line(line)),
             Phase::StoreSlot { line, word } => self.slot_store(line, word),
             Phase::SendSlot { line } => Op::WriteBack(line_of_slot(&self.params, self.gate, line)),
+            Phase::FenceSlot | Phase::FenceGate => Op::Fence,
             Phase::StoreGate => Op::Store(LineNo(GATE_LINE), 0, self.gate + 1),
             Phase::SendGate => Op::WriteBack(LineNo(GATE_LINE)),
         }
@@ -218,8 +217,10 @@ impl Task {
             Phase::SendData { line } => self.send_data(line),
             Phase::StoreSlot { line, word: k } => self.store_slot(line, k),
             Phase::SendSlot { line } => self.send_slot(line),
+            Phase::FenceSlot => self.fence_slot(),
             Phase::StoreGate => self.store_gate(),
-            Phase::SendGate => Turn::Done(Answer::Ok(self.gate)),
+            Phase::SendGate => self.send_gate(),
+            Phase::FenceGate => Turn::Done(Answer::Ok(self.gate)),
         }
     }
 
@@ -289,8 +290,10 @@ impl Task {
             | Phase::SendData { .. }
             | Phase::StoreSlot { .. }
             | Phase::SendSlot { .. }
+            | Phase::FenceSlot
             | Phase::StoreGate
-            | Phase::SendGate => unreachable!(),
+            | Phase::SendGate
+            | Phase::FenceGate => unreachable!(),
         }
     }
 

@@ -55,9 +55,11 @@ late_turn at.Decide t word late = absurd late
 late_turn (at.StoreData j k) t word late = either (nat_lt k 7) (at.StoreData j (k + 1)) (at.SendData j) tt tt
 late_turn (at.SendData j) t word late = either (nat_lt (j + 1) (lines_of (size_of t.entry))) (at.StoreData (j + 1) 0) (at.StoreSlot 0 0) tt tt
 late_turn (at.StoreSlot j k) t word late = either (nat_lt k 7) (at.StoreSlot j (k + 1)) (at.SendSlot j) tt tt
-late_turn (at.SendSlot j) t word late = either (nat_lt (j + 1) (geometry t.params).lines) (at.StoreSlot (j + 1) 0) at.StoreGate tt tt
+late_turn (at.SendSlot j) t word late = either (nat_lt (j + 1) (geometry t.params).lines) (at.StoreSlot (j + 1) 0) at.FenceSlot tt tt
 late_turn at.StoreGate t word late = tt
+late_turn at.FenceSlot t word late = tt
 late_turn at.SendGate t word late = tt
+late_turn at.FenceGate t word late = tt
 
 -- who names its entry writes next
 abbrev pub WritesLate : Turn → Type 0
@@ -187,4 +189,6 @@ writes_turn (at.SendData j) t word = tt
 writes_turn (at.StoreSlot j k) t word = tt
 writes_turn (at.SendSlot j) t word = tt
 writes_turn at.StoreGate t word = tt
+writes_turn at.FenceSlot t word = tt
 writes_turn at.SendGate t word = tt
+writes_turn at.FenceGate t word = tt

@@ -96,7 +96,7 @@ module _ (start : Image) (s : Machines) (journal : List Note) (kept : Kept start
   owner id = record { host = index_of (has id) kept.views; is = owner_is id; only = owner_only id }
 
   at_rest : invariant.Rests hosts (shared_of s.memory kept.views)
-  at_rest = record { declared = kept.held.invariant.declared; owner = owner; idle = idle; clean = clean }
+  at_rest = record { declared = kept.held.invariant.declared; owner = owner; idle = idle; bare = λ h. refl; clean = clean }
 
   lines : length s.memory ≡ length start
   lines = kept.held.lines

@@ -13,9 +13,9 @@ use Rattle.fam_machine.specs.Operations.{Machine, given, operated, IsInImage}
 use Rattle.fam_commands.specs.Solo.{SoloRun, goes, notes_up_to, noted, starts, turn_on}
 use Rattle.fam_commands.specs.Stands.{StandsFor, note_of, task_after, with_given}
 use Rattle.fam_commands.specs.Table.{Row, table}
-use Rattle.fam_commands.specs.Task.{Task, op_of, starting, start_slot}
+use Rattle.fam_commands.specs.Task.{Task, op_of, starting}
 use Rattle.fam_commands.specs.Turns.{Turn, Goes, Marks, Finds, Writes, Ends}
-use Rattle.fam_commands.proofs.Steps.Standing.{operation_from_start, standing_tied}
+use Rattle.fam_commands.proofs.Steps.Standing.{operation_from_start, bare_tied}
 use Rattle.fam_solo.proofs.Machine.{ran_length, ran_stands, same_turn}
 use Rattle.fam_rules.specs.Solo.{content_of}
 use Rattle.fam_rules.specs.Asks.{File, entries_of}
@@ -24,14 +24,15 @@ use Rattle.fam_rules.specs.Decide.{decide}
 use Rattle.fam_rules.specs.Reply.{Reply}
 use Rattle.fam_journal.specs.Calls.{DoesOperations, busy_at, is_busy_host}
 use Rattle.fam_journal.specs.Ends.{IsFaultless}
-use Rattle.fam_journal.specs.View.{TaskStands}
-use Rattle.fam_journal.specs.Kept.{IfRuns, Kept, TaskTold, hosts_of, run_at, run_of, run_with, shared_of, settled_of}
+use Rattle.fam_journal.specs.View.{TaskStands, HostView}
+use Rattle.fam_journal.specs.Kept.{IfRuns, Kept, TaskTold, hosts_of, run_at, run_of, run_with, shared_of, settled_of, copy_at}
 use Rattle.fam_journal.specs.Legal.{AnswerAllowed, LegalBehind, OfHost, WritesAllowed}
 use Rattle.fam_journal.specs.Machines as machine
 use Rattle.fam_journal.specs.Machines.{Done, HostState, Machines, Operation, Passes, TaskState, notes_of, operation, task_on, with_machine}
 use Rattle.fam_journal.specs.Notes.{Note, Answered, Mark, Found, Writes as NoteWrites, Replied}
 use Rattle.fam_journal.specs.Past.{HostPast, Past, State, Bad, Sound, cmd_of, filled_bytes, finds, first_past, past_behind, past_of, pends}
 use Rattle.fam_journal.proofs.Runs.Following.{operation_kept}
+use Rattle.fam_machine.specs.Caches.{Cache, cell_at}
 use Rattle.fam_protocol.proofs.Hosts.Inside.{asks_inside}
 use Rattle.fam_journal.proofs.Settled.Journals.{legal_rest, past_both}
 use Rattle.fam_journal.proofs.Calls.Members.{changed_at_member}
@@ -84,7 +85,7 @@ module _ (start : Image) (h : ℕ) (base : Machines) (host : HostState) (host_is
     count : length m.image ≡ length image
     count = ran_length cmd me image host.cache t words made m ran
 
-    standing : StandsFor cmd me (length image) t words made
+    standing : StandsFor None cmd me (length image) t words made
     standing = ran_stands cmd me image host.cache t words made m ran
 
     row_is : operation Passes h (at m (Some s)) ≡ Some (record { notes = notes_of h (note_of turn); left = at after (machine.task_behind (note_of turn) (task_on s (given (op_of t) m))) })
@@ -99,7 +100,7 @@ module _ (start : Image) (h : ℕ) (base : Machines) (host : HostState) (host_is
       told_is : slice_get (past_of start j).hosts h ≡ Some told
       cmd_is : told.cmd ≡ Some cmd
       uuid_is : told.uuid ≡ me
-      inside : IsInImage (op_of t) m.image
+      inside : IsInImage (op_of t) m
 
     now_of : (j : List Note) (kept : Kept start (at m (Some s)) j) → Declared start (at m (Some s)) (record { hosts = kept.views; journal = j }) h → Now j
     now_of j kept d = by_task d.view.task refl
@@ -116,21 +117,22 @@ module _ (start : Image) (h : ℕ) (base : Machines) (host : HostState) (host_is
         by_task : (o : Option Task) → d.view.task ≡ o → Now j
         by_task None none = absurd (stands None none)
         by_task (Some z) runs =
-            let other : StandsFor cmd me (length start) z words made = stands (Some z) runs in
+            let other : StandsFor None cmd me (length start) z words made = stands (Some z) runs in
             let told_task : TaskTold z d.told = subst (λ (o : Option Task). IfRuns o d.told) runs d.host_told.task in
             let ops : op_of z ≡ op_of t =
             same_Some (op_of z) (op_of t)
             (sym (operation_from_start cmd me (length start) z words made other)
-            ∙ ap (λ (n : ℕ). option_map (λ (r : Row). r.op) (slice_get (table start_slot cmd me n words) made)) (sym lines)
+            ∙ ap (λ (n : ℕ). option_map (λ (r : Row). r.op) (slice_get (table None cmd me n words) made)) (sym lines)
             ∙ operation_from_start cmd me (length image) t words made standing) in
             record {
               told = d.told;
               told_is = d.told_is;
-              cmd_is = told_task.cmd ∙ ap Some (standing_tied cmd me (length start) z words made other).cmd_is;
+              cmd_is = told_task.cmd ∙ ap Some (bare_tied cmd me (length start) z words made other).cmd_is;
               uuid_is = d.host_told.uuid ∙ sym d.stands.uuid ∙ ap (λ (y : HostState). y.uuid) same;
-              inside = subst (λ (op : Op). IsInImage op m.image) ops
+              inside = subst (λ (op : Op). IsInImage op m) ops
                   (asks_inside (settled_of (past_of start j).state) (length start) (hosts_of kept.views (past_of start j).hosts) (shared_of m.image kept.views) kept.held.limit kept.held.invariant.stage h (run_of z d.told)
-                  (ap₂ run_at d.view_is d.told_is ∙ ap (λ (o : Option Task). run_with o (Some d.told)) runs) m.image kept.held.lines);
+                  (ap₂ run_at d.view_is d.told_is ∙ ap (λ (o : Option Task). run_with o (Some d.told)) runs) m
+                  record { memory = λ l. refl; copies = λ l. ap (λ (o : Option HostView). copy_at o l) d.view_is ∙ ap (λ (c : Cache). cell_at c l) (sym d.stands.cache ∙ ap (λ (y : HostState). y.cache) same) } kept.held.lines);
             }
 
     now : (j : List Note) → Kept start (at m (Some s)) j → Now j
@@ -170,7 +172,7 @@ module _ (start : Image) (h : ℕ) (base : Machines) (host : HostState) (host_is
     pub made : ℕ
     pub m : Machine
     pub ran : SoloRun cmd me image host.cache t words made m
-    pub inside : IsInImage (op_of t) m.image
+    pub inside : IsInImage (op_of t) m
     pub reply : Reply
     pub ends : turn_on t m ≡ Ends reply
     pub state_is : state ≡ at (operated (op_of t) m) None

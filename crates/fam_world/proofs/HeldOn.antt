@@ -1,13 +1,16 @@
 -- Operations of a host's task on a line that it holds, one behind another.
-use Rattle.std.proofs.Common.{◌≡◌, ℕ, ◌<◌, ◌≤◌, List, length, Option, Some, true, set, ap, ap₂, sym, subst, ◌∙◌, arith}
+use Rattle.std.proofs.Common.{◌≡◌, ℕ, ◌⊎◌, inl, inr, ◌<◌, ◌≤◌, List, length, Option, Some, None, true, set, ap, ap₂, sym, subst, ◌∙◌, arith}
 use Rattle.std.specs.Prelude.{IfSome, is_some, slice_get}
 use Rattle.fam_base.specs.Image.{Image, IsNormal}
-use Rattle.fam_machine.specs.Caches.{Cache}
-use Rattle.fam_commands.specs.Task.{Task}
+use Rattle.fam_machine.specs.Caches.{Cache, cell_at}
+use Rattle.fam_machine.specs.OneLine.{IsHeld}
+use Rattle.fam_machine.specs.Operations.{IsWithin}
+use Rattle.fam_commands.specs.Task.{Task, op_of}
 use Rattle.fam_media.specs.Outside.{IfModelled}
+use Rattle.fam_run.specs.Held as run
 use Rattle.fam_run.specs.Held.{HeldRun}
 use Rattle.fam_run.specs.Led.{none}
-use Rattle.fam_run.proofs.Held.{held_left, held_lines}
+use Rattle.fam_run.proofs.Held.{held_leaves, held_left, held_lines}
 use Rattle.fam_run.proofs.Stored.{held_led}
 use Rattle.fam_run.proofs.Left.{left}
 use Rattle.fam_tasks.specs.Sound.{IsSound}
@@ -15,13 +18,14 @@ use Rattle.fam_journal.specs.ByWorld.{number_in}
 use Rattle.fam_journal.specs.CallRecords.{TaskFits, heading}
 use Rattle.fam_journal.specs.View.{HostView, WorldView}
 use Rattle.fam_world.specs.Finishes.{SoFar}
+use Rattle.fam_world.specs.OnTask.{CacheFits}
 use Rattle.fam_notes.specs.declared.note.Note.{Note as Kept}
 use Rattle.fam_world.specs.View.{host_view, notes_view, views, world_view}
 use Rattle.fam_world.specs.declared.hosts.Host.{Host}
 use Rattle.fam_world.proofs.Finishing.{left_host, left_running, view_set}
 use Rattle.fam_world.proofs.LedOn.{far_led, host_held, world_held}
 use Rattle.fam_world.proofs.Members.{map_at, map_set}
-use Rattle.fam_world.proofs.Saying.{some_of}
+use Rattle.fam_world.proofs.Saying.{lines_held, some_of}
 
 module _ (name : List ℕ) (at lines : ℕ) (old : WorldView) (told_old : Option Image) (faults_old : ℕ) (number_old : number_in name old ≡ Some at) (told : Option Image) (faults : ℕ) (normal : IsNormal told) (modelled : IfModelled told (λ image. length image ≡ lines)) (cur : WorldView) (far : SoFar at lines old told_old faults_old cur told faults) (view : HostView) (view_is : slice_get cur.hosts at ≡ Some view) (within : at < length cur.hosts) where
   pub far_held : (t next : Task) (held after : Cache) {n : ℕ} → HeldRun t held next after n → view.task ≡ Some t → view.cache ≡ held → t.lines ≡ lines → SoFar at lines old told_old faults_old (world_held at view cur next after) told faults
@@ -74,6 +78,20 @@ pub held_fits : (x z : Host) (n : ℕ) → HeldHost x z n → (lines : ℕ) → 
 held_fits x z n h lines fits =
     let was : h.old.lines ≡ lines = subst (TaskFits lines) h.old_is fits in
     subst (TaskFits lines) (sym h.new_is) (held_lines h.old h.new x.cache.lines z.cache.lines h.run ∙ was)
+
+-- and its lines are still those of the media
+run_below : (t next : Task) (held after : Cache) {n : ℕ} (lines : ℕ) → HeldRun t held next after n → t.lines ≡ lines → ((l : ℕ) → IsHeld (cell_at held l) → l < lines) → (l : ℕ) → IsHeld (cell_at after l) → l < lines
+run_below t _ held _ lines run.none fits below = below
+run_below t next held after lines (run.more {mid = mid} {now = now} before sound within of is turn) fits below l is_held =
+    by (lines_held (op_of mid) lines None now after (subst (λ (n : ℕ). IsWithin n (op_of mid)) (held_lines t mid held now before ∙ fits) within) (held_leaves (op_of mid) None now after of is) l is_held)
+  where
+    by : (l < lines) ⊎ IsHeld (cell_at now l) → l < lines
+    by (inl less) = less
+    by (inr was) = run_below t mid held now lines before fits below l was
+
+pub held_cached : (x z : Host) (n : ℕ) → HeldHost x z n → (lines : ℕ) → TaskFits lines x.task → CacheFits lines x.cache → CacheFits lines z.cache
+held_cached x z n h lines fits was =
+    record { below = run_below h.old h.new x.cache.lines z.cache.lines lines h.run (subst (TaskFits lines) h.old_is fits) was.below }
 
 pub falls_on : (a b c : ℕ) → a < b → c ≤ a → c < b
 falls_on a b c fell near = omega (arith, fell, near)

@@ -8,8 +8,8 @@ use Rattle.fam_base.specs.Image.{Image, line_at}
 use Rattle.fam_media.specs.Causes.{Rose}
 use Rattle.fam_media.specs.Outside.{IfModelled}
 use Rattle.fam_machine.specs.declared.op.Op.{Op}
-use Rattle.fam_machine.specs.declared.op.Op.TheVariants.{Load, Store, WriteBack, Invalidate, Digest}
-use Rattle.fam_machine.specs.Caches.{Cache, cell_at}
+use Rattle.fam_machine.specs.declared.op.Op.TheVariants.{Load, Store, WriteBack, Fence, Invalidate, Digest}
+use Rattle.fam_machine.specs.Caches.{Cache, asked_lines, cell_at}
 use Rattle.fam_machine.specs.Cuts.{HasFailed, IsMachine}
 use Rattle.fam_machine.specs.OneLine.{IsHeld, brought, words_of}
 use Rattle.fam_machine.specs.Operations.{IsWithin, Machine, given, given_by, machine, operated}
@@ -18,7 +18,7 @@ use Rattle.fam_cache.specs.declared.fault.OperationFault.{OperationFault}
 use Rattle.fam_cache.specs.declared.fault.OperationFault.TheVariants as operation_fault
 use Rattle.fam_cache.specs.Faults.{IfMediaFault}
 use Rattle.fam_cache.specs.Operations.{LeavesCache, word_of}
-use Rattle.fam_cache.proofs.Performed.{others_left}
+use Rattle.fam_cache.proofs.Performed.{cleaned_held, others_left}
 use Rattle.fam_cache.proofs.StoreLemmas.{brought_words}
 use Rattle.fam_commands.specs.Stands.{note_of, task_after, turn_given}
 use Rattle.fam_commands.specs.Task.{Task, op_of}
@@ -44,9 +44,10 @@ use Rattle.fam_journal.specs.Ends.{is_answer_note}
 use Rattle.fam_journal.specs.Machines.{notes_of}
 use Rattle.fam_journal.specs.Notes.{Answered, MediaFault, Note, Refused, Replied}
 use Rattle.fam_journal.specs.Notes as journal
-use Rattle.fam_world.specs.OnTask.{IsBroken, IsTurned, OnTask}
-use Rattle.fam_world.specs.Steps.{Around, IsStep}
+use Rattle.fam_world.specs.OnTask.{CacheFits, IsBroken, IsTurned, OnTask}
+use Rattle.fam_world.specs.Steps.{Around, IsCut, IsServed, IsStep}
 use Rattle.fam_world.specs.Turns.{is_done, kept_by, turn_notes}
+use Rattle.fam_world.specs.declared.hosts.Host.{Host}
 
 -- Words.
 
@@ -55,6 +56,7 @@ given_again : (op : Op) (c : Cache) → given_by op (unwrap_or (word_of op c) 0)
 given_again (Load line k) c = refl
 given_again (Store line k value) c = refl
 given_again (WriteBack line) c = refl
+given_again Fence c = refl
 given_again (Invalidate line) c = refl
 given_again Digest c = refl
 
@@ -65,6 +67,7 @@ word_is (Load line k) m =
     (ap words_of (cell_at-with_cell_same line.0 (brought (line_at m.image line.0) (cell_at m.cache line.0)) m.cache) ∙ brought_words (line_at m.image line.0) (cell_at m.cache line.0))
 word_is (Store line k value) m = refl
 word_is (WriteBack line) m = refl
+word_is Fence m = refl
 word_is (Invalidate line) m = refl
 word_is Digest m = refl
 
@@ -83,13 +86,15 @@ not_same line l ne e = ne (sym (ap (λ (o : Option LineNo). unwrap_or (option_ma
 -- an operation brings its own line at most
 pub lines_held : (op : Op) (lines : ℕ) (told : Option Image) (old new : Cache) → IsWithin lines op → LeavesCache op told old new → (l : ℕ) → IsHeld (cell_at new l) → (l < lines) ⊎ IsHeld (cell_at old l)
 lines_held (Load line k) lines told old new within leaves l held =
-    at_line line lines l _ within.0 (λ ne. subst IsHeld (others_left (Load line k) told old new leaves l (not_same line l ne)) held)
+    at_line line lines l _ within.0 (λ ne. subst IsHeld (others_left (Load line k) told old new leaves tt l (not_same line l ne)) held)
 lines_held (Store line k value) lines told old new within leaves l held =
-    at_line line lines l _ within.0 (λ ne. subst IsHeld (others_left (Store line k value) told old new leaves l (not_same line l ne)) held)
+    at_line line lines l _ within.0 (λ ne. subst IsHeld (others_left (Store line k value) told old new leaves tt l (not_same line l ne)) held)
 lines_held (WriteBack line) lines told old new within leaves l held =
-    at_line line lines l _ within (λ ne. subst IsHeld (others_left (WriteBack line) told old new leaves l (not_same line l ne)) held)
+    at_line line lines l _ within (λ ne. subst IsHeld (others_left (WriteBack line) told old new leaves tt l (not_same line l ne)) held)
+lines_held Fence lines told old new within leaves l held =
+    inr (cleaned_held (asked_lines old) old l (subst (λ (c : Cache). IsHeld (cell_at c l)) leaves held))
 lines_held (Invalidate line) lines told old new within leaves l held =
-    at_line line lines l _ within (λ ne. subst IsHeld (others_left (Invalidate line) told old new leaves l (not_same line l ne)) held)
+    at_line line lines l _ within (λ ne. subst IsHeld (others_left (Invalidate line) told old new leaves tt l (not_same line l ne)) held)
 lines_held Digest lines told old new within leaves l held = inr (subst (λ (c : Cache). IsHeld (cell_at c l)) leaves held)
 
 -- Answers.
@@ -183,15 +188,30 @@ module _ (at : ℕ) (t next : Task) (said : Turn) (a : Around) (over : Bool) (go
       }
 
 -- the media failed in it
-pub step_cut : (at : ℕ) (t : Task) (a : Around) (line : LineNo) → a.after ≡ a.before ++ Answered at (MediaFault line.0) ∷ [] → heading a.new ≡ heading a.old → a.faults ≤ a.faults_now → a.new.task ≡ None → a.new.cache ≡ a.old.cache
+pub step_cut : (at : ℕ) (t : Task) (a : Around) (line : LineNo) → a.after ≡ a.before ++ Answered at (MediaFault line.0) ∷ [] → heading a.new ≡ heading a.old → a.faults ≤ a.faults_now → a.new.task ≡ None → ((l : ℕ) → IsHeld (cell_at a.new.cache l) → IsHeld (cell_at a.old.cache l))
     → IfModelled a.told (λ image. HasFailed (op_of t) (machine image a.old.cache) line a.now a.new.cache) → Rose a.faults a.faults_now → IsStep at t a true
-step_cut at t a line joined host later task cache failed rose = record {
+step_cut at t a line joined host later task kept failed rose = record {
   notes = Answered at (MediaFault line.0) ∷ [];
   joined = joined;
   host = host;
   later = later;
-  how = inr record { line = line; notes_are = refl; task = task; cache = cache; failed = failed; rose = rose; over_is = refl };
+  how = inr record { line = line; notes_are = refl; task = task; held = kept; failed = failed; rose = rose; over_is = refl };
 }
+
+-- the host's lines are still those of the media
+pub step_cached : (at : ℕ) (t : Task) (x y : Host) (lines : ℕ) (a : Around) {over : Bool} → a.size ≡ lines → (a.old.cache ≡ x.cache.lines) × (a.new.cache ≡ y.cache.lines) → IsStep at t a over → CacheFits lines x.cache → CacheFits lines y.cache
+step_cached at t x y lines a {over} size same step was = record { below = λ l is. by step.how l (subst (λ (c : Cache). IsHeld (cell_at c l)) (sym same.1) is) }
+  where
+    below : (l : ℕ) → IsHeld (cell_at a.old.cache l) → l < lines
+    below l is = was.below l (subst (λ (c : Cache). IsHeld (cell_at c l)) same.0 is)
+
+    or_below : (l : ℕ) → (l < a.size) ⊎ IsHeld (cell_at a.old.cache l) → l < lines
+    or_below l (inl less) = subst (λ (n : ℕ). l < n) size less
+    or_below l (inr is) = below l is
+
+    by : IsServed at t a step.notes over ⊎ IsCut at t a step.notes over → (l : ℕ) → IsHeld (cell_at a.new.cache l) → l < lines
+    by (inl served) l is = or_below l (served.held l is)
+    by (inr cut) l is = below l (cut.held l is)
 
 -- a fault of the media names its line
 fault_at : (f : OperationFault) (line : LineNo) (P : LineNo → Type 0) → f ≡ operation_fault.MediaFault line → IfMediaFault f P → P line
@@ -205,7 +225,7 @@ pub step_lost : (at : ℕ) (t : Task) (a : Around) (line : LineNo) (f : Operatio
     → IfMediaFault f (IsBroken (task_in a mid)) → IsStep at t a true
 step_lost at t a line f mid is e joined host later task broken =
     let b : IsBroken (task_in a mid) line = fault_at f line (IsBroken (task_in a mid)) is broken in
-    step_cut at t a line joined host later task b.copies
+    step_cut at t a line joined host later task b.held
     (subst (λ (o : Option Task). IfSome o (λ t. IfModelled a.told (λ image. HasFailed (op_of t) (machine image a.old.cache) line a.now a.new.cache))) e b.failed)
     b.rose
 

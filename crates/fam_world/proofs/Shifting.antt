@@ -80,7 +80,7 @@ fetch_held (Err e) mask line old new told from err l held = inr (subst (λ (k : 
 not_dirty : (memory : List ℕ) (cell : Cell) → (IsDirty cell → ⊥) → failed_fetch memory cell ≡ Some memory
 not_dirty memory Absent never = refl
 not_dirty memory (Clean words) never = refl
-not_dirty memory (Dirty words) never = absurd (never refl)
+not_dirty memory (Dirty a words) never = absurd (never refl)
 
 pub fetch_failed : (r : Fetched) (what : OwnMove) (mask : Mask) (line : ℕ) (old : Cache) (told now : Option Image) → what ≡ own.Fetch mask → IsNormal told → now ≡ told → (IsDirty (cell_at old line) → IsOk r) → IsErrOf r cache_fault.Failed
     → IfModelled told (λ image. FailsTo line (λ through memory. failed_move (move_of what) through memory (cell_at old line)) image now)

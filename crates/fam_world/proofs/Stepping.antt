@@ -76,7 +76,7 @@ step_refused name lines old new cause told faults first x = record {
 }
 
 -- the media failed in the operation of a task
-module _ (state : Machines) (h : ℕ) (host : HostState) (host_is : slice_get state.hosts h ≡ Some host) (s : TaskState) (s_is : host.task ≡ Some s) (t : Task) (standing : StandsFor s.cmd s.me (length state.memory) t s.words s.made) where
+module _ (state : Machines) (h : ℕ) (host : HostState) (host_is : slice_get state.hosts h ≡ Some host) (s : TaskState) (s_is : host.task ≡ Some s) (t : Task) (standing : StandsFor None s.cmd s.me (length state.memory) t s.words s.made) where
   op_is : next_op s (length state.memory) ≡ Some (op_of t)
   op_is = operation_from_start s.cmd s.me (length state.memory) t s.words s.made standing
 
@@ -193,7 +193,7 @@ module _ (name : List ℕ) (at lines : ℕ) (old : WorldView) (view : HostView) 
         fault_fits : HostFits lines view → HostFits lines next
         fault_fits was = record {
           task = subst (TaskFits lines) (sym x.task) tt;
-          cache = λ l is. was.cache l (subst (λ (k : Cache). IsHeld (cell_at k l)) x.cache is);
+          cache = λ l is. was.cache l (x.held l is);
         }
 
         counted : Rose faults faults_now → HasCounted faults faults_now (fault ∷ [])
@@ -229,7 +229,7 @@ module _ (name : List ℕ) (at lines : ℕ) (old : WorldView) (view : HostView) 
             let left : Machines = with_machine at f.left None state in
             let op : Operation at state (fault ∷ []) left = record {
               outcome = Fails f.fails.through;
-              is = row_cut state at h.0 h.1 s.0 s.1 t (subst (λ (n : ℕ). StandsFor s.0.cmd s.0.me n t s.0.words s.0.made) (sym lines_are) s.2) f.fails.through x.line f.left
+              is = row_cut state at h.0 h.1 s.0 s.1 t (subst (λ (n : ℕ). StandsFor None s.0.cmd s.0.me n t s.0.words s.0.made) (sym lines_are) s.2) f.fails.through x.line f.left
                   (ap (λ (y : Machine). failed f.fails.through (op_of t) y) same ∙ f.fails.is);
             } in
             let stands : WorldStands (length start) left new = λ k.

@@ -2,6 +2,8 @@
 use Rattle.std.proofs.Common.{◌≡◌, ℕ, ◌≤◌, ◌∷◌, ◌++◌, [], Bool, true, Option, Some, None, subst, ◌∙◌}
 use Rattle.std.specs.Prelude.{IfSome, is_some}
 use Rattle.fam_base.specs.declared.line.LineNo.{LineNo}
+use Rattle.fam_machine.specs.Caches.{Cache, cell_at}
+use Rattle.fam_machine.specs.OneLine.{IsHeld}
 use Rattle.fam_commands.specs.Task.{Task}
 use Rattle.fam_tasks.specs.declared.answer.Turn.{Turn}
 use Rattle.fam_run.specs.Led.{HasBrokenOff, HasDone}
@@ -41,5 +43,5 @@ whole_cut at a t next line broken joined host later task = record {
   held = broken.held;
   led = broken.led;
   sound = broken.sound;
-  step = step_cut at broken.task (record a { old = record a.old { task = Some broken.task; cache = broken.held } }) line joined host later task broken.copies broken.failed broken.rose;
+  step = step_cut at broken.task (record a { old = record a.old { task = Some broken.task; cache = broken.held } }) line joined host later task (λ l is. subst (λ (c : Cache). IsHeld (cell_at c l)) broken.copies is) broken.failed broken.rose;
 }

@@ -1,18 +1,23 @@
 -- Operations of the task that a host runs, on its cache, over any media.
-use Rattle.std.specs.Prelude.{ℕ, ◌≡◌, true, IfSome, Option, is_some}
+use Rattle.std.specs.Prelude.{ℕ, ◌≡◌, ◌<◌, true, IfSome, Option, is_some}
 use Rattle.fam_base.specs.declared.line.LineNo.{LineNo}
 use Rattle.fam_base.specs.Image.{Image}
 use Rattle.fam_cache.specs.Operations.{LeavesCache}
 use Rattle.fam_cache.specs.States.{CacheState}
 use Rattle.fam_commands.specs.Task.{Task, op_of}
-use Rattle.fam_machine.specs.Caches.{Cache}
+use Rattle.fam_machine.specs.Caches.{Cache, cell_at}
 use Rattle.fam_machine.specs.Cuts.{HasFailed}
+use Rattle.fam_machine.specs.OneLine.{IsHeld}
 use Rattle.fam_machine.specs.Operations.{IsWithin, machine}
 use Rattle.fam_media.specs.Causes.{Rose}
 use Rattle.fam_media.specs.Outside.{IfModelled}
 use Rattle.fam_run.specs.Operation.{GoesOn, HasTurned, KeepsLines}
 use Rattle.fam_tasks.specs.Sound.{IsSound}
 use Rattle.fam_tasks.specs.declared.answer.Turn.{Turn}
+
+-- every line that a cache holds is one of a media of so many lines
+pub record CacheFits (lines : ℕ) (cache : CacheState) : Type 0 where
+  pub below : (l : ℕ) → IsHeld (cell_at cache.lines l) → l < lines
 
 -- the task and the cache before and behind it; the media's image, where it is modelled, and its count of faults
 pub record OnTask : Type 0 where
@@ -48,10 +53,10 @@ pub record IsTurned (a : OnTask) (turn : Turn) : Type 0 where
   pub goes : IfSome a.task (λ t. IfSome a.next (GoesOn t a.new turn))
   pub keeps : IfSome a.task (λ t. IfSome a.next (KeepsLines turn t))
 
--- the media failed in it, at this line, and its count rose: the task and the copies are as before
+-- the media failed in it, at this line, and its count rose: the task is as before, and the cache holds no line more
 pub record IsBroken (a : OnTask) (line : LineNo) : Type 0 where
   pub task : a.next ≡ a.task
-  pub copies : a.new ≡ a.old
+  pub held : (l : ℕ) → IsHeld (cell_at a.new l) → IsHeld (cell_at a.old l)
   pub failed : IfSome a.task (λ t. IfModelled a.told (λ image. HasFailed (op_of t) (machine image a.old) line a.now a.new))
   pub rose : Rose a.faults a.faults_now
 

@@ -57,12 +57,12 @@ pub record IsServed (at : ℕ) (t : Task) (a : Around) (notes : List Note) (over
   pub fits : TaskFits t.lines a.new.task
   pub over_is : over ≡ list_any is_answer_note notes
 
--- the media failed in it: the task is gone, and the cache is as it was
+-- the media failed in it: the task is gone, and the cache holds no line more
 pub record IsCut (at : ℕ) (t : Task) (a : Around) (notes : List Note) (over : Bool) : Type 0 where
   pub line : LineNo
   pub notes_are : notes ≡ Answered at (MediaFault line.0) ∷ []
   pub task : a.new.task ≡ None
-  pub cache : a.new.cache ≡ a.old.cache
+  pub held : (l : ℕ) → IsHeld (cell_at a.new.cache l) → IsHeld (cell_at a.old.cache l)
   pub failed : IfModelled a.told (λ image. HasFailed (op_of t) (machine image a.old.cache) line a.now a.new.cache)
   pub rose : Rose a.faults a.faults_now
   pub over_is : over ≡ true

@@ -4,6 +4,7 @@
 ghost use Rattle.std.specs.Prelude.{◌≡◌, ◌<◌, ◌≤◌, is_some, true, vec_len};
 ghost use Rattle.fam_journal.specs.CallRecords.{FitsMedia, TaskFits};
 ghost use Rattle.fam_world.specs.Counted.{HostStepsSay, StepsSay, host_standing, standing};
+ghost use Rattle.fam_world.specs.OnTask.{CacheFits};
 ghost use Rattle.fam_world.specs.View.{host_view, notes_view, views, world_view};
 
 use crate::fault::{Moved, WorldFault};
@@ -26,6 +27,7 @@ fn steps_of<M: Media>(
 ) -> Result<Moved, OutOfMemory>
     requires runs { is_some host.old.task ≡ true }
     requires fits { TaskFits (M.size media.old) host.old.task }
+    requires cached { CacheFits (M.size media.old) host.old.cache }
     requires few { at < MOST_HOSTS }
     ensures says { HostStepsSay at (M.size media.old) most
         (host_standing M.image M.faults media.old (host_view host.old) (notes_view journal.old.items))

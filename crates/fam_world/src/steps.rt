@@ -19,7 +19,7 @@ ghost use Rattle.fam_journal.specs.CallRecords.{FinishOutOfMemory, FitsMedia, Me
 ghost use Rattle.fam_journal.specs.Notes.{Answered, MediaFault};
 ghost use Rattle.fam_journal.specs.View.{HostView};
 ghost use Rattle.fam_world.specs.Finishes.{SoFar};
-ghost use Rattle.fam_world.specs.OnTask.{IsBroken, IsTurned, IsUntouched, KeepsTask, on_task};
+ghost use Rattle.fam_world.specs.OnTask.{CacheFits, IsBroken, IsTurned, IsUntouched, KeepsTask, on_task};
 ghost use Rattle.fam_world.specs.Answers.{IfAnswered, IfStepped, is_over};
 ghost use Rattle.fam_world.specs.Places.{AreUnstored, IfPlaced, IsSafe, LacksPlaces, ReadyKeepsPlaces, TaskHasPlaces};
 ghost use Rattle.fam_world.specs.Steps.{IsStep, around_step};
@@ -178,6 +178,7 @@ fn operate_on<M: Media>(
 ) -> Result<Turn, OperationFault>
     requires runs { is_some task.old ≡ true }
     requires fits { TaskFits (M.size media.old) task.old }
+    requires cached { CacheFits (M.size media.old) cache.old }
 
     ensures turned { IfOk result (IsTurned
         (on_task M.image M.faults task.old task.new cache.old cache.new media.old media.new)) }
@@ -213,6 +214,7 @@ fn turn_host<M: Media>(
 ) -> Result<Moved, OutOfMemory>
     requires runs { is_some host.old.task ≡ true }
     requires fits { TaskFits (M.size media.old) host.old.task }
+    requires cached { CacheFits (M.size media.old) host.old.cache }
     requires few { at < MOST_HOSTS }
     requires room { vec_len journal.old < vec_capacity journal.old }
 
@@ -262,6 +264,7 @@ fn look_host<M: Media>(
 ) -> Result<Moved, OutOfMemory>
     requires runs { is_some host.old.task ≡ true }
     requires fits { TaskFits (M.size media.old) host.old.task }
+    requires cached { CacheFits (M.size media.old) host.old.cache }
     requires few { at < MOST_HOSTS }
     requires room { vec_len journal.old < vec_capacity journal.old }
 
@@ -313,6 +316,7 @@ pub(crate) fn step_host<M: Media>(
 ) -> Result<Moved, OutOfMemory>
     requires runs { is_some host.old.task ≡ true }
     requires fits { TaskFits (M.size media.old) host.old.task }
+    requires cached { CacheFits (M.size media.old) host.old.cache }
     requires few { at < MOST_HOSTS }
     requires room { vec_len journal.old < vec_capacity journal.old }
 
@@ -452,6 +456,7 @@ fn go_on<M: Media>(
 ) -> Result<Moved, OutOfMemory>
     requires runs { is_some host.old.task ≡ true }
     requires fits { TaskFits (M.size media.old) host.old.task }
+    requires cached { CacheFits (M.size media.old) host.old.cache }
     requires few { at < MOST_HOSTS }
     requires room { vec_len journal.old < vec_capacity journal.old }
 
@@ -488,8 +493,7 @@ fn finish_at<M: Media>(
     requires within { at < vec_len hosts.old }
     requires number { number_in name.now (world_view hosts.old.items journal.old.items) ≡ Some at }
     requires runs { (view : HostView) → slice_get (views hosts.old.items) at ≡ Some view → is_some view.task ≡ true }
-    requires fits { (view : HostView) → slice_get (views hosts.old.items) at ≡ Some view
-        → TaskFits (M.size media.old) view.task }
+    requires fits { FitsMedia (M.size media.old) (views hosts.old.items) }
 
     ensures far { SoFar at (M.size media.old)
         (world_view hosts.old.items journal.old.items) (M.image media.old) (M.faults media.old)

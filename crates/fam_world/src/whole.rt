@@ -15,7 +15,7 @@ ghost use Rattle.fam_run.specs.Step.{around};
 ghost use Rattle.fam_run.specs.Whole.{IfWhole};
 ghost use Rattle.fam_journal.specs.CallRecords.{TaskFits};
 ghost use Rattle.fam_world.specs.Answers.{is_over};
-ghost use Rattle.fam_world.specs.OnTask.{IsUntouched, KeepsTask};
+ghost use Rattle.fam_world.specs.OnTask.{CacheFits, IsUntouched, KeepsTask};
 ghost use Rattle.fam_world.specs.Places.{IfPlaced, KeepsTaskPlaces, LacksPlaces};
 ghost use Rattle.fam_world.specs.Steps.{around_step};
 ghost use Rattle.fam_world.specs.Turns.{is_done, kept_by, turn_notes};
@@ -98,6 +98,7 @@ pub(crate) fn whole_host<M: Media>(
 ) -> Result<Moved, OutOfMemory>
     requires runs { is_some host.old.task ≡ true }
     requires fits { TaskFits (M.size media.old) host.old.task }
+    requires cached { CacheFits (M.size media.old) host.old.cache }
     requires few { at < MOST_HOSTS }
     requires room { vec_len journal.old < vec_capacity journal.old }
 

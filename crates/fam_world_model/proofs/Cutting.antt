@@ -114,7 +114,7 @@ module _ (me fs : List ℕ) (is_uuid : IsUuid fs) (image : Image) (enough : need
         op = Load (line_no 0) 0;
         rest = drop 2 (mkfs_ops p);
         split = first_two p;
-        fails = record { through = 0; fits = omega arith; is = ap (not_brought (line_no 0) behind) (cell_at-with_cell_same 0 Absent host.cache) };
+        fails = record { through = record { mask = 0; sent = 0 }; fits = omega arith; is = ap (not_brought (line_no 0) behind) (cell_at-with_cell_same 0 Absent host.cache) };
       };
       notes_are = refl;
       left_is = refl;

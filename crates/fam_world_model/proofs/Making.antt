@@ -12,13 +12,15 @@ use Rattle.fam_base.specs.declared.entry.Params.{Params}
 use Rattle.fam_base.specs.Image.{Image}
 use Rattle.fam_format.specs.Params.{IsUuid, need}
 use Rattle.fam_format.specs.Stop.{or_else}
-use Rattle.fam_machine.specs.declared.cell.Cell.TheVariants.{Absent}
+use Rattle.fam_machine.specs.declared.cell.Cell.{Cell}
+use Rattle.fam_machine.specs.declared.cell.Cell.TheVariants.{Absent, Clean, Dirty}
 use Rattle.fam_machine.specs.declared.op.Op.{Op}
-use Rattle.fam_machine.specs.declared.op.Op.TheVariants.{Load, Store, WriteBack, Invalidate, Digest}
-use Rattle.fam_machine.specs.Caches.{Cache, cell_at}
-use Rattle.fam_machine.specs.OneLine.{IsHeld}
-use Rattle.fam_machine.specs.Operations.{Machine, operated, operated_all, load_ops}
+use Rattle.fam_machine.specs.declared.op.Op.TheVariants.{Load, Store, WriteBack, Fence, Invalidate, Digest}
+use Rattle.fam_machine.specs.Caches.{Cache, asked_lines, cell_at}
+use Rattle.fam_machine.specs.OneLine.{IsHeld, cleaned}
+use Rattle.fam_machine.specs.Operations.{Machine, operated, operated_all, load_ops, send_line, send_lines}
 use Rattle.fam_machine.proofs.CacheLemmas.{cell_at-empty}
+use Rattle.fam_machine.proofs.FenceLemmas.{send_here, send_other}
 use Rattle.fam_machine.proofs.OneOperation.{IsAt, cache_away}
 use Rattle.fam_rules.specs.Place.{line_bytes}
 use Rattle.fam_rules.specs.Written.{Put, format_puts}
@@ -59,10 +61,24 @@ at_line n op m line at below fit l held =
       | inr ne ↦ fit l (subst IsHeld (cache_away op m line l at ne) held)
     ]
 
+held_cleaned : (c : Cell) → IsHeld (cleaned c) → IsHeld c
+held_cleaned Absent held = held
+held_cleaned (Clean words) held = held
+held_cleaned (Dirty a words) held = refl
+
+lines_fit : (n : ℕ) (lines : List ℕ) (m : Machine) → CellsFit n m.cache → CellsFit n (send_lines lines m).cache
+lines_fit n [] m fit = fit
+lines_fit n (q ∷ lines) m fit = lines_fit n lines (send_line q m) (λ l held.
+    elim (cases_eq l q) [
+      | inl e ↦ fit l (held_cleaned (cell_at m.cache l) (subst IsHeld (send_here l m) (subst (λ (k : ℕ). IsHeld (cell_at (send_line k m).cache l)) (sym e) held)))
+      | inr ne ↦ fit l (subst IsHeld (send_other q m l ne) held)
+    ])
+
 op_fits : (n : ℕ) (op : Op) (m : Machine) → AsksWithin n op → CellsFit n m.cache → CellsFit n (operated op m).cache
 op_fits n (Load line k) m below fit = at_line n (Load line k) m line.0 refl below fit
 op_fits n (Store line k value) m below fit = at_line n (Store line k value) m line.0 refl below fit
 op_fits n (WriteBack line) m below fit = at_line n (WriteBack line) m line.0 refl below fit
+op_fits n Fence m below fit = lines_fit n (asked_lines m.cache) m fit
 op_fits n (Invalidate line) m below fit = at_line n (Invalidate line) m line.0 refl below fit
 op_fits n Digest m below fit = fit
 

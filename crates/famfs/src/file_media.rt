@@ -5,7 +5,7 @@
 //! line, and those before it, are always read by themselves, and then all that was read ahead is forgotten. So what is
 //! given of slots and files after a gate was read is never older than that gate.
 
-ghost use Rattle.std.specs.Prelude.{◌≡◌, ◌≤◌, ◌<◌, ◌+◌, ◌-◌, ◌*◌, ◌↔◌, IsTrue, None, vec_len};
+ghost use Rattle.std.specs.Prelude.{◌≡◌, ◌≤◌, ◌<◌, ◌+◌, ◌-◌, ◌*◌, ◌↔◌, IsTrue, IfSome, None, vec_len};
 ghost use Rattle.fam_media.specs.Causes.{HasCause};
 ghost use Rattle.fam_media.specs.declared.media.TheConstants.{MOST_LINES};
 
@@ -43,17 +43,14 @@ pub struct FileMedia {
     ghost held: { 64 * (end - first) ≤ vec_len page },
 }
 
-/// How many whole lines a file or a block device has, at most those of 1 TiB. A device's length isn't in its metadata,
-/// but its end can be found as a file's can.
-fn lines_of(file: &mut Option<File>) -> u64
-    ensures { result ≤ MOST_LINES }
+/// How many whole lines a file or a block device has, at most those of 1 TiB, and none where its end can't be found. A
+/// device's length isn't in its metadata, but its end can be found as a file's can.
+fn lines_of(file: &mut File) -> Option<u64>
+    ensures { IfSome result (λ lines. lines ≤ MOST_LINES) }
 {
-    match file {
-        Some(file) => match file.seek(SeekFrom::End(0)) {
-            Ok(bytes) => (bytes / LINE_BYTES).min(MOST_LINES),
-            Err(_) => 0,
-        },
-        None => 0,
+    match file.seek(SeekFrom::End(0)) {
+        Ok(bytes) => Some((bytes / LINE_BYTES).min(MOST_LINES)),
+        Err(_) => None,
     }
 }
 
@@ -73,29 +70,37 @@ fn page(alloc: Global) -> Vec<u8> {
     }
 }
 
-/// Reads so many bytes from a line on, or as many as there are, and says how many whole lines they are.
-fn read_lines(file: &File, page: &mut Vec<u8>, wanted: usize, line: u64) -> u64
+/// Reads so many bytes from a line on, or as many as there are, and says how many whole lines they are; none where the
+/// file fails.
+fn read_lines(file: &File, page: &mut Vec<u8>, wanted: usize, line: u64) -> Option<u64>
     requires within { line < MOST_LINES }
     ensures len { vec_len page.new ≡ vec_len page.old }
-    ensures few { 64 * result ≤ vec_len page.old }
+    ensures few { IfSome result (λ lines. 64 * lines ≤ vec_len page.old) }
 {
     if page.len() < wanted {
-        return 0;
+        return Some(0);
     }
     match file.read_at(&mut page[..wanted], byte_of(line)) {
-        Ok(got) => got as u64 / LINE_BYTES,
-        Err(_) => 0,
+        Ok(got) => Some(got as u64 / LINE_BYTES),
+        Err(_) => None,
     }
 }
 
 impl FileMedia {
-    /// The lines of a file. One that couldn't be opened, or that has fewer than 64 bytes, has no lines.
+    /// The lines of a file. One that couldn't be opened, or that has fewer than 64 bytes, has no lines; nor has one whose
+    /// end can't be found, and then that fault is counted.
     pub fn new(alloc: Global, mut file: Option<File>) -> FileMedia {
-        let lines = lines_of(&mut file);
+        let (lines, faults) = match &mut file {
+            Some(file) => match lines_of(file) {
+                Some(lines) => (lines, 0),
+                None => (0, 1),
+            },
+            None => (0, 0),
+        };
         FileMedia {
             file,
             lines,
-            faults: 0,
+            faults,
             page: page(alloc),
             first: 0,
             next: 0,
@@ -127,11 +132,12 @@ impl FileMedia {
         words
     }
 
-    /// Reads ahead from a line on: more where the reader comes from the lines that were read ahead before.
+    /// Reads ahead from a line on: more where the reader comes from the lines that were read ahead before. Where that
+    /// fails the fault is counted, and no line is ahead.
     fn fill(&mut self, line: u64)
         requires within { line < MOST_LINES }
         ensures lines { self.new.lines ≡ self.old.lines }
-        ensures faults { self.new.faults ≡ self.old.faults }
+        ensures faults { self.old.faults ≤ self.new.faults }
     {
         let more = self.first < self.end && line == self.end;
         let wanted = if more { PAGE_BYTES } else { FIRST_BYTES };
@@ -141,8 +147,10 @@ impl FileMedia {
         let Some(file) = &self.file else {
             return;
         };
-        let got = read_lines(file, &mut self.page, wanted, line);
-        self.end = line + got;
+        match read_lines(file, &mut self.page, wanted, line) {
+            Some(got) => self.end = line + got,
+            None => self.faults = self.faults.saturating_add(1),
+        }
     }
 
     /// Reads a line that isn't ahead: those up to the gate's by themselves, and others with some ahead. No line up to the

@@ -1,4 +1,8 @@
 //! The files of the system as a shelf. This is a trusted edge: what a real file holds, no clause tells.
+//!
+//! Regular files and block devices are sources. What comes through the standard input is one too where it is asked for
+//! as `/dev/stdin`: it is read whole when its size is asked for. Whatever else a name stands for, be it a named pipe, a
+//! terminal or a socket, has no size that can be known beforehand, and is a fault.
 
 ghost use Rattle.std.specs.Prelude.{◌≡◌, ◌≤◌, IfSome, None, length};
 
@@ -6,11 +10,26 @@ use fam_base::NameText;
 use fam_media::{Failed, Shelf};
 use std::fs;
 use std::fs::File;
-use std::io::ErrorKind;
-use std::os::unix::fs::FileExt;
+use std::io::{ErrorKind, Read, Seek, SeekFrom};
+use std::os::unix::fs::{FileExt, FileTypeExt};
 
 /// The bytes that are read in one call at most.
 const PIECE_BYTES: usize = 16384;
+
+/// The name of the standard input.
+const INPUT: &str = "/dev/stdin";
+
+/// The bytes that the standard input may have at most where it is no file: those of the longest script.
+const INPUT_BYTES: usize = 16_777_216;
+
+/// What is read from.
+#[derive(Drop)]
+enum Source {
+    /// A file, which is opened once for its reads.
+    File(File),
+    /// The bytes that came through the standard input.
+    Input(Vec<u8>),
+}
 
 /// The files of the system. It models nothing of their content, and counts its faults and the reads that gave no byte.
 #[derive(Drop)]
@@ -18,8 +37,27 @@ pub struct FileShelf<'a> {
     rt: &'a HostRuntime,
     faults: u64,
     shorts: u64,
-    /// The file that is being read, so that it is opened once.
-    open: Option<(NameText, File)>,
+    /// What is being read, with its name.
+    open: Option<(NameText, Source)>,
+}
+
+/// No file has the name: nothing stands there, or a folder does, or the name can't be one.
+fn is_absent(kind: ErrorKind) -> bool {
+    matches!(
+        kind,
+        ErrorKind::NotFound | ErrorKind::NotADirectory | ErrorKind::InvalidInput
+    )
+}
+
+/// Copies bytes from a place on, as many as there are and fit, and says how many.
+fn copied(bytes: &[u8], offset: u64, piece: &mut [u8]) -> usize
+    ensures within { result ≤ length piece.old }
+    ensures len { length piece.new ≡ length piece.old }
+{
+    let start = offset.min(bytes.len() as u64) as usize;
+    let count = piece.len().min(bytes.len() - start);
+    piece[..count].copy_from_slice(&bytes[start..start + count]);
+    count
 }
 
 impl<'a> FileShelf<'a> {
@@ -33,7 +71,7 @@ impl<'a> FileShelf<'a> {
         }
     }
 
-    /// Whether this file is the one that is open.
+    /// Whether this is what is being read.
     fn is_open(&self, name: &str) -> bool {
         match &self.open {
             Some(open) => open.0.text() == name,
@@ -41,7 +79,7 @@ impl<'a> FileShelf<'a> {
         }
     }
 
-    /// Opens a file, and closes the one that was open.
+    /// Opens a file in place of what was being read.
     fn open(&mut self, name: &str) -> Option<()>
         ensures faults { self.new.faults ≡ self.old.faults }
         ensures shorts { self.new.shorts ≡ self.old.shorts }
@@ -49,11 +87,63 @@ impl<'a> FileShelf<'a> {
         self.open = None;
         let name = NameText::new(self.rt.alloc(), name).ok()?;
         let file = File::open(self.rt, name.text()).ok()?;
-        self.open = Some((name, file));
+        self.open = Some((name, Source::File(file)));
         Some(())
     }
 
-    /// Reads from a file, and says how many bytes.
+    /// Where a block device ends, in bytes.
+    fn end_of(&self, name: &str) -> Option<u64> {
+        let mut file = File::open(self.rt, name).ok()?;
+        file.seek(SeekFrom::End(0)).ok()
+    }
+
+    /// All that comes through the standard input, and none where it fails or there are too many bytes.
+    fn input(&self) -> Option<Vec<u8>> {
+        let mut input = self.rt.stdin();
+        let mut bytes = Vec::new(self.rt.alloc());
+        let mut piece = [0u8; PIECE_BYTES];
+        for _ in 0..=INPUT_BYTES {
+            let count = input.read(&mut piece).ok()?;
+            if count == 0 {
+                return Some(bytes);
+            }
+            bytes.extend_from_slice(piece.get(..count)?).ok()?;
+            if bytes.len() > INPUT_BYTES {
+                return None;
+            }
+        }
+        None
+    }
+
+    /// How many bytes come through the standard input, which are kept for the reads behind.
+    fn size_of_input(&mut self) -> Option<u64>
+        ensures faults { self.new.faults ≡ self.old.faults }
+        ensures shorts { self.new.shorts ≡ self.old.shorts }
+    {
+        let bytes = self.input()?;
+        let size = bytes.len() as u64;
+        let name = NameText::new(self.rt.alloc(), INPUT).ok()?;
+        self.open = Some((name, Source::Input(bytes)));
+        Some(size)
+    }
+
+    /// The bytes of what stands under a name that is no folder, and none where it is no source.
+    fn size_of(&mut self, name: &str, metadata: &fs::Metadata) -> Option<u64>
+        ensures faults { self.new.faults ≡ self.old.faults }
+        ensures shorts { self.new.shorts ≡ self.old.shorts }
+    {
+        if metadata.is_file() {
+            Some(metadata.len())
+        } else if metadata.file_type().is_block_device() {
+            self.end_of(name)
+        } else if name == INPUT {
+            self.size_of_input()
+        } else {
+            None
+        }
+    }
+
+    /// Reads from a source, and says how many bytes.
     fn read(&mut self, name: &str, offset: u64, piece: &mut [u8]) -> Option<usize>
         ensures within { IfSome result (λ count. count ≤ length piece.old) }
         ensures len { length piece.new ≡ length piece.old }
@@ -64,18 +154,11 @@ impl<'a> FileShelf<'a> {
             self.open(name)?;
         }
         match &self.open {
-            Some(open) => open.1.read_at(piece, offset).ok(),
+            Some((_, Source::File(file))) => file.read_at(piece, offset).ok(),
+            Some((_, Source::Input(bytes))) => Some(copied(bytes, offset, piece)),
             None => None,
         }
     }
-}
-
-/// No file has the name: nothing stands there, or a folder does, or the name can't be one.
-fn is_absent(kind: ErrorKind) -> bool {
-    matches!(
-        kind,
-        ErrorKind::NotFound | ErrorKind::NotADirectory | ErrorKind::InvalidInput
-    )
 }
 
 impl Shelf for FileShelf<'_> {
@@ -87,21 +170,17 @@ impl Shelf for FileShelf<'_> {
 
     fn size(&mut self, name: &str) -> Result<Option<u64>, Failed> {
         self.open = None;
-        match fs::metadata(self.rt, name) {
-            Ok(metadata) => {
-                if metadata.is_dir() {
-                    return Ok(None);
-                }
-                Ok(Some(metadata.len()))
-            }
-            Err(error) => {
-                if is_absent(error.kind()) {
-                    return Ok(None);
-                }
-                self.faults = self.faults.saturating_add(1);
-                Err(Failed)
-            }
+        let size = match fs::metadata(self.rt, name) {
+            Ok(metadata) if metadata.is_dir() => return Ok(None),
+            Ok(metadata) => self.size_of(name, &metadata),
+            Err(error) if is_absent(error.kind()) => return Ok(None),
+            Err(_) => None,
+        };
+        if size.is_none() {
+            self.faults = self.faults.saturating_add(1);
+            return Err(Failed);
         }
+        Ok(size)
     }
 
     fn read_at(&mut self, name: &str, offset: u64, into: &mut [u8]) -> Result<usize, Failed> {

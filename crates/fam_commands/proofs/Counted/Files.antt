@@ -1,5 +1,5 @@
 -- How many lines of a file a command reads or writes, and how many operations that takes.
-use Rattle.std.proofs.Common.{ℕ, ◌≡◌, ◌<◌, ◌+◌, ◌*◌, ◌/◌, List, Option, Some, None, Ok, Err, sym, ◌∙◌, ap, arith}
+use Rattle.std.proofs.Common.{ℕ, ◌≡◌, ◌<◌, ◌+◌, ◌-◌, ◌*◌, ◌/◌, List, Option, Some, None, Ok, Err, sym, ◌∙◌, ap, arith}
 use Rattle.std.specs.Prelude.{find, option_map}
 use Rattle.std.specs.FinMap as finmap
 use Rattle.fam_base.specs.declared.cmd.Cmd.{Cmd}
@@ -13,6 +13,9 @@ use Rattle.fam_rules.specs.declared.answers.Refused.{Refused}
 use Rattle.fam_rules.specs.Decide.{Wish, wish_of, decide_wish, decide}
 use Rattle.fam_rules.specs.Reports.{Survey}
 use Rattle.fam_rules.specs.Written.{lines_of}
+use Rattle.fam_commands.specs.Kept.{Kept, used}
+use Rattle.fam_commands.specs.Counts.{used_told}
+use Rattle.fam_commands.proofs.Steps.UsedTold.{used_told_is}
 use Rattle.fam_commands.specs.Task.{no_params, size_of, wanted_lines}
 use Rattle.fam_commands.specs.Turns.{host_refusal}
 use Rattle.fam_commands.specs.Table.{fed_gate, fed_slots, entries_read, params_or}
@@ -23,33 +26,34 @@ use Rattle.fam_commands.proofs.Steps.Ties.{HasSlots}
 use Rattle.fam_format.specs.Layout.{first_format}
 
 -- the decision, by the gate
-pub decided_at : (n gate made : ℕ) → n ≡ gate → made ≡ 32 + 73 * gate → made ≡ decided_steps first_format 0 n
-decided_at n gate made is at_made = omega arith
+pub decided_at : (g f n gate made : ℕ) → g ≡ f → n ≡ gate → made ≡ 32 + 73 * (gate - f) → made ≡ decided_steps first_format g n
+decided_at g f n gate made from is at_made = omega arith
 
 -- no line of a file
-pub without_lines : (n d k made : ℕ) → made ≡ decided_steps first_format 0 n → d ≡ k → k ≡ 0 → made ≡ decided_steps first_format 0 n + line_steps * d
-without_lines n d k made at_made is none = omega arith
+pub without_lines : (g n d k made : ℕ) → made ≡ decided_steps first_format g n → d ≡ k → k ≡ 0 → made ≡ decided_steps first_format g n + line_steps * d
+without_lines g n d k made at_made is none = omega arith
 
 -- all lines of a file
-pub with_lines : (n gate d k made : ℕ) → n ≡ gate → d ≡ k → made ≡ 32 + 73 * gate + 9 * k → made ≡ decided_steps first_format 0 n + line_steps * d
-with_lines n gate d k made at_gate is at_made = omega arith
+pub with_lines : (g f n gate d k made : ℕ) → g ≡ f → n ≡ gate → d ≡ k → made ≡ 32 + 73 * (gate - f) + 9 * k → made ≡ decided_steps first_format g n + line_steps * d
+with_lines g f n gate d k made from at_gate is at_made = omega arith
 
 -- up to the line that holds a byte
-pub up_to_line : (n gate j b made : ℕ) → n ≡ gate → b < 64 → made ≡ 32 + 73 * gate + (9 * j + 9) → made ≡ decided_steps first_format 0 n + line_steps * ((64 * j + b) / 64 + 1)
-up_to_line n gate j b made at_gate inside at_made = omega arith
+pub up_to_line : (g f n gate j b made : ℕ) → g ≡ f → n ≡ gate → b < 64 → made ≡ 32 + 73 * (gate - f) + (9 * j + 9) → made ≡ decided_steps first_format g n + line_steps * ((64 * j + b) / 64 + 1)
+up_to_line g f n gate j b made from at_gate inside at_made = omega arith
 
 -- the whole append
-pub appended_at : (n gate d k made : ℕ) → n ≡ gate → d ≡ k → made ≡ 105 + 73 * gate + 9 * k → made + 1 ≡ decided_steps first_format 0 n + append_steps first_format d
-appended_at n gate d k made at_gate is at_made = omega arith
+pub appended_at : (g f n gate d k made : ℕ) → g ≡ f → n ≡ gate → d ≡ k → made ≡ 107 + 73 * (gate - f) + 9 * k → made + 1 ≡ decided_steps first_format g n + append_steps first_format d
+appended_at g f n gate d k made from at_gate is at_made = omega arith
 
 -- The entries that the words tell.
 
 -- the words tell the task's entries
-pub told_are : (cmd : Cmd) (me : List ℕ) (lines : ℕ) (p : Params) (gate : ℕ) (entries : List Entry) (survey : Survey) (words : List ℕ) → ReadsLog cmd → HasSlots cmd me lines p gate entries survey words gate → told_entries 0 words lines ≡ entries
-told_are cmd me lines p gate entries survey words reads h =
-    ap (λ (q : Params). entries_read (fed_slots words q 0 (fed_gate words))) (ap (params_or no_params) h.gated.log.head.super)
-    ∙ ap (λ (n : ℕ). entries_read (fed_slots words p 0 n)) h.gated.gate_is
-    ∙ ap entries_read (read_of cmd p gate entries survey words gate reads h.known).sound
+pub told_are : (kept : Option Kept) (cmd : Cmd) (me : List ℕ) (lines : ℕ) (p : Params) (gate : ℕ) (entries : List Entry) (survey : Survey) (words : List ℕ) → ReadsLog cmd → HasSlots kept cmd me lines p gate entries survey words gate → told_entries (used_told kept cmd words lines) words lines ≡ entries
+told_are kept cmd me lines p gate entries survey words reads h =
+    ap (λ (list : List Entry). told_entries list words lines) (used_told_is kept cmd me lines p gate words h.gated)
+    ∙ ap (λ (q : Params). entries_read (fed_slots words q (used kept cmd p gate) (fed_gate words))) (ap (params_or no_params) h.gated.log.head.super)
+    ∙ ap (λ (n : ℕ). entries_read (fed_slots words p (used kept cmd p gate) n)) h.gated.gate_is
+    ∙ ap entries_read (read_of kept cmd p gate entries survey words gate reads h.known).sound
 
 -- the entry at a path
 found_size : (entries told : List Entry) (path : List ℕ) (e : Entry) → told ≡ entries → ((q : List ℕ) → finmap.get (replay entries) q ≡ find (λ x. path_eq x.path q) entries) → find (λ x. path_eq x.path path) entries ≡ Some e → size_of (finmap.get (replay told) path) ≡ e.size
@@ -66,13 +70,13 @@ read_file_lines path offset count entries told e is lookups found = ap (wanted_l
 -- What is decided.
 
 module _ (p : Params) (me : List ℕ) (list : List Entry) where
-  refused_by : (n : ℕ) (r : Refused) (o : Option Wish) → host_refusal o p me ≡ None → option_map (decide_wish p me list) o ≡ Some (Err r) → refused_steps first_format 0 n r ≡ decided_steps first_format 0 n
-  refused_by n r None host is = absurd cc
-  refused_by n r (Some w) host is = refused_late p me list w first_format 0 n host r cc
+  refused_by : (g n : ℕ) (r : Refused) (o : Option Wish) → host_refusal o p me ≡ None → option_map (decide_wish p me list) o ≡ Some (Err r) → refused_steps first_format g n r ≡ decided_steps first_format g n
+  refused_by g n r None host is = absurd cc
+  refused_by g n r (Some w) host is = refused_late p me list w first_format g n host r cc
 
   -- a refusal that isn't the host's comes with the decision
-  pub refused_at : (n : ℕ) (r : Refused) (cmd : Cmd) → host_refusal (wish_of cmd) p me ≡ None → decide p me list cmd ≡ Some (Err r) → refused_steps first_format 0 n r ≡ decided_steps first_format 0 n
-  refused_at n r cmd host is = refused_by n r (wish_of cmd) host is
+  pub refused_at : (g n : ℕ) (r : Refused) (cmd : Cmd) → host_refusal (wish_of cmd) p me ≡ None → decide p me list cmd ≡ Some (Err r) → refused_steps first_format g n r ≡ decided_steps first_format g n
+  refused_at g n r cmd host is = refused_by g n r (wish_of cmd) host is
 
   lines_by_wish : (e : Entry) (o : Option Wish) → option_map (decide_wish p me list) o ≡ Some (Ok e) → wish_lines o ≡ lines_of e.size
   lines_by_wish e None is = absurd cc

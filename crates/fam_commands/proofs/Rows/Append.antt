@@ -14,9 +14,9 @@ use Rattle.fam_rules.specs.Decide.{decide}
 use Rattle.fam_rules.specs.Reply.{Appended}
 use Rattle.fam_rules.specs.Written.{lines_of, file_line, slot_part}
 use Rattle.fam_machine.specs.declared.op.Op.{Op}
-use Rattle.fam_machine.specs.declared.op.Op.TheVariants.{Store, WriteBack, Invalidate}
+use Rattle.fam_machine.specs.declared.op.Op.TheVariants.{Store, WriteBack, Fence, Invalidate}
 use Rattle.fam_commands.specs.declared.phase.Phase.TheVariants as at
-use Rattle.fam_commands.specs.Task.{Task, line_of, size_of, content_of, op_at}
+use Rattle.fam_commands.specs.Task.{Task, first_in, line_of, size_of, content_of, op_at}
 use Rattle.fam_machine.specs.Operations.{line_no}
 use Rattle.fam_commands.specs.Table.{Quiet, Answer, Row, rows, append_ops, append_rows, last_rows, table}
 use Rattle.fam_commands.proofs.Rows.Numbered.{row, row_before, row_last, sends, length-sends, store_at, send_at, behind_sends}
@@ -34,15 +34,15 @@ abbrev fits_rows : Cmd → Params → List Entry → Entry → List Row
 fits_rows cmd p entries e = rows (append_ops p (length entries) e (content_of cmd)) (Answer (Appended (length entries)))
 
 -- what comes behind the decision of an append
-last_is : (cmd : Cmd) (p : Params) (me : List ℕ) (words : List ℕ) (entries : List Entry) (e : Entry) → decide p me entries cmd ≡ Some (Ok e) → last_rows cmd me words p 0 entries ≡ fits_rows cmd p entries e
-last_is Logplay p me words entries e is = absurd cc
-last_is (Mkdir path attr) p me words entries e is = ap (append_rows (Mkdir path attr) p (length entries)) is
-last_is (Creat path size attr stripe fill) p me words entries e is = ap (append_rows (Creat path size attr stripe fill) p (length entries)) is
-last_is (Cp path attr stripe bytes) p me words entries e is = ap (append_rows (Cp path attr stripe bytes) p (length entries)) is
-last_is (Verify path against) p me words entries e is = absurd cc
-last_is (Read path offset count) p me words entries e is = absurd cc
-last_is (Check listing) p me words entries e is = absurd cc
-last_is Fsck p me words entries e is = absurd cc
+last_is : (cmd : Cmd) (p : Params) (me : List ℕ) (words : List ℕ) (first : ℕ) (entries : List Entry) (e : Entry) → decide p me entries cmd ≡ Some (Ok e) → last_rows cmd me words p first entries ≡ fits_rows cmd p entries e
+last_is Logplay p me words first entries e is = absurd cc
+last_is (Mkdir path attr) p me words first entries e is = ap (append_rows (Mkdir path attr) p (length entries)) is
+last_is (Creat path size attr stripe fill) p me words first entries e is = ap (append_rows (Creat path size attr stripe fill) p (length entries)) is
+last_is (Cp path attr stripe bytes) p me words first entries e is = ap (append_rows (Cp path attr stripe bytes) p (length entries)) is
+last_is (Verify path against) p me words first entries e is = absurd cc
+last_is (Read path offset count) p me words first entries e is = absurd cc
+last_is (Check listing) p me words first entries e is = absurd cc
+last_is Fsck p me words first entries e is = absurd cc
 
 -- a word of a line of the slot
 pub slot_part_at : (words : List ℕ) (j k : ℕ) → k < 8 → slice_index (slot_part words j) k ≡ slice_index words (8 * j + k)
@@ -59,13 +59,13 @@ module _ (p : Params) (seq : ℕ) (e : Entry) (fill : Content) where
   slot_lines = sends (slot_line p seq) (slot_part (spelling (geometry p) e seq)) (λ j. WriteBack (line_no (slot_line p seq j))) 8
 
   abbrev gate_part : List Op
-  gate_part = Store (line_no gate_line) 0 (seq + 1) ∷ WriteBack (line_no gate_line) ∷ []
+  gate_part = Fence ∷ Store (line_no gate_line) 0 (seq + 1) ∷ WriteBack (line_no gate_line) ∷ Fence ∷ []
 
   parts : append_ops p seq e fill ≡ data_part ++ (slot_lines ++ gate_part)
   parts = simp append_assoc
 
-  -- nine operations a line of the file, and 74 for slot and gate
-  pub length-append_ops : length (append_ops p seq e fill) ≡ 9 * lines_of e.size + 74
+  -- nine operations a line of the file, and 76 for slot and gate
+  pub length-append_ops : length (append_ops p seq e fill) ≡ 9 * lines_of e.size + 76
   length-append_ops =
       ap length parts
       ∙ omega (arith, length-append data_part (slot_lines ++ gate_part), length-append slot_lines gate_part, length-sends (file_line e) (content_line fill e.size) (λ j. Invalidate (line_no (file_line e j))) (lines_of e.size), length-sends (slot_line p seq) (slot_part (spelling (geometry p) e seq)) (λ j. WriteBack (line_no (slot_line p seq j))) 8)
@@ -101,17 +101,27 @@ module _ (p : Params) (seq : ℕ) (e : Entry) (fill : Content) where
       behind_data (9 * j + 8) m is
       ∙ send_at (slot_line p seq) (slot_part (spelling (geometry p) e seq)) (λ j. WriteBack (line_no (slot_line p seq j))) 8 j (9 * j + 8) gate_part below refl
 
+  -- row r behind the slot's lines
+  behind_slot : (r m : ℕ) → m ≡ 9 * lines_of e.size + (72 + r) → slice_get (append_ops p seq e fill) m ≡ slice_get gate_part r
+  behind_slot r m is =
+      behind_data (72 + r) m is
+      ∙ behind_sends (slot_line p seq) (slot_part (spelling (geometry p) e seq)) (λ j. WriteBack (line_no (slot_line p seq j))) 8 r (72 + r) gate_part refl
+
+  -- the slot is sent
+  pub slot_fence : (m : ℕ) → m ≡ 9 * lines_of e.size + 72 → slice_get (append_ops p seq e fill) m ≡ Some Fence
+  slot_fence m is = behind_slot 0 m is
+
   -- the gate is stored
-  pub gate_store : (m : ℕ) → m ≡ 9 * lines_of e.size + 72 → slice_get (append_ops p seq e fill) m ≡ Some (Store (line_no gate_line) 0 (seq + 1))
-  gate_store m is =
-      behind_data 72 m is
-      ∙ behind_sends (slot_line p seq) (slot_part (spelling (geometry p) e seq)) (λ j. WriteBack (line_no (slot_line p seq j))) 8 0 72 gate_part refl
+  pub gate_store : (m : ℕ) → m ≡ 9 * lines_of e.size + 73 → slice_get (append_ops p seq e fill) m ≡ Some (Store (line_no gate_line) 0 (seq + 1))
+  gate_store m is = behind_slot 1 m is
+
+  -- it is asked for
+  pub gate_send : (m : ℕ) → m ≡ 9 * lines_of e.size + 74 → slice_get (append_ops p seq e fill) m ≡ Some (WriteBack (line_no gate_line))
+  gate_send m is = behind_slot 2 m is
 
   -- and sent
-  pub gate_send : (m : ℕ) → m ≡ 9 * lines_of e.size + 73 → slice_get (append_ops p seq e fill) m ≡ Some (WriteBack (line_no gate_line))
-  gate_send m is =
-      behind_data 73 m is
-      ∙ behind_sends (slot_line p seq) (slot_part (spelling (geometry p) e seq)) (λ j. WriteBack (line_no (slot_line p seq j))) 8 1 73 gate_part refl
+  pub gate_fence : (m : ℕ) → m ≡ 9 * lines_of e.size + 75 → slice_get (append_ops p seq e fill) m ≡ Some Fence
+  gate_fence m is = behind_slot 3 m is
 
 -- The rows.
 
@@ -120,21 +130,21 @@ module _ (t : Task) (words more : List ℕ) (a : IsAppending t words) where
   reads = decides_reads t.cmd t.params t.me t.entries a.e a.decided
 
   count : length t.entries ≡ t.gate
-  count = (read_of t.cmd t.params t.gate t.entries t.survey words t.gate reads a.slots.known).count
+  count = (read_of t.kept t.cmd t.params t.gate t.entries t.survey words t.gate reads a.slots.known).count
 
   -- the operations of this task's append
   abbrev ops : List Op
   ops = append_ops t.params t.gate a.e (content_of t.cmd)
 
   -- row k behind the decision
-  append_at : (k m : ℕ) → m ≡ 32 + 73 * t.gate + k → slice_get (table 0 t.cmd t.me t.lines (words ++ more)) m ≡ slice_get (rows ops (Answer (Appended t.gate))) k
+  append_at : (k m : ℕ) → m ≡ 32 + 73 * (t.gate - first_in t) + k → slice_get (table t.kept t.cmd t.me t.lines (words ++ more)) m ≡ slice_get (rows ops (Answer (Appended t.gate))) k
   append_at k m is =
       tail_at t words more k m reads a.slots is
-      ∙ ap (λ (l : List Row). slice_get l k) (last_is t.cmd t.params t.me (words ++ more) t.entries a.e a.decided)
+      ∙ ap (λ (l : List Row). slice_get l k) (last_is t.cmd t.params t.me (words ++ more) (first_in t) t.entries a.e a.decided)
       ∙ ap (λ (n : ℕ). slice_get (rows (append_ops t.params n a.e (content_of t.cmd)) (Answer (Appended n))) k) count
 
   -- one before the last
-  quiet_at : (k m : ℕ) (op : Op) → k < 9 * lines_of a.e.size + 73 → m ≡ 32 + 73 * t.gate + k → slice_get ops k ≡ Some op → Here t words more m op Quiet
+  quiet_at : (k m : ℕ) (op : Op) → k < 9 * lines_of a.e.size + 75 → m ≡ 32 + 73 * (t.gate - first_in t) + k → slice_get ops k ≡ Some op → Here t words more m op Quiet
   quiet_at k m op before is found =
       append_at k m is ∙ row_before ops (Answer (Appended t.gate)) k op (omega (arith, length-append_ops t.params t.gate a.e (content_of t.cmd))) found
 
@@ -142,41 +152,53 @@ module _ (t : Task) (words more : List ℕ) (a : IsAppending t words) where
   lines_are = ap (λ (o : Option Entry). lines_of (size_of o)) a.entry_is
 
   -- so the table has them, with what is noted
-  pub store_data_row : (j k made : ℕ) → j < new_lines t → k < 8 → made ≡ 32 + 73 * t.gate + (9 * j + k) → Here t words more made (op_at t (at.StoreData j k)) Quiet
+  pub store_data_row : (j k made : ℕ) → j < new_lines t → k < 8 → made ≡ 32 + 73 * (t.gate - first_in t) + (9 * j + k) → Here t words more made (op_at t (at.StoreData j k)) Quiet
   store_data_row j k made below small is =
       let same = lines_are in
       quiet_at (9 * j + k) made _ (omega arith) is (data_store t.params t.gate a.e (content_of t.cmd) j k (9 * j + k) (omega arith) small refl)
       ∙ ap (λ (o : Option Entry). Some (row (Store (line_no (line_of o j)) k (slice_index (content_line (content_of t.cmd) (size_of o) j) k)) Quiet)) (sym a.entry_is)
 
   -- a line of the file is sent
-  pub send_data_row : (j made : ℕ) → j < new_lines t → made ≡ 32 + 73 * t.gate + (9 * j + 8) → Here t words more made (op_at t (at.SendData j)) Quiet
+  pub send_data_row : (j made : ℕ) → j < new_lines t → made ≡ 32 + 73 * (t.gate - first_in t) + (9 * j + 8) → Here t words more made (op_at t (at.SendData j)) Quiet
   send_data_row j made below is =
       let same = lines_are in
       quiet_at (9 * j + 8) made _ (omega arith) is (data_send t.params t.gate a.e (content_of t.cmd) j (9 * j + 8) (omega arith) refl)
       ∙ ap (λ (o : Option Entry). Some (row (Invalidate (line_no (line_of o j))) Quiet)) (sym a.entry_is)
 
   -- a store into the slot
-  pub store_slot_row : (j k made : ℕ) → j < 8 → k < 8 → made ≡ 32 + 73 * t.gate + 9 * new_lines t + (9 * j + k) → Here t words more made (op_at t (at.StoreSlot j k)) Quiet
+  pub store_slot_row : (j k made : ℕ) → j < 8 → k < 8 → made ≡ 32 + 73 * (t.gate - first_in t) + 9 * new_lines t + (9 * j + k) → Here t words more made (op_at t (at.StoreSlot j k)) Quiet
   store_slot_row j k made below small is =
       let same = lines_are in
       quiet_at (9 * lines_of a.e.size + (9 * j + k)) made _ (omega arith) (omega arith) (slot_store t.params t.gate a.e (content_of t.cmd) j k (9 * lines_of a.e.size + (9 * j + k)) below small refl)
       ∙ ap (λ (l : List ℕ). Some (row (Store (line_no (slot_line t.params t.gate j)) k (slice_index l (8 * j + k))) Quiet)) (sym a.spelled)
 
   -- a line of the slot is sent
-  pub send_slot_row : (j made : ℕ) → j < 8 → made ≡ 32 + 73 * t.gate + 9 * new_lines t + (9 * j + 8) → Here t words more made (op_at t (at.SendSlot j)) Quiet
+  pub send_slot_row : (j made : ℕ) → j < 8 → made ≡ 32 + 73 * (t.gate - first_in t) + 9 * new_lines t + (9 * j + 8) → Here t words more made (op_at t (at.SendSlot j)) Quiet
   send_slot_row j made below is =
       let same = lines_are in
       quiet_at (9 * lines_of a.e.size + (9 * j + 8)) made _ (omega arith) (omega arith) (slot_send t.params t.gate a.e (content_of t.cmd) j (9 * lines_of a.e.size + (9 * j + 8)) below refl)
 
+  -- the slot is sent
+  pub fence_slot_row : (made : ℕ) → made ≡ 104 + 73 * (t.gate - first_in t) + 9 * new_lines t → Here t words more made (op_at t at.FenceSlot) Quiet
+  fence_slot_row made is =
+      let same = lines_are in
+      quiet_at (9 * lines_of a.e.size + 72) made _ (omega arith) (omega arith) (slot_fence t.params t.gate a.e (content_of t.cmd) (9 * lines_of a.e.size + 72) refl)
+
   -- the gate is stored
-  pub store_gate_row : (made : ℕ) → made ≡ 104 + 73 * t.gate + 9 * new_lines t → Here t words more made (op_at t at.StoreGate) Quiet
+  pub store_gate_row : (made : ℕ) → made ≡ 105 + 73 * (t.gate - first_in t) + 9 * new_lines t → Here t words more made (op_at t at.StoreGate) Quiet
   store_gate_row made is =
       let same = lines_are in
-      quiet_at (9 * lines_of a.e.size + 72) made _ (omega arith) (omega arith) (gate_store t.params t.gate a.e (content_of t.cmd) (9 * lines_of a.e.size + 72) refl)
+      quiet_at (9 * lines_of a.e.size + 73) made _ (omega arith) (omega arith) (gate_store t.params t.gate a.e (content_of t.cmd) (9 * lines_of a.e.size + 73) refl)
 
-  -- the gate is sent, with the answer
-  pub send_gate_row : (made : ℕ) → made ≡ 105 + 73 * t.gate + 9 * new_lines t → Here t words more made (op_at t at.SendGate) (Answer (Appended t.gate))
+  -- it is asked for
+  pub send_gate_row : (made : ℕ) → made ≡ 106 + 73 * (t.gate - first_in t) + 9 * new_lines t → Here t words more made (op_at t at.SendGate) Quiet
   send_gate_row made is =
       let same = lines_are in
-      append_at (9 * lines_of a.e.size + 73) made (omega arith)
-      ∙ row_last ops (Answer (Appended t.gate)) (9 * lines_of a.e.size + 73) _ (omega (arith, length-append_ops t.params t.gate a.e (content_of t.cmd))) (gate_send t.params t.gate a.e (content_of t.cmd) (9 * lines_of a.e.size + 73) refl)
+      quiet_at (9 * lines_of a.e.size + 74) made _ (omega arith) (omega arith) (gate_send t.params t.gate a.e (content_of t.cmd) (9 * lines_of a.e.size + 74) refl)
+
+  -- the gate is sent, with the answer
+  pub fence_gate_row : (made : ℕ) → made ≡ 107 + 73 * (t.gate - first_in t) + 9 * new_lines t → Here t words more made (op_at t at.FenceGate) (Answer (Appended t.gate))
+  fence_gate_row made is =
+      let same = lines_are in
+      append_at (9 * lines_of a.e.size + 75) made (omega arith)
+      ∙ row_last ops (Answer (Appended t.gate)) (9 * lines_of a.e.size + 75) _ (omega (arith, length-append_ops t.params t.gate a.e (content_of t.cmd))) (gate_fence t.params t.gate a.e (content_of t.cmd) (9 * lines_of a.e.size + 75) refl)

@@ -8,7 +8,7 @@ use Rattle.fam_commands.specs.Task.{Task, op_at}
 use Rattle.fam_commands.specs.Table.{Quiet}
 use Rattle.fam_commands.proofs.Rows.Head.{Here, drop_magic_row, magic_row, super_drop_row, super_word_row, header_drop_row, header_word_row, drop_gate_row, gate_row}
 use Rattle.fam_commands.proofs.Rows.Slots.{slot_drop_row, slot_word_row, check_row, decide_row}
-use Rattle.fam_commands.proofs.Rows.Append.{store_data_row, send_data_row, store_slot_row, send_slot_row, store_gate_row, send_gate_row}
+use Rattle.fam_commands.proofs.Rows.Append.{store_data_row, send_data_row, store_slot_row, send_slot_row, fence_slot_row, store_gate_row, send_gate_row, fence_gate_row}
 use Rattle.fam_commands.proofs.Rows.FileLines.{file_drop_row, file_word_row}
 use Rattle.fam_commands.proofs.Steps.Ties.{InPart, TieAt, note_at}
 
@@ -39,4 +39,6 @@ row_at (at.SendData j) t words more made h = send_data_row t words more h.0 j ma
 row_at (at.StoreSlot j k) t words more made h = store_slot_row t words more h.0 j k made h.1 h.2 h.3
 row_at (at.SendSlot j) t words more made h = send_slot_row t words more h.0 j made h.1 h.2
 row_at at.StoreGate t words more made h = store_gate_row t words more h.0 made h.1
+row_at at.FenceSlot t words more made h = fence_slot_row t words more h.0 made h.1
 row_at at.SendGate t words more made h = send_gate_row t words more h.0 made h.1
+row_at at.FenceGate t words more made h = fence_gate_row t words more h.0 made h.1

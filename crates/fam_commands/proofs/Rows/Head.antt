@@ -1,5 +1,5 @@
 -- The rows of superblock, header and gate.
-use Rattle.std.proofs.Common.{ℕ, ◌≡◌, ◌<◌, ◌+◌, ◌*◌, inl, inr, List, [], ◌∷◌, ◌++◌, length, Some, refl, sym, ◌∙◌, ap, arith}
+use Rattle.std.proofs.Common.{ℕ, ◌≡◌, ◌<◌, ◌+◌, ◌*◌, inl, inr, Option, List, [], ◌∷◌, ◌++◌, length, Some, refl, sym, ◌∙◌, ap, arith}
 use Rattle.std.specs.Prelude.{slice_get, slice_index}
 use Rattle.std.proofs.lemmas.Bool.{cases_lt}
 use Rattle.std.proofs.lemmas.List.{append_assoc}
@@ -12,6 +12,7 @@ use Rattle.fam_machine.specs.declared.op.Op.{Op}
 use Rattle.fam_machine.specs.declared.op.Op.TheVariants.{Load, Invalidate}
 use Rattle.fam_commands.specs.declared.phase.Part.TheVariants.{Superblock, Header}
 use Rattle.fam_commands.specs.declared.phase.Phase.TheVariants as at
+use Rattle.fam_commands.specs.Kept.{Kept}
 use Rattle.fam_commands.specs.Task.{Task, no_params, op_at}
 use Rattle.fam_machine.specs.Operations.{line_no, load_ops}
 use Rattle.fam_commands.specs.Table.{RowNote, Quiet, Mark, Row, rows, fed_super, fed_gate, magic_note, super_note, header_note, gate_note, body_rows, params_or, table, fed_head}
@@ -77,7 +78,7 @@ module _ {A : Type 0} (a b c d e rest : List A) where
 
 -- The table's head, by the parameters that the words tell.
 
-module _ (cmd : Cmd) (me : List ℕ) (lines : ℕ) (words : List ℕ) where
+module _ (kept : Option Kept) (cmd : Cmd) (me : List ℕ) (lines : ℕ) (words : List ℕ) where
   -- the parameters that the words tell
   abbrev pub told : Params
   told = params_or no_params (fed_super words lines)
@@ -100,30 +101,30 @@ module _ (cmd : Cmd) (me : List ℕ) (lines : ℕ) (words : List ℕ) where
 
   -- and what comes behind them
   abbrev pub body : List Row
-  body = body_rows 0 cmd me lines words told
+  body = body_rows kept cmd me lines words told
 
   -- the rows of the magic
-  pub magic_rows : (k : ℕ) → k < 2 → slice_get (table 0 cmd me lines words) k ≡ slice_get magic_piece k
+  pub magic_rows : (k : ℕ) → k < 2 → slice_get (table kept cmd me lines words) k ≡ slice_get magic_piece k
   magic_rows k below = in_first magic_piece super_piece header_piece mark_piece gate_piece body k below
 
   -- of the superblock
-  pub super_rows : (k m : ℕ) → k < 18 → m ≡ 2 + k → slice_get (table 0 cmd me lines words) m ≡ slice_get super_piece k
+  pub super_rows : (k m : ℕ) → k < 18 → m ≡ 2 + k → slice_get (table kept cmd me lines words) m ≡ slice_get super_piece k
   super_rows k m below is = in_second magic_piece super_piece header_piece mark_piece gate_piece body 2 k m refl below is
 
   -- of the header
-  pub header_rows : (k m : ℕ) → k < 9 → m ≡ 20 + k → slice_get (table 0 cmd me lines words) m ≡ slice_get header_piece k
+  pub header_rows : (k m : ℕ) → k < 9 → m ≡ 20 + k → slice_get (table kept cmd me lines words) m ≡ slice_get header_piece k
   header_rows k m below is = in_third magic_piece super_piece header_piece mark_piece gate_piece body 20 k m refl below is
 
   -- of the mark
-  pub mark_rows : slice_get (table 0 cmd me lines words) 29 ≡ slice_get mark_piece 0
+  pub mark_rows : slice_get (table kept cmd me lines words) 29 ≡ slice_get mark_piece 0
   mark_rows = in_fourth magic_piece super_piece header_piece mark_piece gate_piece body 29 0 29 refl (omega arith) refl
 
   -- and of the gate
-  pub gate_rows : slice_get (table 0 cmd me lines words) 30 ≡ slice_get gate_piece 0
+  pub gate_rows : slice_get (table kept cmd me lines words) 30 ≡ slice_get gate_piece 0
   gate_rows = in_fifth magic_piece super_piece header_piece mark_piece gate_piece body 30 0 30 refl (omega arith) refl
 
   -- what stands behind the head
-  pub behind_head : (k m : ℕ) → m ≡ 31 + k → slice_get (table 0 cmd me lines words) m ≡ slice_get body k
+  pub behind_head : (k m : ℕ) → m ≡ 31 + k → slice_get (table kept cmd me lines words) m ≡ slice_get body k
   behind_head k m is = behind_five magic_piece super_piece header_piece mark_piece gate_piece body 31 k m refl is
 
 -- The row of each place of the head, also with more words.
@@ -133,8 +134,8 @@ pub as_row : (table : List Row) (made m : ℕ) (op : Op) (note other : RowNote) 
 as_row table made m op note other at is same = ap (λ (k : ℕ). slice_get table k) at ∙ is ∙ ap (λ (n : RowNote). Some (row op n)) same
 
 -- the parameters that longer words tell
-pub told_is : (cmd : Cmd) (me : List ℕ) (lines : ℕ) (p : Params) (words : List ℕ) → HasSuper cmd me lines p words → told cmd me lines words ≡ p
-told_is cmd me lines p words h = ap (params_or no_params) h.super
+pub told_is : (kept : Option Kept) (cmd : Cmd) (me : List ℕ) (lines : ℕ) (p : Params) (words : List ℕ) → HasSuper cmd me lines p words → told kept cmd me lines words ≡ p
+told_is kept cmd me lines p words h = ap (params_or no_params) h.super
 
 module _ (t : Task) (words more : List ℕ) where
   -- the words with those to come, and the table that they make
@@ -142,30 +143,30 @@ module _ (t : Task) (words more : List ℕ) where
   now = words ++ more
 
   abbrev whole : List Row
-  whole = table 0 t.cmd t.me t.lines now
+  whole = table t.kept t.cmd t.me t.lines now
 
   -- the table has this operation and note at this place
   abbrev pub Here : ℕ → Op → RowNote → Type 0
-  Here made op note = HasRow (table 0 t.cmd t.me t.lines (words ++ more)) made op note
+  Here made op note = HasRow (table t.kept t.cmd t.me t.lines (words ++ more)) made op note
 
   -- line 0 is dropped
   pub drop_magic_row : (made : ℕ) → made ≡ 0 → Here made (op_at t at.DropMagic) Quiet
-  drop_magic_row made is = as_row whole made 0 _ Quiet Quiet is (magic_rows t.cmd t.me t.lines now 0 (omega arith)) refl
+  drop_magic_row made is = as_row whole made 0 _ Quiet Quiet is (magic_rows t.kept t.cmd t.me t.lines now 0 (omega arith)) refl
 
   -- the magic is loaded
   pub magic_row : (made : ℕ) → made ≡ 1 → Here made (op_at t at.Magic) (note_at at.Magic t now)
-  magic_row made is = as_row whole made 1 _ _ _ is (magic_rows t.cmd t.me t.lines now 1 (omega arith)) refl
+  magic_row made is = as_row whole made 1 _ _ _ is (magic_rows t.kept t.cmd t.me t.lines now 1 (omega arith)) refl
 
   -- a line of the superblock is dropped
   pub super_drop_row : (j made : ℕ) → j < 2 → made ≡ 2 + (9 * j + 0) → Here made (op_at t (at.Drop Superblock j)) Quiet
   super_drop_row j made below is =
-      super_rows t.cmd t.me t.lines now (9 * j) made (omega arith) (omega arith)
+      super_rows t.kept t.cmd t.me t.lines now (9 * j) made (omega arith) (omega arith)
       ∙ row_before (load_ops 1 8 ++ load_ops 2 8) _ (9 * j) _ (let z : 9 * j + 1 < 18 = omega arith in z) (drop_at (λ j. 1 + j) 2 j (9 * j) [] below refl)
 
   -- a word of it is loaded
   pub super_word_row : (j k made : ℕ) → j < 2 → k < 8 → made ≡ 2 + (9 * j + (1 + k)) → Here made (op_at t (at.Word Superblock j k)) (note_at (at.Word Superblock j k) t now)
   super_word_row j k made below small is =
-      super_rows t.cmd t.me t.lines now (9 * j + (1 + k)) made (omega arith) is
+      super_rows t.kept t.cmd t.me t.lines now (9 * j + (1 + k)) made (omega arith) is
       ∙ elim (cases_lt k 7) [
         | inl less ↦
             row_before (load_ops 1 8 ++ load_ops 2 8) _ (9 * j + (1 + k)) _ (let z : 9 * j + (1 + k) + 1 < 18 = omega arith in z) word
@@ -187,20 +188,20 @@ module _ (t : Task) (words more : List ℕ) where
   -- the header is dropped
   pub header_drop_row : (j made : ℕ) → j < 1 → made ≡ 20 + (9 * j + 0) → Here made (op_at t (at.Drop Header j)) Quiet
   header_drop_row j made below is =
-      header_rows t.cmd t.me t.lines now (9 * j) made (omega arith) (omega arith)
+      header_rows t.kept t.cmd t.me t.lines now (9 * j) made (omega arith) (omega arith)
       ∙ row_before (load_ops log_line 8) _ (9 * j) _ (let z : 9 * j + 1 < 9 = omega arith in z) (drop_at (λ j. log_line) 1 j (9 * j) [] below refl)
 
   -- a word of it is loaded
   pub header_word_row : (j k made : ℕ) → HasSuper t.cmd t.me t.lines t.params words → j < 1 → k < 8 → made ≡ 20 + (9 * j + (1 + k)) → Here made (op_at t (at.Word Header j k)) (note_at (at.Word Header j k) t now)
   header_word_row j k made h below small is =
-      header_rows t.cmd t.me t.lines now (9 * j + (1 + k)) made (omega arith) is
+      header_rows t.kept t.cmd t.me t.lines now (9 * j + (1 + k)) made (omega arith) is
       ∙ elim (cases_lt k 7) [
         | inl less ↦
             row_before (load_ops log_line 8) _ (9 * j + (1 + k)) _ (let z : 9 * j + (1 + k) + 1 < 9 = omega arith in z) word
             ∙ ap (λ (n : RowNote). Some (row (op_at t (at.Word Header j k)) n)) (sym (if_below k 7 Quiet (line_end Header t now j) less))
         | inr seven ↦
             row_last (load_ops log_line 8) _ (9 * j + (1 + k)) _ (let z : 9 * j + (1 + k) + 1 ≡ 9 = omega arith in z) word
-            ∙ ap (λ (p : Params). Some (row (op_at t (at.Word Header j k)) (header_note t.cmd now t.lines (log_fault (fed_head now log_line) p)))) (told_is t.cmd t.me t.lines t.params now (has_super_stays t.cmd t.me t.lines t.params words more h))
+            ∙ ap (λ (p : Params). Some (row (op_at t (at.Word Header j k)) (header_note t.cmd now t.lines (log_fault (fed_head now log_line) p)))) (told_is t.kept t.cmd t.me t.lines t.params now (has_super_stays t.cmd t.me t.lines t.params words more h))
             ∙ ap (λ (n : RowNote). Some (row (op_at t (at.Word Header j k)) n)) (sym (if_past k 7 Quiet (line_end Header t now j) seven))
       ]
     where
@@ -209,10 +210,10 @@ module _ (t : Task) (words more : List ℕ) where
 
   -- the gate's line is dropped, which is the mark
   pub drop_gate_row : (made : ℕ) → made ≡ 29 → Here made (op_at t at.DropGate) Mark
-  drop_gate_row made is = as_row whole made 29 _ Mark Mark is (mark_rows t.cmd t.me t.lines now) refl
+  drop_gate_row made is = as_row whole made 29 _ Mark Mark is (mark_rows t.kept t.cmd t.me t.lines now) refl
 
   -- the gate is loaded
   pub gate_row : (made : ℕ) → HasHeader t.cmd t.me t.lines t.params words → made ≡ 30 → Here made (op_at t at.Gate) (note_at at.Gate t now)
   gate_row made h is =
-      as_row whole made 30 _ _ _ is (gate_rows t.cmd t.me t.lines now)
-      (ap (λ (p : Params). gate_note t.cmd now t.lines (gate_fault (fed_gate now) p)) (told_is t.cmd t.me t.lines t.params now (has_super_stays t.cmd t.me t.lines t.params words more h.head)))
+      as_row whole made 30 _ _ _ is (gate_rows t.kept t.cmd t.me t.lines now)
+      (ap (λ (p : Params). gate_note t.cmd now t.lines (gate_fault (fed_gate now) p)) (told_is t.kept t.cmd t.me t.lines t.params now (has_super_stays t.cmd t.me t.lines t.params words more h.head)))

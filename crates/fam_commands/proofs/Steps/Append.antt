@@ -1,5 +1,5 @@
 -- What comes of the operations of an append, and of its decision.
-use Rattle.std.proofs.Common.{ℕ, ◌≡◌, ◌<◌, ◌≤◌, ◌+◌, ◌*◌, inl, inr, Bool, cond, List, Option, Some, Result, Ok, Err, refl, sym, ◌∙◌, ap, subst, arith}
+use Rattle.std.proofs.Common.{ℕ, ◌≡◌, ◌<◌, ◌≤◌, ◌+◌, ◌-◌, ◌*◌, inl, inr, Bool, cond, List, Option, Some, Result, Ok, Err, refl, sym, ◌∙◌, ap, subst, arith}
 use Rattle.std.proofs.lemmas.Bool.{cases_lt, cases_eq, eq-eqb, ne_eqb}
 use Rattle.fam_base.specs.declared.entry.Entry.{Entry}
 use Rattle.fam_format.specs.Layout.{geometry}
@@ -10,8 +10,9 @@ use Rattle.fam_rules.specs.Reply as reply
 use Rattle.fam_rules.specs.Written.{lines_of}
 use Rattle.fam_commands.specs.declared.phase.Phase.{Phase}
 use Rattle.fam_commands.specs.declared.phase.Phase.TheVariants as at
-use Rattle.fam_commands.specs.Task.{Task, size_of}
-use Rattle.fam_commands.specs.Turns.{Goes, Ends, first_store, append_turn, store_or_send, data_or_slot, slot_or_gate}
+use Rattle.fam_commands.proofs.Steps.UsedTold.{first_told, first_told_is, used_told_by}
+use Rattle.fam_commands.specs.Task.{Task, first_in, size_of}
+use Rattle.fam_commands.specs.Turns.{Goes, Ends, first_store, append_turn, store_or_send, data_or_slot, slot_or_fence}
 use Rattle.fam_commands.specs.Table.{Quiet, Answer, append_note, fed_gate}
 use Rattle.fam_commands.proofs.Rows.Numbered.{if_below, if_past}
 use Rattle.fam_commands.proofs.Counted.Files.{decided_at, refused_at, appended_at, appended_lines}
@@ -29,7 +30,7 @@ at_phase t phase words made tie = goes_on t (record t { phase = phase }) words m
 
 -- The decision.
 
-first_store_tie : (t : Task) (phase : Phase) (words : List ℕ) (e : Entry) (made : ℕ) → t.entry ≡ Some e → IsAppending t words → made ≡ 32 + 73 * t.gate → TieAt (first_store e.size) (record t { phase = phase }) words made
+first_store_tie : (t : Task) (phase : Phase) (words : List ℕ) (e : Entry) (made : ℕ) → t.entry ≡ Some e → IsAppending t words → made ≡ 32 + 73 * (t.gate - first_in t) → TieAt (first_store e.size) (record t { phase = phase }) words made
 first_store_tie t phase words e made is a at_made =
     let lines : new_lines t ≡ lines_of e.size = ap (λ (o : Option Entry). lines_of (size_of o)) is in
     elim (cases_eq e.size 0) [
@@ -42,10 +43,10 @@ first_store_tie t phase words e made is a at_made =
     ]
 
 -- an entry is to be appended, or the answer
-pub append_by : (t : Task) (words : List ℕ) (made : ℕ) (r : Result Entry Refused) → decide t.params t.me t.entries t.cmd ≡ Some r → TaskSlots t words t.gate → made ≡ 32 + 73 * t.gate → Outcome t (append_turn t r) (append_note t.gate (Some r)) words made
+pub append_by : (t : Task) (words : List ℕ) (made : ℕ) (r : Result Entry Refused) → decide t.params t.me t.entries t.cmd ≡ Some r → TaskSlots t words t.gate → made ≡ 32 + 73 * (t.gate - first_in t) → Outcome t (append_turn t r) (append_note t.gate (Some r)) words made
 append_by t words made (Err refused) is h at_made =
     ends t (reply.NotAppended refused) _ words made refl
-    (decided_at (fed_gate words) t.gate made h.gated.gate_is at_made ∙ sym (refused_at t.params t.me t.entries (fed_gate words) refused t.cmd h.gated.log.head.host is))
+    (decided_at (first_told t words) (first_in t) (fed_gate words) t.gate made (first_told_is t words t.gate h) h.gated.gate_is at_made ∙ sym (refused_at t.params t.me t.entries (first_told t words) (fed_gate words) refused t.cmd h.gated.log.head.host is))
 append_by t words made (Ok e) is h at_made =
     record {
       noted = refl;
@@ -94,25 +95,33 @@ store_slot_step t words j k made (a, below, small, is) =
     (λ past. (appending_at t _ words a, below, omega arith)))
 
 -- a line of the slot is sent
-pub send_slot_step : (t : Task) (words : List ℕ) (j made : ℕ) → TieAt (at.SendSlot j) t words made → Outcome t (Goes (record t { phase = slot_or_gate t j })) Quiet words (made + 1)
+pub send_slot_step : (t : Task) (words : List ℕ) (j made : ℕ) → TieAt (at.SendSlot j) t words made → Outcome t (Goes (record t { phase = slot_or_fence t j })) Quiet words (made + 1)
 send_slot_step t words j made (a, below, is) =
-    at_phase t (slot_or_gate t j) words (made + 1)
+    at_phase t (slot_or_fence t j) words (made + 1)
     (elim (cases_lt (j + 1) 8) [
       | inl less ↦
-          subst (λ (p : Phase). TieAt p (record t { phase = slot_or_gate t j }) words (made + 1)) (sym (if_below (j + 1) 8 (at.StoreSlot (j + 1) 0) at.StoreGate less))
+          subst (λ (p : Phase). TieAt p (record t { phase = slot_or_fence t j }) words (made + 1)) (sym (if_below (j + 1) 8 (at.StoreSlot (j + 1) 0) at.FenceSlot less))
           (appending_at t _ words a, less, omega arith, omega arith)
       | inr past ↦
-          subst (λ (p : Phase). TieAt p (record t { phase = slot_or_gate t j }) words (made + 1)) (sym (if_past (j + 1) 8 (at.StoreSlot (j + 1) 0) at.StoreGate past))
+          subst (λ (p : Phase). TieAt p (record t { phase = slot_or_fence t j }) words (made + 1)) (sym (if_past (j + 1) 8 (at.StoreSlot (j + 1) 0) at.FenceSlot past))
           (appending_at t _ words a, omega arith)
     ])
+
+-- the slot is sent
+pub fence_slot_step : (t : Task) (words : List ℕ) (made : ℕ) → TieAt at.FenceSlot t words made → Outcome t (Goes (record t { phase = at.StoreGate })) Quiet words (made + 1)
+fence_slot_step t words made (a, is) = at_phase t at.StoreGate words (made + 1) (appending_at t at.StoreGate words a, omega arith)
 
 -- the gate is stored
 pub store_gate_step : (t : Task) (words : List ℕ) (made : ℕ) → TieAt at.StoreGate t words made → Outcome t (Goes (record t { phase = at.SendGate })) Quiet words (made + 1)
 store_gate_step t words made (a, is) = at_phase t at.SendGate words (made + 1) (appending_at t at.SendGate words a, omega arith)
 
+-- it is asked for the gate to be sent
+pub send_gate_step : (t : Task) (words : List ℕ) (made : ℕ) → TieAt at.SendGate t words made → Outcome t (Goes (record t { phase = at.FenceGate })) Quiet words (made + 1)
+send_gate_step t words made (a, is) = at_phase t at.FenceGate words (made + 1) (appending_at t at.FenceGate words a, omega arith)
+
 -- the gate is sent, and the task answers
-pub send_gate_step : (t : Task) (words : List ℕ) (made : ℕ) → TieAt at.SendGate t words made → Outcome t (Ends (reply.Appended t.gate)) (Answer (reply.Appended t.gate)) words (made + 1)
-send_gate_step t words made (a, is) =
+pub fence_gate_step : (t : Task) (words : List ℕ) (made : ℕ) → TieAt at.FenceGate t words made → Outcome t (Ends (reply.Appended t.gate)) (Answer (reply.Appended t.gate)) words (made + 1)
+fence_gate_step t words made (a, is) =
     ends t (reply.Appended t.gate) _ words (made + 1) refl
-    (appended_at (fed_gate words) t.gate (file_lines t.cmd (told_entries 0 words t.lines)) (new_lines t) made a.slots.gated.gate_is
-    (appended_lines t.params t.me t.entries a.e t.cmd (told_entries 0 words t.lines) a.decided ∙ sym (ap (λ (o : Option Entry). lines_of (size_of o)) a.entry_is)) is)
+    (appended_at (first_told t words) (first_in t) (fed_gate words) t.gate (file_lines t.cmd (told_entries (used_told_by t words) words t.lines)) (new_lines t) made (first_told_is t words t.gate a.slots) a.slots.gated.gate_is
+    (appended_lines t.params t.me t.entries a.e t.cmd (told_entries (used_told_by t words) words t.lines) a.decided ∙ sym (ap (λ (o : Option Entry). lines_of (size_of o)) a.entry_is)) is)

@@ -1,14 +1,13 @@
 -- What comes of the operations of superblock, header and gate.
-use Rattle.std.proofs.Common.{ℕ, ◌≡◌, ◌+◌, ◌*◌, inl, inr, Bool, List, [], ◌∷◌, ◌++◌, length, drop, Option, Some, None, Result, Ok, Err, refl, sym, ◌∙◌, ap, subst, arith, length-append}
+use Rattle.std.proofs.Common.{ℕ, ◌≡◌, ◌+◌, ◌-◌, ◌*◌, ◌≤◌, inl, inr, Bool, List, [], ◌∷◌, ◌++◌, length, drop, Option, Some, None, Result, Ok, Err, refl, sym, ◌∙◌, ap, subst, arith, length-append}
 use Rattle.std.specs.Prelude.{slice_index, if◌then◌else◌}
-use Rattle.std.specs.FinMap.{get-empty}
 use Rattle.std.proofs.lemmas.Bool.{cases_Bool}
 use Rattle.std.proofs.lemmas.List.{drop_all, get_or_push}
 use Rattle.fam_base.specs.declared.cmd.Cmd.{Cmd}
 use Rattle.fam_base.specs.declared.cmd.Cmd.TheVariants.{Fsck}
 use Rattle.fam_base.specs.declared.entry.Params.{Params}
 use Rattle.fam_base.specs.declared.entry.Entry.{Entry}
-use Rattle.fam_base.specs.PathOrder.{path_cmp, path_eq}
+use Rattle.fam_base.specs.PathOrder.{path_eq}
 use Rattle.fam_format.specs.declared.faults.SuperFault.{SuperFault}
 use Rattle.fam_format.specs.declared.faults.LogFault.{LogFault}
 use Rattle.fam_format.specs.Layout.{log_line, first_format}
@@ -20,6 +19,14 @@ use Rattle.fam_rules.specs.Place.{line_bytes}
 use Rattle.fam_rules.specs.Reports.{Survey}
 use Rattle.fam_commands.specs.declared.phase.Part.TheVariants.{Superblock, Header}
 use Rattle.fam_commands.specs.declared.phase.Phase.TheVariants as at
+use Rattle.fam_commands.specs.Kept.{Kept, used}
+use Rattle.fam_commands.proofs.Steps.UsedTold.{first_told, used_told_by}
+use Rattle.fam_commands.specs.Table.{fed, fed_slots}
+use Rattle.fam_format.specs.Reading.{Sound, read_slots}
+use Rattle.fam_rules.specs.Reports.{no_survey, survey_slots}
+use Rattle.fam_commands.specs.Turns.{slots_read}
+use Rattle.fam_commands.proofs.KeptUsed.{used_finds}
+use Rattle.fam_commands.proofs.UsedCounts.{used_below, used_fsck_count}
 use Rattle.fam_commands.specs.Task.{Task}
 use Rattle.fam_commands.specs.Turns.{Goes, Marks, super_fault_reply, log_fault_reply, magic_turn, host_refusal, host_turn, super_turn, header_turn, slot_or_decide, finds_or_goes, gate_loaded, gate_turn, line_turn}
 use Rattle.fam_commands.specs.Table.{Quiet, Mark, Answer, fed_super, fed_gate, magic_note, master_note, super_note, header_note, found_note, gate_note, fed_head}
@@ -28,14 +35,14 @@ use Rattle.fam_commands.proofs.Counted.Ends.{magic_steps, body_steps, header_ste
 use Rattle.fam_commands.proofs.Steps.TieStays.{has_header_stays}
 use Rattle.fam_commands.proofs.FaultReplies.{gate_fed, header_fed, super_by_magic, super_by_body, super_reply, header_reply, gate_reply}
 use Rattle.fam_commands.proofs.Steps.Outcomes.{Outcome, outcome_as, goes_on, still_tied, ends, by_less, next_line, in_part, slot_or_decide_tie}
-use Rattle.fam_commands.proofs.Steps.Ties.{IsFresh, HasSuper, HasHeader, AreRead, SlotsKnown, TaskSlots, InPart, TieAt, line_end}
+use Rattle.fam_commands.proofs.Steps.Ties.{IsFresh, HasSuper, HasHeader, SlotsKnown, TaskSlots, InPart, TieAt, line_end}
 
 -- The magic.
 
-magic_by : (t : Task) (words : List ℕ) (f : Option SuperFault) → magic_fault (slice_index words 0) ≡ f → length words ≡ 1 → IsFresh t.first_slot t.entries t.survey → Outcome t (magic_turn t f) (magic_note t.cmd words t.lines f) words 2
+magic_by : (t : Task) (words : List ℕ) (f : Option SuperFault) → magic_fault (slice_index words 0) ≡ f → length words ≡ 1 → IsFresh t.kept t.entries t.survey → Outcome t (magic_turn t f) (magic_note t.cmd words t.lines f) words 2
 magic_by t words (Some fault) is long fresh =
     ends t (super_fault_reply t.cmd fault) _ words 2 (ap Answer (super_reply words t.lines t.cmd fault (super_by_magic words t.lines fault is)))
-    (sym (super_end_steps t.cmd first_format 0 (fed_gate words) (file_lines t.cmd (told_entries 0 words t.lines)) fault ∙ magic_steps (slice_index words 0) fault is))
+    (sym (super_end_steps t.cmd first_format (first_told t words) (fed_gate words) (file_lines t.cmd (told_entries (used_told_by t words) words t.lines)) fault ∙ magic_steps (slice_index words 0) fault is))
 magic_by t words None is long fresh =
     goes_on t (record t { phase = at.Drop Superblock 0; words = [] }) words 2 refl refl refl refl
     (in_part Superblock t [] (at.Drop Superblock 0) words 0 0 0 2 (is, omega arith, fresh) (omega arith) (omega arith) (sym (drop_all 1 words (omega arith))) refl)
@@ -59,9 +66,9 @@ host_by t p words made (Some w) at_made on =
       | inr other ↦ rw other (ends t _ _ words made refl at_made)
     ]
 
-super_by : (t : Task) (words : List ℕ) (made : ℕ) (r : Result Params SuperFault) → fed_super words t.lines ≡ r → length words ≡ 17 → made ≡ 20 → IsFresh t.first_slot t.entries t.survey → ((f : SuperFault) → r ≡ Err f → super_steps f ≡ 20) → Outcome t (super_turn t r) (super_note t.cmd t.me words t.lines r) words made
+super_by : (t : Task) (words : List ℕ) (made : ℕ) (r : Result Params SuperFault) → fed_super words t.lines ≡ r → length words ≡ 17 → made ≡ 20 → IsFresh t.kept t.entries t.survey → ((f : SuperFault) → r ≡ Err f → super_steps f ≡ 20) → Outcome t (super_turn t r) (super_note t.cmd t.me words t.lines r) words made
 super_by t words made (Err fault) is long at_made fresh late = ends t (super_fault_reply t.cmd fault) _ words made (ap Answer (super_reply words t.lines t.cmd fault is))
-    (at_made ∙ sym (super_end_steps t.cmd first_format 0 (fed_gate words) (file_lines t.cmd (told_entries 0 words t.lines)) fault ∙ late fault refl))
+    (at_made ∙ sym (super_end_steps t.cmd first_format (first_told t words) (fed_gate words) (file_lines t.cmd (told_entries (used_told_by t words) words t.lines)) fault ∙ late fault refl))
 super_by t words made (Ok p) is long at_made fresh late =
     host_by t p words made (wish_of t.cmd) at_made
     (λ host.
@@ -85,9 +92,9 @@ super_line t words j made h =
 
 -- The header.
 
-header_by : (t : Task) (words : List ℕ) (made : ℕ) (f : Option LogFault) → HasSuper t.cmd t.me t.lines t.params words → log_fault (fed_head words log_line) t.params ≡ f → length words ≡ 25 → made ≡ 29 → IsFresh t.first_slot t.entries t.survey → Outcome t (header_turn t f) (header_note t.cmd words t.lines f) words made
+header_by : (t : Task) (words : List ℕ) (made : ℕ) (f : Option LogFault) → HasSuper t.cmd t.me t.lines t.params words → log_fault (fed_head words log_line) t.params ≡ f → length words ≡ 25 → made ≡ 29 → IsFresh t.kept t.entries t.survey → Outcome t (header_turn t f) (header_note t.cmd words t.lines f) words made
 header_by t words made (Some fault) head is long at_made fresh = ends t (log_fault_reply t.cmd fault) _ words made (ap Answer (header_reply words t.lines t.cmd t.params fault head.super is))
-    (at_made ∙ sym (log_end_steps t.cmd first_format 0 (fed_gate words) (file_lines t.cmd (told_entries 0 words t.lines)) fault ∙ header_steps (fed_head words log_line) t.params fault is))
+    (at_made ∙ sym (log_end_steps t.cmd first_format (first_told t words) (fed_gate words) (file_lines t.cmd (told_entries (used_told_by t words) words t.lines)) fault ∙ header_steps (fed_head words log_line) t.params fault is))
 header_by t words made None head is long at_made fresh =
     goes_on t (record t { phase = at.DropGate; words = [] }) words made refl refl refl refl (record { head = head; header = is; long = omega arith }, long, at_made, fresh, refl)
 
@@ -109,29 +116,40 @@ pub drop_gate_step : (t : Task) (words : List ℕ) (made : ℕ) → TieAt at.Dro
 drop_gate_step t words made (header, long, is, fresh, held) =
     record { noted = refl; tied = still_tied t (record t { phase = at.Gate }) words (made + 1) refl refl refl refl (header, long, omega arith, fresh, held) }
 
--- before the first slot nothing is known of the slots
-no_slot : (cmd : Cmd) (p : Params) (gate first : ℕ) (entries : List Entry) (survey : Survey) (words : List ℕ) → IsFresh first entries survey → SlotsKnown cmd p gate entries survey words 0
-no_slot Fsck p gate first entries survey words fresh = fresh.nothing
-no_slot cmd p gate first entries survey words fresh =
-    subst (λ (list : List Entry). AreRead p list words 0) (sym fresh.no_entry) (record { sound = refl; count = refl; lookups = get-empty path_cmp })
+none_more : (words : List ℕ) (p : Params) (list : List Entry) → fed_slots words p list (length list) ≡ Sound p list
+none_more words p list = ap (λ (n : ℕ). read_slots (fed p (length list) words) p (length list) n list) (let z : length list - length list ≡ 0 = omega arith in z)
+
+-- no more kept entries are used than slots are read
+within_as : (cmd : Cmd) (t : Task) (n : ℕ) → gate_fault n t.params ≡ None → length (used t.kept cmd t.params n) ≤ slots_read (record t { cmd = cmd; gate = n })
+within_as Fsck t n is = omega (arith, used_fsck_count t.kept t.params n)
+within_as cmd t n is = used_below t.kept cmd t.params n
+
+pub within_slots : (t : Task) (n : ℕ) → gate_fault n t.params ≡ None → length (used t.kept t.cmd t.params n) ≤ slots_read (record t { gate = n })
+within_slots t n is = within_as t.cmd t n is
+
+-- before the first slot only the kept entries are known
+no_slot : (kept : Option Kept) (cmd : Cmd) (p : Params) (gate : ℕ) (entries : List Entry) (survey : Survey) (words : List ℕ) → IsFresh kept entries survey → SlotsKnown cmd p gate (used kept cmd p gate) (used kept cmd p gate) survey words (length (used kept cmd p gate))
+no_slot kept Fsck p gate entries survey words fresh =
+    fresh.nothing ∙ ap (λ (n : ℕ). survey_slots (fed p 0 words) p gate 0 n no_survey) (sym (used_fsck_count kept p gate))
+no_slot kept cmd p gate entries survey words fresh =
+    record { sound = none_more words p (used kept cmd p gate); count = refl; lookups = used_finds kept cmd p gate fresh.joined }
 
 found_by : (t next : Task) (w : Option Wish) (n : ℕ) (words : List ℕ) (made : ℕ) → Outcome t (Goes next) Quiet words made → Outcome t (finds_or_goes w n next) (found_note w n) words made
 found_by t next None n words made on = on
 found_by t next (Some w) n words made on = record { noted = refl; tied = on.tied }
 
-gate_by : (t : Task) (words : List ℕ) (n made : ℕ) (f : Option LogFault) → HasHeader t.cmd t.me t.lines t.params words → fed_gate words ≡ n → gate_fault n t.params ≡ f → length words ≡ 26 → made ≡ 31 → IsFresh t.first_slot t.entries t.survey → t.words ≡ [] → Outcome t (gate_turn t n f) (gate_note t.cmd words t.lines f) words made
+gate_by : (t : Task) (words : List ℕ) (n made : ℕ) (f : Option LogFault) → HasHeader t.cmd t.me t.lines t.params words → fed_gate words ≡ n → gate_fault n t.params ≡ f → length words ≡ 26 → made ≡ 31 → IsFresh t.kept t.entries t.survey → t.words ≡ [] → Outcome t (gate_turn t n f) (gate_note t.cmd words t.lines f) words made
 gate_by t words n made (Some fault) header told is long at_made fresh held =
     ends t (log_fault_reply t.cmd fault) _ words made (ap Answer (gate_reply words t.lines t.cmd t.params fault header.head.super header.header (ap (λ (g : ℕ). gate_fault g t.params) told ∙ is)))
-    (at_made ∙ sym (log_end_steps t.cmd first_format 0 (fed_gate words) (file_lines t.cmd (told_entries 0 words t.lines)) fault ∙ gate_steps n t.params fault is))
+    (at_made ∙ sym (log_end_steps t.cmd first_format (first_told t words) (fed_gate words) (file_lines t.cmd (told_entries (used_told_by t words) words t.lines)) fault ∙ gate_steps n t.params fault is))
 gate_by t words n made None header told is long at_made fresh held =
     outcome_as t _ _ _ (found_note (wish_of t.cmd) n) words made refl (ap (found_note (wish_of t.cmd)) told)
     (found_by t (gate_loaded t n) (wish_of t.cmd) n words made
     (goes_on t (gate_loaded t n) words made refl refl refl refl
-    (subst (λ (i : ℕ). TieAt (slot_or_decide (record t { gate = n }) i) (gate_loaded t n) words made) (sym fresh.begins)
-    (slot_or_decide_tie (record t { gate = n }) (slot_or_decide (record t { gate = n }) t.first_slot) words 0 made known (omega arith) held (omega arith) (omega arith)))))
+    (slot_or_decide_tie (record t { gate = n; entries = used t.kept t.cmd t.params n }) (slot_or_decide (record t { gate = n }) (length (used t.kept t.cmd t.params n))) words (length (used t.kept t.cmd t.params n)) made known (within_slots t n is) held (omega arith) (omega arith))))
   where
-    known : TaskSlots (record t { gate = n }) words 0
-    known = record { gated = record { log = header; gate_is = told; within = is; long = omega arith }; known = no_slot t.cmd t.params n t.first_slot t.entries t.survey words fresh; long = omega arith }
+    known : TaskSlots (record t { gate = n; entries = used t.kept t.cmd t.params n }) words (length (used t.kept t.cmd t.params n))
+    known = record { gated = record { log = header; gate_is = told; within = is; long = omega arith }; known = no_slot t.kept t.cmd t.params n t.entries t.survey words fresh; behind = omega arith; long = omega arith }
 
 -- the gate is loaded
 pub gate_step : (t : Task) (words : List ℕ) (word made : ℕ) → TieAt at.Gate t words made → Outcome t (gate_turn t word (gate_fault word t.params)) (gate_note t.cmd (words ++ word ∷ []) t.lines (gate_fault (fed_gate (words ++ word ∷ [])) t.params)) (words ++ word ∷ []) (made + 1)

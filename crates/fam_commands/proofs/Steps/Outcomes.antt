@@ -1,5 +1,5 @@
 -- What comes of an operation, beside what the table notes: the same note, and a task that still stands.
-use Rattle.std.proofs.Common.{ℕ, ◌≡◌, ◌<◌, ◌≤◌, ◌+◌, ◌*◌, inl, inr, List, [], ◌∷◌, ◌++◌, length, drop, refl, sym, ◌∙◌, ap, subst, arith, length-append}
+use Rattle.std.proofs.Common.{ℕ, ◌≡◌, ◌<◌, ◌≤◌, ◌+◌, ◌-◌, ◌*◌, inl, inr, List, [], ◌∷◌, ◌++◌, length, drop, refl, sym, ◌∙◌, ap, subst, arith, length-append}
 use Rattle.std.specs.Prelude.{nat_lt, if◌then◌else◌}
 use Rattle.std.proofs.lemmas.Bool.{cases_lt}
 use Rattle.std.proofs.lemmas.List.{drop-append-le, drop_all}
@@ -10,7 +10,7 @@ use Rattle.fam_commands.specs.declared.phase.Part.TheVariants.{Superblock, Slot,
 use Rattle.fam_commands.specs.declared.phase.Phase.{Phase}
 use Rattle.fam_commands.specs.declared.phase.Phase.TheVariants as at
 use Rattle.fam_rules.specs.Reply.{Reply}
-use Rattle.fam_commands.specs.Task.{Task, part_count}
+use Rattle.fam_commands.specs.Task.{Task, part_count, first_in}
 use Rattle.fam_commands.specs.Turns.{Turn, Goes, Ends, word_turn, line_turn, with_word, slots_read, slot_or_decide}
 use Rattle.fam_commands.specs.Table.{RowNote, Quiet, Answer}
 use Rattle.fam_commands.specs.Counts.{steps_of}
@@ -22,7 +22,7 @@ use Rattle.fam_commands.proofs.Steps.Ties.{PartKnown, InPart, TaskSlots, TieAt, 
 -- what comes of a turn: its note is the table's, and the task is tied again or has ended in time
 pub record Outcome (t : Task) (turn : Turn) (note : RowNote) (words : List ℕ) (made : ℕ) : Type 0 where
   pub noted : note ≡ note_of turn
-  pub tied : TurnTied t.cmd t.me t.lines t.first_slot turn words made
+  pub tied : TurnTied t.cmd t.me t.lines t.kept turn words made
 
 -- by other spellings of the turn and the note
 pub outcome_as : (t : Task) (turn other : Turn) (note noted : RowNote) (words : List ℕ) (made : ℕ) → turn ≡ other → note ≡ noted → Outcome t other noted words made → Outcome t turn note words made
@@ -30,15 +30,15 @@ outcome_as t turn other note noted words made turn_is note_is o =
     subst (λ (x : Turn). Outcome t x note words made) (sym turn_is) (subst (λ (n : RowNote). Outcome t other n words made) (sym note_is) o)
 
 -- a task of the same command that stands
-pub still_tied : (t next : Task) (words : List ℕ) (made : ℕ) → next.cmd ≡ t.cmd → next.me ≡ t.me → next.lines ≡ t.lines → next.first_slot ≡ t.first_slot → TieAt next.phase next words made → Tied t.cmd t.me t.lines t.first_slot next words made
-still_tied t next words made cmd me lines first tie = record { cmd_is = cmd; me_is = me; lines_is = lines; first_is = first; tie = tie }
+pub still_tied : (t next : Task) (words : List ℕ) (made : ℕ) → next.cmd ≡ t.cmd → next.me ≡ t.me → next.lines ≡ t.lines → next.kept ≡ t.kept → TieAt next.phase next words made → Tied t.cmd t.me t.lines t.kept next words made
+still_tied t next words made cmd me lines first tie = record { cmd_is = cmd; me_is = me; lines_is = lines; kept_is = first; tie = tie }
 
 -- a turn that goes on
-pub goes_on : (t next : Task) (words : List ℕ) (made : ℕ) → next.cmd ≡ t.cmd → next.me ≡ t.me → next.lines ≡ t.lines → next.first_slot ≡ t.first_slot → TieAt next.phase next words made → Outcome t (Goes next) Quiet words made
+pub goes_on : (t next : Task) (words : List ℕ) (made : ℕ) → next.cmd ≡ t.cmd → next.me ≡ t.me → next.lines ≡ t.lines → next.kept ≡ t.kept → TieAt next.phase next words made → Outcome t (Goes next) Quiet words made
 goes_on t next words made cmd me lines first tie = record { noted = refl; tied = still_tied t next words made cmd me lines first tie }
 
 -- a turn that ends
-pub ends : (t : Task) (reply : Reply) (note : RowNote) (words : List ℕ) (made : ℕ) → note ≡ Answer reply → made ≡ steps_of 0 t.cmd t.lines words reply → Outcome t (Ends reply) note words made
+pub ends : (t : Task) (reply : Reply) (note : RowNote) (words : List ℕ) (made : ℕ) → note ≡ Answer reply → made ≡ steps_of t.kept t.cmd t.lines words reply → Outcome t (Ends reply) note words made
 ends t reply note words made is count = record { noted = is; tied = count }
 
 -- by a test of two numbers
@@ -96,14 +96,14 @@ word_outcome part t words word j k made h small last =
     last seven (record { known = g.known; within = g.within; long = let e = g.long in omega arith; held = g.held; made_is = let e = g.made_is in omega arith }))
 
 -- the slots below i are known: slot i is next, or the decision
-pub slot_or_decide_tie : (t : Task) (phase : Phase) (words : List ℕ) (i made : ℕ) → TaskSlots t words i → i ≤ slots_read t → t.words ≡ [] → length words ≡ 26 + 64 * i → made ≡ 31 + 73 * i → TieAt (slot_or_decide t i) (record t { phase = phase }) words made
+pub slot_or_decide_tie : (t : Task) (phase : Phase) (words : List ℕ) (i made : ℕ) → TaskSlots t words i → i ≤ slots_read t → t.words ≡ [] → length words ≡ 26 + 64 * (i - first_in t) → made ≡ 31 + 73 * (i - first_in t) → TieAt (slot_or_decide t i) (record t { phase = phase }) words made
 slot_or_decide_tie t phase words i made h within held long is =
     elim (cases_lt i (slots_read t)) [
       | inl below ↦
           subst (λ (p : Phase). TieAt p (record t { phase = phase }) words made) (sym (if_below i (slots_read t) (at.Drop (Slot i) 0) at.Decide below))
-          (record { known = (h, below); within = omega arith; long = omega arith; held = held ∙ sym (drop_all (26 + 64 * i + 0) words (omega arith)); made_is = omega arith })
+          (record { known = (h, below); within = omega arith; long = omega arith; held = held ∙ sym (drop_all (26 + 64 * (i - first_in t) + 0) words (omega arith)); made_is = omega arith })
       | inr past ↦
           let last : i ≡ slots_read t = omega arith in
           subst (λ (p : Phase). TieAt p (record t { phase = phase }) words made) (sym (if_past i (slots_read t) (at.Drop (Slot i) 0) at.Decide past))
-          (subst (λ (n : ℕ). TaskSlots t words n) last h, long ∙ ap (λ (n : ℕ). 26 + 64 * n) last, is ∙ ap (λ (n : ℕ). 31 + 73 * n) last)
+          (subst (λ (n : ℕ). TaskSlots t words n) last h, long ∙ ap (λ (n : ℕ). 26 + 64 * (n - first_in t)) last, is ∙ ap (λ (n : ℕ). 31 + 73 * (n - first_in t)) last)
     ]

@@ -9,8 +9,13 @@ use Rattle.fam_commands.specs.declared.phase.Part.TheVariants.{Superblock, Heade
 use Rattle.fam_commands.specs.declared.phase.Phase.{Phase}
 use Rattle.fam_commands.specs.declared.phase.Phase.TheVariants as at
 use Rattle.fam_rules.specs.Reply.{Reply}
-use Rattle.fam_commands.specs.Counts.{steps_of}
-use Rattle.fam_commands.specs.Task.{Task, op_at, op_of, start_slot}
+use Rattle.fam_commands.specs.Counts.{steps_of, told_entries, used_told}
+use Rattle.fam_commands.specs.Table.{fed_super, params_or}
+use Rattle.fam_commands.specs.Task.{no_params}
+use Rattle.fam_commands.proofs.Rows.Slots.{ReadsLog, below_gate}
+use Rattle.fam_commands.proofs.Counted.Files.{told_are}
+use Rattle.fam_commands.specs.Kept.{Kept, IsKept}
+use Rattle.fam_commands.specs.Task.{Task, op_at, op_of}
 use Rattle.fam_commands.specs.Turns.{Turn, Goes, Marks, Finds, Writes, Ends, line_turn, with_word, turn_at}
 use Rattle.fam_commands.specs.Table.{RowNote, Row, table}
 use Rattle.fam_machine.specs.Operations.{given_by}
@@ -21,9 +26,9 @@ use Rattle.fam_commands.proofs.Steps.Outcomes.{Outcome, goes_on, ends, first_wor
 use Rattle.fam_commands.proofs.Steps.Head.{magic_step, super_line, header_line, drop_gate_step, gate_step}
 use Rattle.fam_commands.proofs.Steps.Slots.{slot_line_step, check_step}
 use Rattle.fam_commands.proofs.Steps.Decide.{decide_step}
-use Rattle.fam_commands.proofs.Steps.Append.{store_data_step, send_data_step, store_slot_step, send_slot_step, store_gate_step, send_gate_step}
+use Rattle.fam_commands.proofs.Steps.Append.{store_data_step, send_data_step, store_slot_step, send_slot_step, fence_slot_step, store_gate_step, send_gate_step, fence_gate_step}
 use Rattle.fam_commands.proofs.Steps.FileLines.{file_line_step}
-use Rattle.fam_commands.proofs.Steps.Ties.{InPart, TieAt, Tied, TurnTied, line_end, note_at}
+use Rattle.fam_commands.proofs.Steps.Ties.{InPart, TaskSlots, TieAt, Tied, TurnTied, line_end, note_at}
 
 -- One operation.
 
@@ -52,11 +57,13 @@ step (at.SendData j) t words word made h = send_data_step t words j made h
 step (at.StoreSlot j k) t words word made h = store_slot_step t words j k made h
 step (at.SendSlot j) t words word made h = send_slot_step t words j made h
 step at.StoreGate t words word made h = store_gate_step t words made h
+step at.FenceSlot t words word made h = fence_slot_step t words made h
 step at.SendGate t words word made h = send_gate_step t words made h
+step at.FenceGate t words word made h = fence_gate_step t words made h
 
 -- All operations.
 
-after_turn : (cmd : Cmd) (me : List ℕ) (lines first : ℕ) (turn : Turn) (next : Task) (words : List ℕ) (made : ℕ) → TurnTied cmd me lines first turn words made → task_after turn ≡ Some next → Tied cmd me lines first next words made
+after_turn : (cmd : Cmd) (me : List ℕ) (lines : ℕ) (first : Option Kept) (turn : Turn) (next : Task) (words : List ℕ) (made : ℕ) → TurnTied cmd me lines first turn words made → task_after turn ≡ Some next → Tied cmd me lines first next words made
 after_turn cmd me lines first (Goes t) next words made tied is = subst (λ (x : Task). Tied cmd me lines first x words made) (same_Some t next is) tied
 after_turn cmd me lines first (Marks t) next words made tied is = subst (λ (x : Task). Tied cmd me lines first x words made) (same_Some t next is) tied
 after_turn cmd me lines first (Finds n t) next words made tied is = subst (λ (x : Task). Tied cmd me lines first x words made) (same_Some t next is) tied
@@ -64,16 +71,16 @@ after_turn cmd me lines first (Writes seq e t) next words made tied is = subst (
 after_turn cmd me lines first (Ends reply) next words made tied is = absurd cc
 
 -- a task that stands for a command is tied to the table
-pub standing_tied : (cmd : Cmd) (me : List ℕ) (lines : ℕ) (t : Task) (words : List ℕ) (made : ℕ) → StandsFor cmd me lines t words made → Tied cmd me lines 0 t words made
-standing_tied cmd me lines t words made starts = record { cmd_is = refl; me_is = refl; lines_is = refl; first_is = refl; tie = (refl, refl, record { begins = refl; no_entry = refl; nothing = refl }) }
-standing_tied cmd me lines next _ _ (goes {t = t} {words = words} {made = made} word before is) =
-    let tied = standing_tied cmd me lines t words made before in
-    let on = after_turn t.cmd t.me t.lines t.first_slot (turn_given t word) next (with_given words (given_by (op_of t) word)) (made + 1) (step t.phase t words word made tied.tie).tied is in
-    record { cmd_is = on.cmd_is ∙ tied.cmd_is; me_is = on.me_is ∙ tied.me_is; lines_is = on.lines_is ∙ tied.lines_is; first_is = on.first_is ∙ tied.first_is; tie = on.tie }
+pub standing_tied : (kept : Option Kept) (cmd : Cmd) (me : List ℕ) (lines : ℕ) (t : Task) (words : List ℕ) (made : ℕ) → IsKept kept → StandsFor kept cmd me lines t words made → Tied cmd me lines kept t words made
+standing_tied kept cmd me lines t words made joined starts = record { cmd_is = refl; me_is = refl; lines_is = refl; kept_is = refl; tie = (refl, refl, record { joined = joined; no_entry = refl; nothing = refl }) }
+standing_tied kept cmd me lines next _ _ joined (goes {t = t} {words = words} {made = made} word before is) =
+    let tied = standing_tied kept cmd me lines t words made joined before in
+    let on = after_turn t.cmd t.me t.lines t.kept (turn_given t word) next (with_given words (given_by (op_of t) word)) (made + 1) (step t.phase t words word made tied.tie).tied is in
+    record { cmd_is = on.cmd_is ∙ tied.cmd_is; me_is = on.me_is ∙ tied.me_is; lines_is = on.lines_is ∙ tied.lines_is; kept_is = on.kept_is ∙ tied.kept_is; tie = on.tie }
 
--- a task reads from the start on
-pub first_of : (cmd : Cmd) (me : List ℕ) (lines : ℕ) (t : Task) (words : List ℕ) (made : ℕ) → StandsFor cmd me lines t words made → t.first_slot ≡ start_slot
-first_of cmd me lines t words made stands = (standing_tied cmd me lines t words made stands).first_is
+-- a task keeps what its host kept
+pub kept_of : (kept : Option Kept) (cmd : Cmd) (me : List ℕ) (lines : ℕ) (t : Task) (words : List ℕ) (made : ℕ) → IsKept kept → StandsFor kept cmd me lines t words made → t.kept ≡ kept
+kept_of kept cmd me lines t words made joined stands = (standing_tied kept cmd me lines t words made joined stands).kept_is
 
 -- The laws.
 
@@ -87,45 +94,56 @@ unfolding given_words
 with_given_is words None = sym (append-nil words)
 with_given_is words (Some word) = refl
 
-table_is : (cmd : Cmd) (me : List ℕ) (lines : ℕ) (t : Task) (words : List ℕ) → t.cmd ≡ cmd → t.me ≡ me → t.lines ≡ lines → t.first_slot ≡ 0 → table 0 t.cmd t.me t.lines words ≡ table t.first_slot cmd me lines words
-table_is cmd me lines t words cmd_is me_is lines_is first_is =
-    ap (λ (c : Cmd). table 0 c t.me t.lines words) cmd_is ∙ ap (λ (m : List ℕ). table 0 cmd m t.lines words) me_is ∙ ap (λ (l : ℕ). table 0 cmd me l words) lines_is ∙ ap (λ (n : ℕ). table n cmd me lines words) (sym first_is)
+table_is : (kept : Option Kept) (cmd : Cmd) (me : List ℕ) (lines : ℕ) (t : Task) (words : List ℕ) → t.kept ≡ kept → t.cmd ≡ cmd → t.me ≡ me → t.lines ≡ lines → table t.kept t.cmd t.me t.lines words ≡ table kept cmd me lines words
+table_is kept cmd me lines t words kept_is cmd_is me_is lines_is =
+    ap (λ (k : Option Kept). table k t.cmd t.me t.lines words) kept_is ∙ ap (λ (c : Cmd). table kept c t.me t.lines words) cmd_is ∙ ap (λ (m : List ℕ). table kept cmd m t.lines words) me_is ∙ ap (λ (l : ℕ). table kept cmd me l words) lines_is
 
 -- the row, also after words that are given
-row_of_standing : (cmd : Cmd) (me : List ℕ) (lines : ℕ) (t : Task) (words : List ℕ) (made : ℕ) (given : Option ℕ) → Tied cmd me lines 0 t words made → HasRow (table t.first_slot cmd me lines (with_given words given)) made (op_of t) (note_at t.phase t (with_given words given))
-row_of_standing cmd me lines t words made given tied =
-    subst (λ (w : List ℕ). HasRow (table t.first_slot cmd me lines w) made (op_of t) (note_at t.phase t w)) (sym (with_given_is words given))
-    (ap (λ (rows : List Row). slice_get rows made) (sym (table_is cmd me lines t (words ++ given_words given) tied.cmd_is tied.me_is tied.lines_is tied.first_is))
+row_of_standing : (kept : Option Kept) (cmd : Cmd) (me : List ℕ) (lines : ℕ) (t : Task) (words : List ℕ) (made : ℕ) (given : Option ℕ) → Tied cmd me lines kept t words made → HasRow (table kept cmd me lines (with_given words given)) made (op_of t) (note_at t.phase t (with_given words given))
+row_of_standing kept cmd me lines t words made given tied =
+    subst (λ (w : List ℕ). HasRow (table kept cmd me lines w) made (op_of t) (note_at t.phase t w)) (sym (with_given_is words given))
+    (ap (λ (rows : List Row). slice_get rows made) (sym (table_is kept cmd me lines t (words ++ given_words given) tied.kept_is tied.cmd_is tied.me_is tied.lines_is))
     ∙ row_at t.phase t words (given_words given) made tied.tie)
 
 -- it does the operation that the table has next
-pub next_operation : (cmd : Cmd) (me : List ℕ) (lines : ℕ) (t : Task) (words : List ℕ) (made : ℕ) → StandsFor cmd me lines t words made → option_map (λ (r : Row). r.op) (slice_get (table t.first_slot cmd me lines words) made) ≡ Some (op_of t)
-next_operation cmd me lines t words made stands =
-    ap (option_map (λ (r : Row). r.op)) (row_of_standing cmd me lines t words made None (standing_tied cmd me lines t words made stands))
-
--- the table of a command that reads from the start on
-pub operation_from_start : (cmd : Cmd) (me : List ℕ) (lines : ℕ) (t : Task) (words : List ℕ) (made : ℕ) → StandsFor cmd me lines t words made → option_map (λ (r : Row). r.op) (slice_get (table start_slot cmd me lines words) made) ≡ Some (op_of t)
-operation_from_start cmd me lines t words made stands =
-    ap (λ (n : ℕ). option_map (λ (r : Row). r.op) (slice_get (table n cmd me lines words) made)) (sym (first_of cmd me lines t words made stands))
-    ∙ next_operation cmd me lines t words made stands
+pub next_operation : (kept : Option Kept) (cmd : Cmd) (me : List ℕ) (lines : ℕ) (t : Task) (words : List ℕ) (made : ℕ) → IsKept kept → StandsFor kept cmd me lines t words made → option_map (λ (r : Row). r.op) (slice_get (table kept cmd me lines words) made) ≡ Some (op_of t)
+next_operation kept cmd me lines t words made joined stands =
+    ap (option_map (λ (r : Row). r.op)) (row_of_standing kept cmd me lines t words made None (standing_tied kept cmd me lines t words made joined stands))
 
 -- what comes of it is noted there
-pub next_note : (cmd : Cmd) (me : List ℕ) (lines : ℕ) (t : Task) (words : List ℕ) (made : ℕ) → StandsFor cmd me lines t words made → (word : ℕ) → option_map (λ (r : Row). r.note) (slice_get (table t.first_slot cmd me lines (with_given words (given_by (op_of t) word))) made) ≡ Some (note_of (turn_given t word))
-next_note cmd me lines t words made stands word =
-    let tied = standing_tied cmd me lines t words made stands in
-    ap (option_map (λ (r : Row). r.note)) (row_of_standing cmd me lines t words made (given_by (op_of t) word) tied)
+pub next_note : (kept : Option Kept) (cmd : Cmd) (me : List ℕ) (lines : ℕ) (t : Task) (words : List ℕ) (made : ℕ) → IsKept kept → StandsFor kept cmd me lines t words made → (word : ℕ) → option_map (λ (r : Row). r.note) (slice_get (table kept cmd me lines (with_given words (given_by (op_of t) word))) made) ≡ Some (note_of (turn_given t word))
+next_note kept cmd me lines t words made joined stands word =
+    let tied = standing_tied kept cmd me lines t words made joined stands in
+    ap (option_map (λ (r : Row). r.note)) (row_of_standing kept cmd me lines t words made (given_by (op_of t) word) tied)
     ∙ ap Some (step t.phase t words word made tied.tie).noted
 
--- of a command that reads from the start on
-pub note_from_start : (cmd : Cmd) (me : List ℕ) (lines : ℕ) (t : Task) (words : List ℕ) (made : ℕ) → StandsFor cmd me lines t words made → (word : ℕ) → option_map (λ (r : Row). r.note) (slice_get (table start_slot cmd me lines (with_given words (given_by (op_of t) word))) made) ≡ Some (note_of (turn_given t word))
-note_from_start cmd me lines t words made stands word =
-    ap (λ (n : ℕ). option_map (λ (r : Row). r.note) (slice_get (table n cmd me lines (with_given words (given_by (op_of t) word))) made)) (sym (first_of cmd me lines t words made stands))
-    ∙ next_note cmd me lines t words made stands word
-
 -- a task that ends has made as many operations as its answer says
-pub steps_at_end : (cmd : Cmd) (me : List ℕ) (lines : ℕ) (t : Task) (words : List ℕ) (made : ℕ) → StandsFor cmd me lines t words made → (word : ℕ) (reply : Reply) → turn_given t word ≡ Ends reply → made + 1 ≡ steps_of t.first_slot cmd lines (with_given words (given_by (op_of t) word)) reply
-steps_at_end cmd me lines t words made stands word reply ends =
-    let tied = standing_tied cmd me lines t words made stands in
+pub steps_at_end : (kept : Option Kept) (cmd : Cmd) (me : List ℕ) (lines : ℕ) (t : Task) (words : List ℕ) (made : ℕ) → IsKept kept → StandsFor kept cmd me lines t words made → (word : ℕ) (reply : Reply) → turn_given t word ≡ Ends reply → made + 1 ≡ steps_of kept cmd lines (with_given words (given_by (op_of t) word)) reply
+steps_at_end kept cmd me lines t words made joined stands word reply ends =
+    let tied = standing_tied kept cmd me lines t words made joined stands in
     let now : List ℕ = with_given words (given_by (op_of t) word) in
-    let count : made + 1 ≡ steps_of 0 t.cmd t.lines now reply = subst (λ (turn : Turn). TurnTied t.cmd t.me t.lines t.first_slot turn now (made + 1)) ends (step t.phase t words word made tied.tie).tied in
-    count ∙ ap (λ (c : Cmd). steps_of 0 c t.lines now reply) tied.cmd_is ∙ ap (λ (l : ℕ). steps_of 0 cmd l now reply) tied.lines_is ∙ ap (λ (n : ℕ). steps_of n cmd lines now reply) (sym tied.first_is)
+    let count : made + 1 ≡ steps_of t.kept t.cmd t.lines now reply = subst (λ (turn : Turn). TurnTied t.cmd t.me t.lines t.kept turn now (made + 1)) ends (step t.phase t words word made tied.tie).tied in
+    count ∙ ap (λ (c : Cmd). steps_of t.kept c t.lines now reply) tied.cmd_is ∙ ap (λ (l : ℕ). steps_of t.kept cmd l now reply) tied.lines_is ∙ ap (λ (k : Option Kept). steps_of k cmd lines now reply) tied.kept_is
+
+-- a task that decides has what its words tell
+pub decided_told : (kept : Option Kept) (cmd : Cmd) (me : List ℕ) (lines : ℕ) (t : Task) (words : List ℕ) (made : ℕ) → IsKept kept → StandsFor kept cmd me lines t words made → t.phase ≡ at.Decide → ReadsLog t.cmd → (t.params ≡ params_or no_params (fed_super words lines)) × (t.entries ≡ told_entries (used_told kept cmd words lines) words lines)
+decided_told kept cmd me lines t words made joined stands is reads =
+    let tied = standing_tied kept cmd me lines t words made joined stands in
+    let here : TieAt at.Decide t words made = subst (λ (p : Phase). TieAt p t words made) is tied.tie in
+    let slots : TaskSlots t words t.gate = subst (λ (n : ℕ). TaskSlots t words n) (below_gate t reads) here.0 in
+    let params : params_or no_params (fed_super words t.lines) ≡ t.params = ap (params_or no_params) here.0.gated.log.head.super in
+    let entries : told_entries (used_told t.kept t.cmd words t.lines) words t.lines ≡ t.entries = told_are t.kept t.cmd t.me t.lines t.params t.gate t.entries t.survey words reads slots in (
+      sym params ∙ ap (λ (l : ℕ). params_or no_params (fed_super words l)) tied.lines_is,
+      sym entries ∙ ap (λ (k : Option Kept). told_entries (used_told k t.cmd words t.lines) words t.lines) tied.kept_is ∙ ap (λ (c : Cmd). told_entries (used_told kept c words t.lines) words t.lines) tied.cmd_is ∙ ap (λ (l : ℕ). told_entries (used_told kept cmd words l) words l) tied.lines_is,
+    )
+
+-- On a host that keeps nothing.
+
+pub bare_tied : (cmd : Cmd) (me : List ℕ) (lines : ℕ) (t : Task) (words : List ℕ) (made : ℕ) → StandsFor None cmd me lines t words made → Tied cmd me lines None t words made
+bare_tied cmd me lines t words made stands = standing_tied None cmd me lines t words made tt stands
+
+pub operation_from_start : (cmd : Cmd) (me : List ℕ) (lines : ℕ) (t : Task) (words : List ℕ) (made : ℕ) → StandsFor None cmd me lines t words made → option_map (λ (r : Row). r.op) (slice_get (table None cmd me lines words) made) ≡ Some (op_of t)
+operation_from_start cmd me lines t words made stands = next_operation None cmd me lines t words made tt stands
+
+pub note_from_start : (cmd : Cmd) (me : List ℕ) (lines : ℕ) (t : Task) (words : List ℕ) (made : ℕ) → StandsFor None cmd me lines t words made → (word : ℕ) → option_map (λ (r : Row). r.note) (slice_get (table None cmd me lines (with_given words (given_by (op_of t) word))) made) ≡ Some (note_of (turn_given t word))
+note_from_start cmd me lines t words made stands word = next_note None cmd me lines t words made tt stands word

@@ -129,6 +129,7 @@ module _ (start : Image) (state : Machines) (world : WorldView) (held : Agrees s
         is = ap uuid_at (member_last world.hosts new_view);
         uuids = λ k ne. ap uuid_at (member_before world.hosts new_view k ne);
         runs = runs;
+        kept = λ k. refl;
       }))
     where
       stands : (k : ℕ) → HostStandsAt (length start) (slice_get (state.hosts ++ new_state ∷ []) k) (slice_get views k)

@@ -6,26 +6,25 @@ use Rattle.std.proofs.lemmas.Bool.{cases_eq}
 use Rattle.std.proofs.lemmas.Option.{same_Some}
 use Rattle.fam_base.specs.Image.{Image}
 use Rattle.fam_format.proofs.UnitPowers.{unit_told}
-use Rattle.fam_machine.proofs.Failing.{failed_cache}
 use Rattle.fam_protocol.specs.Tasks.{IsCommand}
 use Rattle.fam_journal.specs.Past.{past_of}
 use Rattle.fam_format.specs.Layout.{least_lines}
 use Rattle.fam_format.specs.Stop.{or_else}
 use Rattle.fam_format.specs.Params.{IsUuid, SoundParams, is_log_length, is_unit, need}
 use Rattle.fam_machine.specs.Caches.{Cache, dirty_count}
-use Rattle.fam_machine.specs.Operations.{IsInImage, Failure, Machine, failed, given, operated_all}
+use Rattle.fam_machine.specs.Operations.{Breaking, IsInImage, Failure, Machine, failed, given, operated_all}
 use Rattle.fam_machine.specs.declared.op.Op.{Op}
 use Rattle.fam_commands.specs.Stands.{StandsFor, note_of, turn_given}
 use Rattle.fam_commands.specs.Task.{Task, op_of}
 use Rattle.fam_machine.proofs.DirtyLemmas.{none_dirty}
-use Rattle.fam_commands.proofs.Steps.Standing.{operation_from_start, standing_tied}
+use Rattle.fam_commands.proofs.Steps.Standing.{operation_from_start, bare_tied}
 use Rattle.fam_rules.specs.Place.{line_bytes}
 use Rattle.fam_machine.proofs.MkfsOps.{early_free}
 use Rattle.fam_journal.specs.declared.refusal.Refusal.{Refusal}
 use Rattle.fam_journal.specs.Calls as call
 use Rattle.fam_journal.specs.Calls.{begins_refusal, is_busy, is_same, makes_refusal, refusal_of}
 use Rattle.fam_journal.specs.View.{HostStands, HostView, HostStandsAt, TaskStands, WorldView}
-use Rattle.fam_journal.specs.Kept.{Agrees, IfRuns, Kept, TaskTold, hosts_of, run_at, run_of, run_with, shared_of, settled_of}
+use Rattle.fam_journal.specs.Kept.{copy_at, Agrees, IfRuns, Kept, TaskTold, hosts_of, run_at, run_of, run_with, shared_of, settled_of}
 use Rattle.fam_machine.specs.HostMoves.{Move, move_failed, moved}
 use Rattle.fam_journal.specs.Machines.{Done, Fails, HostState, Machines, Operation, Outcome, Passes, TaskState, cut, host_done, machine_of, next_op, notes_of, op_done, operation, task_done, with_machine, with_memory, with_task}
 use Rattle.fam_journal.specs.Members.{changed_at, index_of}
@@ -36,9 +35,8 @@ use Rattle.fam_protocol.proofs.Hosts.Inside.{asks_inside}
 use Rattle.fam_journal.proofs.Calls.Members.{changed_alike, changed_at_member, changed_other}
 use Rattle.fam_journal.proofs.Calls.MkfsRows.{made_held, met_held}
 use Rattle.fam_journal.proofs.Calls.Rows.{Declared, begun_held, refused_held}
-use Rattle.fam_machine.specs.TearsLine.{TearsLine}
-use Rattle.fam_machine.proofs.Slipping.{move_tears_line, op_tears_line}
-use Rattle.fam_journal.proofs.Calls.TornLines.{cache_moved, failed_held, line_torn_held}
+use Rattle.fam_machine.proofs.Slipping.{move_tears_line}
+use Rattle.fam_journal.proofs.Calls.TornLines.{HasBroken, cache_moved, failed_held, line_torn_held}
 use Rattle.fam_journal.proofs.Calls.Stepped.{find_host, find_task, held_next, row_done}
 use Rattle.fam_journal.proofs.Calls.Tests.{at_most, both_first, both_next, no_busy, no_cause, no_dirty, no_same, no_when, none_dirty_from, or_first, or_next, other_uuid}
 
@@ -84,30 +82,24 @@ may_make unit log h state free =
       dirty = no_dirty (call.dirty_from h 0 state.hosts) (or_next b c behind);
     }
 
--- a machine with the cache that its host has
-cut_machine : (h : ℕ) (m : Machines) (host : HostState) (left : Machine) → slice_get m.hosts h ≡ Some host → left.cache ≡ host.cache → with_machine h left None m ≡ with_task h None (with_memory left.image m)
-cut_machine h m host left is same =
-    ap (λ (hosts : List HostState). record { memory = left.image; hosts = hosts })
-    (changed_alike h (λ z. record z { cache = left.cache; task = None }) (λ z. record z { task = None }) m.hosts host is (ap (λ (c : Cache). record host { cache = c; task = None }) same))
-
 -- what is noted where the media failed in an operation
 cut_says : (h : ℕ) (m : Machines) (o : Option Failure) (x : Done) → cut h m o ≡ Some x → (at : ℕ) × (x.notes ≡ Answered h (MediaFault at) ∷ [])
 cut_says h m None x is = absurd cc
 cut_says h m (Some failure) x is = (failure.line.0, sym (ap (λ (z : Done). z.notes) (same_Some _ x is)))
 
-op_says : (through h : ℕ) (m : Machines) (host : HostState) (s : TaskState) (o : Option Op) (x : Done) → op_done (Fails through) h m host s o ≡ Some x → (at : ℕ) × (x.notes ≡ Answered h (MediaFault at) ∷ [])
+op_says : (through : Breaking) (h : ℕ) (m : Machines) (host : HostState) (s : TaskState) (o : Option Op) (x : Done) → op_done (Fails through) h m host s o ≡ Some x → (at : ℕ) × (x.notes ≡ Answered h (MediaFault at) ∷ [])
 op_says through h m host s None x is = absurd cc
 op_says through h m host s (Some op) x is = cut_says h m (failed through op (machine_of m host)) x is
 
-task_says : (through h : ℕ) (m : Machines) (host : HostState) (o : Option TaskState) (x : Done) → task_done (Fails through) h m host o ≡ Some x → (at : ℕ) × (x.notes ≡ Answered h (MediaFault at) ∷ [])
+task_says : (through : Breaking) (h : ℕ) (m : Machines) (host : HostState) (o : Option TaskState) (x : Done) → task_done (Fails through) h m host o ≡ Some x → (at : ℕ) × (x.notes ≡ Answered h (MediaFault at) ∷ [])
 task_says through h m host None x is = absurd cc
 task_says through h m host (Some s) x is = op_says through h m host s (next_op s (length m.memory)) x is
 
-host_says : (through h : ℕ) (m : Machines) (o : Option HostState) (x : Done) → host_done (Fails through) h m o ≡ Some x → (at : ℕ) × (x.notes ≡ Answered h (MediaFault at) ∷ [])
+host_says : (through : Breaking) (h : ℕ) (m : Machines) (o : Option HostState) (x : Done) → host_done (Fails through) h m o ≡ Some x → (at : ℕ) × (x.notes ≡ Answered h (MediaFault at) ∷ [])
 host_says through h m None x is = absurd cc
 host_says through h m (Some host) x is = task_says through h m host host.task x is
 
-failed_notes : (through h : ℕ) (m : Machines) (x : Done) → operation (Fails through) h m ≡ Some x → (at : ℕ) × (x.notes ≡ Answered h (MediaFault at) ∷ [])
+failed_notes : (through : Breaking) (h : ℕ) (m : Machines) (x : Done) → operation (Fails through) h m ≡ Some x → (at : ℕ) × (x.notes ≡ Answered h (MediaFault at) ∷ [])
 unfolding operation
 failed_notes through h m x is = host_says through h m (slice_get m.hosts h) x is
 
@@ -138,11 +130,12 @@ module _ (start : Image) (state : Machines) (journal : List Note) (kept : Kept s
     no_operation outcome x none is =
         absurd (let e : host_done outcome h state (slice_get state.hosts h) ≡ None = ap (host_done outcome h state) d.host_is ∙ ap (task_done outcome h state d.host) none in cc)
 
-    module _ (t : Task) (runs : d.view.task ≡ Some t) (s : TaskState) (s_is : d.host.task ≡ Some s) (standing : StandsFor s.cmd s.me (length start) t s.words s.made) where
-      inside : IsInImage (op_of t) state.memory
+    module _ (t : Task) (runs : d.view.task ≡ Some t) (s : TaskState) (s_is : d.host.task ≡ Some s) (standing : StandsFor None s.cmd s.me (length start) t s.words s.made) where
+      inside : IsInImage (op_of t) (record { image = state.memory; cache = d.view.cache })
       inside =
           asks_inside (settled_of (past_of start journal).state) (length start) (hosts_of kept.views (past_of start journal).hosts) (shared_of state.memory kept.views) held.limit held.invariant.stage h (run_of t d.told)
-          (ap₂ run_at d.view_is d.told_is ∙ ap (λ (o : Option Task). run_with o (Some d.told)) runs) state.memory held.lines
+          (ap₂ run_at d.view_is d.told_is ∙ ap (λ (o : Option Task). run_with o (Some d.told)) runs) (record { image = state.memory; cache = d.view.cache })
+          record { memory = λ l. refl; copies = λ l. ap (λ (o : Option HostView). copy_at o l) d.view_is } held.lines
 
       abbrev word : ℕ
       word = unwrap_or (given (op_of t) (record { image = state.memory; cache = d.view.cache })) 0
@@ -163,25 +156,20 @@ module _ (start : Image) (state : Machines) (journal : List Note) (kept : Kept s
           let row = row_done start state world held h d.view d.view_is t runs inside d.told d.told_is d.host_told d.host d.host_is d.stands s s_is standing (turn_given t word) refl in
           sym (ap (λ (z : Done). z.notes) (same_Some _ x (sym row ∙ is)))
 
-      -- the media failed in the operation, which leaves the caches as before
-      cut_kept : (o : Option Failure) (x : Done) → cut h state o ≡ Some x → ((failure : Failure) → o ≡ Some failure → TearsLine state.memory failure.left.image d.view.cache × (failure.left.cache ≡ d.host.cache)) → Kept start x.left (journal ++ x.notes)
-      cut_kept None x is tears_line = absurd cc
-      cut_kept (Some failure) x is tears_line =
-          let tear_line = tears_line failure refl in
+      -- the media failed in the operation
+      cut_kept : (o : Option Failure) (x : Done) → cut h state o ≡ Some x → ((failure : Failure) → o ≡ Some failure → HasBroken (op_of t) (record { image = state.memory; cache = d.view.cache }) failure) → Kept start x.left (journal ++ x.notes)
+      cut_kept None x is broken = absurd cc
+      cut_kept (Some failure) x is broken =
           subst (λ (z : Done). Kept start z.left (journal ++ z.notes)) (same_Some _ x is)
-          (subst (λ (m : Machines). Kept start m (journal ++ Answered h (MediaFault failure.line.0) ∷ [])) (sym (cut_machine h state d.host failure.left d.host_is tear_line.1))
-          record { views = _; held = failed_held start state world held h d failure.left.image tear_line.0 failure.line.0; uuids = uuids_kept h _ (λ z. refl) state.hosts kept.uuids })
+          record { views = _; held = failed_held start state world held h d (op_of t) inside failure (broken failure refl); uuids = uuids_kept h _ (λ z. refl) state.hosts kept.uuids }
 
-      failed_kept : (through : ℕ) (x : Done) → operation (Fails through) h state ≡ Some x → Kept start x.left (journal ++ x.notes)
+      failed_kept : (through : Breaking) (x : Done) → operation (Fails through) h state ≡ Some x → Kept start x.left (journal ++ x.notes)
       unfolding operation
       failed_kept through x is =
           let op : next_op s (length state.memory) ≡ Some (op_of t) = ap (next_op s) held.lines ∙ operation_from_start s.cmd s.me (length start) t s.words s.made standing in
           cut_kept (failed through (op_of t) (machine_of state d.host)) x
           (sym (ap (host_done (Fails through) h state) d.host_is ∙ ap (task_done (Fails through) h state d.host) s_is ∙ ap (op_done (Fails through) h state d.host s) op) ∙ is)
-          (λ failure e. (
-            op_tears_line (op_of t) (record { image = state.memory; cache = d.view.cache }) through failure held.normal inside (ap (failed through (op_of t)) (sym same_cache) ∙ e),
-            failed_cache through (op_of t) (machine_of state d.host) failure e,
-          ))
+          (λ failure e. record { through = through; is = ap (failed through (op_of t)) (sym same_cache) ∙ e })
 
     operation_by : (outcome : Outcome) (x : Done) → operation outcome h state ≡ Some x → (o : Option Task) → d.view.task ≡ o → Kept start x.left (journal ++ x.notes)
     operation_by outcome x is None none =
@@ -199,7 +187,7 @@ module _ (start : Image) (state : Machines) (journal : List Note) (kept : Kept s
       pub runs : d.view.task ≡ Some t
       pub s : TaskState
       pub word : ℕ
-      pub standing : StandsFor s.cmd s.me (length start) t s.words s.made
+      pub standing : StandsFor None s.cmd s.me (length start) t s.words s.made
       pub cmd_is : d.told.cmd ≡ Some s.cmd
       pub notes_are : notes ≡ notes_of h (note_of (turn_given t word))
 
@@ -215,7 +203,7 @@ module _ (start : Image) (state : Machines) (journal : List Note) (kept : Kept s
           s = task.0;
           word = word t runs task.0 task.1 task.2;
           standing = task.2;
-          cmd_is = told.cmd ∙ ap Some (standing_tied task.0.cmd task.0.me (length start) t task.0.words task.0.made task.2).cmd_is;
+          cmd_is = told.cmd ∙ ap Some (bare_tied task.0.cmd task.0.me (length start) t task.0.words task.0.made task.2).cmd_is;
           notes_are = served_notes t runs task.0 task.1 task.2 x is;
         }
     turned_by (Fails through) x is (Some t) runs = inr (failed_notes through h state x is)

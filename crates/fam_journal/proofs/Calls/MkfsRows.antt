@@ -27,7 +27,7 @@ use Rattle.fam_rules.specs.Written.{format_puts, formatted}
 use Rattle.fam_rules.specs.WrittenLaws.{IsFormatted}
 use Rattle.fam_rules.proofs.FormattedProofs.{lines_formatted}
 use Rattle.fam_journal.specs.View.{HostView, WorldView}
-use Rattle.fam_journal.specs.Kept.{Agrees, copy_at, hosts_of, run_at, run_with, shared_of, uuid_at}
+use Rattle.fam_journal.specs.Kept.{Agrees, copy_at, settled_of, hosts_of, run_at, run_with, shared_of, uuid_at}
 use Rattle.fam_journal.specs.Machines.{HostState, Machines, with_machine}
 use Rattle.fam_journal.specs.Members.{changed_at}
 use Rattle.fam_machine.specs.Mkfs.{mkfs_ops, read_ops, drop_lines}
@@ -37,14 +37,15 @@ use Rattle.fam_journal.specs.Past.{HostPast, Past, past_of}
 use Rattle.fam_journal.proofs.Calls.Hosts.{held_with, stands_changed, told_changed, uuids_same}
 use Rattle.fam_journal.proofs.Calls.Members.{changed_at_member, changed_other}
 use Rattle.fam_machine.specs.Whole.{IsWhole}
-use Rattle.fam_machine.proofs.MkfsOps.{all_left, formatted_normal, prefix_dropped, gate_dropped, header_dropped, magic_dropped, read_in_turn, read_length, read_normal, rest_dropped, whole_left}
+use Rattle.fam_machine.proofs.MkfsOps.{made_dirty, all_left, formatted_normal, prefix_dropped, gate_dropped, header_dropped, magic_dropped, read_in_turn, read_length, read_normal, rest_dropped, whole_left}
+use Rattle.fam_protocol.proofs.Hosts.Inside.{dirty_inside}
 use Rattle.fam_journal.proofs.Calls.Rows.{Declared, moved_held, refused_held}
 
 -- what a host reads of a line has eight words, whatever eight words memory has
 pub current_wide : (m m' : List ℕ) (c : Cell) → length m' ≡ 8 → length (current m c) ≡ 8 → length (current m' c) ≡ 8
 current_wide m m' Absent wide was = wide
 current_wide m m' (Clean words) wide was = was
-current_wide m m' (Dirty words) wide was = was
+current_wide m m' (Dirty a words) wide was = was
 
 module _ (start : Image) (state : Machines) (world : WorldView) (held : Agrees start state world state.memory) (h : ℕ) (d : Declared start state world h) where
   abbrev x : Past
@@ -104,6 +105,7 @@ module _ (start : Image) (state : Machines) (world : WorldView) (held : Agrees s
       gate = form.gate;
       head = λ l head. copy_here l ∙ head_line l head;
       dropped = copy_here gate_line ∙ gate_dropped p (operated_all read_ops m).cache;
+      dirty = λ l dirty. subst IsDirty (sym (ap (λ (o : Option HostView). copy_at o l) d.view_is)) (made_dirty p m l (subst IsDirty (copy_here l) dirty));
       hosts = λ k l ne. copy_else k l ne;
     }
 
@@ -143,6 +145,7 @@ module _ (start : Image) (state : Machines) (world : WorldView) (held : Agrees s
       apart = λ a b id is_a is_b. held.invariant.declared.apart a b id (sym (uuids_same h d.view world.hosts d.view_is makes refl a) ∙ is_a) (sym (uuids_same h d.view world.hosts d.view_is makes refl b) ∙ is_b);
       absent = λ k l none. held.invariant.declared.absent k l (sym (uuids_same h d.view world.hosts d.view_is makes refl k) ∙ none);
       idle = λ k none. run_same k;
+      bare = λ k none. refl;
     }
 
     never_dirty : (k l : ℕ) → k ≢ h → (o : Option HostView) → slice_get world.hosts k ≡ o → IsDirty (copy_at o l) → ⊥
@@ -155,7 +158,9 @@ module _ (start : Image) (state : Machines) (world : WorldView) (held : Agrees s
       device = omega (arith, device, held.lines);
       maker_is = ap uuid_at (changed_at_member h makes world.hosts d.view d.view_is) ∙ ap Some mine;
       idle = run_same;
+      bare = λ k. refl;
       clean = λ k l ne dirty. never_dirty k l ne (slice_get world.hosts k) refl dirty;
+      inside = λ l dirty. dirty_inside (settled_of x.state) (length start) (hosts_of world.hosts x.hosts) (shared_of state.memory world.hosts) held.invariant.stage h l dirty;
     }
 
     formatted_held : Agrees start (with_machine h left d.host.task state) (record { hosts = views; journal = world.journal ++ Made h p ∷ [] }) left.image
@@ -180,7 +185,7 @@ module _ (start : Image) (state : Machines) (world : WorldView) (held : Agrees s
 drop_load_transfers : (memory : List ℕ) (c : Cell) → Transfers memory c (sent memory c) (Clean (sent memory c))
 drop_load_transfers memory Absent = moves.goes moves.brings moves.rests
 drop_load_transfers memory (Clean words) = moves.goes moves.drops (moves.goes moves.brings moves.rests)
-drop_load_transfers memory (Dirty words) = moves.goes moves.sends_whole (moves.goes moves.cleans moves.rests)
+drop_load_transfers memory (Dirty a words) = moves.goes moves.sends_whole (moves.goes moves.cleans moves.rests)
 
 -- one change behind another, of the same host
 pub changed_twice : {A : Type 0} (i : ℕ) (f g : A → A) (xs : List A) → changed_at i f (changed_at i g xs) ≡ changed_at i (λ x. f (g x)) xs

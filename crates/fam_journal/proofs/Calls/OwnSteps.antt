@@ -37,7 +37,7 @@ module _ (state : Machines) (world : WorldView) (stands : WorldStands (length st
   abbrev turn : Turn
   turn = turn_given t word
 
-  module _ (host : HostState) (host_is : slice_get state.hosts h ≡ Some host) (mine : HostStands lines host view) (s : TaskState) (s_is : host.task ≡ Some s) (standing : StandsFor s.cmd s.me lines t s.words s.made) where
+  module _ (host : HostState) (host_is : slice_get state.hosts h ≡ Some host) (mine : HostStands lines host view) (s : TaskState) (s_is : host.task ≡ Some s) (standing : StandsFor None s.cmd s.me lines t s.words s.made) where
     abbrev notes : List Note
     notes = notes_of h (note_of turn)
 

@@ -139,6 +139,7 @@ module _ (start : Image) (state : Machines) (world : WorldView) (held : Agrees s
           is = run_here h d.view world.hosts d.view_is begins y.hosts told_begun begun_told_is;
           uuids = uuids_same h d.view world.hosts d.view_is begins refl;
           runs = runs_else h d.view world.hosts d.view_is begins x.hosts y.hosts begun_told_else;
+          kept = λ k. refl;
         }))
 
   -- A task is dropped, and the cache stays.
@@ -154,6 +155,8 @@ module _ (start : Image) (state : Machines) (world : WorldView) (held : Agrees s
     is = run_here h d.view world.hosts d.view_is drops x.hosts d.told d.told_is;
     uuids = uuids_same h d.view world.hosts d.view_is drops refl;
     runs = runs_else h d.view world.hosts d.view_is drops x.hosts x.hosts (λ k ne. refl);
+    mine = inl refl;
+    kept = λ k ne. refl;
   }
 
   pub drops_stands : (k : ℕ) → HostStandsAt (length start) (slice_get (changed_at h (λ (z : HostState). record z { task = None }) state.hosts) k) (slice_get (changed_at h drops world.hosts) k)
@@ -189,6 +192,8 @@ module _ (start : Image) (state : Machines) (world : WorldView) (held : Agrees s
         is = run_here h d.view world.hosts d.view_is halts x.hosts d.told d.told_is;
         uuids = uuids_same h d.view world.hosts d.view_is halts refl;
         runs = runs_else h d.view world.hosts d.view_is halts x.hosts x.hosts (λ k ne. refl);
+        mine = inl refl;
+        kept = λ k ne. refl;
       }
       record {
         memory = λ l. refl;
@@ -213,7 +218,7 @@ module _ (start : Image) (state : Machines) (world : WorldView) (held : Agrees s
     -- the same tasks
     moved_runs : hosts_of (changed_at h moves world.hosts) x.hosts ≡ hosts_of world.hosts x.hosts
     moved_runs =
-        ap₂ (λ (u : ℕ → Option (List ℕ)) (r : ℕ → Option Run). record { uuid = u; run = r }) (fun_ext (uuids_same h d.view world.hosts d.view_is moves refl)) (fun_ext same)
+        ap₂ (λ (u : ℕ → Option (List ℕ)) (r : ℕ → Option Run). record { uuid = u; run = r; kept = λ k. None }) (fun_ext (uuids_same h d.view world.hosts d.view_is moves refl)) (fun_ext same)
       where
         same : (k : ℕ) → run_at (slice_get (changed_at h moves world.hosts) k) (slice_get x.hosts k) ≡ run_at (slice_get world.hosts k) (slice_get x.hosts k)
         same k =

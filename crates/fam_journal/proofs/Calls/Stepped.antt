@@ -15,7 +15,7 @@ use Rattle.fam_protocol.specs.SharedState.{SharedState}
 use Rattle.fam_protocol.specs.Steps.{StepHolds, Steps, TurnSays, run_after, settled_count, turn_settles}
 use Rattle.fam_protocol.specs.Invariant.{Hosts, Settled, Small, Damaged, Known, InvariantBy, Invariant}
 use Rattle.fam_machine.proofs.OneOperation.{operated_length, operated_normal}
-use Rattle.fam_protocol.proofs.Hosts.Steps.{invariant_stepped}
+use Rattle.fam_protocol.proofs.Hosts.Steps.{keeps_none, invariant_stepped}
 use Rattle.fam_rules.specs.Asks.{File}
 use Rattle.fam_rules.specs.Place.{line_bytes}
 use Rattle.fam_journal.specs.View.{HostStands, HostView, HostStandsAt, TaskStands, WorldView}
@@ -50,7 +50,7 @@ pub record Bridged (x : Past) (h : ℕ) (turn : Turn) : Type 0 where
   pub legal : LegalBehind x (notes_of h (note_of turn))
   pub settles : settled_of (past_behind x (notes_of h (note_of turn))).state ≡ turn_settles turn (settled_of x.state)
 
-module _ (start : Image) (hosts : List HostPast) (h : ℕ) (told : HostPast) (host_is : slice_get hosts h ≡ Some told) (cmd : Cmd) (uuid : List ℕ) (t : Task) (words : List ℕ) (made word : ℕ) (standing : StandsFor cmd uuid (length start) t words made) (turn : Turn) (is : turn_given t word ≡ turn) (was : TaskTold t told) (me : told.uuid ≡ t.me) (all_hosts : Hosts) (shared : SharedState) where
+module _ (start : Image) (hosts : List HostPast) (h : ℕ) (told : HostPast) (host_is : slice_get hosts h ≡ Some told) (cmd : Cmd) (uuid : List ℕ) (t : Task) (words : List ℕ) (made word : ℕ) (standing : StandsFor None cmd uuid (length start) t words made) (turn : Turn) (is : turn_given t word ≡ turn) (was : TaskTold t told) (me : told.uuid ≡ t.me) (all_hosts : Hosts) (shared : SharedState) where
   keeps_command : (p : Params) (history : List File) (pending : Option File) (have : ℕ) (uuids : ℕ → Option (List ℕ)) (master : Option ℕ) (x : Turn) → turn ≡ x → KeepsCommand p history pending start hosts h told host_is t was.cmd me have uuids master x
   keeps_command p history pending have uuids master (Goes next) e = tt
   keeps_command p history pending have uuids master (Marks next) e = tt
@@ -86,7 +86,7 @@ pub find_host : (lines : ℕ) (view : HostView) (o : Option HostState) → HostS
 find_host lines view None stands = absurd stands
 find_host lines view (Some x) stands = (x, refl, stands)
 
-pub find_task : (lines : ℕ) (t : Task) (o : Option TaskState) → TaskStands lines o (Some t) → (s : TaskState) × (o ≡ Some s) × StandsFor s.cmd s.me lines t s.words s.made
+pub find_task : (lines : ℕ) (t : Task) (o : Option TaskState) → TaskStands lines o (Some t) → (s : TaskState) × (o ≡ Some s) × StandsFor None s.cmd s.me lines t s.words s.made
 find_task lines t None stands = absurd stands
 find_task lines t (Some s) stands = (s, refl, stands)
 
@@ -96,7 +96,7 @@ me_of (Small image) lines hosts shared h r stage run = absurd (let none = stage.
 me_of (Damaged image) lines hosts shared h r stage run = (stage.tasks h r run).me
 me_of (Known p all settled) lines hosts shared h r stage run = (stage.tasks h r run).me
 
-module _ (start : Image) (state : Machines) (world : WorldView) (held : Agrees start state world state.memory) (h : ℕ) (view : HostView) (view_is : slice_get world.hosts h ≡ Some view) (t : Task) (runs : view.task ≡ Some t) (inside : IsInImage (op_of t) state.memory) where
+module _ (start : Image) (state : Machines) (world : WorldView) (held : Agrees start state world state.memory) (h : ℕ) (view : HostView) (view_is : slice_get world.hosts h ≡ Some view) (t : Task) (runs : view.task ≡ Some t) (inside : IsInImage (op_of t) (record { image = state.memory; cache = view.cache })) where
   abbrev m : Machine
   m = record { image = state.memory; cache = view.cache }
 
@@ -109,7 +109,7 @@ module _ (start : Image) (state : Machines) (world : WorldView) (held : Agrees s
   abbrev x : Past
   x = past_of start world.journal
 
-  module _ (told : HostPast) (told_is : slice_get x.hosts h ≡ Some told) (host_told : HostTold view told) (host : HostState) (host_is : slice_get state.hosts h ≡ Some host) (host_stands : HostStands (length start) host view) (s : TaskState) (s_is : host.task ≡ Some s) (standing : StandsFor s.cmd s.me (length start) t s.words s.made) (turn : Turn) (is : turn_given t word ≡ turn) where
+  module _ (told : HostPast) (told_is : slice_get x.hosts h ≡ Some told) (host_told : HostTold view told) (host : HostState) (host_is : slice_get state.hosts h ≡ Some host) (host_stands : HostStands (length start) host view) (s : TaskState) (s_is : host.task ≡ Some s) (standing : StandsFor None s.cmd s.me (length start) t s.words s.made) (turn : Turn) (is : turn_given t word ≡ turn) where
     abbrev notes : List Note
     notes = notes_of h (note_of turn)
 
@@ -170,6 +170,8 @@ module _ (start : Image) (state : Machines) (world : WorldView) (held : Agrees s
           ∙ ap (λ (n : ℕ). run_after turn n (run_of t told)) (sym (settled_same x.state))
           ∙ ap (λ (z : Turn). run_after z (settled_count settled) (run_of t told)) (sym is);
       runs = λ k ne. ap₂ run_at (changed_other h k changed world.hosts ne) (told_other x h turn k ne);
+      keeps = sym (keeps_none (turn_given t word) t);
+      kept = λ k ne. refl;
     }
 
     step_holds : StepHolds settled (length start) word (run_of t told) old_hosts (hosts_of views y.hosts) (shared_of after.image views)

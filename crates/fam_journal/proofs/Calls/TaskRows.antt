@@ -13,7 +13,7 @@ use Rattle.fam_journal.specs.Machines.{Done, HostState, Machines, Passes, TaskSt
 use Rattle.fam_journal.specs.View.{TaskStands}
 use Rattle.fam_journal.proofs.Settled.TaskTurns.{next_stands}
 
-module _ (state : Machines) (h : ℕ) (host : HostState) (host_is : slice_get state.hosts h ≡ Some host) (s : TaskState) (s_is : host.task ≡ Some s) (lines : ℕ) (lines_are : length state.memory ≡ lines) (t : Task) (standing : StandsFor s.cmd s.me lines t s.words s.made) (m : Machine) (machine_is : machine_of state host ≡ m) (turn : Turn) (is : turn_given t (unwrap_or (given (op_of t) m) 0) ≡ turn) where
+module _ (state : Machines) (h : ℕ) (host : HostState) (host_is : slice_get state.hosts h ≡ Some host) (s : TaskState) (s_is : host.task ≡ Some s) (lines : ℕ) (lines_are : length state.memory ≡ lines) (t : Task) (standing : StandsFor None s.cmd s.me lines t s.words s.made) (m : Machine) (machine_is : machine_of state host ≡ m) (turn : Turn) (is : turn_given t (unwrap_or (given (op_of t) m) 0) ≡ turn) where
   -- the host's task behind it
   abbrev pub task_next : Turn → Option TaskState
   task_next z = machine.task_behind (note_of z) (task_on s (given (op_of t) m))
@@ -49,9 +49,9 @@ module _ (state : Machines) (h : ℕ) (host : HostState) (host_is : slice_get st
       ∙ ap (served_with m) note_is
 
   -- the task that goes on stands where the host's state of it says
-  next : (n : Task) → task_after turn ≡ Some n → StandsFor s.cmd s.me lines n (with_given s.words (given (op_of t) m)) (s.made + 1)
+  next : (n : Task) → task_after turn ≡ Some n → StandsFor None s.cmd s.me lines n (with_given s.words (given (op_of t) m)) (s.made + 1)
   next n goes =
-      subst (λ (o : Option ℕ). StandsFor s.cmd s.me lines n (with_given s.words o) (s.made + 1)) (same_given (op_of t) m)
+      subst (λ (o : Option ℕ). StandsFor None s.cmd s.me lines n (with_given s.words o) (s.made + 1)) (same_given (op_of t) m)
       (next_stands s.cmd s.me lines t s.words s.made (unwrap_or (given (op_of t) m) 0) standing turn is n goes)
 
   stands_by : (z : Turn) → turn ≡ z → TaskStands lines (task_next z) (task_after z)

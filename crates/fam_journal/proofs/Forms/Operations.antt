@@ -1,6 +1,6 @@
 -- Operations of a task on the machine add notes of its form, and leave hosts that are what notes tell.
 use Prim.Native.Nat.{zero, suc}
-use Rattle.std.proofs.Common.{◌≡◌, ℕ, ◌+◌, ◌≤◌, inl, inr, List, [], ◌∷◌, ◌++◌, length, map, Option, Some, None, refl, ap, sym, ◌∙◌, subst, arith}
+use Rattle.std.proofs.Common.{◌≡◌, ℕ, ◌+◌, ◌≤◌, inl, inr, List, [], ◌∷◌, ◌++◌, length, map, Option, Some, None, refl, ap, sym, ◌∙◌, subst, arith, take, drop}
 use Rattle.std.specs.Prelude.{slice_get, unwrap_or, is_some, option_map}
 use Rattle.std.proofs.lemmas.List.{length-append}
 use Rattle.std.proofs.lemmas.Option.{same_Some}
@@ -10,14 +10,15 @@ use Rattle.fam_base.specs.declared.line.LineNo.{LineNo}
 use Rattle.fam_machine.specs.declared.cell.Cell.{Cell}
 use Rattle.fam_machine.specs.declared.cell.Cell.TheVariants.{Absent, Clean, Dirty}
 use Rattle.fam_machine.specs.declared.op.Op.{Op}
-use Rattle.fam_machine.specs.declared.op.Op.TheVariants.{Load, Store, WriteBack, Invalidate, Digest}
-use Rattle.fam_machine.specs.Caches.{cell_at}
+use Rattle.fam_machine.specs.declared.op.Op.TheVariants.{Load, Store, WriteBack, Fence, Invalidate, Digest}
+use Rattle.fam_machine.specs.Caches.{asked_lines, cell_at}
 use Rattle.fam_machine.specs.HostMoves.{Move, move_failed}
 use Rattle.fam_machine.specs.OneLine.{failed_send}
-use Rattle.fam_machine.specs.Operations.{Failure, Machine, failed, given, not_brought, operated, operated_all, torn_at, given_by}
+use Rattle.fam_machine.specs.Operations.{Breaking, first_not_sent, line_no, send_lines, Failure, Machine, failed, given, not_brought, operated, operated_all, torn_at, given_by}
 use Rattle.fam_commands.specs.Stands.{StandsFor, note_of, task_after, turn_given, with_given}
 use Rattle.fam_commands.specs.Task.{Task, op_of}
 use Rattle.fam_commands.specs.Turns.{Turn, Goes, Marks, Finds, Writes, Ends}
+use Rattle.fam_machine.proofs.FenceLemmas.{send_lines_length}
 use Rattle.fam_machine.proofs.OneOperation.{operated_length, same_given}
 use Rattle.fam_commands.proofs.Steps.Standing.{note_from_start, operation_from_start}
 use Rattle.fam_commands.specs.Appends.{HasWish}
@@ -39,17 +40,22 @@ use Rattle.fam_journal.proofs.Settled.TaskTurns.{next_stands}
 brought_length : (l : LineNo) (m : Machine) (c : Cell) (x : Failure) → not_brought l m c ≡ Some x → length x.left.image ≡ length m.image
 brought_length l m Absent x is = ap (λ (z : Failure). length z.left.image) (sym (same_Some _ x is))
 brought_length l m (Clean words) x is = absurd cc
-brought_length l m (Dirty words) x is = absurd cc
+brought_length l m (Dirty a words) x is = absurd cc
 
 torn_length : (l : LineNo) (m : Machine) (o : Option (List ℕ)) (x : Failure) → option_map (torn_at l m) o ≡ Some x → length x.left.image ≡ length m.image
 torn_length l m None x is = absurd cc
 torn_length l m (Some words) x is = ap (λ (z : Failure). length z.left.image) (sym (same_Some (torn_at l m words) x is)) ∙ length-with_line m.image l.0 words
 
-pub failed_length : (through : ℕ) (op : Op) (m : Machine) (x : Failure) → failed through op m ≡ Some x → length x.left.image ≡ length m.image
+fence_length : (mask : ℕ) (lines : List ℕ) (m : Machine) (x : Failure) → first_not_sent mask lines m ≡ Some x → length x.left.image ≡ length m.image
+fence_length mask [] m x is = absurd cc
+fence_length mask (l ∷ lines) m x is = torn_length (line_no l) m (failed_send mask (line_at m.image l) (cell_at m.cache l)) x is
+
+pub failed_length : (through : Breaking) (op : Op) (m : Machine) (x : Failure) → failed through op m ≡ Some x → length x.left.image ≡ length m.image
 failed_length through (Load l k) m x is = brought_length l m (cell_at m.cache l.0) x is
 failed_length through (Store l k value) m x is = brought_length l m (cell_at m.cache l.0) x is
-failed_length through (WriteBack l) m x is = torn_length l m (failed_send through (line_at m.image l.0) (cell_at m.cache l.0)) x is
-failed_length through (Invalidate l) m x is = torn_length l m (failed_send through (line_at m.image l.0) (cell_at m.cache l.0)) x is
+failed_length through (WriteBack l) m x is = absurd cc
+failed_length through Fence m x is = fence_length through.mask (drop through.sent (asked_lines m.cache)) (send_lines (take through.sent (asked_lines m.cache)) m) x is ∙ send_lines_length (take through.sent (asked_lines m.cache)) m
+failed_length through (Invalidate l) m x is = torn_length l m (failed_send through.mask (line_at m.image l.0) (cell_at m.cache l.0)) x is
 failed_length through Digest m x is = absurd cc
 
 pub all_length : (ops : List Op) (m : Machine) → length (operated_all ops m).image ≡ length m.image
@@ -119,7 +125,7 @@ module _ (lines : ℕ) (m : Machines) (hosts : List HostForm) (formed : AreForme
   pub form_ended : (x : Machine) → length x.image ≡ length m.memory → AreFormed lines (with_machine h x None m) (changed_at h (λ z. record z { task = None }) hosts)
   form_ended x same = form_changed x None (λ z. record z { task = None }) same record { name = is.name; uuid = is.uuid; task = tt }
 
-  module _ (s : TaskState) (s_is : host.task ≡ Some s) (g : TaskForm) (g_is : f.task ≡ Some g) (t : Task) (stands : StandsFor s.cmd s.me lines t s.words s.made) (where_it_is : IsTaskForm host.uuid t g) where
+  module _ (s : TaskState) (s_is : host.task ≡ Some s) (g : TaskForm) (g_is : f.task ≡ Some g) (t : Task) (stands : StandsFor None s.cmd s.me lines t s.words s.made) (where_it_is : IsTaskForm host.uuid t g) where
     running : (note : Note) → TaskNote h f.uuid g note → OfRunning (slice_get hosts h) (λ me t. TaskNote h me t note)
     running note p =
         subst (λ (o : Option HostForm). OfRunning o (λ me t. TaskNote h me t note)) (sym f_is)
@@ -138,7 +144,7 @@ module _ (lines : ℕ) (m : Machines) (hosts : List HostForm) (formed : AreForme
       goes_on : (z : Turn) (n : Task) (stage : CommandStage) → turn_given t word ≡ z → task_after z ≡ Some n → IsNext t.me t.cmd stage n → IsStateTask lines host.uuid (task_on s got) (record { cmd = g.cmd; stage = stage })
       goes_on z n stage e goes next = record {
         task = n;
-        stands = subst (λ (o : Option ℕ). StandsFor s.cmd s.me lines n (with_given s.words o) (s.made + 1)) got_is
+        stands = subst (λ (o : Option ℕ). StandsFor None s.cmd s.me lines n (with_given s.words o) (s.made + 1)) got_is
             (next_stands s.cmd s.me lines t s.words s.made word stands (turn_given t word) refl n (ap task_after e ∙ goes));
         is = record { cmd = where_it_is.cmd ∙ sym next.cmd_is; me_is = next.me_is ∙ where_it_is.me_is; stage = sym next.stage_is };
       }

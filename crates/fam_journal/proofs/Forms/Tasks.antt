@@ -29,6 +29,7 @@ use Rattle.fam_commands.specs.declared.phase.Phase.{Phase}
 use Rattle.fam_commands.specs.declared.phase.Phase.TheVariants as at
 use Rattle.fam_machine.specs.Operations.{given_by}
 use Rattle.fam_commands.specs.Stands.{turn_given}
+use Rattle.fam_commands.specs.Kept.{first_slot}
 use Rattle.fam_commands.specs.Task.{Task, op_of, part_count, size_of, wanted_end}
 use Rattle.fam_commands.specs.Turns.{Turn, Goes, Marks, Finds, Writes, Ends, super_fault_reply, log_fault_reply, magic_turn, host_refusal, host_turn, super_turn, header_turn, slot_or_decide, slots_read, finds_or_goes, gate_loaded, gate_turn, join_turn, slot_turn, check_turn, first_store, append_turn, verify_lines, verify_turn, bytes_turn, kind_turn, found_turn, wish_turn, decide_turn, line_or, line_difference, compare_turn, file_turn, line_turn, with_word, word_turn, turn_at}
 use Rattle.fam_rules.specs.declared.answers.Refused.{Refused}
@@ -248,7 +249,7 @@ module _ (t : Task) where
   gate_form n None = by_wish (wish_of t.cmd) refl
     where
       next : (o : Option Wish) → wish_of t.cmd ≡ o → stage_of (gate_loaded t n) ≡ reading_stage o n
-      next o is = slot_stage (record t { gate = n }) (gate_loaded t n) t.first_slot ∙ ap (λ (z : Option Wish). reading_stage z n) is
+      next o is = slot_stage (record t { gate = n }) (gate_loaded t n) (first_slot t.kept t.cmd t.params n) ∙ ap (λ (z : Option Wish). reading_stage z n) is
 
       by_wish : (o : Option Wish) → wish_of t.cmd ≡ o → TurnForm t.me t.cmd Marked (finds_or_goes o n (gate_loaded t n))
       by_wish None is = record { cmd_is = refl; me_is = refl; stage_is = next None is }
@@ -421,9 +422,11 @@ form_at at.Decide t word phase = decide_form t phase t.cmd refl
 form_at (at.StoreData j k) t word phase = record { cmd_is = refl; me_is = refl; stage_is = named_either _ (nat_lt k 7) (at.StoreData j (k + 1)) (at.SendData j) refl refl }
 form_at (at.SendData j) t word phase = record { cmd_is = refl; me_is = refl; stage_is = named_either _ (nat_lt (j + 1) (lines_of (size_of t.entry))) (at.StoreData (j + 1) 0) (at.StoreSlot 0 0) refl refl }
 form_at (at.StoreSlot j k) t word phase = record { cmd_is = refl; me_is = refl; stage_is = named_either _ (nat_lt k 7) (at.StoreSlot j (k + 1)) (at.SendSlot j) refl refl }
-form_at (at.SendSlot j) t word phase = record { cmd_is = refl; me_is = refl; stage_is = named_either _ (nat_lt (j + 1) (geometry t.params).lines) (at.StoreSlot (j + 1) 0) at.StoreGate refl refl }
+form_at (at.SendSlot j) t word phase = record { cmd_is = refl; me_is = refl; stage_is = named_either _ (nat_lt (j + 1) (geometry t.params).lines) (at.StoreSlot (j + 1) 0) at.FenceSlot refl refl }
 form_at at.StoreGate t word phase = record { cmd_is = refl; me_is = refl; stage_is = refl }
-form_at at.SendGate t word phase = refl
+form_at at.FenceSlot t word phase = record { cmd_is = refl; me_is = refl; stage_is = refl }
+form_at at.SendGate t word phase = record { cmd_is = refl; me_is = refl; stage_is = refl }
+form_at at.FenceGate t word phase = refl
 
 -- whatever word an operation gives
 pub turn_form : (t : Task) (word : ℕ) → TurnForm t.me t.cmd (stage_of t) (turn_given t word)

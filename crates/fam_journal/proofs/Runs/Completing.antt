@@ -10,7 +10,7 @@ use Rattle.fam_machine.specs.declared.op.Op.{Op}
 use Rattle.fam_machine.specs.Operations.{Machine, given, operated}
 use Rattle.fam_commands.specs.Stands.{turn_given}
 use Rattle.fam_commands.specs.Task.{Task}
-use Rattle.fam_commands.proofs.Steps.Standing.{standing_tied}
+use Rattle.fam_commands.proofs.Steps.Standing.{bare_tied}
 use Rattle.fam_protocol.specs.SharedState.{SharedState}
 use Rattle.fam_protocol.specs.Invariant.{Hosts}
 use Rattle.fam_commands.specs.Table as row
@@ -77,7 +77,7 @@ module _ (start : Image) where
           subst (AreRuled (past_of start journal)) (sym t.notes_are)
           (turn_ruled (past_of start journal) h (turn_given t.t t.word) d.told t.s.cmd d.told_is t.cmd_is (turn_fits t.s.cmd t.s.me (length start) t.t t.s.words t.s.made t.word t.standing)
           (λ given is. owns_fault (length start) (hosts_kept state journal kept) (shared_kept state journal kept) h (run_of t.t d.told) (runs d t) t.s.cmd d.told
-          (standing_tied t.s.cmd t.s.me (length start) t.t t.s.words t.s.made t.standing).cmd_is (mine d t)
+          (bare_tied t.s.cmd t.s.me (length start) t.t t.s.words t.s.made t.standing).cmd_is (mine d t)
           (past_of start journal).state (λ i g n e. bad_own start i g n journal e) kept.held.invariant.stage t.word given is)
           (subst (LegalBehind (past_of start journal)) t.notes_are legal))
       by_turn d (inr fault) = subst (AreRuled (past_of start journal)) (sym fault.1) (tt, tt)

@@ -23,7 +23,7 @@ use Rattle.fam_journal.proofs.Calls.Members.{changed_at_member}
 use Rattle.fam_journal.proofs.Runs.Unique.{faults_both}
 
 -- wherever a command stands it comes to an answer
-stands_halt : (cmd : Rattle.fam_base.specs.declared.cmd.Cmd.Cmd) (me : List ℕ) (lines : ℕ) (t : Task) (words : List ℕ) (made : ℕ) → StandsFor cmd me lines t words made → Halts t
+stands_halt : (cmd : Rattle.fam_base.specs.declared.cmd.Cmd.Cmd) (me : List ℕ) (lines : ℕ) (t : Task) (words : List ℕ) (made : ℕ) → StandsFor None cmd me lines t words made → Halts t
 stands_halt cmd me lines t words made starts = begin_halts cmd me lines
 stands_halt cmd me lines next _ _ (goes {t = t} {words = words} {made = made} word before is) = on (stands_halt cmd me lines t words made before)
   where
@@ -37,7 +37,7 @@ module _ (h : ℕ) where
     host_is : slice_get state.hosts h ≡ Some host
     s : TaskState
     s_is : host.task ≡ Some s
-    standing : StandsFor s.cmd s.me (length state.memory) t s.words s.made
+    standing : StandsFor None s.cmd s.me (length state.memory) t s.words s.made
 
   module _ (state : Machines) (t : Task) (at : Stands state t) where
     abbrev m : Machine
@@ -82,8 +82,8 @@ module _ (h : ℕ) where
       s = task_on at.s (given (op_of t) m);
       s_is = task;
       standing =
-          subst (λ (k : ℕ). StandsFor at.s.cmd at.s.me k n (with_given at.s.words (given (op_of t) m)) (at.s.made + 1)) (sym (operated_length (op_of t) m))
-          (subst (λ (o : Option ℕ). StandsFor at.s.cmd at.s.me (length state.memory) n (with_given at.s.words o) (at.s.made + 1)) (same_given (op_of t) m) (goes word at.standing next));
+          subst (λ (k : ℕ). StandsFor None at.s.cmd at.s.me k n (with_given at.s.words (given (op_of t) m)) (at.s.made + 1)) (sym (operated_length (op_of t) m))
+          (subst (λ (o : Option ℕ). StandsFor None at.s.cmd at.s.me (length state.memory) n (with_given at.s.words o) (at.s.made + 1)) (same_given (op_of t) m) (goes word at.standing next));
     }
 
     -- the answer, and nothing behind it
@@ -135,7 +135,7 @@ module _ (h : ℕ) where
           by_task None stands = absurd stands
           by_task (Some t) standing =
               task_ends t (stands_halt s.cmd s.me (length start) t s.words s.made standing) state
-              record { host = host; host_is = host_is; s = s; s_is = s_is; standing = subst (λ (n : ℕ). StandsFor s.cmd s.me n t s.words s.made) (sym kept.held.lines) standing }
+              record { host = host; host_is = host_is; s = s; s_is = s_is; standing = subst (λ (n : ℕ). StandsFor None s.cmd s.me n t s.words s.made) (sym kept.held.lines) standing }
 
       by_state : (host : HostState) → slice_get state.hosts h ≡ Some host → (o : Option TaskState) → host.task ≡ o → CanEnd h state
       by_state host is None none = absurd (let idle = sym busy ∙ ap is_busy_host is ∙ ap (λ (o : Option TaskState). is_some o) none in cc)

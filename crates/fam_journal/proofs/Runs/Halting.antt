@@ -26,6 +26,7 @@ use Rattle.fam_commands.specs.declared.phase.Part.TheVariants.{Superblock, Heade
 use Rattle.fam_commands.specs.declared.phase.Phase.{Phase}
 use Rattle.fam_commands.specs.declared.phase.Phase.TheVariants as at
 use Rattle.fam_commands.specs.Stands.{task_after}
+use Rattle.fam_commands.specs.Kept.{first_slot, used}
 use Rattle.fam_commands.specs.Task.{Task, part_count, size_of, starting, wanted_end}
 use Rattle.fam_commands.specs.Turns.{Turn, Goes, Marks, Finds, Writes, Ends, append_turn, check_turn, compare_turn, decide_turn, file_turn, finds_or_goes, found_turn, gate_turn, header_turn, host_refusal, host_turn, join_turn, kind_turn, line_difference, line_turn, magic_turn, slot_or_decide, slot_turn, slots_read, super_turn, turn_at, verify_lines, verify_turn, wish_turn, gate_loaded}
 use Rattle.fam_rules.specs.declared.answers.Refused.{Refused}
@@ -66,11 +67,17 @@ pick_place t false p q f g = g refl
 
 -- Writing.
 
+fence_gate : (t : Task) → Halts (record t { phase = at.FenceGate })
+fence_gate t = halting (record t { phase = at.FenceGate }) (λ word. tt)
+
 send_gate : (t : Task) → Halts (record t { phase = at.SendGate })
-send_gate t = halting (record t { phase = at.SendGate }) (λ word. tt)
+send_gate t = halting (record t { phase = at.SendGate }) (λ word. fence_gate t)
 
 store_gate : (t : Task) → Halts (record t { phase = at.StoreGate })
 store_gate t = halting (record t { phase = at.StoreGate }) (λ word. send_gate t)
+
+fence_slot : (t : Task) → Halts (record t { phase = at.FenceSlot })
+fence_slot t = halting (record t { phase = at.FenceSlot }) (λ word. store_gate t)
 
 -- words of a line, and then its sending
 module _ (store : ℕ → Phase) (send : Phase) (turns : (t : Task) (k word : ℕ) → turn_at (store k) (record t { phase = store k }) word ≡ Goes (record t { phase = if nat_lt k 7 then store (k + 1) else send })) where
@@ -84,10 +91,10 @@ module _ (store : ℕ → Phase) (send : Phase) (turns : (t : Task) (k word : �
 
 send_slot : (n j : ℕ) (t : Task) → (geometry t.params).lines ≤ j + 1 + n → Halts (record t { phase = at.SendSlot j })
 send_slot zero j t enough =
-    halting (record t { phase = at.SendSlot j }) (λ word. pick_place t (nat_lt (j + 1) (geometry t.params).lines) (at.StoreSlot (j + 1) 0) at.StoreGate (λ is. absurd (grind (arith, nat_tests, enough))) (λ is. store_gate t))
+    halting (record t { phase = at.SendSlot j }) (λ word. pick_place t (nat_lt (j + 1) (geometry t.params).lines) (at.StoreSlot (j + 1) 0) at.FenceSlot (λ is. absurd (grind (arith, nat_tests, enough))) (λ is. fence_slot t))
 send_slot (suc n) j t enough =
-    halting (record t { phase = at.SendSlot j }) (λ word. pick_place t (nat_lt (j + 1) (geometry t.params).lines) (at.StoreSlot (j + 1) 0) at.StoreGate
-    (λ is. words_stored (at.StoreSlot (j + 1)) (at.SendSlot (j + 1)) (λ t k word. refl) 7 0 (omega arith) t (send_slot n (j + 1) t (omega (arith, enough)))) (λ is. store_gate t))
+    halting (record t { phase = at.SendSlot j }) (λ word. pick_place t (nat_lt (j + 1) (geometry t.params).lines) (at.StoreSlot (j + 1) 0) at.FenceSlot
+    (λ is. words_stored (at.StoreSlot (j + 1)) (at.SendSlot (j + 1)) (λ t k word. refl) 7 0 (omega arith) t (send_slot n (j + 1) t (omega (arith, enough)))) (λ is. fence_slot t))
 
 store_slot : (t : Task) → Halts (record t { phase = at.StoreSlot 0 0 })
 store_slot t = words_stored (at.StoreSlot 0) (at.SendSlot 0) (λ t k word. refl) 7 0 (omega arith) t (send_slot (geometry t.params).lines 0 t (omega arith))
@@ -255,8 +262,8 @@ unfolding SlotsHalt
 gate_halts t = halting (record t { phase = at.Gate }) (λ word. by_fault word (gate_fault word t.params))
   where
     by_wish : (word : ℕ) (o : Option Wish) → HaltsTurn (finds_or_goes o word (gate_loaded (record t { phase = at.Gate }) word))
-    by_wish word None = slots_halt (slots_read (record t { gate = word })) t.first_slot (record t { gate = word }) (omega arith)
-    by_wish word (Some w) = slots_halt (slots_read (record t { gate = word })) t.first_slot (record t { gate = word }) (omega arith)
+    by_wish word None = slots_halt (slots_read (record t { gate = word })) (first_slot t.kept t.cmd t.params word) (record t { gate = word; entries = used t.kept t.cmd t.params word }) (omega arith)
+    by_wish word (Some w) = slots_halt (slots_read (record t { gate = word })) (first_slot t.kept t.cmd t.params word) (record t { gate = word; entries = used t.kept t.cmd t.params word }) (omega arith)
 
     by_fault : (word : ℕ) (o : Option LogFault) → HaltsTurn (gate_turn (record t { phase = at.Gate }) word o)
     by_fault word (Some fault) = tt

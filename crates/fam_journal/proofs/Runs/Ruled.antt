@@ -12,7 +12,7 @@ use Rattle.fam_commands.specs.Stands.{StandsFor, goes, note_of, starts, task_aft
 use Rattle.fam_machine.specs.Operations.{given_by}
 use Rattle.fam_commands.specs.Task.{Task, op_of}
 use Rattle.fam_commands.specs.Turns.{Turn, Goes, Marks, Finds, Writes, Ends, turn_at}
-use Rattle.fam_commands.proofs.Steps.Standing.{standing_tied}
+use Rattle.fam_commands.proofs.Steps.Standing.{bare_tied}
 use Rattle.fam_commands.specs.Appends.{HasWish, IsBeforeWrites}
 use Rattle.fam_commands.proofs.BeforeWrites.{EndsAt, SaysAt, turn_says}
 use Rattle.fam_rules.specs.declared.answers.Refused.{Refused as Cause}
@@ -91,7 +91,9 @@ before_or (at.SendData j) = inr (λ h. h)
 before_or (at.StoreSlot j k) = inr (λ h. h)
 before_or (at.SendSlot j) = inr (λ h. h)
 before_or at.StoreGate = inr (λ h. h)
+before_or at.FenceSlot = inr (λ h. h)
 before_or at.SendGate = inr (λ h. h)
+before_or at.FenceGate = inr (λ h. h)
 
 -- behind it a task goes on, or answers that it is done
 late_fits : (p : Phase) (t : Task) (word : ℕ) → (IsBeforeWrites p → ⊥) → HasWish t.cmd → FitsTurn t.cmd (turn_at p t word)
@@ -108,10 +110,12 @@ late_fits (at.SendData j) t word late wish = tt
 late_fits (at.StoreSlot j k) t word late wish = tt
 late_fits (at.SendSlot j) t word late wish = tt
 late_fits at.StoreGate t word late wish = tt
-late_fits at.SendGate t word late wish = wish
+late_fits at.FenceSlot t word late wish = tt
+late_fits at.SendGate t word late wish = tt
+late_fits at.FenceGate t word late wish = wish
 
 -- a task that stores is of a command that appends
-late_wish : (cmd : Cmd) (me : List ℕ) (lines : ℕ) (t : Task) (words : List ℕ) (made : ℕ) → StandsFor cmd me lines t words made → (IsBeforeWrites t.phase → ⊥) → HasWish cmd
+late_wish : (cmd : Cmd) (me : List ℕ) (lines : ℕ) (t : Task) (words : List ℕ) (made : ℕ) → StandsFor None cmd me lines t words made → (IsBeforeWrites t.phase → ⊥) → HasWish cmd
 late_wish cmd me lines t words made starts late = absurd (late tt)
 late_wish cmd me lines next _ _ (goes {t = t} {words = words} {made = made} word before is) late = elim (before_or t.phase) [
   | inr stores ↦ late_wish cmd me lines t words made before stores
@@ -122,12 +126,12 @@ late_wish cmd me lines next _ _ (goes {t = t} {words = words} {made = made} word
     by_turn (Goes n) says goes_is = absurd (late (subst (λ (x : Task). IsBeforeWrites x.phase) (same_Some n next goes_is) says))
     by_turn (Marks n) says goes_is = absurd (late (subst (λ (x : Task). IsBeforeWrites x.phase) (same_Some n next goes_is) says))
     by_turn (Finds k n) says goes_is = absurd (late (subst (λ (x : Task). IsBeforeWrites x.phase) (same_Some n next goes_is) says))
-    by_turn (Writes seq e n) says goes_is = subst HasWish (standing_tied cmd me lines t words made before).cmd_is says.wish
+    by_turn (Writes seq e n) says goes_is = subst HasWish (bare_tied cmd me lines t words made before).cmd_is says.wish
     by_turn (Ends given) says goes_is = absurd cc
 
-pub turn_fits : (cmd : Cmd) (me : List ℕ) (lines : ℕ) (t : Task) (words : List ℕ) (made word : ℕ) → StandsFor cmd me lines t words made → FitsTurn cmd (turn_given t word)
+pub turn_fits : (cmd : Cmd) (me : List ℕ) (lines : ℕ) (t : Task) (words : List ℕ) (made word : ℕ) → StandsFor None cmd me lines t words made → FitsTurn cmd (turn_given t word)
 turn_fits cmd me lines t words made word standing =
-    let cmds : t.cmd ≡ cmd = (standing_tied cmd me lines t words made standing).cmd_is in
+    let cmds : t.cmd ≡ cmd = (bare_tied cmd me lines t words made standing).cmd_is in
     subst (λ (c : Cmd). FitsTurn c (turn_given t word)) cmds
     (elim (before_or t.phase) [
       | inl reads ↦ says_fit t.phase t.cmd (turn_given t word) (turn_says t.phase t (unwrap_or (given_by (op_of t) word) 0) reads refl)

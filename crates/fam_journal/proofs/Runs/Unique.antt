@@ -10,7 +10,7 @@ use Rattle.fam_base.specs.declared.entry.Entry.{Entry}
 use Rattle.fam_base.specs.declared.entry.Params.{Params}
 use Rattle.fam_format.specs.declared.faults.SuperFault.{SuperFault}
 use Rattle.fam_machine.specs.declared.op.Op.{Op}
-use Rattle.fam_machine.specs.Operations.{Failure, failed}
+use Rattle.fam_machine.specs.Operations.{Breaking, Failure, failed}
 use Rattle.fam_media.specs.Files.{Files}
 use Rattle.fam_journal.specs.declared.event.Ask.{Ask}
 use Rattle.fam_journal.specs.declared.event.Ask.TheVariants as ask
@@ -57,15 +57,15 @@ failed_cut h m None d is clean = absurd cc
 failed_cut h m (Some failure) d is clean =
     absurd (omega (arith, ap (λ (x : Done). faults_of x.notes) (same_Some _ d is), clean))
 
-failed_op : (through h : ℕ) (m : Machines) (host : HostState) (t : TaskState) (o : Option Op) (d : Done) → op_done (Fails through) h m host t o ≡ Some d → IsFaultless d.notes → ⊥
+failed_op : (through : Breaking) (h : ℕ) (m : Machines) (host : HostState) (t : TaskState) (o : Option Op) (d : Done) → op_done (Fails through) h m host t o ≡ Some d → IsFaultless d.notes → ⊥
 failed_op through h m host t None d is clean = absurd cc
 failed_op through h m host t (Some op) d is clean = failed_cut h m (failed through op (machine_of m host)) d is clean
 
-failed_task : (through h : ℕ) (m : Machines) (host : HostState) (o : Option TaskState) (d : Done) → task_done (Fails through) h m host o ≡ Some d → IsFaultless d.notes → ⊥
+failed_task : (through : Breaking) (h : ℕ) (m : Machines) (host : HostState) (o : Option TaskState) (d : Done) → task_done (Fails through) h m host o ≡ Some d → IsFaultless d.notes → ⊥
 failed_task through h m host None d is clean = absurd cc
 failed_task through h m host (Some t) d is clean = failed_op through h m host t _ d is clean
 
-failed_host : (through h : ℕ) (m : Machines) (o : Option HostState) (d : Done) → host_done (Fails through) h m o ≡ Some d → IsFaultless d.notes → ⊥
+failed_host : (through : Breaking) (h : ℕ) (m : Machines) (o : Option HostState) (d : Done) → host_done (Fails through) h m o ≡ Some d → IsFaultless d.notes → ⊥
 failed_host through h m None d is clean = absurd cc
 failed_host through h m (Some host) d is clean = failed_task through h m host host.task d is clean
 

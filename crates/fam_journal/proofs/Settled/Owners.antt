@@ -56,7 +56,9 @@ behind_or (at.SendData j) = inr tt
 behind_or (at.StoreSlot j k) = inr tt
 behind_or (at.SendSlot j) = inr tt
 behind_or at.StoreGate = inr tt
+behind_or at.FenceSlot = inr tt
 behind_or at.SendGate = inr tt
+behind_or at.FenceGate = inr tt
 
 module _ (t : Task) (word : ℕ) (given : Reply) (is : turn_given t word ≡ Ends given) where
   says_end : IsBeforeWrites t.phase → EndsAt t.phase t.cmd given
@@ -96,7 +98,9 @@ behind_known (at.SendData j) image have h t s behind a = absurd a
 behind_known (at.StoreSlot j k) image have h t s behind a = absurd a
 behind_known (at.SendSlot j) image have h t s behind a = absurd a
 behind_known at.StoreGate image have h t s behind a = absurd a
+behind_known at.FenceSlot image have h t s behind a = absurd a
 behind_known at.SendGate image have h t s behind a = absurd a
+behind_known at.FenceGate image have h t s behind a = absurd a
 
 module _ (lines : ℕ) (hosts : Hosts) (shared : SharedState) (h : ℕ) (r : Run) (run : hosts.run h ≡ Some r) (behind : IsBehindSuper r.task.phase) where
   by_super : (image : Image) → length image ≡ lines → IsDamaged (line_at image) lines hosts shared → HasWish r.task.cmd → (master : List ℕ) → master_read (super_in (line_at image) (line_bytes * length image)) ≡ Some master → r.task.me ≡ master

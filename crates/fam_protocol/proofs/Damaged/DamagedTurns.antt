@@ -22,6 +22,8 @@ use Rattle.fam_commands.specs.declared.phase.Part.{Part}
 use Rattle.fam_commands.specs.declared.phase.Part.TheVariants.{Superblock, Header, Slot, File as FileLines}
 use Rattle.fam_commands.specs.declared.phase.Phase.{Phase}
 use Rattle.fam_commands.specs.declared.phase.Phase.TheVariants as at
+use Rattle.fam_commands.specs.Kept.{Kept, used}
+use Rattle.fam_commands.proofs.UsedCounts.{used_none}
 use Rattle.fam_commands.specs.Task.{Task, part_count, part_line}
 use Rattle.fam_commands.specs.Turns.{Turn, Goes, Marks, Finds, Writes, Ends, slots_read, slot_or_decide, magic_turn, host_refusal, host_turn, super_turn, header_turn, gate_loaded, finds_or_goes, gate_turn, join_turn, slot_turn, survey_turn, check_turn, decide_turn, line_or, line_turn, with_word, word_turn}
 use Rattle.fam_rules.specs.declared.answers.Refused.TheVariants.{NotMaster}
@@ -33,8 +35,8 @@ use Rattle.fam_rules.specs.Reply as reply
 use Rattle.fam_rules.specs.Reports.{report_of, report_by, survey_slots, survey_slot}
 use Rattle.fam_protocol.specs.SharedState.{SharedState}
 use Rattle.fam_protocol.specs.Lines.{Fresh}
-use Rattle.fam_protocol.specs.Tasks.{HasLoaded, part_words, NoSlot}
-use Rattle.fam_protocol.specs.Bad.{HasMagic, ReadsSuper, ReadsHeader, ReadsSlots, Remains, OnBadPart, AtDamagedPhase, BadTaskHolds, MaySayBad, MayReplyBad, GoesOnBad, FindsBad, fault_of}
+use Rattle.fam_protocol.specs.Tasks.{HasLoaded, part_words}
+use Rattle.fam_protocol.specs.Bad.{IsBare, HasMagic, ReadsSuper, ReadsHeader, ReadsSlots, Remains, OnBadPart, AtDamagedPhase, BadTaskHolds, MaySayBad, MayReplyBad, GoesOnBad, FindsBad, fault_of}
 use Rattle.fam_protocol.proofs.Damaged.Words.{IsMeta, loaded_is, is_loaded, next_word, all_words}
 use Rattle.fam_protocol.proofs.Turns.PartWords.{super_words_are, header_words_are}
 use Rattle.fam_protocol.proofs.Damaged.Ends.{Plays, fsck_or_plays, slots_fsck, slots_alike, says_super, says_header, says_gate, reads_slots, reports_slots, NotSound, slots_bad}
@@ -73,8 +75,8 @@ module _ (image : Lines) (have : ℕ) (t : Task) (phase : Phase) (words : List �
   slots_moved i r = record { header = header_moved r.header; gate = r.gate; within = r.within; remains = remains_moved i r.remains }
 
   -- nor that no slot is read
-  pub none_moved : NoSlot t → NoSlot moved
-  none_moved n = record { first = n.first; entries = n.entries; survey = n.survey }
+  pub none_moved : IsBare t → IsBare moved
+  none_moved n = record { entries = n.entries; survey = n.survey; kept = n.kept }
 
   count_moved : slots_read moved ≡ slots_read t
   count_moved = slots_alike moved t refl refl refl
@@ -98,7 +100,7 @@ module _ (image : Lines) (have : ℕ) (uuid : ℕ → Option (List ℕ)) (host :
   Turned turn = BadTurn turn image have uuid host t s
 
   -- the magic
-  pub magic_says : (word : ℕ) → NoSlot t → word ≡ slice_index (image 0) 0 → Turned (magic_turn t (magic_fault word))
+  pub magic_says : (word : ℕ) → IsBare t → word ≡ slice_index (image 0) 0 → Turned (magic_turn t (magic_fault word))
   unfolding super_of
   magic_says word none is = go (magic_fault word) (sym (ap magic_fault is))
     where
@@ -110,7 +112,7 @@ module _ (image : Lines) (have : ℕ) (uuid : ℕ → Option (List ℕ)) (host :
       }
 
   -- which host appends
-  host_says : (p : Params) → NoSlot t → super_in image have ≡ Ok p → Turned (host_turn t p (host_refusal (wish_of t.cmd) p t.me))
+  host_says : (p : Params) → IsBare t → super_in image have ≡ Ok p → Turned (host_turn t p (host_refusal (wish_of t.cmd) p t.me))
   host_says p none super = go (wish_of t.cmd) refl
     where
       next : Task
@@ -120,7 +122,7 @@ module _ (image : Lines) (have : ℕ) (uuid : ℕ → Option (List ℕ)) (host :
       goes master = record {
         me = me;
         lines = lines;
-        phase = ((record { first = none.first; entries = none.entries; survey = none.survey }, record { super = super; master = master }), omega arith, is_loaded image next Header tt 0 0 refl);
+        phase = ((record { entries = none.entries; survey = none.survey; kept = none.kept }, record { super = super; master = master }), omega arith, is_loaded image next Header tt 0 0 refl);
       }
 
       test : (b : Bool) → path_eq t.me p.master ≡ b → Turned (host_turn t p (cond b None (Some (NotMaster t.me p.master))))
@@ -132,7 +134,7 @@ module _ (image : Lines) (have : ℕ) (uuid : ℕ → Option (List ℕ)) (host :
       go (Some w) e = test (path_eq t.me p.master) refl
 
   -- lines 1 and 2
-  pub super_says : NoSlot t → HasMagic image → t.words ≡ image 1 ++ image 2 → Turned (super_turn t (super_body_of t.words (line_bytes * t.lines)))
+  pub super_says : IsBare t → HasMagic image → t.words ≡ image 1 ++ image 2 → Turned (super_turn t (super_body_of t.words (line_bytes * t.lines)))
   unfolding super_of
   super_says none magic words = go (super_body_of t.words (line_bytes * t.lines)) is
     where
@@ -144,7 +146,7 @@ module _ (image : Lines) (have : ℕ) (uuid : ℕ → Option (List ℕ)) (host :
       go (Ok p) e = host_says p none e
 
   -- the header
-  pub header_says : NoSlot t → ReadsSuper image have t → t.words ≡ image log_line → Turned (header_turn t (log_fault t.words t.params))
+  pub header_says : IsBare t → ReadsSuper image have t → t.words ≡ image log_line → Turned (header_turn t (log_fault t.words t.params))
   header_says none r words = go (log_fault t.words t.params) (ap (λ w. log_fault w t.params) (sym words))
     where
       go : (o : Option LogFault) → log_fault (image log_line) t.params ≡ o → Turned (header_turn t o)
@@ -165,7 +167,7 @@ module _ (image : Lines) (have : ℕ) (uuid : ℕ → Option (List ℕ)) (host :
           subst (λ (n : ℕ). ReadsSlots image have n next) all r
 
   -- the gate
-  pub gate_says : (word : ℕ) → NoSlot t → t.words ≡ [] → ReadsHeader image have t → word ≡ gate_in image → Turned (gate_turn t word (gate_fault word t.params))
+  pub gate_says : (word : ℕ) → IsBare t → t.words ≡ [] → ReadsHeader image have t → word ≡ gate_in image → Turned (gate_turn t word (gate_fault word t.params))
   gate_says word none words r is = go (gate_fault word t.params) refl
     where
       go : (o : Option LogFault) → gate_fault word t.params ≡ o → Turned (gate_turn t word o)
@@ -181,12 +183,15 @@ module _ (image : Lines) (have : ℕ) (uuid : ℕ → Option (List ℕ)) (host :
           all_below : gate_in image - 0 ≡ gate_in image
           all_below = omega arith
 
+          none_used : used t.kept t.cmd t.params word ≡ []
+          none_used = ap (λ (k : Option Kept). used k t.cmd t.params word) none.kept ∙ used_none t.cmd t.params word
+
           remains : Remains t.cmd image have 0 (gate_loaded t word)
           remains = elim (fsck_or_plays t.cmd) [
             | inl fsck ↦ subst (λ (c : Cmd). Remains c image have 0 (gate_loaded t word)) (sym fsck) (
                 rw (none.survey, is, all_slots) (sym (reports_slots image have t t.params r.super.super r.header within))
                 )
-            | inr plays ↦ plays.closes image have 0 (gate_loaded t word) (rw (none.entries, is, all_below) (sym (reads_slots image have t t.params r.super.super r.header within)))
+            | inr plays ↦ plays.closes image have 0 (gate_loaded t word) (rw (none_used, is, all_below) (sym (reads_slots image have t t.params r.super.super r.header within)))
           ]
 
           slots : ReadsSlots image have 0 (gate_loaded t word)
@@ -199,7 +204,7 @@ module _ (image : Lines) (have : ℕ) (uuid : ℕ → Option (List ℕ)) (host :
 
           placed : AtDamagedPhase (gate_loaded t word).phase image have host (gate_loaded t word) s
           placed =
-              subst (λ (i : ℕ). AtDamagedPhase (slot_or_decide (record t { gate = word }) i) image have host (gate_loaded t word) s) (sym none.first)
+              subst (λ (i : ℕ). AtDamagedPhase (slot_or_decide (record t { gate = word }) i) image have host (gate_loaded t word) s) (sym (ap (λ (list : List Entry). length list) none_used))
               (next_slot (record t { gate = word }) (gate_loaded t word) 0 (slots_alike (record t { gate = word }) (gate_loaded t word) refl refl refl) slots (omega arith) words)
 
           holds : BadTaskHolds image have uuid host (gate_loaded t word) s

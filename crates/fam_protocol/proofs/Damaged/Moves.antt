@@ -27,7 +27,9 @@ module _ (image : Lines) (have host h : ℕ) (t : Task) (s s' : SharedState) (fr
   phase_moved (at.StoreSlot j k) a = absurd a
   phase_moved (at.SendSlot j) a = absurd a
   phase_moved at.StoreGate a = absurd a
+  phase_moved at.FenceSlot a = absurd a
   phase_moved at.SendGate a = absurd a
+  phase_moved at.FenceGate a = absurd a
 
 -- a cache moves at a line
 module _ (image : Lines) (have host line : ℕ) (s s' : SharedState) (transfer : TransfersAt host line s s') (still : Still image have s) where

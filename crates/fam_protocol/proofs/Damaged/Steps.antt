@@ -50,7 +50,9 @@ module _ (image : Lines) (have host : ℕ) (s s' : SharedState) (word : ℕ) (t 
   moved_by (at.StoreSlot j k) a done = absurd a
   moved_by (at.SendSlot j) a done = absurd a
   moved_by at.StoreGate a done = absurd a
+  moved_by at.FenceSlot a done = absurd a
   moved_by at.SendGate a done = absurd a
+  moved_by at.FenceGate a done = absurd a
 
 module _ (image : Lines) (have host : ℕ) (s s' : SharedState) (still : Still image have s) (moved : Moved host s s') where
   -- the image is as it was
@@ -99,7 +101,9 @@ module _ (image : Lines) (have : ℕ) (uuid : ℕ → Option (List ℕ)) (host :
   says (at.StoreSlot j k) a done = absurd a
   says (at.SendSlot j) a done = absurd a
   says at.StoreGate a done = absurd a
+  says at.FenceSlot a done = absurd a
   says at.SendGate a done = absurd a
+  says at.FenceGate a done = absurd a
 
 module _ (image : Lines) (have : ℕ) (uuid : ℕ → Option (List ℕ)) (host : ℕ) (s s' : SharedState) (word : ℕ) (t : Task) (still : Still image have s)
     (holds : BadTaskHolds image have uuid host t s) (done : Operates (op_of t) host s s' word) where

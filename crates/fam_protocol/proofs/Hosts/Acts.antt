@@ -1,28 +1,31 @@
 -- What one host does on its machine, as the protocol of all hosts has it.
-use Rattle.std.proofs.Common.{ℕ, ◌≡◌, ◌≢◌, ◌<◌, inl, inr, List, length, map, Some, refl, sym, ap, ap₂, subst, ◌∙◌}
+use Rattle.std.proofs.Common.{ℕ, ◌==◌, if◌then◌else◌, ◌≡◌, ◌≢◌, ◌<◌, Bool, inl, inr, List, [], ◌∷◌, arith, length, map, Some, refl, sym, ap, ap₂, subst, ◌∙◌}
 use Rattle.std.specs.Prelude.{slice_index, unwrap_or}
 use Rattle.std.proofs.Math.Path.{fun_ext}
-use Rattle.std.proofs.lemmas.Bool.{cases_eq}
+use Rattle.std.proofs.lemmas.Bool.{cases_eq, eq-eqb, ne_eqb}
 use Rattle.fam_base.specs.Image.{Image, eight, line_at, with_line}
-use Rattle.fam_base.proofs.ImageLemmas.{line_at-with_line, line_at-with_line_other}
+use Rattle.fam_base.proofs.ImageLemmas.{length-with_line, line_at-with_line, line_at-with_line_other}
 use Rattle.fam_machine.specs.declared.cell.Cell.{Cell}
 use Rattle.fam_machine.specs.declared.cell.Cell.TheVariants.{Absent}
 use Rattle.fam_machine.specs.declared.op.Op.{Op}
-use Rattle.fam_machine.specs.declared.op.Op.TheVariants.{Load, Store, WriteBack, Invalidate, Digest}
-use Rattle.fam_machine.specs.Caches.{Cache, cell_at, with_cell}
+use Rattle.fam_machine.specs.declared.op.Op.TheVariants.{Load, Store, WriteBack, Fence, Invalidate, Digest}
+use Rattle.fam_machine.specs.Caches.{Cache, asked_lines, cell_at, with_cell}
+use Rattle.fam_machine.specs.Fences.{IsAmong}
 use Rattle.fam_machine.specs.HostMoves.{Move, move_failed, moved, moved_cell, moved_words}
 use Rattle.fam_machine.specs.Moves.{Transfers}
-use Rattle.fam_machine.specs.OneLine.{brought, cleaned, current, sent, stored}
-use Rattle.fam_machine.specs.Operations.{Failure, Machine, failed, given, machine, operated, IsInImage}
+use Rattle.fam_machine.specs.OneLine.{IsAsked, asked_for, brought, cleaned, current, sent, stored}
+use Rattle.fam_machine.specs.Operations.{Breaking, Failure, Machine, failed, given, machine, operated, send_line, send_lines, IsInImage}
 use Rattle.fam_machine.specs.TearsLine.{TearsLineAt}
 use Rattle.fam_machine.proofs.CacheLemmas.{cell_at-with_cell_other, cell_at-with_cell_same}
-use Rattle.fam_machine.proofs.Failing.{failed_cache}
+use Rattle.fam_machine.proofs.FenceLemmas.{among_is_asked, none_asked}
 use Rattle.fam_machine.proofs.OneOperation.{IsAt, cache_away, memory_away}
-use Rattle.fam_machine.proofs.Slipping.{move_transfers, move_tears_line_at, move_wide, op_tears_line_at}
+use Rattle.fam_machine.proofs.Slipping.{move_transfers, move_tears_line_at, move_wide, op_breaks}
 use Rattle.fam_machine.proofs.WideLines.{eight_whole, sent_wide}
 use Rattle.fam_protocol.specs.Core.{IsWide}
 use Rattle.fam_protocol.specs.Hosted.{ActsAs}
-use Rattle.fam_protocol.specs.SharedState.{SharedState, ChangesOnly, TransfersAt, Operates}
+use Rattle.fam_protocol.proofs.Lines.Fencing.{sends_at}
+use Rattle.fam_protocol.proofs.Lines.Free.{wide_now}
+use Rattle.fam_protocol.specs.SharedState.{SharedState, Breaks, ChangesOnly, LeavesAt, Sends, TransfersAt, Operates, all_sent, sends_one}
 
 module _ (host : ℕ) (m m' : Machine) (old new : SharedState) (acts : ActsAs host m m' old new) where
   -- only one line of memory and of the host's cache is other
@@ -62,6 +65,44 @@ module _ (host : ℕ) (m m' : Machine) (old new : SharedState) (acts : ActsAs ho
             | inr ne ↦ acts.others h l ne
           ]
 
+-- Lines that are sent, one after another.
+
+-- the state between, where a host's machine has become another one
+between : ℕ → Machine → SharedState → SharedState
+between host m old = record { memory = line_at m.image; copy = λ h l. if h == host then cell_at m.cache l else old.copy h l }
+
+between_here : (host : ℕ) (m : Machine) (old : SharedState) (l : ℕ) → (between host m old).copy host l ≡ cell_at m.cache l
+unfolding between
+between_here host m old l = ap (λ (b : Bool). if b then cell_at m.cache l else old.copy host l) (eq-eqb host host refl)
+
+between_other : (host : ℕ) (m : Machine) (old : SharedState) (h l : ℕ) → h ≢ host → (between host m old).copy h l ≡ old.copy h l
+unfolding between
+between_other host m old h l ne = ap (λ (b : Bool). if b then cell_at m.cache l else old.copy h l) (ne_eqb h host ne)
+
+-- one line that is sent
+line_sends : (host line : ℕ) (m : Machine) (old new : SharedState) → ActsAs host m (send_line line m) old new → IsWide old → line < length m.image → LeavesAt host line old new (sent (old.memory line) (old.copy host line)) (cleaned (old.copy host line))
+line_sends host line m old new acts wide within =
+    let words = sent (line_at m.image line) (cell_at m.cache line) in
+    let held : length (current (line_at m.image line) (cell_at m.cache line)) ≡ 8 = sym (ap₂ (λ (w : List ℕ) (c : Cell). length (current w c)) (acts.before.memory line) (acts.before.copies line)) ∙ wide.copies host line in
+    record {
+      only = one_line host m (send_line line m) old new acts line (λ l other. line_at-with_line_other m.image line words l other) (λ l other. cell_at-with_cell_other line (cleaned (cell_at m.cache line)) m.cache l other);
+      memory_is = acts.after.memory line ∙ line_at-with_line m.image line words within ∙ eight_whole words (sent_wide (line_at m.image line) (cell_at m.cache line) refl held) ∙ ap₂ sent (sym (acts.before.memory line)) (sym (acts.before.copies line));
+      copy_is = acts.after.copies line ∙ cell_at-with_cell_same line (cleaned (cell_at m.cache line)) m.cache ∙ ap cleaned (sym (acts.before.copies line));
+    }
+
+sends_by : (host : ℕ) (lines : List ℕ) (m : Machine) (old new : SharedState) → ActsAs host m (send_lines lines m) old new → IsWide old → ((l : ℕ) → IsAmong l lines → l < length m.image) → Sends host lines old new
+unfolding between
+sends_by host [] m old new acts wide within = subst (λ (s : SharedState). Sends host [] old s) (sym (nothing host m m old new acts refl)) all_sent
+sends_by host (line ∷ lines) m old new acts wide within =
+    let next = between host (send_line line m) old in
+    let first : ActsAs host m (send_line line m) old next = record { before = acts.before; after = record { memory = λ l. refl; copies = between_here host (send_line line m) old }; others = between_other host (send_line line m) old } in
+    let left = line_sends host line m old next first wide (within line (inl refl)) in
+    sends_one {next = next} left
+    (sends_by host lines (send_line line m) next new
+    (record { before = first.after; after = acts.after; others = λ h l ne. acts.others h l ne ∙ sym (between_other host (send_line line m) old h l ne) })
+    (wide_now host line old next (sends_at host line old next left) wide)
+    (λ l among. omega (arith, within l (inr among), length-with_line m.image line (sent (line_at m.image line) (cell_at m.cache line)))))
+
 module _ (host : ℕ) (m : Machine) (old new : SharedState) where
   -- An operation that is done.
 
@@ -70,7 +111,7 @@ module _ (host : ℕ) (m : Machine) (old new : SharedState) where
   wide_here m' acts wide l = sym (ap₂ (λ (w : List ℕ) (c : Cell). length (current w c)) (acts.before.memory l) (acts.before.copies l)) ∙ wide.copies host l
 
   -- what a send leaves in memory
-  sent_here : (l : ℕ) → length (current (line_at m.image l) (cell_at m.cache l)) ≡ 8 → l < length m.image → line_at (operated (WriteBack (record { 0 = l })) m).image l ≡ sent (line_at m.image l) (cell_at m.cache l)
+  sent_here : (l : ℕ) → length (current (line_at m.image l) (cell_at m.cache l)) ≡ 8 → l < length m.image → line_at (operated (Invalidate (record { 0 = l })) m).image l ≡ sent (line_at m.image l) (cell_at m.cache l)
   sent_here l wide within =
       line_at-with_line m.image l (sent (line_at m.image l) (cell_at m.cache l)) within
       ∙ eight_whole (sent (line_at m.image l) (cell_at m.cache l)) (sent_wide (line_at m.image l) (cell_at m.cache l) refl wide)
@@ -78,7 +119,7 @@ module _ (host : ℕ) (m : Machine) (old new : SharedState) where
   changes : (op : Op) (line : ℕ) → ActsAs host m (operated op m) old new → IsAt op line → ChangesOnly host line old new
   changes op line acts at = one_line host m (operated op m) old new acts line (λ l other. memory_away op m line l at other) (λ l other. cache_away op m line l at other)
 
-  pub operates_by : (op : Op) → ActsAs host m (operated op m) old new → IsWide old → IsInImage op m.image → Operates op host old new (unwrap_or (given op m) 0)
+  pub operates_by : (op : Op) → ActsAs host m (operated op m) old new → IsWide old → IsInImage op m → Operates op host old new (unwrap_or (given op m) 0)
   operates_by (Load l k) acts wide inside = (
     record {
       only = changes (Load l k) l.0 acts refl;
@@ -100,11 +141,14 @@ module _ (host : ℕ) (m : Machine) (old new : SharedState) where
   operates_by (WriteBack l) acts wide inside =
       record {
         only = changes (WriteBack l) l.0 acts refl;
-        memory_is = acts.after.memory l.0
-            ∙ sent_here l.0 (wide_here (operated (WriteBack l) m) acts wide l.0) inside
-            ∙ ap₂ sent (sym (acts.before.memory l.0)) (sym (acts.before.copies l.0));
-        copy_is = acts.after.copies l.0 ∙ cell_at-with_cell_same l.0 (cleaned (cell_at m.cache l.0)) m.cache ∙ ap cleaned (sym (acts.before.copies l.0));
+        memory_is = acts.after.memory l.0 ∙ sym (acts.before.memory l.0);
+        copy_is = acts.after.copies l.0 ∙ cell_at-with_cell_same l.0 (asked_for (cell_at m.cache l.0)) m.cache ∙ ap asked_for (sym (acts.before.copies l.0));
       }
+  operates_by Fence acts wide inside = record {
+    lines = asked_lines m.cache;
+    sends = sends_by host (asked_lines m.cache) m old new acts wide (λ l among. inside l (among_is_asked m.cache l among));
+    none_asked = λ l is. none_asked m l (subst IsAsked (acts.after.copies l) is);
+  }
   operates_by (Invalidate l) acts wide inside =
       record {
         only = changes (Invalidate l) l.0 acts refl;
@@ -143,11 +187,22 @@ module _ (host : ℕ) (m : Machine) (old new : SharedState) where
         (ap (λ (i : Image). line_at i line) tears_line.is ∙ line_at-with_line m.image line tears_line.words tears_line.within ∙ eight_whole tears_line.words tears_line.wide) refl tears_line.transfers;
   }
 
-  pub failure_transfers : (op : Op) (through : ℕ) (failure : Failure) → ActsAs host m failure.left old new → map eight m.image ≡ m.image → IsInImage op m.image → failed through op m ≡ Some failure → TransfersAt host failure.line.0 old new
-  failure_transfers op through failure acts normal inside fails =
-      tears_line_by failure.line.0 failure.left.image
-      (subst (λ (x : Machine). ActsAs host m x old new) (ap (λ (c : Cache). machine failure.left.image c) (failed_cache through op m failure fails)) acts)
-      (op_tears_line_at op m through failure normal inside fails)
-
   pub failed_move_transfers : (move : Move) (line through : ℕ) (left : Image) → ActsAs host m (machine left m.cache) old new → map eight m.image ≡ m.image → line < length m.image → move_failed move line through m ≡ Some left → TransfersAt host line old new
   failed_move_transfers move line through left acts normal within fails = tears_line_by line left acts (move_tears_line_at move line m through left normal within fails)
+
+-- An operation in which the media fails.
+pub failure_breaks : (host : ℕ) (m : Machine) (old new : SharedState) (op : Op) (through : Breaking) (failure : Failure) → ActsAs host m failure.left old new → IsWide old → map eight m.image ≡ m.image → IsInImage op m → failed through op m ≡ Some failure → Breaks host failure.line.0 old new
+unfolding between
+failure_breaks host m old new op through failure acts wide normal inside fails =
+    let b = op_breaks op m through failure normal inside fails in
+    let m' = send_lines b.sent m in
+    let mid = between host m' old in
+    let first : ActsAs host m m' old mid = record { before = acts.before; after = record { memory = λ l. refl; copies = between_here host m' old }; others = between_other host m' old } in
+    let second : ActsAs host m' failure.left mid new = record { before = first.after; after = acts.after; others = λ h l ne. acts.others h l ne ∙ sym (between_other host m' old h l ne) } in
+    record {
+      lines = b.sent;
+      between = mid;
+      sends = sends_by host b.sent m old mid first wide b.inside;
+      moves = tears_line_by host m' mid new failure.line.0 failure.left.image
+          (subst (λ (x : Machine). ActsAs host m' x mid new) (ap (λ (c : Cache). machine failure.left.image c) b.cache) second) b.tears;
+    }

@@ -24,6 +24,7 @@ use Rattle.fam_rules.specs.Place.{line_bytes, place}
 use Rattle.fam_protocol.specs.Lines.{gate_of, top}
 use Rattle.fam_protocol.specs.Core.{Belongs, IsHistory, IsWide, EntryStands, masters_copy}
 use Rattle.fam_protocol.specs.After.{Run}
+use Rattle.fam_protocol.specs.Tasks.{KeepsPrefix}
 use Rattle.fam_protocol.specs.Invariant.{Hosts, Owner, Rests, shared_with, Small, Damaged, InvariantBy, Invariant, IsKnown, no_hosts, solo, held_file, settled_by, settled_at_first}
 use Rattle.fam_rules.proofs.AskProofs.{member_from}
 use Rattle.fam_protocol.proofs.Lines.Apart.{IsOnLine, byte_on_line}
@@ -97,7 +98,7 @@ module _ (image : Image) (limit : line_bytes * length image ≤ device_limit) (h
       by_copy : (c : Cell) → IsCleanCell c → top (line_at image gate_line) c ≡ gate_of (line_at image gate_line)
       by_copy Absent clean = refl
       by_copy (Clean words) clean = refl
-      by_copy (Dirty words) clean = absurd clean
+      by_copy (Dirty a words) clean = absurd clean
 
   -- a sound reading
   known : (p : Params) (entries : List Entry) → least_lines ≤ length image → reading_of (line_at image) (line_bytes * length image) ≡ Sound p entries
@@ -110,6 +111,7 @@ module _ (image : Image) (limit : line_bytes * length image ≤ device_limit) (h
       let at_top : top (line_at image gate_line) (masters_copy named.host (shared_with image copy) gate_line) ≡ gate_of (line_at image gate_line) = same_top named.host in
       record {
         enough = enough;
+        inside = λ h l dirty. absurd (none_dirty h l dirty);
         master = named.host;
         core = record {
           wide = wide;
@@ -126,6 +128,7 @@ module _ (image : Image) (limit : line_bytes * length image ≤ device_limit) (h
           clean = λ i f h l at below line dirty. none_dirty h l dirty;
         };
         tasks = λ h r run. absurd (no_run hosts rests.idle h r run);
+        kept = λ h. subst (KeepsPrefix p (map (held_file (line_at image)) entries) (length entries)) (sym (rests.bare h)) tt;
       }
 
   -- another reading
@@ -135,6 +138,7 @@ module _ (image : Image) (limit : line_bytes * length image ≤ device_limit) (h
     enough = enough;
     still = record { wide = wide; memory = λ l. refl; clean = none_dirty; bad = bad };
     tasks = λ h r run. absurd (no_run hosts rests.idle h r run);
+    bare = rests.bare;
   }
 
   -- by the reading
@@ -147,7 +151,7 @@ module _ (image : Image) (limit : line_bytes * length image ≤ device_limit) (h
   -- by the number of lines
   by_size : (few : Bool) → nat_lt (length image) least_lines ≡ few
       → InvariantBy (if few then Small (line_at image) else settled_by (line_at image) (reading_of (line_at image) (line_bytes * length image))) (length image) hosts (shared_with image copy)
-  by_size true is = record { memory = λ l. refl; few = grind (arith, nat_tests); idle = rests.idle; clean = none_dirty }
+  by_size true is = record { memory = λ l. refl; few = grind (arith, nat_tests); idle = rests.idle; bare = rests.bare; clean = none_dirty }
   by_size false is = by_reading (reading_of (line_at image) (line_bytes * length image)) refl (grind (arith, nat_tests))
 
   -- an image of at most 1 TiB begins a way, whatever it holds
@@ -156,6 +160,7 @@ module _ (image : Image) (limit : line_bytes * length image ≤ device_limit) (h
     declared = rests.declared;
     marked = λ h r run. absurd (no_run hosts rests.idle h r run);
     named = λ h r run. absurd (no_run hosts rests.idle h r run);
+    keeps = λ h r run. absurd (no_run hosts rests.idle h r run);
     wide = wide;
     stage = by_size (nat_lt (length image) least_lines) refl;
   }
@@ -165,8 +170,9 @@ pub begins : (image : Image) → line_bytes * length image ≤ device_limit → 
 begins image limit =
     begins_with image limit no_hosts (λ h l. Absent)
     record {
-      declared = record { apart = λ h k id none. absurd (cc); absent = λ h l none. refl; idle = λ h none. refl };
+      declared = record { apart = λ h k id none. absurd (cc); absent = λ h l none. refl; idle = λ h none. refl; bare = λ h none. refl };
       owner = λ id. record { host = None; is = λ h none. absurd (cc); only = λ h none. absurd (cc) };
       idle = λ h. refl;
+      bare = λ h. refl;
       clean = λ h l. tt;
     }

@@ -10,9 +10,9 @@ use Rattle.fam_commands.specs.Task.{Task, data_words, line_of, part_line}
 use Rattle.fam_rules.specs.Asks.{File}
 use Rattle.fam_rules.specs.Written.{slot_part}
 use Rattle.fam_protocol.specs.SharedState.{SharedState}
-use Rattle.fam_protocol.specs.Lines.{Fresh, FreshGate, Holding, Finished, top}
+use Rattle.fam_protocol.specs.Lines.{Fresh, FreshGate, Holding, IsHandedOver, Finished, top}
 use Rattle.fam_protocol.specs.Core.{System, masters_copy, top_of}
-use Rattle.fam_protocol.specs.Tasks.{AtPhase, OnPart, IsBeingRead, KnowsHead, KnowsGate, HasReadAll, IsAtSlot, IsAtFile, IsWriting, HasData, HasAllData, HasWrittenLines, StoresData, StoresSlot, MayPublish, HasPublished, IsAtGate}
+use Rattle.fam_protocol.specs.Tasks.{AtPhase, OnPart, IsBeingRead, KnowsHead, KnowsGate, HasReadAll, IsAtSlot, IsAtFile, IsWriting, HasData, HasAllData, HasAskedLines, HasWrittenLines, AwaitsSlot, StoresData, StoresSlot, MayPublish, HasPublished, IsAtGate}
 use Rattle.fam_protocol.specs.Bad.{AtDamagedPhase}
 
 -- the same memory, with these copies
@@ -30,6 +30,9 @@ module _ (sys sys' : System) (host : ℕ) (floor : Option ℕ) (t : Task) (s : S
 
   holding_kept : (k : ℕ) (wanted : List ℕ) (l : ℕ) → Holding k wanted (s.memory l) (s.copy host l) → Holding k wanted (s.memory l) (copy host l)
   holding_kept k wanted l h = subst (Holding k wanted (s.memory l)) (sym (same l)) h
+
+  handed_kept : (l : ℕ) → IsHandedOver (s.copy host l) → IsHandedOver (copy host l)
+  handed_kept l h = subst IsHandedOver (sym (same l)) h
 
   -- the master's top, where the host is the master
   top_kept : sys.master ≡ Some host → top_of sys' (with_copies s copy) ≡ top_of sys s
@@ -95,6 +98,10 @@ module _ (sys sys' : System) (host : ℕ) (floor : Option ℕ) (t : Task) (s : S
   slots_kept : (count : ℕ) → HasWrittenLines count host t s → HasWrittenLines count host t (with_copies s copy)
   slots_kept count h b below = finished_kept (slot_part t.words b) (slot_line t.params t.gate b) (h b below)
 
+  asked_kept : (count : ℕ) → HasAskedLines count host t s → HasAskedLines count host t (with_copies s copy)
+  asked_kept count h b below =
+      (holding_kept 8 (slot_part t.words b) (slot_line t.params t.gate b) (h b below).0, handed_kept (slot_line t.params t.gate b) (h b below).1)
+
   stores_data_kept : (j k : ℕ) → StoresData j k sys host t s all settled → StoresData j k sys' host t (with_copies s copy) all settled
   unfolding writing_kept
   stores_data_kept j k h = record {
@@ -110,9 +117,13 @@ module _ (sys sys' : System) (host : ℕ) (floor : Option ℕ) (t : Task) (s : S
     writing = writing_kept h.writing;
     line = h.line;
     contents = all_data_kept h.contents;
-    before = slots_kept j h.before;
+    before = asked_kept j h.before;
     here = holding_kept k (slot_part t.words j) (slot_line t.params t.gate j) h.here;
   }
+
+  awaits_slot_kept : AwaitsSlot sys host t s all settled → AwaitsSlot sys' host t (with_copies s copy) all settled
+  unfolding writing_kept
+  awaits_slot_kept h = record { writing = writing_kept h.writing; contents = all_data_kept h.contents; slot = asked_kept (geometry sys.params).lines h.slot }
 
   may_publish_kept : MayPublish sys host t s all settled → MayPublish sys' host t (with_copies s copy) all settled
   unfolding writing_kept
@@ -143,7 +154,9 @@ module _ (sys sys' : System) (host : ℕ) (floor : Option ℕ) (t : Task) (s : S
   phase_kept (at.StoreSlot j k) (below, stores) = (below, stores_slot_kept j k stores)
   phase_kept (at.SendSlot j) h = stores_slot_kept j 8 h
   phase_kept at.StoreGate h = may_publish_kept h
+  phase_kept at.FenceSlot h = awaits_slot_kept h
   phase_kept at.SendGate h = published_kept h
+  phase_kept at.FenceGate h = (published_kept h.0, handed_kept gate_line h.1)
 
 module _ (image : ℕ → List ℕ) (have host : ℕ) (t : Task) (s : SharedState) (copy : ℕ → ℕ → Cell) (same : (l : ℕ) → copy host l ≡ s.copy host l) where
   still_fresh : (l : ℕ) → Fresh (s.memory l) (s.copy host l) → Fresh (s.memory l) (copy host l)
@@ -164,4 +177,6 @@ module _ (image : ℕ → List ℕ) (have host : ℕ) (t : Task) (s : SharedStat
   bad_phase_kept (at.StoreSlot j k) h = h
   bad_phase_kept (at.SendSlot j) h = h
   bad_phase_kept at.StoreGate h = h
+  bad_phase_kept at.FenceSlot h = h
   bad_phase_kept at.SendGate h = h
+  bad_phase_kept at.FenceGate h = h

@@ -11,13 +11,14 @@ use Rattle.fam_format.specs.Reading.{Lines}
 use Rattle.fam_machine.specs.declared.cell.Cell.{Cell}
 use Rattle.fam_machine.specs.declared.cell.Cell.TheVariants.{Absent}
 use Rattle.fam_machine.specs.OneLine.{IsDirty, current}
-use Rattle.fam_commands.specs.Task.{starting}
+use Rattle.fam_commands.specs.Task.{mounted}
 use Rattle.fam_rules.specs.Asks.{File}
 use Rattle.fam_rules.specs.Place.{line_bytes}
 use Rattle.fam_protocol.specs.SharedState.{SharedState, Loses}
 use Rattle.fam_protocol.specs.Lines.{gate_of, top}
 use Rattle.fam_protocol.specs.Core.{System, Core, IsMaster, IsWide, masters_copy, top_of}
-use Rattle.fam_protocol.specs.Tasks.{TaskHolds, IsCommand}
+use Rattle.fam_protocol.specs.Tasks.{KeepsPrefix, TaskHolds, IsCommand}
+use Rattle.fam_commands.specs.Kept.{Kept}
 use Rattle.fam_protocol.specs.After.{Run, HasNamed, HoldsNamed, HasMarked, IsMarked}
 use Rattle.fam_protocol.specs.Bad.{BadTaskHolds}
 use Rattle.fam_protocol.specs.Invariant.{Hosts, Settled, Small, Damaged, Known, AreHosts, IsSmall, IsDamaged, IsKnown, InvariantBy, Invariant}
@@ -54,18 +55,19 @@ module _ (sys : System) (uuid : ℕ → Option (List ℕ)) (master : Option ℕ)
 -- A host's task begins or is dropped, and its cache stays or is lost.
 
 -- a task that goes on, and its cache stays
-record Carried (old : Hosts) (s : SharedState) (copy : ℕ → ℕ → Cell) (host : ℕ) (r : Run) : Type 0 where
+record Carried (old : Hosts) (s : SharedState) (copy : ℕ → ℕ → Cell) (now : Option Kept) (host : ℕ) (r : Run) : Type 0 where
   run : old.run host ≡ Some r
+  kept : now ≡ old.kept host
   same : (l : ℕ) → copy host l ≡ s.copy host l
 
 -- a task that begins
-record Begun (old : Hosts) (lines host : ℕ) (r : Run) : Type 0 where
+record Begun (old : Hosts) (lines : ℕ) (now : Option Kept) (host : ℕ) (r : Run) : Type 0 where
   me : List ℕ
   cmd : Cmd
   enough : least_lines ≤ lines
   declared : old.uuid host ≡ Some me
   command : IsCommand cmd
-  is : r ≡ record { task = starting cmd me lines; floor = None; named = None }
+  is : r ≡ record { task = mounted now cmd me lines; floor = None; named = None }
 
 -- what may become of copies: a copy that isn't as before is gone
 record Loosens (s : SharedState) (copy : ℕ → ℕ → Cell) : Type 0 where
@@ -77,22 +79,38 @@ record Loosens (s : SharedState) (copy : ℕ → ℕ → Cell) : Type 0 where
       → top (s.memory gate_line) (masters_copy m (with_copies s copy) gate_line) ≤ top (s.memory gate_line) (masters_copy m s gate_line)
 
 module _ (old new : Hosts) (lines : ℕ) (s : SharedState) (copy : ℕ → ℕ → Cell) (uuids : (h : ℕ) → new.uuid h ≡ old.uuid h) (idle : (h : ℕ) → old.run h ≡ None → old.uuid h ≡ None → new.run h ≡ None)
-    (runs : (h : ℕ) (r : Run) → new.run h ≡ Some r → Carried old s copy h r ⊎ Begun old lines h r) (loosens : Loosens s copy) where
+    (runs : (h : ℕ) (r : Run) → new.run h ≡ Some r → Carried old s copy (new.kept h) h r ⊎ Begun old lines (new.kept h) h r) (keeps : (h : ℕ) → (new.kept h ≡ old.kept h) ⊎ (new.kept h ≡ None)) (loosens : Loosens s copy) where
+  -- where a host kept nothing it keeps nothing
+  bare_by : (h : ℕ) → old.kept h ≡ None → (new.kept h ≡ old.kept h) ⊎ (new.kept h ≡ None) → new.kept h ≡ None
+  bare_by h none (inl same) = same ∙ none
+  bare_by h none (inr gone) = gone
+
+  -- and what it keeps is the history's front
+  kept_by : (p : Params) (all : List File) (settled h : ℕ) → KeepsPrefix p all settled (old.kept h) → (new.kept h ≡ old.kept h) ⊎ (new.kept h ≡ None) → KeepsPrefix p all settled (new.kept h)
+  kept_by p all settled h keeps' (inl same) = subst (KeepsPrefix p all settled) (sym same) keeps'
+  kept_by p all settled h keeps' (inr gone) = subst (KeepsPrefix p all settled) (sym gone) tt
+
+  -- a task has what its host keeps
+  own_same : ((h : ℕ) (r : Run) → old.run h ≡ Some r → r.task.kept ≡ old.kept h) → (h : ℕ) (r : Run) → Carried old s copy (new.kept h) h r ⊎ Begun old lines (new.kept h) h r → r.task.kept ≡ new.kept h
+  own_same own h r (inl carried) = own h r carried.run ∙ sym carried.kept
+  own_same own h r (inr begun) = ap (λ (q : Run). q.task.kept) begun.is
+
   -- the declared hosts
   hosts_same : AreHosts old s → AreHosts new (with_copies s copy)
   hosts_same are = record {
     apart = λ h k id is_h is_k. are.apart h k id (sym (uuids h) ∙ is_h) (sym (uuids k) ∙ is_k);
     absent = λ h l none. loosens.absent h l (are.absent h l (sym (uuids h) ∙ none));
     idle = λ h none. let was : old.uuid h ≡ None = sym (uuids h) ∙ none in idle h (are.idle h was) was;
+    bare = λ h none. bare_by h (are.bare h (sym (uuids h) ∙ none)) (keeps h);
   }
 
   -- a task that begins writes nothing yet
-  named_same : ((h : ℕ) (r : Run) → old.run h ≡ Some r → HasNamed r.task.phase → HoldsNamed r.task r.named) → (h : ℕ) (r : Run) → Carried old s copy h r ⊎ Begun old lines h r → HasNamed r.task.phase → HoldsNamed r.task r.named
+  named_same : ((h : ℕ) (r : Run) → old.run h ≡ Some r → HasNamed r.task.phase → HoldsNamed r.task r.named) → (h : ℕ) (r : Run) → Carried old s copy (new.kept h) h r ⊎ Begun old lines (new.kept h) h r → HasNamed r.task.phase → HoldsNamed r.task r.named
   named_same named h r (inl carried) has = named h r carried.run has
   named_same named h r (inr begun) has = absurd (subst (λ (q : Run). HasNamed q.task.phase) begun.is has)
 
   -- nor has it a mark
-  marked_same : ((h : ℕ) (r : Run) → old.run h ≡ Some r → HasMarked r.task.phase → IsMarked r.floor) → (h : ℕ) (r : Run) → Carried old s copy h r ⊎ Begun old lines h r → HasMarked r.task.phase → IsMarked r.floor
+  marked_same : ((h : ℕ) (r : Run) → old.run h ≡ Some r → HasMarked r.task.phase → IsMarked r.floor) → (h : ℕ) (r : Run) → Carried old s copy (new.kept h) h r ⊎ Begun old lines (new.kept h) h r → HasMarked r.task.phase → IsMarked r.floor
   marked_same marked h r (inl carried) has = marked h r carried.run has
   marked_same marked h r (inr begun) has = absurd (subst (λ (q : Run). HasMarked q.task.phase) begun.is has)
 
@@ -103,28 +121,29 @@ module _ (old new : Hosts) (lines : ℕ) (s : SharedState) (copy : ℕ → ℕ �
       elim (runs h r is) [ inl carried ↦ absurd (let was = carried.run in let gone = none h in cc) | inr begun ↦ absurd (omega (arith, begun.enough)) ]
 
   small_same : (image : Lines) → IsSmall image lines old s → IsSmall image lines new (with_copies s copy)
-  small_same image is = record { memory = is.memory; few = is.few; idle = λ h. small_by is.idle is.few h (new.run h) refl; clean = λ h l d. is.clean h l (loosens.dirty h l d) }
+  small_same image is = record { memory = is.memory; few = is.few; idle = λ h. small_by is.idle is.few h (new.run h) refl; bare = λ h. bare_by h (is.bare h) (keeps h); clean = λ h l d. is.clean h l (loosens.dirty h l d) }
 
   -- a damaged image
-  bad_task : (image : Lines) → ((h : ℕ) (r : Run) → old.run h ≡ Some r → BadTaskHolds image (line_bytes * lines) old.uuid h r.task s) → (h : ℕ) (r : Run) → Carried old s copy h r ⊎ Begun old lines h r
+  bad_task : (image : Lines) → ((h : ℕ) → old.kept h ≡ None) → ((h : ℕ) (r : Run) → old.run h ≡ Some r → BadTaskHolds image (line_bytes * lines) old.uuid h r.task s) → (h : ℕ) (r : Run) → Carried old s copy (new.kept h) h r ⊎ Begun old lines (new.kept h) h r
       → BadTaskHolds image (line_bytes * lines) new.uuid h r.task (with_copies s copy)
-  bad_task image tasks h r (inl carried) =
+  bad_task image bare tasks h r (inl carried) =
       let was = tasks h r carried.run in
       record { me = uuids h ∙ was.me; lines = was.lines; phase = bad_phase_kept image (line_bytes * lines) h r.task s copy carried.same r.task.phase was.phase }
-  bad_task image tasks h r (inr begun) =
+  bad_task image bare tasks h r (inr begun) =
       subst (λ (q : Run). BadTaskHolds image (line_bytes * lines) new.uuid h q.task (with_copies s copy)) (sym begun.is)
-      record { me = uuids h ∙ begun.declared; lines = refl; phase = record { first = refl; entries = refl; survey = refl } }
+      record { me = uuids h ∙ begun.declared; lines = refl; phase = record { entries = refl; survey = refl; kept = bare_by h (bare h) (keeps h) } }
 
   damaged_same : (image : Lines) → IsDamaged image lines old s → IsDamaged image lines new (with_copies s copy)
   damaged_same image is = record {
     enough = is.enough;
     still = record { wide = loosens.wide is.still.wide; memory = is.still.memory; clean = λ h l d. is.still.clean h l (loosens.dirty h l d); bad = is.still.bad };
-    tasks = λ h r run. bad_task image is.tasks h r (runs h r run);
+    tasks = λ h r run. bad_task image is.bare is.tasks h r (runs h r run);
+    bare = λ h. bare_by h (is.bare h) (keeps h);
   }
 
   -- a sound file system
   good_task : (sys : System) (all : List File) (settled : ℕ) → sys.uuid ≡ old.uuid → line_bytes * lines ≡ sys.have → ((h : ℕ) (r : Run) → old.run h ≡ Some r → TaskHolds sys h r.floor r.task s all settled)
-      → (h : ℕ) (r : Run) → Carried old s copy h r ⊎ Begun old lines h r → TaskHolds (with_hosts sys new.uuid sys.master) h r.floor r.task (with_copies s copy) all settled
+      → (h : ℕ) (r : Run) → Carried old s copy (new.kept h) h r ⊎ Begun old lines (new.kept h) h r → TaskHolds (with_hosts sys new.uuid sys.master) h r.floor r.task (with_copies s copy) all settled
   good_task sys all settled hosts have tasks h r (inl carried) =
       let was = tasks h r carried.run in
       record {
@@ -135,18 +154,20 @@ module _ (old new : Hosts) (lines : ℕ) (s : SharedState) (copy : ℕ → ℕ �
       }
   good_task sys all settled hosts have tasks h r (inr begun) =
       subst (λ (q : Run). TaskHolds (with_hosts sys new.uuid sys.master) h q.floor q.task (with_copies s copy) all settled) (sym begun.is)
-      record { command = begun.command; me = uuids h ∙ begun.declared; lines = have; phase = record { first = refl; entries = refl; survey = refl } }
+      record { command = begun.command; me = uuids h ∙ begun.declared; lines = have; phase = record { entries = refl; survey = refl } }
 
   known_same : (p : Params) (all : List File) (settled : ℕ) → IsKnown p all settled lines old s → IsKnown p all settled lines new (with_copies s copy)
   known_same p all settled is =
       let sys : System = record { params = p; have = line_bytes * lines; uuid = old.uuid; master = is.master } in
       record {
         enough = is.enough;
+        inside = λ h l d. is.inside h l (loosens.dirty h l d);
         master = is.master;
         core = core_fallen sys new.uuid is.master s copy all settled is.core
             record { is = λ h master. uuids h ∙ is.core.named.is h master; only = λ h id. is.core.named.only h (sym (uuids h) ∙ id) }
             (loosens.wide is.core.wide) (λ h master. master) loosens.dirty (loosens.low is.master is.core.order) (loosens.high is.master is.core.order);
         tasks = λ h r run. good_task sys all settled refl refl is.tasks h r (runs h r run);
+        kept = λ h. kept_by p all settled h (is.kept h) (keeps h);
       }
 
   stage_same : (settled : Settled) → InvariantBy settled lines old s → InvariantBy settled lines new (with_copies s copy)
@@ -155,7 +176,7 @@ module _ (old new : Hosts) (lines : ℕ) (s : SharedState) (copy : ℕ → ℕ �
   stage_same (Known p all settled) is = known_same p all settled is
 
   invariant_same : (settled : Settled) → Invariant settled lines old s → Invariant settled lines new (with_copies s copy)
-  invariant_same settled invariant = record { declared = hosts_same invariant.declared; marked = λ h r run. marked_same invariant.marked h r (runs h r run); named = λ h r run. named_same invariant.named h r (runs h r run); wide = loosens.wide invariant.wide; stage = stage_same settled invariant.stage }
+  invariant_same settled invariant = record { declared = hosts_same invariant.declared; marked = λ h r run. marked_same invariant.marked h r (runs h r run); named = λ h r run. named_same invariant.named h r (runs h r run); keeps = λ h r run. own_same invariant.keeps h r (runs h r run); wide = loosens.wide invariant.wide; stage = stage_same settled invariant.stage }
 
 -- nothing becomes of copies
 nothing_lost : (s : SharedState) → Loosens s s.copy
@@ -220,11 +241,11 @@ module _ (host : ℕ) (s : SharedState) (copy : ℕ → ℕ → Cell) (gone : (l
 
 module _ (settled : Settled) (lines host : ℕ) (old new : Hosts) where
   -- a host's task is dropped: no other task is
-  carried_by : (s : SharedState) (copy : ℕ → ℕ → Cell) → Stops host old new → ((h l : ℕ) → h ≢ host → copy h l ≡ s.copy h l) → (h : ℕ) (r : Run) → new.run h ≡ Some r → Carried old s copy h r ⊎ Begun old lines h r
+  carried_by : (s : SharedState) (copy : ℕ → ℕ → Cell) → Stops host old new → ((h l : ℕ) → h ≢ host → copy h l ≡ s.copy h l) → (h : ℕ) (r : Run) → new.run h ≡ Some r → Carried old s copy (new.kept h) h r ⊎ Begun old lines (new.kept h) h r
   carried_by s copy stops others h r run =
       elim (cases_eq h host) [
         | inl is ↦ absurd (let here : new.run h ≡ None = ap new.run is ∙ stops.is in cc)
-        | inr other ↦ inl record { run = sym (stops.runs h other) ∙ run; same = λ l. others h l other }
+        | inr other ↦ inl record { run = sym (stops.runs h other) ∙ run; kept = stops.kept h other; same = λ l. others h l other }
       ]
 
   idle_by : Stops host old new → (h : ℕ) → old.run h ≡ None → old.uuid h ≡ None → new.run h ≡ None
@@ -234,13 +255,20 @@ module _ (settled : Settled) (lines host : ℕ) (old new : Hosts) where
         | inr other ↦ stops.runs h other ∙ none
       ]
 
+  keeps_by : Stops host old new → (h : ℕ) → (new.kept h ≡ old.kept h) ⊎ (new.kept h ≡ None)
+  keeps_by stops h =
+      elim (cases_eq h host) [
+        | inl is ↦ subst (λ (k : ℕ). (new.kept k ≡ old.kept k) ⊎ (new.kept k ≡ None)) (sym is) stops.mine
+        | inr other ↦ inl (stops.kept h other)
+      ]
+
   -- a stop
   pub invariant_stopped : (s : SharedState) → Invariant settled lines old s → Stops host old new → Invariant settled lines new s
-  invariant_stopped s invariant stops = invariant_same old new lines s s.copy stops.uuids (idle_by stops) (carried_by s s.copy stops (λ h l other. refl)) (nothing_lost s) settled invariant
+  invariant_stopped s invariant stops = invariant_same old new lines s s.copy stops.uuids (idle_by stops) (carried_by s s.copy stops (λ h l other. refl)) (keeps_by stops) (nothing_lost s) settled invariant
 
   -- a halt
   halted_at : (s : SharedState) (copy : ℕ → ℕ → Cell) → Invariant settled lines old s → Stops host old new → ((l : ℕ) → copy host l ≡ Absent) → ((h l : ℕ) → h ≢ host → copy h l ≡ s.copy h l) → Invariant settled lines new (with_copies s copy)
-  halted_at s copy invariant stops gone others = invariant_same old new lines s copy stops.uuids (idle_by stops) (carried_by s copy stops others) (cache_lost host s copy gone others) settled invariant
+  halted_at s copy invariant stops gone others = invariant_same old new lines s copy stops.uuids (idle_by stops) (carried_by s copy stops others) (keeps_by stops) (cache_lost host s copy gone others) settled invariant
 
   -- a host halts and loses its cache
   pub invariant_halted : (s s' : SharedState) → Invariant settled lines old s → Stops host old new → Loses host s s' → Invariant settled lines new s'
@@ -249,7 +277,7 @@ module _ (settled : Settled) (lines host : ℕ) (old new : Hosts) where
       (halted_at s s'.copy invariant stops loses.lost loses.hosts)
 
   -- a begin, of an image that has a gate
-  begun_by : (s : SharedState) (cmd : Cmd) → least_lines ≤ lines → Starts host cmd lines old new → (h : ℕ) (r : Run) → new.run h ≡ Some r → Carried old s s.copy h r ⊎ Begun old lines h r
+  begun_by : (s : SharedState) (cmd : Cmd) → least_lines ≤ lines → Starts host cmd lines old new → (h : ℕ) (r : Run) → new.run h ≡ Some r → Carried old s s.copy (new.kept h) h r ⊎ Begun old lines (new.kept h) h r
   begun_by s cmd enough starts h r run =
       elim (cases_eq h host) [
         | inl is ↦ inr record {
@@ -258,9 +286,9 @@ module _ (settled : Settled) (lines host : ℕ) (old new : Hosts) where
           enough = enough;
           declared = ap old.uuid is ∙ starts.declared;
           command = starts.command;
-          is = let here : new.run h ≡ Some (record { task = starting cmd starts.me lines; floor = None; named = None }) = ap new.run is ∙ starts.is in cc;
+          is = let now : new.kept h ≡ old.kept host = ap new.kept is ∙ starts.kept host in let here : new.run h ≡ Some (record { task = mounted (new.kept h) cmd starts.me lines; floor = None; named = None }) = ap new.run is ∙ starts.is ∙ ap (λ (k : Option Kept). Some (record { task = mounted k cmd starts.me lines; floor = None; named = None })) (sym now) in cc;
         }
-        | inr other ↦ inl record { run = sym (starts.runs h other) ∙ run; same = λ l. refl }
+        | inr other ↦ inl record { run = sym (starts.runs h other) ∙ run; kept = starts.kept h; same = λ l. refl }
       ]
 
   idle_but : (cmd : Cmd) → Starts host cmd lines old new → (h : ℕ) → old.run h ≡ None → old.uuid h ≡ None → new.run h ≡ None
@@ -272,7 +300,7 @@ module _ (settled : Settled) (lines host : ℕ) (old new : Hosts) where
 
   -- a declared host begins a command
   pub invariant_begun : (s : SharedState) (cmd : Cmd) → least_lines ≤ lines → Invariant settled lines old s → Starts host cmd lines old new → Invariant settled lines new s
-  invariant_begun s cmd enough invariant starts = invariant_same old new lines s s.copy starts.uuids (idle_but cmd starts) (begun_by s cmd enough starts) (nothing_lost s) settled invariant
+  invariant_begun s cmd enough invariant starts = invariant_same old new lines s s.copy starts.uuids (idle_but cmd starts) (begun_by s cmd enough starts) (λ h. inl (starts.kept h)) (nothing_lost s) settled invariant
 
 -- A new host.
 
@@ -324,6 +352,7 @@ module _ (lines host : ℕ) (id : List ℕ) (old new : Hosts) (s : SharedState) 
     apart = λ h k other_id is_h is_k. apart_by h k other_id (cases_eq h host) (cases_eq k host) is_h is_k;
     absent = λ h l none. are.absent h l (still_none h none);
     idle = λ h none. declares.runs h ∙ are.idle h (still_none h none);
+    bare = λ h none. declares.kept h ∙ are.bare h (still_none h none);
   }
 
   -- a damaged image
@@ -334,6 +363,7 @@ module _ (lines host : ℕ) (id : List ℕ) (old new : Hosts) (s : SharedState) 
     tasks = λ h r run.
         let was = is.tasks h r (sym (declares.runs h) ∙ run) in
         record { me = declares.uuids h (runs_other h r run) ∙ was.me; lines = was.lines; phase = was.phase };
+    bare = λ h. declares.kept h ∙ is.bare h;
   }
 
   -- a sound file system, with this master now
@@ -345,6 +375,7 @@ module _ (lines host : ℕ) (id : List ℕ) (old new : Hosts) (s : SharedState) 
         let sys : System = record { params = p; have = line_bytes * lines; uuid = old.uuid; master = is.master } in
         record {
           enough = is.enough;
+          inside = is.inside;
           master = master;
           core = core_fallen sys new.uuid master s s.copy all settled is.core named is.core.wide on (λ h l d. d) (omega (arith, is.core.order, same)) (omega (arith, same));
           tasks = λ h r run.
@@ -355,6 +386,7 @@ module _ (lines host : ℕ) (id : List ℕ) (old new : Hosts) (s : SharedState) 
                 lines = was.lines;
                 phase = phase_kept sys (with_hosts sys new.uuid master) h r.floor r.task s s.copy all settled refl (on h) (back h (runs_other h r run)) (λ l. refl) r.task.phase was.phase;
               };
+          kept = λ h. subst (KeepsPrefix p all settled) (sym (declares.kept h)) (is.kept h);
         }
 
     -- the new host is the master, where it has the master's UUID: there was none before
@@ -395,11 +427,11 @@ module _ (lines host : ℕ) (id : List ℕ) (old new : Hosts) (s : SharedState) 
     known_declared = elim (one_or_two id p.master) [ inl same ↦ master_declared same | inr other ↦ client_declared other ]
 
   stage_declared : (settled : Settled) → InvariantBy settled lines old s → InvariantBy settled lines new s
-  stage_declared (Small image) is = record { memory = is.memory; few = is.few; idle = λ h. declares.runs h ∙ is.idle h; clean = is.clean }
+  stage_declared (Small image) is = record { memory = is.memory; few = is.few; idle = λ h. declares.runs h ∙ is.idle h; bare = λ h. declares.kept h ∙ is.bare h; clean = is.clean }
   stage_declared (Damaged image) is = damaged_declared image is
   stage_declared (Known p all settled) is = known_declared p all settled is
 
 -- a host is declared
 pub invariant_declared : (settled : Settled) (lines host : ℕ) (id : List ℕ) (old new : Hosts) (s : SharedState) → Invariant settled lines old s → Declares host id old new → Invariant settled lines new s
 invariant_declared settled lines host id old new s invariant declares =
-    record { declared = hosts_declared lines host id old new s declares invariant.declared; marked = λ h r run. invariant.marked h r (sym (declares.runs h) ∙ run); named = λ h r run. invariant.named h r (sym (declares.runs h) ∙ run); wide = invariant.wide; stage = stage_declared lines host id old new s declares invariant.declared settled invariant.stage }
+    record { declared = hosts_declared lines host id old new s declares invariant.declared; marked = λ h r run. invariant.marked h r (sym (declares.runs h) ∙ run); named = λ h r run. invariant.named h r (sym (declares.runs h) ∙ run); keeps = λ h r run. invariant.keeps h r (sym (declares.runs h) ∙ run) ∙ sym (declares.kept h); wide = invariant.wide; stage = stage_declared lines host id old new s declares invariant.declared settled invariant.stage }

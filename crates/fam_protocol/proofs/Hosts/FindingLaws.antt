@@ -91,7 +91,9 @@ module _ (sys : System) (host : ℕ) (floor : Option ℕ) (t : Task) (s : Shared
   named_at (at.StoreSlot j k) has named holds g = writing_last named holds g.1.writing
   named_at (at.SendSlot j) has named holds g = writing_last named holds g.writing
   named_at at.StoreGate has named holds g = writing_last named holds g.writing
+  named_at at.FenceSlot has named holds g = writing_last named holds g.writing
   named_at at.SendGate has named holds g = holds_last floor named t all holds g.pending g.file g.last g.entry
+  named_at at.FenceGate has named holds g = holds_last floor named t all holds g.0.pending g.0.file g.0.last g.0.entry
   named_at other has named holds g = absurd has
 
   -- the words of a slot below the gate

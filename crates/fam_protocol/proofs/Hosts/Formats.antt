@@ -1,5 +1,5 @@
 -- Making a file system begins a way, whatever was there.
-use Rattle.std.proofs.Common.{◌≡◌, ℕ, ◌*◌, ◌≤◌, List, [], ◌++◌, Some, None, Ok, inl, inr, refl, sym, ap, subst, ◌∙◌, arith}
+use Rattle.std.proofs.Common.{◌≡◌, ℕ, ◌*◌, ◌<◌, ◌≤◌, List, [], ◌++◌, Some, None, Ok, inl, inr, refl, sym, ap, subst, ◌∙◌, arith}
 use Rattle.std.specs.Prelude.{slice_range, slice_index}
 use Rattle.std.proofs.lemmas.Bool.{cases_eq, false≢true}
 use Rattle.fam_base.specs.declared.entry.Params.{Params}
@@ -16,6 +16,7 @@ use Rattle.fam_rules.specs.Place.{line_bytes}
 use Rattle.fam_protocol.specs.SharedState.{SharedState}
 use Rattle.fam_protocol.specs.Lines.{gate_of, top}
 use Rattle.fam_protocol.specs.Core.{IsWide, IsHeadLine}
+use Rattle.fam_protocol.specs.Tasks.{KeepsPrefix}
 use Rattle.fam_protocol.specs.Invariant.{Hosts, AreHosts, Known, Invariant}
 use Rattle.fam_protocol.specs.Events.{Formats, MayFormat}
 
@@ -53,6 +54,10 @@ module _ (maker : ℕ) (p : Params) (lines : ℕ) (hosts : Hosts) (old new : Sha
       let gone : new.copy h l ≡ Absent = sym (ap (λ (k : ℕ). new.copy k l) same) ∙ formats.head l head in
       false≢true (subst IsDirty gone d)
 
+  -- which were lines of the image before
+  inside_formatted : (h l : ℕ) → IsDirty (new.copy h l) → l < lines
+  inside_formatted h l d = may.inside l (formats.dirty l (subst (λ (k : ℕ). IsDirty (new.copy k l)) (sym (only_maker h l d)) d))
+
   -- nothing is published
   none_published : top (new.memory gate_line) (new.copy maker gate_line) ≡ 0
   none_published = ap (top (new.memory gate_line)) formats.dropped ∙ ap gate_of formats.gate
@@ -67,6 +72,7 @@ module _ (maker : ℕ) (p : Params) (lines : ℕ) (hosts : Hosts) (old new : Sha
     absent = λ h l none.
         formats.hosts h l (λ same. let some : hosts.uuid h ≡ Some p.master = ap hosts.uuid same ∙ may.maker_is in cc) ∙ are.absent h l none;
     idle = are.idle;
+    bare = are.bare;
   }
 
   -- the new file system has no entries
@@ -75,9 +81,11 @@ module _ (maker : ℕ) (p : Params) (lines : ℕ) (hosts : Hosts) (old new : Sha
     declared = hosts_formatted are;
     marked = λ h r run. absurd (let none = may.idle h in cc);
     named = λ h r run. absurd (let none = may.idle h in cc);
+    keeps = λ h r run. absurd (let none = may.idle h in cc);
     wide = wide;
     stage = record {
       enough = enough_lines;
+      inside = inside_formatted;
       master = Some maker;
       core = record {
         wide = wide;
@@ -97,5 +105,6 @@ module _ (maker : ℕ) (p : Params) (lines : ℕ) (hosts : Hosts) (old new : Sha
         clean = λ i f h l none below line d. absurd (cc);
       };
       tasks = λ h r run. absurd (let none = may.idle h in cc);
+      kept = λ h. subst (KeepsPrefix p [] 0) (sym (may.bare h)) tt;
     };
   }

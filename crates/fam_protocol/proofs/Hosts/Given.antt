@@ -8,9 +8,9 @@ use Rattle.fam_commands.specs.Task.{Task, data_words, line_of, part_line}
 use Rattle.fam_rules.specs.Asks.{File}
 use Rattle.fam_rules.specs.Written.{slot_part}
 use Rattle.fam_protocol.specs.SharedState.{SharedState}
-use Rattle.fam_protocol.specs.Lines.{Finished, gate_of, IsAtLeast}
+use Rattle.fam_protocol.specs.Lines.{Asked, IsHandedOver, Finished, gate_of, IsAtLeast}
 use Rattle.fam_protocol.specs.Core.{System}
-use Rattle.fam_protocol.specs.Tasks.{IsStable, StoresData, StoresSlot, HasPublished, AtPhase}
+use Rattle.fam_protocol.specs.Tasks.{MayPublish, IsStable, StoresData, StoresSlot, HasPublished, AtPhase}
 
 -- the word of a load of the gate
 pub record GivesGate (sys : System) (host : ℕ) (floor : Option ℕ) (word : ℕ) (s : SharedState) : Type 0 where
@@ -38,7 +38,9 @@ Given (at.SendData j) sys host floor word t s all settled =
     StoresData j 8 sys host t s all settled × Finished (data_words t j) (s.memory (line_of t.entry j)) (s.copy host (line_of t.entry j))
 Given (at.StoreSlot j k) sys host floor word t s all settled = (k < 8) × StoresSlot j (k + 1) sys host t s all settled
 Given (at.SendSlot j) sys host floor word t s all settled =
-    StoresSlot j 8 sys host t s all settled × Finished (slot_part t.words j) (s.memory (slot_line t.params t.gate j)) (s.copy host (slot_line t.params t.gate j))
+    StoresSlot j 8 sys host t s all settled × Asked (slot_part t.words j) (s.memory (slot_line t.params t.gate j)) (s.copy host (slot_line t.params t.gate j))
+Given at.FenceSlot sys host floor word t s all settled = MayPublish sys host t s all settled
 Given at.StoreGate sys host floor word t s all settled = HasPublished sys host t s all
-Given at.SendGate sys host floor word t s all settled =
+Given at.SendGate sys host floor word t s all settled = HasPublished sys host t s all × IsHandedOver (s.copy host gate_line)
+Given at.FenceGate sys host floor word t s all settled =
     HasPublished sys host t s all × (gate_of (s.memory gate_line) ≡ t.gate + 1)

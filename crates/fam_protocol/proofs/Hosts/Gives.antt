@@ -11,24 +11,25 @@ use Rattle.fam_machine.specs.declared.cell.Cell.TheVariants.{Absent, Clean, Dirt
 use Rattle.fam_commands.specs.declared.phase.Phase.{Phase}
 use Rattle.fam_commands.specs.declared.phase.Phase.TheVariants as at
 use Rattle.fam_machine.specs.Moves.{Transfers}
-use Rattle.fam_machine.specs.OneLine.{brought, cleaned, current, sent, stored}
+use Rattle.fam_machine.specs.OneLine.{asked_for, brought, current, sent, stored}
 use Rattle.fam_commands.specs.Task.{Task, data_words, line_of, op_at, part_line, size_of}
-use Rattle.fam_machine.proofs.Transferring.{absent_transfers, brought_transfers, cleaned_transfers}
+use Rattle.fam_machine.proofs.Transferring.{absent_transfers, asked_for_transfers, brought_transfers}
 use Rattle.fam_rules.specs.Asks.{File}
 use Rattle.fam_rules.specs.Place.{line_bytes}
 use Rattle.fam_rules.specs.Written.{slot_part}
-use Rattle.fam_protocol.specs.SharedState.{SharedState, TransfersAt, LeavesAt, Operates}
-use Rattle.fam_protocol.specs.Lines.{Fresh, FreshGate, Finished, gate_of, top, IsAtLeast}
+use Rattle.fam_protocol.specs.SharedState.{SharedState, TransfersAt, LeavesAt, Operates, Fences}
+use Rattle.fam_protocol.specs.Lines.{Fresh, FreshGate, Asked, Finished, IsHandedOver, gate_of, top, IsAtLeast}
 use Rattle.fam_protocol.specs.Core.{System, Core, IsEntryLine, masters_copy}
-use Rattle.fam_protocol.specs.Tasks.{AtPhase, HasPublished, IsAtGate, IsWriting, StoresData, StoresSlot}
+use Rattle.fam_protocol.specs.Tasks.{AtPhase, AwaitsSlot, MayPublish, HasPublished, IsAtGate, IsWriting, StoresData, StoresSlot}
 use Rattle.fam_protocol.proofs.Lines.Apart.{files_apart, slots_apart, slot_no_file}
 use Rattle.fam_protocol.proofs.Lines.Transferring.{transfer_keeps}
 use Rattle.fam_protocol.proofs.Lines.Free.{core_kept, transfers_at, same}
 use Rattle.fam_protocol.proofs.Hosts.Given.{Given, GivesGate}
 use Rattle.fam_protocol.proofs.Lines.Keeping.{Keeps, phase_kept}
-use Rattle.fam_protocol.proofs.Lines.Moves.{fresh_current}
+use Rattle.fam_protocol.proofs.Lines.Moves.{asked_handed, fresh_current}
+use Rattle.fam_protocol.proofs.Lines.Fencing.{Sent, finished_then, not_dirty_then, same_keeps, sends_keep, top_then}
 use Rattle.fam_protocol.proofs.Lines.Publish.{core_published, has_published, publish_keeps}
-use Rattle.fam_protocol.proofs.Lines.Stored.{cleaned_fresh, core_stored, finished_other, holding_here, part_length, part_word, sent_whole, store_keeps, writing_stored}
+use Rattle.fam_protocol.proofs.Lines.Stored.{asked_other, core_stored, finished_other, holding_here, part_length, part_word, sent_whole, store_keeps, writing_stored}
 use Rattle.fam_protocol.proofs.Lines.Floors.{at_least_more}
 
 -- what is known after an operation
@@ -62,7 +63,7 @@ module _ (sys : System) (s s' : SharedState) (all : List File) (settled : ℕ) (
   gate_word : (m : List ℕ) (c : Cell) → settled ≤ gate_of m → IsAtLeast floor settled → FreshGate floor m c → word ≡ slice_index (current m c) 0 → IsAtLeast floor word × (word ≤ gate_of m)
   gate_word m Absent low lo f e = (at_least_more floor settled word (omega (arith, low, e)) lo, omega arith)
   gate_word m (Clean w) low lo f e = (at_least_more floor (gate_of w) word (omega (arith, e)) f.0, omega (arith, f.1))
-  gate_word m (Dirty w) low lo f e = absurd f
+  gate_word m (Dirty a w) low lo f e = absurd f
 
   gives_gate : LeavesAt host gate_line s s' (s.memory gate_line) (brought (s.memory gate_line) (s.copy host gate_line)) → word ≡ slice_index (current (s.memory gate_line) (s.copy host gate_line)) 0
       → IsAtGate sys host floor s settled → GivesGate sys host floor word s'
@@ -135,7 +136,7 @@ module _ (sys : System) (s s' : SharedState) (all : List File) (settled : ℕ) (
             line = d.line;
             contents = λ count b below small. finished_other sys s s' all settled core host t d.writing line k value of left (data_words t b) (line_of t.entry b)
                 (λ e. data_no_slot d.writing b j (in_file d.writing b small) d.line e) (d.contents count b below small);
-            before = λ b below. finished_other sys s s' all settled core host t d.writing line k value of left (slot_part t.words b) (slot_line t.params t.gate b)
+            before = λ b below. asked_other sys s s' all settled core host t d.writing line k value of left (slot_part t.words b) (slot_line t.params t.gate b)
                 (λ e. omega (arith, below, slot_once b j (omega (arith, below, d.line)) d.line e)) (d.before b below);
             here = holding_here sys s s' all settled core host t d.writing line k value of left k (slot_part t.words j) refl (sym (part_word t.words j k lt)) lt (part_length t.words j long) d.here;
           },
@@ -149,36 +150,38 @@ module _ (sys : System) (s s' : SharedState) (all : List File) (settled : ℕ) (
   sent_data j d left =
       rw (left.memory_is, left.copy_is) (sent_whole (data_words t j) _ _ refl (core.wide.memory (line_of t.entry j)) (core.wide.copies host (line_of t.entry j)) d.here, tt)
 
-  sent_slot : (j : ℕ) → StoresSlot j 8 sys host t s all settled
-      → LeavesAt host (slot_line t.params t.gate j) s s' (sent (s.memory (slot_line t.params t.gate j)) (s.copy host (slot_line t.params t.gate j))) (cleaned (s.copy host (slot_line t.params t.gate j)))
-      → Finished (slot_part t.words j) (s'.memory (slot_line t.params t.gate j)) (s'.copy host (slot_line t.params t.gate j))
-  sent_slot j d left =
-      let line = slot_line t.params t.gate j in
-      let long : 8 * j + 8 ≤ length t.words = omega (arith, d.line, words_long d.writing) in
-      rw (left.memory_is, left.copy_is) (sent_whole (slot_part t.words j) _ _ (part_length t.words j long) (core.wide.memory line) (core.wide.copies host line) d.here, cleaned_fresh 7 (slot_part t.words j) (s.memory line) (s.copy host line) d.here)
+  -- a line of the slot is asked for
+  asked_slot : (j : ℕ) → StoresSlot j 8 sys host t s' all settled → LeavesAt host (slot_line t.params t.gate j) s s' (s.memory (slot_line t.params t.gate j)) (asked_for (s.copy host (slot_line t.params t.gate j)))
+      → Asked (slot_part t.words j) (s'.memory (slot_line t.params t.gate j)) (s'.copy host (slot_line t.params t.gate j))
+  asked_slot j d left = (d.here, subst IsHandedOver (sym left.copy_is) (asked_handed (s.copy host (slot_line t.params t.gate j))))
 
-  -- the gate is sent
-  sent_gate : HasPublished sys host t s all → LeavesAt host gate_line s s' (sent (s.memory gate_line) (s.copy host gate_line)) (cleaned (s.copy host gate_line)) → gate_of (s'.memory gate_line) ≡ t.gate + 1
-  sent_gate d left =
-      ap gate_of left.memory_is ∙ gate_sent (s.memory gate_line) (s.copy host gate_line) ∙ ap (λ (o : Option ℕ). top (s.memory gate_line) (masters_copy o s gate_line)) (sym d.master) ∙ d.published
-    where
-      gate_sent : (m : List ℕ) (c : Cell) → gate_of (sent m c) ≡ top m c
-      gate_sent m Absent = refl
-      gate_sent m (Clean w) = refl
-      gate_sent m (Dirty w) = refl
+  -- a fence
+  fenced : Fences host s s' → Sent sys all settled s s'
+  fenced f = sends_keep sys all settled host f.lines s s' f.sends core
+
+  fence_now : (p : Phase) → Fences host s s' → AtPhase p sys host floor t s all settled → AtPhase p sys host floor t s' all settled
+  fence_now p f known = phase_kept sys s s' all settled core host floor ((fenced f).keeps host) p t known
+
+  -- behind it the slot is finished
+  slot_finished : Fences host s s' → AwaitsSlot sys host t s' all settled → MayPublish sys host t s' all settled
+  slot_finished f d = record {
+    writing = d.writing;
+    contents = d.contents;
+    slot = λ b lt.
+        let line = slot_line t.params t.gate b in
+        let long : 8 * b + 8 ≤ length t.words = omega (arith, lt, ap length d.writing.words ∙ spelling_count sys.params d.writing.file.entry t.gate) in
+        finished_then (slot_part t.words b) (s'.memory line) (s'.copy host line) (part_length t.words b long) ((fenced f).core.wide.memory line) (d.slot b lt).0 (not_dirty_then (s'.copy host line) (d.slot b lt).1 (f.none_asked line));
+  }
+
+  -- and the gate is sent
+  gate_finished : Fences host s s' → HasPublished sys host t s' all → IsHandedOver (s'.copy host gate_line) → gate_of (s'.memory gate_line) ≡ t.gate + 1
+  gate_finished f d handed =
+      sym (top_then (s'.memory gate_line) (s'.copy host gate_line) (not_dirty_then (s'.copy host gate_line) handed (f.none_asked gate_line)))
+      ∙ ap (λ (o : Option ℕ). top (s'.memory gate_line) (masters_copy o s' gate_line)) (sym d.master) ∙ d.published
 
   -- a Digest touches no line
   still : (p : Phase) → Given p sys host floor word t s all settled → Leaves p sys host floor word t s s all settled
-  still p given = record { core = core; given = given; others = λ h _. still_keeps h }
-    where
-      still_keeps : (h : ℕ) → Keeps sys h settled s s
-      still_keeps h = record {
-        quiet = λ l q. refl;
-        fresh = λ l q f. f;
-        gate = omega arith;
-        at_gate = λ fl g. g;
-        writing = λ is. record { top = refl; finished = λ wanted l f. f; holding = λ k wanted l f. f };
-      }
+  still p given = record { core = core; given = given; others = λ h _. same_keeps sys h settled s }
 
   -- an operation at any place
   pub gives : (p : Phase) → AtPhase p sys host floor t s all settled → Operates (op_at t p) host s s' word → Leaves p sys host floor word t s s' all settled
@@ -212,13 +215,20 @@ module _ (sys : System) (s s' : SharedState) (all : List File) (settled : ℕ) (
   gives (at.StoreSlot j k) known left = store_slot j k known.0 known.1 left
   gives (at.SendSlot j) known left =
       let line = slot_line t.params t.gate j in
-      let d = cleaned_transfers (s.memory line) (s.copy host line) in
-      by_transfer (at.SendSlot j) line _ _ left d known (phase_now (at.SendSlot j) line _ _ left d known, sent_slot j known left)
+      let d = asked_for_transfers (s.memory line) (s.copy host line) in
+      let now = phase_now (at.SendSlot j) line _ _ left d known in
+      by_transfer (at.SendSlot j) line _ _ left d known (now, asked_slot j now left)
+  gives at.FenceSlot known left =
+      record { core = (fenced left).core; given = slot_finished left (fence_now at.FenceSlot left known); others = λ h _. (fenced left).keeps h }
   gives at.StoreGate known left = record {
     core = core_published sys s s' all settled core host t known left;
     given = has_published sys s s' all settled core host t known left;
     others = λ h ne. publish_keeps sys s s' all settled core host t known left h ne;
   }
   gives at.SendGate known left =
-      let d = cleaned_transfers (s.memory gate_line) (s.copy host gate_line) in
-      by_transfer at.SendGate gate_line _ _ left d known (phase_now at.SendGate gate_line _ _ left d known, sent_gate known left)
+      let d = asked_for_transfers (s.memory gate_line) (s.copy host gate_line) in
+      by_transfer at.SendGate gate_line _ _ left d known
+      (phase_now at.SendGate gate_line _ _ left d known, subst IsHandedOver (sym left.copy_is) (asked_handed (s.copy host gate_line)))
+  gives at.FenceGate known left =
+      let now = fence_now at.FenceGate left known in
+      record { core = (fenced left).core; given = (now.0, gate_finished left now.0 now.1); others = λ h _. (fenced left).keeps h }

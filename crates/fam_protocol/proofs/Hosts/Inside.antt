@@ -6,18 +6,21 @@ use Rattle.fam_base.specs.declared.cmd.Cmd.{Cmd}
 use Rattle.fam_base.specs.declared.cmd.Cmd.TheVariants.{Logplay, Mkdir, Creat, Cp, Verify, Read, Check, Fsck}
 use Rattle.fam_base.specs.declared.entry.Entry.{Entry}
 use Rattle.fam_base.specs.declared.entry.Params.{Params}
-use Rattle.fam_base.specs.Image.{Image}
 use Rattle.fam_format.specs.Layout.{device_limit, gate_line, geometry, least_lines, slot_line}
 use Rattle.fam_format.specs.Params.{SoundParams}
 use Rattle.fam_format.specs.Reading.{Lines, super_in}
 use Rattle.fam_format.specs.Slot.{Proper}
 use Rattle.fam_machine.specs.declared.op.Op.{Op}
-use Rattle.fam_machine.specs.declared.op.Op.TheVariants.{Load, Store, WriteBack, Invalidate, Digest}
+use Rattle.fam_machine.specs.declared.op.Op.TheVariants.{Load, Store, WriteBack, Fence, Invalidate, Digest}
 use Rattle.fam_commands.specs.declared.phase.Part.{Part}
 use Rattle.fam_commands.specs.declared.phase.Part.TheVariants.{Superblock, Header, Slot, File as FileLines}
 use Rattle.fam_commands.specs.declared.phase.Phase.{Phase}
 use Rattle.fam_commands.specs.declared.phase.Phase.TheVariants as at
-use Rattle.fam_machine.specs.Operations.{IsInImage}
+use Rattle.fam_machine.specs.Operations.{IsInImage, Machine}
+use Rattle.fam_machine.specs.Caches.{cell_at}
+use Rattle.fam_machine.specs.OneLine.{IsDirty}
+use Rattle.fam_protocol.specs.Hosted.{IsMachineOf}
+use Rattle.fam_protocol.proofs.Lines.Moves.{asked_dirty}
 use Rattle.fam_commands.specs.Table.{slots_of_cmd}
 use Rattle.fam_commands.specs.Task.{Task, first_line, line_of, op_at, op_of, part_count, part_line, size_of, wanted_lines}
 use Rattle.fam_commands.specs.Turns.{slots_read}
@@ -42,14 +45,17 @@ AsksWithin lines (Load line k) = line.0 < lines
 AsksWithin lines (Store line k value) = line.0 < lines
 AsksWithin lines (WriteBack line) = line.0 < lines
 AsksWithin lines (Invalidate line) = line.0 < lines
+AsksWithin lines Fence = ⊤
 AsksWithin lines Digest = ⊤
 
-inside_of : (op : Op) (image : Image) (lines : ℕ) → length image ≡ lines → AsksWithin lines op → IsInImage op image
-inside_of (Load line k) image lines same within = omega (arith, same, within)
-inside_of (Store line k value) image lines same within = omega (arith, same, within)
-inside_of (WriteBack line) image lines same within = omega (arith, same, within)
-inside_of (Invalidate line) image lines same within = omega (arith, same, within)
-inside_of Digest image lines same within = tt
+-- so it is inside a machine's image of so many lines, of which all that its cache has to send are lines
+inside_of : (op : Op) (m : Machine) (lines : ℕ) → length m.image ≡ lines → ((l : ℕ) → IsDirty (cell_at m.cache l) → l < lines) → AsksWithin lines op → IsInImage op m
+inside_of (Load line k) m lines same dirty within = omega (arith, same, within)
+inside_of (Store line k value) m lines same dirty within = omega (arith, same, within)
+inside_of (WriteBack line) m lines same dirty within = omega (arith, same, within)
+inside_of Fence m lines same dirty within = λ l is. omega (arith, same, dirty l (asked_dirty (cell_at m.cache l) is))
+inside_of (Invalidate line) m lines same dirty within = omega (arith, same, within)
+inside_of Digest m lines same dirty within = tt
 
 module _ (lines : ℕ) (enough : least_lines ≤ lines) (p : Params) (sound : SoundParams p) (device : p.device ≤ line_bytes * lines) where
   slot_within : (i j : ℕ) → i < p.slots → j < (geometry p).lines → slot_line p i j < lines
@@ -100,7 +106,7 @@ module _ (lines : ℕ) (enough : least_lines ≤ lines) (sys : System) (s : Shar
       line_within t.entry f.i f.file (first_line t.cmd + j) f.is f.entry
       (wanted_line t.cmd f.file.entry.size j (subst (λ (o : Option Entry). j < wanted_lines t.cmd (size_of o)) f.entry within))
 
-  at_within : (p : Phase) → AtPhase p sys host floor t s all settled → AsksWithin lines (op_at t p)
+  pub at_within : (p : Phase) → AtPhase p sys host floor t s all settled → AsksWithin lines (op_at t p)
   at_within at.DropMagic holds = omega (arith, enough)
   at_within at.Magic holds = omega (arith, enough)
   at_within (at.Drop part j) holds = part_within part j holds.0 holds.1
@@ -120,7 +126,9 @@ module _ (lines : ℕ) (enough : least_lines ≤ lines) (sys : System) (s : Shar
       let w = holds.writing in
       subst (λ (q : Params). slot_line q t.gate j < lines) (sym w.params) (slot_within lines enough sys.params core.head.sound device_within t.gate j (omega (arith, w.pending, core.room)) holds.line)
   at_within at.StoreGate holds = omega (arith, enough)
+  at_within at.FenceSlot holds = tt
   at_within at.SendGate holds = omega (arith, enough)
+  at_within at.FenceGate holds = tt
 
 -- on a damaged image
 module _ (image : Lines) (lines : ℕ) (enough : least_lines ≤ lines) (limit : line_bytes * lines ≤ device_limit) (host : ℕ) (t : Task) (s : SharedState) where
@@ -158,7 +166,9 @@ module _ (image : Lines) (lines : ℕ) (enough : least_lines ≤ lines) (limit :
   bad_within (at.StoreSlot j k) holds = absurd holds
   bad_within (at.SendSlot j) holds = absurd holds
   bad_within at.StoreGate holds = absurd holds
+  bad_within at.FenceSlot holds = absurd holds
   bad_within at.SendGate holds = absurd holds
+  bad_within at.FenceGate holds = absurd holds
 
 -- wherever a task stands
 within : (settled : Settled) (lines : ℕ) (hosts : Hosts) (s : SharedState) → line_bytes * lines ≤ device_limit → InvariantBy settled lines hosts s → (h : ℕ) (r : Run) → hosts.run h ≡ Some r → AsksWithin lines (op_of r.task)
@@ -168,6 +178,13 @@ within (Damaged image) lines hosts s limit stage h r run =
 within (Known p all settled) lines hosts s limit stage h r run =
     at_within lines stage.enough (record { params = p; have = line_bytes * lines; uuid = hosts.uuid; master = stage.master }) s all settled stage.core refl h r.floor r.task r.task.phase (stage.tasks h r run).phase
 
+-- what a cache has to send are lines of the image
+pub dirty_inside : (settled : Settled) (lines : ℕ) (hosts : Hosts) (s : SharedState) → InvariantBy settled lines hosts s → (h l : ℕ) → IsDirty (s.copy h l) → l < lines
+dirty_inside (Small image) lines hosts s stage h l d = absurd (stage.clean h l d)
+dirty_inside (Damaged image) lines hosts s stage h l d = absurd (stage.still.clean h l d)
+dirty_inside (Known p all settled) lines hosts s stage h l d = stage.inside h l d
+
 -- so it is inside each image of so many lines
-pub asks_inside : (settled : Settled) (lines : ℕ) (hosts : Hosts) (s : SharedState) → line_bytes * lines ≤ device_limit → InvariantBy settled lines hosts s → (h : ℕ) (r : Run) → hosts.run h ≡ Some r → (image : Image) → length image ≡ lines → IsInImage (op_of r.task) image
-asks_inside settled lines hosts s limit stage h r runs image same = inside_of (op_of r.task) image lines same (within settled lines hosts s limit stage h r runs)
+pub asks_inside : (settled : Settled) (lines : ℕ) (hosts : Hosts) (s : SharedState) → line_bytes * lines ≤ device_limit → InvariantBy settled lines hosts s → (h : ℕ) (r : Run) → hosts.run h ≡ Some r → (m : Machine) → IsMachineOf h m s → length m.image ≡ lines → IsInImage (op_of r.task) m
+asks_inside settled lines hosts s limit stage h r runs m of same =
+    inside_of (op_of r.task) m lines same (λ l d. dirty_inside settled lines hosts s stage h l (subst IsDirty (sym (of.copies l)) d)) (within settled lines hosts s limit stage h r runs)

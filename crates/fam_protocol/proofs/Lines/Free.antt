@@ -125,7 +125,7 @@ module _ (host line : ℕ) (s s' : SharedState) (transfers : TransfersAt host li
       held_wide : (m m' : List ℕ) (c : Cell) → length m' ≡ 8 → length (current m c) ≡ 8 → length (current m' c) ≡ 8
       held_wide m m' Absent w v = w
       held_wide m m' (Clean words) w v = v
-      held_wide m m' (Dirty words) w v = v
+      held_wide m m' (Dirty a words) w v = v
 
       go : (h l : ℕ) → Same h host → length (current (s'.memory l) (s'.copy h l)) ≡ 8
       go h l (inl e) = subst (λ x. length (current (s'.memory l) (s'.copy x l)) ≡ 8) (sym e) (own_wide l).1

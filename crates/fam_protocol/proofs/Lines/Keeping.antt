@@ -13,9 +13,9 @@ use Rattle.fam_rules.specs.Asks.{File}
 use Rattle.fam_rules.specs.Written.{slot_part}
 use Rattle.fam_rules.proofs.RoomSame.{map_range_same}
 use Rattle.fam_protocol.specs.SharedState.{SharedState}
-use Rattle.fam_protocol.specs.Lines.{Fresh, Holding, Finished, gate_of}
+use Rattle.fam_protocol.specs.Lines.{Fresh, Holding, IsHandedOver, Finished, gate_of}
 use Rattle.fam_protocol.specs.Core.{System, Core, top_of}
-use Rattle.fam_protocol.specs.Tasks.{AtPhase, TaskHolds, HasLoaded, HasReadAll, IsAtFile, IsAtGate, IsAtSlot, IsBeingRead, IsStable, IsWriting, HasPublished, KnowsGate, MayPublish, OnPart, StoresData, StoresSlot, kept_from, part_words}
+use Rattle.fam_protocol.specs.Tasks.{AtPhase, TaskHolds, HasLoaded, HasReadAll, IsAtFile, IsAtGate, IsAtSlot, IsBeingRead, IsStable, IsWriting, HasPublished, KnowsGate, AwaitsSlot, MayPublish, OnPart, StoresData, StoresSlot, kept_from, part_words}
 use Rattle.fam_protocol.proofs.Lines.Quiet.{Quiet, super_quiet, header_quiet, slot_quiet, file_quiet, wanted_line}
 
 -- what a writer rests on
@@ -23,6 +23,7 @@ pub record KeepsWriting (sys : System) (h : ℕ) (s s' : SharedState) : Type 0 w
   pub top : top_of sys s' ≡ top_of sys s
   pub finished : (wanted : List ℕ) (l : ℕ) → Finished wanted (s.memory l) (s.copy h l) → Finished wanted (s'.memory l) (s'.copy h l)
   pub holding : (k : ℕ) (wanted : List ℕ) (l : ℕ) → Holding k wanted (s.memory l) (s.copy h l) → Holding k wanted (s'.memory l) (s'.copy h l)
+  pub handed : (l : ℕ) → IsHandedOver (s.copy h l) → IsHandedOver (s'.copy h l)
 
 -- what any task of host h rests on
 pub record Keeps (sys : System) (h settled : ℕ) (s s' : SharedState) : Type 0 where
@@ -107,8 +108,17 @@ module _ (sys : System) (s s' : SharedState) (all : List File) (settled : ℕ) (
         writing = writing_kept t d.writing;
         line = d.line;
         contents = λ count b lt small. keep.finished (data_words t b) (line_of t.entry b) (d.contents count b lt small);
-        before = λ b lt. keep.finished (slot_part t.words b) (slot_line t.params t.gate b) (d.before b lt);
+        before = λ b lt. (keep.holding 8 (slot_part t.words b) (slot_line t.params t.gate b) (d.before b lt).0, keep.handed (slot_line t.params t.gate b) (d.before b lt).1);
         here = keep.holding k (slot_part t.words j) (slot_line t.params t.gate j) d.here;
+      }
+
+  awaits_slot_kept : (t : Task) → AwaitsSlot sys h t s all settled → AwaitsSlot sys h t s' all settled
+  awaits_slot_kept t d =
+      let keep = keeps.writing d.writing.master in
+      record {
+        writing = writing_kept t d.writing;
+        contents = λ count b lt small. keep.finished (data_words t b) (line_of t.entry b) (d.contents count b lt small);
+        slot = λ b lt. (keep.holding 8 (slot_part t.words b) (slot_line t.params t.gate b) (d.slot b lt).0, keep.handed (slot_line t.params t.gate b) (d.slot b lt).1);
       }
 
   may_publish_kept : (t : Task) → MayPublish sys h t s all settled → MayPublish sys h t s' all settled
@@ -146,7 +156,9 @@ module _ (sys : System) (s s' : SharedState) (all : List File) (settled : ℕ) (
   phase_kept (at.StoreSlot j k) t at = (at.0, stores_slot_kept j k t at.1)
   phase_kept (at.SendSlot j) t at = stores_slot_kept j 8 t at
   phase_kept at.StoreGate t at = may_publish_kept t at
+  phase_kept at.FenceSlot t at = awaits_slot_kept t at
   phase_kept at.SendGate t at = published_kept t at
+  phase_kept at.FenceGate t at = (published_kept t at.0, (keeps.writing at.0.master).handed gate_line at.1)
 
   -- what is known of a task stays
   pub task_kept : (t : Task) → TaskHolds sys h floor t s all settled → TaskHolds sys h floor t s' all settled

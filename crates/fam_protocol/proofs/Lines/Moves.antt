@@ -5,10 +5,10 @@ use Rattle.fam_base.specs.Image.{masked}
 use Rattle.fam_base.proofs.ImageLemmas.{length-masked, masked-same}
 use Rattle.fam_machine.specs.declared.cell.Cell.{Cell}
 use Rattle.fam_machine.specs.declared.cell.Cell.TheVariants.{Absent, Clean, Dirty}
-use Rattle.fam_machine.specs.OneLine.{IsDirty, current}
-use Rattle.fam_machine.specs.Moves.{Transfer, brings, refreshes, sends, sends_whole, cleans, drops, Transfers, rests, goes}
+use Rattle.fam_machine.specs.OneLine.{IsAsked, IsDirty, asked_for, current}
+use Rattle.fam_machine.specs.Moves.{Transfer, brings, refreshes, sends, sends_whole, asks, cleans, drops, Transfers, rests, goes}
 use Rattle.fam_machine.proofs.WideLines.{eight_whole}
-use Rattle.fam_protocol.specs.Lines.{gate_of, top, Fresh, FreshGate, Holding, Finished, IsAtLeast}
+use Rattle.fam_protocol.specs.Lines.{gate_of, top, Fresh, FreshGate, Holding, IsHandedOver, Finished, IsAtLeast}
 use Rattle.fam_protocol.proofs.Lines.Floors.{at_least_more}
 
 -- a line masked over itself
@@ -25,6 +25,7 @@ wide_kept brings w = w
 wide_kept (refreshes {m} {w = v} mask) w = (w.0, length-masked mask m v)
 wide_kept (sends {m} {w = v} mask) w = (length-masked mask v m, w.1)
 wide_kept sends_whole w = (w.1, w.1)
+wide_kept asks w = w
 wide_kept cleans w = w
 wide_kept drops w = (w.0, w.0)
 
@@ -38,6 +39,7 @@ dirty_before brings d = absurd (never d)
 dirty_before (refreshes mask) d = absurd (never d)
 dirty_before (sends mask) d = refl
 dirty_before sends_whole d = refl
+dirty_before asks d = refl
 dirty_before cleans d = refl
 dirty_before drops d = absurd (never d)
 
@@ -47,6 +49,7 @@ still brings n = refl
 still (refreshes mask) n = refl
 still (sends mask) n = absurd (n refl)
 still sends_whole n = absurd (n refl)
+still asks n = refl
 still cleans n = refl
 still drops n = refl
 
@@ -56,6 +59,7 @@ same_top brings = refl
 same_top (refreshes mask) = refl
 same_top (sends mask) = refl
 same_top sends_whole = refl
+same_top asks = refl
 same_top cleans = refl
 same_top drops = refl
 
@@ -75,6 +79,7 @@ gate_grows brings h = (omega arith, omega arith)
 gate_grows (refreshes mask) h = (omega arith, omega arith)
 gate_grows (sends {m} {w} mask) h = gate_between mask w m h
 gate_grows sends_whole h = (h, omega arith)
+gate_grows asks h = (omega arith, h)
 gate_grows cleans h = (omega arith, omega arith)
 gate_grows drops h = (omega arith, omega arith)
 
@@ -84,6 +89,7 @@ fresh_kept brings l f = refl
 fresh_kept (refreshes {m} {w} mask) l f = subst (λ (v : List ℕ). masked mask m v ≡ m) (sym f) (masked_same mask m l)
 fresh_kept (sends mask) l f = absurd f
 fresh_kept sends_whole l f = absurd f
+fresh_kept asks l f = absurd f
 fresh_kept cleans l f = absurd f
 fresh_kept drops l f = tt
 
@@ -96,6 +102,7 @@ fresh_gate_kept floor low brings f = (low, omega arith)
 fresh_gate_kept floor low (refreshes {m} {w} mask) f = gate_refreshed mask floor w m f
 fresh_gate_kept floor low (sends mask) f = absurd f
 fresh_gate_kept floor low sends_whole f = absurd f
+fresh_gate_kept floor low asks f = absurd f
 fresh_gate_kept floor low cleans f = absurd f
 fresh_gate_kept floor low drops f = tt
 
@@ -106,26 +113,49 @@ holding_kept (suc k) wanted brings l f = (refl, f)
 holding_kept (suc k) wanted (refreshes {m} {w} mask) l f = (subst (λ (v : List ℕ). masked mask m v ≡ m) (sym f.0) (masked_same mask m l), f.1)
 holding_kept (suc k) wanted (sends mask) l f = f
 holding_kept (suc k) wanted sends_whole l f = f
+holding_kept (suc k) wanted asks l f = f
 holding_kept (suc k) wanted cleans l f = (refl, f)
 holding_kept (suc k) wanted drops l f = f.1
+
+-- a copy that the next fence sends where it is dirty stays so
+pub handed_kept : {m m' : List ℕ} {c c' : Cell} → Transfer m c m' c' → IsHandedOver c → IsHandedOver c'
+handed_kept brings h d = absurd (never d)
+handed_kept (refreshes mask) h d = absurd (never d)
+handed_kept (sends mask) h d = h d
+handed_kept sends_whole h d = h d
+handed_kept asks h d = refl
+handed_kept cleans h d = absurd (never d)
+handed_kept drops h d = absurd (never d)
+
+-- a copy that is asked for is one
+pub asked_handed : (c : Cell) → IsHandedOver (asked_for c)
+asked_handed Absent d = absurd (never d)
+asked_handed (Clean w) d = absurd (never d)
+asked_handed (Dirty a w) d = refl
+
+-- what is asked for is dirty
+pub asked_dirty : (c : Cell) → IsAsked c → IsDirty c
+asked_dirty Absent is = absurd (never is)
+asked_dirty (Clean w) is = absurd (never is)
+asked_dirty (Dirty a w) is = refl
 
 -- a fresh copy isn't dirty
 pub fresh_clean : (m : List ℕ) (c : Cell) → Fresh m c → IsDirty c → ⊥
 fresh_clean m Absent f d = never d
 fresh_clean m (Clean w) f d = never d
-fresh_clean m (Dirty w) f d = f
+fresh_clean m (Dirty a w) f d = f
 
 -- what the host reads through a fresh copy is memory's
 pub fresh_current : (m : List ℕ) (c : Cell) → Fresh m c → current m c ≡ m
 fresh_current m Absent f = refl
 fresh_current m (Clean w) f = f
-fresh_current m (Dirty w) f = absurd f
+fresh_current m (Dirty a w) f = absurd f
 
 -- so is the gate
 pub fresh_top : (m : List ℕ) (c : Cell) → Fresh m c → top m c ≡ gate_of m
 fresh_top m Absent f = refl
 fresh_top m (Clean w) f = refl
-fresh_top m (Dirty w) f = absurd f
+fresh_top m (Dirty a w) f = absurd f
 
 -- a line that a writer finished stays finished
 pub finished_kept : {m m' : List ℕ} {c c' : Cell} (wanted : List ℕ) → Transfer m c m' c' → length m ≡ 8 → Finished wanted m c → Finished wanted m' c'

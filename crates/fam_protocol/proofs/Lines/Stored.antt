@@ -7,12 +7,12 @@ use Rattle.std.proofs.lemmas.Option.{same_Some}
 use Rattle.fam_format.specs.Layout.{gate_line, log_line}
 use Rattle.fam_machine.specs.declared.cell.Cell.{Cell}
 use Rattle.fam_machine.specs.declared.cell.Cell.TheVariants.{Absent, Clean, Dirty}
-use Rattle.fam_machine.specs.OneLine.{IsDirty, cleaned, current, sent, stored}
+use Rattle.fam_machine.specs.OneLine.{IsDirty, current, sent, stored}
 use Rattle.fam_commands.specs.Task.{Task}
 use Rattle.fam_rules.specs.Asks.{File}
 use Rattle.fam_rules.specs.Written.{slot_part}
 use Rattle.fam_protocol.specs.SharedState.{SharedState, LeavesAt}
-use Rattle.fam_protocol.specs.Lines.{Fresh, Holding, Finished, gate_of, top}
+use Rattle.fam_protocol.specs.Lines.{Asked, Holding, Finished, gate_of, top}
 use Rattle.fam_protocol.specs.Core.{System, Core, IsWide, IsHeadLine, IsEntryLine, masters_copy, top_of}
 use Rattle.fam_protocol.specs.Tasks.{IsWriting}
 use Rattle.fam_protocol.proofs.Lines.Apart.{lines_apart, no_gate, no_head}
@@ -26,7 +26,7 @@ pub stored_before : (k : ℕ) (wanted m : List ℕ) (c : Cell) → Holding k wan
 stored_before zero wanted m c h = refl
 stored_before (suc k) wanted m Absent h = h
 stored_before (suc k) wanted m (Clean w) h = ap (λ (l : List ℕ). take (suc k) l) h.0 ∙ h.1
-stored_before (suc k) wanted m (Dirty w) h = h
+stored_before (suc k) wanted m (Dirty a w) h = h
 
 -- one word more is stored
 pub holding_more : (k : ℕ) (wanted m : List ℕ) (c : Cell) → k < 8 → length wanted ≡ 8 → length (current m c) ≡ 8 → Holding k wanted m c → Holding (k + 1) wanted m (stored k (slice_index wanted k) m c)
@@ -38,13 +38,7 @@ holding_more k wanted m c lt long wide h =
 pub sent_whole : (wanted m : List ℕ) (c : Cell) → length wanted ≡ 8 → length m ≡ 8 → length (current m c) ≡ 8 → Holding 8 wanted m c → sent m c ≡ wanted
 sent_whole wanted m Absent long wide held h = sym (take_all 8 m (omega (arith, wide))) ∙ h ∙ take_all 8 wanted (omega (arith, long))
 sent_whole wanted m (Clean w) long wide held h = sym (take_all 8 m (omega (arith, wide))) ∙ h.1 ∙ take_all 8 wanted (omega (arith, long))
-sent_whole wanted m (Dirty w) long wide held h = sym (take_all 8 w (omega (arith, held))) ∙ h ∙ take_all 8 wanted (omega (arith, long))
-
--- a line that was written back has no stale copy
-pub cleaned_fresh : (k : ℕ) (wanted m : List ℕ) (c : Cell) → Holding (suc k) wanted m c → Fresh (sent m c) (cleaned c)
-cleaned_fresh k wanted m Absent h = tt
-cleaned_fresh k wanted m (Clean w) h = h.0
-cleaned_fresh k wanted m (Dirty w) h = refl
+sent_whole wanted m (Dirty a w) long wide held h = sym (take_all 8 w (omega (arith, held))) ∙ h ∙ take_all 8 wanted (omega (arith, long))
 
 -- a line of a slot's words
 pub part_word : (words : List ℕ) (j k : ℕ) → k < 8 → slice_index (slot_part words j) k ≡ slice_index words (8 * j + k)
@@ -173,6 +167,10 @@ module _ (sys : System) (s s' : SharedState) (all : List File) (settled : ℕ) (
   -- the writer's other lines stay
   pub finished_other : (wanted : List ℕ) (l : ℕ) → l ≢ line → Finished wanted (s.memory l) (s.copy host l) → Finished wanted (s'.memory l) (s'.copy host l)
   finished_other wanted l ne f = rw (memory_same l, copy_same host l (inr ne)) f
+
+  pub asked_other : (wanted : List ℕ) (l : ℕ) → l ≢ line → Asked wanted (s.memory l) (s.copy host l) → Asked wanted (s'.memory l) (s'.copy host l)
+  asked_other wanted l ne f =
+      subst (λ (m : List ℕ). Asked wanted m (s'.copy host l)) (sym (memory_same l)) (subst (λ (c : Cell). Asked wanted (s.memory l) c) (sym (copy_same host l (inr ne))) f)
 
   -- its line holds one word more
   pub holding_here : (k : ℕ) (wanted : List ℕ) → word ≡ k → value ≡ slice_index wanted k → k < 8 → length wanted ≡ 8 → Holding k wanted (s.memory line) (s.copy host line) → Holding (k + 1) wanted (s'.memory line) (s'.copy host line)

@@ -10,10 +10,10 @@ use Rattle.fam_machine.specs.Moves.{Transfer}
 use Rattle.fam_commands.specs.Task.{Task}
 use Rattle.fam_rules.specs.Asks.{File}
 use Rattle.fam_protocol.specs.SharedState.{SharedState, TransfersAt}
-use Rattle.fam_protocol.specs.Lines.{Fresh, FreshGate, Holding, Finished, gate_of, top, IsAtLeast}
+use Rattle.fam_protocol.specs.Lines.{Fresh, FreshGate, Holding, IsHandedOver, Finished, gate_of, top, IsAtLeast}
 use Rattle.fam_protocol.specs.Core.{System, Core, top_of}
 use Rattle.fam_protocol.specs.Tasks.{TaskHolds}
-use Rattle.fam_protocol.proofs.Lines.Moves.{gate_grows, fresh_kept, fresh_gate_kept, holding_kept, finished_kept}
+use Rattle.fam_protocol.proofs.Lines.Moves.{gate_grows, fresh_kept, fresh_gate_kept, handed_kept, holding_kept, finished_kept}
 use Rattle.fam_protocol.proofs.Lines.Free.{Same, same, cell_kept, own, gate_cell, quiet_same}
 use Rattle.fam_protocol.proofs.Lines.Keeping.{Keeps, task_kept}
 use Rattle.fam_protocol.proofs.Lines.Floors.{at_least_more}
@@ -22,13 +22,13 @@ use Rattle.fam_protocol.proofs.Lines.Floors.{at_least_more}
 order_at : (floor : Option ℕ) (m : List ℕ) (c : Cell) → FreshGate floor m c → gate_of m ≤ top m c
 order_at floor m Absent f = omega arith
 order_at floor m (Clean w) f = omega arith
-order_at floor m (Dirty w) f = absurd f
+order_at floor m (Dirty a w) f = absurd f
 
 -- memory's gate may grow under a reader's copy
 pub gate_grown : (floor : Option ℕ) (m m' : List ℕ) (c : Cell) → gate_of m ≤ gate_of m' → FreshGate floor m c → FreshGate floor m' c
 gate_grown floor m m' Absent le f = tt
 gate_grown floor m m' (Clean w) le f = (f.0, omega (arith, f.1, le))
-gate_grown floor m m' (Dirty w) le f = f
+gate_grown floor m m' (Dirty a w) le f = f
 
 module _ (sys : System) (s s' : SharedState) (all : List File) (settled : ℕ) (core : Core sys s all settled) (host line : ℕ) (transfers : TransfersAt host line s s') where
   moved : (P : List ℕ → Cell → Type 0) → ((m m' : List ℕ) (c c' : Cell) → Transfer m c m' c' → length m ≡ 8 → P m c → P m' c') → (h l : ℕ) → (h ≢ host → IsDirty (s.copy host l) → ⊥) → P (s.memory l) (s.copy h l) → P (s'.memory l) (s'.copy h l)
@@ -73,6 +73,7 @@ module _ (sys : System) (s s' : SharedState) (all : List File) (settled : ℕ) (
       top = cell.2;
       finished = λ wanted l f. moved (Finished wanted) (λ m m' c c' v w. finished_kept wanted v w) h l (not_other h is l) f;
       holding = λ k wanted l f. moved (Holding k wanted) (λ m m' c c' v w. holding_kept k wanted v w) h l (not_other h is l) f;
+      handed = λ l f. moved (λ m c. IsHandedOver c) (λ m m' c c' v w. handed_kept v) h l (not_other h is l) f;
     };
   }
 

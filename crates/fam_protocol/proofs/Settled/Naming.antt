@@ -3,7 +3,7 @@ use Rattle.std.proofs.Common.{ℕ, ◌≡◌, ◌+◌, Some, sym, ap, subst}
 use Rattle.std.proofs.lemmas.Option.{same_Some}
 use Rattle.fam_commands.specs.declared.phase.Phase.{Phase}
 use Rattle.fam_commands.specs.declared.phase.Phase.TheVariants as at
-use Rattle.fam_commands.specs.Turns.{Turn, Goes, Marks, Finds, Writes, Ends, turn_at, store_or_send, data_or_slot, slot_or_gate}
+use Rattle.fam_commands.specs.Turns.{Turn, Goes, Marks, Finds, Writes, Ends, turn_at, store_or_send, data_or_slot, slot_or_fence}
 use Rattle.fam_protocol.specs.After.{Run, HasNamed, HoldsNamed}
 use Rattle.fam_commands.specs.Appends.{IsBeforeWrites}
 use Rattle.fam_protocol.specs.Steps.{run_after}
@@ -47,9 +47,11 @@ module _ (r q : Run) (settled : ℕ) where
   named_kept (at.StoreData j k) word at_phase holds is has = named_on (holds tt) (store_or_send k (at.StoreData j (k + 1)) (at.SendData j)) is
   named_kept (at.SendData j) word at_phase holds is has = named_on (holds tt) (data_or_slot r.task j) is
   named_kept (at.StoreSlot j k) word at_phase holds is has = named_on (holds tt) (store_or_send k (at.StoreSlot j (k + 1)) (at.SendSlot j)) is
-  named_kept (at.SendSlot j) word at_phase holds is has = named_on (holds tt) (slot_or_gate r.task j) is
+  named_kept (at.SendSlot j) word at_phase holds is has = named_on (holds tt) (slot_or_fence r.task j) is
   named_kept at.StoreGate word at_phase holds is has = named_on (holds tt) at.SendGate is
-  named_kept at.SendGate word at_phase holds is has = absurd (cc)
+  named_kept at.FenceSlot word at_phase holds is has = named_on (holds tt) at.StoreGate is
+  named_kept at.SendGate word at_phase holds is has = named_on (holds tt) at.FenceGate is
+  named_kept at.FenceGate word at_phase holds is has = absurd (cc)
   named_kept at.DropMagic word at_phase holds is has = named_before at.DropMagic word tt at_phase is has
   named_kept at.Magic word at_phase holds is has = named_before at.Magic word tt at_phase is has
   named_kept (at.Drop part j) word at_phase holds is has = named_before (at.Drop part j) word tt at_phase is has

@@ -72,7 +72,9 @@ module _ (sys : System) (s : SharedState) (all : List File) (settled : ℕ) (cor
     phase_raised (at.StoreSlot j i) k = (k.0, record { writing = writing_raised k.1.writing; line = k.1.line; contents = k.1.contents; before = k.1.before; here = k.1.here })
     phase_raised (at.SendSlot j) k = record { writing = writing_raised k.writing; line = k.line; contents = k.contents; before = k.before; here = k.here }
     phase_raised at.StoreGate k = record { writing = writing_raised k.writing; contents = k.contents; slot = k.slot }
+    phase_raised at.FenceSlot k = record { writing = writing_raised k.writing; contents = k.contents; slot = k.slot }
     phase_raised at.SendGate k = k
+    phase_raised at.FenceGate k = k
 
     pub task_raised : TaskHolds sys h floor t s all settled → TaskHolds sys h floor t s all (max settled m)
     task_raised holds = record { command = holds.command; me = holds.me; lines = holds.lines; phase = phase_raised t.phase holds.phase }
@@ -154,7 +156,9 @@ module _ (sys : System) (s : SharedState) (all : List File) (settled : ℕ) (cor
     phase_relisted (at.StoreSlot j i) k = absurd (other k.1.writing.master)
     phase_relisted (at.SendSlot j) k = absurd (other k.writing.master)
     phase_relisted at.StoreGate k = absurd (other k.writing.master)
+    phase_relisted at.FenceSlot k = absurd (other k.writing.master)
     phase_relisted at.SendGate k = absurd (other k.master)
+    phase_relisted at.FenceGate k = absurd (other k.0.master)
 
     pub task_relisted : TaskHolds sys h floor t s all settled → TaskHolds sys h floor t s all' settled'
     task_relisted holds = record { command = holds.command; me = holds.me; lines = holds.lines; phase = phase_relisted t.phase holds.phase }

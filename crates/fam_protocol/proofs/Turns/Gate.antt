@@ -12,6 +12,11 @@ use Rattle.fam_format.specs.Layout.{gate_line}
 use Rattle.fam_format.specs.Log.{gate_fault}
 use Rattle.fam_commands.specs.declared.phase.Part.TheVariants.{Slot}
 use Rattle.fam_commands.specs.declared.phase.Phase.TheVariants as at
+use Rattle.fam_commands.specs.Kept.{Kept, used}
+use Rattle.fam_commands.proofs.UsedCounts.{used_cases, used_fsck_count}
+use Rattle.fam_commands.proofs.Steps.Head.{within_slots}
+use Rattle.fam_protocol.proofs.Settled.Keeps.{keeps_relisted}
+use Rattle.fam_rules.specs.Asks.{entries_of}
 use Rattle.fam_commands.specs.Task.{Task}
 use Rattle.fam_commands.specs.Turns.{Goes, Finds, turn_at, gate_turn, finds_or_goes, gate_loaded, slots_read}
 use Rattle.fam_rules.specs.Asks.{File}
@@ -20,7 +25,7 @@ use Rattle.fam_rules.specs.Reports.{Survey, no_survey}
 use Rattle.fam_protocol.specs.SharedState.{SharedState}
 use Rattle.fam_protocol.specs.Lines.{gate_of, top}
 use Rattle.fam_protocol.specs.Core.{System, Core, masters_copy, top_of}
-use Rattle.fam_protocol.specs.Tasks.{NoSlot, KnowsHead, KnowsGate, HasRead, HasSurveyed, AtPhase}
+use Rattle.fam_protocol.specs.Tasks.{IsKeptPrefix, KeepsPrefix, NoSlot, KnowsHead, KnowsGate, HasRead, HasSurveyed, AtPhase}
 use Rattle.fam_protocol.specs.After.{After, Relists, Named}
 use Rattle.fam_protocol.proofs.Hosts.Given.{Given}
 use Rattle.fam_protocol.proofs.Turns.PartWords.{loaded_none}
@@ -40,9 +45,20 @@ survey_none gate survey all is =
     let e : min 0 gate ≡ 0 = omega arith in
     subst (λ (v : Survey). HasSurveyed 0 gate v all) (sym is) (record { found = rw e refl; applied = rw e refl; bad = refl; past = omega arith })
 
-read_none : (cmd : Cmd) (t : Task) (all : List File) → t.entries ≡ [] → t.survey ≡ no_survey → HasRead cmd 0 t all
-read_none Fsck t all entries survey = survey_none t.gate t.survey all survey
-read_none cmd t all entries survey = entries
+-- the kept entries that are used are the history's first
+used_prefix : (p q : Params) (all : List File) (settled : ℕ) (kept : Option Kept) (cmd : Cmd) (gate : ℕ) → KeepsPrefix p all settled kept → used kept cmd q gate ≡ entries_of (take (length (used kept cmd q gate)) all)
+used_prefix p q all settled kept cmd gate keeps =
+    elim (used_cases kept cmd q gate) [
+      | inl none ↦ rw none refl
+      | inr (k, is, all_used) ↦
+          let holds : IsKeptPrefix p all settled k = subst (KeepsPrefix p all settled) is keeps in
+          rw all_used holds.entries
+    ]
+
+read_kept : (p q : Params) (cmd : Cmd) (t : Task) (all : List File) (settled : ℕ) → t.entries ≡ used t.kept cmd q t.gate → t.survey ≡ no_survey → KeepsPrefix p all settled t.kept → HasRead cmd (length (used t.kept cmd q t.gate)) t all
+read_kept p q Fsck t all settled entries survey keeps =
+    subst (λ (i : ℕ). HasSurveyed i t.gate t.survey all) (sym (used_fsck_count t.kept q t.gate)) (survey_none t.gate t.survey all survey)
+read_kept p q cmd t all settled entries survey keeps = entries ∙ used_prefix p q all settled t.kept cmd t.gate keeps
 
 -- what a command finds is the history, or the history with the pending entry
 found_is : (n settled long : ℕ) → settled ≤ n → n ≤ long → long ≤ settled + 1 → (n ≡ settled) ⊎ ((n ≡ settled + 1) × (n ≡ long))
@@ -66,21 +82,20 @@ at_next sys host floor s all settled t i n count head gate le read words = go (n
 
 module _ (sys : System) (host : ℕ) (floor : Option ℕ) (named : Option Named) (s : SharedState) (all : List File) (settled : ℕ) (core : Core sys s all settled) where
   -- the gate is loaded: all is set for the first slot
-  at_first : (word : ℕ) (t : Task) (all' : List File) (settled' : ℕ) → NoSlot t → t.words ≡ [] → KnowsHead sys host t → KnowsGate host floor (gate_loaded t word) s all' settled' → AtPhase (gate_loaded t word).phase sys host floor (gate_loaded t word) s all' settled'
-  at_first word t all' settled' none words head gate =
+  at_first : (word : ℕ) (t : Task) (all' : List File) (settled' : ℕ) → NoSlot t → t.words ≡ [] → gate_fault word t.params ≡ None → KeepsPrefix sys.params all' settled' t.kept → KnowsHead sys host t → KnowsGate host floor (gate_loaded t word) s all' settled' → AtPhase (gate_loaded t word).phase sys host floor (gate_loaded t word) s all' settled'
+  at_first word t all' settled' none words fits keeps head gate =
       let u : Task = record t { gate = word } in
       let t' : Task = gate_loaded t word in
-      subst (λ (i : ℕ). AtPhase (cond (nat_lt i (slots_read u)) (at.Drop (Slot i) 0) at.Decide) sys host floor t' s all' settled') (sym none.first)
-      (at_next sys host floor s all' settled' t' 0 (slots_read u) (sym (slots_moved u t'.phase t'.words)) (record { params = head.params; master = head.master }) gate (omega arith)
-      (read_none t'.cmd t' all' none.entries none.survey) words)
+      at_next sys host floor s all' settled' t' (length (used t.kept t.cmd t.params word)) (slots_read u) (sym (slots_moved u t'.phase t'.words)) (record { params = head.params; master = head.master }) gate (within_slots t word fits)
+      (read_kept sys.params t.params t'.cmd t' all' settled' refl none.survey keeps) words
 
-  gate_goes : (t : Task) (word : ℕ) → IsTask sys host t → wish_of t.cmd ≡ None → Given at.Gate sys host floor word t s all settled → After (Goes (gate_loaded t word)) sys host floor named t s all settled
-  gate_goes t word is asks g =
+  gate_goes : (t : Task) (word : ℕ) → gate_fault word t.params ≡ None → KeepsPrefix sys.params all settled t.kept → IsTask sys host t → wish_of t.cmd ≡ None → Given at.Gate sys host floor word t s all settled → After (Goes (gate_loaded t word)) sys host floor named t s all settled
+  gate_goes t word fits keeps is asks g =
       goes sys host floor named s all settled core t (gate_loaded t word) (record { command = is.command; me = is.me; lines = is.lines })
-      (at_first word t all settled g.0.0 g.0.1 g.0.2 (record { low = g.1.low; high = g.1.high; writer = λ w e. absurd (let o : wish_of t.cmd ≡ Some w = e in cc) }))
+      (at_first word t all settled g.0.0 g.0.1 fits keeps g.0.2 (record { low = g.1.low; high = g.1.high; writer = λ w e. absurd (let o : wish_of t.cmd ≡ Some w = e in cc) }))
 
-  gate_finds : (t : Task) (word : ℕ) (w : Wish) → IsTask sys host t → wish_of t.cmd ≡ Some w → Given at.Gate sys host floor word t s all settled → After (Finds word (gate_loaded t word)) sys host floor named t s all settled
-  gate_finds t word w is asks g =
+  gate_finds : (t : Task) (word : ℕ) (w : Wish) → gate_fault word t.params ≡ None → KeepsPrefix sys.params all settled t.kept → IsTask sys host t → wish_of t.cmd ≡ Some w → Given at.Gate sys host floor word t s all settled → After (Finds word (gate_loaded t word)) sys host floor named t s all settled
+  gate_finds t word w fits_slots keeps is asks g =
       let master : sys.master ≡ Some host = g.0.2.master w asks in
       let word_is : word ≡ gate_of (s.memory gate_line) = g.1.masters master in
       let top_is : top_of sys s ≡ word = ap (λ (h : Option ℕ). top (s.memory gate_line) (masters_copy h s gate_line)) master ∙ fresh_top _ _ (g.0.3.masters master) ∙ sym word_is in
@@ -98,16 +113,16 @@ module _ (sys : System) (host : ℕ) (floor : Option ℕ) (named : Option Named)
         may = found_is word settled (length all) low fits core.near;
         core = core_relisted sys s all settled core (take word all) word r (history_prefix sys.params word all core.history) (omega (arith, core.room));
         task = holds sys host floor (gate_loaded t word) s (take word all) word (record { command = is.command; me = is.me; lines = is.lines })
-            (at_first word t (take word all) word g.0.0 g.0.1 g.0.2 (record { low = g.1.low; high = g.1.high; writer = λ v e. (refl, long) }));
+            (at_first word t (take word all) word g.0.0 g.0.1 fits_slots (keeps_relisted sys s all settled core (take word all) word r t.kept keeps) g.0.2 (record { low = g.1.low; high = g.1.high; writer = λ v e. (refl, long) }));
         change = inl (master, r);
       }
 
-  gate_told : (t : Task) (word : ℕ) (wish : Option Wish) → IsTask sys host t → wish_of t.cmd ≡ wish → Given at.Gate sys host floor word t s all settled → After (finds_or_goes wish word (gate_loaded t word)) sys host floor named t s all settled
-  gate_told t word None is asks g = gate_goes t word is asks g
-  gate_told t word (Some w) is asks g = gate_finds t word w is asks g
+  gate_told : (t : Task) (word : ℕ) (wish : Option Wish) → gate_fault word t.params ≡ None → KeepsPrefix sys.params all settled t.kept → IsTask sys host t → wish_of t.cmd ≡ wish → Given at.Gate sys host floor word t s all settled → After (finds_or_goes wish word (gate_loaded t word)) sys host floor named t s all settled
+  gate_told t word None fits keeps is asks g = gate_goes t word fits keeps is asks g
+  gate_told t word (Some w) fits keeps is asks g = gate_finds t word w fits keeps is asks g
 
   -- the turn behind the gate's load
-  pub gate : (t : Task) (word : ℕ) → IsTask sys host t → Given at.Gate sys host floor word t s all settled → After (turn_at at.Gate t word) sys host floor named t s all settled
-  gate t word is g =
+  pub gate : (t : Task) (word : ℕ) → KeepsPrefix sys.params all settled t.kept → IsTask sys host t → Given at.Gate sys host floor word t s all settled → After (turn_at at.Gate t word) sys host floor named t s all settled
+  gate t word keeps is g =
       let none : gate_fault word t.params ≡ None = ap (λ (p : Params). gate_fault word p) g.0.2.params ∙ gate_fits sys.params word (omega (arith, g.1.high, core.order, core.high, core.room)) in
-      subst (λ (o : Option LogFault). After (gate_turn t word o) sys host floor named t s all settled) (sym none) (gate_told t word (wish_of t.cmd) is refl g)
+      subst (λ (o : Option LogFault). After (gate_turn t word o) sys host floor named t s all settled) (sym none) (gate_told t word (wish_of t.cmd) none keeps is refl g)

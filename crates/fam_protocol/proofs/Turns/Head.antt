@@ -105,7 +105,7 @@ module _ (sys : System) (host : ℕ) (floor : Option ℕ) (named : Option Named)
   host_goes t wish is none asks master =
       let t' : Task = record t { params = sys.params; phase = at.Drop Header 0; words = [] } in
       goes sys host floor named s all settled core t t' (record { command = is.command; me = is.me; lines = is.lines })
-      ((record { first = none.first; entries = none.entries; survey = none.survey }, record { params = refl; master = λ w e. master w (sym asks ∙ e) }), omega arith, λ _. loaded_none s.memory t' Header)
+      ((record { entries = none.entries; survey = none.survey }, record { params = refl; master = λ w e. master w (sym asks ∙ e) }), omega arith, λ _. loaded_none s.memory t' Header)
 
   host_decides : (t : Task) (w : Wish) (b : Bool) → IsTask sys host t → NoSlot t → wish_of t.cmd ≡ Some w → path_eq t.me sys.params.master ≡ b → After (host_turn t sys.params (cond b None (Some (NotMaster t.me sys.params.master)))) sys host floor named t s all settled
   host_decides t w true is none asks same =

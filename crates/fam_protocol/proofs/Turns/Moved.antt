@@ -70,7 +70,7 @@ module _ (t : Task) (p : Phase) (w : List ℕ) where
 
   -- nor that none is
   pub no_slot_moved : NoSlot t → NoSlot (moved t p w)
-  no_slot_moved h = record { first = h.first; entries = h.entries; survey = h.survey }
+  no_slot_moved h = record { entries = h.entries; survey = h.survey }
 
   module _ (sys : System) (host : ℕ) where
     pub task_moved : IsTask sys host t → IsTask sys host (moved t p w)

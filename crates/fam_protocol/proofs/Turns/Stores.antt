@@ -14,9 +14,9 @@ use Rattle.fam_rules.specs.Place.{line_bytes}
 use Rattle.fam_rules.specs.Reply.{Appended}
 use Rattle.fam_rules.specs.Written.{lines_of, slot_part}
 use Rattle.fam_protocol.specs.SharedState.{SharedState}
-use Rattle.fam_protocol.specs.Lines.{Finished}
+use Rattle.fam_protocol.specs.Lines.{Asked, Finished}
 use Rattle.fam_protocol.specs.Core.{System, Core}
-use Rattle.fam_protocol.specs.Tasks.{IsWriting, StoresData, StoresSlot, HasData, HasAllData, HasWrittenLines}
+use Rattle.fam_protocol.specs.Tasks.{IsWriting, StoresData, StoresSlot, HasData, HasAllData, HasAskedLines}
 use Rattle.fam_protocol.specs.After.{After, Named, HoldsNamed}
 use Rattle.fam_protocol.proofs.Hosts.Given.{Given}
 use Rattle.fam_protocol.proofs.Turns.Moved.{IsTask, moved, task_moved}
@@ -56,11 +56,11 @@ data_more j host t s before here b lt within = go (cases_eq b j)
     go (inl e) = subst (λ (b : ℕ). Finished (data_words t b) (s.memory (line_of t.entry b)) (s.copy host (line_of t.entry b))) (sym e) here
     go (inr ne) = before b (omega arith) within
 
-slot_more : (j host : ℕ) (t : Task) (s : SharedState) → HasWrittenLines j host t s → Finished (slot_part t.words j) (s.memory (slot_line t.params t.gate j)) (s.copy host (slot_line t.params t.gate j)) → HasWrittenLines (j + 1) host t s
+slot_more : (j host : ℕ) (t : Task) (s : SharedState) → HasAskedLines j host t s → Asked (slot_part t.words j) (s.memory (slot_line t.params t.gate j)) (s.copy host (slot_line t.params t.gate j)) → HasAskedLines (j + 1) host t s
 slot_more j host t s before here b lt = go (cases_eq b j)
   where
-    go : (b ≡ j) ⊎ (b ≡ j → ⊥) → Finished (slot_part t.words b) (s.memory (slot_line t.params t.gate b)) (s.copy host (slot_line t.params t.gate b))
-    go (inl e) = subst (λ (b : ℕ). Finished (slot_part t.words b) (s.memory (slot_line t.params t.gate b)) (s.copy host (slot_line t.params t.gate b))) (sym e) here
+    go : (b ≡ j) ⊎ (b ≡ j → ⊥) → Asked (slot_part t.words b) (s.memory (slot_line t.params t.gate b)) (s.copy host (slot_line t.params t.gate b))
+    go (inl e) = subst (λ (b : ℕ). Asked (slot_part t.words b) (s.memory (slot_line t.params t.gate b)) (s.copy host (slot_line t.params t.gate b))) (sym e) here
     go (inr ne) = before b (omega arith)
 
 -- behind the last line all are finished
@@ -131,7 +131,7 @@ module _ (sys : System) (host : ℕ) (floor : Option ℕ) (named : Option Named)
   pub send_slot : (j : ℕ) (t : Task) (word : ℕ) → IsTask sys host t → Given (at.SendSlot j) sys host floor word t s all settled → After (turn_at (at.SendSlot j) t word) sys host floor named t s all settled
   send_slot j t word is g = go (nat_lt (j + 1) (geometry t.params).lines) refl
     where
-      go : (b : Bool) → nat_lt (j + 1) (geometry t.params).lines ≡ b → After (Goes (record t { phase = cond b (at.StoreSlot (j + 1) 0) at.StoreGate })) sys host floor named t s all settled
+      go : (b : Bool) → nat_lt (j + 1) (geometry t.params).lines ≡ b → After (Goes (record t { phase = cond b (at.StoreSlot (j + 1) 0) at.FenceSlot })) sys host floor named t s all settled
       go true e =
           let p : Phase = at.StoreSlot (j + 1) 0 in
           goes sys host floor named s all settled core t (moved t p t.words) (task_moved t p t.words sys host is) (
@@ -145,14 +145,20 @@ module _ (sys : System) (host : ℕ) (floor : Option ℕ) (named : Option Named)
             },
           )
       go false e =
-          let p : Phase = at.StoreGate in
+          let p : Phase = at.FenceSlot in
           let last : j + 1 ≡ 8 = let lt = g.0.line in grind (arith, nat_tests) in
           goes sys host floor named s all settled core t (moved t p t.words) (task_moved t p t.words sys host is)
           (record {
             writing = writing_moved sys host s all settled t p g.0.writing;
             contents = g.0.contents;
-            slot = subst (λ (n : ℕ). HasWrittenLines n host t s) last (slot_more j host t s g.0.before g.1);
+            slot = subst (λ (n : ℕ). HasAskedLines n host t s) last (slot_more j host t s g.0.before g.1);
           })
+
+  -- the turn behind the slot that is sent
+  pub fence_slot : (t : Task) (word : ℕ) → IsTask sys host t → Given at.FenceSlot sys host floor word t s all settled → After (turn_at at.FenceSlot t word) sys host floor named t s all settled
+  fence_slot t word is g =
+      goes sys host floor named s all settled core t (moved t at.StoreGate t.words) (task_moved t at.StoreGate t.words sys host is)
+      (record { writing = writing_moved sys host s all settled t at.StoreGate g.writing; contents = g.contents; slot = g.slot })
 
   -- the turn behind the store of the gate
   pub store_gate : (t : Task) (word : ℕ) → IsTask sys host t → Given at.StoreGate sys host floor word t s all settled → After (turn_at at.StoreGate t word) sys host floor named t s all settled
@@ -160,9 +166,15 @@ module _ (sys : System) (host : ℕ) (floor : Option ℕ) (named : Option Named)
       goes sys host floor named s all settled core t (moved t at.SendGate t.words) (task_moved t at.SendGate t.words sys host is)
       (record { master = g.master; published = g.published; pending = g.pending; file = g.file; last = g.last; entry = g.entry })
 
+  -- the turn behind the gate that is asked for
+  pub send_gate : (t : Task) (word : ℕ) → IsTask sys host t → Given at.SendGate sys host floor word t s all settled → After (turn_at at.SendGate t word) sys host floor named t s all settled
+  send_gate t word is g =
+      goes sys host floor named s all settled core t (moved t at.FenceGate t.words) (task_moved t at.FenceGate t.words sys host is)
+      (record { master = g.0.master; published = g.0.published; pending = g.0.pending; file = g.0.file; last = g.0.last; entry = g.0.entry }, g.1)
+
   -- the turn behind the gate that is sent: the answer
-  pub send_gate : (t : Task) (word : ℕ) → IsTask sys host t → HoldsNamed t named → Given at.SendGate sys host floor word t s all settled → After (turn_at at.SendGate t word) sys host floor named t s all settled
-  send_gate t word is holds g =
+  pub fence_gate : (t : Task) (word : ℕ) → IsTask sys host t → HoldsNamed t named → Given at.FenceGate sys host floor word t s all settled → After (turn_at at.FenceGate t word) sys host floor named t s all settled
+  fence_gate t word is holds g =
       ends sys host floor named s all settled core t (Appended t.gate)
       (holds_last floor named t all holds g.0.pending g.0.file g.0.last g.0.entry)
       (omega (arith, g.1))

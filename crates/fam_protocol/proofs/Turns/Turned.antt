@@ -14,14 +14,14 @@ use Rattle.fam_rules.specs.Asks.{File}
 use Rattle.fam_rules.specs.Place.{line_bytes}
 use Rattle.fam_protocol.specs.SharedState.{SharedState}
 use Rattle.fam_protocol.specs.Core.{System, Core}
-use Rattle.fam_protocol.specs.Tasks.{IsCommand, IsStable, HasLoaded, OnPart, AtPhase, wanted_path}
+use Rattle.fam_protocol.specs.Tasks.{KeepsPrefix, IsCommand, IsStable, HasLoaded, OnPart, AtPhase, wanted_path}
 use Rattle.fam_protocol.specs.After.{After, Named, HasNamed, HoldsNamed}
 use Rattle.fam_protocol.proofs.Hosts.Given.{Given}
 use Rattle.fam_protocol.proofs.Turns.PartWords.{loaded, loaded_more, loaded_next, loaded_whole, kept_slot}
 use Rattle.fam_protocol.proofs.Turns.Moved.{IsTask, moved, task_moved, head_moved, slot_moved, on_moved, count_moved, loaded_moved, sure_moved, reading_moved, after_moved}
 use Rattle.fam_protocol.proofs.Turns.Tell.{goes}
 use Rattle.fam_protocol.proofs.Turns.Head.{drop_magic, magic, drop, drop_gate, next_line, super_line, header_line}
-use Rattle.fam_protocol.proofs.Turns.Stores.{store_data, send_data, store_slot, send_slot, store_gate, send_gate}
+use Rattle.fam_protocol.proofs.Turns.Stores.{store_data, send_data, store_slot, send_slot, fence_slot, store_gate, send_gate, fence_gate}
 use Rattle.fam_protocol.proofs.Turns.Gate.{gate}
 use Rattle.fam_protocol.proofs.Turns.Slots.{commanded, reads_log, slot_checked}
 use Rattle.fam_protocol.proofs.Turns.Decide.{decide_logplay, decide_check, decide_append}
@@ -96,8 +96,8 @@ module _ (sys : System) (host : ℕ) (floor : Option ℕ) (named : Option Named)
           (λ sure. loaded_moved t t.phase w part s.memory j 8 (subst (λ (n : ℕ). w ≡ loaded s.memory t part j n) last (more (sure_moved t t.phase w part sure)))))
 
   -- the whole
-  pub turned : (p : Phase) (t : Task) (word : ℕ) → IsCommand t.cmd → sys.uuid host ≡ Some t.me → line_bytes * t.lines ≡ sys.have → (HasNamed p → HoldsNamed t named) → Given p sys host floor word t s all settled → After (turn_at p t word) sys host floor named t s all settled
-  turned p t word command me lines holds given = by_phase p (record { command = command; me = me; lines = lines }) holds given
+  pub turned : (p : Phase) (t : Task) (word : ℕ) → IsCommand t.cmd → sys.uuid host ≡ Some t.me → line_bytes * t.lines ≡ sys.have → KeepsPrefix sys.params all settled t.kept → (HasNamed p → HoldsNamed t named) → Given p sys host floor word t s all settled → After (turn_at p t word) sys host floor named t s all settled
+  turned p t word command me lines keeps holds given = by_phase p (record { command = command; me = me; lines = lines }) holds given
     where
       by_phase : (p : Phase) → IsTask sys host t → (HasNamed p → HoldsNamed t named) → Given p sys host floor word t s all settled → After (turn_at p t word) sys host floor named t s all settled
       by_phase at.DropMagic is holds g = drop_magic sys host floor named s all settled core t word is g
@@ -105,7 +105,7 @@ module _ (sys : System) (host : ℕ) (floor : Option ℕ) (named : Option Named)
       by_phase (at.Drop part j) is holds g = drop sys host floor named s all settled core part j t word is g
       by_phase (at.Word part j k) is holds g = word_turned part j k t word is g
       by_phase at.DropGate is holds g = drop_gate sys host floor named s all settled core t word is g
-      by_phase at.Gate is holds g = gate sys host floor named s all settled core t word is g
+      by_phase at.Gate is holds g = gate sys host floor named s all settled core t word keeps is g
       by_phase (at.Check i) is holds g = check_by t.cmd i t is g
       by_phase at.Decide is holds g = decide_by t.cmd t is g
       by_phase (at.StoreData j k) is holds g = store_data sys host floor named s all settled core j k t word is g
@@ -113,4 +113,6 @@ module _ (sys : System) (host : ℕ) (floor : Option ℕ) (named : Option Named)
       by_phase (at.StoreSlot j k) is holds g = store_slot sys host floor named s all settled core j k t word is g
       by_phase (at.SendSlot j) is holds g = send_slot sys host floor named s all settled core j t word is g
       by_phase at.StoreGate is holds g = store_gate sys host floor named s all settled core t word is g
-      by_phase at.SendGate is holds g = send_gate sys host floor named s all settled core t word is (holds tt) g
+      by_phase at.FenceSlot is holds g = fence_slot sys host floor named s all settled core t word is g
+      by_phase at.SendGate is holds g = send_gate sys host floor named s all settled core t word is g
+      by_phase at.FenceGate is holds g = fence_gate sys host floor named s all settled core t word is (holds tt) g

@@ -115,7 +115,7 @@ impl Task {
         self.contents.take(size);
         match compare(found, self.contents.line(), LINE_BYTES * line, size) {
             Some((offset, found, wanted)) => {
-                self.phase = Phase::SendGate;
+                self.phase = Phase::FenceGate;
                 Some(Verified::Differs {
                     m,
                     offset,
@@ -131,7 +131,7 @@ impl Task {
                     };
                     None
                 } else {
-                    self.phase = Phase::SendGate;
+                    self.phase = Phase::FenceGate;
                     Some(Verified::Same { m })
                 }
             }

@@ -240,7 +240,7 @@ impl Task {
             return done(&mut self.phase, answer);
         }
         self.gate = gate;
-        self.phase = slot_or_decide(self.first_slot, slots_told(&self.cmd, &self.params, gate));
+        self.phase = slot_or_decide(0, slots_told(&self.cmd, &self.params, gate));
         if appends(&self.cmd) {
             Turn::Note(TaskNote::Found(gate))
         } else {

@@ -135,7 +135,7 @@ impl Task {
         Turn::Go
     }
 
-    /// A line of the new slot was sent.
+    /// It was asked for a line of the new slot to be sent.
     #[inline(always)]
     pub(super) fn slot_sent(&mut self, line: u64)
         requires { self.old.phase ≡ at.SendSlot line }
@@ -147,16 +147,34 @@ impl Task {
                 word: 0,
             }
         } else {
-            Phase::StoreGate
+            Phase::FenceSlot
         };
     }
 
-    /// A line of the new slot was sent.
+    /// It was asked for a line of the new slot to be sent.
     pub(super) fn send_slot(&mut self, line: u64) -> Turn
         requires { self.old.phase ≡ at.SendSlot line }
         ensures { Tells (turn_of self.old None) result self.new }
     {
         self.slot_sent(line);
+        Turn::Go
+    }
+
+    /// The new slot was sent.
+    pub(super) fn fence_slot(&mut self) -> Turn
+        requires { self.old.phase ≡ at.FenceSlot }
+        ensures { Tells (turn_of self.old None) result self.new }
+    {
+        self.phase = Phase::StoreGate;
+        Turn::Go
+    }
+
+    /// It was asked for the gate to be sent.
+    pub(super) fn send_gate(&mut self) -> Turn
+        requires { self.old.phase ≡ at.SendGate }
+        ensures { Tells (turn_of self.old None) result self.new }
+    {
+        self.phase = Phase::FenceGate;
         Turn::Go
     }
 

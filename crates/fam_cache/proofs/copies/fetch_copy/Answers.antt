@@ -8,4 +8,4 @@ returns-in-Ok-clause-copy g c =
     refreshed _ c.args.line.0 c.args.mask.0 c.in-Clean.words c.in-Ok.memory c.masked_line.result c.args.copy c.in-Ok.ensures.words c.masked_line.ensures c.in-Clean.is
 
 pub returns-in-Dirty-clause-copy : goal.returns-in-Dirty-clause-copy
-returns-in-Dirty-clause-copy g c = rw c.in-Dirty.is (dirty_kept _ c.args.line.0 c.args.mask.0 (Dirty c.in-Dirty.words) refl)
+returns-in-Dirty-clause-copy g c = rw c.in-Dirty.is (dirty_kept _ c.args.line.0 c.args.mask.0 (Dirty c.in-Dirty.asked c.in-Dirty.words) refl)

@@ -7,4 +7,4 @@ use Rattle.fam_commands.proofs.counts.the_first_format_takes_these_counts.Goals 
 
 pub returns-clause-append_ops : goal.returns-clause-append_ops
 returns-clause-append_ops c = λ p seq e fill.
-    length-append_ops p seq e fill ∙ (let z : 9 * lines_of e.size + 74 ≡ append_steps first_format (lines_of e.size) = omega arith in z)
+    length-append_ops p seq e fill ∙ (let z : 9 * lines_of e.size + 76 ≡ append_steps first_format (lines_of e.size) = omega arith in z)

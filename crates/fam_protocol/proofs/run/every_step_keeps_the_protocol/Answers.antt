@@ -1,11 +1,12 @@
 use Rattle.fam_protocol.proofs.Hosts.Events.{invariant_declared, invariant_begun, invariant_stopped, invariant_halted}
 use Rattle.fam_protocol.proofs.Hosts.Formats.{invariant_formatted}
-use Rattle.fam_protocol.proofs.Hosts.Steps.{invariant_transferred, invariant_stepped}
+use Rattle.fam_protocol.proofs.Hosts.Steps.{invariant_broken, invariant_transferred, invariant_stepped}
 use Rattle.fam_protocol.proofs.run.every_step_keeps_the_protocol.Goals as goal
 
 pub returns : goal.returns
 returns c = record {
   transfer = λ settled lines host line hosts s s2 invariant transfer declared. invariant_transferred lines hosts host line s s2 transfer declared settled invariant;
+  broken = λ settled lines host line hosts s s2 invariant breaks declared. invariant_broken lines hosts host line s s2 breaks declared settled invariant;
   step = λ settled lines host word r old new s s2 invariant steps. invariant_stepped lines host word settled r old new s s2 invariant steps;
   host = λ settled lines host id old new s invariant declares. invariant_declared settled lines host id old new s invariant declares;
   task = λ settled lines host cmd old new s invariant enough starts. invariant_begun settled lines host old new s cmd enough invariant starts;

@@ -72,6 +72,13 @@ steps_of-requires-clause-runs g c =
     let at_is = slice_get_read items (length items) c.in-Ok.at x refl (omega (arith, c.in-Ok.ensures.within)) c.index_mut.ensures.value in
     c.in-Ok.ensures.runs (host_view x) (map_at host_view items c.in-Ok.at x at_is)
 
+pub steps_of-requires-clause-cached : goal.steps_of-requires-clause-cached
+steps_of-requires-clause-cached g c =
+    let items = c.args.hosts.now.items in
+    let x = c.index_mut.result.now in
+    let at_is = slice_get_read items (length items) c.in-Ok.at x refl (omega (arith, c.in-Ok.ensures.within)) c.index_mut.ensures.value in
+    record { below = (c.requires.fits c.in-Ok.at (host_view x) (map_at host_view items c.in-Ok.at x at_is)).cache }
+
 pub steps_of-requires-clause-fits : goal.steps_of-requires-clause-fits
 steps_of-requires-clause-fits g c =
     let items = c.args.hosts.now.items in

@@ -4,12 +4,13 @@ use Rattle.fam_journal.specs.CallRecords.{TaskFits}
 use Rattle.fam_journal.specs.Notes.{Note}
 use Rattle.fam_world.specs.Answers.{is_over}
 use Rattle.fam_world.specs.Counted.{HostStanding, HostStep, Iterated, host_standing, none, more}
+use Rattle.fam_world.specs.OnTask.{CacheFits}
 use Rattle.fam_world.specs.View.{host_view, notes_view}
 use Rattle.fam_world.specs.declared.hosts.Host.{Host}
 use Rattle.fam_world.proofs.Counting.{held_on_steps, host_step, iterated_both}
 use Rattle.fam_world.proofs.Finishing.{going_fits, going_runs}
-use Rattle.fam_world.proofs.HeldOn.{held_fits, held_host, held_runs}
-use Rattle.fam_world.proofs.Saying.{some_of}
+use Rattle.fam_world.proofs.HeldOn.{held_cached, held_fits, held_host, held_runs}
+use Rattle.fam_world.proofs.Saying.{some_of, step_cached}
 use Rattle.fam_world.proofs.counted.steps_of.Goals as goal
 
 pub operations-init : goal.operations-init
@@ -19,10 +20,14 @@ operations-init g c = record {
   within = omega arith;
   runs = c.requires.runs;
   fits = c.requires.fits;
+  cached = c.requires.cached;
 }
 
 pub step_host-requires-clause-fits : goal.step_host-requires-clause-fits
 step_host-requires-clause-fits g c = subst (λ (n : ℕ). TaskFits n c.operations.host.task) (sym c.operations.invariant.size) c.operations.invariant.fits
+
+pub step_host-requires-clause-cached : goal.step_host-requires-clause-cached
+step_host-requires-clause-cached g c = subst (λ (n : ℕ). CacheFits n c.operations.host.cache) (sym c.operations.invariant.size) c.operations.invariant.cached
 
 pub held_on-done-requires : goal.held_on-done-requires
 held_on-done-requires g c =
@@ -60,6 +65,7 @@ operations-preserved g c =
       within = grind (arith, nat_tests, less, most_left);
       runs = held_runs y z c.held_on-done.result held;
       fits = held_fits y z c.held_on-done.result held size fits;
+      cached = held_cached y z c.held_on-done.result held size fits (step_cached at one.task x y size _ refl (refl, refl) one.step inv.cached);
     }
 
 pub returns-then-is_err-clause-says : goal.returns-then-is_err-clause-says

@@ -2,6 +2,7 @@ use Rattle.std.proofs.Common.{◌≡◌, ◌≤◌, ◌-◌, false, true}
 use Rattle.std.specs.Prelude.{is_some}
 use Rattle.fam_journal.specs.CallRecords.{TaskFits}
 use Rattle.fam_world.specs.Counted.{HostStep, Iterated, host_standing}
+use Rattle.fam_world.specs.OnTask.{CacheFits}
 use Rattle.fam_world.specs.View.{host_view, notes_view}
 use Rattle.fam_world.proofs.counted.steps_of.Given as goal
 
@@ -14,6 +15,7 @@ invariant-operations g l = record {
   within : l.done ≤ l.most;
   runs : is_some l.host.task ≡ true;
   fits : TaskFits (g.M.Media.size l.fn.media) l.host.task;
+  cached : CacheFits (g.M.Media.size l.fn.media) l.host.cache;
 }
 
 abbrev pub decreases-operations : goal.decreases-operations

@@ -1,4 +1,4 @@
-use Rattle.std.proofs.Common.{◌≡◌, ◌⊎◌, ◌<◌, Some, length, set, refl, ap, ap₂, sym, subst, ◌∙◌, arith, true, vec_len, List, Option}
+use Rattle.std.proofs.Common.{◌≡◌, ◌⊎◌, ◌<◌, ℕ, Some, length, set, refl, ap, ap₂, sym, subst, ◌∙◌, arith, true, vec_len, List, Option}
 use Rattle.std.proofs.lemmas.List.{length-map, length-set}
 use Rattle.std.specs.Prelude.{IfSome, is_some, slice_get, vec_capacity}
 use Rattle.std.proofs.lemmas.Option.{same_Some, slice_get_read}
@@ -29,7 +29,7 @@ operations-init g c = record {
   len = refl;
   runs = c.requires.runs;
   safe = λ start h is. unstored_safe (g.M.Media.image c.args.media.now) h.task h.cache (vec_len c.args.journal.now) (vec_capacity c.args.journal.now) (start h is);
-  fits = c.requires.fits;
+  fits = λ view is. (c.requires.fits c.args.at view is).task;
 }
 
 pub go_on-requires-clause-runs : goal.go_on-requires-clause-runs
@@ -66,6 +66,15 @@ held_on-requires g c =
     let task_then : y.task ≡ x_then.task = ap (λ (v : HostView). v.task) (same_Some (host_view y) (host_view x_then) (sym (view_set items at x y at_is) ∙ then_view)) in
     let runs_then = sym (ap is_some task_then) ∙ come_runs at t.0 _ over going step in
     record { runs = runs_then }
+
+pub go_on-requires-clause-cached : goal.go_on-requires-clause-cached
+go_on-requires-clause-cached g c =
+    let items = c.operations.hosts.items in
+    let x = c.index_mut.result.now in
+    let inv = c.operations.invariant in
+    let at_is = slice_get_read items (length items) c.args.at x refl (omega (arith, c.requires.within, inv.len)) c.index_mut.ensures.value in
+    let fits = inv.far.fits c.requires.fits c.args.at (host_view x) (map_at host_view items c.args.at x at_is) in
+    record { below = λ l is. subst (λ (n : ℕ). l < n) (sym inv.size) (fits.cache l is) }
 
 pub operations-smaller : goal.operations-smaller
 operations-smaller g c =

@@ -1,10 +1,6 @@
 use Rattle.std.proofs.Common.{rules}
-use Rattle.fam_cache.proofs.Performed.{invalidate_failed, load_failed, load_gives, store_failed, write_back_failed}
+use Rattle.fam_cache.proofs.Performed.{invalidate_failed, load_failed, load_gives, store_failed}
 use Rattle.fam_cache.proofs.cache.HostCache.perform.Goals as goal
-
-pub returns-in-Err-clause-failed : goal.returns-in-Err-clause-failed
-returns-in-Err-clause-failed g c =
-    write_back_failed c.args.op c.in-WriteBack.line _ _ _ _ c.in-WriteBack.is c.in-Err.ensures.torn c.in-Err.ensures.err
 
 pub returns-in-Err-invalidate-clause-failed : goal.returns-in-Err-invalidate-clause-failed
 returns-in-Err-invalidate-clause-failed g c =

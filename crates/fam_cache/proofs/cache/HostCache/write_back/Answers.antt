@@ -1,5 +1,12 @@
-use Rattle.fam_cache.proofs.StoreLemmas.{on_err_too}
+use Rattle.std.proofs.Common.{arith}
+use Rattle.fam_cache.proofs.AskedRange.{within_asked}
 use Rattle.fam_cache.proofs.cache.HostCache.write_back.Goals as goal
 
-pub returns-in_err-self-inside-clause-torn : goal.returns-in_err-self-inside-clause-torn
-returns-in_err-self-inside-clause-torn g c = rw (← c.self.view_is) (on_err_too c.from_residual.result c.in_err-self-inside.ensures.torn)
+pub invariant_of-self : goal.invariant_of-self
+invariant_of-self c =
+    let least = c.min-self-inside.ensures in
+    let most = c.max-self-inside.ensures in (
+      c.ask_copy.ensures.sorted,
+      within_asked c.self.inside.first_asked c.self.inside.last_asked c.min-self-inside.result c.max-self-inside.result c.args.line.0 _ _ c.self.invariant.1 c.ask_copy.ensures.cache
+          (omega (arith, least)) (omega (arith, least)) (omega (arith, most)) (omega (arith, most)),
+    )

@@ -1,0 +1,5 @@
+use Rattle.std.proofs.Common.{◌≡◌}
+use Rattle.fam_tests.proofs.tests.random.reported.Given as goal
+
+abbrev pub invariant-loop-i : goal.invariant-loop-i
+invariant-loop-i l = record { added : l.fsck.added ≡ l.i; slots : l.fsck.params.slots ≡ l.i-end }

@@ -1,0 +1,4 @@
+//! Each test stands for calls that no command comes to.
+
+mod random;
+mod surface;
