@@ -70,6 +70,7 @@ _famfs() {
     done
     [ "$word" != = ] || word=""
     if [ -n "$waits" ]; then
+        [ "$waits" != --shadow ] || { compopt -o filenames; mapfile -t COMPREPLY < <(compgen -d -- "$word"); }
         [ "$waits" != --source ] || { compopt -o filenames; mapfile -t COMPREPLY < <(compgen -f -- "$word"); }
         return
     fi
