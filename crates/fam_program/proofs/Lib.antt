@@ -19,3 +19,4 @@ pub mod Sparing
 pub mod Leaving
 pub mod Alone
 pub mod Shadowing
+pub mod ShownTrees

@@ -5,6 +5,7 @@ use Rattle.fam_base.specs.declared.cmd.Cmd.TheVariants as cmd
 use Rattle.fam_format.specs.Tree.{Tree}
 use Rattle.fam_grammar.specs.Scripts.{script_events}
 use Rattle.fam_rules.specs.Reply as reply
+use Rattle.fam_rules.specs.Reply.{Reply}
 use Rattle.fam_shadow.specs.declared.fault.ShadowFault.{ShadowFault}
 use Rattle.fam_shadow.specs.declared.fault.ShadowFault.TheVariants as fault
 use Rattle.fam_shadow.specs.Nodes.{Nodes}
@@ -16,7 +17,7 @@ use Rattle.fam_journal.specs.declared.event.Event.{Event}
 use Rattle.fam_journal.specs.declared.status.Status.{Status}
 use Rattle.fam_journal.specs.declared.status.Status.TheVariants as status
 use Rattle.fam_journal.specs.Ends.{AllDone}
-use Rattle.fam_journal.specs.Notes.{Answered, Note, Replied}
+use Rattle.fam_journal.specs.Notes.{Answer, Replied, MediaFault, Note, Host, Made, Start, Mark, Found, Writes, Answered, Stop, Halt, Refused}
 use Rattle.fam_journal.specs.Programs.{EndsEarly, IsWholeRun, OneShot, Runs, ShotRuns, Single, memory_line}
 use Rattle.fam_journal.specs.Runs.{IsPut, NoneFalls, Outside}
 use Rattle.fam_journal.specs.Texts.{line, number}
@@ -44,10 +45,39 @@ IsUntouched s = s.nodes_now ≡ s.nodes
 abbrev pub logplay : OneShot
 logplay = Runs (ask.Plain cmd.Logplay)
 
--- the tree that a note shows, and how many of the log's entries it has
+-- the tree that an answer shows, and how many of the log's entries it has
+abbrev pub replied_tree : Reply → Option (ℕ × Tree)
+replied_tree (reply.Appended seq) = None
+replied_tree (reply.NotAppended refused) = None
+replied_tree (reply.Played m tree) = Some (m, tree)
+replied_tree (reply.Same m) = None
+replied_tree (reply.Differs m offset found wanted) = None
+replied_tree (reply.Length m size wanted) = None
+replied_tree (reply.Bytes m bytes) = None
+replied_tree (reply.NotFound m) = None
+replied_tree (reply.IsDirectory m) = None
+replied_tree (reply.Checks m checked) = None
+replied_tree (reply.Reports report) = None
+replied_tree (reply.NoSuperblock fault) = None
+replied_tree (reply.BadHeader fault) = None
+replied_tree (reply.BadSlot seq reason) = None
+
+abbrev pub answered_tree : Answer → Option (ℕ × Tree)
+answered_tree (Replied given) = replied_tree given
+answered_tree (MediaFault at) = None
+
+-- that of a note
 abbrev pub tree_in : Note → Option (ℕ × Tree)
-tree_in (Answered host (Replied (reply.Played m tree))) = Some (m, tree)
-tree_in _ = None
+tree_in (Host name uuid) = None
+tree_in (Made host p) = None
+tree_in (Start host cmd) = None
+tree_in (Mark host) = None
+tree_in (Found host n) = None
+tree_in (Writes host seq entry) = None
+tree_in (Answered host answer) = answered_tree answer
+tree_in (Stop host) = None
+tree_in (Halt host) = None
+tree_in (Refused name cause) = None
 
 -- that of the last note
 abbrev pub shown_tree : List Note → Option (ℕ × Tree)

@@ -4,6 +4,7 @@ ghost use Rattle.std.specs.Prelude.{◌≡◌, ◌≤◌, ◌⊎◌, IfOk, IfSom
 ghost use Rattle.fam_media.specs.Causes.{IsSteady};
 ghost use Rattle.fam_journal.specs.Programs.{memory_line};
 ghost use Rattle.fam_journal.specs.declared.status.Status.TheVariants as status;
+ghost use Rattle.fam_outcomes.specs.Answers.{answer_view};
 ghost use Rattle.fam_program.specs.Puts.{Put, sink_changed};
 ghost use Rattle.fam_program.specs.Runs.{outside_of};
 ghost use Rattle.fam_program.specs.Shadows as spec;
@@ -28,16 +29,51 @@ use fam_world::World;
 use std::alloc::Global;
 use uuid::Uuid;
 
-/// The tree that a note shows, and how many of the log's entries it has.
+/// The tree that an answer shows, and how many of the log's entries it has.
+fn answered_tree(answer: &Answer) -> Option<(u64, &Tree)>
+    ensures { option_map (λ s. (s.0, s.1.now)) result ≡ spec.answered_tree (answer_view answer.now) }
+{
+    match answer {
+        Answer::Played { m, tree } => Some((*m, tree)),
+        Answer::Ok(_) => None,
+        Answer::Same { .. } => None,
+        Answer::Bytes { .. } => None,
+        Answer::Checked { .. } => None,
+        Answer::Report(_) => None,
+        Answer::NoSuper(_) => None,
+        Answer::BadSuper { .. } => None,
+        Answer::BadLog { .. } => None,
+        Answer::BadEntry { .. } => None,
+        Answer::NotMaster { .. } => None,
+        Answer::BadStripe => None,
+        Answer::Exists(_) => None,
+        Answer::NoParent => None,
+        Answer::ParentIsFile => None,
+        Answer::LogFull(_) => None,
+        Answer::NoSpace(_) => None,
+        Answer::NotFound { .. } => None,
+        Answer::IsDirectory { .. } => None,
+        Answer::Differs { .. } => None,
+        Answer::Length { .. } => None,
+        Answer::MediaFault(_) => None,
+    }
+}
+
+/// The tree that a note shows.
 fn tree_in(note: &Note) -> Option<(u64, &Tree)>
     ensures { option_map (λ s. (s.0, s.1.now)) result ≡ spec.tree_in (note_view note.now) }
 {
-    let Note::Answered { answer, .. } = note else {
-        return None;
-    };
-    match answer {
-        Answer::Played { m, tree } => Some((*m, tree)),
-        _ => None,
+    match note {
+        Note::Answered { answer, .. } => answered_tree(answer),
+        Note::Host { .. } => None,
+        Note::Made { .. } => None,
+        Note::Start { .. } => None,
+        Note::Mark { .. } => None,
+        Note::Found { .. } => None,
+        Note::Writes { .. } => None,
+        Note::Stop { .. } => None,
+        Note::Halt { .. } => None,
+        Note::Refused { .. } => None,
     }
 }
 
