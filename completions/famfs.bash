@@ -9,7 +9,8 @@ _famfs_options() {
         cp) echo "-m,--mode -u,--uid -g,--gid -N,--nstrips -B,--nbuckets -C,--chunksize --system" ;;
         verify) echo "-S,--seed --source --system" ;;
         storm) echo "-p,--print" ;;
-        logplay | read | check | fsck) echo "--system" ;;
+        logplay) echo "--shadow --system" ;;
+        read | check | fsck) echo "--system" ;;
     esac
 }
 
@@ -69,6 +70,7 @@ _famfs() {
     done
     [ "$word" != = ] || word=""
     if [ -n "$waits" ]; then
+        [ "$waits" != --shadow ] || { compopt -o filenames; mapfile -t COMPREPLY < <(compgen -d -- "$word"); }
         [ "$waits" != --source ] || { compopt -o filenames; mapfile -t COMPREPLY < <(compgen -f -- "$word"); }
         return
     fi

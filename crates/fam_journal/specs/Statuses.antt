@@ -25,6 +25,7 @@ status_number status.SourceFault = 5
 status_number status.SinkFault = 6
 status_number status.OutOfMemory = 7
 status_number status.Damaged = 8
+status_number status.ShadeFault = 10
 
 abbrev pub is_done : Status → Bool
 is_done status.Done = true
@@ -36,6 +37,7 @@ is_done status.SourceFault = false
 is_done status.SinkFault = false
 is_done status.OutOfMemory = false
 is_done status.Damaged = false
+is_done status.ShadeFault = false
 
 -- nothing is missing, and nothing is extra or changed
 abbrev pub is_checked_equal : Checked → Bool

@@ -26,6 +26,8 @@ pub enum Status {
     OutOfMemory,
     /// The image is damaged, or is none of this program's; or what was compared differs.
     Damaged,
+    /// The folder for a tree's shadow could not be read or written.
+    ShadeFault,
 }
 
 impl Status {
@@ -43,6 +45,7 @@ impl Status {
             Status::SinkFault => 6,
             Status::OutOfMemory => 7,
             Status::Damaged => 8,
+            Status::ShadeFault => 10,
         }
     }
 }

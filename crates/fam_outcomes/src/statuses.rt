@@ -165,6 +165,7 @@ fn is_done(status: Status) -> bool
         Status::SinkFault => false,
         Status::OutOfMemory => false,
         Status::Damaged => false,
+        Status::ShadeFault => false,
     }
 }
 

@@ -1,7 +1,7 @@
 -- Commands of their own, as the top call tells them.
 use Prim.Native.Nat.{zero, suc}
 use Rattle.std.proofs.Common.{◌≡◌, ◌⊎◌, ℕ, inl, inr, Bool, true, false, cond, List, [], ◌∷◌, length, take, Some, Result, Ok, Err, refl, ap, sym, ◌∙◌, subst, arith}
-use Rattle.std.specs.Prelude.{⊤}
+use Rattle.std.specs.Prelude.{⊤, OnOk}
 use Rattle.std.proofs.lemmas.Bool.{false≢true}
 use Rattle.std.proofs.lemmas.List.{take_all}
 use Rattle.fam_grammar.specs.Scripts.{script_events}
@@ -21,8 +21,8 @@ use Rattle.fam_journal.specs.EventForms.{FollowsForm}
 use Rattle.fam_journal.specs.Follows.{SourceEnd}
 use Rattle.fam_journal.specs.Names.{NameDeclared}
 use Rattle.fam_journal.specs.Notes.{Answer, Replied, MediaFault, Note, Host, Made, Start, Mark, Found, Writes, Answered, Stop, Halt, Refused}
-use Rattle.fam_journal.specs.Programs.{IsWholeRun, LeavesImage, Makes, MakesParents, OneShot, Runs, ShotPuts, Single, SparesImage, TopEnds, done_status, ends_command, ends_mkfs, ends_shot, last_passes, memory_line, path_prefixes, shot_events, shot_status, source_line}
-use Rattle.fam_journal.specs.Runs.{EndsBroken, NoneFalls, Outside}
+use Rattle.fam_journal.specs.Programs.{IsWholeRun, LeavesImage, Makes, MakesParents, OneShot, Runs, ShotPuts, Single, ShotRuns, SparesImage, TopEnds, done_status, ends_command, ends_mkfs, ends_shot, last_passes, memory_line, path_prefixes, shot_events, shot_status, source_line}
+use Rattle.fam_journal.specs.Runs.{EndsBroken, IsPut, NoneFalls, Outside}
 use Rattle.fam_journal.specs.Statuses.{answer_status, cause_status, is_checked_equal, last_status, last_stops, note_status, parents_status, reply_status, sound_status}
 use Rattle.fam_journal.specs.Texts.{is_sound_report, shown}
 use Rattle.fam_events.specs.declared.fault.EventFault.{EventFault}
@@ -50,6 +50,7 @@ is_lost status.SourceFault = false
 is_lost status.SinkFault = true
 is_lost status.OutOfMemory = true
 is_lost status.Damaged = false
+is_lost status.ShadeFault = false
 
 sound_told : (t : Bool) → is_lost (sound_status t) ≡ false
 sound_told true = refl
@@ -145,6 +146,15 @@ lack_spares (Makes fs unit log force) own out lacks spared lack = tt
 lack_spares (Runs what) own out lacks spared lack = λ e. spared lack
 lack_spares (MakesParents path attr) own out lacks spared lack = tt
 
+-- What a run comes to: its text and its status, which are put or not. Where all its events are done this fact is known.
+pub record Ran (me : List ℕ) (shot : OneShot) (out : Outside) (journal : List Note) (fact : Type 0) (given : Status) : Type 0 where
+  pub text : List ℕ
+  pub own : Status
+  pub runs : ShotRuns me shot out text own
+  pub same : runs.run.journal ≡ journal
+  pub known : runs.ending ≡ AllDone → fact
+  pub put : IsPut own given text out
+
 -- Runs, whatever the command is.
 
 module _ (name me : List ℕ) (shot : OneShot) (out : Outside) (journal : List Note) where
@@ -183,44 +193,47 @@ module _ (name me : List ℕ) (shot : OneShot) (out : Outside) (journal : List N
       let same : [] ≡ all = ap (λ (k : ℕ). take k all) (sym is) ∙ x.all (ap last_stops none) in
       absurd cc
 
-  module _ (given : Status) (later : NoneFalls out) where
-    abbrev Top : Type 0
-    Top = TopEnds script_events storm (Some (Single me shot)) out given
+  -- the events that were done
+  pub stopped_whole : (x : HasStopped out all journal) → IsWholeRun me shot (take x.count all) journal
+  stopped_whole x = by_count x.count refl
+    where
+      by_count : (k : ℕ) → x.count ≡ k → IsWholeRun me shot (take x.count all) journal
+      by_count zero is = absurd (none_done x is)
+      by_count (suc k) is = so_many x k is
 
-    ran : (ending : Ending) (events : List Event) (text : List ℕ) → HasEnded ending out events journal → ShotPuts me shot events ending journal text → IsOwn (shot_status shot ending journal) → SparesImage shot (shot_status shot ending journal) out → Put (shot_status shot ending journal) text (sink_of out) given → Top
-    ran ending events text x puts other spares put = record {
+  module _ (given : Status) (fact : Type 0) where
+    abbrev Comes : Type 0
+    Comes = Ran me shot out journal fact given
+
+    ran : (ending : Ending) (events : List Event) (text : List ℕ) → HasEnded ending out events journal → ShotPuts me shot events ending journal text → IsOwn (shot_status shot ending journal) → SparesImage shot (shot_status shot ending journal) out → Put (shot_status shot ending journal) text (sink_of out) given
+        → (ending ≡ AllDone → fact) → Comes
+    ran ending events text x puts other spares put known = record {
       text = text;
       own = shot_status shot ending journal;
-      shows = inr record {
+      runs = record {
         ending = ending;
         events = events;
         run = record { journal = journal; named = x.named; form = x.form; counted = x.counted; caused = x.caused; text_is = puts; status_is = refl; told = x.told };
         spares = spares;
       };
-      later = later;
+      same = refl;
+      known = known;
       put = put_alone out text (shot_status shot ending journal) given other put;
     }
 
     -- no memory was left for an event
-    wants : SparesImage shot status.OutOfMemory out → HasEnded EndsOutOfMemory out all journal → GoesOn journal → IsFaultless journal → Put status.OutOfMemory memory_line (sink_of out) given → Top
-    wants spares x goes clean put = ran EndsOutOfMemory all memory_line x (whole goes, (refl, clean)) memory_own spares put
+    wants : SparesImage shot status.OutOfMemory out → HasEnded EndsOutOfMemory out all journal → GoesOn journal → IsFaultless journal → Put status.OutOfMemory memory_line (sink_of out) given → Comes
+    wants spares x goes clean put = ran EndsOutOfMemory all memory_line x (whole goes, (refl, clean)) memory_own spares put (λ e. absurd cc)
 
     -- a source ended early
-    ended : SparesImage shot status.OutOfMemory out → (end : SourceEnd) → HasEnded (SourceFails end) out all journal → GoesOn journal → IsFaultless journal → Put status.SourceFault (source_line end) (sink_of out) given ⊎ Put status.OutOfMemory memory_line (sink_of out) given → Top
-    ended spares end x goes clean (inl put) = ran (SourceFails end) all (source_line end) x (whole goes, refl) source_own (own_spares shot status.SourceFault out (λ e. absurd cc)) put
+    ended : SparesImage shot status.OutOfMemory out → (end : SourceEnd) → HasEnded (SourceFails end) out all journal → GoesOn journal → IsFaultless journal → Put status.SourceFault (source_line end) (sink_of out) given ⊎ Put status.OutOfMemory memory_line (sink_of out) given → Comes
+    ended spares end x goes clean (inl put) = ran (SourceFails end) all (source_line end) x (whole goes, refl) source_own (own_spares shot status.SourceFault out (λ e. absurd cc)) put (λ e. absurd cc)
     ended spares end x goes clean (inr put) = wants spares (source_wants end out all journal x) goes clean put
 
     -- the run has come to its end
-    done : SparedRun shot out (last_passes is_short journal ≡ false) → (x : HasStopped out all journal) → last_passes (ends_shot shot) journal ≡ true → LastSays (done_status shot journal) journal (sink_of out) given → Top
-    done spared x ends = by_count x.count refl
-      where
-        by_put : IsWholeRun me shot (take x.count all) journal → LastSays (done_status shot journal) journal (sink_of out) given → Top
-        by_put run (inl put) = ran AllDone (take x.count all) (shown journal) x.ended (run, (ends, refl)) (done_own shot journal) (done_spares shot journal out) put
-        by_put run (inr put) = ran EndsOutOfMemory (take x.count all) memory_line (done_wants out (take x.count all) journal x.ended) (run, (refl, long_faultless journal x.goes_on put.1)) memory_own (lack_spares shot status.OutOfMemory out (last_passes is_short journal ≡ false) spared put.1) put.0
-
-        by_count : (k : ℕ) → x.count ≡ k → LastSays (done_status shot journal) journal (sink_of out) given → Top
-        by_count zero is put = absurd (none_done x is)
-        by_count (suc k) is put = by_put (so_many x k is) put
+    done : SparedRun shot out (last_passes is_short journal ≡ false) → (x : HasStopped out all journal) → last_passes (ends_shot shot) journal ≡ true → LastSays (done_status shot journal) journal (sink_of out) given → fact → Comes
+    done spared x ends (inl put) known = ran AllDone (take x.count all) (shown journal) x.ended (stopped_whole x, (ends, refl)) (done_own shot journal) (done_spares shot journal out) put (λ e. known)
+    done spared x ends (inr put) known = ran EndsOutOfMemory (take x.count all) memory_line (done_wants out (take x.count all) journal x.ended) (stopped_whole x, (refl, long_faultless journal x.goes_on put.1)) memory_own (lack_spares shot status.OutOfMemory out (last_passes is_short journal ≡ false) spared put.1) put.0 (λ e. absurd cc)
 
 -- The last note, by the command.
 
@@ -274,20 +287,32 @@ module _ (name me : List ℕ) (out : Outside) (journal : List Note) where
   fault_short : {events : List Event} → EndsBroken events journal → last_passes is_short journal ≡ true
   fault_short broken = ap (last_passes is_short) broken.is ∙ last_behind is_short broken.prefix (Refused broken.name (why.MediaFault broken.line) ∷ []) refl
 
-  module _ (given : Status) (later : NoneFalls out) where
+  module _ (given : Status) (fact : Type 0) where
     -- the media failed in a mkfs
-    broken : (shot : OneShot) → HasEnded MkfsFails out (alone_events name me shot) journal → GoesOn journal → LastSays status.MediaFault journal (sink_of out) given → TopEnds script_events storm (Some (Single me shot)) out given
-    broken (Makes fs unit log force) x goes (inl put) = ran name me (Makes fs unit log force) out journal given later MkfsFails (alone_events name me (Makes fs unit log force)) (shown journal) x (whole name me (Makes fs unit log force) out journal goes, refl) media_own tt put
+    broken : (shot : OneShot) → HasEnded MkfsFails out (alone_events name me shot) journal → GoesOn journal → LastSays status.MediaFault journal (sink_of out) given → Ran me shot out journal fact given
+    broken (Makes fs unit log force) x goes (inl put) = ran name me (Makes fs unit log force) out journal given fact MkfsFails (alone_events name me (Makes fs unit log force)) (shown journal) x (whole name me (Makes fs unit log force) out journal goes, refl) media_own tt put (λ e. absurd cc)
     broken (Makes fs unit log force) x goes (inr put) = absurd (false≢true (sym put.1 ∙ fault_short x.caused))
     broken (Runs what) x goes put = absurd (none_breaks name me (λ (w : Ask). w) (what ∷ []) out journal x)
     broken (MakesParents path attr) x goes put = absurd (none_breaks name me (makes_one attr) (path_prefixes path) out journal x)
 
     -- by how the run has ended, and what was put then
-    pub shot_top : (shot : OneShot) (ended_so : Result (Unit {0}) EventFault) → SparedRun shot out (MayLack ended_so journal) → ShotEnded ended_so out (alone_events name me shot) journal → ShotSays ended_so (done_status shot journal) journal (sink_of out) given → TopEnds script_events storm (Some (Single me shot)) out given
-    shot_top shot (Ok x) spared stopped says = done name me shot out journal given later spared stopped (shot_ends shot stopped) says
-    shot_top shot (Err fault.MkfsFailed) spared x says = broken shot x.0 x.1 says
-    shot_top shot (Err (fault.SourceEnded end)) spared x says = ended name me shot out journal given later (lack_spares shot status.OutOfMemory out ⊤ spared tt) (end_of end) x.0 x.1 x.2 says
-    shot_top shot (Err fault.OutOfMemory) spared x says = wants name me shot out journal given later (lack_spares shot status.OutOfMemory out ⊤ spared tt) x.0 x.1 x.2 says
+    pub shot_ran : (shot : OneShot) (ended_so : Result (Unit {0}) EventFault) → SparedRun shot out (MayLack ended_so journal) → ShotEnded ended_so out (alone_events name me shot) journal → ShotSays ended_so (done_status shot journal) journal (sink_of out) given
+        → OnOk ended_so fact → Ran me shot out journal fact given
+    shot_ran shot (Ok x) spared stopped says known = done name me shot out journal given fact spared stopped (shot_ends shot stopped) says known
+    shot_ran shot (Err fault.MkfsFailed) spared x says known = broken shot x.0 x.1 says
+    shot_ran shot (Err (fault.SourceEnded end)) spared x says known = ended name me shot out journal given fact (lack_spares shot status.OutOfMemory out ⊤ spared tt) (end_of end) x.0 x.1 x.2 says
+    shot_ran shot (Err fault.OutOfMemory) spared x says known = wants name me shot out journal given fact (lack_spares shot status.OutOfMemory out ⊤ spared tt) x.0 x.1 x.2 says
+
+nothing_known : (ended_so : Result (Unit {0}) EventFault) → OnOk ended_so ⊤
+nothing_known (Ok x) = tt
+nothing_known (Err fault) = tt
+
+module _ (name me : List ℕ) (out : Outside) (journal : List Note) (given : Status) (later : NoneFalls out) where
+  -- as the top call tells it
+  pub shot_top : (shot : OneShot) (ended_so : Result (Unit {0}) EventFault) → SparedRun shot out (MayLack ended_so journal) → ShotEnded ended_so out (alone_events name me shot) journal → ShotSays ended_so (done_status shot journal) journal (sink_of out) given → TopEnds script_events storm (Some (Single me shot)) out given
+  shot_top shot ended_so spared x says =
+      let run = shot_ran name me out journal given ⊤ shot ended_so spared x says (nothing_known ended_so) in
+      record { text = run.text; own = run.own; shows = inr run.runs; later = later; put = run.put }
 
 -- the notes of a run name hosts that were declared before them
 pub shot_named : (ended : Result (Unit {0}) EventFault) (out : Outside) (events : List Event) (journal : List Note) → ShotEnded ended out events journal → NameDeclared 0 journal

@@ -18,3 +18,5 @@ pub mod NumberLines
 pub mod Sparing
 pub mod Leaving
 pub mod Alone
+pub mod Shadowing
+pub mod ShownTrees

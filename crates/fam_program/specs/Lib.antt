@@ -6,3 +6,4 @@ pub mod Scripts
 pub mod Files
 pub mod Quiet
 pub mod Shots
+pub mod Shadows

@@ -7,6 +7,7 @@
 
 mod fault;
 mod lines;
+mod no_files;
 mod numbers;
 mod parents;
 mod puts;
@@ -14,6 +15,7 @@ mod quiet;
 mod read;
 mod script;
 mod script_file;
+mod shadows;
 mod shots;
 mod storms;
 
@@ -22,5 +24,6 @@ pub use puts::{put_memory, put_usage};
 pub use read::read_script;
 pub use script::run_script;
 pub use script_file::{SCRIPT_LIMIT, run_script_file};
+pub use shadows::write_shadow;
 pub use shots::{make_file_system, make_parents, run_command};
 pub use storms::run_storm;

@@ -28,7 +28,7 @@ use std::alloc::Global;
 use uuid::Uuid;
 
 /// The name of the one host. No text that is put has it.
-fn own_name() -> HostName {
+pub(crate) fn own_name() -> HostName {
     let Ok(name) = HostName::read(b"m") else {
         unreachable!()
     };
@@ -36,7 +36,7 @@ fn own_name() -> HostName {
 }
 
 /// A host is declared, and does one thing.
-fn two_events(
+pub(crate) fn two_events(
     alloc: Global,
     name: HostName,
     me: Uuid,
@@ -72,7 +72,7 @@ fn put_last<K: Sink>(alloc: Global, world: &World, own: Status, out: &mut K) -> 
 }
 
 /// Puts what comes of a run that has ended so, and gives its status: `done` where no event ended it early.
-fn put_end<K: Sink>(
+pub(crate) fn put_end<K: Sink>(
     alloc: Global,
     world: &World,
     ended: Result<(), EventFault>,

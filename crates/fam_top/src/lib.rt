@@ -2,8 +2,10 @@
 #![tactic(auto)]
 
 mod fresh;
+mod shadows;
 mod top;
 mod words;
 
+pub use shadows::{famfs_shadow, shadow_of};
 pub use top::famfs;
 pub use words::image_of;

@@ -26,7 +26,7 @@ use std::alloc::Global;
 use uuid::Uuid;
 
 /// The UUID that is asked for, or this host's.
-fn host_or(me: Uuid, system: Option<Uuid>) -> Uuid
+pub(crate) fn host_or(me: Uuid, system: Option<Uuid>) -> Uuid
     ensures { result ≡ calls.host_or me system }
 {
     match system {

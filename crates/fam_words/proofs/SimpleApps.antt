@@ -4,6 +4,7 @@ use Rattle.clap.specs.Faults.{is_simple_and_free}
 use Rattle.clap.proofs.OnLiterals.{clap_on_literals}
 use Rattle.fam_words.specs.Simple.{word_rule, option_rule, flag_rule, plain_app}
 use Rattle.fam_words.specs.Apps.{mkfs_app, logplay_app, mkdir_app, creat_app, cp_app, verify_app, read_app, check_app, fsck_app, script_app, storm_app}
+use Rattle.fam_words.specs.Shadows.{shadow_app}
 
 pub mkfs_simple : is_simple_and_free mkfs_app ≡ true
 unfolding clap_on_literals mkfs_app word_rule option_rule flag_rule plain_app
@@ -48,3 +49,7 @@ script_simple = refl
 pub storm_simple : is_simple_and_free storm_app ≡ true
 unfolding clap_on_literals storm_app word_rule option_rule flag_rule plain_app
 storm_simple = refl
+
+pub shadow_simple : is_simple_and_free shadow_app ≡ true
+unfolding clap_on_literals shadow_app word_rule option_rule flag_rule plain_app
+shadow_simple = refl

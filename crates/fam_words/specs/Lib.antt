@@ -2,3 +2,4 @@ pub mod Simple
 pub mod Apps
 pub mod Values
 pub mod Calls
+pub mod Shadows

@@ -3,8 +3,9 @@
 ghost use Rattle.std.specs.Prelude.{◌≡◌, fold, IfOk};
 ghost use Rattle.clap.specs.Words.{app_of, with_rule};
 ghost use Rattle.fam_words.specs.Apps.{mkfs_app, logplay_app, mkdir_app, creat_app, cp_app, verify_app, read_app, check_app, fsck_app, script_app, storm_app, owner_rules, stripe_rules};
+ghost use Rattle.fam_words.specs.Shadows.{shadow_app};
 
-use crate::simple::{flag, long_option, option, plain, word};
+use crate::simple::{flag, long_option, needed_option, option, plain, word};
 use clap::Command;
 use fam_base::OutOfMemory;
 use std::alloc::Global;
@@ -46,6 +47,16 @@ pub(crate) fn logplay<'a>(alloc: Global) -> Result<Command<'a>, OutOfMemory>
 {
     let command = plain(alloc, "logplay");
     let command = word(alloc, command, "image")?;
+    long_option(alloc, command, "system")
+}
+
+/// The command logplay with a folder for the tree's shadow.
+pub(crate) fn shadow<'a>(alloc: Global) -> Result<Command<'a>, OutOfMemory>
+    ensures { IfOk result (λ c. app_of c ≡ shadow_app) }
+{
+    let command = plain(alloc, "logplay");
+    let command = word(alloc, command, "image")?;
+    let command = needed_option(alloc, command, "shadow")?;
     long_option(alloc, command, "system")
 }
 

@@ -7,10 +7,12 @@
 
 mod apps;
 mod orders;
+mod shadows;
 mod shots;
 mod simple;
 mod values;
 mod wanted;
 
 pub use orders::read_words;
-pub use wanted::{Call, Order, Shot};
+pub use shadows::read_shadow_words;
+pub use wanted::{Call, Order, ShadowCall, Shot};

@@ -72,6 +72,25 @@ pub(crate) fn long_option<'a>(
     }
 }
 
+/// Adds an option that has a long name alone and must be given.
+#[tactic(auto, unfolding(crate::specs::Simple::option_rule))]
+pub(crate) fn needed_option<'a>(
+    alloc: Global,
+    command: Command<'a>,
+    id: &'a str,
+) -> Result<Command<'a>, OutOfMemory>
+    ensures { IfOk result (λ c. app_of c ≡ with_rule (app_of command.entry) (option_rule id.entry.now None true)) }
+{
+    let arg = Arg::new(alloc, id)
+        .long(id)
+        .required(true)
+        .action(ArgAction::Set);
+    match command.arg(arg) {
+        Ok(command) => Ok(command),
+        Err(_) => Err(OutOfMemory),
+    }
+}
+
 /// Adds a flag.
 #[tactic(auto, unfolding(crate::specs::Simple::flag_rule))]
 pub(crate) fn flag<'a>(

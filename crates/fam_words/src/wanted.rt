@@ -12,6 +12,17 @@ pub struct Call {
     pub order: Order,
 }
 
+/// The shadow of an image's tree.
+#[derive(Drop)]
+pub struct ShadowCall {
+    /// The name of the image's file. It may be empty.
+    pub image: NameText,
+    /// The name of the folder that the shadow is written into.
+    pub folder: NameText,
+    /// The UUID of the host, where one is given.
+    pub system: Option<Uuid>,
+}
+
 /// What is to be done with the image.
 #[derive(Drop)]
 pub enum Order {

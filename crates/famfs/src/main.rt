@@ -4,13 +4,15 @@
 
 mod file_media;
 mod file_shelf;
+mod folder_shade;
 mod std_sink;
 
-use fam_base::OutOfMemory;
+use fam_base::{NameText, OutOfMemory};
 use fam_journal::Status;
-use fam_top::{famfs, image_of};
+use fam_top::{famfs, famfs_shadow, image_of, shadow_of};
 use file_media::FileMedia;
 use file_shelf::FileShelf;
+use folder_shade::FolderShade;
 use std::env;
 use std::fs::{File, OpenOptions};
 use std::io::ErrorKind;
@@ -74,12 +76,30 @@ fn random(rt: &HostRuntime) -> [u8; 16] {
     bytes
 }
 
+/// Writes the shadow of the image's tree into a folder.
+fn run_shadow(
+    rt: &HostRuntime,
+    words: &Vec<String>,
+    image: NameText,
+    folder: NameText,
+) -> Status {
+    let file = opened(rt, image.text());
+    let mut media = FileMedia::new(rt.alloc(), file);
+    let mut shade = FolderShade::new(rt, folder);
+    let mut out = StdSink::new(rt.stdout());
+    let me = Uuid::from_bytes(SYSTEM);
+    famfs_shadow(rt.alloc(), words, me, &mut media, &mut shade, &mut out)
+}
+
 /// Runs the command that the words name on the image that they name. Where the numbers of the standard streams can't be
 /// held, no image is opened, and the output counts as failed.
 fn run(rt: &HostRuntime, words: &Vec<String>) -> Result<Status, OutOfMemory> {
     let Some(_streams) = streams(rt) else {
         return Ok(Status::SinkFault);
     };
+    if let Some((image, folder)) = shadow_of(rt.alloc(), words)? {
+        return Ok(run_shadow(rt, words, image, folder));
+    }
     let file = match image_of(rt.alloc(), words)? {
         Some(name) => opened(rt, name.text()),
         None => None,

@@ -29,6 +29,7 @@ IsOrdinary status.MediaFault = ⊥
 IsOrdinary status.SourceFault = ⊥
 IsOrdinary status.SinkFault = ⊥
 IsOrdinary status.OutOfMemory = ⊥
+IsOrdinary status.ShadeFault = ⊥
 
 -- such a status; or a media fault, and then so many faults are told as are counted here
 abbrev IsTold : Status → ℕ → Type 0

@@ -1,0 +1,140 @@
+-- What is put of logplay with a folder for the tree's shadow, and what it leaves there. docs/MANUAL.md, "Shadows".
+use Rattle.std.specs.Prelude.{ℕ, ◌≡◌, ◌⊎◌, ◌≤◌, ◌++◌, List, [], ◌∷◌, codes, Option, Some, None, option_map, Result, Ok, Err, IfErr}
+use Rattle.std.specs.FinMap as map
+use Rattle.fam_base.specs.declared.cmd.Cmd.TheVariants as cmd
+use Rattle.fam_format.specs.Tree.{Tree}
+use Rattle.fam_grammar.specs.Scripts.{script_events}
+use Rattle.fam_rules.specs.Reply as reply
+use Rattle.fam_rules.specs.Reply.{Reply}
+use Rattle.fam_shadow.specs.declared.fault.ShadowFault.{ShadowFault}
+use Rattle.fam_shadow.specs.declared.fault.ShadowFault.TheVariants as fault
+use Rattle.fam_shadow.specs.Nodes.{Nodes}
+use Rattle.fam_shadow.specs.Shadows.{Becomes, FaultCaused, ShadowEnds}
+use Rattle.fam_sources.specs.Whole.{ShelfChange}
+use Rattle.fam_storm.specs.Storm.{storm}
+use Rattle.fam_journal.specs.declared.event.Ask.TheVariants as ask
+use Rattle.fam_journal.specs.declared.event.Event.{Event}
+use Rattle.fam_journal.specs.declared.status.Status.{Status}
+use Rattle.fam_journal.specs.declared.status.Status.TheVariants as status
+use Rattle.fam_journal.specs.Ends.{AllDone}
+use Rattle.fam_journal.specs.Notes.{Answer, Replied, MediaFault, Note, Host, Made, Start, Mark, Found, Writes, Answered, Stop, Halt, Refused}
+use Rattle.fam_journal.specs.Programs.{EndsEarly, IsWholeRun, OneShot, Runs, ShotRuns, Single, memory_line}
+use Rattle.fam_journal.specs.Runs.{IsPut, NoneFalls, Outside}
+use Rattle.fam_journal.specs.Texts.{line, number}
+use Rattle.fam_program.specs.Runs.{HasEnded}
+
+-- a shelf on which no file is, and which never fails
+abbrev pub no_files : ShelfChange
+no_files = record { files = Some map.empty; faults = 0; faults_now = 0; shorts = 0; shorts_now = 0 }
+
+-- a folder from one state to another: what stands there, where it is told, and its count of faults
+pub record ShadeChange : Type 0 where
+  pub nodes : Option Nodes
+  pub nodes_now : Option Nodes
+  pub faults : ℕ
+  pub faults_now : ℕ
+
+abbrev pub shade_changed : {D : Type 0} → (D → Option Nodes) → (D → ℕ) → D → D → ShadeChange
+shade_changed nodes faults old now = record { nodes = nodes old; nodes_now = nodes now; faults = faults old; faults_now = faults now }
+
+-- it is as it was
+abbrev pub IsUntouched : ShadeChange → Type 0
+IsUntouched s = s.nodes_now ≡ s.nodes
+
+-- the command that shows the tree
+abbrev pub logplay : OneShot
+logplay = Runs (ask.Plain cmd.Logplay)
+
+-- the tree that an answer shows, and how many of the log's entries it has
+abbrev pub replied_tree : Reply → Option (ℕ × Tree)
+replied_tree (reply.Appended seq) = None
+replied_tree (reply.NotAppended refused) = None
+replied_tree (reply.Played m tree) = Some (m, tree)
+replied_tree (reply.Same m) = None
+replied_tree (reply.Differs m offset found wanted) = None
+replied_tree (reply.Length m size wanted) = None
+replied_tree (reply.Bytes m bytes) = None
+replied_tree (reply.NotFound m) = None
+replied_tree (reply.IsDirectory m) = None
+replied_tree (reply.Checks m checked) = None
+replied_tree (reply.Reports report) = None
+replied_tree (reply.NoSuperblock fault) = None
+replied_tree (reply.BadHeader fault) = None
+replied_tree (reply.BadSlot seq reason) = None
+
+abbrev pub answered_tree : Answer → Option (ℕ × Tree)
+answered_tree (Replied given) = replied_tree given
+answered_tree (MediaFault at) = None
+
+-- that of a note
+abbrev pub tree_in : Note → Option (ℕ × Tree)
+tree_in (Host name uuid) = None
+tree_in (Made host p) = None
+tree_in (Start host cmd) = None
+tree_in (Mark host) = None
+tree_in (Found host n) = None
+tree_in (Writes host seq entry) = None
+tree_in (Answered host answer) = answered_tree answer
+tree_in (Stop host) = None
+tree_in (Halt host) = None
+tree_in (Refused name cause) = None
+
+-- that of the last note
+abbrev pub shown_tree : List Note → Option (ℕ × Tree)
+shown_tree [] = None
+shown_tree (note ∷ []) = tree_in note
+shown_tree (note ∷ next ∷ notes) = shown_tree (next ∷ notes)
+
+-- how the shadow was written, as a line. A name stands as it is, without further escapes
+abbrev pub shadow_text : ℕ → Result (Unit {0}) ShadowFault → List ℕ
+shadow_text m (Ok done) = line (codes "shadowed" ++ number m)
+shadow_text m (Err (fault.Clash name)) = line (codes "refused clash " ++ name)
+shadow_text m (Err (fault.ShadeFault name)) = line (codes "shade fault " ++ name)
+shadow_text m (Err fault.OutOfMemory) = memory_line
+
+abbrev pub shadow_status : Result (Unit {0}) ShadowFault → Status
+shadow_status (Ok done) = status.Done
+shadow_status (Err (fault.Clash name)) = status.Refused
+shadow_status (Err (fault.ShadeFault name)) = status.ShadeFault
+shadow_status (Err fault.OutOfMemory) = status.OutOfMemory
+
+-- the line is put, or that no memory is left for it
+abbrev pub ShadowSays : ℕ → Result (Unit {0}) ShadowFault → List ℕ → Status → Type 0
+ShadowSays m written text own = ((text ≡ shadow_text m written) × (own ≡ shadow_status written)) ⊎ ((text ≡ memory_line) × (own ≡ status.OutOfMemory))
+
+-- logplay showed a tree, whose shadow was written: the theorem of `shadow`
+pub record HasShadowed (me : List ℕ) (out : Outside) (shade : ShadeChange) (text : List ℕ) (own : Status) : Type 0 where
+  pub events : List Event
+  pub journal : List Note
+  pub ended : HasEnded AllDone out events journal
+  pub whole : IsWholeRun me logplay events journal
+  pub m : ℕ
+  pub tree : Tree
+  pub shown : shown_tree journal ≡ Some (m, tree)
+  pub written : Result (Unit {0}) ShadowFault
+  pub becomes : Becomes shade.nodes shade.nodes_now (ShadowEnds tree written)
+  pub caused : IfErr written (FaultCaused tree shade.faults shade.faults_now)
+  pub says : ShadowSays m written text own
+
+-- text and status are logplay's, which showed no tree
+pub record HasLogplayed (me : List ℕ) (out : Outside) (shade : ShadeChange) (text : List ℕ) (own : Status) : Type 0 where
+  pub runs : ShotRuns me logplay out text own
+  pub none : runs.ending ≡ AllDone → shown_tree runs.run.journal ≡ None
+  pub untouched : IsUntouched shade
+
+abbrev pub ShadowRuns : Option (List ℕ) → Outside → ShadeChange → List ℕ → Status → Type 0
+ShadowRuns None out shade text own = ⊥
+ShadowRuns (Some me) out shade text own = HasShadowed me out shade text own ⊎ HasLogplayed me out shade text own
+
+-- no event was run: the words ask for no shadow, or no memory was left
+pub record ShadowEarly (asked : Option (List ℕ)) (out : Outside) (shade : ShadeChange) (text : List ℕ) (own : Status) : Type 0 where
+  pub early : EndsEarly script_events storm (option_map (λ me. Single me logplay) asked) out text own
+  pub untouched : IsUntouched shade
+
+-- what is to be put, what of it is put, and what is left in the folder, for a host of this UUID; or the words ask for no shadow
+pub record ShadowTop (asked : Option (List ℕ)) (out : Outside) (shade : ShadeChange) (given : Status) : Type 0 where
+  pub text : List ℕ
+  pub own : Status
+  pub shows : ShadowEarly asked out shade text own ⊎ ShadowRuns asked out shade text own
+  pub later : NoneFalls out
+  pub put : IsPut own given text out

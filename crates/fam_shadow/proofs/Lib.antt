@@ -1,0 +1,6 @@
+pub mod OwnNames
+pub mod Maps
+pub mod Looks
+pub mod Puts
+pub mod Later
+pub mod Ends

@@ -1,0 +1,33 @@
+use Rattle.std.proofs.Common.{◌≡◌, ◌∷◌, [], List, Option, subst, sym, ◌∙◌, arith}
+use Rattle.std.specs.FinMap as map
+use Rattle.fam_base.specs.declared.entry.Entry.{Entry}
+use Rattle.fam_media.specs.Outside.{IfModelled}
+use Rattle.fam_tree.specs.Iter.{tree_iter_rest}
+use Rattle.fam_shadow.specs.Nodes.{Nodes}
+use Rattle.fam_shadow.specs.Passes.{AreSeen, first_met}
+use Rattle.fam_shadow.proofs.Looks.{more_seen}
+use Rattle.fam_shadow.proofs.OwnNames.{distinct}
+use Rattle.fam_shadow.proofs.passes.first_clash.Goals as goal
+
+pub loop-entry-preserved : goal.loop-entry-preserved
+loop-entry-preserved g c =
+    let entries : List Entry = map.values c.args.tree.now in
+    let held : Option Nodes = g.D.Shade.nodes c.args.shade.now in
+    let e : Entry = c.in-Some.entry.now in
+    let rest : List Entry = tree_iter_rest c.next.new.self in
+    let given : tree_iter_rest c.loop-entry.entry-iterator ≡ e ∷ rest = cc (c.in-Some.ensures.steps) in
+    let before : AreSeen entries (e ∷ rest) held c.loop-entry.first = subst (λ (l : List Entry). AreSeen entries l held c.loop-entry.first) given c.loop-entry.invariant.seen in
+    let met : IfModelled held (λ nodes. c.in_ok-met.met ≡ first_met (e ∷ []) nodes) =
+    subst (λ (o : Option Nodes). IfModelled o (λ nodes. c.in_ok-met.met ≡ first_met (e ∷ []) nodes)) c.loop-entry.invariant.same c.in_ok-met.ensures.met in
+    record {
+      seen = subst (AreSeen entries rest held) (sym c.or-first.ensures) (more_seen entries held e rest c.loop-entry.first c.in_ok-met.met before c.in_ok-met.ensures.path met);
+      same = c.in_ok-met.ensures.same ∙ c.loop-entry.invariant.same;
+      later = omega (arith, c.in_ok-met.ensures.later, c.loop-entry.invariant.later);
+    }
+
+pub returns-clause-distinct : goal.returns-clause-distinct
+returns-clause-distinct g c =
+    let entries : List Entry = map.values c.args.tree.now in
+    let done : tree_iter_rest c.loop-entry.entry-iterator ≡ [] = c.in-None.ensures.steps.0 in
+    let seen = subst (λ (l : List Entry). AreSeen entries l (g.D.Shade.nodes c.args.shade.now) c.loop-entry.first) done c.loop-entry.invariant.seen in
+    distinct entries (seen.proper tt) c.iter-entry-items.ensures.order

@@ -1,0 +1,4 @@
+pub mod Nodes
+pub mod Shadows
+pub mod Passes
+pub mod MemoryShade
