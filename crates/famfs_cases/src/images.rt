@@ -131,12 +131,7 @@ fn entry(alloc: Global, state: &mut State, words: &mut Words<'_>) -> Result<(), 
 }
 
 /// Puts the checksum of all words of some lines but the last one there, where the image has them.
-fn put_checksum(
-    alloc: Global,
-    media: &mut MemMedia,
-    first: u64,
-    count: u64,
-) -> Result<bool, Stop> {
+fn put_checksum(alloc: Global, media: &mut MemMedia, first: u64, count: u64) -> Result<bool, Stop> {
     let mut all = Vec::new(alloc);
     let mut last = [0; 8];
     for i in 0..count {

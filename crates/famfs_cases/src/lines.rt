@@ -38,7 +38,14 @@ pub fn source_lines(alloc: Global, text: &str) -> Result<Vec<SourceLine<'_>>, St
             continue;
         }
         let column = (whole.len().saturating_sub(text.len()) as u64).saturating_add(1);
-        if lines.push(SourceLine { number, column, text }).is_err() {
+        if lines
+            .push(SourceLine {
+                number,
+                column,
+                text,
+            })
+            .is_err()
+        {
             return Err(Stop::OutOfMemory);
         }
     }

@@ -33,11 +33,7 @@ enum Source {
 }
 
 /// The names up to the word that says where the values are.
-fn names(
-    alloc: Global,
-    words: &mut Words<'_>,
-    names: &mut Vec<Vec<u8>>,
-) -> Result<Source, Stop> {
+fn names(alloc: Global, words: &mut Words<'_>, names: &mut Vec<Vec<u8>>) -> Result<Source, Stop> {
     while let Some(word) = words.next() {
         match word.text {
             b"in" => return Ok(Source::Words),

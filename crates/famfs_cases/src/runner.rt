@@ -85,7 +85,11 @@ impl Runner {
 
     /// Puts the count of a text's bytes and their CRC-32.
     fn put_digest(&mut self) -> Result<(), Stop> {
-        put_number(self.alloc, &mut self.transcript, self.last.text.len() as u64)?;
+        put_number(
+            self.alloc,
+            &mut self.transcript,
+            self.last.text.len() as u64,
+        )?;
         put(&mut self.transcript, b" bytes crc ")?;
         let crc = crc_of(self.last.text.as_slice());
         put_number(self.alloc, &mut self.transcript, crc as u64)?;
@@ -121,7 +125,10 @@ impl Runner {
         }
         put(&mut self.transcript, statement)?;
         let feeds = self.last.text.iter().filter(|byte| **byte == b'\n').count();
-        put(&mut self.transcript, if feeds == 1 { b" = " } else { b" =\n" })?;
+        put(
+            &mut self.transcript,
+            if feeds == 1 { b" = " } else { b" =\n" },
+        )?;
         put(&mut self.transcript, self.last.text.as_slice())
     }
 
@@ -205,11 +212,7 @@ impl Runner {
     }
 
     /// A file of the shelf, whose text lines are in front, and how many they are.
-    fn add_file(
-        &mut self,
-        words: &mut Words<'_>,
-        behind: &[SourceLine<'_>],
-    ) -> Result<usize, Stop>
+    fn add_file(&mut self, words: &mut Words<'_>, behind: &[SourceLine<'_>]) -> Result<usize, Stop>
         ensures { IfOk result (λ count. count ≤ length behind.now) }
     {
         let word = words.expected()?;
@@ -300,11 +303,7 @@ impl Runner {
 
     /// Runs the loop whose body and `end` are in front, and answers how many lines these are.
     #[cycle(block)]
-    fn run_loop(
-        &mut self,
-        words: &mut Words<'_>,
-        behind: &[SourceLine<'_>],
-    ) -> Result<usize, Stop>
+    fn run_loop(&mut self, words: &mut Words<'_>, behind: &[SourceLine<'_>]) -> Result<usize, Stop>
         ensures { IfOk result (λ count. count ≤ length behind.now) }
     {
         let Some(end) = end_of_loop(behind) else {
@@ -351,7 +350,8 @@ impl Runner {
         for row in rows.values.chunks_exact(rows.names.len()) {
             self.values.truncate(outer);
             for (name, value) in rows.names.iter().zip(row) {
-                self.values.push(self.alloc, name.as_slice(), value.as_slice())?;
+                self.values
+                    .push(self.alloc, name.as_slice(), value.as_slice())?;
             }
             self.run_block(body)?;
             self.state = kept.copy(self.alloc)?;

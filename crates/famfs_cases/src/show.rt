@@ -90,5 +90,12 @@ pub fn put_changes(
     if let Some(first) = first {
         put_range(alloc, into, first, end)?;
     }
-    put(into, if into.len() == before { b" none\n" } else { b"\n" })
+    put(
+        into,
+        if into.len() == before {
+            b" none\n"
+        } else {
+            b"\n"
+        },
+    )
 }
