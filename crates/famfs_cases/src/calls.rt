@@ -1,0 +1,36 @@
+//! Calls of the program.
+
+use crate::bytes::copied;
+use crate::state::State;
+use crate::stop::Stop;
+use crate::words::Words;
+use fam_top::famfs;
+use std::alloc::Global;
+
+/// What came of a call: the text that it put, and its status.
+#[derive(Drop)]
+pub struct Outcome {
+    pub text: Vec<u8>,
+    pub status: u8,
+}
+
+/// Calls the program with the words that are left, on the image, the shelf and a new sink.
+pub fn call(alloc: Global, state: &mut State, words: &mut Words<'_>) -> Result<Outcome, Stop> {
+    let texts = words.texts(alloc)?;
+    let mut shelf = state.shelf(alloc)?;
+    let mut sink = state.sink(alloc)?;
+    state.plan_media()?;
+    let status = famfs(
+        alloc,
+        &texts,
+        state.host,
+        state.random,
+        &mut state.media,
+        &mut shelf,
+        &mut sink,
+    );
+    Ok(Outcome {
+        text: copied(alloc, sink.bytes())?,
+        status: status.number(),
+    })
+}
