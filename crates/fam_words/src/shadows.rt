@@ -47,10 +47,7 @@ fn behind(alloc: Global, words: &[String]) -> Result<Option<ShadowCall>, OutOfMe
 /// What the words after the program's name ask for, where that is the shadow of a tree, and `None` exactly where it
 /// isn't.
 #[tactic(auto, unfolding(crate::specs::Shadows::shadow_call))]
-pub fn read_shadow_words(
-    alloc: Global,
-    words: &[String],
-) -> Result<Option<ShadowCall>, OutOfMemory>
+pub fn read_shadow_words(alloc: Global, words: &[String]) -> Result<Option<ShadowCall>, OutOfMemory>
     ensures { IfOk result (λ call. call ≡ shadow_call (map string_bytes words.now)) }
 {
     let [first, rest @ ..] = words else {

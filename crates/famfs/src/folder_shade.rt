@@ -6,10 +6,9 @@ ghost use Rattle.fam_media.specs.Causes.{Rose};
 use fam_base::NameText;
 use fam_media::Failed;
 use fam_shadow::{Look, Shade, ShadeStop};
-use std::fs;
 use std::fs::{Metadata, OpenOptions};
-use std::io;
 use std::io::{ErrorKind, Write};
+use std::{fs, io};
 
 /// A folder of the system. It models nothing of what stands there, and counts its faults.
 ///

@@ -77,12 +77,7 @@ fn random(rt: &HostRuntime) -> [u8; 16] {
 }
 
 /// Writes the shadow of the image's tree into a folder.
-fn run_shadow(
-    rt: &HostRuntime,
-    words: &Vec<String>,
-    image: NameText,
-    folder: NameText,
-) -> Status {
+fn run_shadow(rt: &HostRuntime, words: &Vec<String>, image: NameText, folder: NameText) -> Status {
     let file = opened(rt, image.text());
     let mut media = FileMedia::new(rt.alloc(), file);
     let mut shade = FolderShade::new(rt, folder);
