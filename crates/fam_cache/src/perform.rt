@@ -16,8 +16,8 @@ use fam_media::Media;
 impl HostCache {
     /// Does an operation, and gives the word of a load. A Digest does nothing.
     ///
-    /// `MediaFault` names the operation's line, and of a Fence the first one that it couldn't send. `OutOfMemory` comes where an absent line is to be brought and there is
-    /// no room for it, and then nothing was done.
+    /// `MediaFault` names the operation's line, and of a Fence the first one that it couldn't send. `OutOfMemory` comes
+    /// where an absent line is to be brought and there is no room for it, and then nothing was done.
     #[inline(always)]
     pub fn perform<M: Media>(
         &mut self,

@@ -47,7 +47,8 @@ pub record Stops (host : ℕ) (old new : Hosts) : Type 0 where
   pub kept : (h : ℕ) → h ≢ host → new.kept h ≡ old.kept h
 
 -- what making a file system leaves of memory and of the maker's cache: the lines of superblock, header and gate, of
--- which the maker has no copy, and nothing to send that there wasn't before. Any other line of memory and of the maker's cache may be otherwise than before
+-- which the maker has no copy, and nothing to send that there wasn't before. Any other line of memory and of the
+-- maker's cache may be otherwise than before
 pub record Formats (maker : ℕ) (p : Params) (old new : SharedState) : Type 0 where
   pub magic : new.memory 0 ≡ magic_line
   pub first : new.memory 1 ≡ slice_range (super_words p) 0 line_words
