@@ -86,11 +86,14 @@ shown_tree (note ∷ []) = tree_in note
 shown_tree (note ∷ next ∷ notes) = shown_tree (next ∷ notes)
 
 -- how the shadow was written, as a line. A name stands as it is, without further escapes
+abbrev pub fault_text : ShadowFault → List ℕ
+fault_text (fault.Clash name) = line (codes "refused clash " ++ name)
+fault_text (fault.ShadeFault name) = line (codes "shade fault " ++ name)
+fault_text fault.OutOfMemory = memory_line
+
 abbrev pub shadow_text : ℕ → Result (Unit {0}) ShadowFault → List ℕ
 shadow_text m (Ok done) = line (codes "shadowed" ++ number m)
-shadow_text m (Err (fault.Clash name)) = line (codes "refused clash " ++ name)
-shadow_text m (Err (fault.ShadeFault name)) = line (codes "shade fault " ++ name)
-shadow_text m (Err fault.OutOfMemory) = memory_line
+shadow_text m (Err given) = fault_text given
 
 abbrev pub shadow_status : Result (Unit {0}) ShadowFault → Status
 shadow_status (Ok done) = status.Done

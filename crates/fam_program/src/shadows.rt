@@ -8,7 +8,7 @@ ghost use Rattle.fam_outcomes.specs.Answers.{answer_view};
 ghost use Rattle.fam_program.specs.Puts.{Put, sink_changed};
 ghost use Rattle.fam_program.specs.Runs.{outside_of};
 ghost use Rattle.fam_program.specs.Shadows as spec;
-ghost use Rattle.fam_program.specs.Shadows.{ShadowTop, no_files, shade_changed, shadow_status, shadow_text};
+ghost use Rattle.fam_program.specs.Shadows.{ShadowTop, fault_text, no_files, shade_changed, shadow_status, shadow_text};
 ghost use Rattle.fam_world.specs.View.{note_view, notes_view};
 
 use crate::lines::line_of;
@@ -99,6 +99,23 @@ fn done_tree<'a>(ended: &Result<(), EventFault>, notes: &'a [Note]) -> Option<(u
     }
 }
 
+/// Why a shadow isn't written whole, as a line.
+fn fault_line(alloc: Global, fault: &ShadowFault) -> Result<Vec<u8>, OutOfMemory>
+    ensures { IfOk result (λ bytes. bytes.items ≡ fault_text fault.now) }
+{
+    match fault {
+        ShadowFault::Clash(name) => {
+            let name = name.text();
+            line_of(alloc, format!(in alloc; "refused clash {name}"))
+        }
+        ShadowFault::ShadeFault(name) => {
+            let name = name.text();
+            line_of(alloc, format!(in alloc; "shade fault {name}"))
+        }
+        ShadowFault::OutOfMemory => line_of(alloc, format!(in alloc; "out of memory")),
+    }
+}
+
 /// How a shadow was written, as a line.
 fn shadow_line(
     alloc: Global,
@@ -109,15 +126,7 @@ fn shadow_line(
 {
     match written {
         Ok(()) => line_of(alloc, format!(in alloc; "shadowed {m}")),
-        Err(ShadowFault::Clash(name)) => {
-            let name = name.text();
-            line_of(alloc, format!(in alloc; "refused clash {name}"))
-        }
-        Err(ShadowFault::ShadeFault(name)) => {
-            let name = name.text();
-            line_of(alloc, format!(in alloc; "shade fault {name}"))
-        }
-        Err(ShadowFault::OutOfMemory) => line_of(alloc, format!(in alloc; "out of memory")),
+        Err(fault) => fault_line(alloc, fault),
     }
 }
 

@@ -63,4 +63,4 @@ returns-clause-ends g c =
     (c.run_until_stop-ended.ensures.same record { name = c.own_name-name.result; me = c.args.me; what = ask.Plain cmd.Logplay; events_are = c.in-Ok.ensures })
     (subst (λ (es : List Event). ShotEnded c.run_until_stop-ended.result out es journal) c.in-Ok.ensures (c.run_until_stop-ended.ensures.ended sink))
     (subst (λ (s : Status). ShotSays c.run_until_stop-ended.result s journal sink c.put_end.result) done c.put_end.ensures.says)
-    (subst (λ (j : List Note). OnOk c.run_until_stop-ended.result (shown_tree j ≡ None)) c.journal.ensures (c.in_default.ensures.none refl)) refl
+    (subst (λ (j : List Note). OnOk c.run_until_stop-ended.result (shown_tree j ≡ None)) c.journal.ensures (c.in_default-done_tree.ensures.none refl)) refl
