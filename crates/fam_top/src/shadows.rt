@@ -5,6 +5,7 @@ ghost use Rattle.fam_media.specs.Causes.{IsSteady};
 ghost use Rattle.fam_program.specs.Puts.{sink_changed};
 ghost use Rattle.fam_program.specs.Runs.{outside_of};
 ghost use Rattle.fam_program.specs.Shadows.{ShadowTop, no_files, shade_changed};
+ghost use Rattle.fam_words.specs.Shadows.{shadow_call};
 ghost use Rattle.fam_top.specs.Words.{shadow_host, shadow_named};
 
 use crate::top::host_or;
@@ -13,9 +14,16 @@ use fam_journal::Status;
 use fam_media::{Media, Sink};
 use fam_program::{put_memory, put_usage, write_shadow};
 use fam_shadow::Shade;
-use fam_words::read_shadow_words;
+use fam_words::{ShadowCall, read_shadow_words};
 use std::alloc::Global;
 use uuid::Uuid;
+
+/// What the words ask for, where that is the shadow of a tree.
+fn asked(alloc: Global, words: &Vec<String>) -> Result<Option<ShadowCall>, OutOfMemory>
+    ensures { IfOk result (λ call. call ≡ shadow_call (map string_bytes words.now.items)) }
+{
+    read_shadow_words(alloc, words.as_slice())
+}
 
 /// The image and the folder that the words name, and `None` exactly where they ask for no shadow.
 #[tactic(auto, unfolding(crate::specs::Words::shadow_named))]
@@ -25,7 +33,7 @@ pub fn shadow_of(
 ) -> Result<Option<(NameText, NameText)>, OutOfMemory>
     ensures { IfOk result (λ names. names ≡ shadow_named (map string_bytes words.now.items)) }
 {
-    match read_shadow_words(alloc, words.as_slice())? {
+    match asked(alloc, words)? {
         Some(call) => Ok(Some((call.image, call.folder))),
         None => Ok(None),
     }
@@ -52,7 +60,7 @@ pub fn famfs_shadow<M: Media, D: Shade, K: Sink>(
     ensures shade { D.faults shade.old ≤ D.faults shade.new }
     ensures sink { K.faults out.old ≤ K.faults out.new }
 {
-    match read_shadow_words(alloc, words.as_slice()) {
+    match asked(alloc, words) {
         Ok(Some(call)) => write_shadow(alloc, host_or(me, call.system), media, shade, out),
         Ok(None) => put_usage(out),
         Err(OutOfMemory) => put_memory(out),
