@@ -4,6 +4,7 @@
 
 mod bytes;
 mod calls;
+mod folder;
 mod images;
 mod leaves;
 mod lines;

@@ -56,6 +56,10 @@ fn fail(state: &mut State, words: &mut Words<'_>) -> Result<(), Stop> {
             let kept = words.number()?;
             state.fail_sink(call, kept)?;
         }
+        b"shade" => {
+            let kept = words.number()?;
+            state.folder.fail(call, kept)?;
+        }
         _ => return Err(words.bad(part.column)),
     }
     words.ended()

@@ -129,7 +129,7 @@ impl Runner {
             &mut self.transcript,
             if feeds == 1 { b" = " } else { b" =\n" },
         )?;
-        put(&mut self.transcript, self.last.text.as_slice())
+        self.put_text()
     }
 
     /// The last text becomes a file of the shelf.
@@ -200,6 +200,7 @@ impl Runner {
             b"mark" => self.mark(words),
             b"changes" => self.changes(words),
             b"show" => self.show(words, statement),
+            b"at" => self.at(words, statement),
             _ => {
                 if change_image(self.alloc, &mut self.state, name.text, words)?
                     || plan(self.alloc, &mut self.state, name.text, words)?
@@ -211,16 +212,49 @@ impl Runner {
         }
     }
 
-    /// A file of the shelf, whose text lines are in front, and how many they are.
-    fn add_file(&mut self, words: &mut Words<'_>, behind: &[SourceLine<'_>]) -> Result<usize, Stop>
-        ensures { IfOk result (λ count. count ≤ length behind.now) }
+    /// The name of a file whose text lines are in front, its bytes, and how many the lines are.
+    fn named_file(
+        &mut self,
+        words: &mut Words<'_>,
+        behind: &[SourceLine<'_>],
+    ) -> Result<(String, Vec<u8>, usize), Stop>
+        ensures { IfOk result (λ file. file.2 ≤ length behind.now) }
     {
         let word = words.expected()?;
         let name = words.text(self.alloc, word)?;
         words.ended()?;
         let (bytes, count) = text_in_front(self.alloc, &self.values, behind)?;
+        Ok((name, bytes, count))
+    }
+
+    /// A file of the shelf, and how many lines it has.
+    fn add_file(&mut self, words: &mut Words<'_>, behind: &[SourceLine<'_>]) -> Result<usize, Stop>
+        ensures { IfOk result (λ count. count ≤ length behind.now) }
+    {
+        let (name, bytes, count) = self.named_file(words, behind)?;
         self.state.add_file(name, bytes)?;
         Ok(count)
+    }
+
+    /// A file of the folder, and how many lines it has.
+    fn add_held(&mut self, words: &mut Words<'_>, behind: &[SourceLine<'_>]) -> Result<usize, Stop>
+        ensures { IfOk result (λ count. count ≤ length behind.now) }
+    {
+        let (name, bytes, count) = self.named_file(words, behind)?;
+        self.state.folder.hold(name, bytes)?;
+        Ok(count)
+    }
+
+    /// The bytes of a file of the folder.
+    fn at(&mut self, words: &mut Words<'_>, statement: &[u8]) -> Result<(), Stop> {
+        let word = words.expected()?;
+        let name = words.text(self.alloc, word)?;
+        words.ended()?;
+        let text = match self.state.folder.shade.at(name.as_str()) {
+            Some(bytes) => copied(self.alloc, bytes)?,
+            None => copied(self.alloc, b"none\n")?,
+        };
+        self.answer(statement, text)
     }
 
     /// Whether a line says `any` behind the status.
@@ -282,6 +316,7 @@ impl Runner {
         match name.text {
             b"each" => self.run_loop(&mut words, behind),
             b"file" => self.add_file(&mut words, behind),
+            b"held" => self.add_held(&mut words, behind),
             b"expect" => self.expect(line.number, &mut words, behind),
             _ => {
                 self.run_line(name, &mut words, text.as_slice())?;

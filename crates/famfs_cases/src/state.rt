@@ -1,6 +1,7 @@
-//! What a case has at hand: an image, files of the shelf, and the calls that are to fail.
+//! What a case has at hand: an image, files of the shelf, a folder, and the calls that are to fail.
 
 use crate::bytes::{copied, copied_text, push};
+use crate::folder::Folder;
 use crate::stop::Stop;
 use fam_base::{Line, LineNo, Mask};
 use fam_media::{Media, MemMedia, MemShelf, MemSink};
@@ -48,6 +49,7 @@ pub struct State {
     pub host: Uuid,
     pub random: [u8; 16],
     pub room: u64,
+    pub folder: Folder,
     files: Vec<File>,
     cuts: Vec<Cut>,
     media_failures: Vec<MediaFailure>,
@@ -114,6 +116,7 @@ impl State {
             host: Uuid::from_bytes(HOST),
             random: [0; 16],
             room: ROOM,
+            folder: Folder::new(alloc),
             files: Vec::new(alloc),
             cuts: Vec::new(alloc),
             media_failures: Vec::new(alloc),
@@ -122,7 +125,7 @@ impl State {
         })
     }
 
-    /// A copy, of which those calls are to fail that were planned behind the last run.
+    /// A copy, of which those calls are to fail that were planned behind the last run. Its folder has what it had at first.
     pub fn copy(&self, alloc: Global) -> Result<State, Stop> {
         let lines = self.media.lines();
         Ok(State {
@@ -130,6 +133,7 @@ impl State {
             host: self.host,
             random: self.random,
             room: self.room,
+            folder: self.folder.renewed(alloc)?,
             files: copied_files(alloc, &self.files)?,
             cuts: copied_cuts(alloc, &self.cuts)?,
             media_failures: Vec::from_slice(alloc, self.media_failures.as_slice())?,
