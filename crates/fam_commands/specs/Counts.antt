@@ -26,7 +26,7 @@ use Rattle.fam_commands.specs.Kept.{Kept, used}
 use Rattle.fam_commands.specs.Task.{no_params, size_of, wanted_lines}
 use Rattle.fam_commands.specs.Table.{fed_super, fed_gate, fed_slots, entries_read, params_or}
 
--- a line takes one operation for each of its words, and its invalidation or sending
+-- a line takes one operation for each of its words, and its invalidation or write-back
 abbrev pub line_steps : ℕ
 line_steps = line_words + 1
 

@@ -259,7 +259,7 @@ word_turn t part j k = if nat_lt k last_word then Goes (record t { phase = at.Wo
 
 -- Lines that are written.
 
--- the next word of the line, or its sending
+-- the next word of the line, or what sends it or asks for that
 abbrev pub store_or_send : ℕ → Phase → Phase → Phase
 store_or_send k store send = if nat_lt k last_word then store else send
 

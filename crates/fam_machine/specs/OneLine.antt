@@ -104,7 +104,7 @@ fetched mask memory (Dirty asked words) = Dirty asked words
 -- Memory's words after a send failed, of which those that `through` masks came through to it. None: nothing
 -- is sent, and so nothing fails. The copy is as before. A read that fails changes neither.
 
--- in a write-back, an invalidation or an eviction: each word is old or new
+-- in a fence, an invalidation or an eviction: each word is old or new
 abbrev pub failed_send : ℕ → List ℕ → Cell → Option (List ℕ)
 failed_send through memory Absent = None
 failed_send through memory (Clean words) = None

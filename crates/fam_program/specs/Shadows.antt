@@ -1,5 +1,5 @@
 -- What is put of logplay with a folder for the tree's shadow, and what it leaves there. docs/MANUAL.md, "Shadows".
-use Rattle.std.specs.Prelude.{ℕ, ◌≡◌, ◌⊎◌, ◌≤◌, ◌++◌, List, [], ◌∷◌, codes, Option, Some, None, option_map, Result, Ok, Err, IfErr}
+use Rattle.std.specs.Prelude.{ℕ, ◌≡◌, ◌⊎◌, ◌++◌, List, [], ◌∷◌, codes, Option, Some, None, option_map, Result, Ok, Err, IfErr}
 use Rattle.std.specs.FinMap as map
 use Rattle.fam_base.specs.declared.cmd.Cmd.TheVariants as cmd
 use Rattle.fam_format.specs.Tree.{Tree}
@@ -85,12 +85,13 @@ shown_tree [] = None
 shown_tree (note ∷ []) = tree_in note
 shown_tree (note ∷ next ∷ notes) = shown_tree (next ∷ notes)
 
--- how the shadow was written, as a line. A name stands as it is, without further escapes
+-- why the shadow wasn't written, as a line. A name stands as it is, without further escapes
 abbrev pub fault_text : ShadowFault → List ℕ
 fault_text (fault.Clash name) = line (codes "refused clash " ++ name)
 fault_text (fault.ShadeFault name) = line (codes "shade fault " ++ name)
 fault_text fault.OutOfMemory = memory_line
 
+-- how it was written, as a line
 abbrev pub shadow_text : ℕ → Result (Unit {0}) ShadowFault → List ℕ
 shadow_text m (Ok done) = line (codes "shadowed" ++ number m)
 shadow_text m (Err given) = fault_text given

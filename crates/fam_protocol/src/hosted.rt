@@ -36,7 +36,7 @@ pub fn a_host_acts_on_its_machine()
         → move_failed move line through m ≡ Some left → TransfersAt host line old new }
 {}
 
-/// A task's next operation, wherever it stands and whatever its command is, asks for a line of the image, or for none.
+/// A task's next operation, wherever it stands and whatever its command is, asks for lines of the image, or for none.
 pub fn a_task_asks_for_lines_of_the_image()
     ensures { (settled : Settled) (lines : ℕ) (hosts : Hosts) (s : SharedState) (host : ℕ) (r : Run) (m : Machine)
         → line_bytes * lines ≤ device_limit → Invariant settled lines hosts s → hosts.run host ≡ Some r

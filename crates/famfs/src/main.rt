@@ -115,6 +115,9 @@ fn run(rt: &HostRuntime, words: &Vec<String>) -> Result<Status, OutOfMemory> {
     Ok(status)
 }
 
+#[cfg(test)]
+mod tests;
+
 /// Does what the program's words say.
 fn ran(rt: &HostRuntime) -> Result<Status, OutOfMemory> {
     let words = given(rt)?;

@@ -1,4 +1,4 @@
-use Rattle.std.proofs.Common.{◌∙◌, ap, sym, Option, ℕ}
+use Rattle.std.proofs.Common.{◌∙◌, ap, sym}
 use Rattle.fam_notes.specs.declared.note.Note.{Note}
 use Rattle.fam_world.specs.View.{note_view}
 use Rattle.fam_program.specs.Shadows as spec

@@ -1,4 +1,4 @@
-use Rattle.std.proofs.Common.{◌≡◌, ◌∙◌, List, ℕ, Option, Some, None, ap, arith, option_map, refl, subst, sym}
+use Rattle.std.proofs.Common.{◌∙◌, List, ℕ, Option, Some, ap, arith, option_map, refl, subst, sym}
 use Rattle.fam_journal.specs.Runs.{NoneFalls, Outside}
 use Rattle.fam_program.specs.Puts.{sink_changed}
 use Rattle.fam_program.specs.Runs.{outside_of}

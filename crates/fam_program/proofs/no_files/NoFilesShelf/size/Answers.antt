@@ -1,4 +1,4 @@
-use Rattle.std.proofs.Common.{◌≡◌, ℕ, List, Option, None, length, ap, sym}
+use Rattle.std.proofs.Common.{◌≡◌, ℕ, List, None, length, ap, sym}
 use Rattle.std.specs.FinMap as map
 use Rattle.std.specs.FinMap.{get-empty}
 use Rattle.std.specs.Option.{option_map}
