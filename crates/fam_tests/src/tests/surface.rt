@@ -4,7 +4,7 @@ use fam_base::{Cmd, HostName, Params, Path};
 use fam_journal::{HostId, Refusal};
 use fam_media::MemMedia;
 use fam_super::{Role, role};
-use fam_world::{Moved, World, WorldFault};
+use fam_world::{World, WorldFault};
 use std::test::Fail;
 use uuid::Uuid;
 
@@ -37,13 +37,13 @@ fn a_world_tells_who_may_begin(rt: HostRuntime) -> Result<(), Fail> {
 }
 
 #[test]
-fn a_step_is_one_operation(rt: HostRuntime) -> Result<(), Fail> {
+fn a_step_of_nobody_is_refused(rt: HostRuntime) -> Result<(), Fail> {
     let mut media = MemMedia::new(rt.alloc(), LINES)?;
     let mut world = World::new(rt.alloc());
     let c = HostName::read(b"c")?;
-    assert!(rt; world.host(&c, Uuid::from_bytes([2; 16])).is_ok());
-    let idle = world.step(&mut media, &c);
-    assert!(rt; matches!(idle, Err(WorldFault::Refused(Refusal::Idle))));
+    let refused = world.step(&mut media, &c);
+    assert!(rt; matches!(refused, Err(WorldFault::Refused(Refusal::NoHost))));
+    assert_eq!(rt; world.journal().len(), 1);
     Ok(())
 }
 
