@@ -1,4 +1,5 @@
 //! Each test stands for calls that no command comes to.
 
+mod large;
 mod random;
 mod surface;

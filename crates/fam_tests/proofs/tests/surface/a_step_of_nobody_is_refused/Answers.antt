@@ -1,4 +1,3 @@
-use Rattle.std.proofs.Common.{◌≡◌}
 use Rattle.fam_tests.proofs.tests.surface.a_step_of_nobody_is_refused.Goals as goal
 
 -- there is no host
