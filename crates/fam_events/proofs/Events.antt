@@ -8,10 +8,10 @@ use Rattle.fam_base.specs.Image.{Image}
 use Rattle.fam_media.specs.Files.{Files}
 use Rattle.fam_media.specs.Outside.{IfModelled}
 use Rattle.fam_sources.specs.declared.sourced.SourceEnd.{SourceEnd}
-use Rattle.fam_sources.specs.Whole.{ShelfChange}
 use Rattle.fam_machine.specs.HostMoves.{Evict, Fetch, Leak}
 use Rattle.fam_base.specs.declared.line.LineNo.{LineNo}
 use Rattle.fam_base.specs.declared.line.Mask.{Mask}
+use Rattle.fam_media.specs.States.{ShelfChange}
 use Rattle.fam_journal.specs.declared.event.Ask.{Ask}
 use Rattle.fam_journal.specs.declared.event.Event.{Event}
 use Rattle.fam_journal.specs.declared.event.Event.TheVariants as event
@@ -46,7 +46,7 @@ use Rattle.fam_events.specs.Happens.{EventDone, EventEnded, EventPart, EventSays
 
 -- a form of notes that is as strong
 pub adds_as : (P Q : ℕ → List HostForm → List Note → Type 0) (a : Around) → ((lines : ℕ) (hosts : List HostForm) (notes : List Note) → P lines hosts notes → Q lines hosts notes) → AddsForm P a → AddsForm Q a
-adds_as P Q a weaker x = record { notes = x.notes; joined = x.joined; named = x.named; counted = x.counted; later = x.later; fits = x.fits; formed = x.formed; form = weaker a.lines (forms_of a.old.journal) x.notes x.form }
+adds_as P Q a weaker x = record { notes = x.notes; joined = x.joined; named = x.named; counted = x.counted; later = x.later; fits = x.fits; formed = x.formed; form = weaker a.media.old.size (forms_of a.old.journal) x.notes x.form }
 
 pub keeps_as : (P Q : Files → Session → List Note → Session → Type 0) (a : Around) → ((files : Files) (old : Session) (notes : List Note) (new : Session) → old.copied ≡ a.copied → P files old notes new → Q files old notes new) → Told (λ files start. Keeps (P files) start) a → Told (λ files start. Keeps (Q files) start) a
 keeps_as P Q a weaker x start files state files_are told_is held =

@@ -1,8 +1,8 @@
 -- What comes of telling a host to begin what it is asked for.
 use Rattle.std.specs.Prelude.{ℕ, ◌≡◌, List, [], length, None, Result, Ok, Err}
 use Rattle.fam_media.specs.Files.{Files}
+use Rattle.fam_media.specs.States.{ShelfChange}
 use Rattle.fam_sources.specs.Sourced.{HasEndCause}
-use Rattle.fam_sources.specs.Whole.{ShelfChange}
 use Rattle.fam_journal.specs.declared.event.Ask.{Ask}
 use Rattle.fam_journal.specs.declared.event.Event.TheVariants.{Begin}
 use Rattle.fam_journal.specs.Calls.{may_begin}
@@ -43,7 +43,7 @@ pub record AskBegun (name : List ℕ) (what : Ask) (a : Around) : Type 0 where
   pub keeps : Told (λ files start. Keeps (Starts name what a.copied_now files) start) a
   pub number : number_in name a.new ≡ number_in name a.old
   pub count_is : length a.new.hosts ≡ length a.old.hosts
-  pub runs : refusal_in (call.Finishes name) a.new a.lines ≡ None
+  pub runs : refusal_in (call.Finishes name) a.new a.media.old.size ≡ None
 
 -- nothing was done
 abbrev pub Nothing : Session → List Note → Session → Type 0

@@ -1,9 +1,9 @@
 -- What comes of an event, on every media and shelf, by how it ends.
 use Rattle.std.specs.Prelude.{ℕ, ◌≡◌, ◌⊎◌, List, [], Some, None, Result, Ok, Err}
 use Rattle.fam_media.specs.Files.{Files}
+use Rattle.fam_media.specs.States.{ShelfChange}
 use Rattle.fam_sources.specs.declared.sourced.SourceEnd.{SourceEnd}
 use Rattle.fam_sources.specs.Sourced.{HasEndCause, end_of}
-use Rattle.fam_sources.specs.Whole.{ShelfChange}
 use Rattle.fam_journal.specs.declared.event.Event.{Event}
 use Rattle.fam_journal.specs.Calls.{may_begin}
 use Rattle.fam_journal.specs.EventForms.{EventBreaksForm, EventForm, EventPartForm}

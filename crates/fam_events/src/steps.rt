@@ -6,7 +6,7 @@ ghost use Rattle.fam_journal.specs.declared.event.Event.TheVariants.{Step};
 ghost use Rattle.fam_journal.specs.CallRecords.{FitsMedia};
 ghost use Rattle.fam_journal.specs.Forms.{IsFormed};
 ghost use Rattle.fam_media.specs.Files.{Files};
-ghost use Rattle.fam_sources.specs.Whole.{ShelfChange};
+ghost use Rattle.fam_media.specs.States.{ShelfChange};
 ghost use Rattle.fam_events.specs.Around.{around};
 ghost use Rattle.fam_events.specs.Happens.{EventSays};
 
@@ -24,10 +24,10 @@ pub(crate) fn step<M: Media>(
 ) -> Result<(), EventFault>
     requires some { 0 < count }
     requires formed { IsFormed world.old }
-    requires fits { FitsMedia (M.size media.old) world.old.hosts }
+    requires fits { FitsMedia (M.state media.old).size world.old.hosts }
     ensures says { (shelf : ShelfChange) (files : Option Files) (copied : ℕ) → EventSays (Step name.now count) shelf
-        (around M.image M.size M.faults media.old media.new world.old world.new files copied copied) result }
-    ensures size { M.size media.new ≡ M.size media.old }
+        (around M.state media.old media.new world.old world.new files copied copied) result }
+    ensures size { (M.state media.new).size ≡ (M.state media.old).size }
 {
     match world.steps(media, name, count) {
         Ok(_) => Ok(()),

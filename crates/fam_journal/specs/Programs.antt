@@ -256,11 +256,11 @@ OfPrint (Some (Storm seed size true)) P = P seed size
 
 -- where the files are modelled, these are the script's bytes
 abbrev pub HoldsScript : Outside → List ℕ → List ℕ → Type 0
-HoldsScript out name bytes = IfModelled out.files (λ files. finmap.get files name ≡ Some bytes)
+HoldsScript out name bytes = IfModelled out.shelf.old.files (λ files. finmap.get files name ≡ Some bytes)
 
 -- where the files are modelled, the script has so many bytes
 abbrev pub HasSize : Outside → List ℕ → ℕ → Type 0
-HasSize out name size = IfModelled out.files (λ files. (bytes : List ℕ) × (finmap.get files name ≡ Some bytes) × (size ≡ length bytes))
+HasSize out name size = IfModelled out.shelf.old.files (λ files. (bytes : List ℕ) × (finmap.get files name ≡ Some bytes) × (size ≡ length bytes))
 
 -- a script that is short is no longer than a script may be: a longer one isn't read
 abbrev pub ScriptCaused : SourceEnd → Outside → List ℕ → Type 0
@@ -277,7 +277,7 @@ pub record HasBadLine (grammar : Grammar) (out : Outside) (name : List ℕ) (at 
 -- each of them has its cause. Memory may run out at any time
 abbrev pub IsEarly : Grammar → Storms → Option Command → Outside → Early → Type 0
 IsEarly grammar storms command out NoCommand = command ≡ None
-IsEarly grammar storms command out (NoScript own) = OfScript command (λ name. (own ≡ name) × IfModelled out.files (λ files. finmap.get files name ≡ None))
+IsEarly grammar storms command out (NoScript own) = OfScript command (λ name. (own ≡ name) × IfModelled out.shelf.old.files (λ files. finmap.get files name ≡ None))
 IsEarly grammar storms command out (LongScript size) = OfScript command (λ name. (script_limit < size) × HasSize out name size)
 IsEarly grammar storms command out (ScriptFails end) = OfScript command (ScriptCaused end out)
 IsEarly grammar storms command out (BadLine at column) = OfScript command (λ name. HasBadLine grammar out name at column)
@@ -290,13 +290,13 @@ pub record EndsEarly (grammar : Grammar) (storms : Storms) (command : Option Com
   pub is : IsEarly grammar storms command out early
   pub text_is : text ≡ early_text early
   pub status_is : own ≡ early_status early
-  pub same : out.image_now ≡ out.image
+  pub same : out.media.new.image ≡ out.media.old.image
 
 -- Runs.
 
 -- the image is as it was, where it and the files are modelled
 abbrev pub LeavesImage : Outside → Type 0
-LeavesImage out = IfModelled out.image (λ start. IfModelled out.files (λ files. out.image_now ≡ Some start))
+LeavesImage out = IfModelled out.media.old.image (λ start. IfModelled out.shelf.old.files (λ files. out.media.new.image ≡ Some start))
 
 -- so it is where a command says that no memory is left: an append has stored nothing then
 abbrev pub SparesImage : OneShot → Status → Outside → Type 0
@@ -312,7 +312,7 @@ pub record ShotRuns (me : List ℕ) (shot : OneShot) (out : Outside) (text : Lis
 
 -- where the sink tells its bytes, at least this text is put
 abbrev pub HasPut : Outside → List ℕ → Type 0
-HasPut out text = IfModelled out.bytes (λ old. IfModelled out.bytes_now (λ now. (more : List ℕ) × (now ≡ old ++ text ++ more)))
+HasPut out text = IfModelled out.sink.old.bytes (λ old. IfModelled out.sink.new.bytes (λ now. (more : List ℕ) × (now ≡ old ++ text ++ more)))
 
 -- each event's notes are put when it is done, and nothing is run behind a put that failed: so of the events that are done the
 -- notes are put, of all but the last one
@@ -328,7 +328,7 @@ PutsEach SinkFails files events old journal new follows out = HasPut out (render
 -- where image and files are modelled, the run that they tell puts so
 abbrev pub PutsTold : Ending → List Event → List Note → Outside → Type 0
 PutsTold ending events journal out =
-    IfModelled out.image (λ start. IfModelled out.files (λ files. (run : RunsOn ending files events start out.image_now journal) × PutsEach ending files events (first_session start) journal run.last run.follows out))
+    IfModelled out.media.old.image (λ start. IfModelled out.shelf.old.files (λ files. (run : RunsOn ending files events start out.media.new.image journal) × PutsEach ending files events (first_session start) journal run.last run.follows out))
 
 -- all events are done only where no put failed
 pub record ScriptRuns (grammar : Grammar) (name : List ℕ) (out : Outside) (given : Status) (text : List ℕ) (own : Status) : Type 0 where

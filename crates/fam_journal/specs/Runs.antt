@@ -5,6 +5,7 @@ use Rattle.fam_base.specs.declared.line.LineNo.{LineNo}
 use Rattle.fam_base.specs.Image.{Image}
 use Rattle.fam_media.specs.Files.{Files}
 use Rattle.fam_media.specs.Outside.{IfModelled, IsPartlyPut, with_piece}
+use Rattle.fam_media.specs.States.{MediaChange, ShelfChange, SinkChange}
 use Rattle.fam_journal.specs.declared.event.Event.{Event}
 use Rattle.fam_journal.specs.declared.event.Event.TheVariants as event
 use Rattle.fam_journal.specs.declared.refusal.Refusal.TheVariants as why
@@ -23,37 +24,25 @@ use Rattle.fam_journal.specs.Past.{past_of}
 abbrev pub HasRisen : ℕ → ℕ → Type 0
 HasRisen before now = min (before + 1) (2 ^ 64 - 1) ≤ now
 
--- what media, shelf and sink tell before and after a call of the program: an image, files and the bytes put, where they are modelled
--- them; and always how many lines the media has, how often each of them failed, and how often a source was short
+-- what media, shelf and sink tell before and after a call of the program
 pub record Outside : Type 0 where
-  pub lines : ℕ
-  pub image : Option Image
-  pub image_now : Option Image
-  pub faults : ℕ
-  pub faults_now : ℕ
-  pub files : Option Files
-  pub shelf : ℕ
-  pub shelf_now : ℕ
-  pub shorts : ℕ
-  pub shorts_now : ℕ
-  pub bytes : Option (List ℕ)
-  pub bytes_now : Option (List ℕ)
-  pub sink : ℕ
-  pub sink_now : ℕ
+  pub media : MediaChange
+  pub shelf : ShelfChange
+  pub sink : SinkChange
 
 -- counts never fall
 pub record NoneFalls (out : Outside) : Type 0 where
-  pub media : out.faults ≤ out.faults_now
-  pub shelf : out.shelf ≤ out.shelf_now
-  pub shorts : out.shorts ≤ out.shorts_now
-  pub sink : out.sink ≤ out.sink_now
+  pub media : out.media.old.faults ≤ out.media.new.faults
+  pub shelf : out.shelf.old.faults ≤ out.shelf.new.faults
+  pub shorts : out.shelf.old.shorts ≤ out.shelf.new.shorts
+  pub sink : out.sink.old.faults ≤ out.sink.new.faults
 
 -- none of them rose, and none stands at its last value
 pub record NoneRose (out : Outside) : Type 0 where
-  pub media : HasRisen out.faults out.faults_now → ⊥
-  pub shelf : HasRisen out.shelf out.shelf_now → ⊥
-  pub shorts : HasRisen out.shorts out.shorts_now → ⊥
-  pub sink : HasRisen out.sink out.sink_now → ⊥
+  pub media : HasRisen out.media.old.faults out.media.new.faults → ⊥
+  pub shelf : HasRisen out.shelf.old.faults out.shelf.new.faults → ⊥
+  pub shorts : HasRisen out.shelf.old.shorts out.shelf.new.shorts → ⊥
+  pub sink : HasRisen out.sink.old.faults out.sink.new.faults → ⊥
 
 -- Why a run ended early, on every media, shelf and sink.
 
@@ -84,8 +73,8 @@ pub record EndsBroken (events : List Event) (journal : List Note) : Type 0 where
 
 -- the shelf failed; or a source was short, so that fewer bytes came
 abbrev pub SourceCaused : SourceEnd → Outside → Type 0
-SourceCaused Faulted out = HasRisen out.shelf out.shelf_now
-SourceCaused (Short size got) out = HasRisen out.shorts out.shorts_now × (got < size)
+SourceCaused Faulted out = HasRisen out.shelf.old.faults out.shelf.new.faults
+SourceCaused (Short size got) out = HasRisen out.shelf.old.shorts out.shelf.new.shorts × (got < size)
 
 -- an early end has its cause: a note, or a count that rose. Memory may run out at any time
 abbrev pub IsCaused : Ending → List Event → List Note → Outside → Type 0
@@ -94,7 +83,7 @@ IsCaused MkfsFails events journal out = EndsBroken events journal
 IsCaused (SourceFails end) events journal out = SourceCaused end out
 IsCaused EndsOutOfMemory events journal out = ⊤
 IsCaused EndsOutOfMemoryBroken events journal out = EndsBroken events journal
-IsCaused SinkFails events journal out = HasRisen out.sink out.sink_now
+IsCaused SinkFails events journal out = HasRisen out.sink.old.faults out.sink.new.faults
 
 -- The run.
 
@@ -112,16 +101,16 @@ pub record RunsOn (ending : Ending) (files : Files) (events : List Event) (start
 pub record HasRun (puts : Ending → List Note → List ℕ → Type 0) (gives : Ending → List Note → Status) (ending : Ending) (out : Outside) (events : List Event) (text : List ℕ) (own : Status) : Type 0 where
   pub journal : List Note
   pub named : NameDeclared 0 journal
-  pub form : EndsForm ending out.lines events [] journal
-  pub counted : HasCounted out.faults out.faults_now journal
+  pub form : EndsForm ending out.media.old.size events [] journal
+  pub counted : HasCounted out.media.old.faults out.media.new.faults journal
   pub caused : IsCaused ending events journal out
   pub text_is : puts ending journal text
   pub status_is : own ≡ gives ending journal
-  pub told : IfModelled out.image (λ start. IfModelled out.files (λ files. RunsOn ending files events start out.image_now journal))
+  pub told : IfModelled out.media.old.image (λ start. IfModelled out.shelf.old.files (λ files. RunsOn ending files events start out.media.new.image journal))
 
 -- What is put.
 
 -- the text is put whole, and the status is its own; or the sink failed, its count rose, and a prefix of the text is put
 pub record IsPut (own given : Status) (text : List ℕ) (out : Outside) : Type 0 where
-  pub outcome : ((given ≡ own) × (out.bytes_now ≡ option_map (with_piece text) out.bytes)) ⊎ ((given ≡ status.SinkFault) × IsPartlyPut out.bytes out.bytes_now text)
-  pub rose : given ≡ status.SinkFault → HasRisen out.sink out.sink_now
+  pub outcome : ((given ≡ own) × (out.sink.new.bytes ≡ option_map (with_piece text) out.sink.old.bytes)) ⊎ ((given ≡ status.SinkFault) × IsPartlyPut out.sink.old.bytes out.sink.new.bytes text)
+  pub rose : given ≡ status.SinkFault → HasRisen out.sink.old.faults out.sink.new.faults

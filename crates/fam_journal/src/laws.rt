@@ -161,12 +161,12 @@ pub fn a_text_only_grows()
 /// shorts; the sink's. So it is on every media, shelf and sink, whatever they tell.
 pub fn a_status_has_its_cause()
     ensures media { (grammar : Grammar) (storms : Storms) (command : Option Command) (out : Outside) (given : Status)
-        → TopEnds grammar storms command out given → given ≡ MediaFault → HasRisen out.faults out.faults_now }
+        → TopEnds grammar storms command out given → given ≡ MediaFault → HasRisen out.media.old.faults out.media.new.faults }
     ensures source { (grammar : Grammar) (storms : Storms) (command : Option Command) (out : Outside) (given : Status)
         → TopEnds grammar storms command out given → given ≡ SourceFault
-        → HasRisen out.shelf out.shelf_now ⊎ HasRisen out.shorts out.shorts_now }
+        → HasRisen out.shelf.old.faults out.shelf.new.faults ⊎ HasRisen out.shelf.old.shorts out.shelf.new.shorts }
     ensures sink { (grammar : Grammar) (storms : Storms) (command : Option Command) (out : Outside) (given : Status)
-        → TopEnds grammar storms command out given → given ≡ SinkFault → HasRisen out.sink out.sink_now }
+        → TopEnds grammar storms command out given → given ≡ SinkFault → HasRisen out.sink.old.faults out.sink.new.faults }
 {}
 
 /// Where no count rose, of media, shelf and sink, events are all done, each with its answer by the rules, or there was
@@ -175,12 +175,12 @@ pub fn a_status_has_its_cause()
 /// or that (`storm`).
 pub fn a_run_without_faults_is_complete()
     ensures run { (out : Outside) (ending : Ending) (journal : List Note) (files : Files) (events : List Event) (start : Image)
-        → NoneRose out → IsImage start → AreSound events → HasCounted out.faults out.faults_now journal
-        → IsCaused ending events journal out → RunsOn ending files events start out.image_now journal
+        → NoneRose out → IsImage start → AreSound events → HasCounted out.media.old.faults out.media.new.faults journal
+        → IsCaused ending events journal out → RunsOn ending files events start out.media.new.image journal
         → ((ending ≡ AllDone) × IsComplete files events start journal) ⊎ (ending ≡ EndsOutOfMemory) }
     ensures script { (grammar : Grammar) (storms : Storms) (out : Outside) (given : Status) (name : List ℕ) (files : Files)
         (bytes : List ℕ) (events : List Event) → NoneRose out → TopEnds grammar storms (Some (Script name)) out given
-        → out.files ≡ Some files → finmap.get files name ≡ Some bytes → length bytes ≤ script_limit → grammar bytes ≡ Ok events
+        → out.shelf.old.files ≡ Some files → finmap.get files name ≡ Some bytes → length bytes ≤ script_limit → grammar bytes ≡ Ok events
         → (given ≡ Done) ⊎ (given ≡ Refused) ⊎ (given ≡ OutOfMemory) }
     ensures storm { (grammar : Grammar) (storms : Storms) (out : Outside) (given : Status) (seed size : ℕ)
         → NoneRose out → TopEnds grammar storms (Some (Storm seed size false)) out given

@@ -21,24 +21,24 @@ pub struct FailedAt(pub LineNo);
 
 /// Does an operation at one line, where the cache has room for the line that it brings.
 fn operate<M: Media>(cache: &mut HostCache, media: &mut M, op: Op) -> Result<Option<u64>, FailedAt>
-    requires within { IsWithin (M.size media.old) op }
+    requires within { IsWithin (M.state media.old).size op }
     requires one { IsOneLine op }
     requires room { ¬ (BringsNone op cache.old.lines) → 0 < cache.old.spare }
 
     ensures done { OnOk result (AreDone (op ∷ [])
-        (over (M.image media.old) cache.old.lines) (over (M.image media.new) cache.new.lines)) }
+        (over (M.state media.old).image cache.old.lines) (over (M.state media.new).image cache.new.lines)) }
     ensures cut { IfErr result (λ at. AreCut (op ∷ []) at.0
-        (over (M.image media.old) cache.old.lines) (over (M.image media.new) cache.new.lines)) }
-    ensures cache { OnOk result (LeavesCache op (M.image media.old) cache.old.lines cache.new.lines) }
+        (over (M.state media.old).image cache.old.lines) (over (M.state media.new).image cache.new.lines)) }
+    ensures cache { OnOk result (LeavesCache op (M.state media.old).image cache.old.lines cache.new.lines) }
     ensures word { IfOk result (λ word. word ≡ word_of op cache.new.lines) }
     ensures others { (other : ℕ) → op_line op ≢ Some (line_no other)
         → cell_at cache.new.lines other ≡ cell_at cache.old.lines other }
     ensures spare { cache.old.spare ≤ cache.new.spare + 1 }
     ensures held_spare { BringsNone op cache.old.lines → cache.old.spare ≤ cache.new.spare }
     ensures err_spare { OnErr result (cache.old.spare ≤ cache.new.spare) }
-    ensures within { IfErr result (λ at. at.0.0 < M.size media.old) }
-    ensures rose { OnErr result (Rose (M.faults media.old) (M.faults media.new)) }
-    ensures steady { IsSteady M.size M.faults media.old media.new }
+    ensures within { IfErr result (λ at. at.0.0 < (M.state media.old).size) }
+    ensures rose { OnErr result (Rose (M.state media.old).faults (M.state media.new).faults) }
+    ensures steady { IsSteady (M.state media.old) (M.state media.new) }
 {
     match cache.perform(media, op) {
         Ok(word) => Ok(word),
@@ -53,22 +53,22 @@ pub(crate) fn read_line<M: Media>(
     media: &mut M,
     line: LineNo,
 ) -> Result<Line, FailedAt>
-    requires within { line.0 < M.size media.old }
+    requires within { line.0 < (M.state media.old).size }
     requires room { 0 < cache.old.spare }
 
     ensures done { OnOk result (AreDone (load_ops line.0 8)
-        (over (M.image media.old) cache.old.lines) (over (M.image media.new) cache.new.lines)) }
+        (over (M.state media.old).image cache.old.lines) (over (M.state media.new).image cache.new.lines)) }
     ensures cut { IfErr result (λ at. AreCut (load_ops line.0 8) at.0
-        (over (M.image media.old) cache.old.lines) (over (M.image media.new) cache.new.lines)) }
+        (over (M.state media.old).image cache.old.lines) (over (M.state media.new).image cache.new.lines)) }
     ensures words { IfOk result
         (λ words. words ≡ eight (words_of (cell_at cache.new.lines line.0))) }
     ensures held { OnOk result (IsHeld (cell_at cache.new.lines line.0)) }
     ensures others { (other : ℕ) → other ≢ line.0
         → cell_at cache.new.lines other ≡ cell_at cache.old.lines other }
     ensures spare { cache.old.spare ≤ cache.new.spare + 1 }
-    ensures within { IfErr result (λ at. at.0.0 < M.size media.old) }
-    ensures rose { OnErr result (Rose (M.faults media.old) (M.faults media.new)) }
-    ensures steady { IsSteady M.size M.faults media.old media.new }
+    ensures within { IfErr result (λ at. at.0.0 < (M.state media.old).size) }
+    ensures rose { OnErr result (Rose (M.state media.old).faults (M.state media.new).faults) }
+    ensures steady { IsSteady (M.state media.old) (M.state media.new) }
 {
     operate(cache, media, Op::Invalidate(line))?;
     let mut words = [0; 8];
@@ -86,21 +86,21 @@ pub(crate) fn write_line<M: Media>(
     line: LineNo,
     words: &Line,
 ) -> Result<(), FailedAt>
-    requires within { line.0 < M.size media.old }
+    requires within { line.0 < (M.state media.old).size }
     requires room { ¬ (IsHeld (cell_at cache.old.lines line.0)) → 0 < cache.old.spare }
 
     ensures done { OnOk result (AreDone (put_ops (line.0, words.now))
-        (over (M.image media.old) cache.old.lines) (over (M.image media.new) cache.new.lines)) }
+        (over (M.state media.old).image cache.old.lines) (over (M.state media.new).image cache.new.lines)) }
     ensures cut { IfErr result (λ at. AreCut (put_ops (line.0, words.now)) at.0
-        (over (M.image media.old) cache.old.lines) (over (M.image media.new) cache.new.lines)) }
+        (over (M.state media.old).image cache.old.lines) (over (M.state media.new).image cache.new.lines)) }
     ensures others { (other : ℕ) → other ≢ line.0
         → cell_at cache.new.lines other ≡ cell_at cache.old.lines other }
     ensures spare { cache.old.spare ≤ cache.new.spare + 1 }
     ensures held_spare { IsHeld (cell_at cache.old.lines line.0)
         → cache.old.spare ≤ cache.new.spare }
-    ensures within { IfErr result (λ at. at.0.0 < M.size media.old) }
-    ensures rose { OnErr result (Rose (M.faults media.old) (M.faults media.new)) }
-    ensures steady { IsSteady M.size M.faults media.old media.new }
+    ensures within { IfErr result (λ at. at.0.0 < (M.state media.old).size) }
+    ensures rose { OnErr result (Rose (M.state media.old).faults (M.state media.new).faults) }
+    ensures steady { IsSteady (M.state media.old) (M.state media.new) }
 {
     for word in 0..8 {
         operate(cache, media, Op::Store(line, word, words[word as usize]))?;

@@ -189,7 +189,7 @@ module _ (name me : List ℕ) (shot : OneShot) (out : Outside) (journal : List N
   -- at least the host is declared
   none_done : (x : HasStopped out all journal) → x.count ≡ 0 → ⊥
   none_done x is =
-      let none : journal ≡ [] = subst (λ (k : ℕ). FollowsForm out.lines (take k all) [] journal) is x.ended.form in
+      let none : journal ≡ [] = subst (λ (k : ℕ). FollowsForm out.media.old.size (take k all) [] journal) is x.ended.form in
       let same : [] ≡ all = ap (λ (k : ℕ). take k all) (sym is) ∙ x.all (ap last_stops none) in
       absurd cc
 
@@ -251,8 +251,8 @@ module _ (name me : List ℕ) (out : Outside) (journal : List Note) where
       by_stop : (t : Bool) → last_stops journal ≡ t → last_passes ends_command journal ≡ true
       by_stop true is = stopped_end journal is
       by_stop false is =
-          behind_first ends_command (event.Host name me) (event.Run name what ∷ []) out.lines [] journal (λ hosts notes f. runs_end name (λ (w : Ask). w) what [] out.lines hosts notes f)
-          (subst (λ (es : List Event). FollowsForm out.lines es [] journal) (x.all is) x.ended.form)
+          behind_first ends_command (event.Host name me) (event.Run name what ∷ []) out.media.old.size [] journal (λ hosts notes f. runs_end name (λ (w : Ask). w) what [] out.media.old.size hosts notes f)
+          (subst (λ (es : List Event). FollowsForm out.media.old.size es [] journal) (x.all is) x.ended.form)
 
   module _ (fs : List ℕ) (unit log : ℕ) (force : Bool) where
     abbrev makes : OneShot
@@ -261,12 +261,12 @@ module _ (name me : List ℕ) (out : Outside) (journal : List Note) where
     mkfs_ends : HasStopped out (alone_events name me makes) journal → last_passes ends_mkfs journal ≡ true
     mkfs_ends x = by_count x.count refl
       where
-        form_at : (k : ℕ) → x.count ≡ k → FollowsForm out.lines (take k (alone_events name me makes)) [] journal
-        form_at k is = subst (λ (n : ℕ). FollowsForm out.lines (take n (alone_events name me makes)) [] journal) is x.ended.form
+        form_at : (k : ℕ) → x.count ≡ k → FollowsForm out.media.old.size (take k (alone_events name me makes)) [] journal
+        form_at k is = subst (λ (n : ℕ). FollowsForm out.media.old.size (take n (alone_events name me makes)) [] journal) is x.ended.form
 
         -- the host alone was declared: that was refused
         by_stop : (t : Bool) → last_stops journal ≡ t → x.count ≡ 1 → last_passes ends_mkfs journal ≡ true
-        by_stop true stops is = host_end ends_mkfs name me out.lines journal (λ cause. refl) stops (form_at 1 is)
+        by_stop true stops is = host_end ends_mkfs name me out.media.old.size journal (λ cause. refl) stops (form_at 1 is)
         by_stop false goes is =
             let same : event.Host name me ∷ [] ≡ alone_events name me makes = ap (λ (n : ℕ). take n (alone_events name me makes)) (sym is) ∙ x.all goes in
             absurd cc
@@ -275,8 +275,8 @@ module _ (name me : List ℕ) (out : Outside) (journal : List Note) where
         by_count zero is = absurd (none_done name me makes out journal x is)
         by_count (suc zero) is = by_stop (last_stops journal) refl is
         by_count (suc (suc k)) is =
-            behind_first ends_mkfs (event.Host name me) (event.Mkfs name fs unit log force ∷ []) out.lines [] journal (mkfs_end name fs unit log force out.lines)
-            (subst (λ (es : List Event). FollowsForm out.lines (event.Host name me ∷ event.Mkfs name fs unit log force ∷ es) [] journal) (take_none k) (form_at (suc (suc k)) is))
+            behind_first ends_mkfs (event.Host name me) (event.Mkfs name fs unit log force ∷ []) out.media.old.size [] journal (mkfs_end name fs unit log force out.media.old.size)
+            (subst (λ (es : List Event). FollowsForm out.media.old.size (event.Host name me ∷ event.Mkfs name fs unit log force ∷ es) [] journal) (take_none k) (form_at (suc (suc k)) is))
 
   shot_ends : (shot : OneShot) → HasStopped out (alone_events name me shot) journal → last_passes (ends_shot shot) journal ≡ true
   shot_ends (Makes fs unit log force) x = mkfs_ends fs unit log force x

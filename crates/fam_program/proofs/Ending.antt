@@ -6,10 +6,10 @@ use Rattle.fam_base.specs.Image.{Image}
 use Rattle.fam_media.specs.Causes.{Rose}
 use Rattle.fam_media.specs.Files.{Files}
 use Rattle.fam_media.specs.Outside.{IfModelled}
+use Rattle.fam_media.specs.States.{ShelfChange}
 use Rattle.fam_sources.specs.declared.sourced.SourceEnd.{SourceEnd}
 use Rattle.fam_sources.specs.declared.sourced.SourceEnd.TheVariants.{Faulted, Short}
 use Rattle.fam_sources.specs.Sourced.{HasEndCause, end_of}
-use Rattle.fam_sources.specs.Whole.{ShelfChange}
 use Rattle.fam_journal.specs.declared.event.Event.{Event}
 use Rattle.fam_journal.specs.declared.event.Event.TheVariants as event
 use Rattle.fam_journal.specs.Ends.{AllDone, EndsOutOfMemory, EndsOutOfMemoryBroken, HasCounted, MkfsFails, SinkFails, SourceFails}
@@ -43,10 +43,10 @@ out_of b n shelf sink sink_now bytes bytes_now = record {
   faults = b.faults;
   faults_now = n.faults;
   files = b.files;
-  shelf = shelf.faults;
-  shelf_now = shelf.faults_now;
-  shorts = shelf.shorts;
-  shorts_now = shelf.shorts_now;
+  shelf = shelf.old.faults;
+  shelf_now = shelf.new.faults;
+  shorts = shelf.old.shorts;
+  shorts_now = shelf.new.shorts;
   bytes = bytes;
   bytes_now = bytes_now;
   sink = sink;
@@ -192,8 +192,8 @@ module _ (b : Base) (count : ℕ) (n m : Now) (far : Far b count n) (e : Event) 
 
   -- its source ended early
   source_caused : (end : SourceEnd) → HasEndCause shelf end → SourceCaused (end_of end) end_out
-  source_caused Faulted cause = risen shelf.faults shelf.faults_now cause
-  source_caused (Short size got) cause = (risen shelf.shorts shelf.shorts_now cause.0, cause.1)
+  source_caused Faulted cause = risen shelf.old.faults shelf.new.faults cause
+  source_caused (Short size got) cause = (risen shelf.old.shorts shelf.new.shorts cause.0, cause.1)
 
   pub source_ended : (end : SourceEnd) → EventEnded e end a → HasEndCause shelf end → HasEnded (SourceFails (end_of end)) end_out b.events m.world.journal
   source_ended end x cause = record {

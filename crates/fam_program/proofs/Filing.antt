@@ -1,8 +1,8 @@
 -- The script of a file: what isn't run, and a run behind the reading.
 use Rattle.std.proofs.Common.{◌≡◌, ℕ, ◌≤◌, inl, inr, List, [], Option, Some, refl, sym, ◌∙◌, arith}
 use Rattle.fam_base.specs.Image.{Image}
+use Rattle.fam_media.specs.States.{ShelfChange, SinkChange}
 use Rattle.fam_sources.specs.declared.sourced.SourceEnd.TheVariants as end
-use Rattle.fam_sources.specs.Whole.{ShelfChange}
 use Rattle.fam_journal.specs.declared.event.Event.{Event}
 use Rattle.fam_journal.specs.declared.status.Status.{Status}
 use Rattle.fam_journal.specs.Ends.{AllDone, Ending, EndsOutOfMemory, EndsOutOfMemoryBroken, MkfsFails, SinkFails, SourceFails}
@@ -15,7 +15,7 @@ use Rattle.fam_storm.specs.Storm.{storm}
 use Rattle.fam_program.specs.declared.fault.ScriptFault.{ScriptFault}
 use Rattle.fam_program.specs.declared.fault.ScriptFault.TheVariants.{BadLine, Ended, NoFile, OutOfMemory, TooLong}
 use Rattle.fam_program.specs.Files.{HoldsEvents, IsUnread, PutsEarly, early_of}
-use Rattle.fam_program.specs.Puts.{Put, SinkChange}
+use Rattle.fam_program.specs.Puts.{Put}
 use Rattle.fam_program.specs.Scripts.{ScriptRan}
 use Rattle.fam_program.proofs.Ending.{risen}
 use Rattle.fam_program.proofs.Putting.{IsOwn, nothing_put, put_both}
@@ -29,22 +29,22 @@ module _ (shelf : ShelfChange) (s : SinkChange) (name : List ℕ) (lines faults 
     image_now = image;
     faults = faults;
     faults_now = faults;
-    files = shelf.files;
-    shelf = shelf.faults;
-    shelf_now = shelf.faults_now;
-    shorts = shelf.shorts;
-    shorts_now = shelf.shorts_now;
-    bytes = s.bytes;
-    bytes_now = s.bytes_now;
-    sink = s.faults;
-    sink_now = s.faults_now;
+    files = shelf.old.files;
+    shelf = shelf.old.faults;
+    shelf_now = shelf.new.faults;
+    shorts = shelf.old.shorts;
+    shorts_now = shelf.new.shorts;
+    bytes = s.old.bytes;
+    bytes_now = s.new.bytes;
+    sink = s.old.faults;
+    sink_now = s.new.faults;
   }
 
   early_is : (fault : ScriptFault) → IsUnread shelf name fault → IsEarly script_events storm (Some (Script name)) unrun (early_of name fault)
   early_is NoFile none = (refl, none)
   early_is (TooLong size) long = long
-  early_is (Ended end.Faulted) x = risen shelf.faults shelf.faults_now x.0
-  early_is (Ended (end.Short size got)) x = ((risen shelf.shorts shelf.shorts_now x.0.0, x.0.1), x.1.0, x.1.1)
+  early_is (Ended end.Faulted) x = risen shelf.old.faults shelf.new.faults x.0
+  early_is (Ended (end.Short size got)) x = ((risen shelf.old.shorts shelf.new.shorts x.0.0, x.0.1), x.1.0, x.1.1)
   early_is (BadLine line column) x = record { bytes = x.bytes; holds = x.holds.1; within = x.holds.0; bad = x.bad }
   early_is OutOfMemory x = tt
 
@@ -62,7 +62,7 @@ module _ (shelf : ShelfChange) (s : SinkChange) (name : List ℕ) (lines faults 
       own = early_status early;
       shows = inl record { early = early; is = is; text_is = refl; status_is = refl; same = refl };
       later = falls;
-      put = put_both unrun [] (early_text early) s refl refl (omega arith) (nothing_put s.bytes) (early_status early) given own put;
+      put = put_both unrun [] (early_text early) s refl refl (omega arith) (nothing_put s.old.bytes) (early_status early) given own put;
     }
 
     pub early_ends : (fault : ScriptFault) → IsUnread shelf name fault → PutsEarly (early_of name fault) s given → TopEnds script_events storm (Some (Script name)) unrun given
@@ -70,7 +70,7 @@ module _ (shelf : ShelfChange) (s : SinkChange) (name : List ℕ) (lines faults 
     early_ends fault unread (inr put) = early_top EarlyOutOfMemory (early_own OutOfMemory) tt put
 
 -- A run, from before the shelf's reading: its counts were no higher then.
-module _ (out : Outside) (shelf shorts : ℕ) (shelf_before : shelf ≤ out.shelf) (shorts_before : shorts ≤ out.shorts) where
+module _ (out : Outside) (shelf shorts : ℕ) (shelf_before : shelf ≤ out.shelf.old.faults) (shorts_before : shorts ≤ out.shelf.old.shorts) where
   abbrev before : Outside
   before = record out { shelf = shelf; shorts = shorts }
 
@@ -112,7 +112,7 @@ module _ (out : Outside) (shelf shorts : ℕ) (shelf_before : shelf ≤ out.shel
   }
 
 -- the run of a script's events
-pub script_ends : (shelf : ShelfChange) (name : List ℕ) (out : Outside) (events : List Event) (given : Status) → out.files ≡ shelf.files → HoldsEvents shelf name events → NoneFalls out → ScriptRan events out given → TopEnds script_events storm (Some (Script name)) out given
+pub script_ends : (shelf : ShelfChange) (name : List ℕ) (out : Outside) (events : List Event) (given : Status) → out.shelf.old.files ≡ shelf.old.files → HoldsEvents shelf name events → NoneFalls out → ScriptRan events out given → TopEnds script_events storm (Some (Script name)) out given
 script_ends shelf name out events given files_are holds falls x = record {
   text = x.text;
   own = x.own;

@@ -4,13 +4,14 @@ use Rattle.std.proofs.lemmas.List.{append-nil, append_assoc, length-append, take
 use Rattle.std.proofs.lemmas.Option.{same_Some}
 use Rattle.fam_media.specs.Causes.{Rose}
 use Rattle.fam_media.specs.Outside.{IsPartlyPut, with_piece}
+use Rattle.fam_media.specs.States.{SinkChange}
 use Rattle.fam_journal.specs.declared.status.Status.{Status}
 use Rattle.fam_journal.specs.declared.status.Status.TheVariants as status
 use Rattle.fam_journal.specs.Notes.{Note}
 use Rattle.fam_journal.specs.Programs.{HasPut, memory_line}
 use Rattle.fam_journal.specs.Runs.{HasRisen, IsPut, Outside}
 use Rattle.fam_journal.specs.Texts.{render_behind}
-use Rattle.fam_program.specs.Puts.{Put, PutPart, PutShort, PutSome, PutWhole, SinkChange}
+use Rattle.fam_program.specs.Puts.{Put, PutPart, PutShort, PutSome, PutWhole}
 use Rattle.fam_program.proofs.Turning.{rose_more}
 
 -- a piece behind another
@@ -43,7 +44,7 @@ part_longer a more s x = record {
   part = record {
     kept = x.part.kept;
     fits = let sum = length-append a more in let fits = x.part.fits in omega (arith, sum, fits);
-    put = x.part.put ∙ ap (λ (t : List ℕ). option_map (with_piece t) s.bytes) (sym (take-append-le x.part.kept a more x.part.fits));
+    put = x.part.put ∙ ap (λ (t : List ℕ). option_map (with_piece t) s.old.bytes) (sym (take-append-le x.part.kept a more x.part.fits));
   };
   rose = x.rose;
 }
@@ -93,31 +94,31 @@ short_some names notes bytes mid now faults faults_mid faults_now later given so
 abbrev pub IsOwn : Status → Type 0
 IsOwn own = own ≡ status.SinkFault → ⊥
 
-module _ (out : Outside) (a b : List ℕ) (s : SinkChange) (now_is : out.bytes_now ≡ s.bytes_now) (sink_now : out.sink_now ≡ s.faults_now) (sink : out.sink ≤ s.faults) (mid : s.bytes ≡ option_map (with_piece a) out.bytes) where
-  rose_out : Rose s.faults s.faults_now → HasRisen out.sink out.sink_now
+module _ (out : Outside) (a b : List ℕ) (s : SinkChange) (now_is : out.sink.new.bytes ≡ s.new.bytes) (sink_now : out.sink.new.faults ≡ s.new.faults) (sink : out.sink.old.faults ≤ s.old.faults) (mid : s.old.bytes ≡ option_map (with_piece a) out.sink.old.bytes) where
+  rose_out : Rose s.old.faults s.new.faults → HasRisen out.sink.old.faults out.sink.new.faults
   rose_out (inl less) = omega (arith, less, sink, sink_now)
   rose_out (inr full) = omega (arith, full, sink_now)
 
   -- a last text behind the others
   pub put_both : (own given : Status) → IsOwn own → Put own b s given → IsPut own given (a ++ b) out
   put_both own given other (inl x) = record {
-    outcome = inl (x.0, now_is ∙ x.1 ∙ ap (option_map (with_piece b)) mid ∙ pieces a b out.bytes);
+    outcome = inl (x.0, now_is ∙ x.1 ∙ ap (option_map (with_piece b)) mid ∙ pieces a b out.sink.old.bytes);
     rose = λ e. absurd (other (sym x.0 ∙ e));
   }
   put_both own given other (inr x) = record {
-    outcome = inr (x.0, subst (λ (now : Option (List ℕ)). IsPartlyPut out.bytes now (a ++ b)) (sym now_is) (part_behind a b out.bytes s.bytes s.bytes_now mid x.1.part));
+    outcome = inr (x.0, subst (λ (now : Option (List ℕ)). IsPartlyPut out.sink.old.bytes now (a ++ b)) (sym now_is) (part_behind a b out.sink.old.bytes s.old.bytes s.new.bytes mid x.1.part));
     rose = λ e. rose_out x.1.rose;
   }
 
   -- a sink that failed in it
   pub put_failed : PutPart b s → IsPut status.SinkFault status.SinkFault (a ++ b) out
   put_failed x = record {
-    outcome = inr (refl, subst (λ (now : Option (List ℕ)). IsPartlyPut out.bytes now (a ++ b)) (sym now_is) (part_behind a b out.bytes s.bytes s.bytes_now mid x.part));
+    outcome = inr (refl, subst (λ (now : Option (List ℕ)). IsPartlyPut out.sink.old.bytes now (a ++ b)) (sym now_is) (part_behind a b out.sink.old.bytes s.old.bytes s.new.bytes mid x.part));
     rose = λ e. rose_out x.rose;
   }
 
   -- what stands before it was put in each case
-  piece_put : (more : List ℕ) → s.bytes_now ≡ option_map (with_piece more) s.bytes → HasPut out a
+  piece_put : (more : List ℕ) → s.new.bytes ≡ option_map (with_piece more) s.old.bytes → HasPut out a
   piece_put more is old old_is now now_told = (
     more,
     same_Some now (old ++ a ++ more)
@@ -135,7 +136,7 @@ module _ (out : Outside) (a b : List ℕ) (s : SinkChange) (now_is : out.bytes_n
   has_put own given (inr x) = part_has_put x.1
 
 -- nothing more was put
-pub all_put : (out : Outside) (a : List ℕ) → out.bytes_now ≡ option_map (with_piece a) out.bytes → HasPut out a
+pub all_put : (out : Outside) (a : List ℕ) → out.sink.new.bytes ≡ option_map (with_piece a) out.sink.old.bytes → HasPut out a
 all_put out a is old old_is now now_told =
     ([], same_Some now (old ++ a ++ []) (sym now_told ∙ is ∙ ap (option_map (with_piece a)) old_is ∙ ap Some (sym (append-nil (old ++ a)))))
 

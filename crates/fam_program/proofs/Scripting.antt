@@ -6,9 +6,9 @@ use Rattle.std.proofs.lemmas.List.{append-nil, append_assoc}
 use Rattle.fam_base.specs.Image.{Image}
 use Rattle.fam_media.specs.Files.{Files}
 use Rattle.fam_media.specs.Outside.{with_piece}
+use Rattle.fam_media.specs.States.{ShelfChange, SinkChange}
 use Rattle.fam_sources.specs.declared.sourced.SourceEnd.{SourceEnd}
 use Rattle.fam_sources.specs.Sourced.{HasEndCause, end_of}
-use Rattle.fam_sources.specs.Whole.{ShelfChange}
 use Rattle.fam_journal.specs.declared.event.Event.{Event}
 use Rattle.fam_journal.specs.declared.status.Status.{Status}
 use Rattle.fam_journal.specs.declared.status.Status.TheVariants as status
@@ -27,7 +27,7 @@ use Rattle.fam_events.specs.declared.fault.EventFault.{EventFault}
 use Rattle.fam_events.specs.declared.fault.EventFault.TheVariants as fault
 use Rattle.fam_events.specs.Happens.{EventBroken, EventDone, EventEnded, EventPart, EventSays}
 use Rattle.fam_program.specs.Far.{Base, Far, Now}
-use Rattle.fam_program.specs.Puts.{Put, PutPart, PutShort, SinkChange, StopSays}
+use Rattle.fam_program.specs.Puts.{Put, PutPart, PutShort, StopSays}
 use Rattle.fam_program.specs.Runs.{HasEnded}
 use Rattle.fam_program.specs.Scripts.{ScriptRan}
 use Rattle.fam_program.proofs.Following.{follows_more, take_next}
@@ -148,7 +148,7 @@ module _ (b : Base) (shelf : ShelfChange) (sink sink_now : ℕ) (bytes bytes_now
         put = record { outcome = inl (refl, put); rose = λ e. absurd (good_own n.world.journal e) };
       }
 
-  module _ (s : SinkChange) (now_is : bytes_now ≡ s.bytes_now) (sink_is : sink_now ≡ s.faults_now) (later : sink ≤ s.faults) (n : Now) (mid : s.bytes ≡ option_map (with_piece (render n.world.journal)) bytes) (given : Status) where
+  module _ (s : SinkChange) (now_is : bytes_now ≡ s.new.bytes) (sink_is : sink_now ≡ s.new.faults) (later : sink ≤ s.old.faults) (n : Now) (mid : s.old.bytes ≡ option_map (with_piece (render n.world.journal)) bytes) (given : Status) where
     -- behind the notes of some first events those of one more that were put, and the line that says that no memory is left
     abbrev short_text : ℕ → List Note → List ℕ
     short_text count more = render_behind (names_behind [] n.world.journal) (take count more) ++ memory_line
@@ -321,7 +321,7 @@ module _ (b : Base) (shelf : ShelfChange) (sink sink_now : ℕ) (bytes bytes_now
       stop_script fault.OutOfMemory says names names_are more more_is put = part_script says (short_as names names_are more says.adds.notes (more_is says.adds.notes says.adds.joined) put)
 
   -- the sink failed behind an event that is done
-  module _ (s : SinkChange) (now_is : bytes_now ≡ s.bytes_now) (sink_is : sink_now ≡ s.faults_now) (later : sink ≤ s.faults) (n m : Now) (mid : s.bytes ≡ option_map (with_piece (render n.world.journal)) bytes) (count : ℕ) (far : Far b count n) (e : Event) (is : slice_get b.events count ≡ Some e) where
+  module _ (s : SinkChange) (now_is : bytes_now ≡ s.new.bytes) (sink_is : sink_now ≡ s.new.faults) (later : sink ≤ s.old.faults) (n m : Now) (mid : s.old.bytes ≡ option_map (with_piece (render n.world.journal)) bytes) (count : ℕ) (far : Far b count n) (e : Event) (is : slice_get b.events count ≡ Some e) where
     pub sink_script : (x : EventDone e (next_of b n m)) (text : List ℕ) → text ≡ render_behind (names_behind [] n.world.journal) x.adds.notes → PutPart text s → ScriptRan b.events (out_at m) status.SinkFault
     sink_script x text text_is put =
         let failed = put_failed (out_at m) (render n.world.journal) text s now_is sink_is later mid put in

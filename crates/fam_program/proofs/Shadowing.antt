@@ -16,7 +16,8 @@ use Rattle.fam_journal.specs.Statuses.{last_status}
 use Rattle.fam_events.specs.declared.fault.EventFault.{EventFault}
 use Rattle.fam_program.specs.Puts.{Put}
 use Rattle.fam_program.specs.Quiet.{HasStopped, MayLack, ShotEnded}
-use Rattle.fam_program.specs.Shadows.{IsUntouched, ShadeChange, ShadowTop, logplay, shadow_status, shadow_text, shown_tree}
+use Rattle.fam_shadow.specs.Nodes.{ShadeChange}
+use Rattle.fam_program.specs.Shadows.{IsUntouched, ShadowTop, logplay, shadow_status, shadow_text, shown_tree}
 use Rattle.fam_program.specs.Shots.{ShotSays}
 use Rattle.fam_program.proofs.Alone.{SparedRun, shot_ran, stopped_whole}
 use Rattle.fam_program.proofs.Prefixing.{alone_events}
@@ -34,7 +35,7 @@ usage_own e = absurd cc
 
 module _ (out : Outside) (shade : ShadeChange) (given : Status) (later : NoneFalls out) where
   -- no event was run
-  module _ (asked : Option (List ℕ)) (same : out.image_now ≡ out.image) (untouched : IsUntouched shade) where
+  module _ (asked : Option (List ℕ)) (same : out.media.new.image ≡ out.media.old.image) (untouched : IsUntouched shade) where
     early : (cause : Early) → IsEarly script_events storm (option_map (λ me. Single me logplay) asked) out cause → IsOwn (early_status cause) → Put (early_status cause) (early_text cause) (sink_of out) given → ShadowTop asked out shade given
     early cause is own put = record {
       text = early_text cause;
@@ -53,7 +54,7 @@ module _ (out : Outside) (shade : ShadeChange) (given : Status) (later : NoneFal
   module _ (name me : List ℕ) (journal : List Note) where
     -- the tree that was shown
     shadowed : HasStopped out (alone_events name me logplay) journal → (m : ℕ) (tree : Tree) → shown_tree journal ≡ Some (m, tree) → (written : Result (Unit {0}) ShadowFault)
-        → Becomes shade.nodes shade.nodes_now (ShadowEnds tree written) → IfErr written (FaultCaused tree shade.faults shade.faults_now)
+        → Becomes shade.old.nodes shade.new.nodes (ShadowEnds tree written) → IfErr written (FaultCaused tree shade.old.faults shade.new.faults)
         → Put (shadow_status written) (shadow_text m written) (sink_of out) given ⊎ Put status.OutOfMemory memory_line (sink_of out) given → ShadowTop (Some me) out shade given
     shadowed x m tree shown written becomes caused (inl put) = record {
       text = shadow_text m written;
@@ -71,7 +72,7 @@ module _ (out : Outside) (shade : ShadeChange) (given : Status) (later : NoneFal
     }
 
     pub shadowed_top : (ended : Result (Unit {0}) EventFault) → ShotEnded ended out (alone_events name me logplay) journal → IsOk ended → (m : ℕ) (tree : Tree) → shown_tree journal ≡ Some (m, tree) → (written : Result (Unit {0}) ShadowFault)
-        → Becomes shade.nodes shade.nodes_now (ShadowEnds tree written) → IfErr written (FaultCaused tree shade.faults shade.faults_now)
+        → Becomes shade.old.nodes shade.new.nodes (ShadowEnds tree written) → IfErr written (FaultCaused tree shade.old.faults shade.new.faults)
         → Put (shadow_status written) (shadow_text m written) (sink_of out) given ⊎ Put status.OutOfMemory memory_line (sink_of out) given → ShadowTop (Some me) out shade given
     shadowed_top (Ok done) x ok = shadowed x
     shadowed_top (Err fault) x ok = absurd (cc (ok))

@@ -5,6 +5,7 @@ use Rattle.std.specs.Prelude.{slice_get}
 use Rattle.std.proofs.lemmas.List.{take_all}
 use Rattle.std.proofs.lemmas.List.Elements.{All-head, All-tail}
 use Rattle.std.proofs.lemmas.Option.{same_Some}
+use Rattle.fam_media.specs.States.{SinkChange}
 use Rattle.fam_grammar.specs.Scripts.{script_events}
 use Rattle.fam_storm.specs.Events.{ReadNoSource}
 use Rattle.fam_storm.specs.Storm.{storm}
@@ -18,19 +19,19 @@ use Rattle.fam_journal.specs.Follows.{Follows, SourceEnd}
 use Rattle.fam_journal.specs.Notes.{Note}
 use Rattle.fam_journal.specs.Programs.{Command, Early, EarlyOutOfMemory, IsEarly, Prints, Storm, StormPuts, TopEnds, early_status, early_text, memory_line, storm_line, storm_status}
 use Rattle.fam_journal.specs.Runs.{IsPut, NoneFalls, Outside}
-use Rattle.fam_program.specs.Puts.{Put, SinkChange}
+use Rattle.fam_program.specs.Puts.{Put}
 use Rattle.fam_program.specs.Runs.{HasEnded}
 use Rattle.fam_program.proofs.Ending.{risen}
 use Rattle.fam_program.proofs.Putting.{IsOwn}
 
 -- what the sink tells of it
 abbrev pub sink_of : Outside → SinkChange
-sink_of out = record { bytes = out.bytes; bytes_now = out.bytes_now; faults = out.sink; faults_now = out.sink_now }
+sink_of out = record { bytes = out.sink.old.bytes; bytes_now = out.sink.new.bytes; faults = out.sink.old.faults; faults_now = out.sink.new.faults }
 
 -- a text that is put alone
 pub put_alone : (out : Outside) (text : List ℕ) (own given : Status) → IsOwn own → Put own text (sink_of out) given → IsPut own given text out
 put_alone out text own given other (inl x) = record { outcome = inl x; rose = λ e. absurd (other (sym x.0 ∙ e)) }
-put_alone out text own given other (inr x) = record { outcome = inr (x.0, x.1.part); rose = λ e. risen out.sink out.sink_now x.1.rose }
+put_alone out text own given other (inr x) = record { outcome = inr (x.0, x.1.part); rose = λ e. risen out.sink.old.faults out.sink.new.faults x.1.rose }
 
 -- no status but one is that of a sink that failed
 done_own : IsOwn status.Done
@@ -47,7 +48,7 @@ memory_own e = absurd cc
 
 -- No event was run.
 
-module _ (command : Option Command) (out : Outside) (given : Status) (same : out.image_now ≡ out.image) (later : NoneFalls out) where
+module _ (command : Option Command) (out : Outside) (given : Status) (same : out.media.new.image ≡ out.media.old.image) (later : NoneFalls out) where
   early : (why : Early) → IsEarly script_events storm command out why → IsOwn (early_status why) → Put (early_status why) (early_text why) (sink_of out) given → TopEnds script_events storm command out given
   early why is other put = record {
     text = early_text why;
@@ -60,7 +61,7 @@ module _ (command : Option Command) (out : Outside) (given : Status) (same : out
   pub early_wants : Put status.OutOfMemory memory_line (sink_of out) given → TopEnds script_events storm command out given
   early_wants put = early EarlyOutOfMemory tt memory_own put
 
-pub prints_top : (seed size : ℕ) (prints : Bool) (out : Outside) (given : Status) → prints ≡ true → out.image_now ≡ out.image → NoneFalls out → Put status.Done (storm seed size) (sink_of out) given → TopEnds script_events storm (Some (Storm seed size prints)) out given
+pub prints_top : (seed size : ℕ) (prints : Bool) (out : Outside) (given : Status) → prints ≡ true → out.media.new.image ≡ out.media.old.image → NoneFalls out → Put status.Done (storm seed size) (sink_of out) given → TopEnds script_events storm (Some (Storm seed size prints)) out given
 prints_top seed size prints out given is same later put =
     subst (λ (p : Bool). TopEnds script_events storm (Some (Storm seed size p)) out given) (sym is)
     (early (Some (Storm seed size true)) out given same later (Prints (storm seed size)) refl done_own put)
@@ -87,7 +88,7 @@ no_source_ends end out events journal none x = not_both (x.form.host, x.form.sou
 pub done_wants : (out : Outside) (events : List Event) (journal : List Note) → HasEnded AllDone out events journal → HasEnded EndsOutOfMemory out events journal
 done_wants out events journal x = record {
   named = x.named;
-  form = inl record { count = length events; follows = subst (λ (es : List Event). FollowsForm out.lines es [] journal) (sym whole) x.form };
+  form = inl record { count = length events; follows = subst (λ (es : List Event). FollowsForm out.media.old.size es [] journal) (sym whole) x.form };
   counted = x.counted;
   caused = tt;
   told = λ start told_is files files_are.

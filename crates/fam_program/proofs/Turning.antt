@@ -3,10 +3,10 @@ use Rattle.std.proofs.Common.{◌≡◌, ℕ, ◌≤◌, inl, inr, List, [], ◌
 use Rattle.std.proofs.lemmas.List.{length-map}
 use Rattle.fam_media.specs.Causes.{Rose}
 use Rattle.fam_media.specs.Files.{Files}
+use Rattle.fam_media.specs.States.{ShelfChange}
 use Rattle.fam_sources.specs.declared.sourced.SourceEnd.{SourceEnd}
 use Rattle.fam_sources.specs.declared.sourced.SourceEnd.TheVariants.{Faulted, Short}
 use Rattle.fam_sources.specs.Sourced.{HasEndCause}
-use Rattle.fam_sources.specs.Whole.{ShelfChange}
 use Rattle.fam_journal.specs.declared.event.Event.{Event}
 use Rattle.fam_journal.specs.Names.{AreNamed}
 use Rattle.fam_journal.specs.Notes.{Note}

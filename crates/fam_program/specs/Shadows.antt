@@ -2,15 +2,15 @@
 use Rattle.std.specs.Prelude.{ℕ, ◌≡◌, ◌⊎◌, ◌++◌, List, [], ◌∷◌, codes, Option, Some, None, option_map, Result, Ok, Err, IfErr}
 use Rattle.std.specs.FinMap as map
 use Rattle.fam_base.specs.declared.cmd.Cmd.TheVariants as cmd
+use Rattle.fam_media.specs.States.{ShelfState, ShelfChange}
 use Rattle.fam_format.specs.Tree.{Tree}
 use Rattle.fam_grammar.specs.Scripts.{script_events}
 use Rattle.fam_rules.specs.Reply as reply
 use Rattle.fam_rules.specs.Reply.{Reply}
 use Rattle.fam_shadow.specs.declared.fault.ShadowFault.{ShadowFault}
 use Rattle.fam_shadow.specs.declared.fault.ShadowFault.TheVariants as fault
-use Rattle.fam_shadow.specs.Nodes.{Nodes}
+use Rattle.fam_shadow.specs.Nodes.{ShadeChange}
 use Rattle.fam_shadow.specs.Shadows.{Becomes, FaultCaused, ShadowEnds}
-use Rattle.fam_sources.specs.Whole.{ShelfChange}
 use Rattle.fam_storm.specs.Storm.{storm}
 use Rattle.fam_journal.specs.declared.event.Ask.TheVariants as ask
 use Rattle.fam_journal.specs.declared.event.Event.{Event}
@@ -23,23 +23,17 @@ use Rattle.fam_journal.specs.Runs.{IsPut, NoneFalls, Outside}
 use Rattle.fam_journal.specs.Texts.{line, number}
 use Rattle.fam_program.specs.Runs.{HasEnded}
 
--- a shelf on which no file is, and which never fails
+-- a shelf on which no file is, and no call of which failed
+abbrev pub empty_shelf : ShelfState
+empty_shelf = record { files = Some map.empty; faults = 0; shorts = 0 }
+
+-- it stays so
 abbrev pub no_files : ShelfChange
-no_files = record { files = Some map.empty; faults = 0; faults_now = 0; shorts = 0; shorts_now = 0 }
-
--- a folder from one state to another: what stands there, where it is told, and its count of faults
-pub record ShadeChange : Type 0 where
-  pub nodes : Option Nodes
-  pub nodes_now : Option Nodes
-  pub faults : ℕ
-  pub faults_now : ℕ
-
-abbrev pub shade_changed : {D : Type 0} → (D → Option Nodes) → (D → ℕ) → D → D → ShadeChange
-shade_changed nodes faults old now = record { nodes = nodes old; nodes_now = nodes now; faults = faults old; faults_now = faults now }
+no_files = record { old = empty_shelf; new = empty_shelf }
 
 -- it is as it was
 abbrev pub IsUntouched : ShadeChange → Type 0
-IsUntouched s = s.nodes_now ≡ s.nodes
+IsUntouched shade = shade.new.nodes ≡ shade.old.nodes
 
 -- the command that shows the tree
 abbrev pub logplay : OneShot
@@ -116,8 +110,8 @@ pub record HasShadowed (me : List ℕ) (out : Outside) (shade : ShadeChange) (te
   pub tree : Tree
   pub shown : shown_tree journal ≡ Some (m, tree)
   pub written : Result (Unit {0}) ShadowFault
-  pub becomes : Becomes shade.nodes shade.nodes_now (ShadowEnds tree written)
-  pub caused : IfErr written (FaultCaused tree shade.faults shade.faults_now)
+  pub becomes : Becomes shade.old.nodes shade.new.nodes (ShadowEnds tree written)
+  pub caused : IfErr written (FaultCaused tree shade.old.faults shade.new.faults)
   pub says : ShadowSays m written text own
 
 -- text and status are logplay's, which showed no tree

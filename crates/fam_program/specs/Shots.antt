@@ -1,5 +1,6 @@
 -- What is put of a command of its own, and for which lines of it no memory is wanted.
 use Rattle.std.specs.Prelude.{ℕ, ◌≡◌, ◌⊎◌, ◌++◌, Bool, true, false, List, codes, Result, Ok, Err}
+use Rattle.fam_media.specs.States.{SinkChange}
 use Rattle.fam_rules.specs.Reply as reply
 use Rattle.fam_journal.specs.declared.refusal.Refusal.{Refusal}
 use Rattle.fam_journal.specs.declared.refusal.Refusal.TheVariants as why
@@ -12,7 +13,7 @@ use Rattle.fam_events.specs.declared.fault.EventFault.{EventFault}
 use Rattle.fam_events.specs.declared.fault.EventFault.TheVariants as fault
 use Rattle.fam_program.specs.declared.numbers.NumberLine.{NumberLine}
 use Rattle.fam_program.specs.declared.numbers.NumberLine.TheVariants as by
-use Rattle.fam_program.specs.Puts.{EndSays, Put, SinkChange}
+use Rattle.fam_program.specs.Puts.{EndSays, Put}
 
 -- Last notes for whose line no memory is wanted: an entry is appended, or the media failed.
 

@@ -27,9 +27,9 @@ pub(crate) fn check_next<M: Media>(
 ) -> Result<Looked, OutOfMemory>
     requires { task.old.phase ≡ at.Check slot }
 
-    ensures turned { IfOk result (λ looked. IfDone looked (λ turn. IfModelled (M.image media.now) (λ image.
-        HasTurned task.old (machine image cache.now.lines) turn task.new (M.image media.now) cache.now.lines))) }
-    ensures cache { LeavesCache (op_of task.old) (M.image media.now) cache.now.lines cache.now.lines }
+    ensures turned { IfOk result (λ looked. IfDone looked (λ turn. IfModelled (M.state media.now).image (λ image.
+        HasTurned task.old (machine image cache.now.lines) turn task.new (M.state media.now).image cache.now.lines))) }
+    ensures cache { LeavesCache (op_of task.old) (M.state media.now).image cache.now.lines cache.now.lines }
     ensures goes { IfOk result (λ looked. IfDone looked (λ turn. GoesOn task.old cache.now.lines turn task.new)) }
     ensures keeps { IfOk result (λ looked. IfDone looked (λ turn. KeepsLines turn task.old task.new)) }
     ensures own { IfOk result (λ looked. IfDone looked IsNoFault) }

@@ -26,30 +26,30 @@ pub(crate) fn compare_next<M: Media>(
     task: &mut Task,
     media: &mut M,
 ) -> Result<Looked, OperationFault>
-    requires lines { task.old.lines ≡ M.size media.old }
+    requires lines { task.old.lines ≡ (M.state media.old).size }
     requires compared { IsCompared task.old }
 
-    ensures turned { IfOk result (λ looked. IfDone looked (λ turn. IfModelled (M.image media.old) (λ image.
-        HasTurned task.old (machine image cache.old.lines) turn task.new (M.image media.new) cache.new.lines))) }
-    ensures failed { IfErr result (λ fault. IfMediaFault fault (λ line. IfModelled (M.image media.old) (λ image.
-        HasFailed (op_of task.old) (machine image cache.old.lines) line (M.image media.new) cache.new.lines))) }
-    ensures cache { OnOk result (LeavesCache (op_of task.old) (M.image media.old) cache.old.lines cache.new.lines) }
+    ensures turned { IfOk result (λ looked. IfDone looked (λ turn. IfModelled (M.state media.old).image (λ image.
+        HasTurned task.old (machine image cache.old.lines) turn task.new (M.state media.new).image cache.new.lines))) }
+    ensures failed { IfErr result (λ fault. IfMediaFault fault (λ line. IfModelled (M.state media.old).image (λ image.
+        HasFailed (op_of task.old) (machine image cache.old.lines) line (M.state media.new).image cache.new.lines))) }
+    ensures cache { OnOk result (LeavesCache (op_of task.old) (M.state media.old).image cache.old.lines cache.new.lines) }
     ensures goes { IfOk result (λ looked. IfDone looked (λ turn. GoesOn task.old cache.new.lines turn task.new)) }
     ensures keeps { IfOk result (λ looked. IfDone looked (λ turn. KeepsLines turn task.old task.new)) }
     ensures own { IfOk result (λ looked. IfDone looked IsNoFault) }
     ensures done { IfOk result (λ looked. looked ≢ Looked.Other) }
     ensures copies { OnErr result (cache.new.lines ≡ cache.old.lines) }
     ensures err { OnErr result (task.new ≡ task.old) }
-    ensures inside { IfErr result (λ fault. IfMediaFault fault (λ line. line.0 < M.size media.old)) }
+    ensures inside { IfErr result (λ fault. IfMediaFault fault (λ line. line.0 < (M.state media.old).size)) }
     ensures rose { IfErr result (λ fault. IfMediaFault fault (λ line.
-        Rose (M.faults media.old) (M.faults media.new))) }
+        Rose (M.state media.old).faults (M.state media.new).faults)) }
     ensures within { IsWithin task.old.lines (op_of task.old) }
 
     ensures undone { IsErrOf result OperationFault.OutOfMemory → media.new ≡ media.old }
     ensures unchanged { IsErrOf result OperationFault.OutOfMemory → cache.new ≡ cache.old }
     ensures want { IsErrOf result OperationFault.OutOfMemory → LacksRoom (op_of task.old) task.old cache.old }
     ensures places { ¬ (HasPlaces task.old cache.old) }
-    ensures steady { IsSteady M.size M.faults media.old media.new }
+    ensures steady { IsSteady (M.state media.old) (M.state media.new) }
 {
     task.is_sound();
     let op = task.next();

@@ -29,18 +29,18 @@ pub fn operate<M: Media>(
     task: &mut Task,
     media: &mut M,
 ) -> Result<Turn, OperationFault>
-    requires lines { task.old.lines ≡ M.size media.old }
-    requires asked { SendsWithin (op_of task.old) (M.size media.old) cache.old.lines }
+    requires lines { task.old.lines ≡ (M.state media.old).size }
+    requires asked { SendsWithin (op_of task.old) (M.state media.old).size cache.old.lines }
 
     // Where an image is modelled, it and the cache are what the machine makes of them.
-    ensures turned { IfOk result (λ turn. IfModelled (M.image media.old) (λ image.
-        HasTurned task.old (machine image cache.old.lines) turn task.new (M.image media.new) cache.new.lines)) }
-    ensures failed { IfErr result (λ fault. IfMediaFault fault (λ line. IfModelled (M.image media.old) (λ image.
-        HasFailed (op_of task.old) (machine image cache.old.lines) line (M.image media.new) cache.new.lines))) }
+    ensures turned { IfOk result (λ turn. IfModelled (M.state media.old).image (λ image.
+        HasTurned task.old (machine image cache.old.lines) turn task.new (M.state media.new).image cache.new.lines)) }
+    ensures failed { IfErr result (λ fault. IfMediaFault fault (λ line. IfModelled (M.state media.old).image (λ image.
+        HasFailed (op_of task.old) (machine image cache.old.lines) line (M.state media.new).image cache.new.lines))) }
 
     // On any media the cache is what the machine's table makes of the operation's line, and the task goes on by the
     // word of the copy. A failure leaves the task, and the copies but for the lines that a fence has sent before.
-    ensures cache { OnOk result (LeavesCache (op_of task.old) (M.image media.old) cache.old.lines cache.new.lines) }
+    ensures cache { OnOk result (LeavesCache (op_of task.old) (M.state media.old).image cache.old.lines cache.new.lines) }
     ensures goes { IfOk result (λ turn. GoesOn task.old cache.new.lines turn task.new) }
     ensures keeps { IfOk result (λ turn. KeepsLines turn task.old task.new) }
     ensures copies { OnErr result (LeavesFailed (op_of task.old) cache.old.lines cache.new.lines) }
@@ -50,9 +50,9 @@ pub fn operate<M: Media>(
     // doesn't know of faults.
     ensures within { IsWithin task.old.lines (op_of task.old) }
     ensures line { IfErr result (λ fault. IfMediaFault fault (λ line. IsAtLine (op_of task.old) line cache.old.lines)) }
-    ensures inside { IfErr result (λ fault. IfMediaFault fault (λ line. line.0 < M.size media.old)) }
+    ensures inside { IfErr result (λ fault. IfMediaFault fault (λ line. line.0 < (M.state media.old).size)) }
     ensures rose { IfErr result (λ fault. IfMediaFault fault (λ line.
-        Rose (M.faults media.old) (M.faults media.new))) }
+        Rose (M.state media.old).faults (M.state media.new).faults)) }
     ensures own { IfOk result IsNoFault }
 
     ensures undone { IsErrOf result OperationFault.OutOfMemory → media.new ≡ media.old }
@@ -64,7 +64,7 @@ pub fn operate<M: Media>(
         → KeepsPlaces task.old cache.old task.new cache.new) }
     ensures quiet { IfOk result (λ turn. ended turn ≡ None → HasPlaces task.old cache.old → turn ≡ Go) }
     ensures enough { IsErrOf result OperationFault.OutOfMemory → ¬ (HasPlaces task.old cache.old) }
-    ensures steady { IsSteady M.size M.faults media.old media.new }
+    ensures steady { IsSteady (M.state media.old) (M.state media.new) }
 {
     task.is_sound();
     match task.next() {

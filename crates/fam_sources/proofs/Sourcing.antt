@@ -13,6 +13,7 @@ use Rattle.fam_base.specs.Commands.{IsListing}
 use Rattle.fam_media.specs.Causes.{Rose}
 use Rattle.fam_media.specs.Files.{Files}
 use Rattle.fam_media.specs.Outside.{IfModelled}
+use Rattle.fam_media.specs.States.{ShelfChange}
 use Rattle.fam_journal.specs.declared.event.Ask.{Ask}
 use Rattle.fam_journal.specs.declared.event.Ask.TheVariants as ask
 use Rattle.fam_journal.specs.declared.refusal.Refusal.{Refusal}
@@ -27,7 +28,7 @@ use Rattle.fam_sources.specs.declared.sourced.Sourced.TheVariants as sourced
 use Rattle.fam_sources.specs.Sourced.{IsAbsent, IsEnded, IsGiven, HoldsSource, IsSourced, IsUnfit}
 use Rattle.fam_sources.specs.declared.whole.WholeFault.{WholeFault}
 use Rattle.fam_sources.specs.declared.whole.WholeFault.TheVariants as whole
-use Rattle.fam_sources.specs.Whole.{HoldsBytes, ShelfChange, Wanted, WholeSays, sum_of}
+use Rattle.fam_sources.specs.Whole.{HoldsBytes, Wanted, WholeSays, sum_of}
 
 -- a source that is there and within the limit
 bytes_say : (name : List ℕ) (held : Option (List ℕ)) (copied : ℕ) (bytes : List ℕ) (reads : List ℕ → ℕ → Sourced → Type 0) (said : Sourced)
@@ -77,22 +78,22 @@ long_says files name bytes copied sum (ask.Check source) is held sums over = lon
 
 module _ (change : ShelfChange) (copied : ℕ) (name : List ℕ) where
   -- there is no file of the name
-  pub no_file : IfModelled change.files (λ files. map.get files name ≡ None) → IsAbsent change copied name (why.NoFile name)
+  pub no_file : IfModelled change.old.files (λ files. map.get files name ≡ None) → IsAbsent change copied name (why.NoFile name)
   no_file none what is = record { form = is; says = λ files at. absent_says files name copied what is (none files at) }
 
   -- it has too many bytes
-  pub too_long : (sum : ℕ) → copy_limit < sum → HoldsBytes change.files name (λ bytes. (sum ≡ sum_of copied (length bytes)) × (length bytes < 2 ^ 64)) → IsAbsent change copied name (why.CopyLimit sum)
+  pub too_long : (sum : ℕ) → copy_limit < sum → HoldsBytes change.old.files name (λ bytes. (sum ≡ sum_of copied (length bytes)) × (length bytes < 2 ^ 64)) → IsAbsent change copied name (why.CopyLimit sum)
   too_long sum over holds what is = record {
     form = (name, is);
     says = λ files at. let h = holds files at in long_says files name h.0 copied sum what is h.1 h.2.0 over;
   }
 
   -- the shelf failed
-  pub faulted : Rose change.faults change.faults_now → (what : Ask) → source_of what ≡ Some name → IsEnded change copied what end.Faulted
+  pub faulted : Rose change.old.faults change.new.faults → (what : Ask) → source_of what ≡ Some name → IsEnded change copied what end.Faulted
   faulted rose what is = record { name = name; source = is; cause = rose; short = λ files at. tt }
 
   -- it was short
-  pub short : (size got : ℕ) → got < size → copied + size ≤ copy_limit → Rose change.shorts change.shorts_now → HoldsBytes change.files name (λ bytes. size ≡ length bytes)
+  pub short : (size got : ℕ) → got < size → copied + size ≤ copy_limit → Rose change.old.shorts change.new.shorts → HoldsBytes change.old.files name (λ bytes. size ≡ length bytes)
       → (what : Ask) → source_of what ≡ Some name → IsEnded change copied what (end.Short size got)
   short size got less within rose holds what is = record {
     name = name;
@@ -101,7 +102,7 @@ module _ (change : ShelfChange) (copied : ℕ) (name : List ℕ) where
     short = λ files at. let h = holds files at in (h.0, h.1, h.2, less, within);
   }
 
-  module _ (bytes : List ℕ) (within : copied + length bytes ≤ copy_limit) (held : IfModelled change.files (λ files. map.get files name ≡ Some bytes)) where
+  module _ (bytes : List ℕ) (within : copied + length bytes ≤ copy_limit) (held : IfModelled change.old.files (λ files. map.get files name ≡ Some bytes)) where
     pub cp_ready : (path : List ℕ) (attr : Attr) (stripe : Option Stripe) → HoldsSource change copied (ask.Cp name path attr stripe) (copied + length bytes) (cmd.Cp path attr stripe bytes)
     cp_ready path attr stripe = record {
       form = (bytes, refl);

@@ -12,7 +12,7 @@ use Rattle.fam_storm.specs.Storm.{storm}
 usage_own : status.Usage ≡ status.SinkFault → ⊥
 usage_own e = absurd cc
 
-module _ (out : Outside) (given : Status) (same : out.image_now ≡ out.image) (later : NoneFalls out) where
+module _ (out : Outside) (given : Status) (same : out.media.new.image ≡ out.media.old.image) (later : NoneFalls out) where
   pub no_command : (asked : Option Command) → asked ≡ None → Put status.Usage usage_line (sink_of out) given → TopEnds script_events storm asked out given
   no_command asked none put = record {
     text = usage_line;

@@ -47,7 +47,7 @@ status_end (one ∷ next ∷ front) note = status_end (next ∷ front) note
 
 pub ends_same : {out : Outside} {given own own' : Status} {text text' : List ℕ} {left left' : Image} → EndsAs out given text left own → text ≡ text' → left ≡ left' → own ≡ own' → EndsAs out given text' left' own'
 ends_same {out} {given} {own} {own'} {text} {text'} {left} {left'} ends t l o = record {
-  put = ends.put ∙ ap (λ (z : List ℕ). option_map (Rattle.fam_media.specs.Outside.with_piece z) out.bytes) t;
+  put = ends.put ∙ ap (λ (z : List ℕ). option_map (Rattle.fam_media.specs.Outside.with_piece z) out.sink.old.bytes) t;
   left_is = ends.left_is ∙ ap Some l;
   status_is = ends.status_is ∙ o;
 }

@@ -216,8 +216,8 @@ AreRefusals (note ∷ notes) = IsRefusal note × AreRefusals notes
 
 -- how a call ended: this text was put behind the bytes that stood there, this image is left, and this status was given
 pub record EndsAs (out : Outside) (given : Status) (text : List ℕ) (left : Image) (own : Status) : Type 0 where
-  pub put : out.bytes_now ≡ option_map (with_piece text) out.bytes
-  pub left_is : out.image_now ≡ Some left
+  pub put : out.sink.new.bytes ≡ option_map (with_piece text) out.sink.old.bytes
+  pub left_is : out.media.new.image ≡ Some left
   pub status_is : given ≡ own
 
 -- a script's events were all run, each command to its answer or refusal, and the run is exact. Its notes were put; the image
@@ -260,7 +260,7 @@ pub record EndsFront (files : Files) (events : List Event) (start : Image) (out 
   pub ending : Ending
   pub all : ending ≡ AllDone → take count events ≡ events
   pub left : Image
-  pub image : out.image_now ≡ Some left
+  pub image : out.media.new.image ≡ Some left
   pub is_left : IsLeft ending files events start count run part left
   pub text : List ℕ
   pub shows : ScriptPuts ending (run.journal ++ part) text

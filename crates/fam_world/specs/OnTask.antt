@@ -11,6 +11,7 @@ use Rattle.fam_machine.specs.OneLine.{IsHeld}
 use Rattle.fam_machine.specs.Operations.{IsWithin, machine}
 use Rattle.fam_media.specs.Causes.{Rose}
 use Rattle.fam_media.specs.Outside.{IfModelled}
+use Rattle.fam_media.specs.States.{MediaState}
 use Rattle.fam_run.specs.Operation.{GoesOn, HasTurned, KeepsLines}
 use Rattle.fam_tasks.specs.Sound.{IsSound}
 use Rattle.fam_tasks.specs.declared.answer.Turn.{Turn}
@@ -31,16 +32,16 @@ pub record OnTask : Type 0 where
   pub faults_now : ℕ
 
 -- on a media, of which these tell the image and the count of faults
-abbrev pub on_task : {M : Type 0} → (M → Option Image) → (M → ℕ) → Option Task → Option Task → CacheState → CacheState → M → M → OnTask
-on_task image faults task next old new media media_now = record {
+abbrev pub on_task : {M : Type 0} → (M → MediaState) → Option Task → Option Task → CacheState → CacheState → M → M → OnTask
+on_task state task next old new media media_now = record {
   task = task;
   next = next;
   old = old.lines;
   new = new.lines;
-  told = image media;
-  now = image media_now;
-  faults = faults media;
-  faults_now = faults media_now;
+  told = (state media).image;
+  now = (state media_now).image;
+  faults = (state media).faults;
+  faults_now = (state media_now).faults;
 }
 
 -- the operation that comes next was done, and the task takes this turn. Where an image is modelled, memory, cache and task

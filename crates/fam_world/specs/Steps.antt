@@ -5,6 +5,7 @@ use Rattle.fam_base.specs.declared.line.LineNo.{LineNo}
 use Rattle.fam_base.specs.Image.{Image}
 use Rattle.fam_media.specs.Causes.{Rose}
 use Rattle.fam_media.specs.Outside.{IfModelled}
+use Rattle.fam_media.specs.States.{MediaState}
 use Rattle.fam_machine.specs.Caches.{cell_at}
 use Rattle.fam_machine.specs.Cuts.{HasFailed, IsMachine}
 use Rattle.fam_machine.specs.OneLine.{IsHeld}
@@ -33,17 +34,17 @@ pub record Around : Type 0 where
   pub faults_now : ℕ
 
 -- around a call for a host, on a media, of which these tell the image, the size and the count of faults
-abbrev pub around_step : {M : Type 0} → (M → Option Image) → (M → ℕ) → (M → ℕ) → Host → Host → List Kept → List Kept → M → M → Around
-around_step image size faults host host_now journal journal_now media media_now = record {
+abbrev pub around_step : {M : Type 0} → (M → MediaState) → Host → Host → List Kept → List Kept → M → M → Around
+around_step state host host_now journal journal_now media media_now = record {
   old = host_view host;
   new = host_view host_now;
   before = notes_view journal;
   after = notes_view journal_now;
-  told = image media;
-  now = image media_now;
-  size = size media;
-  faults = faults media;
-  faults_now = faults media_now;
+  told = (state media).image;
+  now = (state media_now).image;
+  size = (state media).size;
+  faults = (state media).faults;
+  faults_now = (state media_now).faults;
 }
 
 -- the media served it: the task goes on, or ends, by a word; that which the machine gives, where an image is modelled

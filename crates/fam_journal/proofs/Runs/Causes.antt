@@ -167,7 +167,7 @@ module _ (out : Outside) (events : List Event) (journal : List Note) where
 -- Sources.
 
 abbrev SourceRose : Outside → Type 0
-SourceRose out = HasRisen out.shelf out.shelf_now ⊎ HasRisen out.shorts out.shorts_now
+SourceRose out = HasRisen out.shelf.old.faults out.shelf.new.faults ⊎ HasRisen out.shelf.old.shorts out.shelf.new.shorts
 
 by_end : (out : Outside) (end : SourceEnd) → SourceCaused end out → SourceRose out
 by_end out Faulted x = inl x
@@ -210,12 +210,12 @@ module _ (grammar : Grammar) (storms : Storms) (out : Outside) (given : Status) 
   early_fault (Prints script) e = absurd cc
   early_fault EarlyOutOfMemory e = absurd cc
 
-  runs_fault : (command : Option Command) → CommandRuns grammar storms command out given text own → own ≡ status.MediaFault → HasRisen out.faults out.faults_now
+  runs_fault : (command : Option Command) → CommandRuns grammar storms command out given text own → own ≡ status.MediaFault → HasRisen out.media.old.faults out.media.new.faults
   runs_fault None x e = absurd x
-  runs_fault (Some (Single me shot)) x e = risen out.faults out.faults_now x.run.journal x.run.counted (shot_fault out x.events x.run.journal shot x.ending x.run.caused (sym x.run.status_is ∙ e))
-  runs_fault (Some (Script name)) x e = risen out.faults out.faults_now x.run.journal x.run.counted (script_fault out x.events x.run.journal x.ending x.run.caused (sym x.run.status_is ∙ e))
+  runs_fault (Some (Single me shot)) x e = risen out.media.old.faults out.media.new.faults x.run.journal x.run.counted (shot_fault out x.events x.run.journal shot x.ending x.run.caused (sym x.run.status_is ∙ e))
+  runs_fault (Some (Script name)) x e = risen out.media.old.faults out.media.new.faults x.run.journal x.run.counted (script_fault out x.events x.run.journal x.ending x.run.caused (sym x.run.status_is ∙ e))
   runs_fault (Some (Storm seed size true)) x e = absurd x
-  runs_fault (Some (Storm seed size false)) x e = risen out.faults out.faults_now x.run.journal x.run.counted (storm_fault out x.events x.run.journal x.ending x.run.caused (sym x.run.status_is ∙ e))
+  runs_fault (Some (Storm seed size false)) x e = risen out.media.old.faults out.media.new.faults x.run.journal x.run.counted (storm_fault out x.events x.run.journal x.ending x.run.caused (sym x.run.status_is ∙ e))
 
   runs_source : (command : Option Command) → CommandRuns grammar storms command out given text own → own ≡ status.SourceFault → SourceRose out
   runs_source None x e = absurd x
@@ -240,7 +240,7 @@ module _ (grammar : Grammar) (storms : Storms) (out : Outside) (given : Status) 
   early_source command (Prints script) x e = absurd cc
   early_source command EarlyOutOfMemory x e = absurd cc
 
-  shows_fault : (command : Option Command) → EndsEarly grammar storms command out text own ⊎ CommandRuns grammar storms command out given text own → own ≡ status.MediaFault → HasRisen out.faults out.faults_now
+  shows_fault : (command : Option Command) → EndsEarly grammar storms command out text own ⊎ CommandRuns grammar storms command out given text own → own ≡ status.MediaFault → HasRisen out.media.old.faults out.media.new.faults
   shows_fault command (inl x) e = absurd (early_fault x.early (sym x.status_is ∙ e))
   shows_fault command (inr x) e = runs_fault command x e
 
@@ -253,15 +253,15 @@ module _ (grammar : Grammar) (storms : Storms) (command : Option Command) (out :
   own_status : (wanted : Status) → given ≡ wanted → (wanted ≡ status.SinkFault → ⊥) → top.own ≡ wanted
   own_status wanted e other = go top.put.outcome
     where
-      go : ((given ≡ top.own) × (out.bytes_now ≡ option_map (with_piece top.text) out.bytes)) ⊎ ((given ≡ status.SinkFault) × IsPartlyPut out.bytes out.bytes_now top.text) → top.own ≡ wanted
+      go : ((given ≡ top.own) × (out.sink.new.bytes ≡ option_map (with_piece top.text) out.sink.old.bytes)) ⊎ ((given ≡ status.SinkFault) × IsPartlyPut out.sink.old.bytes out.sink.new.bytes top.text) → top.own ≡ wanted
       go (inl x) = sym x.0 ∙ e
       go (inr x) = absurd (other (sym e ∙ x.0))
 
-  pub media_cause : given ≡ status.MediaFault → HasRisen out.faults out.faults_now
+  pub media_cause : given ≡ status.MediaFault → HasRisen out.media.old.faults out.media.new.faults
   media_cause e = shows_fault grammar storms out given top.text top.own command top.shows (own_status status.MediaFault e (λ z. absurd cc))
 
   pub source_cause : given ≡ status.SourceFault → SourceRose out
   source_cause e = shows_source grammar storms out given top.text top.own command top.shows (own_status status.SourceFault e (λ z. absurd cc))
 
-  pub sink_cause : given ≡ status.SinkFault → HasRisen out.sink out.sink_now
+  pub sink_cause : given ≡ status.SinkFault → HasRisen out.sink.old.faults out.sink.new.faults
   sink_cause e = top.put.rose e

@@ -58,9 +58,9 @@ module _ (out : Outside) (none : NoneRose out) where
   no_source Faulted x = none.shelf x
   no_source (Short size got) x = none.shorts x.0
 
-  module _ (journal : List Note) (counted : HasCounted out.faults out.faults_now journal) where
+  module _ (journal : List Note) (counted : HasCounted out.media.old.faults out.media.new.faults journal) where
     no_fault : (1 ≤ faults_of journal) → ⊥
-    no_fault some = none.media (risen out.faults out.faults_now journal counted some)
+    no_fault some = none.media (risen out.media.old.faults out.media.new.faults journal counted some)
 
     is_clean : IsFaultless journal
     is_clean = go (faults_of journal) refl
@@ -95,7 +95,7 @@ module _ (out : Outside) (none : NoneRose out) where
   good_run true = inl refl
   good_run false = inr (inl refl)
 
-  script_run : (events : List Event) (journal : List Note) → HasCounted out.faults out.faults_now journal → (ending : Ending) → IsCaused ending events journal out → IsRun (script_status ending journal)
+  script_run : (events : List Event) (journal : List Note) → HasCounted out.media.old.faults out.media.new.faults journal → (ending : Ending) → IsCaused ending events journal out → IsRun (script_status ending journal)
   script_run events journal counted AllDone caused = good_run (is_good journal)
   script_run events journal counted MkfsFails caused = absurd (no_fault journal counted (broken_faults events journal caused))
   script_run events journal counted (SourceFails end) caused = absurd (no_source end caused)
@@ -103,7 +103,7 @@ module _ (out : Outside) (none : NoneRose out) where
   script_run events journal counted EndsOutOfMemoryBroken caused = absurd (no_fault journal counted (broken_faults events journal caused))
   script_run events journal counted SinkFails caused = absurd (none.sink caused)
 
-  storm_run : (events : List Event) (journal : List Note) → HasCounted out.faults out.faults_now journal → (ending : Ending) → IsCaused ending events journal out → (storm_status ending journal ≡ status.Done) ⊎ (storm_status ending journal ≡ status.OutOfMemory)
+  storm_run : (events : List Event) (journal : List Note) → HasCounted out.media.old.faults out.media.new.faults journal → (ending : Ending) → IsCaused ending events journal out → (storm_status ending journal ≡ status.Done) ⊎ (storm_status ending journal ≡ status.OutOfMemory)
   storm_run events journal counted AllDone caused = inl refl
   storm_run events journal counted MkfsFails caused = absurd (no_fault journal counted (broken_faults events journal caused))
   storm_run events journal counted (SourceFails end) caused = absurd (no_source end caused)
@@ -115,11 +115,11 @@ module _ (out : Outside) (none : NoneRose out) where
     own_is : (command : Option Command) (top : TopEnds grammar storms command out given) → given ≡ top.own
     own_is command top = go top.put.outcome
       where
-        go : ((given ≡ top.own) × (out.bytes_now ≡ option_map (with_piece top.text) out.bytes)) ⊎ ((given ≡ status.SinkFault) × IsPartlyPut out.bytes out.bytes_now top.text) → given ≡ top.own
+        go : ((given ≡ top.own) × (out.sink.new.bytes ≡ option_map (with_piece top.text) out.sink.old.bytes)) ⊎ ((given ≡ status.SinkFault) × IsPartlyPut out.sink.old.bytes out.sink.new.bytes top.text) → given ≡ top.own
         go (inl x) = x.0
         go (inr x) = absurd (none.sink (top.put.rose x.0))
 
-    module _ (name : List ℕ) (files : Files) (bytes : List ℕ) (events : List Event) (told : out.files ≡ Some files) (holds : finmap.get files name ≡ Some bytes) (within : length bytes ≤ script_limit) (reads : grammar bytes ≡ Ok events) where
+    module _ (name : List ℕ) (files : Files) (bytes : List ℕ) (events : List Event) (told : out.shelf.old.files ≡ Some files) (holds : finmap.get files name ≡ Some bytes) (within : length bytes ≤ script_limit) (reads : grammar bytes ≡ Ok events) where
       early_run : (early : Early) → IsEarly grammar storms (Some (Script name)) out early → IsRun (early_status early)
       early_run NoCommand x = absurd cc
       early_run (NoScript own) x = absurd (let missing = x.1 files told in cc)

@@ -191,7 +191,7 @@ module _ (script : List ℕ) (within : length script ≤ script_limit) (files : 
         caused = tt;
         text_is = refl;
         status_is = refl;
-        told = modelled [] (λ (start : Image). IfModelled out.files (λ (z : Files). RunsOn AllDone z two start out.image_now notes)) (modelled files (λ (z : Files). RunsOn AllDone z two [] out.image_now notes) ran);
+        told = modelled [] (λ (start : Image). IfModelled out.shelf.old.files (λ (z : Files). RunsOn AllDone z two start out.media.new.image notes)) (modelled files (λ (z : Files). RunsOn AllDone z two [] out.media.new.image notes) ran);
       };
       whole = λ e. refl;
       each = each;

@@ -34,7 +34,7 @@ returns-in-Ok-clause-keeps g c =
 
 pub returns-in_ok-word-in_default-clause-places : goal.returns-in_ok-word-in_default-clause-places
 returns-in_ok-word-in_default-clause-places g c = λ on ready has.
-    kept c.args.task.now c.feed.new.self c.next.result c.in_ok-word-in_default.word c.feed.result (g.M.Media.image c.args.media.now) c.args.cache.now c.perform.new.self c.next.ensures.op c.is_sound.ensures
+    kept c.args.task.now c.feed.new.self c.next.result c.in_ok-word-in_default.word c.feed.result (g.M.Media.state c.args.media.now).image c.args.cache.now c.perform.new.self c.next.ensures.op c.is_sound.ensures
     c.perform.ensures.spare c.perform.ensures.held_spare c.in_ok-word-in_default.ensures.cache c.feed.ensures.turn on ready has
 
 pub returns-in-Ok-clause-places : goal.returns-in-Ok-clause-places

@@ -24,11 +24,11 @@ use Rattle.fam_world.proofs.steps.finish_at.Goals as goal
 
 pub operations-init : goal.operations-init
 operations-init g c = record {
-  far = first_so_far c.args.at (g.M.Media.size c.args.media.now) (world_view c.args.hosts.now.items c.args.journal.now.items) (g.M.Media.image c.args.media.now) (g.M.Media.faults c.args.media.now);
+  far = first_so_far c.args.at (g.M.Media.state c.args.media.now).size (world_view c.args.hosts.now.items c.args.journal.now.items) (g.M.Media.state c.args.media.now).image (g.M.Media.state c.args.media.now).faults;
   size = refl;
   len = refl;
   runs = c.requires.runs;
-  safe = λ start h is. unstored_safe (g.M.Media.image c.args.media.now) h.task h.cache (vec_len c.args.journal.now) (vec_capacity c.args.journal.now) (start h is);
+  safe = λ start h is. unstored_safe (g.M.Media.state c.args.media.now).image h.task h.cache (vec_len c.args.journal.now) (vec_capacity c.args.journal.now) (start h is);
   fits = λ view is. (c.requires.fits c.args.at view is).task;
 }
 
@@ -122,26 +122,26 @@ operations-preserved g c =
     let runs_then = sym (ap is_some task_then) ∙ come_runs at t.0 _ over going step in
     let z = c.held_on.new.host in
     let held = held_host x_then z c.held_on.result runs_then c.held_on.ensures.runs c.held_on.ensures.held c.held_on.ensures.sound_on in
-    let lines : t.0.lines ≡ g.M.Media.size c.operations.media = subst (TaskFits (g.M.Media.size c.operations.media)) t.1 (inv.fits (host_view x) view_is) in
-    let size = g.M.Media.size c.args.media.now in
+    let lines : t.0.lines ≡ (g.M.Media.state c.operations.media).size = subst (TaskFits (g.M.Media.state c.operations.media).size) t.1 (inv.fits (host_view x) view_is) in
+    let size = (g.M.Media.state c.args.media.now).size in
     let journal = c.go_on.new.journal.items in
     let then_world = world_view items_then journal in
-    let same_size : g.M.Media.size c.go_on.new.media ≡ size = c.go_on.ensures.size ∙ inv.size in
-    let fits_then : TaskFits (g.M.Media.size c.go_on.new.media) x_then.task =
-    subst (TaskFits (g.M.Media.size c.go_on.new.media)) task_then (come_fits at t.0 _ over _ going step (lines ∙ sym c.go_on.ensures.size)) in
-    let old_fits : held.old.lines ≡ g.M.Media.size c.go_on.new.media = subst (TaskFits (g.M.Media.size c.go_on.new.media)) held.old_is fits_then in
-    let far = far_come c.args.name.now at size (world_view c.args.hosts.now.items c.args.journal.now.items) (g.M.Media.image c.args.media.now) (g.M.Media.faults c.args.media.now)
-    (world_view items c.operations.journal.items) (g.M.Media.image c.operations.media) (g.M.Media.faults c.operations.media) inv.far c.requires.number (host_view x) t.0 view_is t.1 (lines ∙ inv.size)
+    let same_size : (g.M.Media.state c.go_on.new.media).size ≡ size = c.go_on.ensures.size ∙ inv.size in
+    let fits_then : TaskFits (g.M.Media.state c.go_on.new.media).size x_then.task =
+    subst (TaskFits (g.M.Media.state c.go_on.new.media).size) task_then (come_fits at t.0 _ over _ going step (lines ∙ sym c.go_on.ensures.size)) in
+    let old_fits : held.old.lines ≡ (g.M.Media.state c.go_on.new.media).size = subst (TaskFits (g.M.Media.state c.go_on.new.media).size) held.old_is fits_then in
+    let far = far_come c.args.name.now at size (world_view c.args.hosts.now.items c.args.journal.now.items) (g.M.Media.state c.args.media.now).image (g.M.Media.state c.args.media.now).faults
+    (world_view items c.operations.journal.items) (g.M.Media.state c.operations.media).image (g.M.Media.state c.operations.media).faults inv.far c.requires.number (host_view x) t.0 view_is t.1 (lines ∙ inv.size)
     (omega (arith, c.requires.within, inv.len, length-map items host_view)) (λ i is. g.met.M.Media.modelled c.operations.media i is ∙ inv.size)
-    then_world (host_view y) (g.M.Media.image c.go_on.new.media) (g.M.Media.faults c.go_on.new.media) (map_set host_view (λ v. host_view y) items at y x at_is refl) over
-    (notes_view c.make_room.new.journal.items) (ap notes_view c.make_room.ensures.same) (g.M.Media.size c.operations.media) inv.size step in
-    let far_then = far_held c.args.name.now at size (world_view c.args.hosts.now.items c.args.journal.now.items) (g.M.Media.image c.args.media.now) (g.M.Media.faults c.args.media.now) c.requires.number
-    (g.M.Media.image c.go_on.new.media) (g.M.Media.faults c.go_on.new.media) (g.met.M.Media.normal c.go_on.new.media) (λ i is. g.met.M.Media.modelled c.go_on.new.media i is ∙ same_size)
+    then_world (host_view y) (g.M.Media.state c.go_on.new.media).image (g.M.Media.state c.go_on.new.media).faults (map_set host_view (λ v. host_view y) items at y x at_is refl) over
+    (notes_view c.make_room.new.journal.items) (ap notes_view c.make_room.ensures.same) (g.M.Media.state c.operations.media).size inv.size step in
+    let far_then = far_held c.args.name.now at size (world_view c.args.hosts.now.items c.args.journal.now.items) (g.M.Media.state c.args.media.now).image (g.M.Media.state c.args.media.now).faults c.requires.number
+    (g.M.Media.state c.go_on.new.media).image (g.M.Media.state c.go_on.new.media).faults (g.met.M.Media.normal c.go_on.new.media) (λ i is. g.met.M.Media.modelled c.go_on.new.media i is ∙ same_size)
     then_world far (host_view x_then) then_view (omega (arith, c.requires.within, inv.len, length-set items at y, length-map items_then host_view))
     held.old held.new x_then.cache.lines z.cache.lines held.run held.old_is refl (old_fits ∙ same_size) in
     let now = view_set items_then at x_then z then_is in
     record {
-      far = subst (λ (w : WorldView). SoFar at size (world_view c.args.hosts.now.items c.args.journal.now.items) (g.M.Media.image c.args.media.now) (g.M.Media.faults c.args.media.now) w (g.M.Media.image c.go_on.new.media) (g.M.Media.faults c.go_on.new.media))
+      far = subst (λ (w : WorldView). SoFar at size (world_view c.args.hosts.now.items c.args.journal.now.items) (g.M.Media.state c.args.media.now).image (g.M.Media.state c.args.media.now).faults w (g.M.Media.state c.go_on.new.media).image (g.M.Media.state c.go_on.new.media).faults)
           (sym (held_world items_then at x_then z then_is c.held_on.result held journal c.held_on.ensures.heading)) far_then;
       size = same_size;
       len = inv.len;
@@ -149,9 +149,9 @@ operations-preserved g c =
       safe = λ start h is.
           let notes = vec_len c.go_on.new.journal in
           let room = vec_capacity c.go_on.new.journal in
-          let told = g.M.Media.image c.args.media.now in
-          let now_told = g.M.Media.image c.go_on.new.media in
-          let safe_old = subst (λ (o : Option Task). IsSafe told (g.M.Media.image c.operations.media) o x.cache (vec_len c.operations.journal) (vec_capacity c.operations.journal)) t.1 (inv.safe start x at_is) in
+          let told = (g.M.Media.state c.args.media.now).image in
+          let now_told = (g.M.Media.state c.go_on.new.media).image in
+          let safe_old = subst (λ (o : Option Task). IsSafe told (g.M.Media.state c.operations.media).image o x.cache (vec_len c.operations.journal) (vec_capacity c.operations.journal)) t.1 (inv.safe start x at_is) in
           let places = subst (λ (o : Option Task). IfSome o (λ m. IsFirstStore m ⊎ HasPlaces m x.cache → TaskHasPlaces y.task y.cache)) t.1 (c.in_ok-go_on.ensures.places going) in
           let quiet = subst (λ (o : Option Task). IfSome o (λ m. IsFirstStore m ⊎ HasPlaces m x.cache → c.go_on.new.journal ≡ c.make_room.new.journal)) t.1 (c.in_ok-go_on.ensures.quiet going) in
           let safe_then : IsSafe told now_told y.task y.cache notes room =
@@ -160,7 +160,7 @@ operations-preserved g c =
           let safe_here : IsSafe told now_told x_then.task x_then.cache notes room =
           subst (λ (v : Host). IsSafe told now_told v.task v.cache notes room) (same_Some y x_then (sym (set_member items at x y at_is) ∙ then_is)) safe_then in
           subst (λ (v : Host). IsSafe told now_told v.task v.cache notes room) (same_Some z h (sym (set_member items_then at x_then z then_is) ∙ is)) (c.held_on.ensures.safe told now_told notes room safe_here);
-      fits = λ view is. subst (λ (v : HostView). TaskFits (g.M.Media.size c.go_on.new.media) v.task) (same_Some (host_view z) view (sym now ∙ is)) (held_fits x_then z c.held_on.result held (g.M.Media.size c.go_on.new.media) fits_then);
+      fits = λ view is. subst (λ (v : HostView). TaskFits (g.M.Media.state c.go_on.new.media).size v.task) (same_Some (host_view z) view (sym now ∙ is)) (held_fits x_then z c.held_on.result held (g.M.Media.state c.go_on.new.media).size fits_then);
     }
 
 pub returns-in-Answered-clause-far : goal.returns-in-Answered-clause-far
@@ -173,12 +173,12 @@ returns-in-Answered-clause-far g c =
     let at_is = slice_get_read items (length items) at x refl (omega (arith, c.requires.within, inv.len)) c.index_mut.ensures.value in
     let view_is = map_at host_view items at x at_is in
     let t = some_of x.task (inv.runs (host_view x) view_is) in
-    let lines : t.0.lines ≡ g.M.Media.size c.operations.media = subst (TaskFits (g.M.Media.size c.operations.media)) t.1 (inv.fits (host_view x) view_is) in
-    far_come c.args.name.now at (g.M.Media.size c.args.media.now) (world_view c.args.hosts.now.items c.args.journal.now.items) (g.M.Media.image c.args.media.now) (g.M.Media.faults c.args.media.now)
-    (world_view items c.operations.journal.items) (g.M.Media.image c.operations.media) (g.M.Media.faults c.operations.media) inv.far c.requires.number (host_view x) t.0 view_is t.1 (lines ∙ inv.size)
+    let lines : t.0.lines ≡ (g.M.Media.state c.operations.media).size = subst (TaskFits (g.M.Media.state c.operations.media).size) t.1 (inv.fits (host_view x) view_is) in
+    far_come c.args.name.now at (g.M.Media.state c.args.media.now).size (world_view c.args.hosts.now.items c.args.journal.now.items) (g.M.Media.state c.args.media.now).image (g.M.Media.state c.args.media.now).faults
+    (world_view items c.operations.journal.items) (g.M.Media.state c.operations.media).image (g.M.Media.state c.operations.media).faults inv.far c.requires.number (host_view x) t.0 view_is t.1 (lines ∙ inv.size)
     (omega (arith, c.requires.within, inv.len, length-map items host_view)) (λ i is. g.met.M.Media.modelled c.operations.media i is ∙ inv.size)
-    _ (host_view y) (g.M.Media.image c.go_on.new.media) (g.M.Media.faults c.go_on.new.media) (map_set host_view (λ v. host_view y) items at y x at_is refl) (is_over c.in_ok-go_on.field-0)
-    (notes_view c.make_room.new.journal.items) (ap notes_view c.make_room.ensures.same) (g.M.Media.size c.operations.media) inv.size (c.in_ok-go_on.ensures.step t.0 t.1)
+    _ (host_view y) (g.M.Media.state c.go_on.new.media).image (g.M.Media.state c.go_on.new.media).faults (map_set host_view (λ v. host_view y) items at y x at_is refl) (is_over c.in_ok-go_on.field-0)
+    (notes_view c.make_room.new.journal.items) (ap notes_view c.make_room.ensures.same) (g.M.Media.state c.operations.media).size inv.size (c.in_ok-go_on.ensures.step t.0 t.1)
 
 pub returns-in-Answered-clause-over : goal.returns-in-Answered-clause-over
 returns-in-Answered-clause-over g c = λ view is.
@@ -197,7 +197,7 @@ returns-in_err-make_room-clause-same g c =
     let h = member_of c.operations.hosts.items c.args.at (omega (arith, c.requires.within, inv.len)) in
     on_err_of c.from_residual.result
     (λ start.
-    full_same (g.M.Media.image c.args.media.now) (g.M.Media.image c.operations.media) h.0.task h.0.cache (vec_len c.operations.journal) (vec_capacity c.operations.journal)
+    full_same (g.M.Media.state c.args.media.now).image (g.M.Media.state c.operations.media).image h.0.task h.0.cache (vec_len c.operations.journal) (vec_capacity c.operations.journal)
     (inv.runs (host_view h.0) (map_at host_view c.operations.hosts.items c.args.at h.0 h.1)) c.in_err-make_room.ensures.full (inv.safe start h.0 h.1))
 
 pub returns-in_err-go_on-clause-same : goal.returns-in_err-go_on-clause-same
@@ -207,12 +207,12 @@ returns-in_err-go_on-clause-same g c =
     let at = c.args.at in
     let inv = c.operations.invariant in
     let at_is = slice_get_read items (length items) at x refl (omega (arith, c.requires.within, inv.len)) c.index_mut.ensures.value in
-    let told = g.M.Media.image c.args.media.now in
+    let told = (g.M.Media.state c.args.media.now).image in
     on_err_of c.from_residual-in_err-go_on.result
     (λ start.
-    let same : IfModelled told (λ image. g.M.Media.image c.operations.media ≡ Some image) =
-    lacks_same told (g.M.Media.image c.operations.media) x.task x.cache (vec_len c.operations.journal) (vec_capacity c.operations.journal) (inv.runs (host_view x) (map_at host_view items at x at_is)) c.in_err-go_on.ensures.enough (inv.safe start x at_is) in
-    subst (λ m. IfModelled told (λ image. g.M.Media.image m ≡ Some image)) (sym c.in_err-go_on.ensures.undone) same)
+    let same : IfModelled told (λ image. (g.M.Media.state c.operations.media).image ≡ Some image) =
+    lacks_same told (g.M.Media.state c.operations.media).image x.task x.cache (vec_len c.operations.journal) (vec_capacity c.operations.journal) (inv.runs (host_view x) (map_at host_view items at x at_is)) c.in_err-go_on.ensures.enough (inv.safe start x at_is) in
+    subst (λ m. IfModelled told (λ image. (g.M.Media.state m).image ≡ Some image)) (sym c.in_err-go_on.ensures.undone) same)
 
 pub returns-in_err-go_on-clause-far : goal.returns-in_err-go_on-clause-far
 returns-in_err-go_on-clause-far g c =
@@ -221,15 +221,15 @@ returns-in_err-go_on-clause-far g c =
     let y = c.go_on.new.host in
     let at = c.args.at in
     let at_is = slice_get_read items (length items) at x refl (omega (arith, c.requires.within, c.operations.invariant.len)) c.index_mut.ensures.value in
-    let size = g.M.Media.size c.args.media.now in
+    let size = (g.M.Media.state c.args.media.now).size in
     let old = world_view c.args.hosts.now.items c.args.journal.now.items in
-    let told = g.M.Media.image c.args.media.now in
-    let faults = g.M.Media.faults c.args.media.now in
+    let told = (g.M.Media.state c.args.media.now).image in
+    let faults = (g.M.Media.state c.args.media.now).faults in
     let notes : notes_view c.go_on.new.journal.items ≡ notes_view c.operations.journal.items = ap notes_view (c.in_err-go_on.ensures.journal ∙ c.make_room.ensures.same) in
     let world : world_view (set items at y) c.go_on.new.journal.items ≡ world_view items c.operations.journal.items =
     ap₂ (λ (hosts : List HostView) (journal : List Note). record { hosts = hosts; journal = journal }) (map_same host_view items at y x at_is c.in_err-go_on.ensures.view) notes in
-    subst (λ m. SoFar at size old told faults (world_view (set items at y) c.go_on.new.journal.items) (g.M.Media.image m) (g.M.Media.faults m)) (sym c.in_err-go_on.ensures.undone)
-    (subst (λ (w : WorldView). SoFar at size old told faults w (g.M.Media.image c.operations.media) (g.M.Media.faults c.operations.media)) (sym world) c.operations.invariant.far)
+    subst (λ m. SoFar at size old told faults (world_view (set items at y) c.go_on.new.journal.items) (g.M.Media.state m).image (g.M.Media.state m).faults) (sym c.in_err-go_on.ensures.undone)
+    (subst (λ (w : WorldView). SoFar at size old told faults w (g.M.Media.state c.operations.media).image (g.M.Media.state c.operations.media).faults) (sym world) c.operations.invariant.far)
 
 pub returns-in_err-make_room-clause-runs : goal.returns-in_err-make_room-clause-runs
 returns-in_err-make_room-clause-runs g c = on_err_of c.from_residual.result c.operations.invariant.runs
