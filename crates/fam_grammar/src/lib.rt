@@ -16,7 +16,7 @@ mod spellings;
 mod words;
 
 pub use fault::LineFault;
-pub use laws::{a_printed_command_reads_as_itself, what_reads_is_sound};
+pub use laws::what_reads_is_sound;
 pub use numbers::{number, size};
 pub use script::read_line;
 pub use spellings::{count_of, id_of, mode_of};

@@ -7,14 +7,14 @@ use Rattle.fam_rules.specs.Reply.{Reply}
 use Rattle.fam_journal.specs.declared.event.Event.{Event}
 use Rattle.fam_journal.specs.declared.refusal.Refusal.{Refusal}
 use Rattle.fam_journal.specs.declared.refusal.Refusal.TheVariants as why
-use Rattle.fam_journal.specs.declared.status.Status.{Status}
-use Rattle.fam_journal.specs.declared.status.Status.TheVariants as status
+use Rattle.fam_outcomes.specs.declared.status.Status.{Status}
+use Rattle.fam_outcomes.specs.declared.status.Status.TheVariants as status
 use Rattle.fam_journal.specs.Ends.{AllDone, Ending, HasCounted, MkfsFails, EndsOutOfMemory, EndsOutOfMemoryBroken, SinkFails, SourceFails, faults_of, note_faults}
 use Rattle.fam_journal.specs.Follows.{Faulted, Short, SourceEnd}
 use Rattle.fam_journal.specs.Notes.{Answer, Replied, MediaFault, Note, Host, Made, Start, Mark, Found, Writes, Answered, Stop, Halt, Refused}
-use Rattle.fam_journal.specs.Programs.{BadLine, Command, CommandRuns, Early, EndsEarly, Grammar, IsEarly, LongScript, Makes, MakesParents, NoCommand, EarlyOutOfMemory, NoScript, OfScript, OneShot, Prints, Runs, Script, ScriptCaused, ScriptFails, Single, Storm, Storms, TopEnds, done_status, early_status, script_status, shot_status, storm_status}
-use Rattle.fam_journal.specs.Runs.{EndsBroken, HasRisen, IsCaused, Outside, SourceCaused}
-use Rattle.fam_journal.specs.Statuses.{answer_status, cause_status, good_status, is_good, last_status, last_stops, note_status, parents_status, reply_status, sound_status}
+use Rattle.fam_outcomes.specs.Programs.{BadLine, Command, CommandRuns, Early, EndsEarly, Grammar, IsEarly, LongScript, Makes, MakesParents, NoCommand, EarlyOutOfMemory, NoScript, OfScript, OneShot, Prints, Runs, Script, ScriptCaused, ScriptFails, Single, Storm, Storms, TopEnds, done_status, early_status, script_status, shot_status, storm_status}
+use Rattle.fam_outcomes.specs.Runs.{EndsBroken, HasRisen, IsCaused, Outside, SourceCaused}
+use Rattle.fam_outcomes.specs.Statuses.{answer_status, cause_status, good_status, is_good, last_status, last_stops, note_status, parents_status, reply_status, sound_status}
 
 -- What is said of a command, alone: a status of its own, or that the media failed.
 

@@ -9,8 +9,8 @@ use Rattle.fam_media.specs.Files.{Files}
 use Rattle.fam_media.specs.Outside.{IsPartlyPut, with_piece}
 use Rattle.fam_journal.specs.declared.event.Event.{Event}
 use Rattle.fam_journal.specs.declared.event.Event.TheVariants as event
-use Rattle.fam_journal.specs.declared.status.Status.{Status}
-use Rattle.fam_journal.specs.declared.status.Status.TheVariants as status
+use Rattle.fam_outcomes.specs.declared.status.Status.{Status}
+use Rattle.fam_outcomes.specs.declared.status.Status.TheVariants as status
 use Rattle.fam_journal.specs.Calls.{refusal_of}
 use Rattle.fam_journal.specs.Complete.{IsComplete, RunEnds, RunsEnd}
 use Rattle.fam_journal.specs.Ends.{AllDone, Ending, HasCounted, IsFaultless, MkfsFails, EndsOutOfMemory, EndsOutOfMemoryBroken, SinkFails, SourceFails, faults_of}
@@ -18,10 +18,10 @@ use Rattle.fam_journal.specs.Events.{DoesEvent, Session, first_session}
 use Rattle.fam_journal.specs.Follows.{Faulted, Follows, Short, SourceEnd}
 use Rattle.fam_journal.specs.Laws.{AreSound, IsImage}
 use Rattle.fam_journal.specs.Notes.{Note}
-use Rattle.fam_journal.specs.Programs.{BadLine, Command, CommandRuns, Early, EndsEarly, Grammar, IsEarly, LongScript, NoCommand, EarlyOutOfMemory, NoScript, Prints, Script, ScriptFails, Storm, Storms, TopEnds, early_status, script_limit, script_status, storm_status}
-use Rattle.fam_journal.specs.Runs.{IsCaused, NoneRose, Outside, RunsOn, SourceCaused}
-use Rattle.fam_journal.specs.Statuses.{good_status, is_good}
-use Rattle.fam_journal.proofs.Runs.Causes.{broken_faults, risen}
+use Rattle.fam_outcomes.specs.Programs.{BadLine, Command, CommandRuns, Early, EndsEarly, Grammar, IsEarly, LongScript, NoCommand, EarlyOutOfMemory, NoScript, Prints, Script, ScriptFails, Storm, Storms, TopEnds, early_status, script_limit, script_status, storm_status}
+use Rattle.fam_outcomes.specs.Runs.{IsCaused, NoneRose, Outside, RunsOn, SourceCaused}
+use Rattle.fam_outcomes.specs.Statuses.{good_status, is_good}
+use Rattle.fam_outcomes.proofs.Causes.{broken_faults, risen}
 use Rattle.fam_journal.proofs.Runs.Completing.{all_ruled, run_ends}
 use Rattle.fam_journal.proofs.Runs.Unique.{clean_prefix, clean_rest}
 

@@ -30,7 +30,7 @@ use Rattle.fam_machine.specs.Mkfs as early
 use Rattle.fam_journal.specs.Names.{AreNamed, IsNamed, NameDeclared, NamesCause, declared_after}
 use Rattle.fam_journal.specs.Notes.{Note, Host, Made, Start, Mark, Found, Writes, Answered, Stop, Halt, Refused}
 use Rattle.fam_journal.specs.Past.{HostPast, Past, hosts_after, past_after, past_behind}
-use Rattle.fam_journal.specs.Texts.{names_after, names_behind, note_line, render, render_behind}
+use Rattle.fam_outcomes.specs.Texts.{names_after, names_behind, note_line, render, render_behind}
 
 -- Texts.
 

@@ -14,24 +14,27 @@ use Rattle.fam_journal.specs.declared.event.Ask.{Ask}
 use Rattle.fam_journal.specs.declared.event.Ask.TheVariants as ask
 use Rattle.fam_journal.specs.declared.event.Event.{Event}
 use Rattle.fam_journal.specs.declared.event.Event.TheVariants as event
-use Rattle.fam_journal.specs.declared.status.Status.{Status}
-use Rattle.fam_journal.specs.declared.status.Status.TheVariants as status
+use Rattle.fam_outcomes.specs.declared.status.Status.{Status}
+use Rattle.fam_outcomes.specs.declared.status.Status.TheVariants as status
 use Rattle.fam_journal.specs.Ends.{AllDone, Ending, EventsDone, MkfsFails, EndsOutOfMemory, EndsOutOfMemoryBroken, IsFaultless, SinkFails, SourceFails, counted}
 use Rattle.fam_journal.specs.Follows.{Faulted, FollowsCut, FollowsLast, Short, SourceEnd}
 use Rattle.fam_journal.specs.Notes.{Note, Host, Made, Start, Mark, Found, Writes, Answered, Stop, Halt, Refused}
-use Rattle.fam_journal.specs.Runs.{HasRun, IsPut, NoneFalls, Outside, RunsOn, SourceCaused}
-use Rattle.fam_journal.specs.Statuses.{good_status, is_good, last_status, last_stops, note_stops, parents_status}
-use Rattle.fam_journal.specs.Texts.{line, name_text, number, render, shown}
+use Rattle.fam_outcomes.specs.Runs.{HasRun, IsPut, NoneFalls, Outside, RunsOn, SourceCaused}
+use Rattle.fam_outcomes.specs.Statuses.{good_status, is_good, last_status, last_stops, note_stops, parents_status}
+use Rattle.fam_outcomes.specs.Texts.{line, name_text, number, render, shown}
 
 -- Lines that end a run early.
 
+-- the line of a source that failed or was short
 abbrev pub source_line : SourceEnd → List ℕ
 source_line Faulted = line (codes "source fault")
 source_line (Short size got) = line (codes "short source" ++ number size ++ number got)
 
+-- the line of a run for which no memory was left
 abbrev pub memory_line : List ℕ
 memory_line = line (codes "out of memory")
 
+-- the line of words that are no command
 abbrev pub usage_line : List ℕ
 usage_line = line (codes "usage: famfs mkfs|logplay|mkdir|creat|cp|verify|read|check|fsck|script|storm WORDS")
 
@@ -47,6 +50,7 @@ ScriptPuts EndsOutOfMemory journal text = (count : ℕ) × (text ≡ render (tak
 ScriptPuts EndsOutOfMemoryBroken journal text = (count : ℕ) × (text ≡ render (take count journal) ++ memory_line)
 ScriptPuts SinkFails journal text = text ≡ render journal
 
+-- the status of a script, by how its run ends
 abbrev pub script_status : Ending → List Note → Status
 script_status AllDone journal = good_status (is_good journal)
 script_status MkfsFails journal = status.MediaFault
@@ -68,6 +72,7 @@ abbrev pub prefixes_behind : List ℕ → List ℕ → List (List ℕ)
 prefixes_behind prefix [] = prefix ∷ []
 prefixes_behind prefix (byte ∷ bytes) = if byte == slash then prefix ∷ prefixes_behind (prefix ++ byte ∷ []) bytes else prefixes_behind (prefix ++ byte ∷ []) bytes
 
+-- the directories along a path, the shortest first, and last the path itself
 abbrev pub path_prefixes : List ℕ → List (List ℕ)
 path_prefixes path = prefixes_behind [] path
 
@@ -105,6 +110,7 @@ ends_mkfs (Stop host) = false
 ends_mkfs (Halt host) = false
 ends_mkfs (Refused name cause) = true
 
+-- a note that ends a command: its answer, or a refusal
 abbrev pub ends_command : Note → Bool
 ends_command (Host name uuid) = false
 ends_command (Made host p) = false
@@ -117,6 +123,7 @@ ends_command (Stop host) = false
 ends_command (Halt host) = false
 ends_command (Refused name cause) = true
 
+-- a note that ends a run of a command on its own
 abbrev pub ends_shot : OneShot → Note → Bool
 ends_shot (Makes fs unit log force) note = ends_mkfs note
 ends_shot (Runs what) note = ends_command note
@@ -140,6 +147,7 @@ ShotText shot EndsOutOfMemory journal text = (text ≡ memory_line) × IsFaultle
 ShotText shot EndsOutOfMemoryBroken journal text = ⊥
 ShotText shot SinkFails journal text = ⊥
 
+-- what a command on its own puts, of a run up to the note that stops it
 abbrev pub ShotPuts : List ℕ → OneShot → List Event → Ending → List Note → List ℕ → Type 0
 ShotPuts me shot events ending journal text = IsWholeRun me shot events journal × ShotText shot ending journal text
 
@@ -149,6 +157,7 @@ done_status (Makes fs unit log force) journal = last_status journal
 done_status (Runs what) journal = last_status journal
 done_status (MakesParents path attr) journal = parents_status journal
 
+-- the status of a command on its own, by how its run ends
 abbrev pub shot_status : OneShot → Ending → List Note → Status
 shot_status shot AllDone journal = done_status shot journal
 shot_status shot MkfsFails journal = status.MediaFault
@@ -173,6 +182,7 @@ StormPuts seed size events EndsOutOfMemory journal text = text ≡ memory_line
 StormPuts seed size events EndsOutOfMemoryBroken journal text = text ≡ memory_line
 StormPuts seed size events SinkFails journal text = ⊥
 
+-- the status of a storm, by how its run ends
 abbrev pub storm_status : Ending → List Note → Status
 storm_status AllDone journal = status.Done
 storm_status MkfsFails journal = status.MediaFault
@@ -183,6 +193,7 @@ storm_status SinkFails journal = status.SinkFault
 
 -- The commands.
 
+-- what the program is asked for
 pub data Command : Type 0 where
   -- a command on its own, for a host of this UUID
   Single : (me : List ℕ) (shot : OneShot) → Command
@@ -205,6 +216,7 @@ script_limit = 16777216
 
 -- Why no event is run.
 
+-- why no event is run
 pub data Early : Type 0 where
   -- the words are no command
   NoCommand : Early
@@ -221,6 +233,7 @@ pub data Early : Type 0 where
   -- no memory was left
   EarlyOutOfMemory : Early
 
+-- the text where no event is run
 abbrev pub early_text : Early → List ℕ
 early_text NoCommand = usage_line
 early_text (NoScript name) = line (codes "no file" ++ name_text name)
@@ -230,6 +243,7 @@ early_text (BadLine at column) = line (codes "bad line" ++ number at ++ number c
 early_text (Prints script) = script
 early_text EarlyOutOfMemory = memory_line
 
+-- the status where no event is run
 abbrev pub early_status : Early → Status
 early_status NoCommand = status.Usage
 early_status (NoScript name) = status.Refused
@@ -304,6 +318,7 @@ SparesImage (Makes fs unit log force) own out = ⊤
 SparesImage (Runs what) own out = own ≡ status.OutOfMemory → LeavesImage out
 SparesImage (MakesParents path attr) own out = ⊤
 
+-- a command on its own has run, for a host of this UUID
 pub record ShotRuns (me : List ℕ) (shot : OneShot) (out : Outside) (text : List ℕ) (own : Status) : Type 0 where
   pub ending : Ending
   pub events : List Event
@@ -342,12 +357,14 @@ pub record ScriptRuns (grammar : Grammar) (name : List ℕ) (out : Outside) (giv
   pub whole : ending ≡ AllDone → given ≡ own
   pub each : PutsTold ending events run.journal out
 
+-- a storm has run, whose script is that of its seed and size
 pub record StormRuns (grammar : Grammar) (storms : Storms) (seed size : ℕ) (out : Outside) (text : List ℕ) (own : Status) : Type 0 where
   pub ending : Ending
   pub events : List Event
   pub reads : grammar (storms seed size) ≡ Ok events
   pub run : HasRun (StormPuts seed size events) storm_status ending out events text own
 
+-- the command has run: but no storm that is printed alone
 abbrev pub CommandRuns : Grammar → Storms → Option Command → Outside → Status → List ℕ → Status → Type 0
 CommandRuns grammar storms None out given text own = ⊥
 CommandRuns grammar storms (Some (Single me shot)) out given text own = ShotRuns me shot out text own

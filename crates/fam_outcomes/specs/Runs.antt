@@ -8,8 +8,8 @@ use Rattle.fam_media.specs.Outside.{IfModelled, IsPartlyPut, with_piece}
 use Rattle.fam_journal.specs.declared.event.Event.{Event}
 use Rattle.fam_journal.specs.declared.event.Event.TheVariants as event
 use Rattle.fam_journal.specs.declared.refusal.Refusal.TheVariants as why
-use Rattle.fam_journal.specs.declared.status.Status.{Status}
-use Rattle.fam_journal.specs.declared.status.Status.TheVariants as status
+use Rattle.fam_outcomes.specs.declared.status.Status.{Status}
+use Rattle.fam_outcomes.specs.declared.status.Status.TheVariants as status
 use Rattle.fam_journal.specs.Ends.{AllDone, Ending, EventsDone, HasCounted, MkfsFails, EndsOutOfMemory, EndsOutOfMemoryBroken, ReadsAfter, SinkFails, SourceFails}
 use Rattle.fam_journal.specs.EventForms.{EndsForm}
 use Rattle.fam_journal.specs.Events.{Session, first_session}

@@ -9,10 +9,10 @@ use Rattle.fam_rules.specs.Reply as reply
 use Rattle.fam_rules.specs.Reply.{Reply}
 use Rattle.fam_journal.specs.declared.refusal.Refusal.{Refusal}
 use Rattle.fam_journal.specs.declared.refusal.Refusal.TheVariants as why
-use Rattle.fam_journal.specs.declared.status.Status.{Status}
-use Rattle.fam_journal.specs.declared.status.Status.TheVariants as status
+use Rattle.fam_outcomes.specs.declared.status.Status.{Status}
+use Rattle.fam_outcomes.specs.declared.status.Status.TheVariants as status
 use Rattle.fam_journal.specs.Notes.{Answer, Replied, MediaFault, Note, Host, Made, Start, Mark, Found, Writes, Answered, Stop, Halt, Refused}
-use Rattle.fam_journal.specs.Texts.{is_sound_report}
+use Rattle.fam_outcomes.specs.Texts.{is_sound_report}
 
 -- 0 alone is success
 abbrev pub status_number : Status → ℕ
@@ -27,6 +27,7 @@ status_number status.OutOfMemory = 7
 status_number status.Damaged = 8
 status_number status.ShadeFault = 10
 
+-- a status is that of success
 abbrev pub is_done : Status → Bool
 is_done status.Done = true
 is_done status.Refused = false
@@ -65,6 +66,7 @@ reply_status (reply.NoSuperblock fault) = status.Damaged
 reply_status (reply.BadHeader fault) = status.Damaged
 reply_status (reply.BadSlot seq reason) = status.Damaged
 
+-- of an answer alone, also where the media failed
 abbrev pub answer_status : Answer → Status
 answer_status (Replied given) = reply_status given
 answer_status (MediaFault at) = status.MediaFault
@@ -118,10 +120,12 @@ good_status false = status.Refused
 
 -- Where directories are made along a path: an entry that is appended, and a directory that is there already, let it go on.
 
+-- a file in the place of a directory stops it
 abbrev pub kind_stops : Kind → Bool
 kind_stops kind.File = true
 kind_stops kind.Directory = false
 
+-- a refusal stops it, but that a directory is there
 abbrev pub refusal_stops : Cause → Bool
 refusal_stops (cause.NotMaster me master) = true
 refusal_stops cause.BadStripe = true
@@ -131,6 +135,7 @@ refusal_stops cause.ParentIsFile = true
 refusal_stops (cause.LogFull slots) = true
 refusal_stops (cause.NoSpace units) = true
 
+-- a reply stops it, but that of an append
 abbrev pub reply_stops : Reply → Bool
 reply_stops (reply.Appended seq) = false
 reply_stops (reply.NotAppended refused) = refusal_stops refused
@@ -147,6 +152,7 @@ reply_stops (reply.NoSuperblock fault) = true
 reply_stops (reply.BadHeader fault) = true
 reply_stops (reply.BadSlot seq reason) = true
 
+-- an answer stops it where its reply does, or where the media failed
 abbrev pub answer_stops : Answer → Bool
 answer_stops (Replied given) = reply_stops given
 answer_stops (MediaFault at) = true
@@ -164,6 +170,7 @@ note_stops (Stop host) = false
 note_stops (Halt host) = false
 note_stops (Refused name cause) = true
 
+-- no run comes behind the last note
 abbrev pub last_stops : List Note → Bool
 last_stops [] = false
 last_stops (note ∷ []) = note_stops note

@@ -65,6 +65,7 @@ bytes_text (byte ∷ bytes) = flat_map byte_text (byte ∷ bytes)
 
 -- Faults.
 
+-- the word of a superblock's field
 abbrev pub super_field_text : SuperField → List ℕ
 super_field_text super.Crc = codes "crc"
 super_field_text super.Version = codes "version"
@@ -75,6 +76,7 @@ super_field_text super.Device = codes "device"
 super_field_text super.Small = codes "small"
 super_field_text super.Rest = codes "rest"
 
+-- the word of a field of the log's header, or of the gate
 abbrev pub log_field_text : LogField → List ℕ
 log_field_text field.Magic = codes "magic"
 log_field_text field.Crc = codes "crc"
@@ -84,17 +86,21 @@ log_field_text field.Uuid = codes "uuid"
 log_field_text field.Rest = codes "rest"
 log_field_text field.Gate = codes "gate"
 
+-- why there is no sound superblock: `no superblock` and the word there, or the field with what was found and wanted
 abbrev pub super_text : SuperFault → List ℕ
 super_text (NoSuper word) = codes "no superblock" ++ number word
 super_text (BadSuper f found wanted) = codes "bad superblock " ++ super_field_text f ++ number found ++ number wanted
 
+-- why there is no sound log: the field with what was found and wanted
 abbrev pub log_text : LogFault → List ℕ
 log_text (BadLog f found wanted) = codes "bad log " ++ log_field_text f ++ number found ++ number wanted
 
+-- the word of an entry's kind
 abbrev pub kind_text : Kind → List ℕ
 kind_text File = codes "file"
 kind_text Directory = codes "directory"
 
+-- why a slot holds no entry that joins
 abbrev pub reason_text : Reason → List ℕ
 reason_text (reason.Crc found wanted) = codes "crc" ++ number found ++ number wanted
 reason_text (reason.Seq found wanted) = codes "sequence" ++ number found ++ number wanted
@@ -108,28 +114,34 @@ reason_text reason.NoParent = codes "no parent"
 reason_text reason.ParentIsFile = codes "parent is a file"
 reason_text (reason.Overlap unit) = codes "overlap" ++ number unit
 
+-- `bad entry`, its number, and why
 abbrev pub slot_text : ℕ → Reason → List ℕ
 slot_text seq r = codes "bad entry " ++ (decimal seq ++ (codes " " ++ reason_text r))
 
 -- Commands.
 
+-- mode, user and group, each behind its word
 abbrev pub attr_text : Attr → List ℕ
 attr_text attr = codes " mode=" ++ mode_text attr.mode ++ codes " uid=" ++ decimal attr.uid ++ codes " gid=" ++ decimal attr.gid
 
+-- how a file is striped: nothing where it isn't
 abbrev pub stripe_text : Option Stripe → List ℕ
 stripe_text None = []
 stripe_text (Some s) = codes " stripe=" ++ decimal s.nstrips ++ codes "," ++ decimal s.nbuckets ++ codes "," ++ decimal s.chunk
 
+-- the seed of a file's bytes: nothing where they are zeros or given
 abbrev pub seed_text : Content → List ℕ
 seed_text content.Zero = []
 seed_text (content.Seed seed) = codes " seed=" ++ decimal seed
 seed_text (content.Bytes bytes) = []
 
+-- what bytes are compared with: nothing for zeros, a seed, or how many are given
 abbrev pub against_text : Content → List ℕ
 against_text content.Zero = []
 against_text (content.Seed seed) = codes " seed=" ++ decimal seed
 against_text (content.Bytes bytes) = codes " bytes=" ++ decimal (length bytes)
 
+-- a command as it starts
 abbrev pub cmd_text : Cmd → List ℕ
 cmd_text Logplay = codes "logplay"
 cmd_text Fsck = codes "fsck"
@@ -142,42 +154,51 @@ cmd_text (Check entries) = codes "check" ++ number (length entries)
 
 -- Answers.
 
+-- a path behind a space, or `-`
 abbrev pub path_or_none : Option (List ℕ) → List ℕ
 path_or_none None = codes " -"
 path_or_none (Some path) = name_text path
 
+-- how a tree of m entries differs from a listing
 abbrev pub checked_text : ℕ → Checked → List ℕ
 checked_text m c =
     codes "checked" ++ number m ++ codes " missing" ++ number c.missing ++ codes " extra" ++ number c.extra ++ codes " changed" ++ number c.changed ++ codes " first" ++ path_or_none c.first
 
+-- what a report says of the superblock
 abbrev pub super_state_text : SuperState → List ℕ
 super_state_text superblock.Sound = codes "superblock sound"
 super_state_text (superblock.NoSuper word) = super_text (NoSuper word)
 super_state_text (superblock.BadSuper f found wanted) = super_text (BadSuper f found wanted)
 
+-- what a report says of the log
 abbrev pub log_state_text : LogState → List ℕ
 log_state_text (log.Sound entries slots) = codes "log sound" ++ number entries ++ codes " of" ++ number slots
 log_state_text (log.BadLog f found wanted) = log_text (BadLog f found wanted)
 log_state_text log.Unread = codes "log unread"
 
+-- what a report says of two entries that overlap
 abbrev pub overlap_text : Option (ℕ × ℕ) → List ℕ
 overlap_text None = codes "overlap none"
 overlap_text (Some pair) = codes "overlap" ++ number pair.0 ++ number pair.1
 
+-- what a report says of the first bad entry
 abbrev pub bad_text : Option (ℕ × Reason) → List ℕ
 bad_text None = codes "bad entry none"
 bad_text (Some bad) = slot_text bad.0 bad.1
 
+-- the superblock is sound
 abbrev pub is_sound_super : SuperState → Bool
 is_sound_super superblock.Sound = true
 is_sound_super (superblock.NoSuper word) = false
 is_sound_super (superblock.BadSuper f found wanted) = false
 
+-- the log's header and gate are sound
 abbrev pub is_sound_log : LogState → Bool
 is_sound_log (log.Sound entries slots) = true
 is_sound_log (log.BadLog f found wanted) = false
 is_sound_log log.Unread = false
 
+-- there is nothing of it
 abbrev pub is_none : {A : Type 0} → Option A → Bool
 is_none None = true
 is_none (Some x) = false
@@ -186,10 +207,12 @@ is_none (Some x) = false
 abbrev pub is_sound_report : Report → Bool
 is_sound_report r = is_sound_super r.superblock && is_sound_log r.log && is_none r.overlap && is_none r.bad
 
+-- the eight lines of a report
 abbrev pub report_text : Report → List ℕ
 report_text r =
     line (if is_sound_report r then codes "fsck sound" else codes "fsck damaged") ++ line (super_state_text r.superblock) ++ line (log_state_text r.log) ++ line (codes "files" ++ number r.files ++ codes " directories" ++ number r.directories) ++ line (codes "units used" ++ number r.used ++ codes " free" ++ number r.free) ++ line (overlap_text r.overlap) ++ line (bad_text r.bad) ++ line (codes "past gate" ++ number r.past)
 
+-- why an append is refused
 abbrev pub cause_text : Cause → List ℕ
 cause_text (cause.NotMaster me master) = codes "not master" ++ uuid_text me ++ uuid_text master
 cause_text cause.BadStripe = codes "bad stripe"
@@ -199,6 +222,7 @@ cause_text cause.ParentIsFile = codes "parent is a file"
 cause_text (cause.LogFull slots) = codes "log full" ++ number slots
 cause_text (cause.NoSpace units) = codes "no space" ++ number units
 
+-- the lines of a reply
 abbrev pub reply_text : Reply → List ℕ
 reply_text (reply.Appended seq) = line (codes "ok" ++ number seq)
 reply_text (reply.NotAppended why) = line (cause_text why)
@@ -215,18 +239,22 @@ reply_text (reply.NoSuperblock fault) = line (super_text fault)
 reply_text (reply.BadHeader fault) = line (log_text fault)
 reply_text (reply.BadSlot seq r) = line (slot_text seq r)
 
+-- the media failed at this line
 abbrev pub fault_text : ℕ → List ℕ
 fault_text at = codes "media fault" ++ number at
 
+-- the lines of an answer: its reply's, or that the media failed
 abbrev pub answer_text : Answer → List ℕ
 answer_text (Replied given) = reply_text given
 answer_text (MediaFault at) = line (fault_text at)
 
 -- Notes. `names` are those of the hosts declared so far.
 
+-- the name of host h
 abbrev pub host_name : List (List ℕ) → ℕ → List ℕ
 host_name names h = slice_index_or names h []
 
+-- why a call is refused
 abbrev pub refusal_text : List (List ℕ) → Refusal → List ℕ
 refusal_text names why.NoHost = codes "no host"
 refusal_text names (why.SameHost host) = codes "same host " ++ host_name names host.0
@@ -248,6 +276,7 @@ refusal_text names (why.MediaFault at) = fault_text at.0
 abbrev pub sizes_text : ℕ → ℕ → ℕ → List ℕ
 sizes_text unit log device = codes " unit " ++ (decimal unit ++ (codes " log " ++ (decimal log ++ (codes " device " ++ decimal device))))
 
+-- a file system that was made: its UUID and its sizes
 abbrev pub made_text : Params → List ℕ
 made_text p = codes "made" ++ uuid_text p.fs ++ sizes_text p.unit p.log_length p.device
 
@@ -290,6 +319,7 @@ names_after names (Stop host) = names
 names_after names (Halt host) = names
 names_after names (Refused name cause) = names
 
+-- the names after some notes
 abbrev pub names_behind : List (List ℕ) → List Note → List (List ℕ)
 names_behind names [] = names
 names_behind names (note ∷ notes) = names_behind (names_after names note) notes
@@ -313,5 +343,6 @@ shown_last names [] = []
 shown_last names (note ∷ []) = note_text names note
 shown_last names (note ∷ next ∷ notes) = shown_last (names_after names note) (next ∷ notes)
 
+-- what a command on its own shows of a whole journal
 unfoldable pub shown : List Note → List ℕ
 shown journal = shown_last [] journal

@@ -1,7 +1,7 @@
 //! Statuses of the program.
 
 ghost use Rattle.std.specs.Prelude.{◌≡◌};
-ghost use Rattle.fam_journal.specs.Statuses.{status_number};
+ghost use Rattle.fam_outcomes.specs.Statuses.{status_number};
 
 /// How a call of the program ended.
 #[derive(Clone, Copy, Debug, PartialEq, Eq)]

@@ -14,17 +14,17 @@ use Rattle.fam_journal.specs.declared.event.Event.{Event}
 use Rattle.fam_journal.specs.declared.event.Event.TheVariants as event
 use Rattle.fam_journal.specs.declared.refusal.Refusal.{Refusal}
 use Rattle.fam_journal.specs.declared.refusal.Refusal.TheVariants as why
-use Rattle.fam_journal.specs.declared.status.Status.{Status}
-use Rattle.fam_journal.specs.declared.status.Status.TheVariants as status
+use Rattle.fam_outcomes.specs.declared.status.Status.{Status}
+use Rattle.fam_outcomes.specs.declared.status.Status.TheVariants as status
 use Rattle.fam_journal.specs.Ends.{AllDone, Ending, IsFaultless, EndsOutOfMemory, MkfsFails, SourceFails}
 use Rattle.fam_journal.specs.EventForms.{FollowsForm}
 use Rattle.fam_journal.specs.Follows.{SourceEnd}
 use Rattle.fam_journal.specs.Names.{NameDeclared}
 use Rattle.fam_journal.specs.Notes.{Answer, Replied, MediaFault, Note, Host, Made, Start, Mark, Found, Writes, Answered, Stop, Halt, Refused}
-use Rattle.fam_journal.specs.Programs.{IsWholeRun, LeavesImage, Makes, MakesParents, OneShot, Runs, ShotPuts, Single, ShotRuns, SparesImage, TopEnds, done_status, ends_command, ends_mkfs, ends_shot, last_passes, memory_line, path_prefixes, shot_events, shot_status, source_line}
-use Rattle.fam_journal.specs.Runs.{EndsBroken, IsPut, NoneFalls, Outside}
-use Rattle.fam_journal.specs.Statuses.{answer_status, cause_status, is_checked_equal, last_status, last_stops, note_status, parents_status, reply_status, sound_status}
-use Rattle.fam_journal.specs.Texts.{is_sound_report, shown}
+use Rattle.fam_outcomes.specs.Programs.{IsWholeRun, LeavesImage, Makes, MakesParents, OneShot, Runs, ShotPuts, Single, ShotRuns, SparesImage, TopEnds, done_status, ends_command, ends_mkfs, ends_shot, last_passes, memory_line, path_prefixes, shot_events, shot_status, source_line}
+use Rattle.fam_outcomes.specs.Runs.{EndsBroken, IsPut, NoneFalls, Outside}
+use Rattle.fam_outcomes.specs.Statuses.{answer_status, cause_status, is_checked_equal, last_status, last_stops, note_status, parents_status, reply_status, sound_status}
+use Rattle.fam_outcomes.specs.Texts.{is_sound_report, shown}
 use Rattle.fam_events.specs.declared.fault.EventFault.{EventFault}
 use Rattle.fam_events.specs.declared.fault.EventFault.TheVariants as fault
 use Rattle.fam_program.specs.Puts.{Put}

@@ -17,8 +17,8 @@ use Rattle.fam_journal.specs.Ends.{is_answer_note}
 use Rattle.fam_journal.specs.EventForms.{FollowsForm, StartForm, UnfitNotes}
 use Rattle.fam_journal.specs.Forms.{ActsForm, AtForm, CompletesForm, DirtyForm, FormByRefusal, HostActsForm, HostForm, OfHostForm, OfRunning, OfTask, OperationsForm, TaskForm, TaskNote, forms_after, forms_behind, refusal_told, runs_form, shown_form, shown_forms}
 use Rattle.fam_journal.specs.Notes.{Note, Host, Made, Start, Mark, Found, Writes, Answered, Stop, Halt, Refused}
-use Rattle.fam_journal.specs.Programs.{ends_command, ends_mkfs, last_passes}
-use Rattle.fam_journal.specs.Statuses.{last_stops, note_stops}
+use Rattle.fam_outcomes.specs.Programs.{ends_command, ends_mkfs, last_passes}
+use Rattle.fam_outcomes.specs.Statuses.{last_stops, note_stops}
 use Rattle.fam_machine.specs.Mkfs.{asked}
 use Rattle.fam_events.proofs.Refusals.{index_below}
 use Rattle.fam_events.proofs.Running.{step_runs}

@@ -20,7 +20,7 @@ use Rattle.fam_journal.specs.Forms.{HostForm, forms_behind}
 use Rattle.fam_journal.specs.Kept.{Held}
 use Rattle.fam_journal.specs.Legal.{Legal}
 use Rattle.fam_journal.specs.Notes.{Note}
-use Rattle.fam_journal.specs.Runs.{EndsBroken, HasRisen, Outside, RunsOn, SourceCaused}
+use Rattle.fam_outcomes.specs.Runs.{EndsBroken, HasRisen, Outside, RunsOn, SourceCaused}
 use Rattle.fam_journal.proofs.JournalLaws.{held_reads_as}
 use Rattle.fam_journal.proofs.Runs.Unique.{faults_both}
 use Rattle.fam_events.specs.Around.{Around, session}

@@ -4,12 +4,12 @@ use Rattle.fam_base.specs.Image.{Image}
 use Rattle.fam_sources.specs.declared.sourced.SourceEnd.TheVariants as end
 use Rattle.fam_sources.specs.Whole.{ShelfChange}
 use Rattle.fam_journal.specs.declared.event.Event.{Event}
-use Rattle.fam_journal.specs.declared.status.Status.{Status}
+use Rattle.fam_outcomes.specs.declared.status.Status.{Status}
 use Rattle.fam_journal.specs.Ends.{AllDone, Ending, EndsOutOfMemory, EndsOutOfMemoryBroken, MkfsFails, SinkFails, SourceFails}
 use Rattle.fam_journal.specs.Follows.{Faulted, Short}
 use Rattle.fam_journal.specs.Notes.{Note}
-use Rattle.fam_journal.specs.Programs.{Early, EarlyOutOfMemory, IsEarly, PutsTold, Script, TopEnds, early_status, early_text}
-use Rattle.fam_journal.specs.Runs.{IsCaused, NoneFalls, Outside}
+use Rattle.fam_outcomes.specs.Programs.{Early, EarlyOutOfMemory, IsEarly, PutsTold, Script, TopEnds, early_status, early_text}
+use Rattle.fam_outcomes.specs.Runs.{IsCaused, NoneFalls, Outside}
 use Rattle.fam_grammar.specs.Scripts.{script_events}
 use Rattle.fam_storm.specs.Storm.{storm}
 use Rattle.fam_program.specs.declared.fault.ScriptFault.{ScriptFault}

@@ -12,12 +12,12 @@ use Rattle.fam_journal.specs.Laws.{IsImage}
 use Rattle.fam_journal.specs.Members.{changed_at}
 use Rattle.fam_journal.specs.Names.{AreNamed}
 use Rattle.fam_journal.specs.Notes.{Note, Host, Made, Start, Mark, Found, Writes, Answered, Stop, Halt, Refused}
-use Rattle.fam_journal.specs.Texts.{names_after, names_behind}
+use Rattle.fam_outcomes.specs.Texts.{names_after, names_behind}
 use Rattle.fam_journal.specs.View.{WorldView, empty_world}
 use Rattle.fam_journal.proofs.Forms.Pairs.{pairs_length}
 use Rattle.fam_journal.proofs.JournalLaws.{begun}
 use Rattle.fam_journal.proofs.Runs.Unique.{faults_both}
-use Rattle.fam_journal.proofs.Texts.Names.{named_added}
+use Rattle.fam_outcomes.proofs.Names.{named_added}
 use Rattle.fam_events.specs.Around.{Around, session}
 use Rattle.fam_events.specs.Happens.{EventDone}
 use Rattle.fam_program.specs.Far.{Base, Far, Now}

@@ -12,8 +12,8 @@ use Rattle.fam_journal.specs.Ends.{IsFaultless, cause_faults, faults_of, is_answ
 use Rattle.fam_journal.specs.EventForms.{EventPartForm}
 use Rattle.fam_journal.specs.Forms.{HostForm, OfRunning, OfTask, OperationsForm, TaskForm, TaskNote, forms_after, forms_behind, forms_of, runs_form}
 use Rattle.fam_journal.specs.Notes.{Note, Host, Made, Start, Mark, Found, Writes, Answered, Stop, Halt, Refused, Replied, MediaFault}
-use Rattle.fam_journal.specs.Programs.{last_passes, without_last}
-use Rattle.fam_journal.specs.Statuses.{note_stops}
+use Rattle.fam_outcomes.specs.Programs.{last_passes, without_last}
+use Rattle.fam_outcomes.specs.Statuses.{note_stops}
 use Rattle.fam_journal.proofs.Runs.Unique.{faults_both}
 use Rattle.fam_events.specs.Happens.{EventSays, FormOfPart}
 use Rattle.fam_events.specs.declared.fault.EventFault.{EventFault}

@@ -15,7 +15,7 @@ use Rattle.fam_journal.specs.Events.{PartOf, Session, first_session}
 use Rattle.fam_journal.specs.Follows.{Follows}
 use Rattle.fam_journal.specs.Machines.{HostState, Machines}
 use Rattle.fam_journal.specs.Notes.{Note}
-use Rattle.fam_journal.specs.Programs.{last_passes}
+use Rattle.fam_outcomes.specs.Programs.{last_passes}
 use Rattle.fam_journal.specs.View.{HostStandsAt, HostView, WorldStands, WorldView}
 use Rattle.fam_events.specs.Around.{session}
 use Rattle.fam_events.specs.Happens.{EventSays}

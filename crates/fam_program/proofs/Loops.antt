@@ -3,7 +3,7 @@ use Rattle.std.proofs.Common.{◌≡◌, ℕ, suc, List, [], ◌∷◌, ◌++◌
 use Rattle.std.specs.Prelude.{slice_get}
 use Rattle.std.proofs.lemmas.List.{append-nil, append_assoc}
 use Rattle.fam_media.specs.Outside.{with_piece}
-use Rattle.fam_journal.specs.Texts.{render}
+use Rattle.fam_outcomes.specs.Texts.{render}
 
 -- the next one
 next_here : {A : Type 0} (passed rest : List A) (x : A) → slice_get (passed ++ x ∷ rest) (length passed) ≡ Some x

@@ -3,9 +3,9 @@ use Rattle.std.proofs.Common.{◌≡◌, ℕ, ◌+◌, ◌-◌, ◌<◌, get_or,
 use Rattle.std.proofs.lemmas.List.{append-nil, append_assoc, drop-map, length-append, length-drop, map_more, take-append-drop, take-map, take_all}
 use Rattle.fam_journal.specs.Names.{NameDeclared, declared_after}
 use Rattle.fam_journal.specs.Notes.{Note, Host, Made, Start, Mark, Found, Writes, Answered, Stop, Halt, Refused}
-use Rattle.fam_journal.specs.Texts.{names_after, names_behind, note_line, render_behind}
+use Rattle.fam_outcomes.specs.Texts.{names_after, names_behind, note_line, render_behind}
 use Rattle.fam_notes.specs.declared.note.Note.{Note as Kept}
-use Rattle.fam_world.specs.View.{note_view, notes_view}
+use Rattle.fam_notes.specs.Notes.{note_view, notes_view}
 
 pub notes_from : (kept : List Kept) (from : ℕ) (journal : List Note) → notes_view kept ≡ journal → notes_view (take (length kept - from) (drop from kept)) ≡ drop from journal
 notes_from kept from journal is =

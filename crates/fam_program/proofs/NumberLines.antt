@@ -4,11 +4,11 @@ use Rattle.std.specs.Prelude.{IfSome}
 use Rattle.std.proofs.lemmas.List.{drop-drop, drop_at, length-take-le}
 use borrow.Rule.Slice.PartMut.{post_of, put_mid}
 use Rattle.fam_journal.specs.Notes.{Note}
-use Rattle.fam_journal.specs.Programs.{last_passes}
-use Rattle.fam_journal.specs.Texts.{names_behind, note_text, shown}
+use Rattle.fam_outcomes.specs.Programs.{last_passes}
+use Rattle.fam_outcomes.specs.Texts.{names_behind, note_text, shown}
 use Rattle.fam_notes.specs.declared.note.Note.{Note as Kept}
-use Rattle.fam_outcomes.proofs.Printing.{shown_is}
-use Rattle.fam_world.specs.View.{note_view, notes_view}
+use Rattle.fam_script.proofs.Printing.{shown_is}
+use Rattle.fam_notes.specs.Notes.{note_view, notes_view}
 use Rattle.fam_program.specs.declared.numbers.NumberLine.{NumberLine}
 use Rattle.fam_program.specs.Shots.{is_short, number_text}
 

@@ -15,9 +15,9 @@ use Rattle.fam_journal.specs.Ends.{MkfsFails}
 use Rattle.fam_journal.specs.EventForms.{EventBreaksForm, FollowsForm}
 use Rattle.fam_journal.specs.Forms.{HostForm, forms_behind}
 use Rattle.fam_journal.specs.Notes.{Note}
-use Rattle.fam_journal.specs.Programs.{MakesParents, OneShot, ends_command, last_passes, path_prefixes, prefixes_behind, shot_events}
-use Rattle.fam_journal.specs.Runs.{Outside}
-use Rattle.fam_journal.specs.Statuses.{last_stops}
+use Rattle.fam_outcomes.specs.Programs.{MakesParents, OneShot, ends_command, last_passes, path_prefixes, prefixes_behind, shot_events}
+use Rattle.fam_outcomes.specs.Runs.{Outside}
+use Rattle.fam_outcomes.specs.Statuses.{last_stops}
 use Rattle.fam_program.specs.Far.{AreSoundEvents}
 use Rattle.fam_program.specs.Quiet.{AreShotEvents, HasStopped}
 use Rattle.fam_program.specs.Runs.{HasEnded}

@@ -4,12 +4,12 @@ use Rattle.std.proofs.lemmas.List.{append-nil, append_assoc, length-append, take
 use Rattle.std.proofs.lemmas.Option.{same_Some}
 use Rattle.fam_media.specs.Causes.{Rose}
 use Rattle.fam_media.specs.Outside.{IsPartlyPut, with_piece}
-use Rattle.fam_journal.specs.declared.status.Status.{Status}
-use Rattle.fam_journal.specs.declared.status.Status.TheVariants as status
+use Rattle.fam_outcomes.specs.declared.status.Status.{Status}
+use Rattle.fam_outcomes.specs.declared.status.Status.TheVariants as status
 use Rattle.fam_journal.specs.Notes.{Note}
-use Rattle.fam_journal.specs.Programs.{HasPut, memory_line}
-use Rattle.fam_journal.specs.Runs.{HasRisen, IsPut, Outside}
-use Rattle.fam_journal.specs.Texts.{render_behind}
+use Rattle.fam_outcomes.specs.Programs.{HasPut, memory_line}
+use Rattle.fam_outcomes.specs.Runs.{HasRisen, IsPut, Outside}
+use Rattle.fam_outcomes.specs.Texts.{render_behind}
 use Rattle.fam_program.specs.Puts.{Put, PutPart, PutShort, PutSome, PutWhole, SinkChange}
 use Rattle.fam_program.proofs.Turning.{rose_more}
 

@@ -8,7 +8,7 @@ use Rattle.fam_journal.specs.declared.event.Event.{Event}
 use Rattle.fam_journal.specs.Ends.{AllDone}
 use Rattle.fam_journal.specs.Forms.{forms_of}
 use Rattle.fam_journal.specs.Notes.{Note}
-use Rattle.fam_journal.specs.Statuses.{note_stops}
+use Rattle.fam_outcomes.specs.Statuses.{note_stops}
 use Rattle.fam_journal.proofs.JournalLaws.{held_reads_as}
 use Rattle.fam_events.specs.declared.fault.EventFault.{EventFault}
 use Rattle.fam_events.specs.declared.fault.EventFault.TheVariants as fault

@@ -10,18 +10,18 @@ use Rattle.fam_sources.specs.declared.sourced.SourceEnd.{SourceEnd}
 use Rattle.fam_sources.specs.Sourced.{HasEndCause, end_of}
 use Rattle.fam_sources.specs.Whole.{ShelfChange}
 use Rattle.fam_journal.specs.declared.event.Event.{Event}
-use Rattle.fam_journal.specs.declared.status.Status.{Status}
-use Rattle.fam_journal.specs.declared.status.Status.TheVariants as status
+use Rattle.fam_outcomes.specs.declared.status.Status.{Status}
+use Rattle.fam_outcomes.specs.declared.status.Status.TheVariants as status
 use Rattle.fam_journal.specs.Ends.{AllDone, Ending, EndsOutOfMemory, EndsOutOfMemoryBroken, MkfsFails, SinkFails, SourceFails}
 use Rattle.fam_journal.specs.Events.{DoesEvent, PartOf, Session, first_session}
 use Rattle.fam_journal.specs.Follows.{Follows, FollowsLast, FollowsPrefix}
 use Rattle.fam_journal.specs.Notes.{Note}
-use Rattle.fam_journal.specs.Programs.{HasPut, PutsEach, PutsTold, ScriptPuts, memory_line, script_status, source_line}
-use Rattle.fam_journal.specs.Runs.{HasRun, Outside, RunsOn}
-use Rattle.fam_journal.specs.Statuses.{good_status, is_good}
-use Rattle.fam_journal.specs.Texts.{names_behind, render, render_behind}
+use Rattle.fam_outcomes.specs.Programs.{HasPut, PutsEach, PutsTold, ScriptPuts, memory_line, script_status, source_line}
+use Rattle.fam_outcomes.specs.Runs.{HasRun, Outside, RunsOn}
+use Rattle.fam_outcomes.specs.Statuses.{good_status, is_good}
+use Rattle.fam_outcomes.specs.Texts.{names_behind, render, render_behind}
 use Rattle.fam_journal.proofs.JournalLaws.{held_reads_as}
-use Rattle.fam_journal.proofs.Texts.Names.{render_more}
+use Rattle.fam_outcomes.proofs.Names.{render_more}
 use Rattle.fam_events.specs.Around.{Around, session}
 use Rattle.fam_events.specs.declared.fault.EventFault.{EventFault}
 use Rattle.fam_events.specs.declared.fault.EventFault.TheVariants as fault

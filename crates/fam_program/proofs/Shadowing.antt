@@ -7,12 +7,12 @@ use Rattle.fam_shadow.specs.declared.fault.ShadowFault.{ShadowFault}
 use Rattle.fam_shadow.specs.declared.fault.ShadowFault.TheVariants as why
 use Rattle.fam_shadow.specs.Shadows.{Becomes, FaultCaused, ShadowEnds}
 use Rattle.fam_storm.specs.Storm.{storm}
-use Rattle.fam_journal.specs.declared.status.Status.{Status}
-use Rattle.fam_journal.specs.declared.status.Status.TheVariants as status
+use Rattle.fam_outcomes.specs.declared.status.Status.{Status}
+use Rattle.fam_outcomes.specs.declared.status.Status.TheVariants as status
 use Rattle.fam_journal.specs.Notes.{Note}
-use Rattle.fam_journal.specs.Programs.{Early, EarlyOutOfMemory, IsEarly, NoCommand, Single, early_status, early_text, memory_line, usage_line}
-use Rattle.fam_journal.specs.Runs.{NoneFalls, Outside}
-use Rattle.fam_journal.specs.Statuses.{last_status}
+use Rattle.fam_outcomes.specs.Programs.{Early, EarlyOutOfMemory, IsEarly, NoCommand, Single, early_status, early_text, memory_line, usage_line}
+use Rattle.fam_outcomes.specs.Runs.{NoneFalls, Outside}
+use Rattle.fam_outcomes.specs.Statuses.{last_status}
 use Rattle.fam_events.specs.declared.fault.EventFault.{EventFault}
 use Rattle.fam_program.specs.Puts.{Put}
 use Rattle.fam_program.specs.Quiet.{HasStopped, MayLack, ShotEnded}

@@ -40,7 +40,7 @@ use Rattle.fam_journal.specs.Follows.{Follows}
 use Rattle.fam_journal.specs.Machines as machine
 use Rattle.fam_journal.specs.Machines.{Fails, HostState, Machines, Outcome, Passes, TaskState, cut, machine_of, notes_of, operation, task_begun, task_on, unused, with_machine, with_task}
 use Rattle.fam_journal.specs.Notes.{Answered, MediaFault, Note, Replied}
-use Rattle.fam_journal.specs.Programs.{last_passes}
+use Rattle.fam_outcomes.specs.Programs.{last_passes}
 use Rattle.fam_journal.proofs.Calls.Cases.{by_host, by_refusal, place_same}
 use Rattle.fam_journal.proofs.Calls.Members.{changed_at_member}
 use Rattle.fam_journal.proofs.Calls.TaskRows.{row_served}

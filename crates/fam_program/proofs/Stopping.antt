@@ -15,8 +15,8 @@ use Rattle.fam_journal.specs.EventForms.{EventBreaksForm, EventForm, EventPartFo
 use Rattle.fam_journal.specs.Forms.{ActsForm, AnswerForm, AtForm, CompletesForm, DirtyForm, FormByRefusal, HostActsForm, HostForm, OfHostForm, OfRunning, OfTask, OperationsForm, UnfinishedForm, TaskForm, TaskNote, forms_after, refusal_told, shown_forms}
 use Rattle.fam_journal.specs.Members.{changed_at}
 use Rattle.fam_journal.specs.Notes.{Note, Host, Made, Start, Mark, Found, Writes, Answered, Stop, Halt, Refused}
-use Rattle.fam_journal.specs.Programs.{without_last}
-use Rattle.fam_journal.specs.Statuses.{last_stops, note_stops}
+use Rattle.fam_outcomes.specs.Programs.{without_last}
+use Rattle.fam_outcomes.specs.Statuses.{last_stops, note_stops}
 use Rattle.fam_journal.proofs.Calls.Members.{changed_here}
 use Rattle.fam_events.specs.Happens.{FormOfPart}
 use Rattle.fam_machine.specs.Mkfs.{asked}

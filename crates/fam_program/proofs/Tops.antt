@@ -9,15 +9,15 @@ use Rattle.fam_grammar.specs.Scripts.{script_events}
 use Rattle.fam_storm.specs.Events.{ReadNoSource}
 use Rattle.fam_storm.specs.Storm.{storm}
 use Rattle.fam_journal.specs.declared.event.Event.{Event}
-use Rattle.fam_journal.specs.declared.status.Status.{Status}
-use Rattle.fam_journal.specs.declared.status.Status.TheVariants as status
+use Rattle.fam_outcomes.specs.declared.status.Status.{Status}
+use Rattle.fam_outcomes.specs.declared.status.Status.TheVariants as status
 use Rattle.fam_journal.specs.Ends.{AllDone, Ending, EndsOutOfMemory, EndsOutOfMemoryBroken, MkfsFails, SourceFails}
 use Rattle.fam_journal.specs.EventForms.{FollowsForm}
 use Rattle.fam_journal.specs.Events.{event_source, first_session}
 use Rattle.fam_journal.specs.Follows.{Follows, SourceEnd}
 use Rattle.fam_journal.specs.Notes.{Note}
-use Rattle.fam_journal.specs.Programs.{Command, Early, EarlyOutOfMemory, IsEarly, Prints, Storm, StormPuts, TopEnds, early_status, early_text, memory_line, storm_line, storm_status}
-use Rattle.fam_journal.specs.Runs.{IsPut, NoneFalls, Outside}
+use Rattle.fam_outcomes.specs.Programs.{Command, Early, EarlyOutOfMemory, IsEarly, Prints, Storm, StormPuts, TopEnds, early_status, early_text, memory_line, storm_line, storm_status}
+use Rattle.fam_outcomes.specs.Runs.{IsPut, NoneFalls, Outside}
 use Rattle.fam_program.specs.Puts.{Put, SinkChange}
 use Rattle.fam_program.specs.Runs.{HasEnded}
 use Rattle.fam_program.proofs.Ending.{risen}

@@ -10,9 +10,9 @@ use Rattle.fam_sources.specs.Whole.{ShelfChange}
 use Rattle.fam_journal.specs.declared.event.Event.{Event}
 use Rattle.fam_journal.specs.Names.{AreNamed}
 use Rattle.fam_journal.specs.Notes.{Note}
-use Rattle.fam_journal.specs.Texts.{names_behind, render_behind}
+use Rattle.fam_outcomes.specs.Texts.{names_behind, render_behind}
 use Rattle.fam_notes.specs.declared.note.Note.{Note as Kept}
-use Rattle.fam_world.specs.View.{note_view, notes_view}
+use Rattle.fam_notes.specs.Notes.{note_view, notes_view}
 use Rattle.fam_events.specs.Around.{Around}
 use Rattle.fam_events.specs.declared.fault.EventFault.{EventFault}
 use Rattle.fam_events.specs.declared.fault.EventFault.TheVariants as fault

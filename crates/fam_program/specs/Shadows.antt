@@ -14,13 +14,13 @@ use Rattle.fam_sources.specs.Whole.{ShelfChange}
 use Rattle.fam_storm.specs.Storm.{storm}
 use Rattle.fam_journal.specs.declared.event.Ask.TheVariants as ask
 use Rattle.fam_journal.specs.declared.event.Event.{Event}
-use Rattle.fam_journal.specs.declared.status.Status.{Status}
-use Rattle.fam_journal.specs.declared.status.Status.TheVariants as status
+use Rattle.fam_outcomes.specs.declared.status.Status.{Status}
+use Rattle.fam_outcomes.specs.declared.status.Status.TheVariants as status
 use Rattle.fam_journal.specs.Ends.{AllDone}
 use Rattle.fam_journal.specs.Notes.{Answer, Replied, MediaFault, Note, Host, Made, Start, Mark, Found, Writes, Answered, Stop, Halt, Refused}
-use Rattle.fam_journal.specs.Programs.{EndsEarly, IsWholeRun, OneShot, Runs, ShotRuns, Single, memory_line}
-use Rattle.fam_journal.specs.Runs.{IsPut, NoneFalls, Outside}
-use Rattle.fam_journal.specs.Texts.{line, number}
+use Rattle.fam_outcomes.specs.Programs.{EndsEarly, IsWholeRun, OneShot, Runs, ShotRuns, Single, memory_line}
+use Rattle.fam_outcomes.specs.Runs.{IsPut, NoneFalls, Outside}
+use Rattle.fam_outcomes.specs.Texts.{line, number}
 use Rattle.fam_program.specs.Runs.{HasEnded}
 
 -- a shelf on which no file is, and which never fails

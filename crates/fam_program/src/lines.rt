@@ -1,8 +1,8 @@
-//! Lines that end a run early. fam_journal's `specs/Programs.antt` has them.
+//! Lines that end a run early. fam_outcomes' `specs/Programs.antt` has them.
 
 ghost use Rattle.std.specs.Prelude.{◌≡◌, ◌++◌, IfOk, OnOk, List, codes, string_bytes, ℕ};
-ghost use Rattle.fam_journal.specs.Programs.{source_line};
-ghost use Rattle.fam_journal.specs.Texts as text;
+ghost use Rattle.fam_outcomes.specs.Programs.{source_line};
+ghost use Rattle.fam_outcomes.specs.Texts as text;
 ghost use Rattle.fam_sources.specs.Sourced.{end_of};
 
 use fam_base::{OutOfMemory, escape};

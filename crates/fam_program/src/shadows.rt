@@ -2,14 +2,13 @@
 
 ghost use Rattle.std.specs.Prelude.{◌≡◌, ◌≤◌, ◌⊎◌, IfOk, IfSome, IsOk, None, OnOk, OnSome, Some, option_map};
 ghost use Rattle.fam_media.specs.Causes.{IsSteady};
-ghost use Rattle.fam_journal.specs.Programs.{memory_line};
-ghost use Rattle.fam_journal.specs.declared.status.Status.TheVariants as status;
-ghost use Rattle.fam_outcomes.specs.Answers.{answer_view};
+ghost use Rattle.fam_outcomes.specs.Programs.{memory_line};
+ghost use Rattle.fam_outcomes.specs.declared.status.Status.TheVariants as status;
+ghost use Rattle.fam_notes.specs.Notes.{answer_view, note_view, notes_view};
 ghost use Rattle.fam_program.specs.Puts.{Put, sink_changed};
 ghost use Rattle.fam_program.specs.Runs.{outside_of};
 ghost use Rattle.fam_program.specs.Shadows as spec;
 ghost use Rattle.fam_program.specs.Shadows.{ShadowTop, fault_text, no_files, shade_changed, shadow_status, shadow_text};
-ghost use Rattle.fam_world.specs.View.{note_view, notes_view};
 
 use crate::lines::line_of;
 use crate::no_files::NoFiles;
@@ -18,10 +17,11 @@ use crate::quiet::run_until_stop;
 use crate::shots::{own_name, put_end, two_events};
 use fam_base::{Cmd, OutOfMemory};
 use fam_events::EventFault;
-use fam_journal::{Ask, Event, Status};
+use fam_journal::{Ask, Event};
+use fam_outcomes::Status;
 use fam_media::{Media, Sink};
 use fam_notes::Note;
-use fam_outcomes::last_status;
+use fam_script::last_status;
 use fam_shadow::{Shade, ShadowFault, shadow};
 use fam_tasks::Answer;
 use fam_tree::Tree;

@@ -22,7 +22,7 @@ use Rattle.fam_journal.specs.ByWorld.{TakesNoMedia, refusal_in, world_after}
 use Rattle.fam_journal.proofs.JournalLaws.{begun, kept_on}
 use Rattle.fam_journal.proofs.Calls.Shown.{refusal_shown}
 use Rattle.fam_journal.proofs.Calls.WorldRows.{row_done}
-use Rattle.fam_world_model.specs.Caller.{ComesTo, ComesToCut, CutTrace, Trace, OutOfMemoryTrace, Wishes, events}
+use Rattle.fam_samples.specs.Caller.{ComesTo, ComesToCut, CutTrace, Trace, OutOfMemoryTrace, Wishes, events}
 
 module _ (start : Image) (state : Machines) (old : WorldView) (held : Held start state old state.memory) where
   lines_are : length state.memory ≡ length start

@@ -30,10 +30,10 @@ use Rattle.fam_journal.proofs.Calls.Hosts.{stands_changed}
 use Rattle.fam_journal.proofs.JournalLaws.{cut_legal}
 use Rattle.fam_journal.proofs.Calls.Shown.{number_shown, refusal_shown}
 use Rattle.fam_journal.proofs.Calls.Stepped.{find_host}
-use Rattle.fam_world_model.specs.Bodies.{after_cut, before_mkfs, host_m}
-use Rattle.fam_world_model.proofs.Formed.{cut_form, formed_m}
-use Rattle.fam_world_model.proofs.Making.{free}
-use Rattle.fam_world_model.proofs.Stepping.{none_held}
+use Rattle.fam_samples.specs.Bodies.{after_cut, before_mkfs, host_m}
+use Rattle.fam_samples.proofs.Formed.{cut_form, formed_m}
+use Rattle.fam_samples.proofs.Making.{free}
+use Rattle.fam_samples.proofs.Stepping.{none_held}
 
 -- the first two of mkfs's operations: line 0 is dropped, and its first word is loaded
 first_two : (p : Params) → mkfs_ops p ≡ (Invalidate (line_no 0) ∷ []) ++ Load (line_no 0) 0 ∷ drop 2 (mkfs_ops p)

@@ -14,7 +14,7 @@ use Rattle.fam_rules.specs.Asks.{File, entries_of}
 use Rattle.fam_rules.specs.Decide.{decide, decide_wish, room_for}
 use Rattle.fam_journal.specs.Legal.{IsDecided}
 use Rattle.fam_journal.specs.Past.{HostPast}
-use Rattle.fam_journal_checks.specs.Scene.{client, folder, master, mkdir, params, x, y}
+use Rattle.fam_samples.specs.Scene.{client, folder, master, mkdir, params, x, y}
 
 -- what is decided is that of the host's own command
 pub decides : (p : Params) (host : HostPast) (history : List File) (decision : Result Entry Refused) (cmd : Cmd) → host.cmd ≡ Some cmd → IsDecided p host history None decision → decide p host.uuid (entries_of history) cmd ≡ Some decision

@@ -17,7 +17,7 @@ use Rattle.fam_journal.specs.Notes.{Note, Found}
 use Rattle.fam_journal.specs.Past.{Sound, State, finds, first_past, past_of, shows}
 use Rattle.fam_journal.proofs.JournalLaws.{held_reads_as}
 use Rattle.fam_journal.proofs.Settled.Journals.{legal_rest, past_both}
-use Rattle.fam_journal_checks.specs.Wrong.{drops}
+use Rattle.fam_samples.specs.Wrong.{drops}
 
 same_test : (n : ℕ) → (n == n) ≡ true
 same_test n = grind (arith, nat_tests)

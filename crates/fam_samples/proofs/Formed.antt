@@ -15,7 +15,7 @@ use Rattle.fam_journal.specs.CallRecords.{CallForm}
 use Rattle.fam_journal.specs.Forms.{BreaksForm, DoesForm, FormByRefusal, FreeForm, HostForm, HostFormed, IsFormed, Pairs, TaskForm, TaskFormed, forms_after, forms_of, refusal_told, shown_forms}
 use Rattle.fam_journal.specs.Notes.{Note, Made, Refused}
 use Rattle.fam_journal.proofs.Forms.Operations.{forms_both}
-use Rattle.fam_world_model.specs.Bodies.{host_m, world_m}
+use Rattle.fam_samples.specs.Bodies.{host_m, world_m}
 
 abbrev pub form_m : List ℕ → HostForm
 form_m me = record { name = codes "m"; uuid = me; task = None }

@@ -38,8 +38,8 @@ use Rattle.fam_protocol.proofs.Hosts.Inside.{AsksWithin}
 use Rattle.fam_journal.proofs.JournalLaws.{kept_on}
 use Rattle.fam_journal.proofs.Calls.Shown.{number_shown, refusal_shown}
 use Rattle.fam_journal.proofs.Calls.Stepped.{find_host}
-use Rattle.fam_world_model.proofs.Formed.{formed_m, made_form}
-use Rattle.fam_world_model.specs.Bodies.{after_mkfs, before_mkfs, host_m, made_machine, params_m}
+use Rattle.fam_samples.proofs.Formed.{formed_m, made_form}
+use Rattle.fam_samples.specs.Bodies.{after_mkfs, before_mkfs, host_m, made_machine, params_m}
 
 -- Operations at the first lines leave copies of the first lines.
 

@@ -24,7 +24,7 @@ use Rattle.fam_journal.specs.ByWorld.{number_in, refusal_in}
 use Rattle.fam_journal.proofs.Forms.Views.{step_formed, world_formed}
 use Rattle.fam_journal.proofs.JournalLaws.{kept_on}
 use Rattle.fam_journal.proofs.Calls.OwnSteps.{own_step}
-use Rattle.fam_world_model.specs.Bodies.{after_step, before_step, host_m}
+use Rattle.fam_samples.specs.Bodies.{after_step, before_step, host_m}
 
 -- no line is held
 pub none_held : (l : ℕ) → cell_at (with_cell 0 Absent finmap.empty) l ≡ Absent

@@ -36,6 +36,7 @@ after_step me lines journal =
 abbrev pub params_m : List ℕ → List ℕ → Image → Params
 params_m me fs image = asked 4096 65536 fs me (length image)
 
+-- memory and cache behind a mkfs that was forced, with no cache before
 abbrev pub made_machine : List ℕ → List ℕ → Image → Machine
 made_machine me fs image = operated_all (mkfs_ops (params_m me fs image)) (record { image = image; cache = map_of_lines.empty })
 
@@ -43,6 +44,7 @@ made_machine me fs image = operated_all (mkfs_ops (params_m me fs image)) (recor
 abbrev pub before_mkfs : List ℕ → List Note → WorldView
 before_mkfs me journal = world_m me map_of_lines.empty None journal
 
+-- the world behind that mkfs, with its note
 abbrev pub after_mkfs : List ℕ → List ℕ → Image → List Note → WorldView
 after_mkfs me fs image journal = world_m me (made_machine me fs image).cache None (journal ++ Made 0 (params_m me fs image) ∷ [])
 

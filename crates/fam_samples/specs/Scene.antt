@@ -28,9 +28,11 @@ use Rattle.fam_journal.specs.Past.{Damage, Past, State, Bad, new_host, past_of}
 abbrev pub uuid : ℕ → List ℕ
 uuid n = 0 ∷ 0 ∷ 0 ∷ 0 ∷ 0 ∷ 0 ∷ 0 ∷ 0 ∷ 0 ∷ 0 ∷ 0 ∷ 0 ∷ 0 ∷ 0 ∷ 0 ∷ n ∷ []
 
+-- the UUID of the host that may append
 abbrev pub master : List ℕ
 master = uuid 1
 
+-- the UUID of another host
 abbrev pub client : List ℕ
 client = uuid 2
 
@@ -46,12 +48,15 @@ mkdir path = Mkdir path (record { mode = 493; uid = 0; gid = 0 })
 abbrev pub folder : List ℕ → Entry
 folder path = record { kind = Directory; path = path; size = 0; mode = 493; uid = 0; gid = 0; map = Empty; extents = [] }
 
+-- a file that holds no bytes, under a path
 abbrev pub held : List ℕ → File
 held path = record { entry = folder path; bytes = [] }
 
+-- the path x
 abbrev pub x : List ℕ
 x = codes "x"
 
+-- the path y
 abbrev pub y : List ℕ
 y = codes "y"
 
@@ -59,6 +64,7 @@ y = codes "y"
 abbrev pub tree_of : List ℕ → Tree
 tree_of path = replay (folder path ∷ [])
 
+-- a tree with no entry
 abbrev pub no_tree : Tree
 no_tree = finmap.empty
 
@@ -80,9 +86,11 @@ writing = found ++ Writes 0 0 (folder x) ∷ []
 abbrev pub done : List Note
 done = writing ++ Answered 0 (Replied (Rattle.fam_rules.specs.Reply.Appended 0)) ∷ []
 
+-- what some notes tell, from an image without lines
 abbrev pub behind : List Note → Past
 behind journal = past_of [] journal
 
+-- the state that they tell
 abbrev pub state_behind : List Note → State
 state_behind journal = (behind journal).state
 
@@ -93,6 +101,7 @@ damaged damage gate =
 
 -- A report.
 
+-- a report of this log, all else sound and empty
 abbrev pub report_of_log : LogState → Report
 report_of_log log = record {
   superblock = superblock.Sound;
@@ -124,11 +133,13 @@ one_host image task = record { memory = image; hosts = host_m task ∷ [] }
 abbrev pub beginning : TaskState
 beginning = task_begun (mkdir x) master
 
+-- a machine, of whose sources nothing was read
 abbrev pub session : Machines → Session
 session machines = record { machines = machines; copied = 0 }
 
 -- A script of ten events on an image without lines, and its notes.
 
+-- ten events of two hosts
 abbrev pub ten_events : List Event
 ten_events =
     event.Run (codes "q") (ask.Cp (codes "s") (codes "t") (record { mode = 420; uid = 0; gid = 0 }) None)
@@ -142,6 +153,7 @@ ten_events =
     ∷ event.Mkfs (codes "m") (uuid 255) 5000 8388608 false
     ∷ event.Mkfs (codes "m") (uuid 255) 4096 65536 false ∷ []
 
+-- the notes that they come to
 abbrev pub ten_notes : List Note
 ten_notes =
     Refused (codes "q") why.NoHost
@@ -157,11 +169,14 @@ ten_notes =
 
 -- What notes tell of host m alone: it is idle; or has begun a command.
 
+-- host m, idle
 abbrev pub form_m : HostForm
 form_m = record { name = codes "m"; uuid = master; task = None }
 
+-- host m alone, idle
 abbrev pub idle_m : List HostForm
 idle_m = form_m ∷ []
 
+-- host m alone, with a command that has just begun
 abbrev pub running_m : Cmd → List HostForm
 running_m cmd = forms_after idle_m (Start 0 cmd)

@@ -22,16 +22,19 @@ late_hosts past (Stop h) = past.hosts
 late_hosts past (Halt h) = past.hosts
 late_hosts past (Refused name cause) = past.hosts
 
+-- a past in which a floor is taken with the gate's count in place of the mark
 abbrev pub late_floor_after : Past → Note → Past
 late_floor_after past note = record { start = past.start; state = state_after past note; hosts = late_hosts past note }
 
 -- A master that finds one entry more than is settled drops what is pending.
 
+-- a found count that drops the pending entry also where it is one of them
 abbrev pub drops : ℕ → State → State
 drops n (Bad image damage gate) = Bad image damage gate
 drops n (Sound p history pending) =
     if n == length history + 1 then Sound p history None else if n == length history then Sound p history None else Sound p history pending
 
+-- the state behind a note, with such a count
 abbrev pub dropping_state : Past → Note → State
 dropping_state past (Host name uuid) = past.state
 dropping_state past (Made h p) = state_after past (Made h p)
@@ -44,15 +47,18 @@ dropping_state past (Stop h) = past.state
 dropping_state past (Halt h) = past.state
 dropping_state past (Refused name cause) = past.state
 
+-- the past behind a note, with such a count
 abbrev pub dropping_after : Past → Note → Past
 dropping_after past note = record { start = past.start; state = dropping_state past note; hosts = (past_after past note).hosts }
 
 -- An Ok that asks only that so many entries are settled, whoever named the last one.
 
+-- the count is one of the entries that the state allows
 abbrev pub CountsEntries : ℕ → State → Type 0
 CountsEntries seq (Sound p history pending) = length history ≡ seq + 1
 CountsEntries seq (Bad image damage gate) = ⊥
 
+-- the replies that are allowed, with an Ok of any entry among them
 abbrev pub AnyReplyAllowed : Reply → HostPast → State → Type 0
 AnyReplyAllowed (reply.Appended seq) host state = CountsEntries seq (acknowledges seq state)
 AnyReplyAllowed (reply.NotAppended why) host state = ReplyAllowed (reply.NotAppended why) host state
@@ -69,10 +75,12 @@ AnyReplyAllowed (reply.NoSuperblock fault) host state = ReplyAllowed (reply.NoSu
 AnyReplyAllowed (reply.BadHeader fault) host state = ReplyAllowed (reply.BadHeader fault) host state
 AnyReplyAllowed (reply.BadSlot i reason) host state = ReplyAllowed (reply.BadSlot i reason) host state
 
+-- so are answers
 abbrev pub AnyAnswerAllowed : Answer → HostPast → State → Type 0
 AnyAnswerAllowed (Replied given) host state = AnyReplyAllowed given host state
 AnyAnswerAllowed (MediaFault line) host state = ⊤
 
+-- so are notes
 abbrev pub AnyOkAllowed : Past → Note → Type 0
 AnyOkAllowed past (Host name uuid) = ⊤
 AnyOkAllowed past (Made h p) = ⊤
@@ -87,10 +95,12 @@ AnyOkAllowed past (Refused name why) = ⊤
 
 -- Journals by such definitions: what a note leaves, and which notes are allowed.
 
+-- what notes tell where each of them changes the past so
 abbrev pub past_by : (Past → Note → Past) → Past → List Note → Past
 past_by after past [] = past
 past_by after past (note ∷ notes) = past_by after (after past note) notes
 
+-- a journal is legal where this is allowed and the past changes so
 abbrev pub LegalBy : (Past → Note → Type 0) → (Past → Note → Past) → Past → List Note → Type 0
 LegalBy allowed after past [] = ⊤
 LegalBy allowed after past (note ∷ notes) = allowed past note × LegalBy allowed after (after past note) notes

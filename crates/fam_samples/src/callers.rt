@@ -1,7 +1,5 @@
 //! A model of those who call the world: what the world's calls promise is enough to chain them, and can be met. Laws
 //! with empty bodies.
-#![tactic(auto)]
-
 ghost use Rattle.std.specs.Prelude.{◌≤◌, ◌+◌, ◌*◌, length, true, [], ◌∷◌, ℕ, List, Some, None, false, codes};
 ghost use Rattle.fam_journal.specs.declared.event.Event.TheVariants.{Finish, Host};
 ghost use Rattle.fam_base.specs.Image.{Image};
@@ -14,8 +12,8 @@ ghost use Rattle.fam_journal.specs.Laws.{IsImage};
 ghost use Rattle.fam_media.specs.Files.{Files};
 ghost use Rattle.fam_journal.specs.CallRecords.{MakeCall, StepCall};
 ghost use Rattle.fam_journal.specs.Notes.{Note};
-ghost use Rattle.fam_world_model.specs.Bodies.{after_cut, after_mkfs, after_step, before_mkfs, before_step, made_machine};
-ghost use Rattle.fam_world_model.specs.Caller.{ComesTo, ComesToCut, CutTrace, Trace, OutOfMemoryTrace, Wishes, events};
+ghost use Rattle.fam_samples.specs.Bodies.{after_cut, after_mkfs, after_step, before_mkfs, before_step, made_machine};
+ghost use Rattle.fam_samples.specs.Caller.{ComesTo, ComesToCut, CutTrace, Trace, OutOfMemoryTrace, Wishes, events};
 
 /// What seven calls promise is enough to know that their notes follow a script's events, that the media has the last
 /// image, and that the world is held (`done`). Where a media fault cuts a mkfs the notes follow up to it, and are legal

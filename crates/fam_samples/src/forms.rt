@@ -7,7 +7,7 @@ ghost use Rattle.fam_journal.specs.EventForms.{StartForm};
 ghost use Rattle.fam_journal.specs.Forms.{ActsForm, CompletesForm, OperationsForm};
 ghost use Rattle.fam_journal.specs.Notes.{Answered, Found, Made, Mark, Replied, Start, Writes};
 ghost use Rattle.fam_journal.specs.declared.event.Ask.TheVariants.{Plain};
-ghost use Rattle.fam_journal_checks.specs.Scene.{folder, form_m, idle_m, mkdir, no_tree, params, running_m, uuid, x, y};
+ghost use Rattle.fam_samples.specs.Scene.{folder, form_m, idle_m, mkdir, no_tree, params, running_m, uuid, x, y};
 ghost use Rattle.fam_machine.specs.Mkfs.{asked};
 ghost use Rattle.fam_rules.specs.Reply.{Appended, Played};
 

@@ -10,7 +10,7 @@ ghost use Rattle.fam_format.specs.declared.faults.SuperFault.TheVariants.{NoSupe
 ghost use Rattle.fam_journal.specs.Legal.{Allowed};
 ghost use Rattle.fam_journal.specs.Notes.{Answered, Found, Mark, MediaFault, Note, Replied, Start, Writes};
 ghost use Rattle.fam_journal.specs.Past.{BadHeader, BadSlot, FewLines, NoSuperblock, Past};
-ghost use Rattle.fam_journal_checks.specs.Scene.{behind, client, damaged, done, folder, found, made, master, mkdir, no_tree, report_of_log, tree_of, writing, x, y};
+ghost use Rattle.fam_samples.specs.Scene.{behind, client, damaged, done, folder, found, made, master, mkdir, no_tree, report_of_log, tree_of, writing, x, y};
 ghost use Rattle.fam_rules.specs.Reply as reply;
 ghost use Rattle.fam_rules.specs.Reply.{Appended, NotAppended, NotFound, Played, Reports};
 ghost use Rattle.fam_rules.specs.declared.answers.LogState.TheVariants as log;

@@ -1,15 +1,19 @@
-//! Samples of what fam_journal's definitions say, and three definitions with a mistake, each refuted. All are laws with
-//! empty bodies: for each row of a definition a case that goes through, and one that doesn't.
+//! Samples of what fam_journal's definitions say, three definitions with a mistake, each refuted, and a model of those who
+//! call the world: what the world's calls promise is enough to chain them, and can be met. All are laws with empty bodies:
+//! for each row of a definition a case that goes through, and one that doesn't.
 //!
-//! `specs/Scene.antt` has the scene, `specs/Wrong.antt` the definitions with a mistake.
+//! `specs/Scene.antt` has the scene of the samples, `specs/Wrong.antt` the definitions with a mistake, `specs/Caller.antt`
+//! what a caller sees, and `specs/Bodies.antt` worlds before and after calls.
 #![tactic(auto)]
 
+mod callers;
 mod forms;
 mod legal;
 mod machine;
 mod settled;
 mod wrong;
 
+pub use callers::{a_body_meets_what_calls_promise, a_caller_chains_what_calls_promise};
 pub use forms::forms_of_notes;
 pub use legal::{
     answers_of_a_damaged_image, answers_of_appends, answers_of_questions, notes_of_the_master,

@@ -12,7 +12,7 @@ ghost use Rattle.fam_journal.specs.Notes.{Halt, Host, Refused, Start, Stop};
 ghost use Rattle.fam_journal.specs.declared.event.Ask.TheVariants.{Plain};
 ghost use Rattle.fam_journal.specs.declared.event.Event.TheVariants as event;
 ghost use Rattle.fam_journal.specs.declared.refusal.Refusal.TheVariants as why;
-ghost use Rattle.fam_journal_checks.specs.Scene.{beginning, client, host_m, master, mkdir, one_host, one_line, session, ten_events, ten_notes, uuid, x};
+ghost use Rattle.fam_samples.specs.Scene.{beginning, client, host_m, master, mkdir, one_host, one_line, session, ten_events, ten_notes, uuid, x};
 ghost use Rattle.fam_machine.specs.HostMoves.{Evict, Fetch, moved};
 ghost use Rattle.fam_machine.specs.Operations.{Breaking};
 ghost use Rattle.fam_media.specs.Files.{Files};

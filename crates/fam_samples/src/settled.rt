@@ -6,7 +6,7 @@ ghost use Rattle.fam_format.specs.declared.faults.Reason.TheVariants.{BadPath};
 ghost use Rattle.fam_journal.specs.Notes.{Answered, Found, Halt, Host, Made, Mark, MediaFault, Refused, Replied, Start, Stop, Writes};
 ghost use Rattle.fam_journal.specs.Past.{Bad, BadSlot, FewLines, HostPast, Sound, first_state, state_after};
 ghost use Rattle.fam_journal.specs.declared.refusal.Refusal.TheVariants.{NoHost};
-ghost use Rattle.fam_journal_checks.specs.Scene.{behind, damaged, done, folder, found, held, made, mkdir, no_tree, params, report_of_log, state_behind, tree_of, writing, x, y};
+ghost use Rattle.fam_samples.specs.Scene.{behind, damaged, done, folder, found, held, made, mkdir, no_tree, params, report_of_log, state_behind, tree_of, writing, x, y};
 ghost use Rattle.fam_rules.specs.Reply.{Appended, Played, Reports};
 ghost use Rattle.fam_rules.specs.declared.answers.LogState.TheVariants as log;
 

@@ -1,10 +1,10 @@
 -- The last of kept notes, and all of them.
 use Rattle.std.proofs.Common.{◌≡◌, ℕ, ◌+◌, Bool, List, [], ◌∷◌, ◌++◌, refl}
 use Rattle.std.specs.Prelude.{count_by, cond, fold}
-use Rattle.fam_journal.specs.Statuses as spec
+use Rattle.fam_outcomes.specs.Statuses as spec
 use Rattle.fam_journal.specs.Notes.{Note}
 use Rattle.fam_notes.specs.declared.note.Note.{Note as Kept}
-use Rattle.fam_world.specs.View.{note_view, notes_view}
+use Rattle.fam_notes.specs.Notes.{note_view, notes_view}
 
 -- the status of notes is that of the last one
 pub last_status_is : (front : List Kept) (last : Kept) → spec.last_status (notes_view (front ++ last ∷ [])) ≡ spec.note_status (note_view last)

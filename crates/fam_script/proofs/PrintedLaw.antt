@@ -12,13 +12,13 @@ use Rattle.fam_base.specs.Escapes.{escaped}
 use Rattle.fam_base.specs.Paths.{is_path}
 use Rattle.fam_tree.specs.Lines.{mode_text}
 use Rattle.fam_journal.specs.declared.event.Ask.TheVariants as ask
-use Rattle.fam_journal.specs.Texts.{attr_text, cmd_text, number, name_text, seed_text, stripe_text}
+use Rattle.fam_outcomes.specs.Texts.{attr_text, cmd_text, number, name_text, seed_text, stripe_text}
 use Rattle.fam_grammar.specs.declared.options.FileOptions.{FileOptions}
 use Rattle.fam_grammar.specs.declared.options.Takes.{Takes}
 use Rattle.fam_grammar.specs.Keywords.{command_word}
 use Rattle.fam_grammar.specs.Lines.{ask_line, fill_of, mkdir_takes, creat_takes}
 use Rattle.fam_grammar.specs.Options.{file_option_of, file_options, no_file_options, with_file_word}
-use Rattle.fam_grammar.specs.Printed.{HasSpelling, IsSpelledAttr, IsSpelledContent, IsSpelledStripe}
+use Rattle.fam_script.specs.Spelled.{HasSpelling, IsSpelledAttr, IsSpelledContent, IsSpelledStripe}
 use Rattle.fam_grammar.specs.Reading.{Reading, Reads, Misfit}
 use Rattle.fam_grammar.specs.Spellings.{id_of}
 use Rattle.fam_grammar.specs.Words.{Word, words_from}

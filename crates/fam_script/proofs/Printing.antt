@@ -4,9 +4,9 @@ use Rattle.std.proofs.lemmas.List.{at_drop_more}
 use Rattle.fam_crc.specs.Crc.{crc32}
 use Rattle.fam_journal.specs.Names.{IsNamed, NameDeclared, declared_after}
 use Rattle.fam_journal.specs.Notes.{Note, Host, Made, Start, Mark, Found, Writes, Answered, Stop, Halt, Refused}
-use Rattle.fam_journal.specs.Texts.{names_after, names_behind, note_line, note_text, render, render_behind, shown, shown_last}
+use Rattle.fam_outcomes.specs.Texts.{names_after, names_behind, note_line, note_text, render, render_behind, shown, shown_last}
 use Rattle.fam_notes.specs.declared.note.Note.{Note as Kept}
-use Rattle.fam_world.specs.View.{note_view, notes_view}
+use Rattle.fam_notes.specs.Notes.{note_view, notes_view}
 
 -- a note declares as many hosts as it adds names
 length_names : (names : List (List ℕ)) (note : Note) → length (names_after names note) ≡ declared_after (length names) note

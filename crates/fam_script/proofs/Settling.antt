@@ -12,8 +12,8 @@ use Rattle.fam_rules.specs.declared.answers.LogState.{LogState}
 use Rattle.fam_rules.specs.declared.answers.LogState.TheVariants as log
 use Rattle.fam_rules.specs.Reply as reply
 use Rattle.fam_rules.specs.Reply.{Reply}
-use Rattle.fam_outcomes.specs.declared.counts.Settled.{Settled}
-use Rattle.fam_outcomes.specs.Settled.{acknowledges, answered, continued, empty, finds, joined, replied, reports, settled_after, settled_behind, shows}
+use Rattle.fam_script.specs.declared.counts.Settled.{Settled}
+use Rattle.fam_script.specs.Settled.{acknowledges, answered, continued, empty, finds, joined, replied, reports, settled_after, settled_behind, shows}
 
 -- what a sound state tells
 abbrev told : List File → Option File → Settled

@@ -4,7 +4,7 @@ use Rattle.std.specs.Prelude.{◌==◌}
 use Rattle.std.proofs.lemmas.Bool.{ne_eqb}
 use Rattle.std.proofs.lemmas.List.{at_drop_more, at_drop_all, take_more, take_all}
 use Rattle.fam_base.specs.Paths.{slash}
-use Rattle.fam_journal.specs.Programs.{prefixes_behind}
+use Rattle.fam_outcomes.specs.Programs.{prefixes_behind}
 
 module _ (bytes : List ℕ) (i : ℕ) (below : i < length bytes) where
   -- what is left from a byte on

@@ -5,10 +5,10 @@ use Rattle.fam_crc.specs.Crc.{crc32}
 use Rattle.fam_journal.specs.declared.event.Event.{Event}
 use Rattle.fam_journal.specs.Ends.{counted}
 use Rattle.fam_journal.specs.Notes.{Note}
-use Rattle.fam_journal.specs.Programs.{storm_line}
-use Rattle.fam_journal.specs.Texts.{line, number, render}
-use Rattle.fam_outcomes.specs.declared.counts.Counts.{Counts}
-use Rattle.fam_outcomes.specs.StormLines.{counts_text, front_text, storm_text}
+use Rattle.fam_outcomes.specs.Programs.{storm_line}
+use Rattle.fam_outcomes.specs.Texts.{line, number, render}
+use Rattle.fam_script.specs.declared.counts.Counts.{Counts}
+use Rattle.fam_script.specs.StormLines.{counts_text, front_text, storm_text}
 
 -- five texts behind one another
 pub five : (a b c d e : List ℕ) → a ++ (b ++ (c ++ (d ++ e))) ≡ a ++ b ++ c ++ d ++ e

@@ -5,7 +5,7 @@ use Rattle.fam_rules.specs.declared.answers.LogState.{LogState}
 use Rattle.fam_rules.specs.declared.answers.LogState.TheVariants as log
 use Rattle.fam_rules.specs.Reply as reply
 use Rattle.fam_rules.specs.Reply.{Reply}
-use Rattle.fam_outcomes.specs.declared.counts.Settled.{Settled}
+use Rattle.fam_script.specs.declared.counts.Settled.{Settled}
 
 -- nothing is settled
 abbrev pub empty : Settled

@@ -19,6 +19,7 @@ pub record IsSpelledAttr (attr : Attr) : Type 0 where
   pub uid : attr.uid < 2 ^ 32
   pub gid : attr.gid < 2 ^ 32
 
+-- three numbers of 64 bits, or none
 abbrev pub IsSpelledStripe : Option Stripe → Type 0
 IsSpelledStripe None = ⊤
 IsSpelledStripe (Some s) = IsWord64 s.nstrips × IsWord64 s.nbuckets × IsWord64 s.chunk
@@ -29,6 +30,7 @@ IsSpelledContent Zero = ⊤
 IsSpelledContent (Seed seed) = IsWord64 seed
 IsSpelledContent (Bytes bytes) = ⊥
 
+-- a line of a script can spell the command
 abbrev pub HasSpelling : Cmd → Type 0
 HasSpelling Logplay = ⊤
 HasSpelling Fsck = ⊤

@@ -1,7 +1,7 @@
 -- The line of a storm, by its numbers. docs/MANUAL.md.
 use Rattle.std.specs.Prelude.{ℕ, List, ◌++◌, codes}
-use Rattle.fam_journal.specs.Texts.{number}
-use Rattle.fam_outcomes.specs.declared.counts.Counts.{Counts}
+use Rattle.fam_outcomes.specs.Texts.{number}
+use Rattle.fam_script.specs.declared.counts.Counts.{Counts}
 
 -- a seed, a size, and how many events there are
 abbrev pub front_text : ℕ → ℕ → ℕ → List ℕ

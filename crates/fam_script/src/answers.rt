@@ -1,14 +1,14 @@
-//! The texts of answers. fam_journal's `specs/Texts.antt` has their forms.
+//! The texts of answers. fam_outcomes' `specs/Texts.antt` has their forms.
 
 ghost use Rattle.std.specs.Prelude.{◌≡◌, ◌<◌, ◌++◌, IfOk, codes, string_bytes};
 ghost use Rattle.fam_base.specs.Escapes.{hex_digit};
 ghost use Rattle.fam_format.specs.declared.faults.SuperFault.TheVariants as super_fault;
 ghost use Rattle.fam_format.specs.declared.faults.LogFault.TheVariants as log_fault;
-ghost use Rattle.fam_journal.specs.Texts as text;
+ghost use Rattle.fam_outcomes.specs.Texts as text;
 ghost use Rattle.fam_rules.specs.declared.answers.Refused.TheVariants as refused;
 ghost use Rattle.fam_rules.specs.Reply as reply;
-ghost use Rattle.fam_notes.specs.Notes.{answer_of};
-ghost use Rattle.fam_script.specs.Prints.{PrintsAnswer, checked_prefix};
+ghost use Rattle.fam_notes.specs.Notes.{answer_view};
+ghost use Rattle.fam_script.specs.Reports.{checked_prefix};
 
 use crate::digits::{byte_digits, bytes_text};
 use crate::faults::{entry_line, kind, log_line, played_lines, super_line};
@@ -136,7 +136,7 @@ fn bad_log_line(
 
 /// The text of an answer: its line, and the further lines of a listing or a report.
 pub fn answer_text(alloc: Global, answer: &Answer) -> Result<Vec<u8>, OutOfMemory>
-    ensures { IfOk result (λ bytes. PrintsAnswer (answer_of answer.now) bytes.items) }
+    ensures { IfOk result (λ bytes. bytes.items ≡ text.answer_text (answer_view answer.now)) }
 {
     match answer {
         Answer::Ok(seq) => line_of(alloc, format!(in alloc; "ok {seq}")),

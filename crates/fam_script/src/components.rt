@@ -1,7 +1,7 @@
-//! The directories along a path. fam_journal's `specs/Programs.antt` has them.
+//! The directories along a path. fam_outcomes' `specs/Programs.antt` has them.
 
 ghost use Rattle.std.specs.Prelude.{◌≡◌, ◌++◌, ◌∷◌, [], IfOk, OnOk};
-ghost use Rattle.fam_journal.specs.Programs.{path_prefixes};
+ghost use Rattle.fam_outcomes.specs.Programs.{path_prefixes};
 
 use fam_base::{OutOfMemory, Path};
 use std::alloc::Global;

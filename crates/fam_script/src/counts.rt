@@ -3,9 +3,8 @@
 ghost use Rattle.std.specs.Prelude.{◌≡◌, ◌+◌, ◌^◌, ◌<◌, count_by, IfSome};
 ghost use Rattle.fam_journal.specs.Ends as spec;
 ghost use Rattle.fam_journal.specs.Ends.{counted};
-ghost use Rattle.fam_outcomes.specs.Answers.{answer_view};
-ghost use Rattle.fam_outcomes.specs.Settled as rule;
-ghost use Rattle.fam_world.specs.View.{note_view, notes_view};
+ghost use Rattle.fam_notes.specs.Notes.{answer_view, note_view, notes_view};
+ghost use Rattle.fam_script.specs.Settled as rule;
 
 use fam_notes::Note;
 use fam_rules::{LogState, Report};

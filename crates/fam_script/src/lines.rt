@@ -2,7 +2,7 @@
 
 ghost use Rattle.std.specs.Prelude.{◌≡◌, ◌++◌, [], ◌∷◌, ℕ, List, IfOk, OnOk, string_bytes};
 ghost use Rattle.fam_base.specs.Escapes.{escaped};
-ghost use Rattle.fam_journal.specs.Texts as text;
+ghost use Rattle.fam_outcomes.specs.Texts as text;
 
 use fam_base::{OutOfMemory, escape};
 use std::alloc::{AllocError, Global};

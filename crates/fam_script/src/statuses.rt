@@ -1,15 +1,15 @@
-//! The statuses of notes. fam_journal's `specs/Statuses.antt` has them.
+//! The statuses of notes. fam_outcomes' `specs/Statuses.antt` has them.
 
 ghost use Rattle.std.specs.Prelude.{◌≡◌};
-ghost use Rattle.fam_journal.specs.Statuses as spec;
-ghost use Rattle.fam_outcomes.specs.Answers.{answer_view};
-ghost use Rattle.fam_world.specs.View.{note_view, notes_view};
+ghost use Rattle.fam_outcomes.specs.Statuses as spec;
+ghost use Rattle.fam_notes.specs.Notes.{answer_view, note_view, notes_view};
 
+use crate::reports::is_sound;
 use fam_base::Kind;
-use fam_journal::{Refusal, Status};
+use fam_journal::Refusal;
+use fam_outcomes::Status;
 use fam_notes::Note;
 use fam_rules::Checked;
-use fam_script::is_sound;
 use fam_tasks::Answer;
 
 /// Nothing is missing, and nothing is extra or changed.

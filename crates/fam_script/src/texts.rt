@@ -1,28 +1,19 @@
-//! Notes in print. fam_journal's `specs/Texts.antt` and `Programs.antt` have their lines.
+//! Notes in print. fam_outcomes' `specs/Texts.antt` and `Programs.antt` have their lines.
 
 ghost use Rattle.std.specs.Prelude.{◌≡◌, ◌++◌, ◌∷◌, [], IfOk, OnOk, length, string_bytes};
 ghost use Rattle.fam_crc.specs.Crc.{crc32};
 ghost use Rattle.fam_journal.specs.Names.{IsNamed, NameDeclared};
-ghost use Rattle.fam_journal.specs.Texts as text;
-ghost use Rattle.fam_outcomes.specs.StormLines.{counts_text, front_text, storm_text};
-ghost use Rattle.fam_world.specs.View.{note_view, notes_view};
+ghost use Rattle.fam_outcomes.specs.Texts as text;
+ghost use Rattle.fam_script.specs.StormLines.{counts_text, front_text, storm_text};
+ghost use Rattle.fam_notes.specs.Notes.{note_view, notes_view};
 
 use crate::counts::Counts;
+use crate::lines::put;
+use crate::notes::{note_text, print_note};
 use fam_base::{HostName, OutOfMemory};
 use fam_crc::crc_more;
 use fam_notes::Note;
-use fam_script::{note_text, print_note};
 use std::alloc::{AllocError, Global};
-
-/// Adds bytes to a text.
-fn put(bytes: &[u8], into: &mut Vec<u8>) -> Result<(), OutOfMemory>
-    ensures { OnOk result (into.new.items ≡ into.old.items ++ bytes.now) }
-{
-    match into.extend_from_slice(bytes) {
-        Ok(()) => Ok(()),
-        Err(_) => Err(OutOfMemory),
-    }
-}
 
 /// Adds a name.
 fn put_name(name: HostName, into: &mut Vec<HostName>) -> Result<(), OutOfMemory>

@@ -1,9 +1,9 @@
 -- What comes of a call: the one clause of the top call.
 use Rattle.std.specs.Prelude.{ℕ, List, Option, Some, None, option_map}
 use Rattle.fam_grammar.specs.Scripts.{script_events}
-use Rattle.fam_journal.specs.declared.status.Status.{Status}
-use Rattle.fam_journal.specs.Programs.{Command, Makes, MakesParents, OneShot, Runs, Script, Single, Storm, TopEnds}
-use Rattle.fam_journal.specs.Runs.{Outside}
+use Rattle.fam_outcomes.specs.declared.status.Status.{Status}
+use Rattle.fam_outcomes.specs.Programs.{Command, Makes, MakesParents, OneShot, Runs, Script, Single, Storm, TopEnds}
+use Rattle.fam_outcomes.specs.Runs.{Outside}
 use Rattle.fam_storm.specs.Storm.{storm}
 use Rattle.fam_words.specs.declared.wanted.Order.{Order}
 use Rattle.fam_words.specs.declared.wanted.Order.TheVariants as order

@@ -14,7 +14,7 @@ use Rattle.fam_rules.specs.Reports.{report_of}
 use Rattle.fam_rules.specs.Written.{formatted, written}
 use Rattle.fam_journal.specs.declared.event.Event.{Event}
 use Rattle.fam_journal.specs.declared.event.Event.TheVariants as event
-use Rattle.fam_journal.specs.declared.status.Status.{Status}
+use Rattle.fam_outcomes.specs.declared.status.Status.{Status}
 use Rattle.fam_journal.specs.Complete.{RunsEnd}
 use Rattle.fam_journal.specs.Ends.{AllDone, Ending, EndsOutOfMemory, IsFaultless, ReadsAs}
 use Rattle.fam_journal.specs.Events.{PartOf, Session, first_session}
@@ -22,10 +22,10 @@ use Rattle.fam_journal.specs.Follows.{Follows}
 use Rattle.fam_journal.specs.Legal.{OfHost}
 use Rattle.fam_journal.specs.Notes.{Answer, Replied, MediaFault, Note, Host, Made, Start, Mark, Found, Writes, Answered, Stop, Halt, Refused}
 use Rattle.fam_journal.specs.Past.{HostPast, Past, State, Bad, Sound, count_of, first_past, first_state, past_after, past_of, settled_length}
-use Rattle.fam_journal.specs.Programs.{Command, EndsEarly, Grammar, ScriptPuts, Storms, script_status}
-use Rattle.fam_journal.specs.Runs.{IsPut, Outside}
-use Rattle.fam_journal.specs.Statuses.{good_status, is_good}
-use Rattle.fam_journal.specs.Texts.{render}
+use Rattle.fam_outcomes.specs.Programs.{Command, EndsEarly, Grammar, ScriptPuts, Storms, script_status}
+use Rattle.fam_outcomes.specs.Runs.{IsPut, Outside}
+use Rattle.fam_outcomes.specs.Statuses.{good_status, is_good}
+use Rattle.fam_outcomes.specs.Texts.{render}
 
 -- an event that no other host's step interrupts
 abbrev pub IsWholeEvent : Event → Type 0

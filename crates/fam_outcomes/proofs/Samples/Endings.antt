@@ -5,8 +5,8 @@ use Rattle.std.specs.FinMap as finmap
 use Rattle.fam_media.specs.Files.{Files}
 use Rattle.fam_journal.specs.declared.event.Event.TheVariants as event
 use Rattle.fam_journal.specs.declared.refusal.Refusal.TheVariants as why
-use Rattle.fam_journal.specs.declared.status.Status.TheVariants as status
-use Rattle.fam_journal.specs.Programs.{script_status}
+use Rattle.fam_outcomes.specs.declared.status.Status.TheVariants as status
+use Rattle.fam_outcomes.specs.Programs.{script_status}
 use Rattle.fam_journal.specs.Calls as call
 use Rattle.fam_journal.specs.Calls.{refusal_of}
 use Rattle.fam_journal.specs.Ends.{AllDone, EventsDone, SinkFails}

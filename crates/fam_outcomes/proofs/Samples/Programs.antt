@@ -15,12 +15,12 @@ use Rattle.fam_rules.specs.Reply as reply
 use Rattle.fam_journal.specs.declared.event.Ask.TheVariants as ask
 use Rattle.fam_journal.specs.declared.event.Event.TheVariants as event
 use Rattle.fam_journal.specs.declared.refusal.Refusal.TheVariants as why
-use Rattle.fam_journal.specs.declared.status.Status.TheVariants as status
+use Rattle.fam_outcomes.specs.declared.status.Status.TheVariants as status
 use Rattle.fam_journal.specs.Ends.{AllDone}
 use Rattle.fam_journal.specs.Follows.{Short}
 use Rattle.fam_journal.specs.Notes.{Note, Answered, Host, Refused, Replied, Start}
 use Rattle.std.proofs.lemmas.Option.{same_Some}
-use Rattle.fam_journal.specs.Programs.{HasPut, PutsTold, Grammar, Script, Storms, TopEnds, script_limit, BadLine, IsWholeRun, LongScript, MakesParents, Runs, ShotText, early_text, path_prefixes, script_status, shot_status, source_line, storm_line}
+use Rattle.fam_outcomes.specs.Programs.{HasPut, PutsTold, Grammar, Script, Storms, TopEnds, script_limit, BadLine, IsWholeRun, LongScript, MakesParents, Runs, ShotText, early_text, path_prefixes, script_status, shot_status, source_line, storm_line}
 use Rattle.fam_base.specs.Image.{Image}
 use Rattle.fam_media.specs.Files.{Files}
 use Rattle.fam_media.specs.Outside.{IfModelled}
@@ -29,8 +29,8 @@ use Rattle.fam_journal.specs.declared.event.Event.{Event}
 use Rattle.fam_journal.specs.Calls.{refusal_of}
 use Rattle.fam_journal.specs.EventForms.{FollowsForm}
 use Rattle.fam_journal.specs.Events.{Session}
-use Rattle.fam_journal.specs.Runs.{Outside, RunsOn}
-use Rattle.fam_journal.specs.Texts.{render, shown}
+use Rattle.fam_outcomes.specs.Runs.{Outside, RunsOn}
+use Rattle.fam_outcomes.specs.Texts.{render, shown}
 
 abbrev attr : Attr
 attr = record { mode = 493; uid = 0; gid = 0 }

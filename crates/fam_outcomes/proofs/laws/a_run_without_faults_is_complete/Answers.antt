@@ -1,5 +1,5 @@
-use Rattle.fam_journal.proofs.Runs.Faultless.{run_complete, script_is_run, storm_is_run}
-use Rattle.fam_journal.proofs.laws.a_run_without_faults_is_complete.Goals as goal
+use Rattle.fam_outcomes.proofs.Faultless.{run_complete, script_is_run, storm_is_run}
+use Rattle.fam_outcomes.proofs.laws.a_run_without_faults_is_complete.Goals as goal
 
 pub returns : goal.returns
 returns c = record {

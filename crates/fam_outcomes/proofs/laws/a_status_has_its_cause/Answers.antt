@@ -1,5 +1,5 @@
-use Rattle.fam_journal.proofs.Runs.Causes.{media_cause, sink_cause, source_cause}
-use Rattle.fam_journal.proofs.laws.a_status_has_its_cause.Goals as goal
+use Rattle.fam_outcomes.proofs.Causes.{media_cause, sink_cause, source_cause}
+use Rattle.fam_outcomes.proofs.laws.a_status_has_its_cause.Goals as goal
 
 pub returns : goal.returns
 returns c = record {

@@ -1,7 +1,7 @@
 use Rattle.fam_journal.specs.Events.{first_session}
 use Rattle.fam_journal.specs.Past.{first_past}
-use Rattle.fam_journal.proofs.Texts.Names.{follows_named, named_added, names_of_past, render_more}
-use Rattle.fam_journal.proofs.laws.a_text_only_grows.Goals as goal
+use Rattle.fam_outcomes.proofs.Names.{follows_named, named_added, names_of_past, render_more}
+use Rattle.fam_outcomes.proofs.laws.a_text_only_grows.Goals as goal
 
 pub returns : goal.returns
 returns c = record {

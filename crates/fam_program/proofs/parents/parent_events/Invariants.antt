@@ -1,6 +1,6 @@
 use Rattle.std.proofs.Common.{◌≡◌, ◌++◌, ◌∷◌, map}
 use Rattle.fam_journal.specs.declared.event.Event.TheVariants as event
-use Rattle.fam_journal.specs.Programs.{MakesParents, shot_events}
+use Rattle.fam_outcomes.specs.Programs.{MakesParents, shot_events}
 use Rattle.fam_program.proofs.Prefixing.{makes}
 use Rattle.fam_program.proofs.parents.parent_events.Given as goal
 

@@ -1,7 +1,7 @@
 use Rattle.std.proofs.Common.{◌≡◌, ◌≤◌, drop, length, take}
 use Rattle.fam_journal.specs.Names.{NameDeclared}
-use Rattle.fam_journal.specs.Texts.{names_behind, render_behind}
-use Rattle.fam_world.specs.View.{notes_view}
+use Rattle.fam_outcomes.specs.Texts.{names_behind, render_behind}
+use Rattle.fam_notes.specs.Notes.{notes_view}
 use Rattle.fam_program.specs.Puts.{PutWhole, sink_changed}
 use Rattle.fam_program.proofs.puts.put_each.Given as goal
 

@@ -2,7 +2,7 @@ use Rattle.std.proofs.Common.{◌≡◌, List, ℕ, length, ap, subst, sym, ◌�
 use Rattle.std.specs.Prelude.{OnOk}
 use Rattle.fam_journal.specs.Names.{NameDeclared}
 use Rattle.fam_journal.specs.Notes.{Note}
-use Rattle.fam_journal.specs.Texts.{names_behind, render_behind}
+use Rattle.fam_outcomes.specs.Texts.{names_behind, render_behind}
 use Rattle.fam_program.specs.Puts.{PutPart, PutSome, PutWhole, sink_changed}
 use Rattle.fam_program.proofs.Naming.{named_from, names_all, notes_from}
 use Rattle.fam_program.proofs.puts.put_notes.Goals as goal

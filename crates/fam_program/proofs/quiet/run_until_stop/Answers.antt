@@ -5,7 +5,7 @@ use Rattle.std.proofs.lemmas.List.{nil_from_length}
 use Rattle.fam_sources.specs.Whole.{ShelfChange, changed}
 use Rattle.fam_journal.specs.declared.event.Event.{Event}
 use Rattle.fam_journal.specs.CallRecords.{FitsMedia}
-use Rattle.fam_journal.specs.Statuses.{last_stops, note_stops}
+use Rattle.fam_outcomes.specs.Statuses.{last_stops, note_stops}
 use Rattle.fam_journal.specs.View.{WorldView}
 use Rattle.fam_events.specs.Around.{around}
 use Rattle.fam_events.specs.Happens.{EventSays}

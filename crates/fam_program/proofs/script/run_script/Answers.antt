@@ -6,8 +6,8 @@ use Rattle.fam_journal.specs.declared.event.Event.{Event}
 use Rattle.fam_journal.specs.CallRecords.{FitsMedia}
 use Rattle.fam_journal.specs.Notes.{Note}
 use Rattle.fam_journal.specs.View.{WorldView}
-use Rattle.fam_journal.specs.Texts.{names_behind, render, render_behind}
-use Rattle.fam_journal.proofs.Texts.Names.{render_more}
+use Rattle.fam_outcomes.specs.Texts.{names_behind, render, render_behind}
+use Rattle.fam_outcomes.proofs.Names.{render_more}
 use Rattle.fam_events.specs.Around.{around}
 use Rattle.fam_events.specs.Happens.{EventSays}
 use Rattle.fam_program.specs.Far.{AreSoundEvents, Base, Far, Now}

@@ -1,7 +1,7 @@
 use Rattle.std.proofs.Common.{Option, arith, refl, subst}
 use Rattle.fam_media.specs.Files.{Files}
 use Rattle.fam_sources.specs.Whole.{ShelfChange, changed}
-use Rattle.fam_journal.specs.Runs.{NoneFalls, Outside}
+use Rattle.fam_outcomes.specs.Runs.{NoneFalls, Outside}
 use Rattle.fam_program.specs.Puts.{SinkChange, sink_changed}
 use Rattle.fam_program.specs.Runs.{outside_of}
 use Rattle.fam_program.specs.Scripts.{ScriptRan}

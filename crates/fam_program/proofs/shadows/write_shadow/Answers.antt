@@ -3,10 +3,10 @@ use Rattle.std.specs.Prelude.{OnOk}
 use Rattle.fam_base.specs.declared.cmd.Cmd.TheVariants as cmd
 use Rattle.fam_journal.specs.declared.event.Ask.TheVariants as ask
 use Rattle.fam_journal.specs.declared.event.Event.{Event}
-use Rattle.fam_journal.specs.declared.status.Status.{Status}
+use Rattle.fam_outcomes.specs.declared.status.Status.{Status}
 use Rattle.fam_journal.specs.Notes.{Note}
-use Rattle.fam_journal.specs.Runs.{NoneFalls, Outside}
-use Rattle.fam_journal.specs.Statuses.{last_status}
+use Rattle.fam_outcomes.specs.Runs.{NoneFalls, Outside}
+use Rattle.fam_outcomes.specs.Statuses.{last_status}
 use Rattle.fam_program.specs.Far.{AreSoundEvents}
 use Rattle.fam_program.specs.Puts.{SinkChange, sink_changed}
 use Rattle.fam_program.specs.Quiet.{AreShotEvents, ShotEnded}

@@ -1,11 +1,11 @@
 use Rattle.std.proofs.Common.{◌≡◌, List, Some, arith, ap, refl, subst, sym, ◌∙◌}
 use Rattle.fam_sources.specs.Whole.{changed}
 use Rattle.fam_journal.specs.declared.event.Event.{Event}
-use Rattle.fam_journal.specs.declared.status.Status.{Status}
+use Rattle.fam_outcomes.specs.declared.status.Status.{Status}
 use Rattle.fam_journal.specs.Notes.{Note}
-use Rattle.fam_journal.specs.Programs.{Runs, OneShot, Single}
-use Rattle.fam_journal.specs.Runs.{NoneFalls, Outside}
-use Rattle.fam_journal.specs.Statuses.{last_status}
+use Rattle.fam_outcomes.specs.Programs.{Runs, OneShot, Single}
+use Rattle.fam_outcomes.specs.Runs.{NoneFalls, Outside}
+use Rattle.fam_outcomes.specs.Statuses.{last_status}
 use Rattle.fam_program.specs.Far.{AreSoundEvents}
 use Rattle.fam_program.specs.Puts.{SinkChange, sink_changed}
 use Rattle.fam_program.specs.Quiet.{AreShotEvents, ShotEnded}

@@ -1,7 +1,7 @@
-use Rattle.fam_world_model.proofs.Cutting.{meets_cut}
-use Rattle.fam_world_model.proofs.Making.{meets_mkfs}
-use Rattle.fam_world_model.proofs.Stepping.{meets, meets_untold}
-use Rattle.fam_world_model.proofs.a_body_meets_what_calls_promise.Goals as goal
+use Rattle.fam_samples.proofs.Cutting.{meets_cut}
+use Rattle.fam_samples.proofs.Making.{meets_mkfs}
+use Rattle.fam_samples.proofs.Stepping.{meets, meets_untold}
+use Rattle.fam_samples.proofs.callers.a_body_meets_what_calls_promise.Goals as goal
 
 pub returns : goal.returns
 returns c = record {

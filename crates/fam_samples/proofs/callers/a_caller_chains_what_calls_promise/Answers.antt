@@ -1,5 +1,5 @@
-use Rattle.fam_world_model.proofs.Chained.{cut, done, out_of_memory}
-use Rattle.fam_world_model.proofs.a_caller_chains_what_calls_promise.Goals as goal
+use Rattle.fam_samples.proofs.Chained.{cut, done, out_of_memory}
+use Rattle.fam_samples.proofs.callers.a_caller_chains_what_calls_promise.Goals as goal
 
 pub returns : goal.returns
 returns c = record {

@@ -3,9 +3,9 @@ use Rattle.fam_base.specs.declared.entry.Kind.TheVariants as kind
 use Rattle.fam_rules.specs.declared.answers.Refused.TheVariants as cause
 use Rattle.fam_rules.specs.Content.{fill}
 use Rattle.fam_journal.specs.Past.{new_host}
-use Rattle.fam_journal_checks.specs.Scene.{folder, held, master, mkdir, params, x}
-use Rattle.fam_journal_checks.proofs.Decided.{again, decides, first}
-use Rattle.fam_journal_checks.proofs.legal.answers_of_appends.Goals as goal
+use Rattle.fam_samples.specs.Scene.{folder, held, master, mkdir, params, x}
+use Rattle.fam_samples.proofs.Decided.{again, decides, first}
+use Rattle.fam_samples.proofs.legal.answers_of_appends.Goals as goal
 
 pub returns-clause-exists : goal.returns-clause-exists
 unfolding fill

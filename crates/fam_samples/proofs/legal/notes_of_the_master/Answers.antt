@@ -4,9 +4,9 @@ use Rattle.fam_rules.specs.declared.answers.Refused.{Refused}
 use Rattle.fam_rules.specs.declared.answers.Refused.TheVariants as cause
 use Rattle.fam_rules.specs.Content.{fill}
 use Rattle.fam_journal.specs.Past.{new_host}
-use Rattle.fam_journal_checks.specs.Scene.{client, folder, master, mkdir, params, x, y}
-use Rattle.fam_journal_checks.proofs.Decided.{decides, first, of_client, other_name}
-use Rattle.fam_journal_checks.proofs.legal.notes_of_the_master.Goals as goal
+use Rattle.fam_samples.specs.Scene.{client, folder, master, mkdir, params, x, y}
+use Rattle.fam_samples.proofs.Decided.{decides, first, of_client, other_name}
+use Rattle.fam_samples.proofs.legal.notes_of_the_master.Goals as goal
 
 pub returns-clause-decided : goal.returns-clause-decided
 returns-clause-decided c = (refl, record { cmd = mkdir x; told = refl; none = refl; is = first })

@@ -1,9 +1,9 @@
 use Rattle.std.proofs.Common.{refl, inl, inr, [], codes, None}
 use Rattle.fam_journal.specs.Calls.{MayBeRefused}
 use Rattle.fam_journal.specs.declared.refusal.Refusal.TheVariants as why
-use Rattle.fam_journal_checks.specs.Scene.{one_host}
+use Rattle.fam_samples.specs.Scene.{one_host}
 use Rattle.fam_journal.specs.Calls.{refusal_of}
-use Rattle.fam_journal_checks.proofs.machine.calls_without_operations.Goals as goal
+use Rattle.fam_samples.proofs.machine.calls_without_operations.Goals as goal
 
 pub returns-clause-host : goal.returns-clause-host
 unfolding refusal_of

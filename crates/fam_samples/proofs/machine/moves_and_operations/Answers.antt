@@ -8,8 +8,8 @@ use Rattle.fam_journal.specs.declared.refusal.Refusal.TheVariants as why
 use Rattle.fam_journal.specs.Calls.{MoveFails, Moved, refusal_of}
 use Rattle.fam_journal.specs.Machines.{HostState, Machines, operation}
 use Rattle.fam_journal.specs.Notes.{Note, Refused}
-use Rattle.fam_journal_checks.specs.Scene.{host_m, one_host, one_line}
-use Rattle.fam_journal_checks.proofs.machine.moves_and_operations.Goals as goal
+use Rattle.fam_samples.specs.Scene.{host_m, one_host, one_line}
+use Rattle.fam_samples.proofs.machine.moves_and_operations.Goals as goal
 
 pub returns-clause-fetch : goal.returns-clause-fetch
 unfolding refusal_of

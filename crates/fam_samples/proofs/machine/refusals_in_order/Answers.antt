@@ -1,6 +1,6 @@
 use Rattle.std.proofs.Common.{refl}
 use Rattle.fam_journal.specs.Calls.{refusal_of}
-use Rattle.fam_journal_checks.proofs.machine.refusals_in_order.Goals as goal
+use Rattle.fam_samples.proofs.machine.refusals_in_order.Goals as goal
 
 pub returns-clause-same_name : goal.returns-clause-same_name
 unfolding refusal_of

@@ -1,6 +1,6 @@
 use Rattle.std.proofs.Common.{refl}
 use Rattle.fam_rules.specs.Content.{fill}
-use Rattle.fam_journal_checks.proofs.settled.what_notes_settle.Goals as goal
+use Rattle.fam_samples.proofs.settled.what_notes_settle.Goals as goal
 
 pub returns-clause-writes : goal.returns-clause-writes
 unfolding fill

@@ -1,9 +1,9 @@
 use Rattle.std.proofs.Common.{refl, inr}
 use Rattle.fam_rules.specs.Content.{fill}
-use Rattle.fam_journal_checks.proofs.Decided.{first}
-use Rattle.fam_journal_checks.proofs.Dropped.{misread}
-use Rattle.fam_journal_checks.specs.Scene.{mkdir, x}
-use Rattle.fam_journal_checks.proofs.wrong.a_found_that_drops_loses_an_entry.Goals as goal
+use Rattle.fam_samples.proofs.Decided.{first}
+use Rattle.fam_samples.proofs.Dropped.{misread}
+use Rattle.fam_samples.specs.Scene.{mkdir, x}
+use Rattle.fam_samples.proofs.wrong.a_found_that_drops_loses_an_entry.Goals as goal
 
 pub returns-clause-misread : goal.returns-clause-misread
 returns-clause-misread c = λ start state world image notes host p history pending held was is wrong. misread start state world image notes host p history pending held was is wrong

@@ -1,8 +1,8 @@
 use Rattle.std.proofs.Common.{refl}
 use Rattle.fam_rules.specs.Content.{fill}
-use Rattle.fam_journal_checks.proofs.Decided.{first}
-use Rattle.fam_journal_checks.specs.Scene.{mkdir, x}
-use Rattle.fam_journal_checks.proofs.wrong.an_ok_of_any_entry_loses_a_command.Goals as goal
+use Rattle.fam_samples.proofs.Decided.{first}
+use Rattle.fam_samples.specs.Scene.{mkdir, x}
+use Rattle.fam_samples.proofs.wrong.an_ok_of_any_entry_loses_a_command.Goals as goal
 
 pub returns-clause-wrong : goal.returns-clause-wrong
 unfolding fill

@@ -2,10 +2,10 @@ use Rattle.std.proofs.Common.{◌++◌, ◌∷◌, [], ◌∙◌, ℕ, ◌+◌, 
 use Rattle.std.proofs.lemmas.Bool.{false≢true}
 use Rattle.fam_base.specs.Paths.{is_path}
 use Rattle.fam_base.proofs.PathLemmas.{prefix_is_path}
-use Rattle.fam_journal.specs.Programs.{prefixes_behind, path_prefixes}
-use Rattle.fam_outcomes.proofs.Slashes.{slash_put, other_put, at_end}
-use Rattle.fam_outcomes.proofs.components.prefixes.Goals as goal
-use Rattle.fam_outcomes.proofs.components.prefixes.Goals.{then-bytes-i-eq47+in-Ok+in_ok-put, else-bytes-i-eq47}
+use Rattle.fam_outcomes.specs.Programs.{prefixes_behind, path_prefixes}
+use Rattle.fam_script.proofs.Slashes.{slash_put, other_put, at_end}
+use Rattle.fam_script.proofs.components.prefixes.Goals as goal
+use Rattle.fam_script.proofs.components.prefixes.Goals.{then-bytes-i-eq47+in-Ok+in_ok-put, else-bytes-i-eq47}
 
 pub unreachable-requires : goal.unreachable-requires
 unreachable-requires c =

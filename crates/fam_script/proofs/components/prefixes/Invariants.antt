@@ -1,6 +1,6 @@
 use Rattle.std.proofs.Common.{◌≡◌, ◌++◌, take, drop}
-use Rattle.fam_journal.specs.Programs.{prefixes_behind, path_prefixes}
-use Rattle.fam_outcomes.proofs.components.prefixes.Given as goal
+use Rattle.fam_outcomes.specs.Programs.{prefixes_behind, path_prefixes}
+use Rattle.fam_script.proofs.components.prefixes.Given as goal
 
 abbrev pub invariant-bytes : goal.invariant-bytes
 invariant-bytes l =

@@ -1,7 +1,7 @@
 use Rattle.std.proofs.Common.{◌≡◌, ◌≤◌, count_by, take}
 use Rattle.fam_journal.specs.Ends.{is_answer_note}
-use Rattle.fam_world.specs.View.{note_view}
-use Rattle.fam_outcomes.proofs.counts.count_answers.Given as goal
+use Rattle.fam_notes.specs.Notes.{note_view}
+use Rattle.fam_script.proofs.counts.count_answers.Given as goal
 
 abbrev pub invariant-notes : goal.invariant-notes
 invariant-notes l = record {

@@ -1,10 +1,10 @@
 use Rattle.std.proofs.Common.{sym, ◌∙◌, arith}
 use Rattle.fam_journal.specs.Ends.{is_refused_note}
 use Rattle.fam_notes.specs.declared.note.Note.{Note}
-use Rattle.fam_world.specs.View.{note_view}
-use Rattle.fam_outcomes.proofs.Counting.{counted_all, counted_no, counted_yes}
-use Rattle.fam_outcomes.proofs.counts.count_refused.Goals as goal
-use Rattle.fam_outcomes.proofs.counts.count_refused.Goals.{then-is_refused, else-is_refused}
+use Rattle.fam_notes.specs.Notes.{note_view}
+use Rattle.fam_script.proofs.Counting.{counted_all, counted_no, counted_yes}
+use Rattle.fam_script.proofs.counts.count_refused.Goals as goal
+use Rattle.fam_script.proofs.counts.count_refused.Goals.{then-is_refused, else-is_refused}
 
 pub notes-preserved : goal.notes-preserved
 notes-preserved c =

@@ -1,10 +1,10 @@
 use Rattle.std.proofs.Common.{sym, ap, ◌∙◌, List}
 use Rattle.std.proofs.lemmas.List.{at_drop_all}
 use Rattle.fam_notes.specs.declared.note.Note.{Note}
-use Rattle.fam_outcomes.specs.Settled.{settled_behind}
-use Rattle.fam_world.specs.View.{notes_view}
-use Rattle.fam_outcomes.proofs.Settling.{length_of, settled_is}
-use Rattle.fam_outcomes.proofs.counts.settled_length.Goals as goal
+use Rattle.fam_script.specs.Settled.{settled_behind}
+use Rattle.fam_notes.specs.Notes.{notes_view}
+use Rattle.fam_script.proofs.Settling.{length_of, settled_is}
+use Rattle.fam_script.proofs.counts.settled_length.Goals as goal
 
 pub returns-in-Some : goal.returns-in-Some
 returns-in-Some c =

@@ -1,8 +1,8 @@
 use Rattle.std.proofs.Common.{◌≡◌, None, drop}
-use Rattle.fam_outcomes.specs.Settled.{settled_behind}
-use Rattle.fam_world.specs.View.{notes_view}
-use Rattle.fam_outcomes.proofs.Settling.{IsWithin}
-use Rattle.fam_outcomes.proofs.counts.settled_length.Given as goal
+use Rattle.fam_script.specs.Settled.{settled_behind}
+use Rattle.fam_notes.specs.Notes.{notes_view}
+use Rattle.fam_script.proofs.Settling.{IsWithin}
+use Rattle.fam_script.proofs.counts.settled_length.Given as goal
 
 abbrev pub invariant-notes : goal.invariant-notes
 invariant-notes l = record {

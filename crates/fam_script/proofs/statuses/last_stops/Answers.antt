@@ -1,9 +1,9 @@
 use Rattle.std.proofs.Common.{sym, ap, ◌∙◌, List}
-use Rattle.fam_journal.specs.Statuses as spec
+use Rattle.fam_outcomes.specs.Statuses as spec
 use Rattle.fam_notes.specs.declared.note.Note.{Note}
-use Rattle.fam_world.specs.View.{notes_view}
-use Rattle.fam_outcomes.proofs.Lasts.{last_stops_is}
-use Rattle.fam_outcomes.proofs.statuses.last_stops.Goals as goal
+use Rattle.fam_notes.specs.Notes.{notes_view}
+use Rattle.fam_script.proofs.Lasts.{last_stops_is}
+use Rattle.fam_script.proofs.statuses.last_stops.Goals as goal
 
 pub returns-in-Some : goal.returns-in-Some
 returns-in-Some c =

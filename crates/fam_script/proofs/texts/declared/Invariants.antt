@@ -1,7 +1,7 @@
 use Rattle.std.proofs.Common.{◌≡◌, [], drop}
-use Rattle.fam_journal.specs.Texts.{names_behind}
-use Rattle.fam_world.specs.View.{notes_view}
-use Rattle.fam_outcomes.proofs.texts.declared.Given as goal
+use Rattle.fam_outcomes.specs.Texts.{names_behind}
+use Rattle.fam_notes.specs.Notes.{notes_view}
+use Rattle.fam_script.proofs.texts.declared.Given as goal
 
 abbrev pub invariant-notes : goal.invariant-notes
 invariant-notes l =

@@ -1,8 +1,8 @@
 use Rattle.std.proofs.Common.{◌∙◌, codes}
 use Rattle.std.proofs.lemmas.Result.{IfOk-weaker}
-use Rattle.fam_journal.specs.Texts.{number}
-use Rattle.fam_outcomes.proofs.StormTexts.{eight}
-use Rattle.fam_outcomes.proofs.texts.storm_back.Goals as goal
+use Rattle.fam_outcomes.specs.Texts.{number}
+use Rattle.fam_script.proofs.StormTexts.{eight}
+use Rattle.fam_script.proofs.texts.storm_back.Goals as goal
 
 pub returns : goal.returns
 returns c =

@@ -1,8 +1,8 @@
 use Rattle.std.proofs.Common.{◌∙◌, codes}
 use Rattle.std.proofs.lemmas.Result.{IfOk-weaker}
-use Rattle.fam_journal.specs.Texts.{number}
-use Rattle.fam_outcomes.proofs.StormTexts.{five}
-use Rattle.fam_outcomes.proofs.texts.storm_front.Goals as goal
+use Rattle.fam_outcomes.specs.Texts.{number}
+use Rattle.fam_script.proofs.StormTexts.{five}
+use Rattle.fam_script.proofs.texts.storm_front.Goals as goal
 
 pub returns : goal.returns
 returns c =

@@ -1,6 +1,6 @@
 use Rattle.std.proofs.Common.{◌∙◌}
-use Rattle.fam_outcomes.proofs.StormTexts.{parts_put}
-use Rattle.fam_outcomes.proofs.texts.storm_line.Goals as goal
+use Rattle.fam_script.proofs.StormTexts.{parts_put}
+use Rattle.fam_script.proofs.texts.storm_line.Goals as goal
 
 pub returns : goal.returns
 returns c =

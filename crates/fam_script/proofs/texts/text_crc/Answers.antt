@@ -2,11 +2,11 @@ use Rattle.std.proofs.Common.{◌++◌, [], ℕ, List, append-nil, refl, sym, ap
 use Rattle.std.proofs.lemmas.List.{at_drop_all}
 use Rattle.fam_crc.specs.Crc.{crc32}
 use Rattle.fam_journal.specs.Names.{NameDeclared}
-use Rattle.fam_journal.specs.Texts.{render_behind}
+use Rattle.fam_outcomes.specs.Texts.{render_behind}
 use Rattle.fam_notes.specs.declared.note.Note.{Note}
-use Rattle.fam_world.specs.View.{notes_view}
-use Rattle.fam_outcomes.proofs.Printing.{are_named, crc_of_none, is_named, line_put, render_is}
-use Rattle.fam_outcomes.proofs.texts.text_crc.Goals as goal
+use Rattle.fam_notes.specs.Notes.{notes_view}
+use Rattle.fam_script.proofs.Printing.{are_named, crc_of_none, is_named, line_put, render_is}
+use Rattle.fam_script.proofs.texts.text_crc.Goals as goal
 
 pub notes-init : goal.notes-init
 notes-init c = record {

@@ -1,5 +1,5 @@
 use Rattle.std.proofs.Common.{◌∙◌, ap, arith, option_map, refl, subst, sym, Option}
-use Rattle.fam_journal.specs.Runs.{NoneFalls, Outside}
+use Rattle.fam_outcomes.specs.Runs.{NoneFalls, Outside}
 use Rattle.fam_program.specs.Puts.{sink_changed}
 use Rattle.fam_program.specs.Runs.{outside_of}
 use Rattle.fam_sources.specs.Whole.{changed}

@@ -1,7 +1,7 @@
 use Rattle.std.proofs.Common.{List, ℕ, Some, subst, sym}
 use Rattle.fam_grammar.specs.Scripts.{script_events}
-use Rattle.fam_journal.specs.Programs.{Makes, Single, TopEnds}
-use Rattle.fam_journal.specs.Runs.{Outside}
+use Rattle.fam_outcomes.specs.Programs.{Makes, Single, TopEnds}
+use Rattle.fam_outcomes.specs.Runs.{Outside}
 use Rattle.fam_program.specs.Puts.{sink_changed}
 use Rattle.fam_program.specs.Runs.{outside_of}
 use Rattle.fam_sources.specs.Whole.{changed}
