@@ -5,6 +5,7 @@
 
 mod commands;
 mod cursor;
+mod defaults;
 mod events;
 mod fault;
 mod keywords;
@@ -15,6 +16,7 @@ mod script;
 mod spellings;
 mod words;
 
+pub use defaults::{DEFAULT_LOG, DEFAULT_UNIT, DIRECTORY_MODE, FILE_MODE};
 pub use fault::LineFault;
 pub use laws::what_reads_is_sound;
 pub use numbers::{number, size};

@@ -1,5 +1,5 @@
 -- The tree that the last note shows.
-use Rattle.std.proofs.Common.{◌≡◌, List, [], ◌∷◌, ◌++◌, ℕ, length, None, refl, arith}
+use Rattle.std.proofs.Common.{◌≡◌, List, [], ◌∷◌, ◌++◌, length, None, refl, arith}
 use Rattle.fam_notes.specs.declared.note.Note.{Note as Kept}
 use Rattle.fam_notes.specs.Notes.{note_view, notes_view}
 use Rattle.fam_program.specs.Shadows.{shown_tree, tree_in}

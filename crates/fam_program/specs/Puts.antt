@@ -19,6 +19,7 @@ pub record SinkChange : Type 0 where
   pub faults : ℕ
   pub faults_now : ℕ
 
+-- a sink before and after
 abbrev pub sink_changed : {K : Type 0} → (K → Option (List ℕ)) → (K → ℕ) → K → K → SinkChange
 sink_changed bytes faults old now = record { bytes = bytes old; bytes_now = bytes now; faults = faults old; faults_now = faults now }
 

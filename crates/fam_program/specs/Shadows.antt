@@ -34,6 +34,7 @@ pub record ShadeChange : Type 0 where
   pub faults : ℕ
   pub faults_now : ℕ
 
+-- a folder before and after
 abbrev pub shade_changed : {D : Type 0} → (D → Option Nodes) → (D → ℕ) → D → D → ShadeChange
 shade_changed nodes faults old now = record { nodes = nodes old; nodes_now = nodes now; faults = faults old; faults_now = faults now }
 
@@ -62,6 +63,7 @@ replied_tree (reply.NoSuperblock fault) = None
 replied_tree (reply.BadHeader fault) = None
 replied_tree (reply.BadSlot seq reason) = None
 
+-- the tree that a logplay answers, and of how many entries it is
 abbrev pub answered_tree : Answer → Option (ℕ × Tree)
 answered_tree (Replied given) = replied_tree given
 answered_tree (MediaFault at) = None
@@ -96,6 +98,7 @@ abbrev pub shadow_text : ℕ → Result (Unit {0}) ShadowFault → List ℕ
 shadow_text m (Ok done) = line (codes "shadowed" ++ number m)
 shadow_text m (Err given) = fault_text given
 
+-- the status of a shadow, by how the writing ended
 abbrev pub shadow_status : Result (Unit {0}) ShadowFault → Status
 shadow_status (Ok done) = status.Done
 shadow_status (Err (fault.Clash name)) = status.Refused
@@ -126,6 +129,7 @@ pub record HasLogplayed (me : List ℕ) (out : Outside) (shade : ShadeChange) (t
   pub none : runs.ending ≡ AllDone → shown_tree runs.run.journal ≡ None
   pub untouched : IsUntouched shade
 
+-- what a shadow comes to: a logplay ran, and its tree was written, or not
 abbrev pub ShadowRuns : Option (List ℕ) → Outside → ShadeChange → List ℕ → Status → Type 0
 ShadowRuns None out shade text own = ⊥
 ShadowRuns (Some me) out shade text own = HasShadowed me out shade text own ⊎ HasLogplayed me out shade text own

@@ -16,15 +16,18 @@ use Rattle.fam_program.specs.Puts.{EndSays, Put, SinkChange}
 
 -- Last notes for whose line no memory is wanted: an entry is appended, or the media failed.
 
+-- an answer whose text has one number alone
 abbrev pub is_short_answer : Answer → Bool
 is_short_answer (Replied (reply.Appended seq)) = true
 is_short_answer (Replied given) = false
 is_short_answer (MediaFault at) = true
 
+-- a refusal whose text has one number alone
 abbrev pub is_short_cause : Refusal → Bool
 is_short_cause (why.MediaFault at) = true
 is_short_cause cause = false
 
+-- a note whose text has one number alone
 abbrev pub is_short : Note → Bool
 is_short (Host name uuid) = false
 is_short (Made host p) = false

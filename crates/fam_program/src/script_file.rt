@@ -13,7 +13,7 @@ ghost use Rattle.fam_program.specs.Runs.{outside_of};
 ghost use Rattle.fam_program.specs.Puts.{sink_changed};
 
 use crate::fault::ScriptFault;
-use crate::lines::{end_line, line_of, line_with_name};
+use crate::lines::end_line;
 use crate::puts::{put_line, put_memory};
 use crate::read::read_script;
 use crate::script::run_script;
@@ -22,6 +22,7 @@ use fam_grammar::LineFault;
 use fam_journal::Event;
 use fam_outcomes::Status;
 use fam_media::{Media, Shelf, Sink};
+use fam_script::{line_of, line_with_last_name};
 use fam_sources::{SourceEnd, WholeFault, read_whole};
 use std::alloc::Global;
 
@@ -66,7 +67,7 @@ fn fault_line(alloc: Global, name: &str, fault: ScriptFault) -> Result<Vec<u8>, 
     ensures { IfOk result (λ line. line.items ≡ program.early_text (early_of name.now fault)) }
 {
     match fault {
-        ScriptFault::NoFile => line_with_name(alloc, "no file", name),
+        ScriptFault::NoFile => line_with_last_name(alloc, "no file", name.as_bytes()),
         ScriptFault::TooLong(size) => {
             line_of(alloc, format!(in alloc; "script too long {size}"))
         }

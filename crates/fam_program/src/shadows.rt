@@ -10,7 +10,6 @@ ghost use Rattle.fam_program.specs.Runs.{outside_of};
 ghost use Rattle.fam_program.specs.Shadows as spec;
 ghost use Rattle.fam_program.specs.Shadows.{ShadowTop, fault_text, no_files, shade_changed, shadow_status, shadow_text};
 
-use crate::lines::line_of;
 use crate::no_files::NoFiles;
 use crate::puts::{put_line, put_memory};
 use crate::quiet::run_until_stop;
@@ -21,7 +20,7 @@ use fam_journal::{Ask, Event};
 use fam_outcomes::Status;
 use fam_media::{Media, Sink};
 use fam_notes::Note;
-use fam_script::last_status;
+use fam_script::{last_status, line_of};
 use fam_shadow::{Shade, ShadowFault, shadow};
 use fam_tasks::Answer;
 use fam_tree::Tree;

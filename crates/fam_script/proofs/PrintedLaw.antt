@@ -195,9 +195,6 @@ stripe_text_is : (stripe : Option Stripe) → stripe_text stripe ≡ spaced (str
 stripe_text_is None = refl
 stripe_text_is (Some s) = sym (append-nil _)
 
-stripe_prefix : (s : Stripe) → codes "stripe=" ++ decimal s.nstrips ++ codes "," ++ decimal s.nbuckets ++ codes "," ++ decimal s.chunk ≡ codes "stripe=" ++ stripe_value s
-stripe_prefix s = refl
-
 are-append : (a b : List (List ℕ)) → AreWords a → AreWords b → AreWords (a ++ b)
 are-append [] b are more = more
 are-append (text ∷ a) b are more = (are.0, are-append a b are.1 more)

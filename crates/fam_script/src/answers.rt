@@ -14,7 +14,7 @@ use crate::digits::{byte_digits, bytes_text};
 use crate::faults::{entry_line, kind, log_line, played_lines, super_line};
 use crate::lines::{line, line_of, line_with, line_with_last_name};
 use crate::reports::report_lines;
-use fam_base::{Kind, OutOfMemory};
+use fam_base::{Kind, LineNo, OutOfMemory};
 use fam_format::{LogFault, LogField, SuperFault, SuperField};
 use fam_rules::Checked;
 use fam_tasks::Answer;
@@ -134,6 +134,14 @@ fn bad_log_line(
     )
 }
 
+/// The line of a media that failed.
+fn media_fault_line(alloc: Global, at: LineNo) -> Result<Vec<u8>, OutOfMemory>
+    ensures { IfOk result (λ bytes. bytes.items ≡ text.line (text.fault_text at.0)) }
+{
+    let at = at.0;
+    line_of(alloc, format!(in alloc; "media fault {at}"))
+}
+
 /// The text of an answer: its line, and the further lines of a listing or a report.
 pub fn answer_text(alloc: Global, answer: &Answer) -> Result<Vec<u8>, OutOfMemory>
     ensures { IfOk result (λ bytes. bytes.items ≡ text.answer_text (answer_view answer.now)) }
@@ -156,10 +164,7 @@ pub fn answer_text(alloc: Global, answer: &Answer) -> Result<Vec<u8>, OutOfMemor
         Answer::Length { m, size, wanted } => {
             line_of(alloc, length_text(alloc, *m, *size, *wanted))
         }
-        Answer::MediaFault(at) => {
-            let at = at.0;
-            line_of(alloc, format!(in alloc; "media fault {at}"))
-        }
+        Answer::MediaFault(at) => media_fault_line(alloc, *at),
         Answer::NoSuper(word) => super_line(alloc, SuperFault::NoSuper(*word)),
         Answer::BadSuper {
             field,

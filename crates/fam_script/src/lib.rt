@@ -24,6 +24,7 @@ pub use components::prefixes;
 pub use counts::{Counts, count_notes};
 pub use fam_grammar::{LineFault, read_line};
 pub use laws::a_printed_command_reads_as_itself;
+pub use lines::{line, line_of, line_with_last_name};
 pub use notes::{note_text, print_note};
 pub use refusals::refusal_line;
 pub use reports::is_sound;

@@ -38,11 +38,10 @@ use Rattle.fam_run.specs.declared.looking.Looked.TheVariants as looked
 use Rattle.fam_run.specs.Looked.{IfDone, ending_answer}
 use Rattle.fam_run.specs.Operation.{GoesOn, HasTurned, KeepsLines}
 use Rattle.fam_notes.specs.Notes.{answer_view}
-use Rattle.fam_journal.specs.declared.refusal.Refusal.TheVariants as why
 use Rattle.fam_journal.specs.CallRecords.{TaskFits, heading}
 use Rattle.fam_journal.specs.Ends.{is_answer_note}
 use Rattle.fam_journal.specs.Machines.{notes_of}
-use Rattle.fam_journal.specs.Notes.{Answered, MediaFault, Note, Refused, Replied}
+use Rattle.fam_journal.specs.Notes.{Answered, MediaFault, Note, Replied}
 use Rattle.fam_journal.specs.Notes as journal
 use Rattle.fam_world.specs.OnTask.{CacheFits, IsBroken, IsTurned, OnTask}
 use Rattle.fam_world.specs.Steps.{Around, IsCut, IsServed, IsStep}
