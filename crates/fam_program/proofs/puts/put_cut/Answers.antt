@@ -3,7 +3,7 @@ use Rattle.fam_outcomes.specs.Programs.{memory_line}
 use Rattle.fam_outcomes.specs.Texts.{render_behind}
 use Rattle.fam_outcomes.specs.declared.status.Status.TheVariants as status
 use Rattle.fam_program.specs.Puts.{sink_changed}
-use Rattle.fam_program.proofs.Putting.{put_second, short_part, short_some, short_whole}
+use Rattle.fam_program.proofs.Texts.Pieces.{put_second, short_part, short_some, short_whole}
 use Rattle.fam_program.proofs.puts.put_cut.Goals as goal
 
 pub returns-in-Ok-clause-says : goal.returns-in-Ok-clause-says

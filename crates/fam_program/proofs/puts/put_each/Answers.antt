@@ -4,8 +4,8 @@ use Rattle.fam_outcomes.specs.Texts.{names_behind, note_line, render_behind}
 use Rattle.fam_notes.specs.Notes.{note_view, notes_view}
 use Rattle.fam_script.proofs.Printing.{are_named, is_named}
 use Rattle.fam_program.specs.Puts.{PutPart, SinkChange, sink_changed}
-use Rattle.fam_program.proofs.Naming.{names_taken, text_front, text_taken}
-use Rattle.fam_program.proofs.Putting.{nothing_put, part_both, part_longer, whole_both}
+use Rattle.fam_program.proofs.Texts.Names.{names_taken, text_front, text_taken}
+use Rattle.fam_program.proofs.Texts.Pieces.{nothing_put, part_both, part_longer, whole_both}
 use Rattle.fam_program.proofs.puts.put_each.Goals as goal
 
 pub notes-init : goal.notes-init

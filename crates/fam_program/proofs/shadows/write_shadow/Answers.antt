@@ -13,8 +13,8 @@ use Rattle.fam_program.specs.Quiet.{AreShotEvents, ShotEnded}
 use Rattle.fam_program.specs.Runs.{outside_of}
 use Rattle.fam_program.specs.Shadows.{ShadeChange, no_files, shade_changed, shown_tree}
 use Rattle.fam_program.specs.Shots.{ShotSays}
-use Rattle.fam_program.proofs.Alone.{shot_named}
-use Rattle.fam_program.proofs.Shadowing.{logplayed_top, shadow_wants, shadowed_top}
+use Rattle.fam_program.proofs.Commands.TopEnds.{shot_named}
+use Rattle.fam_program.proofs.Commands.Shadows.{logplayed_top, shadow_wants, shadowed_top}
 use Rattle.fam_program.proofs.shadows.write_shadow.Goals as goal
 
 pub returns-in_default-clause-ends : goal.returns-in_default-clause-ends

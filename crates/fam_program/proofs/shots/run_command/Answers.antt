@@ -11,8 +11,8 @@ use Rattle.fam_program.specs.Puts.{SinkChange, sink_changed}
 use Rattle.fam_program.specs.Quiet.{AreShotEvents, ShotEnded}
 use Rattle.fam_program.specs.Runs.{outside_of}
 use Rattle.fam_program.specs.Shots.{ShotSays}
-use Rattle.fam_program.proofs.Alone.{shot_named, shot_top}
-use Rattle.fam_program.proofs.Tops.{early_wants}
+use Rattle.fam_program.proofs.Commands.TopEnds.{shot_named, shot_top}
+use Rattle.fam_program.proofs.Runs.OneText.{early_wants}
 use Rattle.fam_program.proofs.shots.run_command.Goals as goal
 
 pub returns-in_default-clause-ends : goal.returns-in_default-clause-ends

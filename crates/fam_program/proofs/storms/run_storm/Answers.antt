@@ -10,7 +10,7 @@ use Rattle.fam_outcomes.specs.Runs.{NoneFalls, Outside}
 use Rattle.fam_events.specs.declared.fault.EventFault.{EventFault}
 use Rattle.fam_program.specs.Puts.{Put, SinkChange, sink_changed}
 use Rattle.fam_program.specs.Runs.{HasEnded, ending_of, outside_of}
-use Rattle.fam_program.proofs.Tops.{early_wants, no_source_ends, not_printed, prints_top, storm_broken, storm_done, storm_wants}
+use Rattle.fam_program.proofs.Runs.OneText.{early_wants, no_source_ends, not_printed, prints_top, storm_broken, storm_done, storm_wants}
 use Rattle.fam_program.proofs.storms.run_storm.Goals as goal
 
 pub returns-in_default-clause-ends : goal.returns-in_default-clause-ends

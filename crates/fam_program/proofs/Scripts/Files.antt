@@ -17,8 +17,8 @@ use Rattle.fam_program.specs.declared.fault.ScriptFault.TheVariants.{BadLine, En
 use Rattle.fam_program.specs.Files.{HoldsEvents, IsUnread, PutsEarly, early_of}
 use Rattle.fam_program.specs.Puts.{Put, SinkChange}
 use Rattle.fam_program.specs.Scripts.{ScriptRan}
-use Rattle.fam_program.proofs.Ending.{risen}
-use Rattle.fam_program.proofs.Putting.{IsOwn, nothing_put, put_both}
+use Rattle.fam_program.proofs.Runs.Ends.{risen}
+use Rattle.fam_program.proofs.Texts.Pieces.{IsOwn, nothing_put, put_both}
 
 -- No event is run.
 module _ (shelf : ShelfChange) (s : SinkChange) (name : List ℕ) (lines faults : ℕ) (image : Option Image) where

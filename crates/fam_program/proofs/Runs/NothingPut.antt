@@ -16,9 +16,9 @@ use Rattle.fam_events.specs.Happens.{EventSays}
 use Rattle.fam_program.specs.Far.{Base, Far, Now}
 use Rattle.fam_program.specs.Quiet.{GoesOn, IsShotEvent}
 use Rattle.fam_program.specs.Runs.{HasEnded, ending_of}
-use Rattle.fam_program.proofs.Ending.{broken_ended, out_of, part_ended, source_ended}
-use Rattle.fam_program.proofs.Going.{next_of}
-use Rattle.fam_program.proofs.Stopping.{all_go, breaks_goes, cut_goes, go_behind}
+use Rattle.fam_program.proofs.Runs.Ends.{broken_ended, out_of, part_ended, source_ended}
+use Rattle.fam_program.proofs.Runs.GoesOn.{next_of}
+use Rattle.fam_program.proofs.Runs.Stops.{all_go, breaks_goes, cut_goes, go_behind}
 
 -- by why nothing goes on
 pub fault_ended : (b : Base) (count : ℕ) (n m : Now) → Far b count n → (e : Event) → slice_get b.events count ≡ Some e → (shelf : ShelfChange) (sink sink_now : ℕ) (bytes bytes_now : Option (List ℕ)) (x : EventFault)

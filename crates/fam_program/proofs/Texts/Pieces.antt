@@ -11,7 +11,7 @@ use Rattle.fam_outcomes.specs.Programs.{HasPut, memory_line}
 use Rattle.fam_outcomes.specs.Runs.{HasRisen, IsPut, Outside}
 use Rattle.fam_outcomes.specs.Texts.{render_behind}
 use Rattle.fam_program.specs.Puts.{Put, PutPart, PutShort, PutSome, PutWhole, SinkChange}
-use Rattle.fam_program.proofs.Turning.{rose_more}
+use Rattle.fam_program.proofs.Runs.EventTold.{rose_more}
 
 -- a piece behind another
 pub pieces : (a b : List ℕ) (o : Option (List ℕ)) → option_map (with_piece b) (option_map (with_piece a) o) ≡ option_map (with_piece (a ++ b)) o

@@ -22,8 +22,8 @@ use Rattle.fam_events.proofs.Running.{note_runs}
 use Rattle.fam_program.specs.Far.{Base, Now}
 use Rattle.fam_program.specs.Quiet.{GoesOn, HidesNoFault, IsShotEvent}
 use Rattle.fam_program.specs.Shots.{is_short}
-use Rattle.fam_program.proofs.Going.{next_of}
-use Rattle.fam_program.proofs.Stopping.{of_none, or_parts}
+use Rattle.fam_program.proofs.Runs.GoesOn.{next_of}
+use Rattle.fam_program.proofs.Runs.Stops.{of_none, or_parts}
 
 -- A note that tells no fault.
 

@@ -20,8 +20,8 @@ use Rattle.fam_outcomes.specs.Programs.{Command, Early, EarlyOutOfMemory, IsEarl
 use Rattle.fam_outcomes.specs.Runs.{IsPut, NoneFalls, Outside}
 use Rattle.fam_program.specs.Puts.{Put, SinkChange}
 use Rattle.fam_program.specs.Runs.{HasEnded}
-use Rattle.fam_program.proofs.Ending.{risen}
-use Rattle.fam_program.proofs.Putting.{IsOwn}
+use Rattle.fam_program.proofs.Runs.Ends.{risen}
+use Rattle.fam_program.proofs.Texts.Pieces.{IsOwn}
 
 -- what the sink tells of it
 abbrev pub sink_of : Outside → SinkChange

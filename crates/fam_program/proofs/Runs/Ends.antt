@@ -27,7 +27,7 @@ use Rattle.fam_events.specs.Around.{Around, session}
 use Rattle.fam_events.specs.Happens.{EventBroken, EventDone, EventEnded, EventPart}
 use Rattle.fam_program.specs.Far.{Base, Far, Now}
 use Rattle.fam_program.specs.Runs.{HasEnded}
-use Rattle.fam_program.proofs.Going.{named_more, next_of}
+use Rattle.fam_program.proofs.Runs.GoesOn.{named_more, next_of}
 
 -- a count that rose
 pub risen : (before now : ℕ) → Rose before now → HasRisen before now

@@ -21,7 +21,7 @@ use Rattle.fam_outcomes.specs.Statuses.{last_stops}
 use Rattle.fam_program.specs.Far.{AreSoundEvents}
 use Rattle.fam_program.specs.Quiet.{AreShotEvents, HasStopped}
 use Rattle.fam_program.specs.Runs.{HasEnded}
-use Rattle.fam_program.proofs.Answering.{behind_first, runs_end, stopped_end}
+use Rattle.fam_program.proofs.Commands.LastNotes.{behind_first, runs_end, stopped_end}
 
 -- the host is declared, and does what is asked of it
 abbrev pub alone_events : List ℕ → List ℕ → OneShot → List Event

@@ -25,8 +25,8 @@ use Rattle.fam_events.specs.declared.fault.EventFault.TheVariants as fault
 use Rattle.fam_program.specs.Far.{Base, Far, FarOn, Now}
 use Rattle.fam_program.specs.Quiet.{IsOneRun}
 use Rattle.fam_program.specs.Shots.{is_short}
-use Rattle.fam_program.proofs.Going.{next_of}
-use Rattle.fam_program.proofs.Sparing.{AreClean, declared, one_run, one_spares}
+use Rattle.fam_program.proofs.Runs.GoesOn.{next_of}
+use Rattle.fam_program.proofs.Commands.MemoryLeft.{AreClean, declared, one_run, one_spares}
 
 -- caches of a world are those of the state that it stands for
 rested_of : (lines : ℕ) (state : Machines) (world : WorldView) → WorldStands lines state world → AreClean state → IsRested world

@@ -21,7 +21,7 @@ use Rattle.fam_outcomes.proofs.Names.{named_added}
 use Rattle.fam_events.specs.Around.{Around, session}
 use Rattle.fam_events.specs.Happens.{EventDone}
 use Rattle.fam_program.specs.Far.{Base, Far, Now}
-use Rattle.fam_program.proofs.Following.{follows_more, form_more, take_next}
+use Rattle.fam_program.proofs.Runs.OneMore.{follows_more, form_more, take_next}
 
 -- before the first event
 pub first_far : (b : Base) → IfModelled b.told IsImage → Far b 0 (record { world = empty_world; told = b.told; faults = b.faults; copied = 0 })

@@ -30,10 +30,10 @@ use Rattle.fam_program.specs.Far.{Base, Far, Now}
 use Rattle.fam_program.specs.Puts.{Put, PutPart, PutShort, SinkChange, StopSays}
 use Rattle.fam_program.specs.Runs.{HasEnded}
 use Rattle.fam_program.specs.Scripts.{ScriptRan}
-use Rattle.fam_program.proofs.Following.{follows_more, take_next}
-use Rattle.fam_program.proofs.Going.{next_of}
-use Rattle.fam_program.proofs.Ending.{all_ended, broken_ended, broken_on, broken_wants, last_on, out_of, part_ended, prefix_ended, sink_ended, source_ended}
-use Rattle.fam_program.proofs.Putting.{IsOwn, all_put, front_put, has_put, part_has_put, put_both, put_failed}
+use Rattle.fam_program.proofs.Runs.OneMore.{follows_more, take_next}
+use Rattle.fam_program.proofs.Runs.GoesOn.{next_of}
+use Rattle.fam_program.proofs.Runs.Ends.{all_ended, broken_ended, broken_on, broken_wants, last_on, out_of, part_ended, prefix_ended, sink_ended, source_ended}
+use Rattle.fam_program.proofs.Texts.Pieces.{IsOwn, all_put, front_put, has_put, part_has_put, put_both, put_failed}
 
 -- a run with its text and its status
 abbrev to_run : (ending : Ending) (out : Outside) (events : List Event) (journal : List Note) (text : List ℕ) (own : Status) → HasEnded ending out events journal → ScriptPuts ending journal text → own ≡ script_status ending journal → HasRun ScriptPuts script_status ending out events text own

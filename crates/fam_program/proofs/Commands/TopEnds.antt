@@ -31,12 +31,12 @@ use Rattle.fam_program.specs.Puts.{Put}
 use Rattle.fam_program.specs.Quiet.{GoesOn, HasStopped, MayLack, ShotEnded}
 use Rattle.fam_program.specs.Runs.{HasEnded}
 use Rattle.fam_program.specs.Shots.{LastSays, ShotSays, is_short}
-use Rattle.fam_program.proofs.Answering.{behind_first, host_end, mkfs_end, runs_end, stopped_end}
-use Rattle.fam_program.proofs.Hiding.{long_faultless}
-use Rattle.fam_program.proofs.Prefixing.{alone_events, makes_one, none_breaks, parents_end}
-use Rattle.fam_program.proofs.Putting.{IsOwn}
-use Rattle.fam_program.proofs.Sparing.{last_behind}
-use Rattle.fam_program.proofs.Tops.{done_wants, media_own, memory_own, put_alone, sink_of, source_own, source_wants}
+use Rattle.fam_program.proofs.Commands.LastNotes.{behind_first, host_end, mkfs_end, runs_end, stopped_end}
+use Rattle.fam_program.proofs.Commands.NoFaultHidden.{long_faultless}
+use Rattle.fam_program.proofs.Commands.Events.{alone_events, makes_one, none_breaks, parents_end}
+use Rattle.fam_program.proofs.Texts.Pieces.{IsOwn}
+use Rattle.fam_program.proofs.Commands.MemoryLeft.{last_behind}
+use Rattle.fam_program.proofs.Runs.OneText.{done_wants, media_own, memory_own, put_alone, sink_of, source_own, source_wants}
 
 -- The statuses: none of a note is that of a sink that failed, or of want of memory.
 

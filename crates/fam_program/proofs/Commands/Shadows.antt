@@ -18,10 +18,10 @@ use Rattle.fam_program.specs.Puts.{Put}
 use Rattle.fam_program.specs.Quiet.{HasStopped, MayLack, ShotEnded}
 use Rattle.fam_program.specs.Shadows.{IsUntouched, ShadeChange, ShadowTop, logplay, shadow_status, shadow_text, shown_tree}
 use Rattle.fam_program.specs.Shots.{ShotSays}
-use Rattle.fam_program.proofs.Alone.{SparedRun, shot_ran, stopped_whole}
-use Rattle.fam_program.proofs.Prefixing.{alone_events}
-use Rattle.fam_program.proofs.Putting.{IsOwn}
-use Rattle.fam_program.proofs.Tops.{memory_own, put_alone, sink_of}
+use Rattle.fam_program.proofs.Commands.TopEnds.{SparedRun, shot_ran, stopped_whole}
+use Rattle.fam_program.proofs.Commands.Events.{alone_events}
+use Rattle.fam_program.proofs.Texts.Pieces.{IsOwn}
+use Rattle.fam_program.proofs.Runs.OneText.{memory_own, put_alone, sink_of}
 
 shadow_own : (written : Result (Unit {0}) ShadowFault) → IsOwn (shadow_status written)
 shadow_own (Ok x) e = absurd cc
