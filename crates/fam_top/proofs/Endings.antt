@@ -6,7 +6,7 @@ use Rattle.fam_outcomes.specs.declared.status.Status.TheVariants as status
 use Rattle.fam_outcomes.specs.Programs.{Command, EarlyOutOfMemory, NoCommand, TopEnds, memory_line, usage_line}
 use Rattle.fam_outcomes.specs.Runs.{NoneFalls, Outside}
 use Rattle.fam_program.specs.Puts.{Put}
-use Rattle.fam_program.proofs.Tops.{memory_own, put_alone, sink_of}
+use Rattle.fam_program.proofs.Runs.OneText.{memory_own, put_alone, sink_of}
 use Rattle.fam_storm.specs.Storm.{storm}
 
 usage_own : status.Usage ≡ status.SinkFault → ⊥

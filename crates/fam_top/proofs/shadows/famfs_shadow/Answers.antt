@@ -3,7 +3,7 @@ use Rattle.fam_outcomes.specs.Runs.{NoneFalls, Outside}
 use Rattle.fam_program.specs.Puts.{sink_changed}
 use Rattle.fam_program.specs.Runs.{outside_of}
 use Rattle.fam_program.specs.Shadows.{ShadeChange, ShadowTop, no_files, shade_changed}
-use Rattle.fam_program.proofs.Shadowing.{no_shadow, shadow_wants}
+use Rattle.fam_program.proofs.Commands.Shadows.{no_shadow, shadow_wants}
 use Rattle.fam_words.specs.declared.wanted.ShadowCall.{ShadowCall}
 use Rattle.fam_top.specs.Calls.{host_or}
 use Rattle.fam_top.proofs.shadows.famfs_shadow.Goals as goal
