@@ -27,6 +27,7 @@ shot_of random (shot.Mkfs fs unit log force) = Makes (fs_or random fs) unit log 
 shot_of random (shot.Run what) = Runs what
 shot_of random (shot.Parents path attr) = MakesParents path attr
 
+-- the command that an order is: on the host that it names, or this one
 abbrev pub command_of : List ℕ → List ℕ → Order → Command
 command_of me random (order.Single system what) = Single (host_or me system) (shot_of random what)
 command_of me random (order.Script file) = Script file
