@@ -41,7 +41,7 @@ IsWholeEvent (event.Evict name line) = ⊤
 IsWholeEvent (event.Leak name line mask) = ⊤
 IsWholeEvent (event.Fetch name line mask) = ⊤
 
--- each event is a whole command, a move between commands, or of no command
+-- no event leaves a command half done
 abbrev pub AreWhole : List Event → Type 0
 AreWhole [] = ⊤
 AreWhole (e ∷ events) = IsWholeEvent e × AreWhole events
