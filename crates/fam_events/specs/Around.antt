@@ -65,9 +65,11 @@ pub record AddsForm (P : ℕ → List HostForm → List Note → Type 0) (a : Ar
 -- Where image and files are modelled: on a state at which the world was held a relation of sessions holds, with the notes that
 -- are added, and the media has its last image.
 
+-- the machine of all hosts, and how many bytes of sources were read
 abbrev pub session : Machines → ℕ → Session
 session machines copied = record { machines = machines; copied = copied }
 
+-- what an event does on a modelled image, from a state for which the world is held
 pub record Comes (P : Session → List Note → Session → Type 0) (a : Around) (state : Machines) : Type 0 where
   pub last : Session
   pub notes : List Note

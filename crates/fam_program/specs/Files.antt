@@ -8,10 +8,10 @@ use Rattle.fam_sources.specs.declared.sourced.SourceEnd.TheVariants as end
 use Rattle.fam_sources.specs.Sourced.{HasEndCause, end_of}
 use Rattle.fam_sources.specs.Whole.{HoldsBytes}
 use Rattle.fam_journal.specs.declared.event.Event.{Event}
-use Rattle.fam_journal.specs.declared.status.Status.{Status}
-use Rattle.fam_journal.specs.declared.status.Status.TheVariants as status
-use Rattle.fam_journal.specs.Programs.{Early, EarlyOutOfMemory, LongScript, NoScript, ScriptFails, early_status, early_text, memory_line, script_limit}
-use Rattle.fam_journal.specs.Programs as program
+use Rattle.fam_outcomes.specs.declared.status.Status.{Status}
+use Rattle.fam_outcomes.specs.declared.status.Status.TheVariants as status
+use Rattle.fam_outcomes.specs.Programs.{Early, EarlyOutOfMemory, LongScript, NoScript, ScriptFails, early_status, early_text, memory_line, script_limit}
+use Rattle.fam_outcomes.specs.Programs as program
 use Rattle.fam_grammar.specs.Scripts.{script_events}
 use Rattle.fam_program.specs.declared.fault.ScriptFault.{ScriptFault}
 use Rattle.fam_program.specs.declared.fault.ScriptFault.TheVariants.{BadLine, Ended, NoFile, OutOfMemory, TooLong}

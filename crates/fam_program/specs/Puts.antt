@@ -3,17 +3,16 @@ use Rattle.std.specs.Prelude.{ℕ, ◌≡◌, ◌⊎◌, ◌++◌, List, Option,
 use Rattle.fam_media.specs.Causes.{Rose}
 use Rattle.fam_media.specs.Outside.{IsPartlyPut, with_piece}
 use Rattle.fam_media.specs.States.{SinkChange}
-use Rattle.fam_journal.specs.declared.status.Status.{Status}
-use Rattle.fam_journal.specs.declared.status.Status.TheVariants as status
+use Rattle.fam_outcomes.specs.declared.status.Status.{Status}
+use Rattle.fam_outcomes.specs.declared.status.Status.TheVariants as status
 use Rattle.fam_journal.specs.Notes.{Note}
-use Rattle.fam_journal.specs.Programs.{memory_line, source_line}
-use Rattle.fam_journal.specs.Texts.{render_behind}
+use Rattle.fam_outcomes.specs.Programs.{memory_line, source_line}
+use Rattle.fam_outcomes.specs.Texts.{render_behind}
 use Rattle.fam_sources.specs.declared.sourced.SourceEnd.{SourceEnd}
 use Rattle.fam_sources.specs.Sourced.{end_of}
 use Rattle.fam_events.specs.declared.fault.EventFault.{EventFault}
 use Rattle.fam_events.specs.declared.fault.EventFault.TheVariants as fault
 
--- a sink from one state to another: the bytes, where they are modelled, and its count of faults
 -- a text was put whole
 abbrev pub PutWhole : List ℕ → SinkChange → Type 0
 PutWhole text s = s.new.bytes ≡ option_map (with_piece text) s.old.bytes

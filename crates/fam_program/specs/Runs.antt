@@ -8,7 +8,7 @@ use Rattle.fam_journal.specs.Ends.{Ending, EndsOutOfMemory, HasCounted, MkfsFail
 use Rattle.fam_journal.specs.EventForms.{EndsForm}
 use Rattle.fam_journal.specs.Names.{NameDeclared}
 use Rattle.fam_journal.specs.Notes.{Note}
-use Rattle.fam_journal.specs.Runs.{IsCaused, Outside, RunsOn}
+use Rattle.fam_outcomes.specs.Runs.{IsCaused, Outside, RunsOn}
 use Rattle.fam_events.specs.declared.fault.EventFault.{EventFault}
 use Rattle.fam_events.specs.declared.fault.EventFault.TheVariants as fault
 use Rattle.fam_sources.specs.Sourced.{end_of}

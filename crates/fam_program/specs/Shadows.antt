@@ -14,13 +14,13 @@ use Rattle.fam_shadow.specs.Shadows.{Becomes, FaultCaused, ShadowEnds}
 use Rattle.fam_storm.specs.Storm.{storm}
 use Rattle.fam_journal.specs.declared.event.Ask.TheVariants as ask
 use Rattle.fam_journal.specs.declared.event.Event.{Event}
-use Rattle.fam_journal.specs.declared.status.Status.{Status}
-use Rattle.fam_journal.specs.declared.status.Status.TheVariants as status
+use Rattle.fam_outcomes.specs.declared.status.Status.{Status}
+use Rattle.fam_outcomes.specs.declared.status.Status.TheVariants as status
 use Rattle.fam_journal.specs.Ends.{AllDone}
 use Rattle.fam_journal.specs.Notes.{Answer, Replied, MediaFault, Note, Host, Made, Start, Mark, Found, Writes, Answered, Stop, Halt, Refused}
-use Rattle.fam_journal.specs.Programs.{EndsEarly, IsWholeRun, OneShot, Runs, ShotRuns, Single, memory_line}
-use Rattle.fam_journal.specs.Runs.{IsPut, NoneFalls, Outside}
-use Rattle.fam_journal.specs.Texts.{line, number}
+use Rattle.fam_outcomes.specs.Programs.{EndsEarly, IsWholeRun, OneShot, Runs, ShotRuns, Single, memory_line}
+use Rattle.fam_outcomes.specs.Runs.{IsPut, NoneFalls, Outside}
+use Rattle.fam_outcomes.specs.Texts.{line, number}
 use Rattle.fam_program.specs.Runs.{HasEnded}
 
 -- a shelf on which no file is, and no call of which failed
@@ -56,6 +56,7 @@ replied_tree (reply.NoSuperblock fault) = None
 replied_tree (reply.BadHeader fault) = None
 replied_tree (reply.BadSlot seq reason) = None
 
+-- the tree that a logplay answers, and of how many entries it is
 abbrev pub answered_tree : Answer → Option (ℕ × Tree)
 answered_tree (Replied given) = replied_tree given
 answered_tree (MediaFault at) = None
@@ -90,6 +91,7 @@ abbrev pub shadow_text : ℕ → Result (Unit {0}) ShadowFault → List ℕ
 shadow_text m (Ok done) = line (codes "shadowed" ++ number m)
 shadow_text m (Err given) = fault_text given
 
+-- the status of a shadow, by how the writing ended
 abbrev pub shadow_status : Result (Unit {0}) ShadowFault → Status
 shadow_status (Ok done) = status.Done
 shadow_status (Err (fault.Clash name)) = status.Refused
@@ -120,6 +122,7 @@ pub record HasLogplayed (me : List ℕ) (out : Outside) (shade : ShadeChange) (t
   pub none : runs.ending ≡ AllDone → shown_tree runs.run.journal ≡ None
   pub untouched : IsUntouched shade
 
+-- what a shadow comes to: a logplay ran, and its tree was written, or not
 abbrev pub ShadowRuns : Option (List ℕ) → Outside → ShadeChange → List ℕ → Status → Type 0
 ShadowRuns None out shade text own = ⊥
 ShadowRuns (Some me) out shade text own = HasShadowed me out shade text own ⊎ HasLogplayed me out shade text own

@@ -2,15 +2,15 @@
 
 ghost use Rattle.std.specs.Prelude.{◌≡◌, ◌++◌, ◌∷◌, ◌≤◌, [], IfSome, List, None, codes, decimal, drop, false, length, ℕ};
 ghost use Rattle.fam_media.specs.States.{change};
-ghost use Rattle.fam_journal.specs.Programs.{last_passes};
-ghost use Rattle.fam_journal.specs.Texts as text;
-ghost use Rattle.fam_outcomes.specs.Answers.{answer_view};
-ghost use Rattle.fam_world.specs.View.{note_view, notes_view};
+ghost use Rattle.fam_outcomes.specs.Programs.{last_passes};
+ghost use Rattle.fam_outcomes.specs.Texts as text;
+ghost use Rattle.fam_notes.specs.Notes.{answer_view, note_view, notes_view};
 ghost use Rattle.fam_program.specs.Puts.{Put};
 ghost use Rattle.fam_program.specs.Shots.{is_short, is_short_answer, is_short_cause, number_text};
 
 use crate::puts::put_line;
-use fam_journal::{Refusal, Status};
+use fam_journal::Refusal;
+use fam_outcomes::Status;
 use fam_media::Sink;
 use fam_notes::Note;
 use fam_tasks::Answer;

@@ -3,20 +3,20 @@
 ghost use Rattle.std.specs.Prelude.{◌≡◌, ◌≤◌, [], IsErrOf, OnOk, drop, length, take};
 ghost use Rattle.fam_media.specs.States.{change};
 ghost use Rattle.fam_journal.specs.Names.{IsNamed, NameDeclared};
-ghost use Rattle.fam_journal.specs.Programs.{memory_line, usage_line};
-ghost use Rattle.fam_journal.specs.declared.status.Status.TheVariants as status;
-ghost use Rattle.fam_journal.specs.Texts as text;
-ghost use Rattle.fam_world.specs.View.{note_view, notes_view};
+ghost use Rattle.fam_outcomes.specs.Programs.{memory_line, usage_line};
+ghost use Rattle.fam_outcomes.specs.declared.status.Status.TheVariants as status;
+ghost use Rattle.fam_outcomes.specs.Texts as text;
+ghost use Rattle.fam_notes.specs.Notes.{note_view, notes_view};
 ghost use Rattle.fam_program.specs.Puts.{EndSays, Put, PutPart, PutSome, PutWhole, StopSays};
 
 use crate::fault::PutFault;
 use crate::lines::{MEMORY, USAGE, end_line};
 use fam_base::HostName;
 use fam_events::EventFault;
-use fam_journal::Status;
+use fam_outcomes::Status;
 use fam_media::Sink;
 use fam_notes::Note;
-use fam_outcomes::note_line;
+use fam_script::note_line;
 use fam_sources::SourceEnd;
 use fam_world::World;
 use std::alloc::Global;

@@ -13,7 +13,7 @@ use crate::script::is_image;
 use fam_events::{EventFault, happen};
 use fam_journal::Event;
 use fam_media::{Media, Shelf};
-use fam_outcomes::last_stops;
+use fam_script::last_stops;
 use fam_world::World;
 use std::alloc::Global;
 

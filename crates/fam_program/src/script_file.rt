@@ -3,8 +3,8 @@
 ghost use Rattle.std.specs.Prelude.{◌≡◌, ◌≤◌, [], IfErr, IfOk, Some};
 ghost use Rattle.fam_media.specs.Causes.{IsShelfSteady, IsSteady};
 ghost use Rattle.fam_media.specs.States.{change};
-ghost use Rattle.fam_journal.specs.Programs.{Script, TopEnds};
-ghost use Rattle.fam_journal.specs.Programs as program;
+ghost use Rattle.fam_outcomes.specs.Programs.{Script, TopEnds};
+ghost use Rattle.fam_outcomes.specs.Programs as program;
 ghost use Rattle.fam_grammar.specs.Scripts.{script_events};
 ghost use Rattle.fam_storm.specs.Storm.{storm};
 ghost use Rattle.fam_program.specs.Far.{AreSoundEvents};
@@ -12,14 +12,16 @@ ghost use Rattle.fam_program.specs.Files.{HoldsEvents, HoldsScript, IsUnread, Pu
 ghost use Rattle.fam_program.specs.Runs.{outside_of};
 
 use crate::fault::ScriptFault;
-use crate::lines::{end_line, line_of, line_with_name};
+use crate::lines::end_line;
 use crate::puts::{put_line, put_memory};
 use crate::read::read_script;
 use crate::script::run_script;
 use fam_base::OutOfMemory;
 use fam_grammar::LineFault;
-use fam_journal::{Event, Status};
+use fam_journal::Event;
+use fam_outcomes::Status;
 use fam_media::{Media, Shelf, Sink};
+use fam_script::{line_of, line_with_last_name};
 use fam_sources::{SourceEnd, WholeFault, read_whole};
 use std::alloc::Global;
 
@@ -64,7 +66,7 @@ fn fault_line(alloc: Global, name: &str, fault: ScriptFault) -> Result<Vec<u8>, 
     ensures { IfOk result (λ line. line.items ≡ program.early_text (early_of name.now fault)) }
 {
     match fault {
-        ScriptFault::NoFile => line_with_name(alloc, "no file", name),
+        ScriptFault::NoFile => line_with_last_name(alloc, "no file", name.as_bytes()),
         ScriptFault::TooLong(size) => {
             line_of(alloc, format!(in alloc; "script too long {size}"))
         }

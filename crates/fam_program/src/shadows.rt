@@ -3,26 +3,25 @@
 ghost use Rattle.std.specs.Prelude.{◌≡◌, ◌≤◌, ◌⊎◌, IfOk, IfSome, IsOk, None, OnOk, OnSome, Some, option_map};
 ghost use Rattle.fam_media.specs.Causes.{IsSteady};
 ghost use Rattle.fam_media.specs.States.{change};
-ghost use Rattle.fam_journal.specs.Programs.{memory_line};
-ghost use Rattle.fam_journal.specs.declared.status.Status.TheVariants as status;
-ghost use Rattle.fam_outcomes.specs.Answers.{answer_view};
+ghost use Rattle.fam_outcomes.specs.Programs.{memory_line};
+ghost use Rattle.fam_outcomes.specs.declared.status.Status.TheVariants as status;
+ghost use Rattle.fam_notes.specs.Notes.{answer_view, note_view, notes_view};
 ghost use Rattle.fam_program.specs.Puts.{Put};
 ghost use Rattle.fam_program.specs.Runs.{outside_of};
 ghost use Rattle.fam_program.specs.Shadows as spec;
 ghost use Rattle.fam_program.specs.Shadows.{ShadowTop, fault_text, no_files, shadow_status, shadow_text};
-ghost use Rattle.fam_world.specs.View.{note_view, notes_view};
 
-use crate::lines::line_of;
 use crate::no_files::NoFiles;
 use crate::puts::{put_line, put_memory};
 use crate::quiet::run_until_stop;
 use crate::shots::{own_name, put_end, two_events};
 use fam_base::{Cmd, OutOfMemory};
 use fam_events::EventFault;
-use fam_journal::{Ask, Event, Status};
+use fam_journal::{Ask, Event};
+use fam_outcomes::Status;
 use fam_media::{Media, Sink};
 use fam_notes::Note;
-use fam_outcomes::last_status;
+use fam_script::{last_status, line_of};
 use fam_shadow::{Shade, ShadowFault, shadow};
 use fam_tasks::Answer;
 use fam_tree::Tree;
@@ -175,7 +174,7 @@ pub fn write_shadow<M: Media, D: Shade, K: Sink>(
     ensures ends { ShadowTop (Some me) (outside_of M.state media.old media.new no_files
         (change K.state out.old out.new)) (change D.state shade.old shade.new) result }
     ensures steady { IsSteady (M.state media.old) (M.state media.new) }
-    ensures shade { (D.state shade.old).faults ≤ (D.state shade.new).faults }
+    ensures shade { D.faults shade.old ≤ D.faults shade.new }
     ensures later { (K.state out.old).faults ≤ (K.state out.new).faults }
 {
     let name = own_name();

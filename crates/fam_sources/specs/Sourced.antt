@@ -63,6 +63,7 @@ IsSourced change copied what now (sourced.Ended end) = IsEnded change copied wha
 abbrev pub IsAbsent : ShelfChange → ℕ → List ℕ → Refusal → Type 0
 IsAbsent change copied name cause = (what : Ask) → source_of what ≡ Some name → IsUnfit change copied what copied cause
 
+-- what an ask with a source comes to, by the shelf's own content
 abbrev pub IsGiven : ShelfChange → ℕ → List ℕ → Given → Type 0
 IsGiven change copied name (given.Bytes bytes) =
     (copied + length bytes.items ≤ copy_limit) × IfModelled change.old.files (λ files. map.get files name ≡ Some bytes.items)

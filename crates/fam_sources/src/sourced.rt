@@ -1,8 +1,8 @@
 //! Asks, and the commands that they come to.
 
 ghost use Rattle.std.specs.Prelude.{◌≡◌, IfOk};
-ghost use Rattle.fam_media.specs.States.{change};
 ghost use Rattle.fam_media.specs.Causes.{IsShelfSteady};
+ghost use Rattle.fam_media.specs.States.{change};
 ghost use Rattle.fam_journal.specs.declared.event.Ask.TheVariants as ask;
 ghost use Rattle.fam_sources.specs.Sourced.{IsGiven, IsListed, IsSourced};
 

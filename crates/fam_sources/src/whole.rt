@@ -3,8 +3,8 @@
 ghost use Rattle.std.specs.Prelude.{◌≡◌, ◌+◌, ◌-◌, ◌^◌, ◌<◌, ◌≤◌, Ok, Err, IfOk, IfErr, OnOk, length, take};
 ghost use Rattle.fam_media.specs.Files.{bytes_of};
 ghost use Rattle.fam_media.specs.Outside.{IfModelled};
-ghost use Rattle.fam_media.specs.States.{change};
 ghost use Rattle.fam_media.specs.Causes.{IsShelfSteady};
+ghost use Rattle.fam_media.specs.States.{change};
 ghost use Rattle.fam_sources.specs.declared.whole.WholeFault.TheVariants.{OutOfMemory};
 ghost use Rattle.fam_sources.specs.Whole.{FillFails, HoldsBytes, WholeSays};
 

@@ -1,12 +1,12 @@
 -- Calls for which no event is run: the words are no command, or no memory was left for them.
 use Rattle.std.proofs.Common.{◌≡◌, Option, None, inl, refl}
 use Rattle.fam_grammar.specs.Scripts.{script_events}
-use Rattle.fam_journal.specs.declared.status.Status.{Status}
-use Rattle.fam_journal.specs.declared.status.Status.TheVariants as status
-use Rattle.fam_journal.specs.Programs.{Command, EarlyOutOfMemory, NoCommand, TopEnds, memory_line, usage_line}
-use Rattle.fam_journal.specs.Runs.{NoneFalls, Outside}
+use Rattle.fam_outcomes.specs.declared.status.Status.{Status}
+use Rattle.fam_outcomes.specs.declared.status.Status.TheVariants as status
+use Rattle.fam_outcomes.specs.Programs.{Command, EarlyOutOfMemory, NoCommand, TopEnds, memory_line, usage_line}
+use Rattle.fam_outcomes.specs.Runs.{NoneFalls, Outside}
 use Rattle.fam_program.specs.Puts.{Put}
-use Rattle.fam_program.proofs.Tops.{memory_own, put_alone, sink_of}
+use Rattle.fam_program.proofs.Runs.OneText.{memory_own, put_alone, sink_of}
 use Rattle.fam_storm.specs.Storm.{storm}
 
 usage_own : status.Usage ≡ status.SinkFault → ⊥

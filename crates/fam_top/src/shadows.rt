@@ -10,7 +10,7 @@ ghost use Rattle.fam_top.specs.Words.{shadow_host, shadow_named};
 
 use crate::top::host_or;
 use fam_base::{NameText, OutOfMemory};
-use fam_journal::Status;
+use fam_outcomes::Status;
 use fam_media::{Media, Sink};
 use fam_program::{put_memory, put_usage, write_shadow};
 use fam_shadow::Shade;

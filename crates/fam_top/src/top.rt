@@ -2,7 +2,7 @@
 
 ghost use Rattle.std.specs.Prelude.{◌≡◌, ◌≤◌, Some, map, string_bytes};
 ghost use Rattle.fam_grammar.specs.Scripts.{script_events};
-ghost use Rattle.fam_journal.specs.Programs.{Single, TopEnds};
+ghost use Rattle.fam_outcomes.specs.Programs.{Single, TopEnds};
 ghost use Rattle.fam_media.specs.Causes.{IsShelfSteady, IsSteady};
 ghost use Rattle.fam_media.specs.States.{change};
 ghost use Rattle.fam_program.specs.Runs.{outside_of};
@@ -15,7 +15,7 @@ ghost use Rattle.fam_top.specs.Words.{order_named};
 use crate::fresh::fs_or;
 use crate::words::order;
 use fam_base::OutOfMemory;
-use fam_journal::Status;
+use fam_outcomes::Status;
 use fam_media::{Media, Shelf, Sink};
 use fam_program::{
     make_file_system, make_parents, put_memory, put_usage, run_command, run_script_file, run_storm,

@@ -16,7 +16,7 @@ use Rattle.fam_rules.specs.Place.{line_bytes}
 use Rattle.fam_journal.specs.declared.event.Event.{Event}
 use Rattle.fam_journal.specs.declared.event.Event.TheVariants as event
 use Rattle.fam_journal.specs.declared.refusal.Refusal.{Refusal}
-use Rattle.fam_journal.specs.declared.status.Status.{Status}
+use Rattle.fam_outcomes.specs.declared.status.Status.{Status}
 use Rattle.fam_journal.specs.Calls as call
 use Rattle.fam_journal.specs.Calls.{Does, begins_refusal, cause_of, makes_refusal, may_begin, number_of, on_host, refusal_of}
 use Rattle.fam_journal.specs.Ends.{IsFaultless}
@@ -25,10 +25,10 @@ use Rattle.fam_journal.specs.Follows.{Follows}
 use Rattle.fam_journal.specs.Laws.{IsImage}
 use Rattle.fam_journal.specs.Machines.{HostState, Machines, unused}
 use Rattle.fam_journal.specs.Notes.{Host, Note}
-use Rattle.fam_journal.specs.Programs.{last_passes}
-use Rattle.fam_journal.specs.Runs.{Outside}
-use Rattle.fam_journal.specs.Statuses.{last_status, note_status}
-use Rattle.fam_journal.specs.Texts.{names_after, names_behind, note_text, shown_last}
+use Rattle.fam_outcomes.specs.Programs.{last_passes}
+use Rattle.fam_outcomes.specs.Runs.{Outside}
+use Rattle.fam_outcomes.specs.Statuses.{last_status, note_status}
+use Rattle.fam_outcomes.specs.Texts.{names_after, names_behind, note_text, shown_last}
 use Rattle.fam_whole.specs.Alone.{command_refusal}
 use Rattle.fam_whole.specs.Whole.{EndsAs}
 use Rattle.fam_whole.proofs.Exact.{Between, at_start, one_more}

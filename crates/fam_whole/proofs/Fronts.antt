@@ -8,16 +8,16 @@ use Rattle.std.proofs.lemmas.Option.{same_Some}
 use Rattle.fam_base.specs.Image.{Image}
 use Rattle.fam_media.specs.Files.{Files}
 use Rattle.fam_journal.specs.declared.event.Event.{Event}
-use Rattle.fam_journal.specs.declared.status.Status.{Status}
+use Rattle.fam_outcomes.specs.declared.status.Status.{Status}
 use Rattle.fam_journal.specs.Ends.{AllDone, Ending, EndsOutOfMemory, EndsOutOfMemoryBroken, HasCounted, IsFaultless, MkfsFails, ReadsAs, SinkFails, SourceFails, faults_of}
 use Rattle.fam_journal.specs.Events.{DoesEvent, Session, first_session}
 use Rattle.fam_journal.specs.Follows.{Follows}
 use Rattle.fam_journal.specs.Laws.{AreSound, IsImage}
 use Rattle.fam_journal.specs.Notes.{Note}
 use Rattle.fam_journal.specs.Past.{past_of}
-use Rattle.fam_journal.specs.Programs.{CommandRuns, EndsEarly, Grammar, Script, ScriptPuts, ScriptRuns, Storms, TopEnds, script_status}
-use Rattle.fam_journal.specs.Runs.{HasRisen, IsCaused, IsPut, Outside, RunsOn}
-use Rattle.fam_journal.proofs.Runs.Causes.{broken_faults, risen}
+use Rattle.fam_outcomes.specs.Programs.{CommandRuns, EndsEarly, Grammar, Script, ScriptPuts, ScriptRuns, Storms, TopEnds, script_status}
+use Rattle.fam_outcomes.specs.Runs.{HasRisen, IsCaused, IsPut, Outside, RunsOn}
+use Rattle.fam_outcomes.proofs.Causes.{broken_faults, risen}
 use Rattle.fam_journal.proofs.Runs.Unique.{clean_prefix}
 use Rattle.fam_whole.specs.Whole.{AreWhole, EndsFront, EndsNone, IsExact, IsLeft, WholeRun}
 use Rattle.fam_whole.proofs.Exact.{exact}

@@ -7,16 +7,16 @@ use Rattle.fam_base.specs.Image.{Image}
 use Rattle.fam_media.specs.Files.{Files}
 use Rattle.fam_media.specs.Outside.{IsPartlyPut, with_piece}
 use Rattle.fam_journal.specs.declared.event.Event.{Event}
-use Rattle.fam_journal.specs.declared.status.Status.{Status}
-use Rattle.fam_journal.specs.declared.status.Status.TheVariants as status
+use Rattle.fam_outcomes.specs.declared.status.Status.{Status}
+use Rattle.fam_outcomes.specs.declared.status.Status.TheVariants as status
 use Rattle.fam_journal.specs.Complete.{IsComplete}
 use Rattle.fam_journal.specs.Ends.{AllDone, Ending, EndsOutOfMemory}
 use Rattle.fam_journal.specs.Events.{first_session}
 use Rattle.fam_journal.specs.Follows.{Faulted, Short}
 use Rattle.fam_journal.specs.Laws.{AreSound, IsImage}
-use Rattle.fam_journal.specs.Programs.{BadLine, CommandRuns, Early, EarlyOutOfMemory, EndsEarly, Grammar, IsEarly, LongScript, NoCommand, NoScript, Prints, Script, ScriptFails, ScriptPuts, ScriptRuns, Storms, TopEnds, early_status, script_limit, script_status}
-use Rattle.fam_journal.specs.Runs.{IsPut, NoneRose, Outside, RunsOn}
-use Rattle.fam_journal.proofs.Runs.Faultless.{all_end, run_complete}
+use Rattle.fam_outcomes.specs.Programs.{BadLine, CommandRuns, Early, EarlyOutOfMemory, EndsEarly, Grammar, IsEarly, LongScript, NoCommand, NoScript, Prints, Script, ScriptFails, ScriptPuts, ScriptRuns, Storms, TopEnds, early_status, script_limit, script_status}
+use Rattle.fam_outcomes.specs.Runs.{IsPut, NoneRose, Outside, RunsOn}
+use Rattle.fam_outcomes.proofs.Faultless.{all_end, run_complete}
 use Rattle.fam_whole.specs.Whole.{AreWhole, EndsExact, IsExact, WholeRun}
 use Rattle.fam_whole.proofs.Exact.{exact}
 

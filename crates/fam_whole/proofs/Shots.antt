@@ -11,15 +11,15 @@ use Rattle.fam_media.specs.Outside.{with_piece}
 use Rattle.fam_journal.specs.declared.event.Ask.TheVariants as ask
 use Rattle.fam_journal.specs.declared.event.Event.{Event}
 use Rattle.fam_journal.specs.declared.event.Event.TheVariants as event
-use Rattle.fam_journal.specs.declared.status.Status.{Status}
-use Rattle.fam_journal.specs.declared.status.Status.TheVariants as status
+use Rattle.fam_outcomes.specs.declared.status.Status.{Status}
+use Rattle.fam_outcomes.specs.declared.status.Status.TheVariants as status
 use Rattle.fam_journal.specs.Complete.{IsComplete}
 use Rattle.fam_journal.specs.Ends.{AllDone, Ending, EndsOutOfMemory}
 use Rattle.fam_journal.specs.Laws.{AreSound, IsImage}
-use Rattle.fam_journal.specs.Programs.{BadLine, CommandRuns, Early, EarlyOutOfMemory, EndsEarly, Grammar, IsEarly, IsWholeRun, LongScript, Makes, MakesParents, NoCommand, NoScript, OneShot, Prints, Runs, ScriptFails, ShotRuns, ShotText, Single, Storms, TopEnds, done_status, early_status, ends_shot, last_passes, path_prefixes, shot_events, shot_status}
-use Rattle.fam_journal.specs.Runs.{IsPut, NoneRose, Outside, RunsOn}
-use Rattle.fam_journal.specs.Texts.{shown}
-use Rattle.fam_journal.proofs.Runs.Faultless.{run_complete}
+use Rattle.fam_outcomes.specs.Programs.{BadLine, CommandRuns, Early, EarlyOutOfMemory, EndsEarly, Grammar, IsEarly, IsWholeRun, LongScript, Makes, MakesParents, NoCommand, NoScript, OneShot, Prints, Runs, ScriptFails, ShotRuns, ShotText, Single, Storms, TopEnds, done_status, early_status, ends_shot, last_passes, path_prefixes, shot_events, shot_status}
+use Rattle.fam_outcomes.specs.Runs.{IsPut, NoneRose, Outside, RunsOn}
+use Rattle.fam_outcomes.specs.Texts.{shown}
+use Rattle.fam_outcomes.proofs.Faultless.{run_complete}
 use Rattle.fam_whole.specs.Alone.{ParentsEnd}
 use Rattle.fam_whole.specs.Whole.{AreWhole, EndsAs, IsExact, WholeRun}
 use Rattle.fam_whole.proofs.Exact.{exact}

@@ -16,7 +16,6 @@ pub mod HeldOn
 pub mod Saying
 pub mod WholeSteps
 pub mod Fits
-pub mod KeptNotes
 pub mod Kept
 pub mod UpToOn
 pub mod Counting

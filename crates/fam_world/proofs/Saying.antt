@@ -37,12 +37,11 @@ use Rattle.fam_run.specs.declared.looking.Looked.{Looked}
 use Rattle.fam_run.specs.declared.looking.Looked.TheVariants as looked
 use Rattle.fam_run.specs.Looked.{IfDone, ending_answer}
 use Rattle.fam_run.specs.Operation.{GoesOn, HasTurned, KeepsLines}
-use Rattle.fam_notes.specs.Notes.{answer_of}
-use Rattle.fam_journal.specs.declared.refusal.Refusal.TheVariants as why
+use Rattle.fam_notes.specs.Notes.{answer_view}
 use Rattle.fam_journal.specs.CallRecords.{TaskFits, heading}
 use Rattle.fam_journal.specs.Ends.{is_answer_note}
 use Rattle.fam_journal.specs.Machines.{notes_of}
-use Rattle.fam_journal.specs.Notes.{Answered, MediaFault, Note, Refused, Replied}
+use Rattle.fam_journal.specs.Notes.{Answered, MediaFault, Note, Replied}
 use Rattle.fam_journal.specs.Notes as journal
 use Rattle.fam_world.specs.OnTask.{CacheFits, IsBroken, IsTurned, OnTask}
 use Rattle.fam_world.specs.Steps.{Around, IsCut, IsServed, IsStep}
@@ -99,28 +98,28 @@ lines_held Digest lines told old new within leaves l held = inr (subst (λ (c : 
 
 -- Answers.
 
-pub answer_told : (a : Answer) (reply : Reply) → reply_of a ≡ Some reply → answer_of a ≡ Some (Replied reply)
-answer_told (answer.Ok seq) reply is = ap (option_map Replied) is
-answer_told (answer.Played m tree) reply is = ap (option_map Replied) is
-answer_told (answer.Same m) reply is = ap (option_map Replied) is
-answer_told (answer.Bytes m bytes) reply is = ap (option_map Replied) is
-answer_told (answer.Checked m checked) reply is = ap (option_map Replied) is
-answer_told (answer.Report report) reply is = ap (option_map Replied) is
-answer_told (answer.NoSuper word) reply is = ap (option_map Replied) is
-answer_told (answer.BadSuper field found wanted) reply is = ap (option_map Replied) is
-answer_told (answer.BadLog field found wanted) reply is = ap (option_map Replied) is
-answer_told (answer.BadEntry seq reason) reply is = ap (option_map Replied) is
-answer_told (answer.NotMaster me master) reply is = ap (option_map Replied) is
-answer_told answer.BadStripe reply is = ap (option_map Replied) is
-answer_told (answer.Exists kind) reply is = ap (option_map Replied) is
-answer_told answer.NoParent reply is = ap (option_map Replied) is
-answer_told answer.ParentIsFile reply is = ap (option_map Replied) is
-answer_told (answer.LogFull slots) reply is = ap (option_map Replied) is
-answer_told (answer.NoSpace units) reply is = ap (option_map Replied) is
-answer_told (answer.NotFound m) reply is = ap (option_map Replied) is
-answer_told (answer.IsDirectory m) reply is = ap (option_map Replied) is
-answer_told (answer.Differs m offset found wanted) reply is = ap (option_map Replied) is
-answer_told (answer.Length m size wanted) reply is = ap (option_map Replied) is
+pub answer_told : (a : Answer) (reply : Reply) → reply_of a ≡ Some reply → answer_view a ≡ Replied reply
+answer_told (answer.Ok seq) reply is = cc
+answer_told (answer.Played m tree) reply is = cc
+answer_told (answer.Same m) reply is = cc
+answer_told (answer.Bytes m bytes) reply is = cc
+answer_told (answer.Checked m checked) reply is = cc
+answer_told (answer.Report report) reply is = cc
+answer_told (answer.NoSuper word) reply is = cc
+answer_told (answer.BadSuper field found wanted) reply is = cc
+answer_told (answer.BadLog field found wanted) reply is = cc
+answer_told (answer.BadEntry seq reason) reply is = cc
+answer_told (answer.NotMaster me master) reply is = cc
+answer_told answer.BadStripe reply is = cc
+answer_told (answer.Exists kind) reply is = cc
+answer_told answer.NoParent reply is = cc
+answer_told answer.ParentIsFile reply is = cc
+answer_told (answer.LogFull slots) reply is = cc
+answer_told (answer.NoSpace units) reply is = cc
+answer_told (answer.NotFound m) reply is = cc
+answer_told (answer.IsDirectory m) reply is = cc
+answer_told (answer.Differs m offset found wanted) reply is = cc
+answer_told (answer.Length m size wanted) reply is = cc
 answer_told (answer.MediaFault line) reply is = absurd cc
 
 -- what a turn of the definition tells: its notes, the task behind it, and whether it is over
@@ -140,7 +139,7 @@ told_by at said next (turns.Writes seq e n) tells = plain_told at said next n (t
 told_by at turn.Go next (turns.Ends reply) tells = absurd tells
 told_by at (turn.Note note) next (turns.Ends reply) tells = absurd tells
 told_by at (turn.Done given) next (turns.Ends reply) tells = record {
-  notes = ap (λ (o : Option journal.Answer). unwrap_or (option_map (Answered at) o) (Refused [] why.NoHost) ∷ []) (answer_told given reply tells);
+  notes = ap (λ (a : journal.Answer). Answered at a ∷ []) (answer_told given reply tells);
   task = refl;
   over = refl;
 }

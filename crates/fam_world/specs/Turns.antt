@@ -1,13 +1,12 @@
 -- What a host's task says, as notes of a journal.
 use Rattle.std.specs.Prelude.{ℕ, Bool, true, false, List, [], ◌∷◌, Option, None}
 use Rattle.fam_commands.specs.Task as spec
-use Rattle.fam_notes.specs.declared.note.Note.TheVariants as kept
+use Rattle.fam_notes.specs.Notes.{answer_view}
 use Rattle.fam_tasks.specs.declared.answer.TaskNote.{TaskNote}
 use Rattle.fam_tasks.specs.declared.answer.TaskNote.TheVariants as says
 use Rattle.fam_tasks.specs.declared.answer.Turn.{Turn}
 use Rattle.fam_tasks.specs.declared.answer.Turn.TheVariants as turn
-use Rattle.fam_journal.specs.Notes.{Note, Mark, Found, Writes}
-use Rattle.fam_world.specs.View.{note_view}
+use Rattle.fam_journal.specs.Notes.{Note, Answered, Mark, Found, Writes}
 
 -- a note of the task of host h
 abbrev pub task_note : ℕ → TaskNote → Note
@@ -19,7 +18,7 @@ task_note h (says.Writes seq e) = Writes h seq e
 abbrev pub turn_notes : ℕ → Turn → List Note
 turn_notes h turn.Go = []
 turn_notes h (turn.Note note) = task_note h note ∷ []
-turn_notes h (turn.Done answer) = note_view (kept.Answered (record { 0 = h }) answer) ∷ []
+turn_notes h (turn.Done answer) = Answered h (answer_view answer) ∷ []
 
 -- the task behind it, of one that is this now where it goes on
 abbrev pub kept_by : Turn → Option spec.Task → Option spec.Task

@@ -1,5 +1,5 @@
 use Rattle.std.proofs.Common.{drop, inr, Err, ap, ◌∙◌}
-use Rattle.fam_program.proofs.Putting.{short_some}
+use Rattle.fam_program.proofs.Texts.Pieces.{short_some}
 use Rattle.fam_program.proofs.puts.put_broken.Goals as goal
 
 pub returns-in-Err-OutOfMemory-clause-says : goal.returns-in-Err-OutOfMemory-clause-says

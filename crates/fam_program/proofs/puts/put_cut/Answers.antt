@@ -1,9 +1,9 @@
 use Rattle.std.proofs.Common.{drop, Err, ap, ◌∙◌}
 use Rattle.fam_media.specs.States.{change}
-use Rattle.fam_journal.specs.Programs.{memory_line}
-use Rattle.fam_journal.specs.Texts.{render_behind}
-use Rattle.fam_journal.specs.declared.status.Status.TheVariants as status
-use Rattle.fam_program.proofs.Putting.{put_second, short_part, short_some, short_whole}
+use Rattle.fam_outcomes.specs.Programs.{memory_line}
+use Rattle.fam_outcomes.specs.Texts.{render_behind}
+use Rattle.fam_outcomes.specs.declared.status.Status.TheVariants as status
+use Rattle.fam_program.proofs.Texts.Pieces.{put_second, short_part, short_some, short_whole}
 use Rattle.fam_program.proofs.puts.put_cut.Goals as goal
 
 pub returns-in-Ok-clause-says : goal.returns-in-Ok-clause-says

@@ -1,12 +1,12 @@
 use Rattle.std.proofs.Common.{ℕ, ◌+◌, List, option_map, take, drop, arith, refl, ap, subst, sym, ◌∙◌}
 use Rattle.fam_media.specs.Outside.{with_piece}
 use Rattle.fam_media.specs.States.{change, SinkChange}
-use Rattle.fam_journal.specs.Texts.{names_behind, note_line, render_behind}
-use Rattle.fam_world.specs.View.{note_view, notes_view}
-use Rattle.fam_outcomes.proofs.Printing.{are_named, is_named}
+use Rattle.fam_outcomes.specs.Texts.{names_behind, note_line, render_behind}
+use Rattle.fam_notes.specs.Notes.{note_view, notes_view}
+use Rattle.fam_script.proofs.Printing.{are_named, is_named}
 use Rattle.fam_program.specs.Puts.{PutPart}
-use Rattle.fam_program.proofs.Naming.{names_taken, text_front, text_taken}
-use Rattle.fam_program.proofs.Putting.{nothing_put, part_both, part_longer, whole_both}
+use Rattle.fam_program.proofs.Texts.Names.{names_taken, text_front, text_taken}
+use Rattle.fam_program.proofs.Texts.Pieces.{nothing_put, part_both, part_longer, whole_both}
 use Rattle.fam_program.proofs.puts.put_each.Goals as goal
 
 pub notes-init : goal.notes-init

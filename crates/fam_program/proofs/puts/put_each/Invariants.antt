@@ -1,8 +1,8 @@
 use Rattle.std.proofs.Common.{◌≡◌, ◌≤◌, drop, length, take}
 use Rattle.fam_media.specs.States.{change}
 use Rattle.fam_journal.specs.Names.{NameDeclared}
-use Rattle.fam_journal.specs.Texts.{names_behind, render_behind}
-use Rattle.fam_world.specs.View.{notes_view}
+use Rattle.fam_outcomes.specs.Texts.{names_behind, render_behind}
+use Rattle.fam_notes.specs.Notes.{notes_view}
 use Rattle.fam_program.specs.Puts.{PutWhole}
 use Rattle.fam_program.proofs.puts.put_each.Given as goal
 

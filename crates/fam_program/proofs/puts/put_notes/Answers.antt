@@ -3,9 +3,9 @@ use Rattle.std.specs.Prelude.{OnOk}
 use Rattle.fam_media.specs.States.{change}
 use Rattle.fam_journal.specs.Names.{NameDeclared}
 use Rattle.fam_journal.specs.Notes.{Note}
-use Rattle.fam_journal.specs.Texts.{names_behind, render_behind}
+use Rattle.fam_outcomes.specs.Texts.{names_behind, render_behind}
 use Rattle.fam_program.specs.Puts.{PutPart, PutSome, PutWhole}
-use Rattle.fam_program.proofs.Naming.{named_from, names_all, notes_from}
+use Rattle.fam_program.proofs.Texts.Names.{named_from, names_all, notes_from}
 use Rattle.fam_program.proofs.puts.put_notes.Goals as goal
 
 pub put_each-requires : goal.put_each-requires

@@ -7,11 +7,11 @@ use Rattle.fam_journal.specs.View.{WorldView}
 use Rattle.fam_events.specs.Around.{around}
 use Rattle.fam_events.specs.Happens.{EventSays}
 use Rattle.fam_program.specs.Far.{AreSoundEvents, Base, Far, Now}
-use Rattle.fam_program.proofs.Ending.{all_ended}
-use Rattle.fam_program.proofs.Going.{first_far, more_far, next_of}
-use Rattle.fam_program.proofs.Loops.{all_taken, next_is, one_more, rest_is}
-use Rattle.fam_program.proofs.Quietly.{fault_ended}
-use Rattle.fam_program.proofs.Turning.{noted, says_from}
+use Rattle.fam_program.proofs.Runs.Ends.{all_ended}
+use Rattle.fam_program.proofs.Runs.GoesOn.{first_far, more_far, next_of}
+use Rattle.fam_program.proofs.Runs.Passed.{all_taken, next_is, one_more, rest_is}
+use Rattle.fam_program.proofs.Runs.NothingPut.{fault_ended}
+use Rattle.fam_program.proofs.Runs.EventTold.{noted, says_from}
 use Rattle.fam_program.proofs.quiet.run_events.Goals as goal
 
 pub events-init : goal.events-init

@@ -5,19 +5,19 @@ use Rattle.std.proofs.lemmas.List.{nil_from_length}
 use Rattle.fam_media.specs.States.{change, ShelfChange}
 use Rattle.fam_journal.specs.declared.event.Event.{Event}
 use Rattle.fam_journal.specs.CallRecords.{FitsMedia}
-use Rattle.fam_journal.specs.Statuses.{last_stops, note_stops}
+use Rattle.fam_outcomes.specs.Statuses.{last_stops, note_stops}
 use Rattle.fam_journal.specs.View.{WorldView}
 use Rattle.fam_events.specs.Around.{around}
 use Rattle.fam_events.specs.Happens.{EventSays}
 use Rattle.fam_program.specs.Far.{AreSoundEvents, Base, Far, Now}
 use Rattle.fam_program.specs.Quiet.{AreShotEvents, GoesOn}
-use Rattle.fam_program.proofs.Going.{first_far, more_far, next_of}
-use Rattle.fam_program.proofs.Hiding.{fault_hides}
-use Rattle.fam_program.proofs.Leaving.{done_spares, fault_spares}
-use Rattle.fam_program.proofs.Loops.{all_taken, next_is, one_more, rest_is}
-use Rattle.fam_program.proofs.Quietly.{fault_ended, fault_goes, taken_ended}
-use Rattle.fam_program.proofs.Stopping.{all_go, go_behind, none_stops, step_goes}
-use Rattle.fam_program.proofs.Turning.{noted, says_from}
+use Rattle.fam_program.proofs.Runs.GoesOn.{first_far, more_far, next_of}
+use Rattle.fam_program.proofs.Commands.NoFaultHidden.{fault_hides}
+use Rattle.fam_program.proofs.Commands.ImageLeft.{done_spares, fault_spares}
+use Rattle.fam_program.proofs.Runs.Passed.{all_taken, next_is, one_more, rest_is}
+use Rattle.fam_program.proofs.Runs.NothingPut.{fault_ended, fault_goes, taken_ended}
+use Rattle.fam_program.proofs.Runs.Stops.{all_go, go_behind, none_stops, step_goes}
+use Rattle.fam_program.proofs.Runs.EventTold.{noted, says_from}
 use Rattle.fam_program.proofs.quiet.run_until_stop.Goals as goal
 
 pub events-init : goal.events-init

@@ -1,7 +1,7 @@
 use Rattle.std.proofs.Common.{◌≡◌, ◌++◌, false, length}
 use Rattle.std.specs.List.{list_any}
 use Rattle.fam_media.specs.Causes.{IsShelfSteady}
-use Rattle.fam_journal.specs.Statuses.{note_stops}
+use Rattle.fam_outcomes.specs.Statuses.{note_stops}
 use Rattle.fam_program.specs.Far.{AreSoundEvents, Far}
 use Rattle.fam_program.specs.Quiet.{AreShotEvents}
 use Rattle.fam_program.proofs.quiet.run_until_stop.Given as goal

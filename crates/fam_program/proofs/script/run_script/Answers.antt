@@ -6,19 +6,19 @@ use Rattle.fam_journal.specs.declared.event.Event.{Event}
 use Rattle.fam_journal.specs.CallRecords.{FitsMedia}
 use Rattle.fam_journal.specs.Notes.{Note}
 use Rattle.fam_journal.specs.View.{WorldView}
-use Rattle.fam_journal.specs.Texts.{names_behind, render, render_behind}
-use Rattle.fam_journal.proofs.Texts.Names.{render_more}
+use Rattle.fam_outcomes.specs.Texts.{names_behind, render, render_behind}
+use Rattle.fam_outcomes.proofs.Names.{render_more}
 use Rattle.fam_events.specs.Around.{around}
 use Rattle.fam_events.specs.Happens.{EventSays}
 use Rattle.fam_program.specs.Far.{AreSoundEvents, Base, Far, Now}
 use Rattle.fam_program.specs.Puts.{PutShort}
 use Rattle.fam_program.specs.Runs.{outside_of}
 use Rattle.fam_program.specs.Scripts.{ScriptRan}
-use Rattle.fam_program.proofs.Going.{first_far, more_far, named_more, next_of}
-use Rattle.fam_program.proofs.Loops.{all_taken, next_is, none_put, one_more, rest_is}
-use Rattle.fam_program.proofs.Putting.{pieces, short_some}
-use Rattle.fam_program.proofs.Scripting.{all_script, sink_script, stop_script, want_script}
-use Rattle.fam_program.proofs.Turning.{before, noted, rest, says_from, text_is, within}
+use Rattle.fam_program.proofs.Runs.GoesOn.{first_far, more_far, named_more, next_of}
+use Rattle.fam_program.proofs.Runs.Passed.{all_taken, next_is, none_put, one_more, rest_is}
+use Rattle.fam_program.proofs.Texts.Pieces.{pieces, short_some}
+use Rattle.fam_program.proofs.Scripts.Puts.{all_script, sink_script, stop_script, want_script}
+use Rattle.fam_program.proofs.Runs.EventTold.{before, noted, rest, says_from, text_is, within}
 use Rattle.fam_program.proofs.script.run_script.Goals as goal
 
 pub events-init : goal.events-init

@@ -1,7 +1,7 @@
 use Rattle.std.proofs.Common.{◌≡◌, ◌≤◌, [], ◌++◌, length, option_map}
 use Rattle.fam_media.specs.Outside.{with_piece}
 use Rattle.fam_media.specs.Causes.{IsShelfSteady}
-use Rattle.fam_journal.specs.Texts.{names_behind, render}
+use Rattle.fam_outcomes.specs.Texts.{names_behind, render}
 use Rattle.fam_program.specs.Far.{AreSoundEvents, Far}
 use Rattle.fam_program.proofs.script.run_script.Given as goal
 

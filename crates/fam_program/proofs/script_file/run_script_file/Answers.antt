@@ -1,10 +1,10 @@
 use Rattle.std.proofs.Common.{Option, arith, refl, subst}
 use Rattle.fam_media.specs.Files.{Files}
 use Rattle.fam_media.specs.States.{change, ShelfChange, SinkChange}
-use Rattle.fam_journal.specs.Runs.{NoneFalls, Outside}
+use Rattle.fam_outcomes.specs.Runs.{NoneFalls, Outside}
 use Rattle.fam_program.specs.Runs.{outside_of}
 use Rattle.fam_program.specs.Scripts.{ScriptRan}
-use Rattle.fam_program.proofs.Filing.{early_ends, ran_before, script_ends}
+use Rattle.fam_program.proofs.Scripts.Files.{early_ends, ran_before, script_ends}
 use Rattle.fam_program.proofs.script_file.run_script_file.Goals as goal
 
 pub returns-in-Ok-clause-ends : goal.returns-in-Ok-clause-ends

@@ -4,18 +4,18 @@ use Rattle.fam_base.specs.declared.cmd.Cmd.TheVariants as cmd
 use Rattle.fam_media.specs.States.{change, SinkChange}
 use Rattle.fam_journal.specs.declared.event.Ask.TheVariants as ask
 use Rattle.fam_journal.specs.declared.event.Event.{Event}
-use Rattle.fam_journal.specs.declared.status.Status.{Status}
+use Rattle.fam_outcomes.specs.declared.status.Status.{Status}
 use Rattle.fam_journal.specs.Notes.{Note}
-use Rattle.fam_journal.specs.Runs.{NoneFalls, Outside}
-use Rattle.fam_journal.specs.Statuses.{last_status}
+use Rattle.fam_outcomes.specs.Runs.{NoneFalls, Outside}
+use Rattle.fam_outcomes.specs.Statuses.{last_status}
 use Rattle.fam_program.specs.Far.{AreSoundEvents}
 use Rattle.fam_program.specs.Quiet.{AreShotEvents, ShotEnded}
 use Rattle.fam_program.specs.Runs.{outside_of}
 use Rattle.fam_shadow.specs.Nodes.{ShadeChange}
 use Rattle.fam_program.specs.Shadows.{no_files, shown_tree}
 use Rattle.fam_program.specs.Shots.{ShotSays}
-use Rattle.fam_program.proofs.Alone.{shot_named}
-use Rattle.fam_program.proofs.Shadowing.{logplayed_top, shadow_wants, shadowed_top}
+use Rattle.fam_program.proofs.Commands.TopEnds.{shot_named}
+use Rattle.fam_program.proofs.Commands.Shadows.{logplayed_top, shadow_wants, shadowed_top}
 use Rattle.fam_program.proofs.shadows.write_shadow.Goals as goal
 
 pub returns-in_default-clause-ends : goal.returns-in_default-clause-ends

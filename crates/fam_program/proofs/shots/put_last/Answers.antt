@@ -1,7 +1,7 @@
 use Rattle.std.proofs.Common.{ℕ, List, inl, inr, refl, ap, subst, sym, ◌∙◌}
 use Rattle.fam_media.specs.States.{change, SinkChange}
-use Rattle.fam_journal.specs.Programs.{last_passes}
-use Rattle.fam_journal.specs.Texts.{shown}
+use Rattle.fam_outcomes.specs.Programs.{last_passes}
+use Rattle.fam_outcomes.specs.Texts.{shown}
 use Rattle.fam_program.specs.Puts.{Put}
 use Rattle.fam_program.specs.Shots.{is_short}
 use Rattle.fam_program.proofs.shots.put_last.Goals as goal

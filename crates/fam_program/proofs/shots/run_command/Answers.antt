@@ -1,17 +1,17 @@
 use Rattle.std.proofs.Common.{◌≡◌, List, Some, arith, ap, refl, subst, sym, ◌∙◌}
 use Rattle.fam_media.specs.States.{change, SinkChange}
 use Rattle.fam_journal.specs.declared.event.Event.{Event}
-use Rattle.fam_journal.specs.declared.status.Status.{Status}
+use Rattle.fam_outcomes.specs.declared.status.Status.{Status}
 use Rattle.fam_journal.specs.Notes.{Note}
-use Rattle.fam_journal.specs.Programs.{Runs, OneShot, Single}
-use Rattle.fam_journal.specs.Runs.{NoneFalls, Outside}
-use Rattle.fam_journal.specs.Statuses.{last_status}
+use Rattle.fam_outcomes.specs.Programs.{Runs, OneShot, Single}
+use Rattle.fam_outcomes.specs.Runs.{NoneFalls, Outside}
+use Rattle.fam_outcomes.specs.Statuses.{last_status}
 use Rattle.fam_program.specs.Far.{AreSoundEvents}
 use Rattle.fam_program.specs.Quiet.{AreShotEvents, ShotEnded}
 use Rattle.fam_program.specs.Runs.{outside_of}
 use Rattle.fam_program.specs.Shots.{ShotSays}
-use Rattle.fam_program.proofs.Alone.{shot_named, shot_top}
-use Rattle.fam_program.proofs.Tops.{early_wants}
+use Rattle.fam_program.proofs.Commands.TopEnds.{shot_named, shot_top}
+use Rattle.fam_program.proofs.Runs.OneText.{early_wants}
 use Rattle.fam_program.proofs.shots.run_command.Goals as goal
 
 pub returns-in_default-clause-ends : goal.returns-in_default-clause-ends

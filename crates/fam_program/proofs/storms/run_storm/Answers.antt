@@ -2,15 +2,15 @@ use Rattle.std.proofs.Common.{◌≡◌, ℕ, List, length, Some, arith, refl, s
 use Rattle.fam_media.specs.States.{change, SinkChange}
 use Rattle.fam_sources.specs.Sourced.{end_of}
 use Rattle.fam_journal.specs.declared.event.Event.{Event}
-use Rattle.fam_journal.specs.declared.status.Status.TheVariants as status
+use Rattle.fam_outcomes.specs.declared.status.Status.TheVariants as status
 use Rattle.fam_journal.specs.Ends.{AllDone}
 use Rattle.fam_journal.specs.Notes.{Note}
-use Rattle.fam_journal.specs.Programs.{Storm}
-use Rattle.fam_journal.specs.Runs.{NoneFalls, Outside}
+use Rattle.fam_outcomes.specs.Programs.{Storm}
+use Rattle.fam_outcomes.specs.Runs.{NoneFalls, Outside}
 use Rattle.fam_events.specs.declared.fault.EventFault.{EventFault}
 use Rattle.fam_program.specs.Puts.{Put}
 use Rattle.fam_program.specs.Runs.{HasEnded, ending_of, outside_of}
-use Rattle.fam_program.proofs.Tops.{early_wants, no_source_ends, not_printed, prints_top, storm_broken, storm_done, storm_wants}
+use Rattle.fam_program.proofs.Runs.OneText.{early_wants, no_source_ends, not_printed, prints_top, storm_broken, storm_done, storm_wants}
 use Rattle.fam_program.proofs.storms.run_storm.Goals as goal
 
 pub returns-in_default-clause-ends : goal.returns-in_default-clause-ends

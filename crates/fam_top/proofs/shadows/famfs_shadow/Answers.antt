@@ -1,10 +1,10 @@
 use Rattle.std.proofs.Common.{◌∙◌, List, ℕ, Option, Some, ap, arith, option_map, refl, subst, sym}
 use Rattle.fam_media.specs.States.{change}
-use Rattle.fam_journal.specs.Runs.{NoneFalls, Outside}
+use Rattle.fam_outcomes.specs.Runs.{NoneFalls, Outside}
 use Rattle.fam_program.specs.Runs.{outside_of}
 use Rattle.fam_shadow.specs.Nodes.{ShadeChange}
 use Rattle.fam_program.specs.Shadows.{ShadowTop, no_files}
-use Rattle.fam_program.proofs.Shadowing.{no_shadow, shadow_wants}
+use Rattle.fam_program.proofs.Commands.Shadows.{no_shadow, shadow_wants}
 use Rattle.fam_words.specs.declared.wanted.ShadowCall.{ShadowCall}
 use Rattle.fam_top.specs.Calls.{host_or}
 use Rattle.fam_top.proofs.shadows.famfs_shadow.Goals as goal

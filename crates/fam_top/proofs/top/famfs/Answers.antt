@@ -1,6 +1,6 @@
 use Rattle.std.proofs.Common.{◌∙◌, ap, arith, option_map, refl, subst, sym, Option}
 use Rattle.fam_media.specs.States.{change}
-use Rattle.fam_journal.specs.Runs.{NoneFalls, Outside}
+use Rattle.fam_outcomes.specs.Runs.{NoneFalls, Outside}
 use Rattle.fam_program.specs.Runs.{outside_of}
 use Rattle.fam_words.specs.declared.wanted.Order.{Order}
 use Rattle.fam_top.specs.Calls.{CallEnds, command_of}

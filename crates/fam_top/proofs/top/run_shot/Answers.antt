@@ -1,8 +1,8 @@
 use Rattle.std.proofs.Common.{List, ℕ, Some, subst, sym}
 use Rattle.fam_media.specs.States.{change}
 use Rattle.fam_grammar.specs.Scripts.{script_events}
-use Rattle.fam_journal.specs.Programs.{Makes, Single, TopEnds}
-use Rattle.fam_journal.specs.Runs.{Outside}
+use Rattle.fam_outcomes.specs.Programs.{Makes, Single, TopEnds}
+use Rattle.fam_outcomes.specs.Runs.{Outside}
 use Rattle.fam_program.specs.Runs.{outside_of}
 use Rattle.fam_storm.specs.Storm.{storm}
 use Rattle.fam_words.specs.declared.wanted.Shot.{Shot}
