@@ -43,7 +43,7 @@ fn bring_absent<M: Media>(
     requires sorted { IsTrue (is_sorted nat_cmp places.old.items) }
     requires spot { IsSpot places.old.items spot line.0 }
     requires absent { cell_at (cache_of places.old.items) line.0 ≡ Cell.Absent }
-    requires within { line.0 < (M.state media.old).size }
+    requires within { line.0 < M.size media.old }
 
     ensures cache { OnOk result (FromMemory (M.state media.old).image line.0
         (λ memory. cache_of places.new.items ≡ cell_changed line.0 (brought memory) (cache_of places.old.items))) }
@@ -59,7 +59,7 @@ fn bring_absent<M: Media>(
         vec_capacity places.new ≡ vec_capacity places.old }
 
     ensures image { (M.state media.new).image ≡ (M.state media.old).image }
-    ensures steady { IsSteady (M.state media.old) (M.state media.new) }
+    ensures steady { IsSteady M.size M.state media.old media.new }
     ensures sorted { IsTrue (is_sorted nat_cmp places.new.items) }
     ensures capacity { vec_capacity places.old ≤ vec_capacity places.new }
     ensures one { vec_len places.new ≤ vec_len places.old + 1 }
@@ -82,7 +82,7 @@ fn bring<M: Media>(
     line: LineNo,
 ) -> Result<usize, CacheFault>
     requires sorted { IsTrue (is_sorted nat_cmp places.old.items) }
-    requires within { line.0 < (M.state media.old).size }
+    requires within { line.0 < M.size media.old }
 
     ensures cache { OnOk result (FromMemory (M.state media.old).image line.0
         (λ memory. cache_of places.new.items ≡ cell_changed line.0 (brought memory) (cache_of places.old.items))) }
@@ -100,7 +100,7 @@ fn bring<M: Media>(
         vec_capacity places.new ≡ vec_capacity places.old }
 
     ensures image { (M.state media.new).image ≡ (M.state media.old).image }
-    ensures steady { IsSteady (M.state media.old) (M.state media.new) }
+    ensures steady { IsSteady M.size M.state media.old media.new }
     ensures sorted { IsTrue (is_sorted nat_cmp places.new.items) }
     ensures capacity { vec_capacity places.old ≤ vec_capacity places.new }
     ensures one { vec_len places.new ≤ vec_len places.old + 1 }
@@ -124,7 +124,7 @@ fn refresh<M: Media>(
     mask: Mask,
 ) -> Result<usize, CacheFault>
     requires sorted { IsTrue (is_sorted nat_cmp places.old.items) }
-    requires within { line.0 < (M.state media.old).size }
+    requires within { line.0 < M.size media.old }
 
     ensures cache { OnOk result (FromMemory (M.state media.old).image line.0
         (λ memory. cache_of places.new.items ≡ cell_changed line.0 (fetched mask.0 memory) (cache_of places.old.items))) }
@@ -142,7 +142,7 @@ fn refresh<M: Media>(
         vec_capacity places.new ≡ vec_capacity places.old }
 
     ensures image { (M.state media.new).image ≡ (M.state media.old).image }
-    ensures steady { IsSteady (M.state media.old) (M.state media.new) }
+    ensures steady { IsSteady M.size M.state media.old media.new }
     ensures sorted { IsTrue (is_sorted nat_cmp places.new.items) }
     ensures capacity { vec_capacity places.old ≤ vec_capacity places.new }
     ensures one { vec_len places.new ≤ vec_len places.old + 1 }
@@ -170,7 +170,7 @@ fn send_place<M: Media>(
 ) -> Result<(), Failed>
     requires sorted { IsTrue (is_sorted nat_cmp places.old.items) }
     requires stands { IsPlaceOf places.old.items at line.0 }
-    requires within { line.0 < (M.state media.old).size }
+    requires within { line.0 < M.size media.old }
 
     ensures cache { OnOk result
         (cache_of places.new.items ≡ cell_changed line.0 cleaned (cache_of places.old.items)) }
@@ -185,7 +185,7 @@ fn send_place<M: Media>(
         image (M.state media.new).image)) }
 
     ensures cause { HasCause (M.state media.old).faults (M.state media.new).faults result }
-    ensures size { (M.state media.new).size ≡ (M.state media.old).size }
+    ensures size { M.size media.new ≡ M.size media.old }
     ensures sorted { IsTrue (is_sorted nat_cmp places.new.items) }
     ensures capacity { vec_capacity places.new ≡ vec_capacity places.old }
     ensures len { vec_len places.new ≡ vec_len places.old }
@@ -210,7 +210,7 @@ fn send_asked<M: Media>(
 ) -> Result<(), FenceFailed>
     requires sorted { IsTrue (is_sorted nat_cmp places.old.items) }
     requires range { AskedWithin first last (cache_of places.old.items) }
-    requires within { (line : ℕ) → IsAsked (cell_at (cache_of places.old.items) line) → line < (M.state media.old).size }
+    requires within { (line : ℕ) → IsAsked (cell_at (cache_of places.old.items) line) → line < M.size media.old }
 
     ensures operated { OnOk result (IfModelled (M.state media.old).image (λ image. IsMachine
         (operated Op.Fence (machine image (cache_of places.old.items)))
@@ -226,7 +226,7 @@ fn send_asked<M: Media>(
     ensures same { ((line : ℕ) → ¬ (IsAsked (cell_at (cache_of places.old.items) line))) →
         media.new ≡ media.old }
     ensures cause { HasCause (M.state media.old).faults (M.state media.new).faults result }
-    ensures size { (M.state media.new).size ≡ (M.state media.old).size }
+    ensures size { M.size media.new ≡ M.size media.old }
     ensures sorted { IsTrue (is_sorted nat_cmp places.new.items) }
     ensures capacity { vec_capacity places.new ≡ vec_capacity places.old }
     ensures len { vec_len places.new ≡ vec_len places.old }
@@ -256,7 +256,7 @@ fn drop_line<M: Media>(
     line: LineNo,
 ) -> Result<usize, Failed>
     requires sorted { IsTrue (is_sorted nat_cmp places.old.items) }
-    requires within { line.0 < (M.state media.old).size }
+    requires within { line.0 < M.size media.old }
 
     ensures cache { OnOk result
         (cache_of places.new.items ≡ with_cell line.0 Cell.Absent (cache_of places.old.items)) }
@@ -271,7 +271,7 @@ fn drop_line<M: Media>(
     ensures idle { ¬ (IsDirty (cell_at (cache_of places.old.items) line.0)) → IsOk result }
     ensures same { ¬ (IsDirty (cell_at (cache_of places.old.items) line.0)) → media.new ≡ media.old }
     ensures cause { HasCause (M.state media.old).faults (M.state media.new).faults result }
-    ensures size { (M.state media.new).size ≡ (M.state media.old).size }
+    ensures size { M.size media.new ≡ M.size media.old }
     ensures sorted { IsTrue (is_sorted nat_cmp places.new.items) }
     ensures capacity { vec_capacity places.new ≡ vec_capacity places.old }
     ensures len { vec_len places.new ≤ vec_len places.old }
@@ -296,7 +296,7 @@ fn leak_line<M: Media>(
     mask: Mask,
 ) -> Result<usize, Failed>
     requires sorted { IsTrue (is_sorted nat_cmp places.now.items) }
-    requires within { line.0 < (M.state media.old).size }
+    requires within { line.0 < M.size media.old }
 
     ensures memory { OnOk result ((M.state media.new).image ≡ option_map
         (line_changed line.0 (λ memory. leaked mask.0 memory (cell_at (cache_of places.now.items) line.0)))
@@ -308,7 +308,7 @@ fn leak_line<M: Media>(
     ensures idle { ¬ (IsDirty (cell_at (cache_of places.now.items) line.0)) → IsOk result }
     ensures same { ¬ (IsDirty (cell_at (cache_of places.now.items) line.0)) → media.new ≡ media.old }
     ensures cause { HasCause (M.state media.old).faults (M.state media.new).faults result }
-    ensures size { (M.state media.new).size ≡ (M.state media.old).size }
+    ensures size { M.size media.new ≡ M.size media.old }
 {
     let spot = seek(places, last, line.0);
     let held = copy(places, spot, line.0);
@@ -389,7 +389,7 @@ impl HostCache {
         line: LineNo,
         word: u8,
     ) -> Result<u64, CacheFault>
-        requires within { line.0 < (M.state media.old).size }
+        requires within { line.0 < M.size media.old }
         requires word { word < 8 }
 
         // The word is that of the copy that the host now has.
@@ -410,7 +410,7 @@ impl HostCache {
         ensures unchanged { IsErrOf result CacheFault.OutOfMemory → self.new ≡ self.old }
 
         ensures image { (M.state media.new).image ≡ (M.state media.old).image }
-        ensures steady { IsSteady (M.state media.old) (M.state media.new) }
+        ensures steady { IsSteady M.size M.state media.old media.new }
 
         // Only a line that was brought takes a place.
         ensures spare { self.old.spare ≤ self.new.spare + 1 }
@@ -433,7 +433,7 @@ impl HostCache {
         word: u8,
         value: u64,
     ) -> Result<(), CacheFault>
-        requires within { line.0 < (M.state media.old).size }
+        requires within { line.0 < M.size media.old }
         requires word { word < 8 }
 
         ensures cache { OnOk result (FromMemory (M.state media.old).image line.0
@@ -451,7 +451,7 @@ impl HostCache {
         ensures unchanged { IsErrOf result CacheFault.OutOfMemory → self.new ≡ self.old }
 
         ensures image { (M.state media.new).image ≡ (M.state media.old).image }
-        ensures steady { IsSteady (M.state media.old) (M.state media.new) }
+        ensures steady { IsSteady M.size M.state media.old media.new }
 
         // Only a line that was brought takes a place.
         ensures spare { self.old.spare ≤ self.new.spare + 1 }
@@ -502,7 +502,7 @@ impl HostCache {
         media: &mut M,
         line: LineNo,
     ) -> Result<Option<Line>, CacheFault>
-        requires within { line.0 < (M.state media.old).size }
+        requires within { line.0 < M.size media.old }
 
         ensures clean { IfOk result (λ renewed. IfSome renewed (λ words.
             ¬ (IsDirty (cell_at self.old.lines line.0)))) }
@@ -525,7 +525,7 @@ impl HostCache {
         ensures unchanged { IsErrOf result CacheFault.OutOfMemory → self.new ≡ self.old }
 
         ensures image { (M.state media.new).image ≡ (M.state media.old).image }
-        ensures steady { IsSteady (M.state media.old) (M.state media.new) }
+        ensures steady { IsSteady M.size M.state media.old media.new }
         ensures spare { self.old.spare ≤ self.new.spare + 1 }
         ensures err_spare { OnErr result (self.old.spare ≤ self.new.spare) }
     {
@@ -559,7 +559,7 @@ impl HostCache {
         line: LineNo,
         words: &Line,
     ) -> Result<bool, CacheFault>
-        requires within { line.0 < (M.state media.old).size }
+        requires within { line.0 < M.size media.old }
 
         ensures absent { IfOk result (λ put. put ≡ true → cell_at self.old.lines line.0 ≡ Cell.Absent) }
         ensures lines { OnOk result (self.new.lines ≡ self.old.lines) }
@@ -585,7 +585,7 @@ impl HostCache {
         ensures undone { IsErrOf result CacheFault.OutOfMemory → media.new ≡ media.old }
         ensures unchanged { IsErrOf result CacheFault.OutOfMemory → self.new ≡ self.old }
 
-        ensures steady { IsSteady (M.state media.old) (M.state media.new) }
+        ensures steady { IsSteady M.size M.state media.old media.new }
         ensures spare { self.old.spare ≤ self.new.spare + 1 }
     {
         let spot = seek(&self.places, self.last, line.0);
@@ -623,7 +623,7 @@ impl HostCache {
         line: LineNo,
         mask: Mask,
     ) -> Result<(), CacheFault>
-        requires within { line.0 < (M.state media.old).size }
+        requires within { line.0 < M.size media.old }
 
         ensures cache { OnOk result (FromMemory (M.state media.old).image line.0
             (λ memory. self.new.lines ≡ cell_changed line.0 (fetched mask.0 memory) self.old.lines)) }
@@ -642,7 +642,7 @@ impl HostCache {
         ensures unchanged { IsErrOf result CacheFault.OutOfMemory → self.new ≡ self.old }
 
         ensures image { (M.state media.new).image ≡ (M.state media.old).image }
-        ensures steady { IsSteady (M.state media.old) (M.state media.new) }
+        ensures steady { IsSteady M.size M.state media.old media.new }
 
         // Only a line that was brought takes a place.
         ensures spare { self.old.spare ≤ self.new.spare + 1 }
@@ -670,7 +670,7 @@ impl HostCache {
     /// A send that fails leaves each word of its line old or new. The lines before it were sent, and the host keeps its
     /// copies of it and of those behind it, which are still asked for.
     pub fn fence<M: Media>(&mut self, media: &mut M) -> Result<(), FenceFailed>
-        requires within { (line : ℕ) → IsAsked (cell_at self.old.lines line) → line < (M.state media.old).size }
+        requires within { (line : ℕ) → IsAsked (cell_at self.old.lines line) → line < M.size media.old }
 
         // Where the image is modelled, it and the cache are those of the machine.
         ensures operated { OnOk result (IfModelled (M.state media.old).image (λ image. IsMachine
@@ -687,7 +687,7 @@ impl HostCache {
         ensures same { ((line : ℕ) → ¬ (IsAsked (cell_at self.old.lines line))) → media.new ≡ media.old }
 
         ensures cause { HasCause (M.state media.old).faults (M.state media.new).faults result }
-        ensures size { (M.state media.new).size ≡ (M.state media.old).size }
+        ensures size { M.size media.new ≡ M.size media.old }
         ensures spare { self.new.spare ≡ self.old.spare }
     {
         match send_asked(&mut self.places, media, self.first_asked, self.last_asked) {
@@ -702,7 +702,7 @@ impl HostCache {
 
     /// Sends a dirty line whole to memory, and makes the line absent: no copy from before is read again.
     pub fn invalidate<M: Media>(&mut self, media: &mut M, line: LineNo) -> Result<(), Failed>
-        requires within { line.0 < (M.state media.old).size }
+        requires within { line.0 < M.size media.old }
 
         ensures cache { OnOk result (self.new.lines ≡ with_cell line.0 Cell.Absent self.old.lines) }
         ensures memory { OnOk result ((M.state media.new).image ≡ option_map
@@ -720,7 +720,7 @@ impl HostCache {
         ensures same { ¬ (IsDirty (cell_at self.old.lines line.0)) → media.new ≡ media.old }
 
         ensures cause { HasCause (M.state media.old).faults (M.state media.new).faults result }
-        ensures size { (M.state media.new).size ≡ (M.state media.old).size }
+        ensures size { M.size media.new ≡ M.size media.old }
         ensures spare { self.old.spare ≤ self.new.spare }
     {
         self.last = drop_line(&mut self.places, self.last, media, line)?;
@@ -729,7 +729,7 @@ impl HostCache {
 
     /// Drops a line, as the machine may: a dirty one is sent whole to memory first.
     pub fn evict<M: Media>(&mut self, media: &mut M, line: LineNo) -> Result<(), Failed>
-        requires within { line.0 < (M.state media.old).size }
+        requires within { line.0 < M.size media.old }
 
         ensures cache { OnOk result (self.new.lines ≡ with_cell line.0 Cell.Absent self.old.lines) }
         ensures memory { OnOk result ((M.state media.new).image ≡ option_map
@@ -747,7 +747,7 @@ impl HostCache {
         ensures same { ¬ (IsDirty (cell_at self.old.lines line.0)) → media.new ≡ media.old }
 
         ensures cause { HasCause (M.state media.old).faults (M.state media.new).faults result }
-        ensures size { (M.state media.new).size ≡ (M.state media.old).size }
+        ensures size { M.size media.new ≡ M.size media.old }
         ensures spare { self.old.spare ≤ self.new.spare }
     {
         self.invalidate(media, line)
@@ -755,7 +755,7 @@ impl HostCache {
 
     /// Sends the masked words of a dirty line to memory, as the machine may. The line stays dirty.
     pub fn leak<M: Media>(&mut self, media: &mut M, line: LineNo, mask: Mask) -> Result<(), Failed>
-        requires within { line.0 < (M.state media.old).size }
+        requires within { line.0 < M.size media.old }
 
         ensures cache { self.new ≡ self.old }
         ensures memory { OnOk result ((M.state media.new).image ≡ option_map
@@ -772,7 +772,7 @@ impl HostCache {
         ensures same { ¬ (IsDirty (cell_at self.old.lines line.0)) → media.new ≡ media.old }
 
         ensures cause { HasCause (M.state media.old).faults (M.state media.new).faults result }
-        ensures size { (M.state media.new).size ≡ (M.state media.old).size }
+        ensures size { M.size media.new ≡ M.size media.old }
     {
         self.last = leak_line(&self.places, self.last, media, line, mask)?;
         Ok(())

@@ -24,8 +24,8 @@ impl HostCache {
         media: &mut M,
         op: Op,
     ) -> Result<Option<u64>, OperationFault>
-        requires within { IsWithin (M.state media.old).size op }
-        requires asked { SendsWithin op (M.state media.old).size self.old.lines }
+        requires within { IsWithin (M.size media.old) op }
+        requires asked { SendsWithin op (M.size media.old) self.old.lines }
 
         // Where the image is modelled, it, the cache and the word are those of the machine.
         ensures operated { OnOk result (IfModelled (M.state media.old).image (λ image.
@@ -40,7 +40,7 @@ impl HostCache {
         ensures word { IfOk result (λ word. word ≡ word_of op self.new.lines) }
         ensures err { OnErr result (LeavesFailed op self.old.lines self.new.lines) }
         ensures line { IfErr result (λ fault. IfMediaFault fault (λ line. IsAtLine op line self.old.lines)) }
-        ensures inside { IfErr result (λ fault. IfMediaFault fault (λ line. line.0 < (M.state media.old).size)) }
+        ensures inside { IfErr result (λ fault. IfMediaFault fault (λ line. line.0 < M.size media.old)) }
         ensures rose { IfErr result (λ fault. IfMediaFault fault (λ line.
             Rose (M.state media.old).faults (M.state media.new).faults)) }
 
@@ -53,7 +53,7 @@ impl HostCache {
         ensures undone { IsErrOf result OperationFault.OutOfMemory → media.new ≡ media.old }
         ensures unchanged { IsErrOf result OperationFault.OutOfMemory → self.new ≡ self.old }
 
-        ensures steady { IsSteady (M.state media.old) (M.state media.new) }
+        ensures steady { IsSteady M.size M.state media.old media.new }
 
         // Only a line that was brought takes a place.
         ensures spare { self.old.spare ≤ self.new.spare + 1 }

@@ -28,7 +28,7 @@ pub(crate) fn renew_in_place<M: Media>(
 ) -> Result<Option<Line>, Failed>
     requires sorted { IsTrue (is_sorted nat_cmp places.old.items) }
     requires stands { IsPlaceOf places.old.items at line.0 }
-    requires within { line.0 < (M.state media.old).size }
+    requires within { line.0 < M.size media.old }
 
     ensures clean { IfOk result (λ renewed. IfSome renewed (λ words.
         ¬ (IsDirty (cell_at (cache_of places.old.items) line.0)))) }
@@ -47,7 +47,7 @@ pub(crate) fn renew_in_place<M: Media>(
     ensures cause { HasCause (M.state media.old).faults (M.state media.new).faults result }
 
     ensures image { (M.state media.new).image ≡ (M.state media.old).image }
-    ensures size { (M.state media.new).size ≡ (M.state media.old).size }
+    ensures size { M.size media.new ≡ M.size media.old }
     ensures sorted { IsTrue (is_sorted nat_cmp places.new.items) }
     ensures capacity { vec_capacity places.new ≡ vec_capacity places.old }
     ensures len { vec_len places.new ≤ vec_len places.old }
@@ -77,7 +77,7 @@ pub(crate) fn bring_to_gap<M: Media>(
 ) -> Result<Line, CacheFault>
     requires sorted { IsTrue (is_sorted nat_cmp places.old.items) }
     requires gap { IsGap places.old.items at line.0 }
-    requires within { line.0 < (M.state media.old).size }
+    requires within { line.0 < M.size media.old }
 
     ensures absent { cell_at (cache_of places.old.items) line.0 ≡ Cell.Absent }
     ensures words { IfOk result (λ words.
@@ -96,7 +96,7 @@ pub(crate) fn bring_to_gap<M: Media>(
     ensures unchanged { IsErrOf result CacheFault.OutOfMemory → places.new.items ≡ places.old.items }
 
     ensures image { (M.state media.new).image ≡ (M.state media.old).image }
-    ensures steady { IsSteady (M.state media.old) (M.state media.new) }
+    ensures steady { IsSteady M.size M.state media.old media.new }
     ensures sorted { IsTrue (is_sorted nat_cmp places.new.items) }
     ensures capacity { vec_capacity places.old ≤ vec_capacity places.new }
     ensures one { vec_len places.new ≤ vec_len places.old + 1 }

@@ -11,7 +11,7 @@ use Rattle.fam_sources.specs.declared.sourced.SourceEnd.{SourceEnd}
 use Rattle.fam_machine.specs.HostMoves.{Evict, Fetch, Leak}
 use Rattle.fam_base.specs.declared.line.LineNo.{LineNo}
 use Rattle.fam_base.specs.declared.line.Mask.{Mask}
-use Rattle.fam_media.specs.States.{ShelfChange}
+use Rattle.fam_media.specs.States.{MediaChange, ShelfChange}
 use Rattle.fam_journal.specs.declared.event.Ask.{Ask}
 use Rattle.fam_journal.specs.declared.event.Event.{Event}
 use Rattle.fam_journal.specs.declared.event.Event.TheVariants as event
@@ -46,7 +46,7 @@ use Rattle.fam_events.specs.Happens.{EventDone, EventEnded, EventPart, EventSays
 
 -- a form of notes that is as strong
 pub adds_as : (P Q : ℕ → List HostForm → List Note → Type 0) (a : Around) → ((lines : ℕ) (hosts : List HostForm) (notes : List Note) → P lines hosts notes → Q lines hosts notes) → AddsForm P a → AddsForm Q a
-adds_as P Q a weaker x = record { notes = x.notes; joined = x.joined; named = x.named; counted = x.counted; later = x.later; fits = x.fits; formed = x.formed; form = weaker a.media.old.size (forms_of a.old.journal) x.notes x.form }
+adds_as P Q a weaker x = record { notes = x.notes; joined = x.joined; named = x.named; counted = x.counted; later = x.later; fits = x.fits; formed = x.formed; form = weaker a.lines (forms_of a.old.journal) x.notes x.form }
 
 pub keeps_as : (P Q : Files → Session → List Note → Session → Type 0) (a : Around) → ((files : Files) (old : Session) (notes : List Note) (new : Session) → old.copied ≡ a.copied → P files old notes new → Q files old notes new) → Told (λ files start. Keeps (P files) start) a → Told (λ files start. Keeps (Q files) start) a
 keeps_as P Q a weaker x start files state files_are told_is held =
@@ -276,12 +276,15 @@ with_lines n m same name what shelf old new told faults files copied now r says 
 -- A run: it begins, and then a finish goes on from there.
 
 module _ (name : List ℕ) (what : Ask) (lines : ℕ) (old mid new : WorldView) (told told_now : Option Image) (faults faults_now : ℕ) (files : Option Files) (copied now : ℕ) (formed : IsFormed old) (begun : AskBegun name what (asking lines old mid told faults files copied now)) (modelled : IfModelled told (λ image. length image ≡ lines)) where
+  abbrev over : MediaChange
+  over = record { old = record { image = told; faults = faults }; new = record { image = told_now; faults = faults_now } }
+
   -- from the mid on, and all of it
   abbrev b : Around
-  b = record { lines = lines; old = mid; new = new; told = told; told_now = told_now; faults = faults; faults_now = faults_now; files = files; copied = now; copied_now = now }
+  b = record { lines = lines; old = mid; new = new; media = over; files = files; copied = now; copied_now = now }
 
   abbrev a : Around
-  a = record { lines = lines; old = old; new = new; told = told; told_now = told_now; faults = faults; faults_now = faults_now; files = files; copied = copied; copied_now = now }
+  a = record { lines = lines; old = old; new = new; media = over; files = files; copied = copied; copied_now = now }
 
   abbrev forms : List HostForm
   forms = forms_of old.journal

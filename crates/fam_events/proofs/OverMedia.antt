@@ -45,9 +45,9 @@ no_break (call.Halts name) lines hosts notes other is = absurd is
 no_break (call.Moves name line move) lines hosts notes other is = absurd is
 no_break (call.Refuses name cause) lines hosts notes other is = absurd is
 
-module _ (c : Call) (a : Around) (formed : IsFormed a.old) (fits : FitsMedia a.media.old.size a.old.hosts) where
+module _ (c : Call) (a : Around) (formed : IsFormed a.old) (fits : FitsMedia a.lines a.old.hosts) where
   -- notes that are added, of a form
-  pub added : (form : ℕ → List HostForm → List Note → Type 0) (adds : Adds a.media.old.size a.media.old.faults a.media.new.faults a.old a.new) → form a.media.old.size (forms_of a.old.journal) adds.notes → AddsForm form a
+  pub added : (form : ℕ → List HostForm → List Note → Type 0) (adds : Adds a.lines a.media.old.faults a.media.new.faults a.old a.new) → form a.lines (forms_of a.old.journal) adds.notes → AddsForm form a
   added form adds is = record {
     notes = adds.notes;
     joined = adds.joined;
@@ -60,12 +60,12 @@ module _ (c : Call) (a : Around) (formed : IsFormed a.old) (fits : FitsMedia a.m
   }
 
   -- it did its row, on every media
-  pub answers_form : IsNoMake c → (answered : Option Refusal) (x : Answers c a.media.old.size answered a.media.old.faults a.media.new.faults a.old a.new) → AddsForm (DoesForm c) a
+  pub answers_form : IsNoMake c → (answered : Option Refusal) (x : Answers c a.lines answered a.media.old.faults a.media.new.faults a.old a.new) → AddsForm (DoesForm c) a
   answers_form whole answered x = added (DoesForm c) x.adds (by_form (x.form formed))
     where
-      by_form : CallForm c a.media.old.size (forms_of a.old.journal) x.adds.notes → DoesForm c a.media.old.size (forms_of a.old.journal) x.adds.notes
+      by_form : CallForm c a.lines (forms_of a.old.journal) x.adds.notes → DoesForm c a.lines (forms_of a.old.journal) x.adds.notes
       by_form (inl is) = is
-      by_form (inr none) = no_break c a.media.old.size (forms_of a.old.journal) x.adds.notes whole none
+      by_form (inr none) = no_break c a.lines (forms_of a.old.journal) x.adds.notes whole none
 
   module _ (same : a.copied_now ≡ a.copied) where
     -- and where the image is modelled
@@ -93,17 +93,17 @@ module _ (c : Call) (a : Around) (formed : IsFormed a.old) (fits : FitsMedia a.m
           legal = d.legal;
         }
 
-    pub call_done : IsNoMake c → (answered : Option Refusal) → MediaCall c a.media.old.size answered a.media.old.image a.media.new.image a.media.old.faults a.media.new.faults a.old a.new → CallDone c a
+    pub call_done : IsNoMake c → (answered : Option Refusal) → MediaCall c a.lines answered a.media.old.image a.media.new.image a.media.old.faults a.media.new.faults a.old a.new → CallDone c a
     call_done whole answered x = record { adds = answers_form whole answered x.answers; keeps = row_kept x.keeps }
 
-    pub media_says : IsNoMake c → (called : Result (Unit {0}) WorldFault) → IfAnswered called (λ answered. MediaCall c a.media.old.size answered a.media.old.image a.media.new.image a.media.old.faults a.media.new.faults a.old a.new)
+    pub media_says : IsNoMake c → (called : Result (Unit {0}) WorldFault) → IfAnswered called (λ answered. MediaCall c a.lines answered a.media.old.image a.media.new.image a.media.old.faults a.media.new.faults a.old a.new)
         → (IsErrOf called fault.OutOfMemory → CallPart c a) → CallSays c a (outcome called)
     media_says whole (Ok x) w part = call_done whole None w
     media_says whole (Err (fault.Refused cause)) w part = call_done whole (Some cause) w
     media_says whole (Err fault.OutOfMemory) w part = part refl
 
 -- a finish that found no memory
-pub finish_part : (name : List ℕ) (a : Around) → IsFormed a.old → FitsMedia a.media.old.size a.old.hosts → a.copied_now ≡ a.copied → FinishOutOfMemory name a.media.old.size a.media.old.image a.media.new.image a.media.old.faults a.media.new.faults a.old a.new → CallPart (call.Finishes name) a
+pub finish_part : (name : List ℕ) (a : Around) → IsFormed a.old → FitsMedia a.lines a.old.hosts → a.copied_now ≡ a.copied → FinishOutOfMemory name a.lines a.media.old.image a.media.new.image a.media.old.faults a.media.new.faults a.old a.new → CallPart (call.Finishes name) a
 finish_part name a formed fits same x = record {
   adds = added (call.Finishes name) a formed fits (PartForm (call.Finishes name)) x.adds (x.form formed);
   keeps = part_kept (call.Finishes name) a formed fits same x.parts;
@@ -137,7 +137,7 @@ no_fault : (o : Option Refusal) (at : LineNo) → IfFaultless o → o ≡ Some (
 no_fault None at clean is = absurd cc
 no_fault (Some cause) at clean is = absurd (let same : cause ≡ why.MediaFault at = same_Some cause (why.MediaFault at) is in let one : 1 ≡ 0 = ap cause_faults (sym same) ∙ clean in cc)
 
-module _ (name fs : List ℕ) (unit log : ℕ) (force : Bool) (a : Around) (formed : IsFormed a.old) (fits : FitsMedia a.media.old.size a.old.hosts) (same : a.copied_now ≡ a.copied) where
+module _ (name fs : List ℕ) (unit log : ℕ) (force : Bool) (a : Around) (formed : IsFormed a.old) (fits : FitsMedia a.lines a.old.hosts) (same : a.copied_now ≡ a.copied) where
   abbrev c : Call
   c = call.Makes name fs unit log force
 
@@ -145,51 +145,51 @@ module _ (name fs : List ℕ) (unit log : ℕ) (force : Bool) (a : Around) (form
   forms = forms_of a.old.journal
 
   -- the numbers, or a host with a task: no fault
-  told_clean : IfFaultless (refusal_told c a.media.old.size forms)
+  told_clean : IfFaultless (refusal_told c a.lines forms)
   told_clean =
-      let early = early_refusal unit log (line_bytes * length (shown_forms a.media.old.size forms).memory) in
-      let busy = index_of is_busy (shown_forms a.media.old.size forms).hosts in
-      clean_on (number_of name (shown_forms a.media.old.size forms)) (λ h. makes_told unit log (shown_forms a.media.old.size forms)) (λ h. clean_or (option_map cause_of early) (busy_refusal busy) (clean_early early) (clean_busy busy))
+      let early = early_refusal unit log (line_bytes * length (shown_forms a.lines forms).memory) in
+      let busy = index_of is_busy (shown_forms a.lines forms).hosts in
+      clean_on (number_of name (shown_forms a.lines forms)) (λ h. makes_told unit log (shown_forms a.lines forms)) (λ h. clean_or (option_map cause_of early) (busy_refusal busy) (clean_early early) (clean_busy busy))
 
   -- a fault is no row of its own
-  by_acts : (notes : List Note) (at : LineNo) (h : ℕ) (f : HostForm) → ActsForm c h f a.media.old.size forms notes → refusal_noted notes ≡ Some (why.MediaFault at) → ⊥
+  by_acts : (notes : List Note) (at : LineNo) (h : ℕ) (f : HostForm) → ActsForm c h f a.lines forms notes → refusal_noted notes ≡ Some (why.MediaFault at) → ⊥
   by_acts notes at h f (inl made) said = absurd (let none : None ≡ Some (why.MediaFault at) = ap refusal_noted (sym made) ∙ said in cc)
   by_acts notes at h f (inr x) said = absurd (let other : Some (why.HasSuper x.fs) ≡ Some (why.MediaFault at) = ap refusal_noted (sym x.notes_are) ∙ said in cc)
 
-  by_host : (notes : List Note) (at : LineNo) (h : ℕ) (o : Option HostForm) → OfHostForm o (λ f. ActsForm c h f a.media.old.size forms notes) → refusal_noted notes ≡ Some (why.MediaFault at) → ⊥
+  by_host : (notes : List Note) (at : LineNo) (h : ℕ) (o : Option HostForm) → OfHostForm o (λ f. ActsForm c h f a.lines forms notes) → refusal_noted notes ≡ Some (why.MediaFault at) → ⊥
   by_host notes at h None x said = x
   by_host notes at h (Some f) x said = by_acts notes at h f x said
 
-  by_number : (notes : List Note) (at : LineNo) (o : Option ℕ) → AtForm o forms (λ h f. ActsForm c h f a.media.old.size forms notes) → refusal_noted notes ≡ Some (why.MediaFault at) → ⊥
+  by_number : (notes : List Note) (at : LineNo) (o : Option ℕ) → AtForm o forms (λ h f. ActsForm c h f a.lines forms notes) → refusal_noted notes ≡ Some (why.MediaFault at) → ⊥
   by_number notes at None x said = x
   by_number notes at (Some h) x said = by_host notes at h (slice_get forms h) x said
 
-  by_free : (notes : List Note) (at : LineNo) → FreeForm c a.media.old.size forms notes → refusal_noted notes ≡ Some (why.MediaFault at) → ⊥
-  by_free notes at (inl x) said = by_number notes at (number_of name (shown_forms a.media.old.size forms)) x said
+  by_free : (notes : List Note) (at : LineNo) → FreeForm c a.lines forms notes → refusal_noted notes ≡ Some (why.MediaFault at) → ⊥
+  by_free notes at (inl x) said = by_number notes at (number_of name (shown_forms a.lines forms)) x said
   by_free notes at (inr x) said = absurd (let other : Some (why.Dirty (record { 0 = x.dirty })) ≡ Some (why.MediaFault at) = ap refusal_noted (sym x.notes_are) ∙ said in cc)
 
-  by_refusal : (notes : List Note) (at : LineNo) (o : Option Refusal) → IfFaultless o → FormByRefusal name o notes (FreeForm c a.media.old.size forms notes) → refusal_noted notes ≡ Some (why.MediaFault at) → ⊥
+  by_refusal : (notes : List Note) (at : LineNo) (o : Option Refusal) → IfFaultless o → FormByRefusal name o notes (FreeForm c a.lines forms notes) → refusal_noted notes ≡ Some (why.MediaFault at) → ⊥
   by_refusal notes at None clean x said = by_free notes at x said
   by_refusal notes at (Some cause) clean x said = no_fault (Some cause) at clean (ap refusal_noted (sym x) ∙ said)
 
   -- a fault that is answered cuts it
-  broken_form : (at : LineNo) (notes : List Note) → CallForm c a.media.old.size forms notes → Some (why.MediaFault at) ≡ refusal_noted notes → BreaksForm c a.media.old.size forms notes
+  broken_form : (at : LineNo) (notes : List Note) → CallForm c a.lines forms notes → Some (why.MediaFault at) ≡ refusal_noted notes → BreaksForm c a.lines forms notes
   broken_form at notes (inr x) said = x
-  broken_form at notes (inl x) said = absurd (by_refusal notes at (refusal_told c a.media.old.size forms) told_clean x (sym said))
+  broken_form at notes (inl x) said = absurd (by_refusal notes at (refusal_told c a.lines forms) told_clean x (sym said))
 
   -- and another answer doesn't
-  whole_form : (answered : Option Refusal) (notes : List Note) → IfFaultless answered → CallForm c a.media.old.size forms notes → answered ≡ refusal_noted notes → DoesForm c a.media.old.size forms notes
+  whole_form : (answered : Option Refusal) (notes : List Note) → IfFaultless answered → CallForm c a.lines forms notes → answered ≡ refusal_noted notes → DoesForm c a.lines forms notes
   whole_form answered notes clean (inl x) said = x
   whole_form answered notes clean (inr x) said = absurd (no_fault answered (record { 0 = x.1.0 }) clean (said ∙ ap refusal_noted x.1.1))
 
-  make_done : (answered : Option Refusal) → IfFaultless answered → Answers c a.media.old.size answered a.media.old.faults a.media.new.faults a.old a.new → ((start : Image) → CallKeeps c start a.media.old.image a.media.new.image a.old a.new) → CallDone c a
+  make_done : (answered : Option Refusal) → IfFaultless answered → Answers c a.lines answered a.media.old.faults a.media.new.faults a.old a.new → ((start : Image) → CallKeeps c start a.media.old.image a.media.new.image a.old a.new) → CallDone c a
   make_done answered clean x keeps = record {
     adds = added c a formed fits (DoesForm c) x.adds (whole_form answered x.adds.notes clean (x.form formed) x.said);
     keeps = row_kept c a formed fits same keeps;
   }
 
   abbrev Made : Option Refusal → Type 0
-  Made answered = MakeCall c a.media.old.size answered a.media.old.image a.media.new.image a.media.old.faults a.media.new.faults a.old a.new
+  Made answered = MakeCall c a.lines answered a.media.old.image a.media.new.image a.media.old.faults a.media.new.faults a.old a.new
 
   refused_says : (cause : Refusal) → Made (Some cause) → CallSays c a (broken_by cause)
   refused_says why.NoHost w = make_done (Some why.NoHost) refl w.answers w.leaves

@@ -90,14 +90,14 @@ module _ (a : Around) (still : IsStill a) where
   same_journal : a.new.journal ≡ a.old.journal ++ []
   same_journal = ap (λ (z : WorldView). z.journal) still.world ∙ sym (append-nil a.old.journal)
 
-  pub still_adds : (form : ℕ → List HostForm → List Note → Type 0) → IsFormed a.old → FitsMedia a.media.old.size a.old.hosts → form a.media.old.size (forms_of a.old.journal) [] → AddsForm form a
+  pub still_adds : (form : ℕ → List HostForm → List Note → Type 0) → IsFormed a.old → FitsMedia a.lines a.old.hosts → form a.lines (forms_of a.old.journal) [] → AddsForm form a
   still_adds form formed fits is = record {
     notes = [];
     joined = same_journal;
     named = tt;
     counted = let same = still.count in omega (arith, same);
     later = let same = still.count in omega (arith, same);
-    fits = subst (λ (z : WorldView). FitsMedia a.media.old.size z.hosts) (sym still.world) fits;
+    fits = subst (λ (z : WorldView). FitsMedia a.lines z.hosts) (sym still.world) fits;
     formed = subst IsFormed (sym still.world) formed;
     form = is;
   }
@@ -115,9 +115,9 @@ module _ (a : Around) (still : IsStill a) where
     held = subst (λ (z : WorldView). Held start state z state.memory) (sym still.world) held;
   }
 
-  pub still_part : (c : Call) → IsFormed a.old → FitsMedia a.media.old.size a.old.hosts → CallPart c a
+  pub still_part : (c : Call) → IsFormed a.old → FitsMedia a.lines a.old.hosts → CallPart c a
   still_part c formed fits = record {
-    adds = still_adds (PartForm c) formed fits (nothing_form c a.media.old.size (forms_of a.old.journal));
+    adds = still_adds (PartForm c) formed fits (nothing_form c a.lines (forms_of a.old.journal));
     keeps = still_keeps (λ files. CallsPart c) (λ files start state files_are told_is held. (nothing_part c state, refl));
   }
 

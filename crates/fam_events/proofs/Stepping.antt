@@ -54,14 +54,14 @@ free_of c lines before now old new a = go (refusal_in c old lines) refl
 
 -- a step from a world to the next
 abbrev pub next_of : Around → WorldView → Option Image → ℕ → Around
-next_of a new told faults = record a { new = new; told_now = told; faults_now = faults }
+next_of a new told faults = record a { new = new; media = record { old = a.media.old; new = record { image = told; faults = faults } } }
 
-module _ (name : List ℕ) (a : Around) (formed : IsFormed a.old) (fits : FitsMedia a.media.old.size a.old.hosts) where
+module _ (name : List ℕ) (a : Around) (formed : IsFormed a.old) (fits : FitsMedia a.lines a.old.hosts) where
   abbrev forms : List HostForm
   forms = forms_of a.old.journal
 
   -- before the first one
-  start_stepped : (at : ℕ) → number_in name a.old ≡ Some at → refusal_in (call.Steps name) a.old a.media.old.size ≡ None → runs_form (slice_get forms at) ≡ true → IsStill a → Stepped name at 0 true a
+  start_stepped : (at : ℕ) → number_in name a.old ≡ Some at → refusal_in (call.Steps name) a.old a.lines ≡ None → runs_form (slice_get forms at) ≡ true → IsStill a → Stepped name at 0 true a
   start_stepped at number free runs still = record {
     first = number;
     free = free;
@@ -78,34 +78,34 @@ module _ (name : List ℕ) (a : Around) (formed : IsFormed a.old) (fits : FitsMe
     runs_now : runs_form (slice_get (forms_of a.new.journal) at) ≡ true
     runs_now = ap (λ (fs : List HostForm). runs_form (slice_get fs at)) now_forms ∙ s.adds.form.runs_is
 
-    free_now : refusal_in (call.Steps name) a.new a.media.old.size ≡ None
-    free_now = runs_free a.media.old.size a.new s.adds.formed name at s.number runs_now
+    free_now : refusal_in (call.Steps name) a.new a.lines ≡ None
+    free_now = runs_free a.lines a.new s.adds.formed name at s.number runs_now
 
     -- the form of one step
     record OneForm (notes : List Note) : Type 0 where
       operations : OperationsForm at (forms_of a.new.journal) notes
       short : length notes ≤ 1
 
-    one_form : (notes : List Note) → CallForm (call.Steps name) a.media.old.size (forms_of a.new.journal) notes → OneForm notes
+    one_form : (notes : List Note) → CallForm (call.Steps name) a.lines (forms_of a.new.journal) notes → OneForm notes
     one_form notes (inr none) = absurd none
     one_form notes (inl form) =
         by_form (slice_get (forms_of a.new.journal) at)
-        (subst (λ (o : Option ℕ). AtForm o (forms_of a.new.journal) (λ h f. ActsForm (call.Steps name) h f a.media.old.size (forms_of a.new.journal) notes)) (sym (number_formed a.media.old.size a.new s.adds.formed name) ∙ s.number)
-        (subst (λ (r : Option Refusal). FormByRefusal name r notes (FreeForm (call.Steps name) a.media.old.size (forms_of a.new.journal) notes)) (sym (refusal_formed a.media.old.size a.new s.adds.formed (call.Steps name) tt) ∙ free_now) form))
+        (subst (λ (o : Option ℕ). AtForm o (forms_of a.new.journal) (λ h f. ActsForm (call.Steps name) h f a.lines (forms_of a.new.journal) notes)) (sym (number_formed a.lines a.new s.adds.formed name) ∙ s.number)
+        (subst (λ (r : Option Refusal). FormByRefusal name r notes (FreeForm (call.Steps name) a.lines (forms_of a.new.journal) notes)) (sym (refusal_formed a.lines a.new s.adds.formed (call.Steps name) tt) ∙ free_now) form))
       where
-        by_form : (o : Option HostForm) → OfHostForm o (λ f. ActsForm (call.Steps name) at f a.media.old.size (forms_of a.new.journal) notes) → OneForm notes
+        by_form : (o : Option HostForm) → OfHostForm o (λ f. ActsForm (call.Steps name) at f a.lines (forms_of a.new.journal) notes) → OneForm notes
         by_form None none = absurd none
         by_form (Some f) x = record { operations = x.0; short = x.1 }
 
     -- its row is an operation
-    one_operation : (start : Image) (state : Machines) → Held start state a.new state.memory → length state.memory ≡ a.media.old.size → (notes : List Note) (left : Machines) → Does (call.Steps name) state notes left → Operation at state notes left
+    one_operation : (start : Image) (state : Machines) → Held start state a.new state.memory → length state.memory ≡ a.lines → (notes : List Note) (left : Machines) → Does (call.Steps name) state notes left → Operation at state notes left
     one_operation start state held lines_are notes left row =
-        let free : refusal_of (call.Steps name) state ≡ None = first_refusal start state a.new held (call.Steps name) a.media.old.size lines_are ∙ free_now in
+        let free : refusal_of (call.Steps name) state ≡ None = first_refusal start state a.new held (call.Steps name) a.lines lines_are ∙ free_now in
         let number : number_of name state ≡ Some at = number_shown (length start) state a.new name held.stands ∙ s.number in
         by_host (call.Steps name) state left notes (subst (λ (o : Option Refusal). ByRefusal name o notes state left (Acts (call.Steps name) state notes left)) free row)
         (λ h host h_is host_is op. subst (λ (k : ℕ). Operation k state notes left) (same_Some h at (sym h_is ∙ number)) op)
 
-    module _ (modelled : IfModelled a.media.new.image (λ image. length image ≡ a.media.old.size)) (over : Bool) (new : WorldView) (told : Option Image) (faults : ℕ) (w : StepCall name a.media.old.size None over a.media.new.image told a.media.new.faults faults a.new new) where
+    module _ (modelled : IfModelled a.media.new.image (λ image. length image ≡ a.lines)) (over : Bool) (new : WorldView) (told : Option Image) (faults : ℕ) (w : StepCall name a.lines None over a.media.new.image told a.media.new.faults faults a.new new) where
       abbrev more : List Note
       more = w.answers.answers.adds.notes
 
@@ -149,7 +149,7 @@ module _ (name : List ℕ) (a : Around) (formed : IsFormed a.old) (fits : FitsMe
           keeps start files state files_are told_is held =
               let k = s.keeps start files state files_are told_is held in
               let d = w.keeps start k.comes.last.machines k.comes.told_is k.held in
-              let lines_are : length k.comes.last.machines.memory ≡ a.media.old.size = modelled k.comes.last.machines.memory k.comes.told_is in
+              let lines_are : length k.comes.last.machines.memory ≡ a.lines = modelled k.comes.last.machines.memory k.comes.told_is in
               let op = one_operation start k.comes.last.machines k.held lines_are d.notes d.state d.row in
               let busy = busy_is start k.comes.last.machines a.new k.held s.adds.formed at ∙ runs_now in
               record {
@@ -166,28 +166,28 @@ module _ (name : List ℕ) (a : Around) (formed : IsFormed a.old) (fits : FitsMe
   -- Steps, one behind another.
 
   -- one more step of what was done so far
-  pub next_so_far : (count : ℕ) → StepsSoFar name count a → IfModelled a.media.new.image (λ image. length image ≡ a.media.old.size) → (over : Bool) (new : WorldView) (told : Option Image) (faults : ℕ) → StepCall name a.media.old.size None over a.media.new.image told a.media.new.faults faults a.new new
+  pub next_so_far : (count : ℕ) → StepsSoFar name count a → IfModelled a.media.new.image (λ image. length image ≡ a.lines) → (over : Bool) (new : WorldView) (told : Option Image) (faults : ℕ) → StepCall name a.lines None over a.media.new.image told a.media.new.faults faults a.new new
       → (at : ℕ) × Stepped name at (suc count) (not over) (next_of a new told faults)
   next_so_far count (inr x) modelled over new told faults w = (x.0, more_stepped x.0 count x.1 modelled over new told faults w)
   next_so_far count (inl x) modelled over new told faults w =
-      let free : refusal_in (call.Steps name) a.old a.media.old.size ≡ None =
-      subst (λ (z : WorldView). refusal_in (call.Steps name) z a.media.old.size ≡ None) x.1.world (free_of (call.Steps name) a.media.old.size a.media.new.faults faults a.new new w.answers.answers) in
-      let r = free_runs a.media.old.size a.old formed name free in
+      let free : refusal_in (call.Steps name) a.old a.lines ≡ None =
+      subst (λ (z : WorldView). refusal_in (call.Steps name) z a.lines ≡ None) x.1.world (free_of (call.Steps name) a.lines a.media.new.faults faults a.new new w.answers.answers) in
+      let r = free_runs a.lines a.old formed name free in
       (r.0, subst (λ (n : ℕ). Stepped name r.0 (suc n) (not over) (next_of a new told faults)) (sym x.0) (more_stepped r.0 0 (start_stepped r.0 r.1 free r.2 x.1) modelled over new told faults w))
 
-  module _ (at count : ℕ) (runs : Bool) (s : Stepped name at count runs a) (modelled : IfModelled a.media.old.image (λ image. length image ≡ a.media.old.size)) where
-    steps_form : (limit : ℕ) → count ≤ limit → StepsForm limit name a.media.old.size forms s.adds.notes
+  module _ (at count : ℕ) (runs : Bool) (s : Stepped name at count runs a) (modelled : IfModelled a.media.old.image (λ image. length image ≡ a.lines)) where
+    steps_form : (limit : ℕ) → count ≤ limit → StepsForm limit name a.lines forms s.adds.notes
     steps_form limit within = record {
       host = at;
-      number = sym (number_formed a.media.old.size a.old formed name) ∙ s.first;
+      number = sym (number_formed a.lines a.old formed name) ∙ s.first;
       operations = s.adds.form.operations;
       within = let x = s.adds.form.within in omega (arith, x, within);
     }
 
-    part_form : runs ≡ true → SomeForm name a.media.old.size forms s.adds.notes
+    part_form : runs ≡ true → SomeForm name a.lines forms s.adds.notes
     part_form runs_on = record {
       host = at;
-      number = sym (number_formed a.media.old.size a.old formed name) ∙ s.first;
+      number = sym (number_formed a.lines a.old formed name) ∙ s.first;
       part = record { operations = s.adds.form.operations; runs = s.adds.form.runs_is ∙ runs_on };
     }
 
@@ -198,9 +198,9 @@ module _ (name : List ℕ) (a : Around) (formed : IsFormed a.old) (fits : FitsMe
         ∙ ap (λ (fs : List HostForm). runs_form (slice_get fs at)) (ap forms_of s.adds.joined ∙ forms_both [] a.old.journal s.adds.notes)
         ∙ s.adds.form.runs_is
 
-    told_free : on_host (number_of name (shown_forms a.media.old.size forms)) (λ h. idle_refusal h (shown_forms a.media.old.size forms)) ≡ None
+    told_free : on_host (number_of name (shown_forms a.lines forms)) (λ h. idle_refusal h (shown_forms a.lines forms)) ≡ None
     unfolding refusal_of
-    told_free = sym (refusal_formed a.media.old.size a.old formed (call.Steps name) tt) ∙ s.free
+    told_free = sym (refusal_formed a.lines a.old formed (call.Steps name) tt) ∙ s.free
 
     module _ (start : Image) (state : Machines) (told_is : a.media.old.image ≡ Some state.memory) (held : Held start state a.old state.memory) where
       number_is : number_of name state ≡ Some at
@@ -210,7 +210,7 @@ module _ (name : List ℕ) (a : Around) (formed : IsFormed a.old) (fits : FitsMe
       unfolding refusal_of
       not_idle =
           sym (ap (λ (o : Option ℕ). on_host o (λ h. idle_refusal h state)) number_is)
-          ∙ first_refusal start state a.old held (call.Steps name) a.media.old.size (modelled state.memory told_is)
+          ∙ first_refusal start state a.old held (call.Steps name) a.lines (modelled state.memory told_is)
           ∙ s.free
 
     -- memory ran out behind these, and the task runs on
@@ -243,7 +243,7 @@ module _ (name : List ℕ) (a : Around) (formed : IsFormed a.old) (fits : FitsMe
         later = s.adds.later;
         fits = s.adds.fits;
         formed = s.adds.formed;
-        form = subst (λ (o : Option Refusal). FormByRefusal name o s.adds.notes (StepsForm limit name a.media.old.size forms s.adds.notes)) (sym told_free) (steps_form limit within);
+        form = subst (λ (o : Option Refusal). FormByRefusal name o s.adds.notes (StepsForm limit name a.lines forms s.adds.notes)) (sym told_free) (steps_form limit within);
       };
       keeps = λ start files state files_are told_is held.
           let k = s.keeps start files state files_are told_is held in
@@ -263,12 +263,12 @@ module _ (name : List ℕ) (a : Around) (formed : IsFormed a.old) (fits : FitsMe
     }
 
   -- all are done
-  pub all_done : (limit : ℕ) → 0 < limit → StepsSoFar name limit a → IfModelled a.media.old.image (λ image. length image ≡ a.media.old.size) → a.copied_now ≡ a.copied → EventDone (Step name limit) a
+  pub all_done : (limit : ℕ) → 0 < limit → StepsSoFar name limit a → IfModelled a.media.old.image (λ image. length image ≡ a.lines) → a.copied_now ≡ a.copied → EventDone (Step name limit) a
   all_done limit some (inl x) modelled copied = absurd (let none = x.0 in omega (arith, some, none))
   all_done limit some (inr x) modelled copied = done_event x.0 limit true x.1 modelled limit (omega arith) (λ start files state files_are told_is held k. k.comes.does.0) copied
 
   -- the task has answered
-  pub answered_done : (limit at count : ℕ) → suc count ≤ limit → Stepped name at (suc count) false a → IfModelled a.media.old.image (λ image. length image ≡ a.media.old.size) → a.copied_now ≡ a.copied → EventDone (Step name limit) a
+  pub answered_done : (limit at count : ℕ) → suc count ≤ limit → Stepped name at (suc count) false a → IfModelled a.media.old.image (λ image. length image ≡ a.lines) → a.copied_now ≡ a.copied → EventDone (Step name limit) a
   answered_done limit at count within s modelled copied =
       done_event at (suc count) false s modelled limit within
       (λ start files state files_are told_is held k.
@@ -277,7 +277,7 @@ module _ (name : List ℕ) (a : Around) (formed : IsFormed a.old) (fits : FitsMe
       copied
 
   -- no memory was left for the next one
-  pub wanting : (limit count : ℕ) → count ≤ limit → StepsSoFar name count a → IfModelled a.media.old.image (λ image. length image ≡ a.media.old.size) → EventPart (Step name limit) a
+  pub wanting : (limit count : ℕ) → count ≤ limit → StepsSoFar name count a → IfModelled a.media.old.image (λ image. length image ≡ a.lines) → EventPart (Step name limit) a
   wanting limit count within (inr x) modelled = part_event x.0 count true x.1 modelled limit within refl
   wanting limit count within (inl x) modelled = record {
     adds = still_adds a x.1 (FormOfPart (Step name limit)) formed fits (inl refl);
@@ -285,23 +285,23 @@ module _ (name : List ℕ) (a : Around) (formed : IsFormed a.old) (fits : FitsMe
   }
 
   -- it was refused at once
-  module _ (cause : Refusal) (new : WorldView) (told : Option Image) (faults : ℕ) (still : IsStill a) (w : StepCall name a.media.old.size (Some cause) false a.media.new.image told a.media.new.faults faults a.new new) (modelled : IfModelled a.media.old.image (λ image. length image ≡ a.media.old.size)) (limit : ℕ) where
-    first_cause : (own : Refusal) × (refusal_in (call.Steps name) a.new a.media.old.size ≡ Some own)
-    first_cause = go (refusal_in (call.Steps name) a.new a.media.old.size) refl
+  module _ (cause : Refusal) (new : WorldView) (told : Option Image) (faults : ℕ) (still : IsStill a) (w : StepCall name a.lines (Some cause) false a.media.new.image told a.media.new.faults faults a.new new) (modelled : IfModelled a.media.old.image (λ image. length image ≡ a.lines)) (limit : ℕ) where
+    first_cause : (own : Refusal) × (refusal_in (call.Steps name) a.new a.lines ≡ Some own)
+    first_cause = go (refusal_in (call.Steps name) a.new a.lines) refl
       where
-        go : (o : Option Refusal) → refusal_in (call.Steps name) a.new a.media.old.size ≡ o → (own : Refusal) × (refusal_in (call.Steps name) a.new a.media.old.size ≡ Some own)
+        go : (o : Option Refusal) → refusal_in (call.Steps name) a.new a.lines ≡ o → (own : Refusal) × (refusal_in (call.Steps name) a.new a.lines ≡ Some own)
         go None is = absurd (w.answers.answers.free cause is refl)
         go (Some own) is = (own, is)
 
     abbrev own : Refusal
     own = first_cause.0
 
-    old_first : refusal_in (call.Steps name) a.old a.media.old.size ≡ Some own
-    old_first = subst (λ (z : WorldView). refusal_in (call.Steps name) z a.media.old.size ≡ Some own) still.world first_cause.1
+    old_first : refusal_in (call.Steps name) a.old a.lines ≡ Some own
+    old_first = subst (λ (z : WorldView). refusal_in (call.Steps name) z a.lines ≡ Some own) still.world first_cause.1
 
-    told_first : on_host (number_of name (shown_forms a.media.old.size forms)) (λ h. idle_refusal h (shown_forms a.media.old.size forms)) ≡ Some own
+    told_first : on_host (number_of name (shown_forms a.lines forms)) (λ h. idle_refusal h (shown_forms a.lines forms)) ≡ Some own
     unfolding refusal_of
-    told_first = sym (refusal_formed a.media.old.size a.old formed (call.Steps name) tt) ∙ old_first
+    told_first = sym (refusal_formed a.lines a.old formed (call.Steps name) tt) ∙ old_first
 
     abbrev b : Around
     b = next_of a new told faults
@@ -324,14 +324,14 @@ module _ (name : List ℕ) (a : Around) (formed : IsFormed a.old) (fits : FitsMe
             named = subst (λ (n : ℕ). AreNamed n adds.notes) (count_kept new.hosts a.new.hosts adds.hosts ∙ ap (λ (z : WorldView). length z.hosts) still.world) adds.named;
             counted = let same = still.count in let x = adds.counted in omega (arith, x, same);
             later = let same = still.count in let x = adds.later in omega (arith, x, same);
-            fits = adds.fits (subst (λ (z : WorldView). FitsMedia a.media.old.size z.hosts) (sym still.world) fits);
+            fits = adds.fits (subst (λ (z : WorldView). FitsMedia a.lines z.hosts) (sym still.world) fits);
             formed = adds.formed (subst IsFormed (sym still.world) formed);
-            form = subst (λ (o : Option Refusal). FormByRefusal name o adds.notes (StepsForm limit name a.media.old.size forms adds.notes)) (sym told_first) notes_are;
+            form = subst (λ (o : Option Refusal). FormByRefusal name o adds.notes (StepsForm limit name a.lines forms adds.notes)) (sym told_first) notes_are;
           };
           keeps = λ start files state files_are told_is held.
               let here : Held start state a.new state.memory = subst (λ (z : WorldView). Held start state z state.memory) (sym still.world) held in
               let d = w.keeps start state (still.media ∙ told_is) here in
-              let is : refusal_of (call.Steps name) state ≡ Some own = first_refusal start state a.old held (call.Steps name) a.media.old.size (modelled state.memory told_is) ∙ old_first in
+              let is : refusal_of (call.Steps name) state ≡ Some own = first_refusal start state a.old held (call.Steps name) a.lines (modelled state.memory told_is) ∙ old_first in
               let r = refused_row state d.notes d.state is d.row in
               record {
                 comes = record {

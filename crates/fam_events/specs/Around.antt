@@ -17,6 +17,7 @@ use Rattle.fam_journal.specs.View.{WorldView}
 -- the media's image and the shelf's files are told where they are modelled; the media's number of lines and its count of
 -- faults always
 pub record Around : Type 0 where
+  pub lines : ℕ
   pub media : MediaChange
   pub old : WorldView
   pub new : WorldView
@@ -27,7 +28,8 @@ pub record Around : Type 0 where
 -- the world may change, and bytes of sources may be read
 abbrev pub asking : ℕ → WorldView → WorldView → Option Image → ℕ → Option Files → ℕ → ℕ → Around
 asking lines old new told faults files copied copied_now = record {
-  media = record { old = record { size = lines; image = told; faults = faults }; new = record { size = lines; image = told; faults = faults } };
+  lines = lines;
+  media = record { old = record { image = told; faults = faults }; new = record { image = told; faults = faults } };
   old = old;
   new = new;
   files = files;
@@ -40,8 +42,9 @@ abbrev pub still : ℕ → WorldView → WorldView → Option Image → ℕ → 
 still lines old new told faults files copied = asking lines old new told faults files copied copied
 
 -- a media and a world, from one state to another, by what the media tells of each
-abbrev pub around : {M : Type 0} → (M → MediaState) → M → M → WorldView → WorldView → Option Files → ℕ → ℕ → Around
-around state media media_now old new files copied copied_now = record {
+abbrev pub around : {M : Type 0} → (M → ℕ) → (M → MediaState) → M → M → WorldView → WorldView → Option Files → ℕ → ℕ → Around
+around size state media media_now old new files copied copied_now = record {
+  lines = size media;
   media = change state media media_now;
   old = old;
   new = new;
@@ -58,9 +61,9 @@ pub record AddsForm (P : ℕ → List HostForm → List Note → Type 0) (a : Ar
   pub named : AreNamed (length a.old.hosts) notes
   pub counted : HasCounted a.media.old.faults a.media.new.faults notes
   pub later : a.media.old.faults ≤ a.media.new.faults
-  pub fits : FitsMedia a.media.old.size a.new.hosts
+  pub fits : FitsMedia a.lines a.new.hosts
   pub formed : IsFormed a.new
-  pub form : P a.media.old.size (forms_of a.old.journal) notes
+  pub form : P a.lines (forms_of a.old.journal) notes
 
 -- Where image and files are modelled: on a state at which the world was held a relation of sessions holds, with the notes that
 -- are added, and the media has its last image.

@@ -47,7 +47,7 @@ pub record AskBegun (name : List ℕ) (what : Ask) (a : Around) : Type 0 where
   pub keeps : Told (λ files start. Keeps (Starts name what a.copied_now files) start) a
   pub number : number_in name a.new ≡ number_in name a.old
   pub count_is : length a.new.hosts ≡ length a.old.hosts
-  pub runs : refusal_in (call.Finishes name) a.new a.media.old.size ≡ None
+  pub runs : refusal_in (call.Finishes name) a.new a.lines ≡ None
 
 -- nothing was done
 abbrev pub Nothing : Session → List Note → Session → Type 0

@@ -20,7 +20,7 @@ DoesCount at count old notes new = DoesOperations at count old.machines notes ne
 -- host `at`, which had a task, did so many operations; it is still the one of this name
 pub record Stepped (name : List ℕ) (at count : ℕ) (runs : Bool) (a : Around) : Type 0 where
   pub first : number_in name a.old ≡ Some at
-  pub free : refusal_in (Steps name) a.old a.media.old.size ≡ None
+  pub free : refusal_in (Steps name) a.old a.lines ≡ None
   pub adds : AddsForm (StepsOn at count runs) a
   pub keeps : Told (λ files start. Keeps (DoesCount at count) start) a
   pub number : number_in name a.new ≡ Some at

@@ -99,10 +99,10 @@ pub(crate) fn make<M: Media>(
     force: bool,
 ) -> Result<(), EventFault>
     requires formed { IsFormed world.old }
-    requires fits { FitsMedia (M.state media.old).size world.old.hosts }
-    ensures says { (files : Option Files) (copied : ℕ) → CallSays (Makes name.now fs unit log force) (around M.state
+    requires fits { FitsMedia (M.size media.old) world.old.hosts }
+    ensures says { (files : Option Files) (copied : ℕ) → CallSays (Makes name.now fs unit log force) (around M.size M.state
         media.old media.new world.old world.new files copied copied) result }
-    ensures size { (M.state media.new).size ≡ (M.state media.old).size }
+    ensures size { M.size media.new ≡ M.size media.old }
 {
     is_uuid(fs);
     made(world.mkfs(media, name, fs, unit, log, force))
@@ -116,12 +116,12 @@ pub(crate) fn finish<M: Media>(
     name: &HostName,
 ) -> Result<(), EventFault>
     requires formed { IsFormed world.old }
-    requires fits { FitsMedia (M.state media.old).size world.old.hosts }
-    ensures says { (files : Option Files) (copied : ℕ) → CallSays (Finishes name.now) (around M.state
+    requires fits { FitsMedia (M.size media.old) world.old.hosts }
+    ensures says { (files : Option Files) (copied : ℕ) → CallSays (Finishes name.now) (around M.size M.state
         media.old media.new world.old world.new files copied copied) result }
     ensures same { OnErr result ((h : ℕ) → number_in name.now world.old ≡ Some h → IsUnstoredAt h world.old
         → IfModelled (M.state media.old).image (λ image. (M.state media.new).image ≡ Some image)) }
-    ensures size { (M.state media.new).size ≡ (M.state media.old).size }
+    ensures size { M.size media.new ≡ M.size media.old }
 {
     noted(world.finish(media, name))
 }
@@ -134,10 +134,10 @@ pub(crate) fn evict<M: Media>(
     line: LineNo,
 ) -> Result<(), EventFault>
     requires formed { IsFormed world.old }
-    requires fits { FitsMedia (M.state media.old).size world.old.hosts }
-    ensures says { (files : Option Files) (copied : ℕ) → CallSays (Moves name.now line.0 how.Evict) (around M.state
+    requires fits { FitsMedia (M.size media.old) world.old.hosts }
+    ensures says { (files : Option Files) (copied : ℕ) → CallSays (Moves name.now line.0 how.Evict) (around M.size M.state
         media.old media.new world.old world.new files copied copied) result }
-    ensures size { (M.state media.new).size ≡ (M.state media.old).size }
+    ensures size { M.size media.new ≡ M.size media.old }
 {
     noted(world.evict(media, name, line))
 }
@@ -151,10 +151,10 @@ pub(crate) fn leak<M: Media>(
     mask: Mask,
 ) -> Result<(), EventFault>
     requires formed { IsFormed world.old }
-    requires fits { FitsMedia (M.state media.old).size world.old.hosts }
-    ensures says { (files : Option Files) (copied : ℕ) → CallSays (Moves name.now line.0 (how.Leak mask.0)) (around M.state
+    requires fits { FitsMedia (M.size media.old) world.old.hosts }
+    ensures says { (files : Option Files) (copied : ℕ) → CallSays (Moves name.now line.0 (how.Leak mask.0)) (around M.size M.state
         media.old media.new world.old world.new files copied copied) result }
-    ensures size { (M.state media.new).size ≡ (M.state media.old).size }
+    ensures size { M.size media.new ≡ M.size media.old }
 {
     noted(world.leak(media, name, line, mask))
 }
@@ -168,10 +168,10 @@ pub(crate) fn fetch<M: Media>(
     mask: Mask,
 ) -> Result<(), EventFault>
     requires formed { IsFormed world.old }
-    requires fits { FitsMedia (M.state media.old).size world.old.hosts }
-    ensures says { (files : Option Files) (copied : ℕ) → CallSays (Moves name.now line.0 (how.Fetch mask.0)) (around M.state
+    requires fits { FitsMedia (M.size media.old) world.old.hosts }
+    ensures says { (files : Option Files) (copied : ℕ) → CallSays (Moves name.now line.0 (how.Fetch mask.0)) (around M.size M.state
         media.old media.new world.old world.new files copied copied) result }
-    ensures size { (M.state media.new).size ≡ (M.state media.old).size }
+    ensures size { M.size media.new ≡ M.size media.old }
 {
     noted(world.fetch(media, name, line, mask))
 }

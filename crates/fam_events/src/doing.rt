@@ -35,9 +35,9 @@ fn begin<M: Media, S: Shelf>(
 ) -> Result<(), EventFault>
     requires sound { IsSoundAsk what }
     requires formed { IsFormed world.old }
-    requires fits { FitsMedia (M.state media.old).size world.old.hosts }
+    requires fits { FitsMedia (M.size media.old) world.old.hosts }
     ensures says { EventSays (event.Begin name what) (change S.state shelf.old shelf.new)
-        (around M.state media.old media.new world.old world.new (S.state shelf.old).files copied.old copied.new) result }
+        (around M.size M.state media.old media.new world.old world.new (S.state shelf.old).files copied.old copied.new) result }
     ensures same { media.new ≡ media.old }
     ensures steady { IsShelfSteady (S.state shelf.old) (S.state shelf.new) }
 {
@@ -59,12 +59,12 @@ fn run<M: Media, S: Shelf>(
 ) -> Result<(), EventFault>
     requires sound { IsSoundAsk what }
     requires formed { IsFormed world.old }
-    requires fits { FitsMedia (M.state media.old).size world.old.hosts }
+    requires fits { FitsMedia (M.size media.old) world.old.hosts }
     ensures says { EventSays (event.Run name what) (change S.state shelf.old shelf.new)
-        (around M.state media.old media.new world.old world.new (S.state shelf.old).files copied.old copied.new) result }
+        (around M.size M.state media.old media.new world.old world.new (S.state shelf.old).files copied.old copied.new) result }
     ensures same { OnErr result (IsRested world.old
         → IfModelled (M.state media.old).image (λ image. (M.state media.new).image ≡ Some image)) }
-    ensures size { (M.state media.new).size ≡ (M.state media.old).size }
+    ensures size { M.size media.new ≡ M.size media.old }
     ensures steady { IsShelfSteady (S.state shelf.old) (S.state shelf.new) }
 {
     match ask(alloc, world, shelf, copied, media.lines(), &name, what) {
@@ -90,15 +90,15 @@ pub fn happen<M: Media, S: Shelf>(
 ) -> Result<(), EventFault>
     requires sound { IsSoundEvent event }
     requires formed { IsFormed world.old }
-    requires fits { FitsMedia (M.state media.old).size world.old.hosts }
+    requires fits { FitsMedia (M.size media.old) world.old.hosts }
     ensures says { EventSays event (change S.state shelf.old shelf.new)
-        (around M.state media.old media.new world.old world.new (S.state shelf.old).files copied.old copied.new) result }
+        (around M.size M.state media.old media.new world.old world.new (S.state shelf.old).files copied.old copied.new) result }
 
     // A run that ends early leaves the image as it was, where no cache had anything to send.
     ensures same { IsRun event → OnErr result (IsRested world.old
         → IfModelled (M.state media.old).image (λ image. (M.state media.new).image ≡ Some image)) }
 
-    ensures size { (M.state media.new).size ≡ (M.state media.old).size }
+    ensures size { M.size media.new ≡ M.size media.old }
     ensures steady { IsShelfSteady (S.state shelf.old) (S.state shelf.new) }
 {
     match event {

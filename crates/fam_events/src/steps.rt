@@ -24,10 +24,10 @@ pub(crate) fn step<M: Media>(
 ) -> Result<(), EventFault>
     requires some { 0 < count }
     requires formed { IsFormed world.old }
-    requires fits { FitsMedia (M.state media.old).size world.old.hosts }
+    requires fits { FitsMedia (M.size media.old) world.old.hosts }
     ensures says { (shelf : ShelfChange) (files : Option Files) (copied : ℕ) → EventSays (Step name.now count) shelf
-        (around M.state media.old media.new world.old world.new files copied copied) result }
-    ensures size { (M.state media.new).size ≡ (M.state media.old).size }
+        (around M.size M.state media.old media.new world.old world.new files copied copied) result }
+    ensures size { M.size media.new ≡ M.size media.old }
 {
     match world.steps(media, name, count) {
         Ok(_) => Ok(()),

@@ -7,9 +7,9 @@ abbrev pub Rose : ℕ → ℕ → Type 0
 Rose before now = (before < now) ⊎ (now ≡ 2 ^ 64 - 1)
 
 -- a media has as many lines as before, and its count of faults did not fall
-pub record IsSteady (old new : MediaState) : Type 0 where
-  pub size : new.size ≡ old.size
-  pub later : old.faults ≤ new.faults
+pub record IsSteady {M : Type 0} (lines : M → ℕ) (state : M → MediaState) (old new : M) : Type 0 where
+  pub size : lines new ≡ lines old
+  pub later : (state old).faults ≤ (state new).faults
 
 -- a shelf's files are as before, and its counts did not fall
 pub record IsShelfSteady (old new : ShelfState) : Type 0 where

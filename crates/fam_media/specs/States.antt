@@ -3,9 +3,8 @@ use Rattle.std.specs.Prelude.{ℕ, List, Option}
 use Rattle.fam_base.specs.Image.{Image}
 use Rattle.fam_media.specs.Files.{Files}
 
--- of a media: how many lines there are, the image, where it is modelled, and how often a call failed
+-- of a media: the image, where it is modelled, and how often a call failed. How many lines there are no call changes
 pub record MediaState : Type 0 where
-  pub size : ℕ
   pub image : Option Image
   pub faults : ℕ
 

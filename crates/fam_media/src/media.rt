@@ -1,6 +1,6 @@
 //! A media: an image of lines that several hosts share.
 
-ghost use Rattle.std.specs.Prelude.{◌≡◌, ◌<◌, ◌≤◌, IfOk, OnOk, OnErr, length};
+ghost use Rattle.std.specs.Prelude.{◌≡◌, ℕ, ◌<◌, ◌≤◌, IfOk, OnOk, OnErr, length};
 ghost use Rattle.std.specs.Option.{option_map};
 ghost use Rattle.fam_base.specs.Image.{IsNormal, eight, line_at, with_line};
 ghost use Rattle.fam_media.specs.Causes.{HasCause};
@@ -18,37 +18,40 @@ pub const MOST_LINES: u64 = 17_179_869_184;
 
 /// Memory that several hosts share, as lines of eight words.
 pub trait Media {
-    /// How many lines there are, the image, where it is modelled, and how often a call failed.
+    /// How many lines there are, also where no image is modelled.
+    ghost size: { Self → ℕ };
+
+    /// The image, where it is modelled, and how often a call failed.
     ghost state: { Self → MediaState };
 
     /// Returns how many lines there are. No call changes this.
     fn lines(&self) -> u64
-        ensures count { result ≡ (state self.now).size }
-        ensures limit { (state self.now).size ≤ MOST_LINES };
+        ensures count { result ≡ size self.now }
+        ensures limit { size self.now ≤ MOST_LINES };
 
     /// Reads a line. No line changes, also where the read fails.
     fn read(&mut self, line: LineNo) -> Result<Line, Failed>
-        requires within { line.0 < (state self.old).size }
+        requires within { line.0 < size self.old }
 
         ensures words { IfOk result
             (λ words. IfModelled (state self.old).image (λ lines. eight words ≡ line_at lines line.0)) }
         ensures same { (state self.new).image ≡ (state self.old).image }
-        ensures size { (state self.new).size ≡ (state self.old).size }
+        ensures size { size self.new ≡ size self.old }
         ensures cause { HasCause (state self.old).faults (state self.new).faults result };
 
     /// Writes a line, and no other one. Where the write fails each word of the line is old or new.
     fn write(&mut self, line: LineNo, words: &Line) -> Result<(), Failed>
-        requires within { line.0 < (state self.old).size }
+        requires within { line.0 < size self.old }
 
         ensures written { OnOk result
             ((state self.new).image ≡ option_map (with_line line.0 words.now) (state self.old).image) }
         ensures torn { OnErr result (IsTorn (state self.old).image (state self.new).image line.0 words.now) }
-        ensures size { (state self.new).size ≡ (state self.old).size }
+        ensures size { size self.new ≡ size self.old }
         ensures cause { HasCause (state self.old).faults (state self.new).faults result };
 
     /// Each line of an image that is modelled has eight words.
     ghost normal: { (m : Self) → IsNormal (state m).image };
 
     /// An image that is modelled has as many lines as the media.
-    ghost modelled: { (m : Self) → IfModelled (state m).image (λ lines. length lines ≡ (state m).size) };
+    ghost modelled: { (m : Self) → IfModelled (state m).image (λ lines. length lines ≡ size m) };
 }

@@ -132,7 +132,9 @@ impl MemMedia {
 }
 
 impl Media for MemMedia {
-    ghost state = { λ m. record { size = length m.image; image = modelled_image m; faults = m.faults } };
+    ghost size = { λ m. length m.image };
+
+    ghost state = { λ m. record { image = modelled_image m; faults = m.faults } };
 
     fn lines(&self) -> u64 {
         self.lines.len() as u64

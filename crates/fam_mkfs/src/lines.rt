@@ -21,7 +21,7 @@ pub struct FailedAt(pub LineNo);
 
 /// Does an operation at one line, where the cache has room for the line that it brings.
 fn operate<M: Media>(cache: &mut HostCache, media: &mut M, op: Op) -> Result<Option<u64>, FailedAt>
-    requires within { IsWithin (M.state media.old).size op }
+    requires within { IsWithin (M.size media.old) op }
     requires one { IsOneLine op }
     requires room { ¬ (BringsNone op cache.old.lines) → 0 < cache.old.spare }
 
@@ -36,9 +36,9 @@ fn operate<M: Media>(cache: &mut HostCache, media: &mut M, op: Op) -> Result<Opt
     ensures spare { cache.old.spare ≤ cache.new.spare + 1 }
     ensures held_spare { BringsNone op cache.old.lines → cache.old.spare ≤ cache.new.spare }
     ensures err_spare { OnErr result (cache.old.spare ≤ cache.new.spare) }
-    ensures within { IfErr result (λ at. at.0.0 < (M.state media.old).size) }
+    ensures within { IfErr result (λ at. at.0.0 < M.size media.old) }
     ensures rose { OnErr result (Rose (M.state media.old).faults (M.state media.new).faults) }
-    ensures steady { IsSteady (M.state media.old) (M.state media.new) }
+    ensures steady { IsSteady M.size M.state media.old media.new }
 {
     match cache.perform(media, op) {
         Ok(word) => Ok(word),
@@ -53,7 +53,7 @@ pub(crate) fn read_line<M: Media>(
     media: &mut M,
     line: LineNo,
 ) -> Result<Line, FailedAt>
-    requires within { line.0 < (M.state media.old).size }
+    requires within { line.0 < M.size media.old }
     requires room { 0 < cache.old.spare }
 
     ensures done { OnOk result (AreDone (load_ops line.0 8)
@@ -66,9 +66,9 @@ pub(crate) fn read_line<M: Media>(
     ensures others { (other : ℕ) → other ≢ line.0
         → cell_at cache.new.lines other ≡ cell_at cache.old.lines other }
     ensures spare { cache.old.spare ≤ cache.new.spare + 1 }
-    ensures within { IfErr result (λ at. at.0.0 < (M.state media.old).size) }
+    ensures within { IfErr result (λ at. at.0.0 < M.size media.old) }
     ensures rose { OnErr result (Rose (M.state media.old).faults (M.state media.new).faults) }
-    ensures steady { IsSteady (M.state media.old) (M.state media.new) }
+    ensures steady { IsSteady M.size M.state media.old media.new }
 {
     operate(cache, media, Op::Invalidate(line))?;
     let mut words = [0; 8];
@@ -86,7 +86,7 @@ pub(crate) fn write_line<M: Media>(
     line: LineNo,
     words: &Line,
 ) -> Result<(), FailedAt>
-    requires within { line.0 < (M.state media.old).size }
+    requires within { line.0 < M.size media.old }
     requires room { ¬ (IsHeld (cell_at cache.old.lines line.0)) → 0 < cache.old.spare }
 
     ensures done { OnOk result (AreDone (put_ops (line.0, words.now))
@@ -98,9 +98,9 @@ pub(crate) fn write_line<M: Media>(
     ensures spare { cache.old.spare ≤ cache.new.spare + 1 }
     ensures held_spare { IsHeld (cell_at cache.old.lines line.0)
         → cache.old.spare ≤ cache.new.spare }
-    ensures within { IfErr result (λ at. at.0.0 < (M.state media.old).size) }
+    ensures within { IfErr result (λ at. at.0.0 < M.size media.old) }
     ensures rose { OnErr result (Rose (M.state media.old).faults (M.state media.new).faults) }
-    ensures steady { IsSteady (M.state media.old) (M.state media.new) }
+    ensures steady { IsSteady M.size M.state media.old media.new }
 {
     for word in 0..8 {
         operate(cache, media, Op::Store(line, word, words[word as usize]))?;

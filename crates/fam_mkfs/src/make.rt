@@ -82,7 +82,7 @@ pub fn refusal(unit: u64, log: u64, have: u64) -> Option<MkfsEnd>
 
 /// Lines 0, 1 and 2.
 fn read_super_lines<M: Media>(cache: &mut HostCache, media: &mut M) -> Result<[Line; 3], FailedAt>
-    requires within { 2 < (M.state media.old).size }
+    requires within { 2 < M.size media.old }
     requires room { 3 ≤ cache.old.spare }
 
     ensures done { OnOk result (AreDone spec.read_ops
@@ -96,9 +96,9 @@ fn read_super_lines<M: Media>(cache: &mut HostCache, media: &mut M) -> Result<[L
     ensures others { (line : ℕ) → IsElsewhere line
         → cell_at cache.new.lines line ≡ cell_at cache.old.lines line }
     ensures spare { OnOk result (cache.old.spare ≤ cache.new.spare + 3) }
-    ensures within { IfErr result (λ at. at.0.0 < (M.state media.old).size) }
+    ensures within { IfErr result (λ at. at.0.0 < M.size media.old) }
     ensures rose { OnErr result (Rose (M.state media.old).faults (M.state media.new).faults) }
-    ensures steady { IsSteady (M.state media.old) (M.state media.new) }
+    ensures steady { IsSteady M.size M.state media.old media.new }
 {
     let magic = read_line(cache, media, LineNo(0))?;
     let first = read_line(cache, media, LineNo(1))?;
@@ -126,7 +126,7 @@ fn write_super<M: Media>(
     media: &mut M,
     params: &Params,
 ) -> Result<(), FailedAt>
-    requires within { least_lines ≤ (M.state media.old).size }
+    requires within { least_lines ≤ M.size media.old }
     requires held { HeldLines cache.old.lines }
     requires room { 3 ≤ cache.old.spare }
 
@@ -136,9 +136,9 @@ fn write_super<M: Media>(
         (over (M.state media.old).image cache.old.lines) (over (M.state media.new).image cache.new.lines)) }
     ensures others { (line : ℕ) → IsElsewhere line
         → cell_at cache.new.lines line ≡ cell_at cache.old.lines line }
-    ensures within { IfErr result (λ at. at.0.0 < (M.state media.old).size) }
+    ensures within { IfErr result (λ at. at.0.0 < M.size media.old) }
     ensures rose { OnErr result (Rose (M.state media.old).faults (M.state media.new).faults) }
-    ensures steady { IsSteady (M.state media.old) (M.state media.new) }
+    ensures steady { IsSteady M.size M.state media.old media.new }
 {
     let [magic, first, second] = Super::spell(params);
     let header = spell_log(params);
@@ -153,15 +153,15 @@ fn write_super<M: Media>(
 
 /// Reads lines 0, 1 and 2, and makes a file system where none stands in the way.
 fn make<M: Media>(cache: &mut HostCache, media: &mut M, params: &Params, force: bool) -> MkfsEnd
-    requires within { least_lines ≤ (M.state media.old).size }
+    requires within { least_lines ≤ M.size media.old }
     requires room { 6 ≤ cache.old.spare }
 
-    ensures ends { MkfsEnds params.now force (M.state media.old).size
+    ensures ends { MkfsEnds params.now force (M.size media.old)
         (over (M.state media.old).image cache.old.lines) (over (M.state media.new).image cache.new.lines)
         (M.state media.old).faults (M.state media.new).faults result }
     ensures others { (line : ℕ) → IsElsewhere line
         → cell_at cache.new.lines line ≡ cell_at cache.old.lines line }
-    ensures steady { IsSteady (M.state media.old) (M.state media.new) }
+    ensures steady { IsSteady M.size M.state media.old media.new }
 {
     let lines = match read_super_lines(cache, media) {
         Ok(lines) => lines,
@@ -192,15 +192,15 @@ pub fn mkfs<M: Media>(
     force: bool,
 ) -> Result<MkfsEnd, OutOfMemory>
     // What is refused at once comes whatever the media and the memory do, and nothing is done.
-    ensures refused { (end : MkfsEnd) → refusals.refusal unit log (line_bytes * (M.state media.old).size) ≡ Some end
+    ensures refused { (end : MkfsEnd) → refusals.refusal unit log (line_bytes * M.size media.old) ≡ Some end
         → result ≡ Ok end }
-    ensures untouched { (end : MkfsEnd) → refusals.refusal unit log (line_bytes * (M.state media.old).size) ≡ Some end
+    ensures untouched { (end : MkfsEnd) → refusals.refusal unit log (line_bytes * M.size media.old) ≡ Some end
         → media.new ≡ media.old }
-    ensures unchanged { (end : MkfsEnd) → refusals.refusal unit log (line_bytes * (M.state media.old).size) ≡ Some end
+    ensures unchanged { (end : MkfsEnd) → refusals.refusal unit log (line_bytes * M.size media.old) ≡ Some end
         → cache.new ≡ cache.old }
 
-    ensures ends { refusals.refusal unit log (line_bytes * (M.state media.old).size) ≡ None → IfOk result
-        (MkfsEnds (spec.asked unit log fs me (M.state media.old).size) force (M.state media.old).size
+    ensures ends { refusals.refusal unit log (line_bytes * M.size media.old) ≡ None → IfOk result
+        (MkfsEnds (spec.asked unit log fs me (M.size media.old)) force (M.size media.old)
         (over (M.state media.old).image cache.old.lines) (over (M.state media.new).image cache.new.lines)
         (M.state media.old).faults (M.state media.new).faults) }
 
@@ -212,7 +212,7 @@ pub fn mkfs<M: Media>(
     ensures undone { OnErr result (media.new ≡ media.old) }
     ensures kept { OnErr result (cache.new ≡ cache.old) }
 
-    ensures steady { IsSteady (M.state media.old) (M.state media.new) }
+    ensures steady { IsSteady M.size M.state media.old media.new }
 {
     let params = asked(unit, log, fs, me, media.lines());
     if let Some(end) = refusal(unit, log, params.device) {

@@ -26,6 +26,7 @@ HasRisen before now = min (before + 1) (2 ^ 64 - 1) ≤ now
 
 -- what media, shelf and sink tell before and after a call of the program
 pub record Outside : Type 0 where
+  pub lines : ℕ
   pub media : MediaChange
   pub shelf : ShelfChange
   pub sink : SinkChange
@@ -101,7 +102,7 @@ pub record RunsOn (ending : Ending) (files : Files) (events : List Event) (start
 pub record HasRun (puts : Ending → List Note → List ℕ → Type 0) (gives : Ending → List Note → Status) (ending : Ending) (out : Outside) (events : List Event) (text : List ℕ) (own : Status) : Type 0 where
   pub journal : List Note
   pub named : NameDeclared 0 journal
-  pub form : EndsForm ending out.media.old.size events [] journal
+  pub form : EndsForm ending out.lines events [] journal
   pub counted : HasCounted out.media.old.faults out.media.new.faults journal
   pub caused : IsCaused ending events journal out
   pub text_is : puts ending journal text

@@ -22,11 +22,11 @@ ending_of fault.OutOfMemory = EndsOutOfMemory
 -- all that a run promises of its journal
 pub record HasEnded (ending : Ending) (out : Outside) (events : List Event) (journal : List Note) : Type 0 where
   pub named : NameDeclared 0 journal
-  pub form : EndsForm ending out.media.old.size events [] journal
+  pub form : EndsForm ending out.lines events [] journal
   pub counted : HasCounted out.media.old.faults out.media.new.faults journal
   pub caused : IsCaused ending events journal out
   pub told : IfModelled out.media.old.image (λ start. IfModelled out.shelf.old.files (λ files. RunsOn ending files events start out.media.new.image journal))
 
 -- what media, shelf and sink tell before and after
-abbrev pub outside_of : {M : Type 0} → (M → MediaState) → M → M → ShelfChange → SinkChange → Outside
-outside_of state before behind shelf sink = record { media = change state before behind; shelf = shelf; sink = sink }
+abbrev pub outside_of : {M : Type 0} → (M → ℕ) → (M → MediaState) → M → M → ShelfChange → SinkChange → Outside
+outside_of size state before behind shelf sink = record { lines = size before; media = change state before behind; shelf = shelf; sink = sink }

@@ -30,9 +30,9 @@ pub(crate) fn run_events<M: Media, S: Shelf>(
 ) -> Result<(), EventFault>
     requires fresh { world.old ≡ empty_world }
     requires sound { AreSoundEvents events.items }
-    ensures ended { (sink : SinkChange) → EventsEnded result (outside_of M.state media.old media.new
+    ensures ended { (sink : SinkChange) → EventsEnded result (outside_of M.size M.state media.old media.new
         (change S.state shelf.old shelf.new) sink) events.items world.new.journal }
-    ensures steady { IsSteady (M.state media.old) (M.state media.new) }
+    ensures steady { IsSteady M.size M.state media.old media.new }
     ensures shelf { IsShelfSteady (S.state shelf.old) (S.state shelf.new) }
 {
     is_image(media);
@@ -58,14 +58,14 @@ pub(crate) fn run_until_stop<M: Media, S: Shelf>(
     requires fresh { world.old ≡ empty_world }
     requires sound { AreSoundEvents events.items }
     requires shot { AreShotEvents events.items }
-    ensures ended { (sink : SinkChange) → ShotEnded result (outside_of M.state media.old media.new
+    ensures ended { (sink : SinkChange) → ShotEnded result (outside_of M.size M.state media.old media.new
         (change S.state shelf.old shelf.new) sink) events.items world.new.journal }
 
     // One command that finds no memory leaves the image, and so does one for whose line there may be none.
     ensures same { IsOneRun events.items → MayLack result world.new.journal → IfModelled (M.state media.old).image (λ start.
         IfModelled (S.state shelf.old).files (λ files. (M.state media.new).image ≡ Some start)) }
 
-    ensures steady { IsSteady (M.state media.old) (M.state media.new) }
+    ensures steady { IsSteady M.size M.state media.old media.new }
     ensures shelf { IsShelfSteady (S.state shelf.old) (S.state shelf.new) }
 {
     is_image(media);

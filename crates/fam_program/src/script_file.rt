@@ -114,9 +114,9 @@ pub fn run_script_file<M: Media, S: Shelf, K: Sink>(
     shelf: &mut S,
     out: &mut K,
 ) -> Status
-    ensures ends { TopEnds script_events storm (Some (Script name.now)) (outside_of M.state media.old media.new
+    ensures ends { TopEnds script_events storm (Some (Script name.now)) (outside_of M.size M.state media.old media.new
         (change S.state shelf.old shelf.new) (change K.state out.old out.new)) result }
-    ensures steady { IsSteady (M.state media.old) (M.state media.new) }
+    ensures steady { IsSteady M.size M.state media.old media.new }
     ensures shelf { IsShelfSteady (S.state shelf.old) (S.state shelf.new) }
     ensures later { (K.state out.old).faults ≤ (K.state out.new).faults }
 {

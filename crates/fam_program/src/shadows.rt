@@ -171,9 +171,9 @@ pub fn write_shadow<M: Media, D: Shade, K: Sink>(
     shade: &mut D,
     out: &mut K,
 ) -> Status
-    ensures ends { ShadowTop (Some me) (outside_of M.state media.old media.new no_files
+    ensures ends { ShadowTop (Some me) (outside_of M.size M.state media.old media.new no_files
         (change K.state out.old out.new)) (change D.state shade.old shade.new) result }
-    ensures steady { IsSteady (M.state media.old) (M.state media.new) }
+    ensures steady { IsSteady M.size M.state media.old media.new }
     ensures shade { D.faults shade.old ≤ D.faults shade.new }
     ensures later { (K.state out.old).faults ≤ (K.state out.new).faults }
 {

@@ -104,10 +104,10 @@ pub fn run_command<M: Media, S: Shelf, K: Sink>(
     out: &mut K,
 ) -> Status
     requires sound { IsSoundAsk ask }
-    ensures ends { TopEnds script_events storm (Some (Single me (Runs ask))) (outside_of M.state
+    ensures ends { TopEnds script_events storm (Some (Single me (Runs ask))) (outside_of M.size M.state
         media.old media.new (change S.state shelf.old shelf.new)
         (change K.state out.old out.new)) result }
-    ensures steady { IsSteady (M.state media.old) (M.state media.new) }
+    ensures steady { IsSteady M.size M.state media.old media.new }
     ensures shelf { IsShelfSteady (S.state shelf.old) (S.state shelf.new) }
     ensures later { (K.state out.old).faults ≤ (K.state out.new).faults }
 {
@@ -136,10 +136,10 @@ pub fn make_file_system<M: Media, S: Shelf, K: Sink>(
     shelf: &mut S,
     out: &mut K,
 ) -> Status
-    ensures ends { TopEnds script_events storm (Some (Single me (Makes fs unit log force))) (outside_of M.state
+    ensures ends { TopEnds script_events storm (Some (Single me (Makes fs unit log force))) (outside_of M.size M.state
         media.old media.new (change S.state shelf.old shelf.new)
         (change K.state out.old out.new)) result }
-    ensures steady { IsSteady (M.state media.old) (M.state media.new) }
+    ensures steady { IsSteady M.size M.state media.old media.new }
     ensures shelf { IsShelfSteady (S.state shelf.old) (S.state shelf.new) }
     ensures later { (K.state out.old).faults ≤ (K.state out.new).faults }
 {
@@ -175,10 +175,10 @@ pub fn make_parents<M: Media, S: Shelf, K: Sink>(
     out: &mut K,
 ) -> Status
     requires mode { attr.mode ≤ mode_limit }
-    ensures ends { TopEnds script_events storm (Some (Single me (MakesParents path.now attr))) (outside_of M.state
+    ensures ends { TopEnds script_events storm (Some (Single me (MakesParents path.now attr))) (outside_of M.size M.state
         media.old media.new (change S.state shelf.old shelf.new)
         (change K.state out.old out.new)) result }
-    ensures steady { IsSteady (M.state media.old) (M.state media.new) }
+    ensures steady { IsSteady M.size M.state media.old media.new }
     ensures shelf { IsShelfSteady (S.state shelf.old) (S.state shelf.new) }
     ensures later { (K.state out.old).faults ≤ (K.state out.new).faults }
 {

@@ -107,10 +107,10 @@ pub fn run_storm<M: Media, S: Shelf, K: Sink>(
     out: &mut K,
 ) -> Status
     requires small { size ≤ 100000 }
-    ensures ends { TopEnds script_events storm_text (Some (Storm seed size prints)) (outside_of M.state
+    ensures ends { TopEnds script_events storm_text (Some (Storm seed size prints)) (outside_of M.size M.state
         media.old media.new (change S.state shelf.old shelf.new)
         (change K.state out.old out.new)) result }
-    ensures steady { IsSteady (M.state media.old) (M.state media.new) }
+    ensures steady { IsSteady M.size M.state media.old media.new }
     ensures shelf { IsShelfSteady (S.state shelf.old) (S.state shelf.new) }
     ensures later { (K.state out.old).faults ≤ (K.state out.new).faults }
 {

@@ -19,15 +19,15 @@ pub record Around : Type 0 where
   pub now : ℕ
 
 -- around a call on a media, of which these tell the image, the size and the count of faults
-abbrev pub around : {M : Type 0} → (M → MediaState) → Task → Task → CacheState → CacheState → M → M → Around
-around state task next old new before after = record {
+abbrev pub around : {M : Type 0} → (M → ℕ) → (M → MediaState) → Task → Task → CacheState → CacheState → M → M → Around
+around size state task next old new before after = record {
   task = task;
   next = next;
   old = old.lines;
   new = new.lines;
   modelled = (state before).image;
   left = (state after).image;
-  size = (state before).size;
+  size = size before;
   before = (state before).faults;
   now = (state after).faults;
 }

@@ -26,7 +26,7 @@ pub(crate) fn compare_next<M: Media>(
     task: &mut Task,
     media: &mut M,
 ) -> Result<Looked, OperationFault>
-    requires lines { task.old.lines ≡ (M.state media.old).size }
+    requires lines { task.old.lines ≡ M.size media.old }
     requires compared { IsCompared task.old }
 
     ensures turned { IfOk result (λ looked. IfDone looked (λ turn. IfModelled (M.state media.old).image (λ image.
@@ -40,7 +40,7 @@ pub(crate) fn compare_next<M: Media>(
     ensures done { IfOk result (λ looked. looked ≢ Looked.Other) }
     ensures copies { OnErr result (cache.new.lines ≡ cache.old.lines) }
     ensures err { OnErr result (task.new ≡ task.old) }
-    ensures inside { IfErr result (λ fault. IfMediaFault fault (λ line. line.0 < (M.state media.old).size)) }
+    ensures inside { IfErr result (λ fault. IfMediaFault fault (λ line. line.0 < M.size media.old)) }
     ensures rose { IfErr result (λ fault. IfMediaFault fault (λ line.
         Rose (M.state media.old).faults (M.state media.new).faults)) }
     ensures within { IsWithin task.old.lines (op_of task.old) }
@@ -49,7 +49,7 @@ pub(crate) fn compare_next<M: Media>(
     ensures unchanged { IsErrOf result OperationFault.OutOfMemory → cache.new ≡ cache.old }
     ensures want { IsErrOf result OperationFault.OutOfMemory → LacksRoom (op_of task.old) task.old cache.old }
     ensures places { ¬ (HasPlaces task.old cache.old) }
-    ensures steady { IsSteady (M.state media.old) (M.state media.new) }
+    ensures steady { IsSteady M.size M.state media.old media.new }
 {
     task.is_sound();
     let op = task.next();

@@ -61,7 +61,7 @@ pub fn look_next<M: Media>(
     task: &mut Task,
     media: &mut M,
 ) -> Result<Looked, OperationFault>
-    requires lines { task.old.lines ≡ (M.state media.old).size }
+    requires lines { task.old.lines ≡ M.size media.old }
 
     ensures turned { IfOk result (λ looked. IfDone looked (λ turn. IfModelled (M.state media.old).image (λ image.
         HasTurned task.old (machine image cache.old.lines) turn task.new (M.state media.new).image cache.new.lines))) }
@@ -74,7 +74,7 @@ pub fn look_next<M: Media>(
     ensures own { IfOk result (λ looked. IfDone looked IsNoFault) }
     ensures copies { OnErr result (cache.new.lines ≡ cache.old.lines) }
     ensures err { OnErr result (task.new ≡ task.old) }
-    ensures inside { IfErr result (λ fault. IfMediaFault fault (λ line. line.0 < (M.state media.old).size)) }
+    ensures inside { IfErr result (λ fault. IfMediaFault fault (λ line. line.0 < M.size media.old)) }
     ensures rose { IfErr result (λ fault. IfMediaFault fault (λ line.
         Rose (M.state media.old).faults (M.state media.new).faults)) }
     ensures within { IsWithin task.old.lines (op_of task.old) }
@@ -88,7 +88,7 @@ pub fn look_next<M: Media>(
     ensures want { IsErrOf result OperationFault.OutOfMemory → LacksRoom (op_of task.old) task.old cache.old }
     ensures places { IfOk result (λ looked. IfDone looked (λ _. ¬ (HasPlaces task.old cache.old))) }
     ensures enough { IsErrOf result OperationFault.OutOfMemory → ¬ (HasPlaces task.old cache.old) }
-    ensures steady { IsSteady (M.state media.old) (M.state media.new) }
+    ensures steady { IsSteady M.size M.state media.old media.new }
 {
     if task.compares() {
         return compare_next(cache, task, media);

@@ -29,8 +29,8 @@ pub fn operate<M: Media>(
     task: &mut Task,
     media: &mut M,
 ) -> Result<Turn, OperationFault>
-    requires lines { task.old.lines ≡ (M.state media.old).size }
-    requires asked { SendsWithin (op_of task.old) (M.state media.old).size cache.old.lines }
+    requires lines { task.old.lines ≡ M.size media.old }
+    requires asked { SendsWithin (op_of task.old) (M.size media.old) cache.old.lines }
 
     // Where an image is modelled, it and the cache are what the machine makes of them.
     ensures turned { IfOk result (λ turn. IfModelled (M.state media.old).image (λ image.
@@ -50,7 +50,7 @@ pub fn operate<M: Media>(
     // doesn't know of faults.
     ensures within { IsWithin task.old.lines (op_of task.old) }
     ensures line { IfErr result (λ fault. IfMediaFault fault (λ line. IsAtLine (op_of task.old) line cache.old.lines)) }
-    ensures inside { IfErr result (λ fault. IfMediaFault fault (λ line. line.0 < (M.state media.old).size)) }
+    ensures inside { IfErr result (λ fault. IfMediaFault fault (λ line. line.0 < M.size media.old)) }
     ensures rose { IfErr result (λ fault. IfMediaFault fault (λ line.
         Rose (M.state media.old).faults (M.state media.new).faults)) }
     ensures own { IfOk result IsNoFault }
@@ -64,7 +64,7 @@ pub fn operate<M: Media>(
         → KeepsPlaces task.old cache.old task.new cache.new) }
     ensures quiet { IfOk result (λ turn. ended turn ≡ None → HasPlaces task.old cache.old → turn ≡ Go) }
     ensures enough { IsErrOf result OperationFault.OutOfMemory → ¬ (HasPlaces task.old cache.old) }
-    ensures steady { IsSteady (M.state media.old) (M.state media.new) }
+    ensures steady { IsSteady M.size M.state media.old media.new }
 {
     task.is_sound();
     match task.next() {

@@ -29,7 +29,7 @@ fn load_first<M: Media>(
     media: &mut M,
     line: LineNo,
 ) -> Result<(), OperationFault>
-    requires lines { task.old.lines ≡ (M.state media.old).size }
+    requires lines { task.old.lines ≡ M.size media.old }
     requires first { IsFirst line task.old }
 
     ensures turned { OnOk result (IfModelled (M.state media.old).image (λ image.
@@ -39,7 +39,7 @@ fn load_first<M: Media>(
     ensures keeps { OnOk result (KeepsLines Go task.old task.new) }
     ensures failed { IfErr result (λ fault. IfMediaFault fault (λ line. IfModelled (M.state media.old).image (λ image.
         HasFailed (op_of task.old) (machine image cache.old.lines) line (M.state media.new).image cache.new.lines))) }
-    ensures inside { IfErr result (λ fault. IfMediaFault fault (λ line. line.0 < (M.state media.old).size)) }
+    ensures inside { IfErr result (λ fault. IfMediaFault fault (λ line. line.0 < M.size media.old)) }
     ensures rose { IfErr result (λ fault. IfMediaFault fault (λ line.
         Rose (M.state media.old).faults (M.state media.new).faults)) }
     ensures within { IsWithin task.old.lines (op_of task.old) }
@@ -50,7 +50,7 @@ fn load_first<M: Media>(
     ensures want { IsErrOf result OperationFault.OutOfMemory → LacksRoom (op_of task.old) task.old cache.old }
     ensures places { OnOk result (¬ (HasPlaces task.old cache.old)) }
     ensures enough { IsErrOf result OperationFault.OutOfMemory → ¬ (HasPlaces task.old cache.old) }
-    ensures steady { IsSteady (M.state media.old) (M.state media.new) }
+    ensures steady { IsSteady M.size M.state media.old media.new }
 {
     task.is_sound();
     let word = cache.perform(media, Op::Load(line, 0))?;
@@ -67,7 +67,7 @@ pub fn read_next<M: Media>(
     task: &mut Task,
     media: &mut M,
 ) -> Result<bool, OperationFault>
-    requires lines { task.old.lines ≡ (M.state media.old).size }
+    requires lines { task.old.lines ≡ M.size media.old }
 
     ensures turned { IfOk result (λ reads. reads ≡ true → IfModelled (M.state media.old).image (λ image.
         HasTurned task.old (machine image cache.old.lines) Go task.new (M.state media.new).image cache.new.lines)) }
@@ -77,7 +77,7 @@ pub fn read_next<M: Media>(
     ensures keeps { IfOk result (λ reads. reads ≡ true → KeepsLines Go task.old task.new) }
     ensures failed { IfErr result (λ fault. IfMediaFault fault (λ line. IfModelled (M.state media.old).image (λ image.
         HasFailed (op_of task.old) (machine image cache.old.lines) line (M.state media.new).image cache.new.lines))) }
-    ensures inside { IfErr result (λ fault. IfMediaFault fault (λ line. line.0 < (M.state media.old).size)) }
+    ensures inside { IfErr result (λ fault. IfMediaFault fault (λ line. line.0 < M.size media.old)) }
     ensures rose { IfErr result (λ fault. IfMediaFault fault (λ line.
         Rose (M.state media.old).faults (M.state media.new).faults)) }
     ensures within { IsWithin task.old.lines (op_of task.old) }
@@ -94,7 +94,7 @@ pub fn read_next<M: Media>(
     ensures places { IfOk result (λ reads. reads ≡ true → IsReady task.old cache.old
         → KeepsPlaces task.old cache.old task.new cache.new) }
     ensures enough { IsErrOf result OperationFault.OutOfMemory → ¬ (HasPlaces task.old cache.old) }
-    ensures steady { IsSteady (M.state media.old) (M.state media.new) }
+    ensures steady { IsSteady M.size M.state media.old media.new }
 {
     task.is_sound();
     if let Some(line) = task.first_loaded() {
@@ -117,7 +117,7 @@ fn read_other<M: Media>(
     task: &mut Task,
     media: &mut M,
 ) -> Result<bool, OperationFault>
-    requires lines { task.old.lines ≡ (M.state media.old).size }
+    requires lines { task.old.lines ≡ M.size media.old }
 
     ensures turned { IfOk result (λ reads. reads ≡ true → IfModelled (M.state media.old).image (λ image.
         HasTurned task.old (machine image cache.old.lines) Go task.new (M.state media.new).image cache.new.lines)) }
@@ -127,7 +127,7 @@ fn read_other<M: Media>(
     ensures keeps { IfOk result (λ reads. reads ≡ true → KeepsLines Go task.old task.new) }
     ensures failed { IfErr result (λ fault. IfMediaFault fault (λ line. IfModelled (M.state media.old).image (λ image.
         HasFailed (op_of task.old) (machine image cache.old.lines) line (M.state media.new).image cache.new.lines))) }
-    ensures inside { IfErr result (λ fault. IfMediaFault fault (λ line. line.0 < (M.state media.old).size)) }
+    ensures inside { IfErr result (λ fault. IfMediaFault fault (λ line. line.0 < M.size media.old)) }
     ensures rose { IfErr result (λ fault. IfMediaFault fault (λ line.
         Rose (M.state media.old).faults (M.state media.new).faults)) }
     ensures within { IsWithin task.old.lines (op_of task.old) }
@@ -144,7 +144,7 @@ fn read_other<M: Media>(
     ensures places { IfOk result (λ reads. reads ≡ true → IsReady task.old cache.old
         → KeepsPlaces task.old cache.old task.new cache.new) }
     ensures enough { IsErrOf result OperationFault.OutOfMemory → ¬ (HasPlaces task.old cache.old) }
-    ensures steady { IsSteady (M.state media.old) (M.state media.new) }
+    ensures steady { IsSteady M.size M.state media.old media.new }
 {
     task.is_sound();
     let op = task.next();

@@ -29,15 +29,15 @@ fn load_line<M: Media>(
     media: &mut M,
     due: SlotDue,
 ) -> Result<bool, OperationFault>
-    requires lines { task.old.lines ≡ (M.state media.old).size }
+    requires lines { task.old.lines ≡ M.size media.old }
     requires due { task.old.phase ≡ at.Drop (part.Slot due.slot) due.line }
 
     ensures loaded { IfOk result (λ loaded. loaded ≡ true → HasDone
-        (around M.state task.old task.new cache.old cache.new media.old media.new) Go) }
+        (around M.size M.state task.old task.new cache.old cache.new media.old media.new) Go) }
     ensures next { IfOk result (λ loaded. loaded ≡ true → due.line + 1 < SLOT_LINES
         → task.new.phase ≡ at.Drop (part.Slot due.slot) (due.line + 1)) }
     ensures failed { IfErr result (λ fault. IfMediaFault fault (HasBrokenOff
-        (around M.state task.old task.new cache.old cache.new media.old media.new))) }
+        (around M.size M.state task.old task.new cache.old cache.new media.old media.new))) }
 
     ensures other { IfOk result (λ loaded. loaded ≡ false → media.new ≡ media.old) }
     ensures other_cache { IfOk result (λ loaded. loaded ≡ false → cache.new ≡ cache.old) }
@@ -50,7 +50,7 @@ fn load_line<M: Media>(
     ensures places { IfOk result (λ loaded. loaded ≡ true → ¬ (HasPlaces task.old cache.old)) }
     ensures enough { IsErrOf result OperationFault.OutOfMemory → ¬ (HasPlaces task.old cache.old) }
     ensures image { (M.state media.new).image ≡ (M.state media.old).image }
-    ensures steady { IsSteady (M.state media.old) (M.state media.new) }
+    ensures steady { IsSteady M.size M.state media.old media.new }
 {
     task.is_sound();
     let line = task.line_of_slot_due(due);
@@ -81,12 +81,12 @@ pub(crate) fn load_slot<M: Media>(
     task: &mut Task,
     media: &mut M,
 ) -> Result<bool, OperationFault>
-    requires lines { task.old.lines ≡ (M.state media.old).size }
+    requires lines { task.old.lines ≡ M.size media.old }
 
     ensures loaded { IfOk result (λ loaded. loaded ≡ true → HasDone
-        (around M.state task.old task.new cache.old cache.new media.old media.new) Go) }
+        (around M.size M.state task.old task.new cache.old cache.new media.old media.new) Go) }
     ensures failed { IfErr result (λ fault. IfMediaFault fault (HasBrokenOff
-        (around M.state task.old task.new cache.old cache.new media.old media.new))) }
+        (around M.size M.state task.old task.new cache.old cache.new media.old media.new))) }
 
     ensures other { IfOk result (λ loaded. loaded ≡ false → media.new ≡ media.old) }
     ensures other_cache { IfOk result (λ loaded. loaded ≡ false → cache.new ≡ cache.old) }
@@ -98,7 +98,7 @@ pub(crate) fn load_slot<M: Media>(
     ensures want { IsErrOf result OperationFault.OutOfMemory → LacksRoomWhole task.old cache.old }
     ensures places { IfOk result (λ loaded. loaded ≡ true → ¬ (HasPlaces task.old cache.old)) }
     ensures enough { IsErrOf result OperationFault.OutOfMemory → ¬ (HasPlaces task.old cache.old) }
-    ensures steady { IsSteady (M.state media.old) (M.state media.new) }
+    ensures steady { IsSteady M.size M.state media.old media.new }
 {
     let Some(due) = task.slot_due() else {
         return Ok(false);

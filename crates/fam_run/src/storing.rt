@@ -25,12 +25,12 @@ pub(crate) fn store_next<M: Media>(
     task: &mut Task,
     media: &mut M,
 ) -> Result<bool, OperationFault>
-    requires lines { task.old.lines ≡ (M.state media.old).size }
+    requires lines { task.old.lines ≡ M.size media.old }
 
     ensures stored { IfOk result (λ stored. stored ≡ true → HasDone
-        (around M.state task.old task.new cache.old cache.new media.old media.new) Go) }
+        (around M.size M.state task.old task.new cache.old cache.new media.old media.new) Go) }
     ensures failed { IfErr result (λ fault. IfMediaFault fault (HasBrokenOff
-        (around M.state task.old task.new cache.old cache.new media.old media.new))) }
+        (around M.size M.state task.old task.new cache.old cache.new media.old media.new))) }
 
     ensures other { IfOk result (λ stored. stored ≡ false → media.new ≡ media.old) }
     ensures other_cache { IfOk result (λ stored. stored ≡ false → cache.new ≡ cache.old) }
@@ -43,7 +43,7 @@ pub(crate) fn store_next<M: Media>(
     ensures ready { IfOk result (λ stored. stored ≡ false → IsReady task.old cache.old) }
     ensures enough { IsErrOf result OperationFault.OutOfMemory → ¬ (HasPlaces task.old cache.old) }
     ensures unmoved { IsErrOf result OperationFault.OutOfMemory → task.new ≡ task.old }
-    ensures steady { IsSteady (M.state media.old) (M.state media.new) }
+    ensures steady { IsSteady M.size M.state media.old media.new }
 {
     task.is_sound();
     let Some(due) = task.line_stored() else {

@@ -26,12 +26,12 @@ pub(crate) fn compare_whole<M: Media>(
     task: &mut Task,
     media: &mut M,
 ) -> Result<WholeLine, OperationFault>
-    requires lines { task.old.lines ≡ (M.state media.old).size }
+    requires lines { task.old.lines ≡ M.size media.old }
 
     ensures compared { IfOk result (λ whole. IfWhole whole (HasDone
-        (around M.state task.old task.new cache.old cache.new media.old media.new))) }
+        (around M.size M.state task.old task.new cache.old cache.new media.old media.new))) }
     ensures failed { IfErr result (λ fault. IfMediaFault fault (HasBrokenOff
-        (around M.state task.old task.new cache.old cache.new media.old media.new))) }
+        (around M.size M.state task.old task.new cache.old cache.new media.old media.new))) }
 
     ensures other { IfOk result (λ whole. whole ≡ WholeLine.Other → media.new ≡ media.old) }
     ensures other_cache { IfOk result (λ whole. whole ≡ WholeLine.Other → cache.new ≡ cache.old) }
@@ -43,7 +43,7 @@ pub(crate) fn compare_whole<M: Media>(
     ensures places { IfOk result (λ whole. IfWhole whole (λ _. ¬ (HasPlaces task.old cache.old))) }
     ensures enough { IsErrOf result OperationFault.OutOfMemory → ¬ (HasPlaces task.old cache.old) }
     ensures unmoved { IsErrOf result OperationFault.OutOfMemory → task.new ≡ task.old }
-    ensures steady { IsSteady (M.state media.old) (M.state media.new) }
+    ensures steady { IsSteady M.size M.state media.old media.new }
 {
     task.is_sound();
     let Some(line) = task.line_compared() else {

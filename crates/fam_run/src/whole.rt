@@ -41,12 +41,12 @@ pub fn whole_next<M: Media>(
     task: &mut Task,
     media: &mut M,
 ) -> Result<WholeLine, OperationFault>
-    requires lines { task.old.lines ≡ (M.state media.old).size }
+    requires lines { task.old.lines ≡ M.size media.old }
 
     ensures done { IfOk result (λ whole. IfWhole whole (HasDone
-        (around M.state task.old task.new cache.old cache.new media.old media.new))) }
+        (around M.size M.state task.old task.new cache.old cache.new media.old media.new))) }
     ensures failed { IfErr result (λ fault. IfMediaFault fault (HasBrokenOff
-        (around M.state task.old task.new cache.old cache.new media.old media.new))) }
+        (around M.size M.state task.old task.new cache.old cache.new media.old media.new))) }
 
     ensures other { IfOk result (λ whole. whole ≡ WholeLine.Other → media.new ≡ media.old) }
     ensures other_cache { IfOk result (λ whole. whole ≡ WholeLine.Other → cache.new ≡ cache.old) }
@@ -63,7 +63,7 @@ pub fn whole_next<M: Media>(
     ensures ready { IfOk result (λ whole. whole ≡ WholeLine.Other → IsReady task.old cache.old) }
     ensures enough { IsErrOf result OperationFault.OutOfMemory → ¬ (HasPlaces task.old cache.old) }
     ensures unmoved { IsErrOf result OperationFault.OutOfMemory → task.new ≡ task.old }
-    ensures steady { IsSteady (M.state media.old) (M.state media.new) }
+    ensures steady { IsSteady M.size M.state media.old media.new }
 {
     match load_slot(cache, task, media) {
         Ok(true) => return Ok(WholeLine::Going),

@@ -53,10 +53,10 @@ pub fn famfs_shadow<M: Media, D: Shade, K: Sink>(
     shade: &mut D,
     out: &mut K,
 ) -> Status
-    ensures ends { ShadowTop (shadow_host me (map string_bytes words.now.items)) (outside_of M.state
+    ensures ends { ShadowTop (shadow_host me (map string_bytes words.now.items)) (outside_of M.size M.state
         media.old media.new no_files (change K.state out.old out.new))
         (change D.state shade.old shade.new) result }
-    ensures steady { IsSteady (M.state media.old) (M.state media.new) }
+    ensures steady { IsSteady M.size M.state media.old media.new }
     ensures shade { (D.state shade.old).faults ≤ (D.state shade.new).faults }
     ensures sink { (K.state out.old).faults ≤ (K.state out.new).faults }
 {

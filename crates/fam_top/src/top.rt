@@ -45,10 +45,10 @@ fn run_shot<M: Media, S: Shelf, K: Sink>(
     out: &mut K,
 ) -> Status
     requires sound { IsSoundShot shot }
-    ensures ends { TopEnds script_events storm (Some (Single me (shot_of random shot))) (outside_of M.state
+    ensures ends { TopEnds script_events storm (Some (Single me (shot_of random shot))) (outside_of M.size M.state
         media.old media.new (change S.state shelf.old shelf.new)
         (change K.state out.old out.new)) result }
-    ensures steady { IsSteady (M.state media.old) (M.state media.new) }
+    ensures steady { IsSteady M.size M.state media.old media.new }
     ensures sink { (K.state out.old).faults ≤ (K.state out.new).faults }
     ensures shelf { IsShelfSteady (S.state shelf.old) (S.state shelf.new) }
 {
@@ -78,10 +78,10 @@ fn run_order<M: Media, S: Shelf, K: Sink>(
     out: &mut K,
 ) -> Status
     requires sound { IsSoundOrder order }
-    ensures ends { TopEnds script_events storm (Some (command_of me random order)) (outside_of M.state
+    ensures ends { TopEnds script_events storm (Some (command_of me random order)) (outside_of M.size M.state
         media.old media.new (change S.state shelf.old shelf.new)
         (change K.state out.old out.new)) result }
-    ensures steady { IsSteady (M.state media.old) (M.state media.new) }
+    ensures steady { IsSteady M.size M.state media.old media.new }
     ensures sink { (K.state out.old).faults ≤ (K.state out.new).faults }
     ensures shelf { IsShelfSteady (S.state shelf.old) (S.state shelf.new) }
 {
@@ -114,9 +114,9 @@ pub fn famfs<M: Media, S: Shelf, K: Sink>(
     shelf: &mut S,
     out: &mut K,
 ) -> Status
-    ensures ends { CallEnds (order_named (map string_bytes words.now.items)) me random (outside_of M.state
+    ensures ends { CallEnds (order_named (map string_bytes words.now.items)) me random (outside_of M.size M.state
         media.old media.new (change S.state shelf.old shelf.new) (change K.state out.old out.new)) result }
-    ensures steady { IsSteady (M.state media.old) (M.state media.new) }
+    ensures steady { IsSteady M.size M.state media.old media.new }
     ensures sink { (K.state out.old).faults ≤ (K.state out.new).faults }
     ensures shelf { IsShelfSteady (S.state shelf.old) (S.state shelf.new) }
 {

@@ -34,15 +34,15 @@ pub record Around : Type 0 where
   pub faults_now : ℕ
 
 -- around a call for a host, on a media, of which these tell the image, the size and the count of faults
-abbrev pub around_step : {M : Type 0} → (M → MediaState) → Host → Host → List Kept → List Kept → M → M → Around
-around_step state host host_now journal journal_now media media_now = record {
+abbrev pub around_step : {M : Type 0} → (M → ℕ) → (M → MediaState) → Host → Host → List Kept → List Kept → M → M → Around
+around_step size state host host_now journal journal_now media media_now = record {
   old = host_view host;
   new = host_view host_now;
   before = notes_view journal;
   after = notes_view journal_now;
   told = (state media).image;
   now = (state media_now).image;
-  size = (state media).size;
+  size = size media;
   faults = (state media).faults;
   faults_now = (state media_now).faults;
 }

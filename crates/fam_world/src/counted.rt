@@ -26,13 +26,13 @@ fn steps_of<M: Media>(
     most: u64,
 ) -> Result<Moved, OutOfMemory>
     requires runs { is_some host.old.task ≡ true }
-    requires fits { TaskFits (M.state media.old).size host.old.task }
-    requires cached { CacheFits (M.state media.old).size host.old.cache }
+    requires fits { TaskFits (M.size media.old) host.old.task }
+    requires cached { CacheFits (M.size media.old) host.old.cache }
     requires few { at < MOST_HOSTS }
-    ensures says { HostStepsSay at (M.state media.old).size most
+    ensures says { HostStepsSay at (M.size media.old) most
         (host_standing M.state media.old (host_view host.old) (notes_view journal.old.items))
         (host_standing M.state media.new (host_view host.new) (notes_view journal.new.items)) result }
-    ensures size { (M.state media.new).size ≡ (M.state media.old).size }
+    ensures size { M.size media.new ≡ M.size media.old }
 {
     let mut done = 0;
     'operations: while done < most {
@@ -61,11 +61,11 @@ pub(crate) fn steps_in<M: Media>(
 ) -> Result<Moved, WorldFault>
     requires some { 0 < most }
     requires few { vec_len hosts.old ≤ MOST_HOSTS }
-    requires fits { FitsMedia (M.state media.old).size (views hosts.old.items) }
-    ensures says { StepsSay name.now (M.state media.old).size most
+    requires fits { FitsMedia (M.size media.old) (views hosts.old.items) }
+    ensures says { StepsSay name.now (M.size media.old) most
         (standing M.state media.old (world_view hosts.old.items journal.old.items))
         (standing M.state media.new (world_view hosts.new.items journal.new.items)) result }
-    ensures size { (M.state media.new).size ≡ (M.state media.old).size }
+    ensures size { M.size media.new ≡ M.size media.old }
     ensures few { vec_len hosts.new ≤ MOST_HOSTS }
 {
     if make_room(journal).is_err() {

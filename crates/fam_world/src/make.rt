@@ -98,16 +98,16 @@ fn make_host<M: Media>(
     log: u64,
     force: bool,
 ) -> Result<MkfsEnd, OutOfMemory>
-    requires free { refusals.refusal unit log (line_bytes * (M.state media.old).size) ≡ None }
+    requires free { refusals.refusal unit log (line_bytes * M.size media.old) ≡ None }
     ensures host { host.new ≡ record host.old { cache = host.new.cache } }
-    ensures ends { IfOk result (MkfsEnds (spec.asked unit log fs host.old.uuid (M.state media.old).size) force (M.state media.old).size
+    ensures ends { IfOk result (MkfsEnds (spec.asked unit log fs host.old.uuid (M.size media.old)) force (M.size media.old)
         (over (M.state media.old).image host.old.cache.lines) (over (M.state media.new).image host.new.cache.lines)
         (M.state media.old).faults (M.state media.new).faults) }
     ensures others { (line : ℕ) → IsElsewhere line
         → cell_at host.new.cache.lines line ≡ cell_at host.old.cache.lines line }
     ensures undone { OnErr result (media.new ≡ media.old) }
     ensures kept { OnErr result (host.new ≡ host.old) }
-    ensures steady { IsSteady (M.state media.old) (M.state media.new) }
+    ensures steady { IsSteady M.size M.state media.old media.new }
 {
     mkfs(&mut host.cache, media, unit, log, fs, host.uuid, force)
 }
@@ -155,13 +155,13 @@ pub(crate) fn mkfs_in<M: Media>(
     force: bool,
 ) -> Result<(), WorldFault>
     requires few { vec_len hosts.old ≤ MOST_HOSTS }
-    ensures answered { IfAnswered result (λ answered. MakeCall (Makes name.now fs unit log force) (M.state media.old).size
+    ensures answered { IfAnswered result (λ answered. MakeCall (Makes name.now fs unit log force) (M.size media.old)
         answered (M.state media.old).image (M.state media.new).image (M.state media.old).faults (M.state media.new).faults
         (world_view hosts.old.items journal.old.items) (world_view hosts.new.items journal.new.items)) }
     ensures undone { IsErrOf result WorldFault.OutOfMemory → media.new ≡ media.old }
     ensures hosts { IsErrOf result WorldFault.OutOfMemory
         → world_view hosts.new.items journal.new.items ≡ world_view hosts.old.items journal.old.items }
-    ensures size { (M.state media.new).size ≡ (M.state media.old).size }
+    ensures size { M.size media.new ≡ M.size media.old }
     ensures few { vec_len hosts.new ≤ MOST_HOSTS }
 {
     is_uuid(fs);

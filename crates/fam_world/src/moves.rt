@@ -54,7 +54,7 @@ fn shift<M: Media>(
     line: LineNo,
     what: OwnMove,
 ) -> Result<(), CacheFault>
-    requires within { line.0 < (M.state media.old).size }
+    requires within { line.0 < M.size media.old }
 
     ensures moved { OnOk result (IfModelled (M.state media.old).image (λ image.
         IsMachine (moved (move_of what) line.0 (machine image cache.old.lines)) (M.state media.new).image cache.new.lines)) }
@@ -66,7 +66,7 @@ fn shift<M: Media>(
     ensures rose { IsErrOf result CacheFault.Failed → Rose (M.state media.old).faults (M.state media.new).faults }
     ensures undone { IsErrOf result CacheFault.OutOfMemory → media.new ≡ media.old }
     ensures unchanged { IsErrOf result CacheFault.OutOfMemory → cache.new ≡ cache.old }
-    ensures steady { IsSteady (M.state media.old) (M.state media.new) }
+    ensures steady { IsSteady M.size M.state media.old media.new }
 {
     match what {
         OwnMove::Evict => sends(cache.evict(media, line)),
@@ -84,13 +84,13 @@ pub(crate) fn move_in<M: Media>(
     line: LineNo,
     what: OwnMove,
 ) -> Result<(), WorldFault>
-    ensures answered { IfAnswered result (λ answered. MediaCall (Moves name.now line.0 (move_of what)) (M.state media.old).size
+    ensures answered { IfAnswered result (λ answered. MediaCall (Moves name.now line.0 (move_of what)) (M.size media.old)
         answered (M.state media.old).image (M.state media.new).image (M.state media.old).faults (M.state media.new).faults
         (world_view hosts.old.items journal.old.items) (world_view hosts.new.items journal.new.items)) }
     ensures undone { IsErrOf result WorldFault.OutOfMemory → media.new ≡ media.old }
     ensures hosts { IsErrOf result WorldFault.OutOfMemory
         → world_view hosts.new.items journal.new.items ≡ world_view hosts.old.items journal.old.items }
-    ensures size { (M.state media.new).size ≡ (M.state media.old).size }
+    ensures size { M.size media.new ≡ M.size media.old }
     ensures len { vec_len hosts.new ≡ vec_len hosts.old }
 {
     if make_room(journal).is_err() {

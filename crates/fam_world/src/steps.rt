@@ -111,7 +111,7 @@ fn read_on<M: Media>(
     media: &mut M,
 ) -> Result<bool, OperationFault>
     requires runs { is_some task.old ≡ true }
-    requires fits { TaskFits (M.state media.old).size task.old }
+    requires fits { TaskFits (M.size media.old) task.old }
 
     ensures turned { IfOk result (λ reads. reads ≡ true → IsTurned
         (on_task M.state task.old task.new cache.old cache.new media.old media.new) Go) }
@@ -124,7 +124,7 @@ fn read_on<M: Media>(
     ensures places { IfOk result (λ reads. reads ≡ true → ReadyKeepsPlaces task.old cache.old task.new cache.new) }
     ensures enough { IsErrOf result OperationFault.OutOfMemory → LacksPlaces task.old cache.old }
     ensures keeps { KeepsTask task.old task.new }
-    ensures steady { IsSteady (M.state media.old) (M.state media.new) }
+    ensures steady { IsSteady M.size M.state media.old media.new }
 {
     match task {
         Some(task) => {
@@ -144,7 +144,7 @@ fn look_on<M: Media>(
     media: &mut M,
 ) -> Result<Looked, OperationFault>
     requires runs { is_some task.old ≡ true }
-    requires fits { TaskFits (M.state media.old).size task.old }
+    requires fits { TaskFits (M.size media.old) task.old }
 
     ensures turned { IfOk result (λ looked. IfDone looked (IsTurned
         (on_task M.state task.old task.new cache.old cache.new media.old media.new))) }
@@ -157,7 +157,7 @@ fn look_on<M: Media>(
     ensures places { IfOk result (λ looked. IfDone looked (λ _. LacksPlaces task.old cache.old)) }
     ensures enough { IsErrOf result OperationFault.OutOfMemory → LacksPlaces task.old cache.old }
     ensures keeps { KeepsTask task.old task.new }
-    ensures steady { IsSteady (M.state media.old) (M.state media.new) }
+    ensures steady { IsSteady M.size M.state media.old media.new }
 {
     match task {
         Some(task) => {
@@ -177,8 +177,8 @@ fn operate_on<M: Media>(
     media: &mut M,
 ) -> Result<Turn, OperationFault>
     requires runs { is_some task.old ≡ true }
-    requires fits { TaskFits (M.state media.old).size task.old }
-    requires cached { CacheFits (M.state media.old).size cache.old }
+    requires fits { TaskFits (M.size media.old) task.old }
+    requires cached { CacheFits (M.size media.old) cache.old }
 
     ensures turned { IfOk result (IsTurned
         (on_task M.state task.old task.new cache.old cache.new media.old media.new)) }
@@ -191,7 +191,7 @@ fn operate_on<M: Media>(
     ensures quiet { IfOk result (λ turn. ended turn ≡ None → IfPlaced task.old cache.old (turn ≡ Go)) }
     ensures enough { IsErrOf result OperationFault.OutOfMemory → LacksPlaces task.old cache.old }
     ensures keeps { KeepsTask task.old task.new }
-    ensures steady { IsSteady (M.state media.old) (M.state media.new) }
+    ensures steady { IsSteady M.size M.state media.old media.new }
 {
     match task {
         Some(task) => {
@@ -213,8 +213,8 @@ fn turn_host<M: Media>(
     at: usize,
 ) -> Result<Moved, OutOfMemory>
     requires runs { is_some host.old.task ≡ true }
-    requires fits { TaskFits (M.state media.old).size host.old.task }
-    requires cached { CacheFits (M.state media.old).size host.old.cache }
+    requires fits { TaskFits (M.size media.old) host.old.task }
+    requires cached { CacheFits (M.size media.old) host.old.cache }
     requires few { at < MOST_HOSTS }
     requires room { vec_len journal.old < vec_capacity journal.old }
 
@@ -222,7 +222,7 @@ fn turn_host<M: Media>(
         M.state host.old host.new journal.old.items journal.new.items media.old media.new) (is_over moved)) }
     ensures sound { IfSome host.old.task IsSound }
     ensures sound_on { IfSome host.new.task IsSound }
-    ensures size { (M.state media.new).size ≡ (M.state media.old).size }
+    ensures size { M.size media.new ≡ M.size media.old }
     ensures undone { OnErr result (media.new ≡ media.old) }
     ensures host { OnErr result (host.new ≡ host.old) }
     ensures journal { OnErr result (journal.new.items ≡ journal.old.items) }
@@ -263,8 +263,8 @@ fn look_host<M: Media>(
     at: usize,
 ) -> Result<Moved, OutOfMemory>
     requires runs { is_some host.old.task ≡ true }
-    requires fits { TaskFits (M.state media.old).size host.old.task }
-    requires cached { CacheFits (M.state media.old).size host.old.cache }
+    requires fits { TaskFits (M.size media.old) host.old.task }
+    requires cached { CacheFits (M.size media.old) host.old.cache }
     requires few { at < MOST_HOSTS }
     requires room { vec_len journal.old < vec_capacity journal.old }
 
@@ -272,7 +272,7 @@ fn look_host<M: Media>(
         M.state host.old host.new journal.old.items journal.new.items media.old media.new) (is_over moved)) }
     ensures sound { IfSome host.old.task IsSound }
     ensures sound_on { IfSome host.new.task IsSound }
-    ensures size { (M.state media.new).size ≡ (M.state media.old).size }
+    ensures size { M.size media.new ≡ M.size media.old }
     ensures undone { OnErr result (media.new ≡ media.old) }
     ensures host { OnErr result (host.new ≡ host.old) }
     ensures journal { OnErr result (journal.new.items ≡ journal.old.items) }
@@ -315,8 +315,8 @@ pub(crate) fn step_host<M: Media>(
     at: usize,
 ) -> Result<Moved, OutOfMemory>
     requires runs { is_some host.old.task ≡ true }
-    requires fits { TaskFits (M.state media.old).size host.old.task }
-    requires cached { CacheFits (M.state media.old).size host.old.cache }
+    requires fits { TaskFits (M.size media.old) host.old.task }
+    requires cached { CacheFits (M.size media.old) host.old.cache }
     requires few { at < MOST_HOSTS }
     requires room { vec_len journal.old < vec_capacity journal.old }
 
@@ -324,7 +324,7 @@ pub(crate) fn step_host<M: Media>(
         M.state host.old host.new journal.old.items journal.new.items media.old media.new) (is_over moved)) }
     ensures sound { IfSome host.old.task IsSound }
     ensures sound_on { IfSome host.new.task IsSound }
-    ensures size { (M.state media.new).size ≡ (M.state media.old).size }
+    ensures size { M.size media.new ≡ M.size media.old }
     ensures undone { OnErr result (media.new ≡ media.old) }
     ensures host { OnErr result (host.new ≡ host.old) }
     ensures journal { OnErr result (journal.new.items ≡ journal.old.items) }
@@ -359,14 +359,14 @@ pub(crate) fn step_in<M: Media>(
     name: &HostName,
 ) -> Result<Moved, WorldFault>
     requires few { vec_len hosts.old ≤ MOST_HOSTS }
-    requires fits { FitsMedia (M.state media.old).size (views hosts.old.items) }
-    ensures answered { IfStepped result (λ answered over. StepCall name.now (M.state media.old).size answered over
+    requires fits { FitsMedia (M.size media.old) (views hosts.old.items) }
+    ensures answered { IfStepped result (λ answered over. StepCall name.now (M.size media.old) answered over
         (M.state media.old).image (M.state media.new).image (M.state media.old).faults (M.state media.new).faults
         (world_view hosts.old.items journal.old.items) (world_view hosts.new.items journal.new.items)) }
     ensures undone { IsErrOf result WorldFault.OutOfMemory → media.new ≡ media.old }
     ensures hosts { IsErrOf result WorldFault.OutOfMemory
         → world_view hosts.new.items journal.new.items ≡ world_view hosts.old.items journal.old.items }
-    ensures size { (M.state media.new).size ≡ (M.state media.old).size }
+    ensures size { M.size media.new ≡ M.size media.old }
     ensures few { vec_len hosts.new ≤ MOST_HOSTS }
 {
     if make_room(journal).is_err() {
@@ -455,15 +455,15 @@ fn go_on<M: Media>(
     at: usize,
 ) -> Result<Moved, OutOfMemory>
     requires runs { is_some host.old.task ≡ true }
-    requires fits { TaskFits (M.state media.old).size host.old.task }
-    requires cached { CacheFits (M.state media.old).size host.old.cache }
+    requires fits { TaskFits (M.size media.old) host.old.task }
+    requires cached { CacheFits (M.size media.old) host.old.cache }
     requires few { at < MOST_HOSTS }
     requires room { vec_len journal.old < vec_capacity journal.old }
 
     ensures step { IfOk result (λ moved. (t : spec.Task) → host.old.task ≡ Some t → IsLedStep at t (around_step
         M.state host.old host.new journal.old.items journal.new.items media.old media.new) (is_over moved)) }
     ensures sound_on { OnOk result (IfSome host.new.task IsSound) }
-    ensures size { (M.state media.new).size ≡ (M.state media.old).size }
+    ensures size { M.size media.new ≡ M.size media.old }
     ensures undone { OnErr result (media.new ≡ media.old) }
     ensures view { OnErr result (host_view host.new ≡ host_view host.old) }
     ensures journal { OnErr result (journal.new.items ≡ journal.old.items) }
@@ -493,9 +493,9 @@ fn finish_at<M: Media>(
     requires within { at < vec_len hosts.old }
     requires number { number_in name.now (world_view hosts.old.items journal.old.items) ≡ Some at }
     requires runs { (view : HostView) → slice_get (views hosts.old.items) at ≡ Some view → is_some view.task ≡ true }
-    requires fits { FitsMedia (M.state media.old).size (views hosts.old.items) }
+    requires fits { FitsMedia (M.size media.old) (views hosts.old.items) }
 
-    ensures far { SoFar at (M.state media.old).size
+    ensures far { SoFar at (M.size media.old)
         (world_view hosts.old.items journal.old.items) (M.state media.old).image (M.state media.old).faults
         (world_view hosts.new.items journal.new.items) (M.state media.new).image (M.state media.new).faults }
     ensures over { OnOk result ((view : HostView) → slice_get (views hosts.new.items) at ≡ Some view
@@ -504,7 +504,7 @@ fn finish_at<M: Media>(
         → is_some view.task ≡ true) }
     ensures same { OnErr result (AreUnstored at hosts.old.items
         → IfModelled (M.state media.old).image (λ image. (M.state media.new).image ≡ Some image)) }
-    ensures size { (M.state media.new).size ≡ (M.state media.old).size }
+    ensures size { M.size media.new ≡ M.size media.old }
     ensures len { vec_len hosts.new ≡ vec_len hosts.old }
 {
     'operations: loop {
@@ -526,14 +526,14 @@ pub(crate) fn finish_in<M: Media>(
     name: &HostName,
 ) -> Result<(), WorldFault>
     requires few { vec_len hosts.old ≤ MOST_HOSTS }
-    requires fits { FitsMedia (M.state media.old).size (views hosts.old.items) }
-    ensures answered { IfAnswered result (λ answered. MediaCall (Finishes name.now) (M.state media.old).size answered
+    requires fits { FitsMedia (M.size media.old) (views hosts.old.items) }
+    ensures answered { IfAnswered result (λ answered. MediaCall (Finishes name.now) (M.size media.old) answered
         (M.state media.old).image (M.state media.new).image (M.state media.old).faults (M.state media.new).faults
         (world_view hosts.old.items journal.old.items) (world_view hosts.new.items journal.new.items)) }
-    ensures want { IsErrOf result WorldFault.OutOfMemory → FinishOutOfMemory name.now (M.state media.old).size
+    ensures want { IsErrOf result WorldFault.OutOfMemory → FinishOutOfMemory name.now (M.size media.old)
         (M.state media.old).image (M.state media.new).image (M.state media.old).faults (M.state media.new).faults
         (world_view hosts.old.items journal.old.items) (world_view hosts.new.items journal.new.items) }
-    ensures size { (M.state media.new).size ≡ (M.state media.old).size }
+    ensures size { M.size media.new ≡ M.size media.old }
     ensures few { vec_len hosts.new ≤ MOST_HOSTS }
 {
     if make_room(journal).is_err() {

@@ -42,12 +42,12 @@ fn whole_on<M: Media>(
     media: &mut M,
 ) -> Result<WholeLine, OperationFault>
     requires runs { is_some task.old ≡ true }
-    requires fits { TaskFits (M.state media.old).size task.old }
+    requires fits { TaskFits (M.size media.old) task.old }
 
     ensures done { IfOk result (λ whole. IfWhole whole (λ turn. IfSome task.old (λ t. IfSome task.new (λ next.
-        HasDone (around M.state t next cache.old cache.new media.old media.new) turn)))) }
+        HasDone (around M.size M.state t next cache.old cache.new media.old media.new) turn)))) }
     ensures failed { IfErr result (λ fault. IfMediaFault fault (λ line. IfSome task.old (λ t. IfSome task.new (λ next.
-        HasBrokenOff (around M.state t next cache.old cache.new media.old media.new) line)))) }
+        HasBrokenOff (around M.size M.state t next cache.old cache.new media.old media.new) line)))) }
     ensures other { IfOk result (λ whole. whole ≡ WholeLine.Other
         → IsUntouched task.old task.new cache.old cache.new media.old media.new) }
     ensures undone { IsErrOf result OperationFault.OutOfMemory
@@ -57,7 +57,7 @@ fn whole_on<M: Media>(
     ensures ready { IfOk result (λ whole. whole ≡ WholeLine.Other → IfSome task.old (λ t. IsReady t cache.old)) }
     ensures enough { IsErrOf result OperationFault.OutOfMemory → LacksPlaces task.old cache.old }
     ensures keeps { KeepsTask task.old task.new }
-    ensures steady { IsSteady (M.state media.old) (M.state media.new) }
+    ensures steady { IsSteady M.size M.state media.old media.new }
 {
     match task {
         Some(task) => {
@@ -97,8 +97,8 @@ pub(crate) fn whole_host<M: Media>(
     at: usize,
 ) -> Result<Moved, OutOfMemory>
     requires runs { is_some host.old.task ≡ true }
-    requires fits { TaskFits (M.state media.old).size host.old.task }
-    requires cached { CacheFits (M.state media.old).size host.old.cache }
+    requires fits { TaskFits (M.size media.old) host.old.task }
+    requires cached { CacheFits (M.size media.old) host.old.cache }
     requires few { at < MOST_HOSTS }
     requires room { vec_len journal.old < vec_capacity journal.old }
 
@@ -106,7 +106,7 @@ pub(crate) fn whole_host<M: Media>(
         M.state host.old host.new journal.old.items journal.new.items media.old media.new) (is_over moved)) }
     ensures sound { IfSome host.old.task IsSound }
     ensures sound_on { IfSome host.new.task IsSound }
-    ensures size { (M.state media.new).size ≡ (M.state media.old).size }
+    ensures size { M.size media.new ≡ M.size media.old }
     ensures undone { OnErr result (media.new ≡ media.old) }
     ensures host { OnErr result (host.new ≡ host.old) }
     ensures journal { OnErr result (journal.new.items ≡ journal.old.items) }

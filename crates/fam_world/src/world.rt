@@ -115,13 +115,13 @@ impl World {
     ///
     /// On `OutOfMemory` nothing was done, and the step may be tried again.
     pub fn step<M: Media>(&mut self, media: &mut M, name: &HostName) -> Result<Moved, WorldFault>
-        requires fits { FitsMedia (M.state media.old).size self.old.hosts }
+        requires fits { FitsMedia (M.size media.old) self.old.hosts }
 
-        ensures answered { IfStepped result (λ answered over. StepCall name.now (M.state media.old).size answered over
+        ensures answered { IfStepped result (λ answered over. StepCall name.now (M.size media.old) answered over
             (M.state media.old).image (M.state media.new).image (M.state media.old).faults (M.state media.new).faults self.old self.new) }
         ensures undone { IsErrOf result WorldFault.OutOfMemory → media.new ≡ media.old }
         ensures err { IsErrOf result WorldFault.OutOfMemory → self.new ≡ self.old }
-        ensures size { (M.state media.new).size ≡ (M.state media.old).size }
+        ensures size { M.size media.new ≡ M.size media.old }
     {
         step_in(&mut self.hosts, &mut self.journal, media, name)
     }
@@ -137,11 +137,11 @@ impl World {
         most: u64,
     ) -> Result<Moved, WorldFault>
         requires some { 0 < most }
-        requires fits { FitsMedia (M.state media.old).size self.old.hosts }
+        requires fits { FitsMedia (M.size media.old) self.old.hosts }
 
-        ensures says { StepsSay name.now (M.state media.old).size most (standing M.state media.old self.old)
+        ensures says { StepsSay name.now (M.size media.old) most (standing M.state media.old self.old)
             (standing M.state media.new self.new) result }
-        ensures size { (M.state media.new).size ≡ (M.state media.old).size }
+        ensures size { M.size media.new ≡ M.size media.old }
     {
         steps_in(&mut self.hosts, &mut self.journal, media, name, most)
     }
@@ -150,13 +150,13 @@ impl World {
     ///
     /// On `OutOfMemory` the operations before were done, and the task, which has not answered, may be gone on with.
     pub fn finish<M: Media>(&mut self, media: &mut M, name: &HostName) -> Result<(), WorldFault>
-        requires fits { FitsMedia (M.state media.old).size self.old.hosts }
+        requires fits { FitsMedia (M.size media.old) self.old.hosts }
 
-        ensures answered { IfAnswered result (λ answered. MediaCall (Finishes name.now) (M.state media.old).size answered
+        ensures answered { IfAnswered result (λ answered. MediaCall (Finishes name.now) (M.size media.old) answered
             (M.state media.old).image (M.state media.new).image (M.state media.old).faults (M.state media.new).faults self.old self.new) }
-        ensures want { IsErrOf result WorldFault.OutOfMemory → FinishOutOfMemory name.now (M.state media.old).size
+        ensures want { IsErrOf result WorldFault.OutOfMemory → FinishOutOfMemory name.now (M.size media.old)
             (M.state media.old).image (M.state media.new).image (M.state media.old).faults (M.state media.new).faults self.old self.new }
-        ensures size { (M.state media.new).size ≡ (M.state media.old).size }
+        ensures size { M.size media.new ≡ M.size media.old }
     {
         finish_in(&mut self.hosts, &mut self.journal, media, name)
     }
@@ -204,11 +204,11 @@ impl World {
         log: u64,
         force: bool,
     ) -> Result<(), WorldFault>
-        ensures answered { IfAnswered result (λ answered. MakeCall (Makes name.now fs unit log force) (M.state media.old).size
+        ensures answered { IfAnswered result (λ answered. MakeCall (Makes name.now fs unit log force) (M.size media.old)
             answered (M.state media.old).image (M.state media.new).image (M.state media.old).faults (M.state media.new).faults self.old self.new) }
         ensures undone { IsErrOf result WorldFault.OutOfMemory → media.new ≡ media.old }
         ensures err { IsErrOf result WorldFault.OutOfMemory → self.new ≡ self.old }
-        ensures size { (M.state media.new).size ≡ (M.state media.old).size }
+        ensures size { M.size media.new ≡ M.size media.old }
     {
         mkfs_in(
             &mut self.hosts,
@@ -230,11 +230,11 @@ impl World {
         name: &HostName,
         line: LineNo,
     ) -> Result<(), WorldFault>
-        ensures answered { IfAnswered result (λ answered. MediaCall (Moves name.now line.0 how.Evict) (M.state media.old).size
+        ensures answered { IfAnswered result (λ answered. MediaCall (Moves name.now line.0 how.Evict) (M.size media.old)
             answered (M.state media.old).image (M.state media.new).image (M.state media.old).faults (M.state media.new).faults self.old self.new) }
         ensures undone { IsErrOf result WorldFault.OutOfMemory → media.new ≡ media.old }
         ensures err { IsErrOf result WorldFault.OutOfMemory → self.new ≡ self.old }
-        ensures size { (M.state media.new).size ≡ (M.state media.old).size }
+        ensures size { M.size media.new ≡ M.size media.old }
     {
         move_in(
             &mut self.hosts,
@@ -254,11 +254,11 @@ impl World {
         line: LineNo,
         mask: Mask,
     ) -> Result<(), WorldFault>
-        ensures answered { IfAnswered result (λ answered. MediaCall (Moves name.now line.0 (how.Leak mask.0)) (M.state media.old).size
+        ensures answered { IfAnswered result (λ answered. MediaCall (Moves name.now line.0 (how.Leak mask.0)) (M.size media.old)
             answered (M.state media.old).image (M.state media.new).image (M.state media.old).faults (M.state media.new).faults self.old self.new) }
         ensures undone { IsErrOf result WorldFault.OutOfMemory → media.new ≡ media.old }
         ensures err { IsErrOf result WorldFault.OutOfMemory → self.new ≡ self.old }
-        ensures size { (M.state media.new).size ≡ (M.state media.old).size }
+        ensures size { M.size media.new ≡ M.size media.old }
     {
         move_in(
             &mut self.hosts,
@@ -279,11 +279,11 @@ impl World {
         line: LineNo,
         mask: Mask,
     ) -> Result<(), WorldFault>
-        ensures answered { IfAnswered result (λ answered. MediaCall (Moves name.now line.0 (how.Fetch mask.0)) (M.state media.old).size
+        ensures answered { IfAnswered result (λ answered. MediaCall (Moves name.now line.0 (how.Fetch mask.0)) (M.size media.old)
             answered (M.state media.old).image (M.state media.new).image (M.state media.old).faults (M.state media.new).faults self.old self.new) }
         ensures undone { IsErrOf result WorldFault.OutOfMemory → media.new ≡ media.old }
         ensures err { IsErrOf result WorldFault.OutOfMemory → self.new ≡ self.old }
-        ensures size { (M.state media.new).size ≡ (M.state media.old).size }
+        ensures size { M.size media.new ≡ M.size media.old }
     {
         move_in(
             &mut self.hosts,

@@ -192,7 +192,9 @@ impl FileMedia {
 }
 
 impl Media for FileMedia {
-    ghost state = { λ media. record { size = media.lines; image = None; faults = media.faults } };
+    ghost size = { λ media. media.lines };
+
+    ghost state = { λ media. record { image = None; faults = media.faults } };
 
     ghost normal = { λ m. tt };
 

@@ -71,16 +71,16 @@ parents_end name me path attr out journal x = by_stop (last_stops journal) refl
     first : HasFirst (path_prefixes path)
     first = has_first [] path
 
-    each : (hosts : List HostForm) (notes : List Note) → FollowsForm out.media.old.size (shot_events name (MakesParents path attr)) hosts notes → last_passes ends_command notes ≡ true
+    each : (hosts : List HostForm) (notes : List Note) → FollowsForm out.lines (shot_events name (MakesParents path attr)) hosts notes → last_passes ends_command notes ≡ true
     each hosts notes f =
-        runs_end name (makes_one attr) first.first first.more out.media.old.size hosts notes
-        (subst (λ (ps : List (List ℕ)). FollowsForm out.media.old.size (map (makes name attr) ps) hosts notes) first.is f)
+        runs_end name (makes_one attr) first.first first.more out.lines hosts notes
+        (subst (λ (ps : List (List ℕ)). FollowsForm out.lines (map (makes name attr) ps) hosts notes) first.is f)
 
     by_stop : (t : Bool) → last_stops journal ≡ t → last_passes ends_command journal ≡ true
     by_stop true is = stopped_end journal is
     by_stop false is =
-        behind_first ends_command (event.Host name me) (shot_events name (MakesParents path attr)) out.media.old.size [] journal each
-        (subst (λ (es : List Event). FollowsForm out.media.old.size es [] journal) (x.all is) x.ended.form)
+        behind_first ends_command (event.Host name me) (shot_events name (MakesParents path attr)) out.lines [] journal each
+        (subst (λ (es : List Event). FollowsForm out.lines es [] journal) (x.all is) x.ended.form)
 
 -- Commands alone make no file system.
 
@@ -94,4 +94,4 @@ behind_host name me asks xs zero e lines hosts notes is x = subst (λ (z : Event
 behind_host name me asks xs (suc k) e lines hosts notes is x = none_at name asks xs k e lines hosts notes is x
 
 pub none_breaks : {A : Type 0} (name me : List ℕ) (asks : A → Ask) (xs : List A) (out : Outside) (journal : List Note) → HasEnded MkfsFails out (event.Host name me ∷ map (λ x. event.Run name (asks x)) xs) journal → ⊥
-none_breaks name me asks xs out journal x = behind_host name me asks xs x.form.count x.form.event out.media.old.size (forms_behind [] x.form.whole_notes) x.form.part_notes x.form.is x.form.part
+none_breaks name me asks xs out journal x = behind_host name me asks xs x.form.count x.form.event out.lines (forms_behind [] x.form.whole_notes) x.form.part_notes x.form.is x.form.part

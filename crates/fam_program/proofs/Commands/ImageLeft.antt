@@ -43,19 +43,19 @@ module _ (b : Base) (one : IsOneRun b.events) where
   events_of count files start n f = subst (λ (es : List Event). Follows files (take count es) (first_session start) n.world.journal f.last) one.events_are f.follows
 
   -- all that was run is done, and its last line wants memory
-  pub done_spares : (count : ℕ) (n : Now) → Far b count n → last_passes is_short n.world.journal ≡ false → IfModelled b.told (λ start. IfModelled b.files (λ files. n.told ≡ Some start))
+  pub done_spares : (count : ℕ) (n : Now) → Far b count n → last_passes is_short n.world.journal ≡ false → IfModelled b.media.image (λ start. IfModelled b.files (λ files. n.media.image ≡ Some start))
   done_spares count n far long start told_is files files_are =
       let f = far.on start told_is files files_are in
       by_spared f (one_spares files start one.name one.me f.held.kept.held.first one.what n.world.journal f.last count (events_of count files start n f))
     where
-      by_spared : (f : FarOn files (take count b.events) start n) → (last_passes is_short n.world.journal ≡ true) ⊎ (f.last.machines.memory ≡ start) → n.told ≡ Some start
+      by_spared : (f : FarOn files (take count b.events) start n) → (last_passes is_short n.world.journal ≡ true) ⊎ (f.last.machines.memory ≡ start) → n.media.image ≡ Some start
       by_spared f (inl short) = absurd (false≢true (sym long ∙ short))
       by_spared f (inr kept) = f.left ∙ ap Some kept
 
   -- an event ended the run early
   module _ (n m : Now) (shelf : ShelfChange) (x : EventFault) where
     -- the host's declaration
-    host_spares : Far b 0 n → EventSays (event.Host one.name one.me) shelf (next_of b n m) (Err x) → IfModelled b.told (λ start. IfModelled b.files (λ files. m.told ≡ Some start))
+    host_spares : Far b 0 n → EventSays (event.Host one.name one.me) shelf (next_of b n m) (Err x) → IfModelled b.media.image (λ start. IfModelled b.files (λ files. m.media.image ≡ Some start))
     host_spares far says start told_is files files_are = by_fault x says
       where
         f : FarOn files (take 0 b.events) start n
@@ -68,7 +68,7 @@ module _ (b : Base) (one : IsOneRun b.events) where
         by_part notes new (inl none) = ap (λ (z : Session). z.machines.memory) none.1 ∙ first_is
         by_part notes new (inr part) = absurd part
 
-        by_fault : (y : EventFault) → EventSays (event.Host one.name one.me) shelf (next_of b n m) (Err y) → m.told ≡ Some start
+        by_fault : (y : EventFault) → EventSays (event.Host one.name one.me) shelf (next_of b n m) (Err y) → m.media.image ≡ Some start
         by_fault fault.MkfsFailed says = absurd says.adds.form
         by_fault (fault.SourceEnded end) says = absurd (let none = says.0.adds.form.reads in cc)
         by_fault fault.OutOfMemory says =
@@ -76,7 +76,7 @@ module _ (b : Base) (one : IsOneRun b.events) where
             k.comes.told_is ∙ ap Some (by_part k.comes.notes k.comes.last k.comes.does)
 
     -- its run
-    run_spares : Far b 1 n → (IsRested n.world → IfModelled n.told (λ image. m.told ≡ Some image)) → IfModelled b.told (λ start. IfModelled b.files (λ files. m.told ≡ Some start))
+    run_spares : Far b 1 n → (IsRested n.world → IfModelled n.media.image (λ image. m.media.image ≡ Some image)) → IfModelled b.media.image (λ start. IfModelled b.files (λ files. m.media.image ≡ Some start))
     run_spares far same start told_is files files_are =
         let f = far.on start told_is files files_are in
         let e = events_of 1 files start n f in
@@ -85,10 +85,10 @@ module _ (b : Base) (one : IsOneRun b.events) where
         let clean : AreClean f.last.machines = subst (λ (z : Session). AreClean z.machines) (sym e.4.1) begun.1 in
         same (rested_of _ f.last.machines n.world f.held.stands clean) start (f.left ∙ ap Some kept)
 
-    pub fault_spares : (count : ℕ) → Far b count n → (e : Event) → slice_get b.events count ≡ Some e → EventSays e shelf (next_of b n m) (Err x) → (IsRun e → IsRested n.world → IfModelled n.told (λ image. m.told ≡ Some image)) → IfModelled b.told (λ start. IfModelled b.files (λ files. m.told ≡ Some start))
+    pub fault_spares : (count : ℕ) → Far b count n → (e : Event) → slice_get b.events count ≡ Some e → EventSays e shelf (next_of b n m) (Err x) → (IsRun e → IsRested n.world → IfModelled n.media.image (λ image. m.media.image ≡ Some image)) → IfModelled b.media.image (λ start. IfModelled b.files (λ files. m.media.image ≡ Some start))
     fault_spares count far e is says same = by_count count far (sym (ap (λ (es : List Event). slice_get es count) one.events_are) ∙ is)
       where
-        by_count : (k : ℕ) → Far b k n → slice_get (one_run one.name one.me one.what) k ≡ Some e → IfModelled b.told (λ start. IfModelled b.files (λ files. m.told ≡ Some start))
+        by_count : (k : ℕ) → Far b k n → slice_get (one_run one.name one.me one.what) k ≡ Some e → IfModelled b.media.image (λ start. IfModelled b.files (λ files. m.media.image ≡ Some start))
         by_count zero far is = host_spares far (subst (λ (z : Event). EventSays z shelf (next_of b n m) (Err x)) (sym (same_Some _ e is)) says)
         by_count (suc zero) far is = run_spares far (same (subst IsRun (same_Some _ e is) tt))
         by_count (suc (suc k)) far is = absurd cc

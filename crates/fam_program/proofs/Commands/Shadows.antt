@@ -22,7 +22,7 @@ use Rattle.fam_program.specs.Shots.{ShotSays}
 use Rattle.fam_program.proofs.Commands.TopEnds.{SparedRun, shot_ran, stopped_whole}
 use Rattle.fam_program.proofs.Commands.Events.{alone_events}
 use Rattle.fam_program.proofs.Texts.Pieces.{IsOwn}
-use Rattle.fam_program.proofs.Runs.OneText.{memory_own, put_alone, sink_of}
+use Rattle.fam_program.proofs.Runs.OneText.{memory_own, put_alone}
 
 shadow_own : (written : Result (Unit {0}) ShadowFault) → IsOwn (shadow_status written)
 shadow_own (Ok x) e = absurd cc
@@ -36,7 +36,7 @@ usage_own e = absurd cc
 module _ (out : Outside) (shade : ShadeChange) (given : Status) (later : NoneFalls out) where
   -- no event was run
   module _ (asked : Option (List ℕ)) (same : out.media.new.image ≡ out.media.old.image) (untouched : IsUntouched shade) where
-    early : (cause : Early) → IsEarly script_events storm (option_map (λ me. Single me logplay) asked) out cause → IsOwn (early_status cause) → Put (early_status cause) (early_text cause) (sink_of out) given → ShadowTop asked out shade given
+    early : (cause : Early) → IsEarly script_events storm (option_map (λ me. Single me logplay) asked) out cause → IsOwn (early_status cause) → Put (early_status cause) (early_text cause) out.sink given → ShadowTop asked out shade given
     early cause is own put = record {
       text = early_text cause;
       own = early_status cause;
@@ -45,17 +45,17 @@ module _ (out : Outside) (shade : ShadeChange) (given : Status) (later : NoneFal
       put = put_alone out (early_text cause) (early_status cause) given own put;
     }
 
-    pub shadow_wants : Put status.OutOfMemory memory_line (sink_of out) given → ShadowTop asked out shade given
+    pub shadow_wants : Put status.OutOfMemory memory_line out.sink given → ShadowTop asked out shade given
     shadow_wants put = early EarlyOutOfMemory tt memory_own put
 
-    pub no_shadow : asked ≡ None → Put status.Usage usage_line (sink_of out) given → ShadowTop asked out shade given
+    pub no_shadow : asked ≡ None → Put status.Usage usage_line out.sink given → ShadowTop asked out shade given
     no_shadow none put = early NoCommand (ap (option_map (λ me. Single me logplay)) none) usage_own put
 
   module _ (name me : List ℕ) (journal : List Note) where
     -- the tree that was shown
     shadowed : HasStopped out (alone_events name me logplay) journal → (m : ℕ) (tree : Tree) → shown_tree journal ≡ Some (m, tree) → (written : Result (Unit {0}) ShadowFault)
         → Becomes shade.old.nodes shade.new.nodes (ShadowEnds tree written) → IfErr written (FaultCaused tree shade.old.faults shade.new.faults)
-        → Put (shadow_status written) (shadow_text m written) (sink_of out) given ⊎ Put status.OutOfMemory memory_line (sink_of out) given → ShadowTop (Some me) out shade given
+        → Put (shadow_status written) (shadow_text m written) out.sink given ⊎ Put status.OutOfMemory memory_line out.sink given → ShadowTop (Some me) out shade given
     shadowed x m tree shown written becomes caused (inl put) = record {
       text = shadow_text m written;
       own = shadow_status written;
@@ -73,12 +73,12 @@ module _ (out : Outside) (shade : ShadeChange) (given : Status) (later : NoneFal
 
     pub shadowed_top : (ended : Result (Unit {0}) EventFault) → ShotEnded ended out (alone_events name me logplay) journal → IsOk ended → (m : ℕ) (tree : Tree) → shown_tree journal ≡ Some (m, tree) → (written : Result (Unit {0}) ShadowFault)
         → Becomes shade.old.nodes shade.new.nodes (ShadowEnds tree written) → IfErr written (FaultCaused tree shade.old.faults shade.new.faults)
-        → Put (shadow_status written) (shadow_text m written) (sink_of out) given ⊎ Put status.OutOfMemory memory_line (sink_of out) given → ShadowTop (Some me) out shade given
+        → Put (shadow_status written) (shadow_text m written) out.sink given ⊎ Put status.OutOfMemory memory_line out.sink given → ShadowTop (Some me) out shade given
     shadowed_top (Ok done) x ok = shadowed x
     shadowed_top (Err fault) x ok = absurd (cc (ok))
 
     -- logplay's own answer
-    pub logplayed_top : (ended : Result (Unit {0}) EventFault) → SparedRun logplay out (MayLack ended journal) → ShotEnded ended out (alone_events name me logplay) journal → ShotSays ended (last_status journal) journal (sink_of out) given
+    pub logplayed_top : (ended : Result (Unit {0}) EventFault) → SparedRun logplay out (MayLack ended journal) → ShotEnded ended out (alone_events name me logplay) journal → ShotSays ended (last_status journal) journal out.sink given
         → OnOk ended (shown_tree journal ≡ None) → IsUntouched shade → ShadowTop (Some me) out shade given
     logplayed_top ended spared x says none untouched =
         let run = shot_ran name me out journal given (shown_tree journal ≡ None) logplay ended spared x says none in

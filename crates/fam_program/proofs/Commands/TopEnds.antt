@@ -36,7 +36,7 @@ use Rattle.fam_program.proofs.Commands.NoFaultHidden.{long_faultless}
 use Rattle.fam_program.proofs.Commands.Events.{alone_events, makes_one, none_breaks, parents_end}
 use Rattle.fam_program.proofs.Texts.Pieces.{IsOwn}
 use Rattle.fam_program.proofs.Commands.MemoryLeft.{last_behind}
-use Rattle.fam_program.proofs.Runs.OneText.{done_wants, media_own, memory_own, put_alone, sink_of, source_own, source_wants}
+use Rattle.fam_program.proofs.Runs.OneText.{done_wants, media_own, memory_own, put_alone, source_own, source_wants}
 
 -- The statuses: none of a note is that of a sink that failed, or of want of memory.
 
@@ -189,7 +189,7 @@ module _ (name me : List ℕ) (shot : OneShot) (out : Outside) (journal : List N
   -- at least the host is declared
   none_done : (x : HasStopped out all journal) → x.count ≡ 0 → ⊥
   none_done x is =
-      let none : journal ≡ [] = subst (λ (k : ℕ). FollowsForm out.media.old.size (take k all) [] journal) is x.ended.form in
+      let none : journal ≡ [] = subst (λ (k : ℕ). FollowsForm out.lines (take k all) [] journal) is x.ended.form in
       let same : [] ≡ all = ap (λ (k : ℕ). take k all) (sym is) ∙ x.all (ap last_stops none) in
       absurd cc
 
@@ -205,7 +205,7 @@ module _ (name me : List ℕ) (shot : OneShot) (out : Outside) (journal : List N
     abbrev Comes : Type 0
     Comes = Ran me shot out journal fact given
 
-    ran : (ending : Ending) (events : List Event) (text : List ℕ) → HasEnded ending out events journal → ShotPuts me shot events ending journal text → IsOwn (shot_status shot ending journal) → SparesImage shot (shot_status shot ending journal) out → Put (shot_status shot ending journal) text (sink_of out) given
+    ran : (ending : Ending) (events : List Event) (text : List ℕ) → HasEnded ending out events journal → ShotPuts me shot events ending journal text → IsOwn (shot_status shot ending journal) → SparesImage shot (shot_status shot ending journal) out → Put (shot_status shot ending journal) text out.sink given
         → (ending ≡ AllDone → fact) → Comes
     ran ending events text x puts other spares put known = record {
       text = text;
@@ -222,16 +222,16 @@ module _ (name me : List ℕ) (shot : OneShot) (out : Outside) (journal : List N
     }
 
     -- no memory was left for an event
-    wants : SparesImage shot status.OutOfMemory out → HasEnded EndsOutOfMemory out all journal → GoesOn journal → IsFaultless journal → Put status.OutOfMemory memory_line (sink_of out) given → Comes
+    wants : SparesImage shot status.OutOfMemory out → HasEnded EndsOutOfMemory out all journal → GoesOn journal → IsFaultless journal → Put status.OutOfMemory memory_line out.sink given → Comes
     wants spares x goes clean put = ran EndsOutOfMemory all memory_line x (whole goes, (refl, clean)) memory_own spares put (λ e. absurd cc)
 
     -- a source ended early
-    ended : SparesImage shot status.OutOfMemory out → (end : SourceEnd) → HasEnded (SourceFails end) out all journal → GoesOn journal → IsFaultless journal → Put status.SourceFault (source_line end) (sink_of out) given ⊎ Put status.OutOfMemory memory_line (sink_of out) given → Comes
+    ended : SparesImage shot status.OutOfMemory out → (end : SourceEnd) → HasEnded (SourceFails end) out all journal → GoesOn journal → IsFaultless journal → Put status.SourceFault (source_line end) out.sink given ⊎ Put status.OutOfMemory memory_line out.sink given → Comes
     ended spares end x goes clean (inl put) = ran (SourceFails end) all (source_line end) x (whole goes, refl) source_own (own_spares shot status.SourceFault out (λ e. absurd cc)) put (λ e. absurd cc)
     ended spares end x goes clean (inr put) = wants spares (source_wants end out all journal x) goes clean put
 
     -- the run has come to its end
-    done : SparedRun shot out (last_passes is_short journal ≡ false) → (x : HasStopped out all journal) → last_passes (ends_shot shot) journal ≡ true → LastSays (done_status shot journal) journal (sink_of out) given → fact → Comes
+    done : SparedRun shot out (last_passes is_short journal ≡ false) → (x : HasStopped out all journal) → last_passes (ends_shot shot) journal ≡ true → LastSays (done_status shot journal) journal out.sink given → fact → Comes
     done spared x ends (inl put) known = ran AllDone (take x.count all) (shown journal) x.ended (stopped_whole x, (ends, refl)) (done_own shot journal) (done_spares shot journal out) put (λ e. known)
     done spared x ends (inr put) known = ran EndsOutOfMemory (take x.count all) memory_line (done_wants out (take x.count all) journal x.ended) (stopped_whole x, (refl, long_faultless journal x.goes_on put.1)) memory_own (lack_spares shot status.OutOfMemory out (last_passes is_short journal ≡ false) spared put.1) put.0 (λ e. absurd cc)
 
@@ -251,8 +251,8 @@ module _ (name me : List ℕ) (out : Outside) (journal : List Note) where
       by_stop : (t : Bool) → last_stops journal ≡ t → last_passes ends_command journal ≡ true
       by_stop true is = stopped_end journal is
       by_stop false is =
-          behind_first ends_command (event.Host name me) (event.Run name what ∷ []) out.media.old.size [] journal (λ hosts notes f. runs_end name (λ (w : Ask). w) what [] out.media.old.size hosts notes f)
-          (subst (λ (es : List Event). FollowsForm out.media.old.size es [] journal) (x.all is) x.ended.form)
+          behind_first ends_command (event.Host name me) (event.Run name what ∷ []) out.lines [] journal (λ hosts notes f. runs_end name (λ (w : Ask). w) what [] out.lines hosts notes f)
+          (subst (λ (es : List Event). FollowsForm out.lines es [] journal) (x.all is) x.ended.form)
 
   module _ (fs : List ℕ) (unit log : ℕ) (force : Bool) where
     abbrev makes : OneShot
@@ -261,12 +261,12 @@ module _ (name me : List ℕ) (out : Outside) (journal : List Note) where
     mkfs_ends : HasStopped out (alone_events name me makes) journal → last_passes ends_mkfs journal ≡ true
     mkfs_ends x = by_count x.count refl
       where
-        form_at : (k : ℕ) → x.count ≡ k → FollowsForm out.media.old.size (take k (alone_events name me makes)) [] journal
-        form_at k is = subst (λ (n : ℕ). FollowsForm out.media.old.size (take n (alone_events name me makes)) [] journal) is x.ended.form
+        form_at : (k : ℕ) → x.count ≡ k → FollowsForm out.lines (take k (alone_events name me makes)) [] journal
+        form_at k is = subst (λ (n : ℕ). FollowsForm out.lines (take n (alone_events name me makes)) [] journal) is x.ended.form
 
         -- the host alone was declared: that was refused
         by_stop : (t : Bool) → last_stops journal ≡ t → x.count ≡ 1 → last_passes ends_mkfs journal ≡ true
-        by_stop true stops is = host_end ends_mkfs name me out.media.old.size journal (λ cause. refl) stops (form_at 1 is)
+        by_stop true stops is = host_end ends_mkfs name me out.lines journal (λ cause. refl) stops (form_at 1 is)
         by_stop false goes is =
             let same : event.Host name me ∷ [] ≡ alone_events name me makes = ap (λ (n : ℕ). take n (alone_events name me makes)) (sym is) ∙ x.all goes in
             absurd cc
@@ -275,8 +275,8 @@ module _ (name me : List ℕ) (out : Outside) (journal : List Note) where
         by_count zero is = absurd (none_done name me makes out journal x is)
         by_count (suc zero) is = by_stop (last_stops journal) refl is
         by_count (suc (suc k)) is =
-            behind_first ends_mkfs (event.Host name me) (event.Mkfs name fs unit log force ∷ []) out.media.old.size [] journal (mkfs_end name fs unit log force out.media.old.size)
-            (subst (λ (es : List Event). FollowsForm out.media.old.size (event.Host name me ∷ event.Mkfs name fs unit log force ∷ es) [] journal) (take_none k) (form_at (suc (suc k)) is))
+            behind_first ends_mkfs (event.Host name me) (event.Mkfs name fs unit log force ∷ []) out.lines [] journal (mkfs_end name fs unit log force out.lines)
+            (subst (λ (es : List Event). FollowsForm out.lines (event.Host name me ∷ event.Mkfs name fs unit log force ∷ es) [] journal) (take_none k) (form_at (suc (suc k)) is))
 
   shot_ends : (shot : OneShot) → HasStopped out (alone_events name me shot) journal → last_passes (ends_shot shot) journal ≡ true
   shot_ends (Makes fs unit log force) x = mkfs_ends fs unit log force x
@@ -289,14 +289,14 @@ module _ (name me : List ℕ) (out : Outside) (journal : List Note) where
 
   module _ (given : Status) (fact : Type 0) where
     -- the media failed in a mkfs
-    broken : (shot : OneShot) → HasEnded MkfsFails out (alone_events name me shot) journal → GoesOn journal → LastSays status.MediaFault journal (sink_of out) given → Ran me shot out journal fact given
+    broken : (shot : OneShot) → HasEnded MkfsFails out (alone_events name me shot) journal → GoesOn journal → LastSays status.MediaFault journal out.sink given → Ran me shot out journal fact given
     broken (Makes fs unit log force) x goes (inl put) = ran name me (Makes fs unit log force) out journal given fact MkfsFails (alone_events name me (Makes fs unit log force)) (shown journal) x (whole name me (Makes fs unit log force) out journal goes, refl) media_own tt put (λ e. absurd cc)
     broken (Makes fs unit log force) x goes (inr put) = absurd (false≢true (sym put.1 ∙ fault_short x.caused))
     broken (Runs what) x goes put = absurd (none_breaks name me (λ (w : Ask). w) (what ∷ []) out journal x)
     broken (MakesParents path attr) x goes put = absurd (none_breaks name me (makes_one attr) (path_prefixes path) out journal x)
 
     -- by how the run has ended, and what was put then
-    pub shot_ran : (shot : OneShot) (ended_so : Result (Unit {0}) EventFault) → SparedRun shot out (MayLack ended_so journal) → ShotEnded ended_so out (alone_events name me shot) journal → ShotSays ended_so (done_status shot journal) journal (sink_of out) given
+    pub shot_ran : (shot : OneShot) (ended_so : Result (Unit {0}) EventFault) → SparedRun shot out (MayLack ended_so journal) → ShotEnded ended_so out (alone_events name me shot) journal → ShotSays ended_so (done_status shot journal) journal out.sink given
         → OnOk ended_so fact → Ran me shot out journal fact given
     shot_ran shot (Ok x) spared stopped says known = done name me shot out journal given fact spared stopped (shot_ends shot stopped) says known
     shot_ran shot (Err fault.MkfsFailed) spared x says known = broken shot x.0 x.1 says
@@ -309,7 +309,7 @@ nothing_known (Err fault) = tt
 
 module _ (name me : List ℕ) (out : Outside) (journal : List Note) (given : Status) (later : NoneFalls out) where
   -- as the top call tells it
-  pub shot_top : (shot : OneShot) (ended_so : Result (Unit {0}) EventFault) → SparedRun shot out (MayLack ended_so journal) → ShotEnded ended_so out (alone_events name me shot) journal → ShotSays ended_so (done_status shot journal) journal (sink_of out) given → TopEnds script_events storm (Some (Single me shot)) out given
+  pub shot_top : (shot : OneShot) (ended_so : Result (Unit {0}) EventFault) → SparedRun shot out (MayLack ended_so journal) → ShotEnded ended_so out (alone_events name me shot) journal → ShotSays ended_so (done_status shot journal) journal out.sink given → TopEnds script_events storm (Some (Single me shot)) out given
   shot_top shot ended_so spared x says =
       let run = shot_ran name me out journal given ⊤ shot ended_so spared x says (nothing_known ended_so) in
       record { text = run.text; own = run.own; shows = inr run.runs; later = later; put = run.put }

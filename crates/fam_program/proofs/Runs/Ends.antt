@@ -6,7 +6,7 @@ use Rattle.fam_base.specs.Image.{Image}
 use Rattle.fam_media.specs.Causes.{Rose}
 use Rattle.fam_media.specs.Files.{Files}
 use Rattle.fam_media.specs.Outside.{IfModelled}
-use Rattle.fam_media.specs.States.{ShelfChange}
+use Rattle.fam_media.specs.States.{ShelfChange, SinkChange}
 use Rattle.fam_sources.specs.declared.sourced.SourceEnd.{SourceEnd}
 use Rattle.fam_sources.specs.declared.sourced.SourceEnd.TheVariants.{Faulted, Short}
 use Rattle.fam_sources.specs.Sourced.{HasEndCause, end_of}
@@ -35,28 +35,13 @@ risen before now (inl less) = omega (arith, less)
 risen before now (inr full) = omega (arith, full)
 
 -- what the run's outside is
-abbrev pub out_of : Base → Now → ShelfChange → ℕ → ℕ → Option (List ℕ) → Option (List ℕ) → Outside
-out_of b n shelf sink sink_now bytes bytes_now = record {
-  lines = b.lines;
-  image = b.told;
-  image_now = n.told;
-  faults = b.faults;
-  faults_now = n.faults;
-  files = b.files;
-  shelf = shelf.old.faults;
-  shelf_now = shelf.new.faults;
-  shorts = shelf.old.shorts;
-  shorts_now = shelf.new.shorts;
-  bytes = bytes;
-  bytes_now = bytes_now;
-  sink = sink;
-  sink_now = sink_now;
-}
+abbrev pub out_of : Base → Now → ShelfChange → SinkChange → Outside
+out_of b n shelf sink = record { lines = b.lines; media = record { old = b.media; new = n.media }; shelf = shelf; sink = sink }
 
 -- where a world is held its journal is legal, and the image reads as it settles
-module _ (b : Base) (count : ℕ) (n : Now) (far : Far b count n) (shelf : ShelfChange) (sink sink_now : ℕ) (bytes bytes_now : Option (List ℕ)) where
+module _ (b : Base) (count : ℕ) (n : Now) (far : Far b count n) (shelf : ShelfChange) (all : SinkChange) where
   abbrev out : Outside
-  out = out_of b n shelf sink sink_now bytes bytes_now
+  out = out_of b n shelf all
 
   -- the first ones are done, and no more is put
   pub prefix_ended : HasEnded EndsOutOfMemory out b.events n.world.journal
@@ -89,14 +74,14 @@ module _ (b : Base) (count : ℕ) (n : Now) (far : Far b count n) (shelf : Shelf
   }
 
 -- An event ends the run.
-module _ (b : Base) (count : ℕ) (n m : Now) (far : Far b count n) (e : Event) (is : slice_get b.events count ≡ Some e) (shelf : ShelfChange) (sink sink_now : ℕ) (bytes bytes_now : Option (List ℕ)) where
+module _ (b : Base) (count : ℕ) (n m : Now) (far : Far b count n) (e : Event) (is : slice_get b.events count ≡ Some e) (shelf : ShelfChange) (all : SinkChange) where
   abbrev a : Around
   a = next_of b n m
 
   abbrev end_out : Outside
-  end_out = out_of b m shelf sink sink_now bytes bytes_now
+  end_out = out_of b m shelf all
 
-  counted_more : (notes : List Note) → HasCounted n.faults m.faults notes → n.faults ≤ m.faults → m.world.journal ≡ n.world.journal ++ notes → HasCounted b.faults m.faults m.world.journal
+  counted_more : (notes : List Note) → HasCounted n.media.faults m.media.faults notes → n.media.faults ≤ m.media.faults → m.world.journal ≡ n.world.journal ++ notes → HasCounted b.media.faults m.media.faults m.world.journal
   counted_more notes counted later joined =
       let x = far.counted in
       let sum = ap (λ (j : List Note). Rattle.fam_journal.specs.Ends.faults_of j) joined ∙ faults_both n.world.journal notes in
@@ -134,9 +119,9 @@ module _ (b : Base) (count : ℕ) (n m : Now) (far : Far b count n) (e : Event) 
     pub legal : Legal start m.world.journal
     pub follows : FollowsBroken files b.events (first_session start) m.world.journal last
     pub whole : follows.whole_notes ≡ n.world.journal
-    pub left : m.told ≡ Some last.machines.memory
+    pub left : m.media.image ≡ Some last.machines.memory
 
-  pub broken_on : EventBroken e a → (start : Image) (files : Files) → b.told ≡ Some start → b.files ≡ Some files → BrokenOn start files
+  pub broken_on : EventBroken e a → (start : Image) (files : Files) → b.media.image ≡ Some start → b.files ≡ Some files → BrokenOn start files
   broken_on x start files told_is files_are =
       let f = far.on start told_is files files_are in
       let k = x.keeps start files f.last.machines files_are f.left f.held in
@@ -161,12 +146,12 @@ module _ (b : Base) (count : ℕ) (n m : Now) (far : Far b count n) (e : Event) 
   broken_form : EventBroken e a → FormUpTo EventBreaksForm b.lines b.events [] m.world.journal
   broken_form x = record { count = count; event = e; is = is; whole_notes = n.world.journal; part_notes = x.adds.notes; whole = far.form; part = x.adds.form; joined = x.adds.joined }
 
-  broken_told : (x : EventBroken e a) → IfModelled b.told (λ start. IfModelled b.files (λ files. RunsOn MkfsFails files b.events start m.told m.world.journal))
+  broken_told : (x : EventBroken e a) → IfModelled b.media.image (λ start. IfModelled b.files (λ files. RunsOn MkfsFails files b.events start m.media.image m.world.journal))
   broken_told x start told_is files files_are =
       let r = broken_on x start files told_is files_are in
       record { last = r.last; legal = r.legal; follows = r.follows; left = r.left; reads = tt }
 
-  broken_want : (x : EventBroken e a) → IfModelled b.told (λ start. IfModelled b.files (λ files. RunsOn EndsOutOfMemoryBroken files b.events start m.told m.world.journal))
+  broken_want : (x : EventBroken e a) → IfModelled b.media.image (λ start. IfModelled b.files (λ files. RunsOn EndsOutOfMemoryBroken files b.events start m.media.image m.world.journal))
   broken_want x start told_is files files_are =
       let r = broken_on x start files told_is files_are in
       record { last = r.last; legal = r.legal; follows = r.follows; left = r.left; reads = tt }
@@ -285,9 +270,9 @@ module _ (b : Base) (count : ℕ) (n m : Now) (far : Far b count n) (e : Event) 
     pub held : Held start last.machines m.world last.machines.memory
     pub follows : FollowsLast files b.events (first_session start) m.world.journal last
     pub whole : follows.whole_notes ≡ n.world.journal
-    pub left : m.told ≡ Some last.machines.memory
+    pub left : m.media.image ≡ Some last.machines.memory
 
-  pub last_on : EventDone e a → (start : Image) (files : Files) → b.told ≡ Some start → b.files ≡ Some files → LastOn start files
+  pub last_on : EventDone e a → (start : Image) (files : Files) → b.media.image ≡ Some start → b.files ≡ Some files → LastOn start files
   last_on x start files told_is files_are =
       let f = far.on start told_is files files_are in
       let k = x.keeps start files f.last.machines files_are f.left f.held in
@@ -309,7 +294,7 @@ module _ (b : Base) (count : ℕ) (n m : Now) (far : Far b count n) (e : Event) 
         left = k.comes.told_is;
       }
 
-  pub sink_ended : EventDone e a → HasRisen sink sink_now → HasEnded SinkFails end_out b.events m.world.journal
+  pub sink_ended : EventDone e a → HasRisen all.old.faults all.new.faults → HasEnded SinkFails end_out b.events m.world.journal
   sink_ended x rose = record {
     named = named_more b count n m far x.adds.notes x.adds.named x.adds.joined;
     form = record { count = count; event = e; is = is; whole_notes = n.world.journal; part_notes = x.adds.notes; whole = far.form; part = x.adds.form; joined = x.adds.joined };

@@ -25,14 +25,14 @@ rose_more first mid now later (inr full) = inr full
 
 -- from an earlier state of the shelf
 pub record IsEarlier (a b : ShelfChange) : Type 0 where
-  pub faults : b.faults ≤ a.faults
-  pub faults_now : a.faults_now ≡ b.faults_now
-  pub shorts : b.shorts ≤ a.shorts
-  pub shorts_now : a.shorts_now ≡ b.shorts_now
+  pub faults : b.old.faults ≤ a.old.faults
+  pub faults_now : a.new.faults ≡ b.new.faults
+  pub shorts : b.old.shorts ≤ a.old.shorts
+  pub shorts_now : a.new.shorts ≡ b.new.shorts
 
 cause_more : (a b : ShelfChange) → IsEarlier a b → (end : SourceEnd) → HasEndCause a end → HasEndCause b end
-cause_more a b e Faulted cause = subst (Rose b.faults) e.faults_now (rose_more b.faults a.faults a.faults_now e.faults cause)
-cause_more a b e (Short size got) cause = (subst (Rose b.shorts) e.shorts_now (rose_more b.shorts a.shorts a.shorts_now e.shorts cause.0), cause.1)
+cause_more a b e Faulted cause = subst (Rose b.old.faults) e.faults_now (rose_more b.old.faults a.old.faults a.new.faults e.faults cause)
+cause_more a b e (Short size got) cause = (subst (Rose b.old.shorts) e.shorts_now (rose_more b.old.shorts a.old.shorts a.new.shorts e.shorts cause.0), cause.1)
 
 says_more : (e : Event) (a b : ShelfChange) (around : Around) (r : Result (Unit {0}) EventFault) → IsEarlier a b → EventSays e a around r → EventSays e b around r
 says_more e a b around (Ok x) earlier says = says
@@ -52,7 +52,7 @@ pub record Noted (a : Around) : Type 0 where
   pub notes : List Note
   pub joined : a.new.journal ≡ a.old.journal ++ notes
   pub named : AreNamed (length a.old.hosts) notes
-  pub later : a.faults ≤ a.faults_now
+  pub later : a.media.old.faults ≤ a.media.new.faults
 
 pub noted : (e : Event) (shelf : ShelfChange) (a : Around) (r : Result (Unit {0}) EventFault) → EventSays e shelf a r → Noted a
 noted e shelf a (Ok x) says = record { notes = says.adds.notes; joined = says.adds.joined; named = says.adds.named; later = says.adds.later }

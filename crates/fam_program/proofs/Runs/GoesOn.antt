@@ -24,7 +24,7 @@ use Rattle.fam_program.specs.Far.{Base, Far, Now}
 use Rattle.fam_program.proofs.Runs.OneMore.{follows_more, form_more, take_next}
 
 -- before the first event
-pub first_far : (b : Base) → IfModelled b.told IsImage → Far b 0 (record { world = empty_world; told = b.told; faults = b.faults; copied = 0 })
+pub first_far : (b : Base) → IfModelled b.media.image IsImage → Far b 0 (record { world = empty_world; media = b.media; copied = 0 })
 first_far b image = record {
   named = tt;
   counted = omega arith;
@@ -77,10 +77,7 @@ next_of b n m = record {
   lines = b.lines;
   old = n.world;
   new = m.world;
-  told = n.told;
-  told_now = m.told;
-  faults = n.faults;
-  faults_now = m.faults;
+  media = record { old = n.media; new = m.media };
   files = b.files;
   copied = n.copied;
   copied_now = m.copied;

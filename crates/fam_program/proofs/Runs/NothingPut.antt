@@ -3,7 +3,7 @@ use Rattle.std.proofs.Common.{◌≡◌, ℕ, ◌++◌, false, List, take, Optio
 use Rattle.std.specs.Prelude.{slice_get}
 use Rattle.std.specs.List.{list_any}
 use Rattle.std.proofs.lemmas.List.{append-nil}
-use Rattle.fam_media.specs.States.{ShelfChange}
+use Rattle.fam_media.specs.States.{ShelfChange, SinkChange}
 use Rattle.fam_journal.specs.declared.event.Event.{Event}
 use Rattle.fam_journal.specs.Ends.{AllDone}
 use Rattle.fam_journal.specs.Forms.{forms_of}
@@ -21,15 +21,15 @@ use Rattle.fam_program.proofs.Runs.GoesOn.{next_of}
 use Rattle.fam_program.proofs.Runs.Stops.{all_go, breaks_goes, cut_goes, go_behind}
 
 -- by why nothing goes on
-pub fault_ended : (b : Base) (count : ℕ) (n m : Now) → Far b count n → (e : Event) → slice_get b.events count ≡ Some e → (shelf : ShelfChange) (sink sink_now : ℕ) (bytes bytes_now : Option (List ℕ)) (x : EventFault)
-    → EventSays e shelf (next_of b n m) (Err x) → HasEnded (ending_of x) (out_of b m shelf sink sink_now bytes bytes_now) b.events m.world.journal
-fault_ended b count n m far e is shelf sink sink_now bytes bytes_now fault.MkfsFailed says = broken_ended b count n m far e is shelf sink sink_now bytes bytes_now says
-fault_ended b count n m far e is shelf sink sink_now bytes bytes_now (fault.SourceEnded end) says = source_ended b count n m far e is shelf sink sink_now bytes bytes_now end says.0 says.1
-fault_ended b count n m far e is shelf sink sink_now bytes bytes_now fault.OutOfMemory says = part_ended b count n m far e is shelf sink sink_now bytes bytes_now says
+pub fault_ended : (b : Base) (count : ℕ) (n m : Now) → Far b count n → (e : Event) → slice_get b.events count ≡ Some e → (shelf : ShelfChange) (all : SinkChange) (x : EventFault)
+    → EventSays e shelf (next_of b n m) (Err x) → HasEnded (ending_of x) (out_of b m shelf all) b.events m.world.journal
+fault_ended b count n m far e is shelf all fault.MkfsFailed says = broken_ended b count n m far e is shelf all says
+fault_ended b count n m far e is shelf all (fault.SourceEnded end) says = source_ended b count n m far e is shelf all end says.0 says.1
+fault_ended b count n m far e is shelf all fault.OutOfMemory says = part_ended b count n m far e is shelf all says
 
 -- the first ones are done, and no more are run
-pub taken_ended : (b : Base) (count : ℕ) (n : Now) → Far b count n → (shelf : ShelfChange) (sink sink_now : ℕ) (bytes bytes_now : Option (List ℕ)) → HasEnded AllDone (out_of b n shelf sink sink_now bytes bytes_now) (take count b.events) n.world.journal
-taken_ended b count n far shelf sink sink_now bytes bytes_now = record {
+pub taken_ended : (b : Base) (count : ℕ) (n : Now) → Far b count n → (shelf : ShelfChange) (all : SinkChange) → HasEnded AllDone (out_of b n shelf all) (take count b.events) n.world.journal
+taken_ended b count n far shelf all = record {
   named = far.named;
   form = far.form;
   counted = far.counted;

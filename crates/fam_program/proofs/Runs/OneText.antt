@@ -5,7 +5,6 @@ use Rattle.std.specs.Prelude.{slice_get}
 use Rattle.std.proofs.lemmas.List.{take_all}
 use Rattle.std.proofs.lemmas.List.Elements.{All-head, All-tail}
 use Rattle.std.proofs.lemmas.Option.{same_Some}
-use Rattle.fam_media.specs.States.{SinkChange}
 use Rattle.fam_grammar.specs.Scripts.{script_events}
 use Rattle.fam_storm.specs.Events.{ReadNoSource}
 use Rattle.fam_storm.specs.Storm.{storm}
@@ -24,12 +23,8 @@ use Rattle.fam_program.specs.Runs.{HasEnded}
 use Rattle.fam_program.proofs.Runs.Ends.{risen}
 use Rattle.fam_program.proofs.Texts.Pieces.{IsOwn}
 
--- what the sink tells of it
-abbrev pub sink_of : Outside → SinkChange
-sink_of out = record { bytes = out.sink.old.bytes; bytes_now = out.sink.new.bytes; faults = out.sink.old.faults; faults_now = out.sink.new.faults }
-
 -- a text that is put alone
-pub put_alone : (out : Outside) (text : List ℕ) (own given : Status) → IsOwn own → Put own text (sink_of out) given → IsPut own given text out
+pub put_alone : (out : Outside) (text : List ℕ) (own given : Status) → IsOwn own → Put own text out.sink given → IsPut own given text out
 put_alone out text own given other (inl x) = record { outcome = inl x; rose = λ e. absurd (other (sym x.0 ∙ e)) }
 put_alone out text own given other (inr x) = record { outcome = inr (x.0, x.1.part); rose = λ e. risen out.sink.old.faults out.sink.new.faults x.1.rose }
 
@@ -49,7 +44,7 @@ memory_own e = absurd cc
 -- No event was run.
 
 module _ (command : Option Command) (out : Outside) (given : Status) (same : out.media.new.image ≡ out.media.old.image) (later : NoneFalls out) where
-  early : (why : Early) → IsEarly script_events storm command out why → IsOwn (early_status why) → Put (early_status why) (early_text why) (sink_of out) given → TopEnds script_events storm command out given
+  early : (why : Early) → IsEarly script_events storm command out why → IsOwn (early_status why) → Put (early_status why) (early_text why) out.sink given → TopEnds script_events storm command out given
   early why is other put = record {
     text = early_text why;
     own = early_status why;
@@ -58,10 +53,10 @@ module _ (command : Option Command) (out : Outside) (given : Status) (same : out
     put = put_alone out (early_text why) (early_status why) given other put;
   }
 
-  pub early_wants : Put status.OutOfMemory memory_line (sink_of out) given → TopEnds script_events storm command out given
+  pub early_wants : Put status.OutOfMemory memory_line out.sink given → TopEnds script_events storm command out given
   early_wants put = early EarlyOutOfMemory tt memory_own put
 
-pub prints_top : (seed size : ℕ) (prints : Bool) (out : Outside) (given : Status) → prints ≡ true → out.media.new.image ≡ out.media.old.image → NoneFalls out → Put status.Done (storm seed size) (sink_of out) given → TopEnds script_events storm (Some (Storm seed size prints)) out given
+pub prints_top : (seed size : ℕ) (prints : Bool) (out : Outside) (given : Status) → prints ≡ true → out.media.new.image ≡ out.media.old.image → NoneFalls out → Put status.Done (storm seed size) out.sink given → TopEnds script_events storm (Some (Storm seed size prints)) out given
 prints_top seed size prints out given is same later put =
     subst (λ (p : Bool). TopEnds script_events storm (Some (Storm seed size p)) out given) (sym is)
     (early (Some (Storm seed size true)) out given same later (Prints (storm seed size)) refl done_own put)
@@ -88,7 +83,7 @@ no_source_ends end out events journal none x = not_both (x.form.host, x.form.sou
 pub done_wants : (out : Outside) (events : List Event) (journal : List Note) → HasEnded AllDone out events journal → HasEnded EndsOutOfMemory out events journal
 done_wants out events journal x = record {
   named = x.named;
-  form = inl record { count = length events; follows = subst (λ (es : List Event). FollowsForm out.media.old.size es [] journal) (sym whole) x.form };
+  form = inl record { count = length events; follows = subst (λ (es : List Event). FollowsForm out.lines es [] journal) (sym whole) x.form };
   counted = x.counted;
   caused = tt;
   told = λ start told_is files files_are.
@@ -130,7 +125,7 @@ source_wants end out events journal x = record {
 -- A storm was run.
 
 module _ (seed size : ℕ) (events : List Event) (reads : script_events (storm seed size) ≡ Ok events) (out : Outside) (given : Status) (later : NoneFalls out) (journal : List Note) where
-  ran : (ending : Ending) (text : List ℕ) → HasEnded ending out events journal → StormPuts seed size events ending journal text → IsOwn (storm_status ending journal) → Put (storm_status ending journal) text (sink_of out) given
+  ran : (ending : Ending) (text : List ℕ) → HasEnded ending out events journal → StormPuts seed size events ending journal text → IsOwn (storm_status ending journal) → Put (storm_status ending journal) text out.sink given
       → TopEnds script_events storm (Some (Storm seed size false)) out given
   ran ending text x puts other put = record {
     text = text;
@@ -146,17 +141,17 @@ module _ (seed size : ℕ) (events : List Event) (reads : script_events (storm s
   }
 
   -- no memory was left for an event
-  pub storm_wants : HasEnded EndsOutOfMemory out events journal → Put status.OutOfMemory memory_line (sink_of out) given → TopEnds script_events storm (Some (Storm seed size false)) out given
+  pub storm_wants : HasEnded EndsOutOfMemory out events journal → Put status.OutOfMemory memory_line out.sink given → TopEnds script_events storm (Some (Storm seed size false)) out given
   storm_wants x put = ran EndsOutOfMemory memory_line x refl memory_own put
 
   -- all events are done
-  pub storm_done : HasEnded AllDone out events journal → Put status.Done (storm_line seed size events journal) (sink_of out) given ⊎ Put status.OutOfMemory memory_line (sink_of out) given
+  pub storm_done : HasEnded AllDone out events journal → Put status.Done (storm_line seed size events journal) out.sink given ⊎ Put status.OutOfMemory memory_line out.sink given
       → TopEnds script_events storm (Some (Storm seed size false)) out given
   storm_done x (inl put) = ran AllDone (storm_line seed size events journal) x refl done_own put
   storm_done x (inr put) = storm_wants (done_wants out events journal x) put
 
   -- the media failed in a mkfs
-  pub storm_broken : HasEnded MkfsFails out events journal → Put status.MediaFault (storm_line seed size events journal) (sink_of out) given ⊎ Put status.OutOfMemory memory_line (sink_of out) given
+  pub storm_broken : HasEnded MkfsFails out events journal → Put status.MediaFault (storm_line seed size events journal) out.sink given ⊎ Put status.OutOfMemory memory_line out.sink given
       → TopEnds script_events storm (Some (Storm seed size false)) out given
   storm_broken x (inl put) = ran MkfsFails (storm_line seed size events journal) x refl media_own put
   storm_broken x (inr put) = ran EndsOutOfMemoryBroken memory_line (broken_wants out events journal x) refl memory_own put

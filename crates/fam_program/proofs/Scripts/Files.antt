@@ -25,19 +25,9 @@ module _ (shelf : ShelfChange) (s : SinkChange) (name : List ℕ) (lines faults 
   abbrev unrun : Outside
   unrun = record {
     lines = lines;
-    image = image;
-    image_now = image;
-    faults = faults;
-    faults_now = faults;
-    files = shelf.old.files;
-    shelf = shelf.old.faults;
-    shelf_now = shelf.new.faults;
-    shorts = shelf.old.shorts;
-    shorts_now = shelf.new.shorts;
-    bytes = s.old.bytes;
-    bytes_now = s.new.bytes;
-    sink = s.old.faults;
-    sink_now = s.new.faults;
+    media = record { old = record { image = image; faults = faults }; new = record { image = image; faults = faults } };
+    shelf = shelf;
+    sink = s;
   }
 
   early_is : (fault : ScriptFault) → IsUnread shelf name fault → IsEarly script_events storm (Some (Script name)) unrun (early_of name fault)
@@ -72,7 +62,7 @@ module _ (shelf : ShelfChange) (s : SinkChange) (name : List ℕ) (lines faults 
 -- A run, from before the shelf's reading: its counts were no higher then.
 module _ (out : Outside) (shelf shorts : ℕ) (shelf_before : shelf ≤ out.shelf.old.faults) (shorts_before : shorts ≤ out.shelf.old.shorts) where
   abbrev before : Outside
-  before = record out { shelf = shelf; shorts = shorts }
+  before = record out { shelf = record { old = record { files = out.shelf.old.files; faults = shelf; shorts = shorts }; new = out.shelf.new } }
 
   caused_before : (ending : Ending) (events : List Event) (journal : List Note) → IsCaused ending events journal out → IsCaused ending events journal before
   caused_before AllDone events journal x = x

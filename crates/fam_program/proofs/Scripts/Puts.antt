@@ -116,9 +116,9 @@ at_last (x ∷ events) (suc count) = by_rest (at_last events count)
     by_rest (inl none) = inr record { place = 0; event = x; is = refl; taken = ap (λ es. x ∷ es) none }
     by_rest (inr l) = inr record { place = suc l.place; event = l.event; is = l.is; taken = ap (λ es. x ∷ es) l.taken }
 
-module _ (b : Base) (shelf : ShelfChange) (sink sink_now : ℕ) (bytes bytes_now : Option (List ℕ)) where
+module _ (b : Base) (shelf : ShelfChange) (all : SinkChange) where
   abbrev out_at : Now → Outside
-  out_at n = out_of b n shelf sink sink_now bytes bytes_now
+  out_at n = out_of b n shelf all
 
   -- of the events that are done the notes are put
   prefix_each : (count : ℕ) (n : Now) (start : Image) (files : Files) (last : Session) → Follows files (take count b.events) (first_session start) n.world.journal last → HasPut (out_at n) (render n.world.journal)
@@ -135,9 +135,9 @@ module _ (b : Base) (shelf : ShelfChange) (sink sink_now : ℕ) (bytes bytes_now
           )
 
   -- all events are done
-  pub all_script : (n : Now) (count : ℕ) → Far b count n → take count b.events ≡ b.events → bytes_now ≡ option_map (with_piece (render n.world.journal)) bytes → ScriptRan b.events (out_at n) (good_status (is_good n.world.journal))
+  pub all_script : (n : Now) (count : ℕ) → Far b count n → take count b.events ≡ b.events → all.new.bytes ≡ option_map (with_piece (render n.world.journal)) all.old.bytes → ScriptRan b.events (out_at n) (good_status (is_good n.world.journal))
   all_script n count far whole put =
-      let x = all_ended b count n far shelf sink sink_now bytes bytes_now whole in
+      let x = all_ended b count n far shelf all whole in
       record {
         text = render n.world.journal;
         own = good_status (is_good n.world.journal);
@@ -148,7 +148,7 @@ module _ (b : Base) (shelf : ShelfChange) (sink sink_now : ℕ) (bytes bytes_now
         put = record { outcome = inl (refl, put); rose = λ e. absurd (good_own n.world.journal e) };
       }
 
-  module _ (s : SinkChange) (now_is : bytes_now ≡ s.new.bytes) (sink_is : sink_now ≡ s.new.faults) (later : sink ≤ s.old.faults) (n : Now) (mid : s.old.bytes ≡ option_map (with_piece (render n.world.journal)) bytes) (given : Status) where
+  module _ (s : SinkChange) (now_is : all.new.bytes ≡ s.new.bytes) (sink_is : all.new.faults ≡ s.new.faults) (later : all.old.faults ≤ s.old.faults) (n : Now) (mid : s.old.bytes ≡ option_map (with_piece (render n.world.journal)) all.old.bytes) (given : Status) where
     -- behind the notes of some first events those of one more that were put, and the line that says that no memory is left
     abbrev short_text : ℕ → List Note → List ℕ
     short_text count more = render_behind (names_behind [] n.world.journal) (take count more) ++ memory_line
@@ -181,11 +181,11 @@ module _ (b : Base) (shelf : ShelfChange) (sink sink_now : ℕ) (bytes bytes_now
 
       -- behind an event that is done
       pub want_script : (x : EventDone e a) → Far b (suc count) m → PutShort (names_behind [] n.world.journal) x.adds.notes s given → ScriptRan b.events (out_at m) given
-      want_script x far_m put = wants m x.adds.notes x.adds.joined (prefix_ended b (suc count) m far_m shelf sink sink_now bytes bytes_now) each put
+      want_script x far_m put = wants m x.adds.notes x.adds.joined (prefix_ended b (suc count) m far_m shelf all) each put
         where
           each : PutsTold EndsOutOfMemory b.events m.world.journal (out_at m)
           each start told_is files files_are =
-              let r = last_on b count n m far e is shelf sink sink_now bytes bytes_now x start files told_is files_are in (
+              let r = last_on b count n m far e is shelf all x start files told_is files_are in (
                 record {
                   last = r.last;
                   legal = r.held.kept.held.legal;
@@ -205,11 +205,11 @@ module _ (b : Base) (shelf : ShelfChange) (sink sink_now : ℕ) (bytes bytes_now
         text = render n.world.journal ++ text;
         own = status.MediaFault;
         ending = MkfsFails;
-        run = to_run MkfsFails (out_at m) b.events m.world.journal (render n.world.journal ++ text) status.MediaFault (broken_ended b count n m far e is shelf sink sink_now bytes bytes_now x)
+        run = to_run MkfsFails (out_at m) b.events m.world.journal (render n.world.journal ++ text) status.MediaFault (broken_ended b count n m far e is shelf all x)
             (ap (λ (t : List ℕ). render n.world.journal ++ t) text_is ∙ sym (more_text x.adds.notes x.adds.joined)) refl;
         whole = λ e. absurd cc;
         each = λ start told_is files files_are.
-            let r = broken_on b count n m far e is shelf sink sink_now bytes bytes_now x start files told_is files_are in (
+            let r = broken_on b count n m far e is shelf all x start files told_is files_are in (
               record { last = r.last; legal = r.legal; follows = r.follows; left = r.left; reads = tt },
               subst (λ (ns : List Note). HasPut (out_at m) (render ns)) (sym r.whole) (has_put (out_at m) (render n.world.journal) text s now_is sink_is later mid status.MediaFault given put),
             );
@@ -221,11 +221,11 @@ module _ (b : Base) (shelf : ShelfChange) (sink sink_now : ℕ) (bytes bytes_now
         text = render n.world.journal ++ short_text put.0 x.adds.notes;
         own = status.OutOfMemory;
         ending = EndsOutOfMemoryBroken;
-        run = to_run EndsOutOfMemoryBroken (out_at m) b.events m.world.journal (render n.world.journal ++ short_text put.0 x.adds.notes) status.OutOfMemory (broken_wants b count n m far e is shelf sink sink_now bytes bytes_now x)
+        run = to_run EndsOutOfMemoryBroken (out_at m) b.events m.world.journal (render n.world.journal ++ short_text put.0 x.adds.notes) status.OutOfMemory (broken_wants b count n m far e is shelf all x)
             (length n.world.journal + put.0, short_is m x.adds.notes x.adds.joined put.0) refl;
         whole = λ e. absurd cc;
         each = λ start told_is files files_are.
-            let r = broken_on b count n m far e is shelf sink sink_now bytes bytes_now x start files told_is files_are in (
+            let r = broken_on b count n m far e is shelf all x start files told_is files_are in (
               record { last = r.last; legal = r.legal; follows = r.follows; left = r.left; reads = tt },
               subst (λ (ns : List Note). HasPut (out_at m) (render ns)) (sym r.whole) (put_before m x.adds.notes put),
             );
@@ -238,11 +238,11 @@ module _ (b : Base) (shelf : ShelfChange) (sink sink_now : ℕ) (bytes bytes_now
         text = render n.world.journal ++ source_line (end_of end);
         own = status.SourceFault;
         ending = SourceFails (end_of end);
-        run = to_run (SourceFails (end_of end)) (out_at m) b.events m.world.journal (render n.world.journal ++ source_line (end_of end)) status.SourceFault (source_ended b count n m far e is shelf sink sink_now bytes bytes_now end x cause)
+        run = to_run (SourceFails (end_of end)) (out_at m) b.events m.world.journal (render n.world.journal ++ source_line (end_of end)) status.SourceFault (source_ended b count n m far e is shelf all end x cause)
             (ap (λ (j : List Note). render j ++ source_line (end_of end)) (sym same)) refl;
         whole = λ e. absurd cc;
         each = λ start told_is files files_are. (
-          (source_ended b count n m far e is shelf sink sink_now bytes bytes_now end x cause).told start told_is files files_are,
+          (source_ended b count n m far e is shelf all end x cause).told start told_is files files_are,
           subst (λ (j : List Note). HasPut (out_at m) (render j)) (sym same) (has_put (out_at m) (render n.world.journal) (source_line (end_of end)) s now_is sink_is later mid status.SourceFault given put),
         );
         put = put_both (out_at m) (render n.world.journal) (source_line (end_of end)) s now_is sink_is later mid status.SourceFault given source_own put;
@@ -253,7 +253,7 @@ module _ (b : Base) (shelf : ShelfChange) (sink sink_now : ℕ) (bytes bytes_now
 
       -- no memory was left for the event
       part_script : (x : EventPart e a) → PutShort (names_behind [] n.world.journal) x.adds.notes s given → ScriptRan b.events (out_at m) given
-      part_script x put = wants m x.adds.notes x.adds.joined (part_ended b count n m far e is shelf sink sink_now bytes bytes_now x) each put
+      part_script x put = wants m x.adds.notes x.adds.joined (part_ended b count n m far e is shelf all x) each put
         where
           each : PutsTold EndsOutOfMemory b.events m.world.journal (out_at m)
           each start told_is files files_are =
@@ -264,9 +264,9 @@ module _ (b : Base) (shelf : ShelfChange) (sink sink_now : ℕ) (bytes bytes_now
               (subst (λ (z : Session). ((k.comes.notes ≡ []) × (k.comes.last ≡ z)) ⊎ PartOf files e z k.comes.notes k.comes.last) same k.comes.does)
             where
               part_each : (start : Image) (files : Files) (old : Session) → Follows files (take count b.events) (first_session start) n.world.journal old → (last : Session) (notes : List Note) → m.world.journal ≡ n.world.journal ++ notes
-                  → Rattle.fam_journal.specs.Legal.Legal start m.world.journal → m.told ≡ Some last.machines.memory → Rattle.fam_journal.specs.Ends.ReadsAs (Rattle.fam_journal.specs.Past.past_of start m.world.journal).state last.machines.memory
+                  → Rattle.fam_journal.specs.Legal.Legal start m.world.journal → m.media.image ≡ Some last.machines.memory → Rattle.fam_journal.specs.Ends.ReadsAs (Rattle.fam_journal.specs.Past.past_of start m.world.journal).state last.machines.memory
                   → ((notes ≡ []) × (last ≡ old)) ⊎ PartOf files e old notes last
-                  → (run : RunsOn EndsOutOfMemory files b.events start m.told m.world.journal) × PutsEach EndsOutOfMemory files b.events (first_session start) m.world.journal run.last run.follows (out_at m)
+                  → (run : RunsOn EndsOutOfMemory files b.events start m.media.image m.world.journal) × PutsEach EndsOutOfMemory files b.events (first_session start) m.world.journal run.last run.follows (out_at m)
               part_each start files old follows last notes joined legal left reads (inr part) = (
                 record {
                   last = last;
@@ -321,7 +321,7 @@ module _ (b : Base) (shelf : ShelfChange) (sink sink_now : ℕ) (bytes bytes_now
       stop_script fault.OutOfMemory says names names_are more more_is put = part_script says (short_as names names_are more says.adds.notes (more_is says.adds.notes says.adds.joined) put)
 
   -- the sink failed behind an event that is done
-  module _ (s : SinkChange) (now_is : bytes_now ≡ s.new.bytes) (sink_is : sink_now ≡ s.new.faults) (later : sink ≤ s.old.faults) (n m : Now) (mid : s.old.bytes ≡ option_map (with_piece (render n.world.journal)) bytes) (count : ℕ) (far : Far b count n) (e : Event) (is : slice_get b.events count ≡ Some e) where
+  module _ (s : SinkChange) (now_is : all.new.bytes ≡ s.new.bytes) (sink_is : all.new.faults ≡ s.new.faults) (later : all.old.faults ≤ s.old.faults) (n m : Now) (mid : s.old.bytes ≡ option_map (with_piece (render n.world.journal)) all.old.bytes) (count : ℕ) (far : Far b count n) (e : Event) (is : slice_get b.events count ≡ Some e) where
     pub sink_script : (x : EventDone e (next_of b n m)) (text : List ℕ) → text ≡ render_behind (names_behind [] n.world.journal) x.adds.notes → PutPart text s → ScriptRan b.events (out_at m) status.SinkFault
     sink_script x text text_is put =
         let failed = put_failed (out_at m) (render n.world.journal) text s now_is sink_is later mid put in
@@ -329,11 +329,11 @@ module _ (b : Base) (shelf : ShelfChange) (sink sink_now : ℕ) (bytes bytes_now
           text = render n.world.journal ++ text;
           own = status.SinkFault;
           ending = SinkFails;
-          run = to_run SinkFails (out_at m) b.events m.world.journal (render n.world.journal ++ text) status.SinkFault (sink_ended b count n m far e is shelf sink sink_now bytes bytes_now x (failed.rose refl))
+          run = to_run SinkFails (out_at m) b.events m.world.journal (render n.world.journal ++ text) status.SinkFault (sink_ended b count n m far e is shelf all x (failed.rose refl))
               (ap (λ (t : List ℕ). render n.world.journal ++ t) text_is ∙ sym (ap render x.adds.joined ∙ render_more n.world.journal x.adds.notes)) refl;
           whole = λ e. absurd cc;
           each = λ start told_is files files_are.
-              let r = last_on b count n m far e is shelf sink sink_now bytes bytes_now x start files told_is files_are in (
+              let r = last_on b count n m far e is shelf all x start files told_is files_are in (
                 record { last = r.last; legal = r.held.kept.held.legal; follows = r.follows; left = r.left; reads = held_reads_as start r.last.machines m.world r.last.machines.memory r.held },
                 subst (λ (ns : List Note). HasPut (out_at m) (render ns)) (sym r.whole) (part_has_put (out_at m) (render n.world.journal) text s now_is sink_is later mid put),
               );

@@ -4,7 +4,7 @@ use Rattle.std.proofs.lemmas.List.{append-nil, append_assoc, length-append, take
 use Rattle.std.proofs.lemmas.Option.{same_Some}
 use Rattle.fam_media.specs.Causes.{Rose}
 use Rattle.fam_media.specs.Outside.{IsPartlyPut, with_piece}
-use Rattle.fam_media.specs.States.{SinkChange}
+use Rattle.fam_media.specs.States.{SinkState, SinkChange}
 use Rattle.fam_outcomes.specs.declared.status.Status.{Status}
 use Rattle.fam_outcomes.specs.declared.status.Status.TheVariants as status
 use Rattle.fam_journal.specs.Notes.{Note}
@@ -50,21 +50,21 @@ part_longer a more s x = record {
 }
 
 -- Two pieces that were put, or tried, one behind the other.
-module _ (a b : List ℕ) (bytes mid now : Option (List ℕ)) (faults faults_mid faults_now : ℕ) (later : faults ≤ faults_mid) where
+module _ (a b : List ℕ) (old mid new : SinkState) (later : old.faults ≤ mid.faults) where
   abbrev first : SinkChange
-  first = record { bytes = bytes; bytes_now = mid; faults = faults; faults_now = faults_mid }
+  first = record { old = old; new = mid }
 
   abbrev second : SinkChange
-  second = record { bytes = mid; bytes_now = now; faults = faults_mid; faults_now = faults_now }
+  second = record { old = mid; new = new }
 
   abbrev both : SinkChange
-  both = record { bytes = bytes; bytes_now = now; faults = faults; faults_now = faults_now }
+  both = record { old = old; new = new }
 
   pub whole_both : PutWhole a first → PutWhole b second → PutWhole (a ++ b) both
-  whole_both x y = y ∙ ap (option_map (with_piece b)) x ∙ pieces a b bytes
+  whole_both x y = y ∙ ap (option_map (with_piece b)) x ∙ pieces a b old.bytes
 
   pub part_both : PutWhole a first → PutPart b second → PutPart (a ++ b) both
-  part_both x y = record { part = part_behind a b bytes mid now x y.part; rose = rose_more faults faults_mid faults_now later y.rose }
+  part_both x y = record { part = part_behind a b old.bytes mid.bytes new.bytes x y.part; rose = rose_more old.faults mid.faults new.faults later y.rose }
 
   pub put_second : (own given : Status) → PutWhole a first → Put own b second given → Put own (a ++ b) both given
   put_second own given x (inl y) = inl (y.0, whole_both x y.1)
@@ -85,10 +85,10 @@ module _ (names : List (List ℕ)) (notes : List Note) (s : SinkChange) where
   short_part x = short_whole status.SinkFault (inr (refl, part_longer (render_behind names notes) memory_line s x))
 
 -- no memory was left for the text of the next one
-pub short_some : (names : List (List ℕ)) (notes : List Note) (bytes mid now : Option (List ℕ)) (faults faults_mid faults_now : ℕ) → faults ≤ faults_mid → (given : Status) → PutSome names notes (record { bytes = bytes; bytes_now = mid; faults = faults; faults_now = faults_mid })
-    → Put status.OutOfMemory memory_line (record { bytes = mid; bytes_now = now; faults = faults_mid; faults_now = faults_now }) given → PutShort names notes (record { bytes = bytes; bytes_now = now; faults = faults; faults_now = faults_now }) given
-short_some names notes bytes mid now faults faults_mid faults_now later given some put =
-    (some.0, put_second (render_behind names (take some.0 notes)) memory_line bytes mid now faults faults_mid faults_now later status.OutOfMemory given some.1 put)
+pub short_some : (names : List (List ℕ)) (notes : List Note) (old mid new : SinkState) → old.faults ≤ mid.faults → (given : Status) → PutSome names notes (record { old = old; new = mid })
+    → Put status.OutOfMemory memory_line (record { old = mid; new = new }) given → PutShort names notes (record { old = old; new = new }) given
+short_some names notes old mid new later given some put =
+    (some.0, put_second (render_behind names (take some.0 notes)) memory_line old mid new later status.OutOfMemory given some.1 put)
 
 -- no sink fault is a run's own status
 abbrev pub IsOwn : Status → Type 0

@@ -15,5 +15,5 @@ invariant-loop-word g l = record {
   others : (other : ℕ) → other ≢ l.line.0 → cell_at l.cache.lines other ≡ cell_at l.fn.cache.lines other;
   first : l.word ≡ 0 → l.fn.cache.spare ≤ l.cache.spare;
   spare : l.fn.cache.spare ≤ l.cache.spare + 1;
-  steady : IsSteady (g.M.Media.state l.fn.media) (g.M.Media.state l.media);
+  steady : IsSteady g.M.Media.size g.M.Media.state l.fn.media l.media;
 }

@@ -14,5 +14,5 @@ invariant-loop-word g l = record {
   first : l.word ≡ 0 → l.cache ≡ l.fn.cache;
   spare : l.fn.cache.spare ≤ l.cache.spare + 1;
   held_spare : IsHeld (cell_at l.fn.cache.lines l.line.0) → l.fn.cache.spare ≤ l.cache.spare;
-  steady : IsSteady (g.M.Media.state l.fn.media) (g.M.Media.state l.media);
+  steady : IsSteady g.M.Media.size g.M.Media.state l.fn.media l.media;
 }

@@ -7,8 +7,8 @@ abbrev pub invariant-events : goal.invariant-events
 invariant-events g l = record {
   rest : l.fn.events.items ≡ l.yielded ++ l.event-iterator.rest.items;
   sound : AreSoundEvents l.event-iterator.rest.items;
-  size : (g.M.Media.state l.media).size ≡ (g.M.Media.state l.fn.media).size;
+  size : (g.M.Media.size l.media) ≡ g.M.Media.size l.fn.media;
   shelf : IsShelfSteady (g.S.Shelf.state l.fn.shelf) (g.S.Shelf.state l.shelf);
-  far : Far (record { events = l.fn.events.items; lines = (g.M.Media.state l.fn.media).size; told = (g.M.Media.state l.fn.media).image; faults = (g.M.Media.state l.fn.media).faults; files = (g.S.Shelf.state l.fn.shelf).files }) (length l.yielded)
-      (record { world = l.world; told = (g.M.Media.state l.media).image; faults = (g.M.Media.state l.media).faults; copied = l.copied });
+  far : Far (record { events = l.fn.events.items; lines = (g.M.Media.size l.fn.media); media = g.M.Media.state l.fn.media; files = (g.S.Shelf.state l.fn.shelf).files }) (length l.yielded)
+      (record { world = l.world; media = g.M.Media.state l.media; copied = l.copied });
 }

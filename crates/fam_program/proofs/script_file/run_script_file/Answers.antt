@@ -15,8 +15,8 @@ returns-in-Ok-clause-ends g c =
     let rest : ShelfChange = change g.S.Shelf.state c.events_of.new.shelf c.run_script.new.shelf in
     let all : ShelfChange = change g.S.Shelf.state c.args.shelf.now c.run_script.new.shelf in
     let s : SinkChange = change g.K.Sink.state c.args.out.now c.run_script.new.out in
-    let behind : Outside = outside_of g.M.Media.state c.args.media.now c.run_script.new.media rest s in
-    let out : Outside = outside_of g.M.Media.state c.args.media.now c.run_script.new.media all s in
+    let behind : Outside = outside_of g.M.Media.size g.M.Media.state c.args.media.now c.run_script.new.media rest s in
+    let out : Outside = outside_of g.M.Media.size g.M.Media.state c.args.media.now c.run_script.new.media all s in
     let falls : NoneFalls out = record {
       media = c.run_script.ensures.steady.later;
       shelf = let x = read.faults_later in let y = ran.faults_later in omega (arith, x, y);
@@ -32,5 +32,5 @@ returns-in-Err-clause-ends g c =
     let read = c.events_of.ensures.steady in
     let shelf : ShelfChange = change g.S.Shelf.state c.args.shelf.now c.events_of.new.shelf in
     let s : SinkChange = change g.K.Sink.state c.args.out.now c.put_fault.new.out in
-    early_ends shelf s c.args.name.now (g.M.Media.state c.args.media.now).size (g.M.Media.state c.args.media.now).faults (g.M.Media.state c.args.media.now).image (record { media = omega arith; shelf = read.faults_later; shorts = read.shorts_later; sink = c.put_fault.ensures.later }) c.put_fault.result c.in-Err.fault c.in-Err.ensures.fault
+    early_ends shelf s c.args.name.now (g.M.Media.size c.args.media.now) (g.M.Media.state c.args.media.now).faults (g.M.Media.state c.args.media.now).image (record { media = omega arith; shelf = read.faults_later; shorts = read.shorts_later; sink = c.put_fault.ensures.later }) c.put_fault.result c.in-Err.fault c.in-Err.ensures.fault
     c.put_fault.ensures.put

@@ -20,7 +20,7 @@ use Rattle.fam_program.proofs.shadows.write_shadow.Goals as goal
 
 pub returns-in_default-clause-ends : goal.returns-in_default-clause-ends
 returns-in_default-clause-ends g c =
-    let out : Outside = outside_of g.M.Media.state c.args.media.now c.args.media.now no_files (change g.K.Sink.state c.args.out.now c.put_memory.new.out) in
+    let out : Outside = outside_of g.M.Media.size g.M.Media.state c.args.media.now c.args.media.now no_files (change g.K.Sink.state c.args.out.now c.put_memory.new.out) in
     let shade : ShadeChange = change g.D.Shade.state c.args.shade.now c.args.shade.now in
     let later : NoneFalls out = record { media = omega arith; shelf = omega arith; shorts = omega arith; sink = c.put_memory.ensures.later } in
     shadow_wants out shade c.put_memory.result later (Some c.args.me) refl refl c.put_memory.ensures.put
@@ -37,7 +37,7 @@ run_until_stop-ended-requires-clause-shot g c = subst AreShotEvents (sym c.in-Ok
 pub returns-in-Some-clause-ends : goal.returns-in-Some-clause-ends
 returns-in-Some-clause-ends g c =
     let sink : SinkChange = change g.K.Sink.state c.args.out.now c.put_shadow.new.out in
-    let out : Outside = outside_of g.M.Media.state c.args.media.now c.run_until_stop-ended.new.media no_files sink in
+    let out : Outside = outside_of g.M.Media.size g.M.Media.state c.args.media.now c.run_until_stop-ended.new.media no_files sink in
     let shade : ShadeChange = change g.D.Shade.state c.args.shade.now c.shadow-written.new.shade in
     let later : NoneFalls out = record { media = c.run_until_stop-ended.ensures.steady.later; shelf = omega arith; shorts = omega arith; sink = c.put_shadow.ensures.later } in
     let journal : List Note = c.run_until_stop-ended.new.world.journal in
@@ -49,13 +49,13 @@ returns-in-Some-clause-ends g c =
 pub put_end-requires : goal.put_end-requires
 put_end-requires g c =
     let sink : SinkChange = change g.K.Sink.state c.args.out.now c.args.out.now in
-    let out : Outside = outside_of g.M.Media.state c.args.media.now c.run_until_stop-ended.new.media no_files sink in
+    let out : Outside = outside_of g.M.Media.size g.M.Media.state c.args.media.now c.run_until_stop-ended.new.media no_files sink in
     record { named = shot_named c.run_until_stop-ended.result out c.in-Ok.events.items c.run_until_stop-ended.new.world.journal (c.run_until_stop-ended.ensures.ended sink) }
 
 pub returns-clause-ends : goal.returns-clause-ends
 returns-clause-ends g c =
     let sink : SinkChange = change g.K.Sink.state c.args.out.now c.put_end.new.out in
-    let out : Outside = outside_of g.M.Media.state c.args.media.now c.run_until_stop-ended.new.media no_files sink in
+    let out : Outside = outside_of g.M.Media.size g.M.Media.state c.args.media.now c.run_until_stop-ended.new.media no_files sink in
     let shade : ShadeChange = change g.D.Shade.state c.args.shade.now c.args.shade.now in
     let later : NoneFalls out = record { media = c.run_until_stop-ended.ensures.steady.later; shelf = omega arith; shorts = omega arith; sink = c.put_end.ensures.later } in
     let journal : List Note = c.run_until_stop-ended.new.world.journal in

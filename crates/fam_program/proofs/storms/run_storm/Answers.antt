@@ -16,21 +16,21 @@ use Rattle.fam_program.proofs.storms.run_storm.Goals as goal
 pub returns-in_default-clause-ends : goal.returns-in_default-clause-ends
 returns-in_default-clause-ends g c =
     let sink : SinkChange = change g.K.Sink.state c.args.out.now c.put_memory.new.out in
-    let out : Outside = outside_of g.M.Media.state c.args.media.now c.args.media.now (change g.S.Shelf.state c.args.shelf.now c.args.shelf.now) sink in
+    let out : Outside = outside_of g.M.Media.size g.M.Media.state c.args.media.now c.args.media.now (change g.S.Shelf.state c.args.shelf.now c.args.shelf.now) sink in
     let later : NoneFalls out = record { media = omega arith; shelf = omega arith; shorts = omega arith; sink = c.put_memory.ensures.later } in
     early_wants (Some (Storm c.args.seed c.args.size c.args.prints)) out c.put_memory.result refl later c.put_memory.ensures.put
 
 pub returns-then-prints-clause-ends : goal.returns-then-prints-clause-ends
 returns-then-prints-clause-ends g c =
     let sink : SinkChange = change g.K.Sink.state c.args.out.now c.put_line.new.out in
-    let out : Outside = outside_of g.M.Media.state c.args.media.now c.args.media.now (change g.S.Shelf.state c.args.shelf.now c.args.shelf.now) sink in
+    let out : Outside = outside_of g.M.Media.size g.M.Media.state c.args.media.now c.args.media.now (change g.S.Shelf.state c.args.shelf.now c.args.shelf.now) sink in
     let later : NoneFalls out = record { media = omega arith; shelf = omega arith; shorts = omega arith; sink = c.put_line.ensures.later } in
     prints_top c.args.seed c.args.size c.args.prints out c.put_line.result c.if-prints.true refl later (subst (λ (t : List ℕ). Put status.Done t sink c.put_line.result) (c.as_slice.ensures.value ∙ c.in-Ok.ensures) c.put_line.ensures.put)
 
 pub returns-in_default-storm_events-clause-ends : goal.returns-in_default-storm_events-clause-ends
 returns-in_default-storm_events-clause-ends g c =
     let sink : SinkChange = change g.K.Sink.state c.args.out.now c.put_memory-in_default-storm_events.new.out in
-    let out : Outside = outside_of g.M.Media.state c.args.media.now c.args.media.now (change g.S.Shelf.state c.args.shelf.now c.args.shelf.now) sink in
+    let out : Outside = outside_of g.M.Media.size g.M.Media.state c.args.media.now c.args.media.now (change g.S.Shelf.state c.args.shelf.now c.args.shelf.now) sink in
     let later : NoneFalls out = record { media = omega arith; shelf = omega arith; shorts = omega arith; sink = c.put_memory-in_default-storm_events.ensures.later } in
     early_wants (Some (Storm c.args.seed c.args.size c.args.prints)) out c.put_memory-in_default-storm_events.result refl later c.put_memory-in_default-storm_events.ensures.put
 
@@ -40,7 +40,7 @@ put_summary-requires g c = record { named = (c.in-Ok-run_events.ensures.ended (c
 pub returns-in-Ok-run_events-clause-ends : goal.returns-in-Ok-run_events-clause-ends
 returns-in-Ok-run_events-clause-ends g c =
     let sink : SinkChange = change g.K.Sink.state c.args.out.now c.put_summary.new.out in
-    let out : Outside = outside_of g.M.Media.state c.args.media.now c.run_events.new.media (change g.S.Shelf.state c.args.shelf.now c.run_events.new.shelf) sink in
+    let out : Outside = outside_of g.M.Media.size g.M.Media.state c.args.media.now c.run_events.new.media (change g.S.Shelf.state c.args.shelf.now c.run_events.new.shelf) sink in
     let later : NoneFalls out = record { media = c.run_events.ensures.steady.later; shelf = c.run_events.ensures.shelf.faults_later; shorts = c.run_events.ensures.shelf.shorts_later; sink = c.put_summary.ensures.later } in
     let events : List Event = c.in-Ok-storm_events.events.items in
     let journal : List Note = c.run_events.new.world.journal in
@@ -54,7 +54,7 @@ put_summary-requires-in-Err-MkfsFailed g c = record { named = (c.in-Err-MkfsFail
 pub returns-in-Err-MkfsFailed-clause-ends : goal.returns-in-Err-MkfsFailed-clause-ends
 returns-in-Err-MkfsFailed-clause-ends g c =
     let sink : SinkChange = change g.K.Sink.state c.args.out.now c.put_summary-in-Err-MkfsFailed.new.out in
-    let out : Outside = outside_of g.M.Media.state c.args.media.now c.run_events.new.media (change g.S.Shelf.state c.args.shelf.now c.run_events.new.shelf) sink in
+    let out : Outside = outside_of g.M.Media.size g.M.Media.state c.args.media.now c.run_events.new.media (change g.S.Shelf.state c.args.shelf.now c.run_events.new.shelf) sink in
     let later : NoneFalls out = record { media = c.run_events.ensures.steady.later; shelf = c.run_events.ensures.shelf.faults_later; shorts = c.run_events.ensures.shelf.shorts_later; sink = c.put_summary-in-Err-MkfsFailed.ensures.later } in
     let events : List Event = c.in-Ok-storm_events.events.items in
     let journal : List Note = c.run_events.new.world.journal in
@@ -65,7 +65,7 @@ returns-in-Err-MkfsFailed-clause-ends g c =
 pub unreachable-requires : goal.unreachable-requires
 unreachable-requires g c =
     let sink : SinkChange = change g.K.Sink.state c.args.out.now c.args.out.now in
-    let out : Outside = outside_of g.M.Media.state c.args.media.now c.run_events.new.media (change g.S.Shelf.state c.args.shelf.now c.run_events.new.shelf) sink in
+    let out : Outside = outside_of g.M.Media.size g.M.Media.state c.args.media.now c.run_events.new.media (change g.S.Shelf.state c.args.shelf.now c.run_events.new.shelf) sink in
     let events : List Event = c.in-Ok-storm_events.events.items in
     let journal : List Note = c.run_events.new.world.journal in
     let ended = subst (λ (x : EventFault). HasEnded (ending_of x) out events journal) c.in-Err-SourceEnded.field-0-is (c.in-Err-SourceEnded.ensures.ended sink) in
@@ -74,7 +74,7 @@ unreachable-requires g c =
 pub returns-clause-ends : goal.returns-clause-ends
 returns-clause-ends g c =
     let sink : SinkChange = change g.K.Sink.state c.args.out.now c.put_memory-in-Err-OutOfMemory.new.out in
-    let out : Outside = outside_of g.M.Media.state c.args.media.now c.run_events.new.media (change g.S.Shelf.state c.args.shelf.now c.run_events.new.shelf) sink in
+    let out : Outside = outside_of g.M.Media.size g.M.Media.state c.args.media.now c.run_events.new.media (change g.S.Shelf.state c.args.shelf.now c.run_events.new.shelf) sink in
     let later : NoneFalls out = record { media = c.run_events.ensures.steady.later; shelf = c.run_events.ensures.shelf.faults_later; shorts = c.run_events.ensures.shelf.shorts_later; sink = c.put_memory-in-Err-OutOfMemory.ensures.later } in
     let events : List Event = c.in-Ok-storm_events.events.items in
     let journal : List Note = c.run_events.new.world.journal in

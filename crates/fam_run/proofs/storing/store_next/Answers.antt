@@ -16,7 +16,7 @@ pub returns-in-Err-Failed-clause-failed : goal.returns-in-Err-Failed-clause-fail
 returns-in-Err-Failed-clause-failed g c =
     let f = c.in-Err-Failed.ensures in
     let is = ap Err c.in-Err-Failed.field-0-is in
-    let within : c.in-Some.due.0.0 < (g.M.Media.state c.args.media.now).size = subst (λ (n : ℕ). c.in-Some.due.0.0 < n) c.requires.lines c.store_line-in-Err-Failed.ensures.within in
+    let within : c.in-Some.due.0.0 < g.M.Media.size c.args.media.now = subst (λ (n : ℕ). c.in-Some.due.0.0 < n) c.requires.lines c.store_line-in-Err-Failed.ensures.within in
     line_torn c.in-Some.due.0 c.in-Some.due.1 c.args.task.now c.store_line-in-Err-Failed.new.self (g.M.Media.state c.args.media.now).image c.args.cache.now.lines (g.met.M.Media.normal c.args.media.now) c.store_line-in-Err-Failed.ensures (f.failed_absent is) c.is_sound.ensures c.is_sound-in-Err-Failed.ensures
     _ _ _ c.store_line-in-Err-Failed.new.self c.put_line.new.self.lines (g.M.Media.state c.put_line.new.media).image (f.failed_lines is) (f.torn is) (f.failed is) within
 

@@ -39,6 +39,6 @@ pub returns-in-Err-Failed-clause-failed : goal.returns-in-Err-Failed-clause-fail
 returns-in-Err-Failed-clause-failed g c =
     let f = c.in-Err-Failed.ensures in
     let is = ap Err c.in-Err-Failed.field-0-is in
-    let within : c.in-Some.line.0 < (g.M.Media.state c.args.media.now).size = subst (λ (n : ℕ). c.in-Some.line.0 < n) c.requires.lines c.drop_compared.ensures.within in
+    let within : c.in-Some.line.0 < g.M.Media.size c.args.media.now = subst (λ (n : ℕ). c.in-Some.line.0 < n) c.requires.lines c.drop_compared.ensures.within in
     line_unread c.in-Some.line c.args.task.now c.drop_compared.new.self (g.M.Media.state c.args.media.now).image c.args.cache.now.lines (g.met.M.Media.normal c.args.media.now) c.is_sound.ensures c.drop_compared.ensures (f.failed_clean is) c.is_sound-in-Err-Failed.ensures
     _ _ _ c.renew_line.new.self.lines (g.M.Media.state c.renew_line.new.media).image f.image (f.failed_lines is) (f.failed is) within

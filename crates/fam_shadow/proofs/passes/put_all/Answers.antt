@@ -11,7 +11,7 @@ pub put_entry-requires : goal.put_entry-requires
 put_entry-requires g c =
     let entries : List Entry = map.values c.args.tree.now in
     let old : Option Nodes = (g.D.Shade.state c.args.shade.now).nodes in
-    let now : Option Nodes = (g.D.Shade.state c.loop).nodes-entry.shade in
+    let now : Option Nodes = (g.D.Shade.state c.loop-entry.shade).nodes in
     let e : Entry = c.in-Some.entry.now in
     let rest : List Entry = tree_iter_rest c.next.new.self in
     let given : tree_iter_rest c.loop-entry.entry-iterator ≡ e ∷ rest = cc (c.in-Some.ensures.steps) in
@@ -22,7 +22,7 @@ pub loop-entry-preserved : goal.loop-entry-preserved
 loop-entry-preserved g c =
     let entries : List Entry = map.values c.args.tree.now in
     let old : Option Nodes = (g.D.Shade.state c.args.shade.now).nodes in
-    let now : Option Nodes = (g.D.Shade.state c.loop).nodes-entry.shade in
+    let now : Option Nodes = (g.D.Shade.state c.loop-entry.shade).nodes in
     let e : Entry = c.in-Some.entry.now in
     let rest : List Entry = tree_iter_rest c.next.new.self in
     let given : tree_iter_rest c.loop-entry.entry-iterator ≡ e ∷ rest = cc (c.in-Some.ensures.steps) in

@@ -17,7 +17,7 @@ pub returns-then-is_err-clause-says : goal.returns-then-is_err-clause-says
 returns-then-is_err-clause-says g c = record {
   count = 0;
   within = c.requires.some;
-  goes = subst (λ (j : List Note). Iterated (WorldStep c.args.name.now (g.M.Media.state c.args.media.now).size false)
+  goes = subst (λ (j : List Note). Iterated (WorldStep c.args.name.now (g.M.Media.size c.args.media.now) false)
       (standing g.M.Media.state c.args.media.now (world_view c.args.hosts.now.items c.args.journal.now.items))
       (standing g.M.Media.state c.args.media.now (record { hosts = views c.args.hosts.now.items; journal = j })) 0) (sym (ap notes_view c.make_room.ensures.same)) none;
 }
@@ -26,7 +26,7 @@ pub returns-in-Err-clause-says : goal.returns-in-Err-clause-says
 returns-in-Err-clause-says g c =
     let old : WorldView = world_view c.args.hosts.now.items c.args.journal.now.items in
     let new : WorldView = world_view c.args.hosts.now.items c.refused.new.journal.items in
-    let size = (g.M.Media.state c.args.media.now).size in
+    let size = (g.M.Media.size c.args.media.now) in
     let refused = c.in-Err.ensures.placed size old.journal in
     subst (λ (f : WorldFault). StepsSay c.args.name.now size c.args.most (standing g.M.Media.state c.args.media.now old) (standing g.M.Media.state c.args.media.now new) (Err f)) (sym c.refused.ensures.given)
     (step_refused c.args.name.now size old new c.in-Err.cause (g.M.Media.state c.args.media.now).image (g.M.Media.state c.args.media.now).faults refused.first
@@ -37,7 +37,7 @@ pub returns-in-Ok-steps_of-clause-says : goal.returns-in-Ok-steps_of-clause-says
 returns-in-Ok-steps_of-clause-says g c =
     let items = c.args.hosts.now.items in
     let old : WorldView = world_view items c.args.journal.now.items in
-    let size = (g.M.Media.state c.args.media.now).size in
+    let size = (g.M.Media.size c.args.media.now) in
     let at = c.in-Ok.at in
     let x = c.index_mut.result.now in
     let y = c.steps_of.new.host in
@@ -53,7 +53,7 @@ pub returns-in-Err-steps_of-clause-says : goal.returns-in-Err-steps_of-clause-sa
 returns-in-Err-steps_of-clause-says g c =
     let items = c.args.hosts.now.items in
     let old : WorldView = world_view items c.args.journal.now.items in
-    let size = (g.M.Media.state c.args.media.now).size in
+    let size = (g.M.Media.size c.args.media.now) in
     let at = c.in-Ok.at in
     let x = c.index_mut.result.now in
     let y = c.steps_of.new.host in

@@ -41,14 +41,14 @@ operations-preserved g c =
     let z : Host = c.held_on-done.new.host in
     let at = c.args.at in
     let inv = c.operations.invariant in
-    let size = (g.M.Media.state c.args.media.now).size in
+    let size = (g.M.Media.size c.args.media.now) in
     let here : HostStanding = host_standing g.M.Media.state c.operations.media (host_view x) (notes_view c.operations.journal.items) in
     let mid : HostStanding = host_standing g.M.Media.state c.step_host.new.media (host_view y) (notes_view c.step_host.new.journal.items) in
     let t = some_of x.task inv.runs in
     let one : HostStep at size false here mid =
     host_step at size here mid t.0 (is_over c.in-Ok-Going.field-0) false (ap is_over c.in-Ok-Going.field-0-is) t.1 (λ i is. g.met.M.Media.modelled c.operations.media i is ∙ inv.size)
-    (notes_view c.make_room.new.journal.items) (ap notes_view c.make_room.ensures.same) (g.M.Media.state c.operations.media).size inv.size (c.in-Ok-Going.ensures.step t.0 t.1) in
-    let same_size : (g.M.Media.state c.step_host.new.media).size ≡ size = c.step_host.ensures.size ∙ inv.size in
+    (notes_view c.make_room.new.journal.items) (ap notes_view c.make_room.ensures.same) (g.M.Media.size c.operations.media) inv.size (c.in-Ok-Going.ensures.step t.0 t.1) in
+    let same_size : (g.M.Media.size c.step_host.new.media) ≡ size = c.step_host.ensures.size ∙ inv.size in
     let fits : TaskFits size y.task = going_fits at one.task _ false size refl one.step (subst (TaskFits size) one.runs inv.fits) in
     let held = held_host y z c.held_on-done.result (going_runs at one.task _ false refl one.step) c.held_on-done.ensures.runs c.held_on-done.ensures.held c.held_on-done.ensures.sound_on in
     let start : HostStanding = host_standing g.M.Media.state c.args.media.now (host_view c.args.host.now) (notes_view c.args.journal.now.items) in
@@ -74,7 +74,7 @@ returns-then-is_err-clause-says g c =
     record {
       count = c.operations.done;
       within = grind (arith, nat_tests, less);
-      goes = subst (λ (j : List Note). Iterated (HostStep c.args.at (g.M.Media.state c.args.media.now).size false)
+      goes = subst (λ (j : List Note). Iterated (HostStep c.args.at (g.M.Media.size c.args.media.now) false)
           (host_standing g.M.Media.state c.args.media.now (host_view c.args.host.now) (notes_view c.args.journal.now.items))
           (host_standing g.M.Media.state c.operations.media (host_view c.operations.host) j) c.operations.done) (sym (ap notes_view c.make_room.ensures.same)) c.operations.invariant.far;
     }
@@ -93,14 +93,14 @@ returns-in-Ok-Answered-clause-says g c =
       count = c.operations.done;
       within = grind (arith, nat_tests, less);
       goes = inv.far;
-      ends = host_step c.args.at (g.M.Media.state c.args.media.now).size here mid t.0 (is_over c.in-Ok-Answered.field-0) true (ap is_over c.in-Ok-Answered.field-0-is) t.1 (λ i is. g.met.M.Media.modelled c.operations.media i is ∙ inv.size)
-          (notes_view c.make_room.new.journal.items) (ap notes_view c.make_room.ensures.same) (g.M.Media.state c.operations.media).size inv.size (c.in-Ok-Answered.ensures.step t.0 t.1);
+      ends = host_step c.args.at (g.M.Media.size c.args.media.now) here mid t.0 (is_over c.in-Ok-Answered.field-0) true (ap is_over c.in-Ok-Answered.field-0-is) t.1 (λ i is. g.met.M.Media.modelled c.operations.media i is ∙ inv.size)
+          (notes_view c.make_room.new.journal.items) (ap notes_view c.make_room.ensures.same) (g.M.Media.size c.operations.media) inv.size (c.in-Ok-Answered.ensures.step t.0 t.1);
     }
 
 pub returns-in-Err-clause-says : goal.returns-in-Err-clause-says
 returns-in-Err-clause-says g c =
     let less = c.operations-test.true in
-    let size = (g.M.Media.state c.args.media.now).size in
+    let size = (g.M.Media.size c.args.media.now) in
     let start : HostStanding = host_standing g.M.Media.state c.args.media.now (host_view c.args.host.now) (notes_view c.args.journal.now.items) in
     record {
       count = c.operations.done;
@@ -117,6 +117,6 @@ returns-clause-says g c =
     let done = c.operations-test.false in
     let within = c.operations.invariant.within in
     let all : c.operations.done ≡ c.args.most = grind (arith, nat_tests, done, within) in
-    subst (Iterated (HostStep c.args.at (g.M.Media.state c.args.media.now).size false)
+    subst (Iterated (HostStep c.args.at (g.M.Media.size c.args.media.now) false)
     (host_standing g.M.Media.state c.args.media.now (host_view c.args.host.now) (notes_view c.args.journal.now.items))
     (host_standing g.M.Media.state c.operations.media (host_view c.operations.host) (notes_view c.operations.journal.items))) all c.operations.invariant.far

@@ -8,14 +8,14 @@ use Rattle.fam_world.proofs.counted.steps_of.Given as goal
 
 abbrev pub invariant-operations : goal.invariant-operations
 invariant-operations g l = record {
-  far : Iterated (HostStep l.at (g.M.Media.state l.fn.media).size false)
+  far : Iterated (HostStep l.at (g.M.Media.size l.fn.media) false)
       (host_standing g.M.Media.state l.fn.media (host_view l.fn.host) (notes_view l.fn.journal.items))
       (host_standing g.M.Media.state l.media (host_view l.host) (notes_view l.journal.items)) l.done;
-  size : (g.M.Media.state l.media).size ≡ (g.M.Media.state l.fn.media).size;
+  size : (g.M.Media.size l.media) ≡ g.M.Media.size l.fn.media;
   within : l.done ≤ l.most;
   runs : is_some l.host.task ≡ true;
-  fits : TaskFits (g.M.Media.state l.fn.media).size l.host.task;
-  cached : CacheFits (g.M.Media.state l.fn.media).size l.host.cache;
+  fits : TaskFits (g.M.Media.size l.fn.media) l.host.task;
+  cached : CacheFits (g.M.Media.size l.fn.media) l.host.cache;
 }
 
 abbrev pub decreases-operations : goal.decreases-operations

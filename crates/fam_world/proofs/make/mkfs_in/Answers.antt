@@ -20,9 +20,9 @@ returns-in-Err-clause-answered g c =
     let old : WorldView = world_view c.args.hosts.now.items c.args.journal.now.items in
     let new : WorldView = world_view c.args.hosts.now.items c.refused.new.journal.items in
     let asked : call.Call = call.Makes c.args.name.now c.args.fs c.args.unit c.args.log c.args.force in
-    let refused : IsRefused asked (g.M.Media.state c.args.media.now).size old c.in-Err.cause = subst (λ n. IsRefused asked n old c.in-Err.cause) c.lines.ensures.count (c.in-Err.ensures.placed c.args.fs c.args.force old.journal) in
+    let refused : IsRefused asked (g.M.Media.size c.args.media.now) old c.in-Err.cause = subst (λ n. IsRefused asked n old c.in-Err.cause) c.lines.ensures.count (c.in-Err.ensures.placed c.args.fs c.args.force old.journal) in
     refused_told c.refused.result c.in-Err.cause _ c.refused.ensures.given
-    (make_refused c.args.name.now c.args.fs c.is_uuid.ensures c.args.unit c.args.log c.args.force (g.M.Media.state c.args.media.now).size old (g.M.Media.state c.args.media.now).image (g.M.Media.state c.args.media.now).faults new c.in-Err.cause (g.met.M.Media.modelled c.args.media.now) refused refl
+    (make_refused c.args.name.now c.args.fs c.is_uuid.ensures c.args.unit c.args.log c.args.force (g.M.Media.size c.args.media.now) old (g.M.Media.state c.args.media.now).image (g.M.Media.state c.args.media.now).faults new c.in-Err.cause (g.met.M.Media.modelled c.args.media.now) refused refl
     (c.refused.ensures.noted ∙ ap (λ (xs : List Kept). notes_view xs ++ Refused c.args.name.now c.in-Err.cause ∷ []) c.make_room.ensures.same))
 
 pub returns-in-Ok-make_host-clause-answered : goal.returns-in-Ok-make_host-clause-answered
@@ -33,7 +33,7 @@ returns-in-Ok-make_host-clause-answered g c =
     let x = c.index_mut.result.now in
     let at_is = slice_get_read items (length items) at x refl (omega (arith, c.in-Ok.ensures.within)) c.index_mut.ensures.value in
     let asked : call.Call = call.Makes c.args.name.now c.args.fs c.args.unit c.args.log c.args.force in
-    let size = (g.M.Media.state c.args.media.now).size in
+    let size = (g.M.Media.size c.args.media.now) in
     let free : IsFree asked size old at = subst (λ n. IsFree asked n old at) c.lines.ensures.count (c.in-Ok.ensures.placed c.args.fs c.args.force old.journal) in
     let wide = wide_of c.args.unit c.args.log size (subst (λ n. refusal c.args.unit c.args.log (line_bytes * n) ≡ None) c.lines.ensures.count c.in-Ok.ensures.free) in
     make_ended c.args.name.now c.args.fs c.is_uuid.ensures c.args.unit c.args.log c.args.force size old at (host_view x) free.number free.free free.within (map_at host_view items at x at_is)

@@ -24,7 +24,7 @@ use Rattle.fam_world.proofs.steps.finish_at.Goals as goal
 
 pub operations-init : goal.operations-init
 operations-init g c = record {
-  far = first_so_far c.args.at (g.M.Media.state c.args.media.now).size (world_view c.args.hosts.now.items c.args.journal.now.items) (g.M.Media.state c.args.media.now).image (g.M.Media.state c.args.media.now).faults;
+  far = first_so_far c.args.at (g.M.Media.size c.args.media.now) (world_view c.args.hosts.now.items c.args.journal.now.items) (g.M.Media.state c.args.media.now).image (g.M.Media.state c.args.media.now).faults;
   size = refl;
   len = refl;
   runs = c.requires.runs;
@@ -122,19 +122,19 @@ operations-preserved g c =
     let runs_then = sym (ap is_some task_then) ∙ come_runs at t.0 _ over going step in
     let z = c.held_on.new.host in
     let held = held_host x_then z c.held_on.result runs_then c.held_on.ensures.runs c.held_on.ensures.held c.held_on.ensures.sound_on in
-    let lines : t.0.lines ≡ (g.M.Media.state c.operations.media).size = subst (TaskFits (g.M.Media.state c.operations.media).size) t.1 (inv.fits (host_view x) view_is) in
-    let size = (g.M.Media.state c.args.media.now).size in
+    let lines : t.0.lines ≡ g.M.Media.size c.operations.media = subst (TaskFits (g.M.Media.size c.operations.media)) t.1 (inv.fits (host_view x) view_is) in
+    let size = (g.M.Media.size c.args.media.now) in
     let journal = c.go_on.new.journal.items in
     let then_world = world_view items_then journal in
-    let same_size : (g.M.Media.state c.go_on.new.media).size ≡ size = c.go_on.ensures.size ∙ inv.size in
-    let fits_then : TaskFits (g.M.Media.state c.go_on.new.media).size x_then.task =
-    subst (TaskFits (g.M.Media.state c.go_on.new.media).size) task_then (come_fits at t.0 _ over _ going step (lines ∙ sym c.go_on.ensures.size)) in
-    let old_fits : held.old.lines ≡ (g.M.Media.state c.go_on.new.media).size = subst (TaskFits (g.M.Media.state c.go_on.new.media).size) held.old_is fits_then in
+    let same_size : (g.M.Media.size c.go_on.new.media) ≡ size = c.go_on.ensures.size ∙ inv.size in
+    let fits_then : TaskFits (g.M.Media.size c.go_on.new.media) x_then.task =
+    subst (TaskFits (g.M.Media.size c.go_on.new.media)) task_then (come_fits at t.0 _ over _ going step (lines ∙ sym c.go_on.ensures.size)) in
+    let old_fits : held.old.lines ≡ g.M.Media.size c.go_on.new.media = subst (TaskFits (g.M.Media.size c.go_on.new.media)) held.old_is fits_then in
     let far = far_come c.args.name.now at size (world_view c.args.hosts.now.items c.args.journal.now.items) (g.M.Media.state c.args.media.now).image (g.M.Media.state c.args.media.now).faults
     (world_view items c.operations.journal.items) (g.M.Media.state c.operations.media).image (g.M.Media.state c.operations.media).faults inv.far c.requires.number (host_view x) t.0 view_is t.1 (lines ∙ inv.size)
     (omega (arith, c.requires.within, inv.len, length-map items host_view)) (λ i is. g.met.M.Media.modelled c.operations.media i is ∙ inv.size)
     then_world (host_view y) (g.M.Media.state c.go_on.new.media).image (g.M.Media.state c.go_on.new.media).faults (map_set host_view (λ v. host_view y) items at y x at_is refl) over
-    (notes_view c.make_room.new.journal.items) (ap notes_view c.make_room.ensures.same) (g.M.Media.state c.operations.media).size inv.size step in
+    (notes_view c.make_room.new.journal.items) (ap notes_view c.make_room.ensures.same) (g.M.Media.size c.operations.media) inv.size step in
     let far_then = far_held c.args.name.now at size (world_view c.args.hosts.now.items c.args.journal.now.items) (g.M.Media.state c.args.media.now).image (g.M.Media.state c.args.media.now).faults c.requires.number
     (g.M.Media.state c.go_on.new.media).image (g.M.Media.state c.go_on.new.media).faults (g.met.M.Media.normal c.go_on.new.media) (λ i is. g.met.M.Media.modelled c.go_on.new.media i is ∙ same_size)
     then_world far (host_view x_then) then_view (omega (arith, c.requires.within, inv.len, length-set items at y, length-map items_then host_view))
@@ -160,7 +160,7 @@ operations-preserved g c =
           let safe_here : IsSafe told now_told x_then.task x_then.cache notes room =
           subst (λ (v : Host). IsSafe told now_told v.task v.cache notes room) (same_Some y x_then (sym (set_member items at x y at_is) ∙ then_is)) safe_then in
           subst (λ (v : Host). IsSafe told now_told v.task v.cache notes room) (same_Some z h (sym (set_member items_then at x_then z then_is) ∙ is)) (c.held_on.ensures.safe told now_told notes room safe_here);
-      fits = λ view is. subst (λ (v : HostView). TaskFits (g.M.Media.state c.go_on.new.media).size v.task) (same_Some (host_view z) view (sym now ∙ is)) (held_fits x_then z c.held_on.result held (g.M.Media.state c.go_on.new.media).size fits_then);
+      fits = λ view is. subst (λ (v : HostView). TaskFits (g.M.Media.size c.go_on.new.media) v.task) (same_Some (host_view z) view (sym now ∙ is)) (held_fits x_then z c.held_on.result held (g.M.Media.size c.go_on.new.media) fits_then);
     }
 
 pub returns-in-Answered-clause-far : goal.returns-in-Answered-clause-far
@@ -173,12 +173,12 @@ returns-in-Answered-clause-far g c =
     let at_is = slice_get_read items (length items) at x refl (omega (arith, c.requires.within, inv.len)) c.index_mut.ensures.value in
     let view_is = map_at host_view items at x at_is in
     let t = some_of x.task (inv.runs (host_view x) view_is) in
-    let lines : t.0.lines ≡ (g.M.Media.state c.operations.media).size = subst (TaskFits (g.M.Media.state c.operations.media).size) t.1 (inv.fits (host_view x) view_is) in
-    far_come c.args.name.now at (g.M.Media.state c.args.media.now).size (world_view c.args.hosts.now.items c.args.journal.now.items) (g.M.Media.state c.args.media.now).image (g.M.Media.state c.args.media.now).faults
+    let lines : t.0.lines ≡ g.M.Media.size c.operations.media = subst (TaskFits (g.M.Media.size c.operations.media)) t.1 (inv.fits (host_view x) view_is) in
+    far_come c.args.name.now at (g.M.Media.size c.args.media.now) (world_view c.args.hosts.now.items c.args.journal.now.items) (g.M.Media.state c.args.media.now).image (g.M.Media.state c.args.media.now).faults
     (world_view items c.operations.journal.items) (g.M.Media.state c.operations.media).image (g.M.Media.state c.operations.media).faults inv.far c.requires.number (host_view x) t.0 view_is t.1 (lines ∙ inv.size)
     (omega (arith, c.requires.within, inv.len, length-map items host_view)) (λ i is. g.met.M.Media.modelled c.operations.media i is ∙ inv.size)
     _ (host_view y) (g.M.Media.state c.go_on.new.media).image (g.M.Media.state c.go_on.new.media).faults (map_set host_view (λ v. host_view y) items at y x at_is refl) (is_over c.in_ok-go_on.field-0)
-    (notes_view c.make_room.new.journal.items) (ap notes_view c.make_room.ensures.same) (g.M.Media.state c.operations.media).size inv.size (c.in_ok-go_on.ensures.step t.0 t.1)
+    (notes_view c.make_room.new.journal.items) (ap notes_view c.make_room.ensures.same) (g.M.Media.size c.operations.media) inv.size (c.in_ok-go_on.ensures.step t.0 t.1)
 
 pub returns-in-Answered-clause-over : goal.returns-in-Answered-clause-over
 returns-in-Answered-clause-over g c = λ view is.
@@ -221,7 +221,7 @@ returns-in_err-go_on-clause-far g c =
     let y = c.go_on.new.host in
     let at = c.args.at in
     let at_is = slice_get_read items (length items) at x refl (omega (arith, c.requires.within, c.operations.invariant.len)) c.index_mut.ensures.value in
-    let size = (g.M.Media.state c.args.media.now).size in
+    let size = (g.M.Media.size c.args.media.now) in
     let old = world_view c.args.hosts.now.items c.args.journal.now.items in
     let told = (g.M.Media.state c.args.media.now).image in
     let faults = (g.M.Media.state c.args.media.now).faults in

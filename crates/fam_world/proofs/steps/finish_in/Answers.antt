@@ -17,7 +17,7 @@ pub returns-in-Err-clause-answered : goal.returns-in-Err-clause-answered
 returns-in-Err-clause-answered g c =
     let old : WorldView = world_view c.args.hosts.now.items c.args.journal.now.items in
     let new : WorldView = world_view c.args.hosts.now.items c.refused.new.journal.items in
-    let size = (g.M.Media.state c.args.media.now).size in
+    let size = (g.M.Media.size c.args.media.now) in
     let placed = c.in-Err.ensures.placed size old.journal in
     let refused : IsRefused (call.Finishes c.args.name.now) size old c.in-Err.cause = record {
       first = finishes_as_steps c.args.name.now old size _ placed.first;
@@ -32,7 +32,7 @@ returns-in-Err-clause-answered g c =
 pub returns-in-Ok-finish_at-clause-answered : goal.returns-in-Ok-finish_at-clause-answered
 returns-in-Ok-finish_at-clause-answered g c =
     let old : WorldView = world_view c.args.hosts.now.items c.args.journal.now.items in
-    let size = (g.M.Media.state c.args.media.now).size in
+    let size = (g.M.Media.size c.args.media.now) in
     let at = c.in-Ok.at in
     let free = c.in-Ok.ensures.placed size old.journal in
     let far = subst (λ (j : List Note). SoFar at size (record { hosts = views c.args.hosts.now.items; journal = j }) (g.M.Media.state c.args.media.now).image (g.M.Media.state c.args.media.now).faults (world_view c.finish_at.new.hosts.items c.finish_at.new.journal.items) (g.M.Media.state c.finish_at.new.media).image (g.M.Media.state c.finish_at.new.media).faults) (ap notes_view c.make_room.ensures.same) c.finish_at.ensures.far in
@@ -41,7 +41,7 @@ returns-in-Ok-finish_at-clause-answered g c =
 pub returns-in-Err-finish_at-clause-want : goal.returns-in-Err-finish_at-clause-want
 returns-in-Err-finish_at-clause-want g c = λ _.
     let old : WorldView = world_view c.args.hosts.now.items c.args.journal.now.items in
-    let size = (g.M.Media.state c.args.media.now).size in
+    let size = (g.M.Media.size c.args.media.now) in
     let at = c.in-Ok.at in
     let free = c.in-Ok.ensures.placed size old.journal in
     let far = subst (λ (j : List Note). SoFar at size (record { hosts = views c.args.hosts.now.items; journal = j }) (g.M.Media.state c.args.media.now).image (g.M.Media.state c.args.media.now).faults (world_view c.finish_at.new.hosts.items c.finish_at.new.journal.items) (g.M.Media.state c.finish_at.new.media).image (g.M.Media.state c.finish_at.new.media).faults) (ap notes_view c.make_room.ensures.same) c.finish_at.ensures.far in
@@ -51,10 +51,10 @@ returns-in-Err-finish_at-clause-want g c = λ _.
 pub returns-then-is_err-clause-want : goal.returns-then-is_err-clause-want
 returns-then-is_err-clause-want g c = λ _.
     let old : WorldView = world_view c.args.hosts.now.items c.args.journal.now.items in
-    let size = (g.M.Media.state c.args.media.now).size in
+    let size = (g.M.Media.size c.args.media.now) in
     let told = (g.M.Media.state c.args.media.now).image in
     let faults = (g.M.Media.state c.args.media.now).faults in
     subst (λ (j : List Note). FinishOutOfMemory c.args.name.now size told told faults faults old (record { hosts = old.hosts; journal = j })) (sym (ap notes_view c.make_room.ensures.same)) (finish_nothing c.args.name.now size told faults old)
 
 pub finish_at-requires-clause-number : goal.finish_at-requires-clause-number
-finish_at-requires-clause-number g c = (c.in-Ok.ensures.placed (g.M.Media.state c.args.media.now).size (notes_view c.make_room.new.journal.items)).number
+finish_at-requires-clause-number g c = (c.in-Ok.ensures.placed (g.M.Media.size c.args.media.now) (notes_view c.make_room.new.journal.items)).number

@@ -18,7 +18,7 @@ pub returns-in-Err-clause-answered : goal.returns-in-Err-clause-answered
 returns-in-Err-clause-answered g c =
     let old : WorldView = world_view c.args.hosts.now.items c.args.journal.now.items in
     let new : WorldView = world_view c.args.hosts.now.items c.refused.new.journal.items in
-    let size = (g.M.Media.state c.args.media.now).size in
+    let size = (g.M.Media.size c.args.media.now) in
     let refused = c.in-Err.ensures.placed size old.journal in
     refused_stepped c.refused.result c.in-Err.cause _ c.refused.ensures.given
     (step_refused c.args.name.now size old new c.in-Err.cause (g.M.Media.state c.args.media.now).image (g.M.Media.state c.args.media.now).faults refused.first
@@ -29,7 +29,7 @@ pub returns-in-Ok-step_host-clause-answered : goal.returns-in-Ok-step_host-claus
 returns-in-Ok-step_host-clause-answered g c =
     let items = c.args.hosts.now.items in
     let old : WorldView = world_view items c.args.journal.now.items in
-    let size = (g.M.Media.state c.args.media.now).size in
+    let size = (g.M.Media.size c.args.media.now) in
     let at = c.in-Ok.at in
     let x = c.index_mut.result.now in
     let at_is = slice_get_read items (length items) at x refl (omega (arith, c.in-Ok.ensures.within)) c.index_mut.ensures.value in

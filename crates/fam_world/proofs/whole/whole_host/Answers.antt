@@ -21,7 +21,7 @@ returns-in-Ok-Going-clause-step g c = λ t e.
     let w = c.in-Ok-Going in
     let b = both_there c.args.host.now.task c.whole_on.new.task t _ e c.whole_on.ensures.keeps.runs (going_done w.field-0 _ w.field-0-is w.ensures.done) in
     whole_done c.args.at Go _ _ t b.0 b.2 c.whole_on.new.task b.1 refl (sym (append-nil (notes_view c.args.journal.now.items))) refl c.whole_on.ensures.steady.later refl
-    (subst (TaskFits (g.M.Media.state c.args.media.now).size) e c.requires.fits)
+    (subst (TaskFits (g.M.Media.size c.args.media.now)) e c.requires.fits)
 
 -- src/whole.rt:83:1
 pub returns-in-Ok-Ended-clause-step : goal.returns-in-Ok-Ended-clause-step
@@ -30,7 +30,7 @@ returns-in-Ok-Ended-clause-step g c = λ t e.
     let b = both_there c.args.host.now.task c.whole_on.new.task t _ e c.whole_on.ensures.keeps.runs (ended_done w.field-0 w.ended _ w.field-0-is w.ensures.done) in
     let said = c.end_compared.ensures in
     whole_done c.args.at (Done (answer_by w.ended)) _ _ t b.0 b.2 c.whole_on.new.task b.1 said.task said.notes refl c.whole_on.ensures.steady.later said.over
-    (subst (TaskFits (g.M.Media.state c.args.media.now).size) e c.requires.fits)
+    (subst (TaskFits (g.M.Media.size c.args.media.now)) e c.requires.fits)
 
 -- src/whole.rt:83:1
 pub returns-in-Ok-Other-clause-step : goal.returns-in-Ok-Other-clause-step
@@ -43,7 +43,7 @@ returns-in-Ok-Other-clause-step g c =
       after = notes_view c.step_host.new.journal.items;
       told = (g.M.Media.state c.whole_on.new.media).image;
       now = (g.M.Media.state c.step_host.new.media).image;
-      size = (g.M.Media.state c.whole_on.new.media).size;
+      size = (g.M.Media.size c.whole_on.new.media);
       faults = (g.M.Media.state c.whole_on.new.media).faults;
       faults_now = (g.M.Media.state c.step_host.new.media).faults;
     } in

@@ -4,4 +4,4 @@ use Rattle.fam_journal.specs.View.{WorldView}
 use Rattle.fam_world.proofs.world.World.step.Goals as goal
 
 pub step_in-requires-clause-fits : goal.step_in-requires-clause-fits
-step_in-requires-clause-fits g c = subst (λ (w : WorldView). FitsMedia (g.M.Media.state c.args.media.now).size w.hosts) (sym c.self.view_is) c.requires.fits
+step_in-requires-clause-fits g c = subst (λ (w : WorldView). FitsMedia (g.M.Media.size c.args.media.now) w.hosts) (sym c.self.view_is) c.requires.fits
