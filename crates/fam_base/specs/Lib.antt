@@ -6,3 +6,4 @@ pub mod Units
 pub mod HostNames
 pub mod Escapes
 pub mod Commands
+pub mod MkfsOptions

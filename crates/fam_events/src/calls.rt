@@ -14,7 +14,7 @@ ghost use Rattle.fam_events.specs.Around.{around, still};
 ghost use Rattle.fam_events.specs.Calls.{CallSays, make_outcome, outcome};
 
 use crate::fault::EventFault;
-use fam_base::{HostName, LineNo, Mask};
+use fam_base::{HostName, LineNo, Mask, MkfsOptions};
 use fam_journal::Refusal;
 use fam_media::Media;
 use fam_world::{World, WorldFault};
@@ -93,17 +93,20 @@ pub(crate) fn make<M: Media>(
     world: &mut World,
     media: &mut M,
     name: &HostName,
-    fs: Uuid,
-    unit: u64,
-    log: u64,
-    force: bool,
+    options: MkfsOptions,
 ) -> Result<(), EventFault>
     requires formed { IsFormed world.old }
     requires fits { FitsMedia (M.size media.old) world.old.hosts }
-    ensures says { (files : Option Files) (copied : ℕ) → CallSays (Makes name.now fs unit log force) (around M.size M.state
+    ensures says { (files : Option Files) (copied : ℕ) → CallSays (Makes name.now options) (around M.size M.state
         media.old media.new world.old world.new files copied copied) result }
     ensures size { M.size media.new ≡ M.size media.old }
 {
+    let MkfsOptions {
+        fs,
+        unit,
+        log,
+        force,
+    } = options;
     is_uuid(fs);
     made(world.mkfs(media, name, fs, unit, log, force))
 }

@@ -17,7 +17,7 @@ use crate::asks::{Asked, ask};
 use crate::calls::{declare, evict, fetch, finish, halt, leak, make, stop};
 use crate::fault::EventFault;
 use crate::steps::step;
-use fam_base::HostName;
+use fam_base::{HostName, MkfsOptions};
 use fam_journal::{Ask, Event};
 use fam_media::{Media, Shelf};
 use fam_world::World;
@@ -109,7 +109,15 @@ pub fn happen<M: Media, S: Shelf>(
             unit,
             log,
             force,
-        } => make(world, media, &name, fs, unit, log, force),
+        } => {
+            let options = MkfsOptions {
+                fs,
+                unit,
+                log,
+                force,
+            };
+            make(world, media, &name, options)
+        }
         Event::Begin(name, what) => begin(alloc, world, media, shelf, copied, name, what),
         Event::Run(name, what) => run(alloc, world, media, shelf, copied, name, what),
         Event::Step(name, count) => step(world, media, &name, count),

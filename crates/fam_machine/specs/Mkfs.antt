@@ -1,6 +1,7 @@
 -- The operations that make a file system, on the maker's cache and the one memory; and what is refused before any.
 use Rattle.std.specs.Prelude.{ℕ, ◌*◌, ◌&&◌, nat_lt, if◌then◌else◌, Bool, true, false, List, [], ◌∷◌, ◌++◌, Option, Some, None, Result, Ok, Err}
 use Rattle.std.specs.List.{flat_map, fold}
+use Rattle.fam_base.specs.declared.entry.MkfsOptions.{MkfsOptions}
 use Rattle.fam_base.specs.declared.entry.Params.{Params}
 use Rattle.fam_base.specs.Image.{line_at}
 use Rattle.fam_format.specs.declared.faults.SuperFault.{SuperFault}
@@ -39,10 +40,10 @@ drop_line cache put = with_cell put.0 Absent cache
 abbrev pub drop_lines : List Put → Cache → Cache
 drop_lines puts cache = fold drop_line cache puts
 
--- the parameters that are asked for, on a device of so many lines
-abbrev pub asked : ℕ → ℕ → List ℕ → List ℕ → ℕ → Params
-asked unit log fs me lines =
-    record { log_length = log; slots = slots_of log; unit = unit; device = line_bytes * lines; fs = fs; master = me }
+-- the parameters that are asked for, of a host of this UUID, on a device of so many lines
+abbrev pub asked : MkfsOptions → List ℕ → ℕ → Params
+asked options me lines =
+    record { log_length = options.log; slots = slots_of options.log; unit = options.unit; device = line_bytes * lines; fs = options.fs; master = me }
 
 -- a unit, and the length of a log of such units
 abbrev pub is_geometry : ℕ → ℕ → Bool

@@ -15,7 +15,7 @@ ghost use Rattle.fam_media.specs.Causes.{IsSteady, Rose};
 ghost use Rattle.fam_cache.specs.Runs.{AreCut, AreDone, over};
 
 use crate::lines::{FailedAt, read_line, write_line};
-use fam_base::{Line, LineNo, OutOfMemory, Params};
+use fam_base::{Line, LineNo, MkfsOptions, OutOfMemory, Params};
 use fam_cache::HostCache;
 use fam_entry::spell_log;
 use fam_format::{GATE_LINE, LINE_BYTES, LOG_LINE, LOG_OFFSET, SLOT_BYTES};
@@ -48,17 +48,17 @@ fn is_geometry(unit: u64, log: u64) -> bool
     is_unit(unit) && log > 0 && log % unit == 0 && log <= LOG_LIMIT
 }
 
-/// The parameters that are asked for by this unit and log, on a device of so many lines.
-pub fn asked(unit: u64, log: u64, fs: Uuid, me: Uuid, lines: u64) -> Params
+/// The parameters that are asked for, of the host `me`, on a device of so many lines.
+pub fn asked(options: &MkfsOptions, me: Uuid, lines: u64) -> Params
     requires within { lines ≤ MOST_LINES }
-    ensures { result ≡ spec.asked unit log fs me lines }
+    ensures { result ≡ spec.asked options.now me lines }
 {
     Params {
-        log_length: log,
-        slots: (log / SLOT_BYTES).saturating_sub(1),
-        unit,
+        log_length: options.log,
+        slots: (options.log / SLOT_BYTES).saturating_sub(1),
+        unit: options.unit,
         device: LINE_BYTES * lines,
-        fs,
+        fs: options.fs,
         master: me,
     }
 }
@@ -176,8 +176,8 @@ fn make<M: Media>(cache: &mut HostCache, media: &mut M, params: &Params, force: 
     }
 }
 
-/// Makes a file system of this unit and log, with the UUIDs `fs` and of its maker `me`, through the maker's cache.
-/// The device is the whole media. What stands there is written over where `force` says so.
+/// Makes the file system that is asked for through the cache of its maker, which has the UUID `me`. The device is the
+/// whole media.
 ///
 /// `BadGeometry` and `TooSmall` come before anything else. Room for six lines is taken then, so `OutOfMemory`
 /// changes no line. The clauses hold for any cache; where it holds no line, `fam_machine::a_file_system_is_made` says
@@ -185,22 +185,19 @@ fn make<M: Media>(cache: &mut HostCache, media: &mut M, params: &Params, force: 
 pub fn mkfs<M: Media>(
     cache: &mut HostCache,
     media: &mut M,
-    unit: u64,
-    log: u64,
-    fs: Uuid,
+    options: &MkfsOptions,
     me: Uuid,
-    force: bool,
 ) -> Result<MkfsEnd, OutOfMemory>
     // What is refused at once comes whatever the media and the memory do, and nothing is done.
-    ensures refused { (end : MkfsEnd) → refusals.refusal unit log (line_bytes * M.size media.old) ≡ Some end
+    ensures refused { (end : MkfsEnd) → refusals.refusal options.now.unit options.now.log (line_bytes * M.size media.old) ≡ Some end
         → result ≡ Ok end }
-    ensures untouched { (end : MkfsEnd) → refusals.refusal unit log (line_bytes * M.size media.old) ≡ Some end
+    ensures untouched { (end : MkfsEnd) → refusals.refusal options.now.unit options.now.log (line_bytes * M.size media.old) ≡ Some end
         → media.new ≡ media.old }
-    ensures unchanged { (end : MkfsEnd) → refusals.refusal unit log (line_bytes * M.size media.old) ≡ Some end
+    ensures unchanged { (end : MkfsEnd) → refusals.refusal options.now.unit options.now.log (line_bytes * M.size media.old) ≡ Some end
         → cache.new ≡ cache.old }
 
-    ensures ends { refusals.refusal unit log (line_bytes * M.size media.old) ≡ None → IfOk result
-        (MkfsEnds (spec.asked unit log fs me (M.size media.old)) force (M.size media.old)
+    ensures ends { refusals.refusal options.now.unit options.now.log (line_bytes * M.size media.old) ≡ None → IfOk result
+        (MkfsEnds (spec.asked options.now me (M.size media.old)) options.now.force (M.size media.old)
         (over (M.state media.old).image cache.old.lines) (over (M.state media.new).image cache.new.lines)
         (M.state media.old).faults (M.state media.new).faults) }
 
@@ -214,10 +211,10 @@ pub fn mkfs<M: Media>(
 
     ensures steady { IsSteady M.size M.state media.old media.new }
 {
-    let params = asked(unit, log, fs, me, media.lines());
-    if let Some(end) = refusal(unit, log, params.device) {
+    let params = asked(options, me, media.lines());
+    if let Some(end) = refusal(options.unit, options.log, params.device) {
         return Ok(end);
     }
     cache.reserve(ROOM)?;
-    Ok(make(cache, media, &params, force))
+    Ok(make(cache, media, &params, options.force))
 }

@@ -14,7 +14,7 @@ ghost use Rattle.fam_top.specs.Words.{order_named};
 
 use crate::fresh::fs_or;
 use crate::words::order;
-use fam_base::OutOfMemory;
+use fam_base::{MkfsOptions, OutOfMemory};
 use fam_outcomes::Status;
 use fam_media::{Media, Shelf, Sink};
 use fam_program::{
@@ -60,8 +60,13 @@ fn run_shot<M: Media, S: Shelf, K: Sink>(
             log,
             force,
         } => {
-            let fs = fs_or(random, fs);
-            make_file_system(alloc, me, fs, unit, log, force, media, shelf, out)
+            let options = MkfsOptions {
+                fs: fs_or(random, fs),
+                unit,
+                log,
+                force,
+            };
+            make_file_system(alloc, me, options, media, shelf, out)
         }
         Shot::Parents { path, attr } => make_parents(alloc, me, &path, attr, media, shelf, out),
     }

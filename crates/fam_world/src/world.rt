@@ -8,6 +8,7 @@ ghost use Rattle.fam_journal.specs.Calls.{Begins, Declares, Finishes, Halts, Mak
 ghost use Rattle.fam_journal.specs.CallRecords.{FinishOutOfMemory, FitsMedia, MakeCall, MediaCall, StepCall, WorldCall};
 ghost use Rattle.fam_journal.specs.View.{HostView, empty_world};
 ghost use Rattle.fam_base.specs.Commands.{IsSoundCmd};
+ghost use Rattle.fam_base.specs.MkfsOptions.{mkfs_options};
 ghost use Rattle.fam_tasks.specs.Sound.{most_lines};
 ghost use Rattle.fam_world.specs.Answers.{IfAnswered, IfStepped, refusal_told};
 ghost use Rattle.fam_world.specs.Counted.{StepsSay, standing};
@@ -22,7 +23,7 @@ use crate::moves::{OwnMove, move_in};
 use crate::notes::{add, make_room};
 use crate::quiet::{begin_in, halt_in, host_in, stop_in};
 use crate::steps::{finish_in, step_in};
-use fam_base::{Cmd, HostName, LineNo, Mask, OutOfMemory};
+use fam_base::{Cmd, HostName, LineNo, Mask, MkfsOptions, OutOfMemory};
 use fam_journal::{HostId, Refusal};
 use fam_media::Media;
 use fam_notes::Note;
@@ -204,7 +205,7 @@ impl World {
         log: u64,
         force: bool,
     ) -> Result<(), WorldFault>
-        ensures answered { IfAnswered result (λ answered. MakeCall (Makes name.now fs unit log force) (M.size media.old)
+        ensures answered { IfAnswered result (λ answered. MakeCall (Makes name.now (mkfs_options fs unit log force)) (M.size media.old)
             answered (M.state media.old).image (M.state media.new).image (M.state media.old).faults (M.state media.new).faults self.old self.new) }
         ensures undone { IsErrOf result WorldFault.OutOfMemory → media.new ≡ media.old }
         ensures err { IsErrOf result WorldFault.OutOfMemory → self.new ≡ self.old }
@@ -215,10 +216,12 @@ impl World {
             &mut self.journal,
             media,
             name,
-            fs,
-            unit,
-            log,
-            force,
+            &MkfsOptions {
+                fs,
+                unit,
+                log,
+                force,
+            },
         )
     }
 

@@ -13,17 +13,17 @@ use Rattle.fam_world.proofs.Deciding.{early_known, makes_first, nobody}
 use Rattle.fam_world.proofs.make.maker.Goals as goal
 
 pub returns-in_default-clause-placed : goal.returns-in_default-clause-placed
-returns-in_default-clause-placed c = λ fs force journal.
+returns-in_default-clause-placed c = λ journal.
     let items = c.args.hosts.now.items in
-    nobody (call.Makes c.args.name.now fs c.args.unit c.args.log force) c.args.lines (record { hosts = views items; journal = journal }) (makes_first (views items) journal c.args.name.now c.args.lines _ (sym c.number.ensures.is ∙ c.in_default.is) fs c.args.unit c.args.log force)
+    nobody (call.Makes c.args.name.now c.args.options.now) c.args.lines (record { hosts = views items; journal = journal }) (makes_first (views items) journal c.args.name.now c.args.lines _ (sym c.number.ensures.is ∙ c.in_default.is) c.args.options.now)
 
 pub returns-in-Some-early_cause-clause-placed : goal.returns-in-Some-early_cause-clause-placed
-returns-in-Some-early_cause-clause-placed c = λ fs force journal.
+returns-in-Some-early_cause-clause-placed c = λ journal.
     let items = c.args.hosts.now.items in
     let early : option_map cause_of (early_refusal c.args.unit c.args.log (line_bytes * c.args.lines)) ≡ Some c.in-Some-early_cause.cause = sym c.early_cause.ensures.cause ∙ c.in-Some-early_cause.is in
     let known = early_known (length (views items)) (early_refusal c.args.unit c.args.log (line_bytes * c.args.lines)) c.in-Some-early_cause.cause early in
     record {
-      first = makes_first (views items) journal c.args.name.now c.args.lines _ (sym c.number.ensures.is ∙ c.in-Some.is) fs c.args.unit c.args.log force
+      first = makes_first (views items) journal c.args.name.now c.args.lines _ (sym c.number.ensures.is ∙ c.in-Some.is) c.args.options.now
           ∙ ap (λ (e : Option Refusal). or_else e (or_else (busy_refusal (index_of is_busy (shown items))) (dirty_refusal (dirty_from c.in-Some.at 0 (shown items))))) early;
       plain = c.in-Some-early_cause.ensures.plain;
       named = known.0;
@@ -31,12 +31,12 @@ returns-in-Some-early_cause-clause-placed c = λ fs force journal.
     }
 
 pub returns-in-Some-busy_host-clause-placed : goal.returns-in-Some-busy_host-clause-placed
-returns-in-Some-busy_host-clause-placed c = λ fs force journal.
+returns-in-Some-busy_host-clause-placed c = λ journal.
     let items = c.args.hosts.now.items in
     let early : option_map cause_of (early_refusal c.args.unit c.args.log (line_bytes * c.args.lines)) ≡ None = sym c.early_cause.ensures.cause ∙ c.in_default-early_cause.is in
     let busy = sym c.busy_host.ensures.is ∙ c.in-Some-busy_host.is in
     record {
-      first = makes_first (views items) journal c.args.name.now c.args.lines _ (sym c.number.ensures.is ∙ c.in-Some.is) fs c.args.unit c.args.log force
+      first = makes_first (views items) journal c.args.name.now c.args.lines _ (sym c.number.ensures.is ∙ c.in-Some.is) c.args.options.now
           ∙ ap₂ (λ (e : Option Refusal) (b : Option ℕ). or_else e (or_else (busy_refusal b) (dirty_refusal (dirty_from c.in-Some.at 0 (shown items))))) early busy;
       plain = tt;
       named = omega (arith, c.in-Some-busy_host.ensures.within, length-map items host_view);
@@ -44,13 +44,13 @@ returns-in-Some-busy_host-clause-placed c = λ fs force journal.
     }
 
 pub returns-in-Some-dirty_host-clause-placed : goal.returns-in-Some-dirty_host-clause-placed
-returns-in-Some-dirty_host-clause-placed c = λ fs force journal.
+returns-in-Some-dirty_host-clause-placed c = λ journal.
     let items = c.args.hosts.now.items in
     let early : option_map cause_of (early_refusal c.args.unit c.args.log (line_bytes * c.args.lines)) ≡ None = sym c.early_cause.ensures.cause ∙ c.in_default-early_cause.is in
     let busy = sym c.busy_host.ensures.is ∙ c.in_default-busy_host.is in
     let dirty = sym c.dirty_host.ensures.is ∙ c.in-Some-dirty_host.is in
     record {
-      first = makes_first (views items) journal c.args.name.now c.args.lines _ (sym c.number.ensures.is ∙ c.in-Some.is) fs c.args.unit c.args.log force
+      first = makes_first (views items) journal c.args.name.now c.args.lines _ (sym c.number.ensures.is ∙ c.in-Some.is) c.args.options.now
           ∙ ap₂ (λ (e : Option Refusal) (b : Option ℕ). or_else e (or_else (busy_refusal b) (dirty_refusal (dirty_from c.in-Some.at 0 (shown items))))) early busy
           ∙ ap dirty_refusal dirty;
       plain = tt;
@@ -59,7 +59,7 @@ returns-in-Some-dirty_host-clause-placed c = λ fs force journal.
     }
 
 pub returns-clause-placed : goal.returns-clause-placed
-returns-clause-placed c = λ fs force journal.
+returns-clause-placed c = λ journal.
     let items = c.args.hosts.now.items in
     let early : option_map cause_of (early_refusal c.args.unit c.args.log (line_bytes * c.args.lines)) ≡ None = sym c.early_cause.ensures.cause ∙ c.in_default-early_cause.is in
     let busy = sym c.busy_host.ensures.is ∙ c.in_default-busy_host.is in
@@ -67,7 +67,7 @@ returns-clause-placed c = λ fs force journal.
     let number = sym c.number.ensures.is ∙ c.in-Some.is in
     record {
       number = number;
-      free = makes_first (views items) journal c.args.name.now c.args.lines _ number fs c.args.unit c.args.log force
+      free = makes_first (views items) journal c.args.name.now c.args.lines _ number c.args.options.now
           ∙ ap₂ (λ (e : Option Refusal) (b : Option ℕ). or_else e (or_else (busy_refusal b) (dirty_refusal (dirty_from c.in-Some.at 0 (shown items))))) early busy
           ∙ ap dirty_refusal dirty;
       within = omega (arith, c.in-Some.ensures.within, length-map items host_view);
