@@ -6,4 +6,3 @@ pub mod Units
 pub mod HostNames
 pub mod Escapes
 pub mod Commands
-pub mod MkfsOptions

@@ -48,19 +48,6 @@ impl Entry {
     }
 }
 
-/// What a mkfs is asked for. Lengths are in bytes.
-#[derive(Clone, Copy, Debug, PartialEq, Eq)]
-pub struct MkfsOptions {
-    /// The UUID of the file system (RFC 9562).
-    pub fs: Uuid,
-    /// The bytes of an allocation unit.
-    pub unit: u64,
-    /// The bytes of the log with its header.
-    pub log: u64,
-    /// Whether a file system that stands there is written over.
-    pub force: bool,
-}
-
 /// What the superblock says of a file system. Lengths are in bytes.
 #[derive(Clone, Copy, Debug, PartialEq, Eq)]
 pub struct Params {

@@ -21,7 +21,7 @@ mod shared;
 mod units;
 
 pub use cmd::{Attr, Cmd, Content, Stripe};
-pub use entry::{Entry, Kind, MapKind, MkfsOptions, Params};
+pub use entry::{Entry, Kind, MapKind, Params};
 pub use escapes::{escape, names_differ_in_print, print_is_visible};
 pub use extents::{EXTENT_LIMIT, Extent, Extents};
 pub use host_name::{BadName, HostName, NAME_LIMIT};

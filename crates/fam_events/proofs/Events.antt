@@ -11,7 +11,7 @@ use Rattle.fam_sources.specs.declared.sourced.SourceEnd.{SourceEnd}
 use Rattle.fam_machine.specs.HostMoves.{Evict, Fetch, Leak}
 use Rattle.fam_base.specs.declared.line.LineNo.{LineNo}
 use Rattle.fam_base.specs.declared.line.Mask.{Mask}
-use Rattle.fam_base.specs.declared.entry.MkfsOptions.{MkfsOptions}
+use Rattle.fam_machine.specs.declared.request.MkfsRequest.{MkfsRequest}
 use Rattle.fam_media.specs.States.{MediaChange, ShelfChange}
 use Rattle.fam_journal.specs.declared.event.Ask.{Ask}
 use Rattle.fam_journal.specs.declared.event.Event.{Event}
@@ -115,8 +115,8 @@ host_call name uuid = record {
   partly = λ lines hosts notes x. inl x;
 }
 
-pub mkfs_call : (name : List ℕ) (options : MkfsOptions) → IsCallOf (event.Mkfs name options.fs options.unit options.log options.force) (call.Makes name options)
-mkfs_call name options = record {
+pub mkfs_call : (name : List ℕ) (request : MkfsRequest) → IsCallOf (event.Mkfs name request.fs request.unit request.log request.force) (call.Makes name request)
+mkfs_call name request = record {
   does = λ files old notes new x. x;
   form = λ lines hosts notes x. x;
   breaks = λ old notes new x. x;

@@ -10,7 +10,7 @@ use Rattle.fam_machine.specs.Mkfs.{EarlyRefusal, early_refusal}
 use Rattle.fam_rules.specs.Place.{line_bytes}
 use Rattle.fam_journal.specs.Members.{index_of}
 use Rattle.fam_base.specs.Image.{Image}
-use Rattle.fam_base.specs.declared.entry.MkfsOptions.{MkfsOptions}
+use Rattle.fam_machine.specs.declared.request.MkfsRequest.{MkfsRequest}
 use Rattle.fam_journal.specs.declared.refusal.Refusal.{Refusal}
 use Rattle.fam_journal.specs.declared.refusal.Refusal.TheVariants as why
 use Rattle.fam_journal.specs.Calls as call
@@ -37,7 +37,7 @@ count_kept a b e = sym (length-map a heading) ∙ ap (λ hs. length hs) e ∙ le
 -- nothing but a mkfs is cut by a media fault
 no_break : (c : Call) (lines : ℕ) (hosts : List HostForm) (notes : List Note) → IsNoMake c → BreaksForm c lines hosts notes → DoesForm c lines hosts notes
 no_break (call.Declares name uuid) lines hosts notes other is = absurd is
-no_break (call.Makes name options) lines hosts notes other is = absurd other
+no_break (call.Makes name request) lines hosts notes other is = absurd other
 no_break (call.Begins name cmd) lines hosts notes other is = absurd is
 no_break (call.Steps name) lines hosts notes other is = absurd is
 no_break (call.Finishes name) lines hosts notes other is = absurd is
@@ -138,9 +138,9 @@ no_fault : (o : Option Refusal) (at : LineNo) → IfFaultless o → o ≡ Some (
 no_fault None at clean is = absurd cc
 no_fault (Some cause) at clean is = absurd (let same : cause ≡ why.MediaFault at = same_Some cause (why.MediaFault at) is in let one : 1 ≡ 0 = ap cause_faults (sym same) ∙ clean in cc)
 
-module _ (name : List ℕ) (options : MkfsOptions) (a : Around) (formed : IsFormed a.old) (fits : FitsMedia a.lines a.old.hosts) (same : a.copied_now ≡ a.copied) where
+module _ (name : List ℕ) (request : MkfsRequest) (a : Around) (formed : IsFormed a.old) (fits : FitsMedia a.lines a.old.hosts) (same : a.copied_now ≡ a.copied) where
   abbrev c : Call
-  c = call.Makes name options
+  c = call.Makes name request
 
   abbrev forms : List HostForm
   forms = forms_of a.old.journal
@@ -148,9 +148,9 @@ module _ (name : List ℕ) (options : MkfsOptions) (a : Around) (formed : IsForm
   -- the numbers, or a host with a task: no fault
   told_clean : IfFaultless (refusal_told c a.lines forms)
   told_clean =
-      let early = early_refusal options.unit options.log (line_bytes * length (shown_forms a.lines forms).memory) in
+      let early = early_refusal request.unit request.log (line_bytes * length (shown_forms a.lines forms).memory) in
       let busy = index_of is_busy (shown_forms a.lines forms).hosts in
-      clean_on (number_of name (shown_forms a.lines forms)) (λ h. makes_told options.unit options.log (shown_forms a.lines forms)) (λ h. clean_or (option_map cause_of early) (busy_refusal busy) (clean_early early) (clean_busy busy))
+      clean_on (number_of name (shown_forms a.lines forms)) (λ h. makes_told request.unit request.log (shown_forms a.lines forms)) (λ h. clean_or (option_map cause_of early) (busy_refusal busy) (clean_early early) (clean_busy busy))
 
   -- a fault is no row of its own
   by_acts : (notes : List Note) (at : LineNo) (h : ℕ) (f : HostForm) → ActsForm c h f a.lines forms notes → refusal_noted notes ≡ Some (why.MediaFault at) → ⊥

@@ -66,7 +66,7 @@ module _ (c : Call) (lines : ℕ) (answered : Option Refusal) (old new : WorldVi
 
 pub nothing_form : (c : Call) (lines : ℕ) (hosts : List HostForm) → PartForm c lines hosts []
 nothing_form (call.Declares name uuid) lines hosts = refl
-nothing_form (call.Makes name options) lines hosts = refl
+nothing_form (call.Makes name request) lines hosts = refl
 nothing_form (call.Begins name cmd) lines hosts = refl
 nothing_form (call.Steps name) lines hosts = refl
 nothing_form (call.Finishes name) lines hosts = inl refl
@@ -77,7 +77,7 @@ nothing_form (call.Refuses name cause) lines hosts = refl
 
 pub nothing_part : (c : Call) (state : Machines) → DoesPart c state [] state
 nothing_part (call.Declares name uuid) state = (refl, refl)
-nothing_part (call.Makes name options) state = (refl, refl)
+nothing_part (call.Makes name request) state = (refl, refl)
 nothing_part (call.Begins name cmd) state = (refl, refl)
 nothing_part (call.Steps name) state = (refl, refl)
 nothing_part (call.Finishes name) state = inr (refl, refl)

@@ -59,7 +59,7 @@ own_of n (Some own) cause is e = subst (IsOwn n) (same_Some own cause e) is
 -- calls that look at hosts alone
 abbrev pub IsQuiet : Call → Type 0
 IsQuiet (call.Declares name uuid) = ⊤
-IsQuiet (call.Makes name options) = ⊥
+IsQuiet (call.Makes name request) = ⊥
 IsQuiet (call.Begins name cmd) = ⊤
 IsQuiet (call.Steps name) = ⊤
 IsQuiet (call.Finishes name) = ⊥
@@ -84,7 +84,7 @@ module _ (m : Machines) where
       own_or count (same_refusal (index_of (is_same name uuid) m.hosts)) (when (nat_le host_limit count) why.TooManyHosts)
       (own_same count (index_of (is_same name uuid) m.hosts) (λ h is. let below = index_below (is_same name uuid) m.hosts 0 h is in omega (arith, below)))
       (own_when count (nat_le host_limit count) why.TooManyHosts record { named = tt; faultless = refl })
-  first_own (call.Makes name options) quiet = absurd quiet
+  first_own (call.Makes name request) quiet = absurd quiet
   first_own (call.Begins name cmd) quiet =
       own_on count (number_of name m) (λ h. begins_refusal h m) (λ h is.
       own_or count (when (nat_lt (length m.memory) least_lines) (why.ImageSmall (length m.memory))) (when (busy_at h m) (why.Busy (record { 0 = h })))
@@ -151,7 +151,7 @@ module _ (lines : ℕ) (old : WorldView) where
 
   acted_notes : (c : Call) → TakesNoMedia c lines old → QuietNotes c (acted c lines old)
   acted_notes (call.Declares name uuid) takes = record { notes = Host name uuid ∷ []; joined = refl; named = (tt, tt); faultless = refl }
-  acted_notes (call.Makes name options) takes = absurd takes
+  acted_notes (call.Makes name request) takes = absurd takes
   acted_notes (call.Begins name cmd) takes = at_host (call.Begins name cmd) (number_in name old) _ (λ h. Start h cmd) (λ h is. (number_below name h is, tt)) (λ h. refl)
   acted_notes (call.Steps name) takes = absurd takes
   acted_notes (call.Finishes name) takes = absurd takes
@@ -166,7 +166,7 @@ module _ (lines : ℕ) (old : WorldView) where
 
   is_quiet : (c : Call) → TakesNoMedia c lines old → IsQuiet c
   is_quiet (call.Declares name uuid) takes = tt
-  is_quiet (call.Makes name options) takes = takes
+  is_quiet (call.Makes name request) takes = takes
   is_quiet (call.Begins name cmd) takes = tt
   is_quiet (call.Steps name) takes = tt
   is_quiet (call.Finishes name) takes = takes

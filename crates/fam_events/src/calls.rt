@@ -14,8 +14,9 @@ ghost use Rattle.fam_events.specs.Around.{around, still};
 ghost use Rattle.fam_events.specs.Calls.{CallSays, make_outcome, outcome};
 
 use crate::fault::EventFault;
-use fam_base::{HostName, LineNo, Mask, MkfsOptions};
+use fam_base::{HostName, LineNo, Mask};
 use fam_journal::Refusal;
+use fam_machine::MkfsRequest;
 use fam_media::Media;
 use fam_world::{World, WorldFault};
 use uuid::Uuid;
@@ -93,20 +94,20 @@ pub(crate) fn make<M: Media>(
     world: &mut World,
     media: &mut M,
     name: &HostName,
-    options: MkfsOptions,
+    request: MkfsRequest,
 ) -> Result<(), EventFault>
     requires formed { IsFormed world.old }
     requires fits { FitsMedia (M.size media.old) world.old.hosts }
-    ensures says { (files : Option Files) (copied : ℕ) → CallSays (Makes name.now options) (around M.size M.state
+    ensures says { (files : Option Files) (copied : ℕ) → CallSays (Makes name.now request) (around M.size M.state
         media.old media.new world.old world.new files copied copied) result }
     ensures size { M.size media.new ≡ M.size media.old }
 {
-    let MkfsOptions {
+    let MkfsRequest {
         fs,
         unit,
         log,
         force,
-    } = options;
+    } = request;
     is_uuid(fs);
     made(world.mkfs(media, name, fs, unit, log, force))
 }

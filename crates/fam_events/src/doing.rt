@@ -17,8 +17,9 @@ use crate::asks::{Asked, ask};
 use crate::calls::{declare, evict, fetch, finish, halt, leak, make, stop};
 use crate::fault::EventFault;
 use crate::steps::step;
-use fam_base::{HostName, MkfsOptions};
+use fam_base::HostName;
 use fam_journal::{Ask, Event};
+use fam_machine::MkfsRequest;
 use fam_media::{Media, Shelf};
 use fam_world::World;
 use std::alloc::Global;
@@ -110,13 +111,13 @@ pub fn happen<M: Media, S: Shelf>(
             log,
             force,
         } => {
-            let options = MkfsOptions {
+            let request = MkfsRequest {
                 fs,
                 unit,
                 log,
                 force,
             };
-            make(world, media, &name, options)
+            make(world, media, &name, request)
         }
         Event::Begin(name, what) => begin(alloc, world, media, shelf, copied, name, what),
         Event::Run(name, what) => run(alloc, world, media, shelf, copied, name, what),

@@ -39,7 +39,7 @@ kept_on start state left old new call notes held sound does stands journal = rec
 
 part_does : (start : Image) (state left : Machines) (journal notes : List Note) (call : Call) → Kept start state journal → DoesPart call state notes left → Kept start left (journal ++ notes)
 part_does start state left journal notes (call.Declares name uuid) kept x = kept_quiet start journal notes left state x.0 x.1 kept
-part_does start state left journal notes (call.Makes name options) kept x = kept_quiet start journal notes left state x.0 x.1 kept
+part_does start state left journal notes (call.Makes name request) kept x = kept_quiet start journal notes left state x.0 x.1 kept
 part_does start state left journal notes (call.Begins name cmd) kept x = kept_quiet start journal notes left state x.0 x.1 kept
 part_does start state left journal notes (call.Steps name) kept x = kept_quiet start journal notes left state x.0 x.1 kept
 part_does start state left journal notes (call.Finishes name) kept (inl x) = operates_kept start x.host x.does.count state journal kept notes left x.does.does

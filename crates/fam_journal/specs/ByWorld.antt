@@ -53,7 +53,7 @@ with_host (Some h) change note world = record { hosts = changed_at h change worl
 abbrev pub acted : Call → ℕ → WorldView → WorldView
 acted (call.Declares name uuid) lines world =
     record { hosts = world.hosts ++ record { name = name; uuid = uuid; cache = map_of_lines.empty; task = None } ∷ []; journal = world.journal ++ Host name uuid ∷ [] }
-acted (call.Makes name options) lines world = world
+acted (call.Makes name request) lines world = world
 acted (call.Begins name cmd) lines world =
     with_host (number_in name world) (λ v. record v { task = Some (starting cmd v.uuid lines) }) (λ h. Start h cmd) world
 acted (call.Steps name) lines world = world
@@ -75,7 +75,7 @@ world_after c lines world = acted_by (refusal_in c world lines) c lines world
 -- these calls take none; a cause that is handed in is one of a source, or what keeps a command from beginning
 abbrev pub TakesNoMedia : Call → ℕ → WorldView → Type 0
 TakesNoMedia (call.Declares name uuid) lines world = ⊤
-TakesNoMedia (call.Makes name options) lines world = ⊥
+TakesNoMedia (call.Makes name request) lines world = ⊥
 TakesNoMedia (call.Begins name cmd) lines world = ⊤
 TakesNoMedia (call.Steps name) lines world = ⊥
 TakesNoMedia (call.Finishes name) lines world = ⊥

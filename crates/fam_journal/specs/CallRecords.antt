@@ -63,7 +63,7 @@ FinishPart name state notes left = SomeOfFinish name state notes left ⊎ ((note
 -- what a call has done for which no memory was found: nothing, but some operations of a finish
 abbrev pub DoesPart : Call → Machines → List Note → Machines → Type 0
 DoesPart (call.Declares name uuid) state notes left = (notes ≡ []) × (left ≡ state)
-DoesPart (call.Makes name options) state notes left = (notes ≡ []) × (left ≡ state)
+DoesPart (call.Makes name request) state notes left = (notes ≡ []) × (left ≡ state)
 DoesPart (call.Begins name cmd) state notes left = (notes ≡ []) × (left ≡ state)
 DoesPart (call.Steps name) state notes left = (notes ≡ []) × (left ≡ state)
 DoesPart (call.Finishes name) state notes left = FinishPart name state notes left
@@ -91,7 +91,7 @@ CallBreaks call start before told old new =
 -- UUIDs are such, and a command's numbers, path and bytes fit
 abbrev pub IsSoundCall : Call → Type 0
 IsSoundCall (call.Declares name uuid) = IsUuid uuid
-IsSoundCall (call.Makes name options) = IsUuid options.fs
+IsSoundCall (call.Makes name request) = IsUuid request.fs
 IsSoundCall (call.Begins name cmd) = IsCommand cmd
 IsSoundCall (call.Steps name) = ⊤
 IsSoundCall (call.Finishes name) = ⊤
@@ -201,7 +201,7 @@ IsLateMove (why.MediaFault at) = ⊤
 -- a call is refused so once it has begun: a mkfs or a cache's move
 abbrev pub IsLate : Call → Refusal → Type 0
 IsLate (call.Declares name uuid) cause = ⊥
-IsLate (call.Makes name options) cause = IsLateMake cause
+IsLate (call.Makes name request) cause = IsLateMake cause
 IsLate (call.Begins name cmd) cause = ⊥
 IsLate (call.Steps name) cause = ⊥
 IsLate (call.Finishes name) cause = ⊥

@@ -8,7 +8,7 @@ use Rattle.fam_base.specs.PathOrder.{path_eq}
 use Rattle.fam_format.specs.Layout.{least_lines}
 use Rattle.fam_format.specs.Stop.{or_else}
 use Rattle.fam_base.specs.declared.line.LineNo.{LineNo}
-use Rattle.fam_base.specs.declared.entry.MkfsOptions.{MkfsOptions}
+use Rattle.fam_machine.specs.declared.request.MkfsRequest.{MkfsRequest}
 use Rattle.fam_machine.specs.Caches.{dirty_count}
 use Rattle.fam_machine.specs.Operations.{Machine, operated_all}
 use Rattle.fam_rules.specs.Place.{line_bytes}
@@ -25,7 +25,7 @@ use Rattle.fam_journal.specs.Notes.{Note, Host, Made, Start, Stop, Halt, Refused
 -- what the world is asked for, of the host of a name
 pub data Call : Type 0 where
   Declares : (name uuid : List ℕ) → Call
-  Makes : (name : List ℕ) (options : MkfsOptions) → Call
+  Makes : (name : List ℕ) (request : MkfsRequest) → Call
   Begins : (name : List ℕ) (cmd : Cmd) → Call
   Steps : (name : List ℕ) → Call
   Finishes : (name : List ℕ) → Call
@@ -37,7 +37,7 @@ pub data Call : Type 0 where
 -- the host that is asked
 abbrev pub name_of : Call → List ℕ
 name_of (Declares name uuid) = name
-name_of (Makes name options) = name
+name_of (Makes name request) = name
 name_of (Begins name cmd) = name
 name_of (Steps name) = name
 name_of (Finishes name) = name
@@ -140,7 +140,7 @@ line_refusal line m = when (nat_le (length m.memory) line) (why.NoLine line (len
 unfoldable pub refusal_of : Call → Machines → Option Refusal
 refusal_of (Declares name uuid) m =
     or_else (same_refusal (index_of (is_same name uuid) m.hosts)) (when (nat_le host_limit (length m.hosts)) why.TooManyHosts)
-refusal_of (Makes name options) m = on_host (number_of name m) (λ h. makes_refusal options.unit options.log h m)
+refusal_of (Makes name request) m = on_host (number_of name m) (λ h. makes_refusal request.unit request.log h m)
 refusal_of (Begins name cmd) m = on_host (number_of name m) (λ h. begins_refusal h m)
 refusal_of (Steps name) m = on_host (number_of name m) (λ h. idle_refusal h m)
 refusal_of (Finishes name) m = on_host (number_of name m) (λ h. idle_refusal h m)
@@ -240,8 +240,8 @@ pub record MoveFails (h line : ℕ) (move : Move) (name : List ℕ) (host : Host
 -- what a call does that isn't refused, and after which the run goes on
 abbrev pub ActsAt : Call → ℕ → HostState → Machines → List Note → Machines → Type 0
 ActsAt (Declares name uuid) h host old notes new = ⊥
-ActsAt (Makes name options) h host old notes new =
-    MakesFileSystem h (asked options host.uuid (length old.memory)) options.force host old notes new ⊎ Meets h (asked options host.uuid (length old.memory)) options.force name host old notes new
+ActsAt (Makes name request) h host old notes new =
+    MakesFileSystem h (asked request host.uuid (length old.memory)) request.force host old notes new ⊎ Meets h (asked request host.uuid (length old.memory)) request.force name host old notes new
 ActsAt (Begins name cmd) h host old notes new =
     (notes ≡ Start h cmd ∷ []) × (new ≡ with_task h (Some (task_begun cmd host.uuid)) old)
 ActsAt (Steps name) h host old notes new = Operation h old notes new
@@ -266,7 +266,7 @@ abbrev pub Acts : Call → Machines → List Note → Machines → Type 0
 Acts (Declares name uuid) old notes new =
     (notes ≡ Host name uuid ∷ []) × (new ≡ record old { hosts = old.hosts ++ record { name = name; uuid = uuid; cache = map.empty; task = None } ∷ [] })
 Acts (Refuses name cause) old notes new = (notes ≡ Refused name cause ∷ []) × (new ≡ old) × MayBeRefused name cause old
-Acts (Makes name options) old notes new = ActsOf (Makes name options) old notes new
+Acts (Makes name request) old notes new = ActsOf (Makes name request) old notes new
 Acts (Begins name cmd) old notes new = ActsOf (Begins name cmd) old notes new
 Acts (Steps name) old notes new = ActsOf (Steps name) old notes new
 Acts (Finishes name) old notes new = ActsOf (Finishes name) old notes new
@@ -285,7 +285,7 @@ Does call old notes new = ByRefusal (name_of call) (refusal_of call old) notes o
 
 -- making a file system is cut by a media fault: nothing goes on behind it
 abbrev pub CutsAt : Call → ℕ → HostState → Machines → List Note → Machines → Type 0
-CutsAt (Makes name options) h host old notes new = MakesCut h (asked options host.uuid (length old.memory)) options.force name host old notes new
+CutsAt (Makes name request) h host old notes new = MakesCut h (asked request host.uuid (length old.memory)) request.force name host old notes new
 CutsAt (Declares name uuid) h host old notes new = ⊥
 CutsAt (Begins name cmd) h host old notes new = ⊥
 CutsAt (Steps name) h host old notes new = ⊥

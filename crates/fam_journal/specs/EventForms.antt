@@ -4,7 +4,7 @@ use Rattle.fam_base.specs.declared.cmd.Cmd.{Cmd}
 use Rattle.fam_base.specs.declared.cmd.Cmd.TheVariants as cmd
 use Rattle.fam_base.specs.declared.cmd.Content.TheVariants as content
 use Rattle.fam_base.specs.declared.entry.Entry.{Entry}
-use Rattle.fam_base.specs.MkfsOptions.{mkfs_options}
+use Rattle.fam_machine.specs.MkfsRequest.{mkfs_request}
 use Rattle.fam_machine.specs.HostMoves.{Evict, Leak, Fetch}
 use Rattle.fam_journal.specs.declared.event.Ask.{Ask}
 use Rattle.fam_journal.specs.declared.event.Ask.TheVariants as ask
@@ -95,7 +95,7 @@ StepForm count name lines hosts notes =
 -- what an event adds after which the run goes on
 abbrev pub EventForm : Event → ℕ → List HostForm → List Note → Type 0
 EventForm (event.Host name uuid) lines hosts notes = DoesForm (call.Declares name uuid) lines hosts notes
-EventForm (event.Mkfs name fs unit log force) lines hosts notes = DoesForm (call.Makes name (mkfs_options fs unit log force)) lines hosts notes
+EventForm (event.Mkfs name fs unit log force) lines hosts notes = DoesForm (call.Makes name (mkfs_request fs unit log force)) lines hosts notes
 EventForm (event.Begin name what) lines hosts notes = BeginForm NoMore name what lines hosts notes
 EventForm (event.Run name what) lines hosts notes = BeginForm CompletesForm name what lines hosts notes
 EventForm (event.Step name count) lines hosts notes = StepForm count name lines hosts notes
@@ -109,7 +109,7 @@ EventForm (event.Fetch name line mask) lines hosts notes = DoesForm (call.Moves 
 -- a media fault cuts an event behind which nothing goes on
 abbrev pub EventBreaksForm : Event → ℕ → List HostForm → List Note → Type 0
 EventBreaksForm (event.Host name uuid) lines hosts notes = ⊥
-EventBreaksForm (event.Mkfs name fs unit log force) lines hosts notes = BreaksForm (call.Makes name (mkfs_options fs unit log force)) lines hosts notes
+EventBreaksForm (event.Mkfs name fs unit log force) lines hosts notes = BreaksForm (call.Makes name (mkfs_request fs unit log force)) lines hosts notes
 EventBreaksForm (event.Begin name what) lines hosts notes = ⊥
 EventBreaksForm (event.Run name what) lines hosts notes = ⊥
 EventBreaksForm (event.Step name count) lines hosts notes = ⊥

@@ -6,7 +6,7 @@ use Rattle.fam_base.specs.declared.cmd.Cmd.TheVariants as cmd
 use Rattle.fam_base.specs.declared.cmd.Content.TheVariants as content
 use Rattle.fam_base.specs.declared.entry.Entry.{Entry}
 use Rattle.fam_base.specs.Image.{Image}
-use Rattle.fam_base.specs.MkfsOptions.{mkfs_options}
+use Rattle.fam_machine.specs.MkfsRequest.{mkfs_request}
 use Rattle.fam_media.specs.Files.{Files}
 use Rattle.fam_protocol.specs.Tasks.{IsCommand}
 use Rattle.fam_journal.specs.declared.event.Ask.{Ask}
@@ -139,7 +139,7 @@ pub record MayNotStep (name : List ℕ) (old : Session) (notes : List Note) (new
 -- what an event does after which the run goes on
 abbrev pub DoesEvent : Files → Event → Session → List Note → Session → Type 0
 DoesEvent files (event.Host name uuid) old notes new = Calls (call.Declares name uuid) old notes new
-DoesEvent files (event.Mkfs name fs unit log force) old notes new = Calls (call.Makes name (mkfs_options fs unit log force)) old notes new
+DoesEvent files (event.Mkfs name fs unit log force) old notes new = Calls (call.Makes name (mkfs_request fs unit log force)) old notes new
 DoesEvent files (event.Begin name what) old notes new = IsBegun files name what old notes new ⊎ RefusesEvent files name what old notes new
 DoesEvent files (event.Run name what) old notes new = Continues Completes files name what old notes new ⊎ RefusesEvent files name what old notes new
 DoesEvent files (event.Step name count) old notes new = StepsBy (λ h. DoesOperations h count) name old notes new ⊎ MayNotStep name old notes new
@@ -154,7 +154,7 @@ DoesEvent files (event.Fetch name line mask) old notes new = Calls (call.Moves n
 abbrev pub BreaksEvent : Event → Session → List Note → Session → Type 0
 BreaksEvent (event.Host name uuid) old notes new = ⊥
 BreaksEvent (event.Mkfs name fs unit log force) old notes new =
-    BreaksOff (call.Makes name (mkfs_options fs unit log force)) old.machines notes new.machines × (new.copied ≡ old.copied)
+    BreaksOff (call.Makes name (mkfs_request fs unit log force)) old.machines notes new.machines × (new.copied ≡ old.copied)
 BreaksEvent (event.Begin name what) old notes new = ⊥
 BreaksEvent (event.Run name what) old notes new = ⊥
 BreaksEvent (event.Step name count) old notes new = ⊥

@@ -251,7 +251,7 @@ makes_told unit log m = or_else (option_map cause_of (early_refusal unit log (li
 -- the first refusal that notes tell of a call; which caches are dirty they don't
 abbrev pub refusal_told : Call → ℕ → List HostForm → Option Refusal
 refusal_told (call.Declares name uuid) lines hosts = refusal_of (call.Declares name uuid) (shown_forms lines hosts)
-refusal_told (call.Makes name options) lines hosts = on_host (number_of name (shown_forms lines hosts)) (λ h. makes_told options.unit options.log (shown_forms lines hosts))
+refusal_told (call.Makes name request) lines hosts = on_host (number_of name (shown_forms lines hosts)) (λ h. makes_told request.unit request.log (shown_forms lines hosts))
 refusal_told (call.Begins name cmd) lines hosts = refusal_of (call.Begins name cmd) (shown_forms lines hosts)
 refusal_told (call.Steps name) lines hosts = refusal_of (call.Steps name) (shown_forms lines hosts)
 refusal_told (call.Finishes name) lines hosts = refusal_of (call.Finishes name) (shown_forms lines hosts)
@@ -285,8 +285,8 @@ FaultForm name notes = (line : ℕ) × (notes ≡ Refused name (why.MediaFault (
 -- for
 abbrev pub ActsForm : Call → ℕ → HostForm → ℕ → List HostForm → List Note → Type 0
 ActsForm (call.Declares name uuid) h host lines hosts notes = ⊥
-ActsForm (call.Makes name options) h host lines hosts notes =
-    (notes ≡ Made h (asked options host.uuid lines) ∷ []) ⊎ SuperForm options.force name notes
+ActsForm (call.Makes name request) h host lines hosts notes =
+    (notes ≡ Made h (asked request host.uuid lines) ∷ []) ⊎ SuperForm request.force name notes
 ActsForm (call.Begins name cmd) h host lines hosts notes = notes ≡ Start h cmd ∷ []
 ActsForm (call.Steps name) h host lines hosts notes = OperationsForm h hosts notes × (length notes ≤ 1)
 ActsForm (call.Finishes name) h host lines hosts notes = CompletesForm h hosts notes
@@ -314,7 +314,7 @@ HostActsForm c lines hosts notes =
 -- the form of a call's notes where notes tell no refusal of it
 abbrev pub FreeForm : Call → ℕ → List HostForm → List Note → Type 0
 FreeForm (call.Declares name uuid) lines hosts notes = notes ≡ Host name uuid ∷ []
-FreeForm (call.Makes name options) lines hosts notes = HostActsForm (call.Makes name options) lines hosts notes ⊎ DirtyForm name lines hosts notes
+FreeForm (call.Makes name request) lines hosts notes = HostActsForm (call.Makes name request) lines hosts notes ⊎ DirtyForm name lines hosts notes
 FreeForm (call.Begins name cmd) lines hosts notes = HostActsForm (call.Begins name cmd) lines hosts notes
 FreeForm (call.Steps name) lines hosts notes = HostActsForm (call.Steps name) lines hosts notes
 FreeForm (call.Finishes name) lines hosts notes = HostActsForm (call.Finishes name) lines hosts notes
@@ -336,8 +336,8 @@ DoesForm c lines hosts notes = FormByRefusal (name_of c) (refusal_told c lines h
 -- a media fault cuts the making of a file system
 abbrev pub BreaksForm : Call → ℕ → List HostForm → List Note → Type 0
 BreaksForm (call.Declares name uuid) lines hosts notes = ⊥
-BreaksForm (call.Makes name options) lines hosts notes =
-    (refusal_told (call.Makes name options) lines hosts ≡ None) × FaultForm name notes
+BreaksForm (call.Makes name request) lines hosts notes =
+    (refusal_told (call.Makes name request) lines hosts ≡ None) × FaultForm name notes
 BreaksForm (call.Begins name cmd) lines hosts notes = ⊥
 BreaksForm (call.Steps name) lines hosts notes = ⊥
 BreaksForm (call.Finishes name) lines hosts notes = ⊥
@@ -355,7 +355,7 @@ pub record SomeForm (name : List ℕ) (lines : ℕ) (hosts : List HostForm) (not
 -- no memory was left: a finish adds notes of the operations that it did, without an answer, and any other call none
 abbrev pub PartForm : Call → ℕ → List HostForm → List Note → Type 0
 PartForm (call.Declares name uuid) lines hosts notes = notes ≡ []
-PartForm (call.Makes name options) lines hosts notes = notes ≡ []
+PartForm (call.Makes name request) lines hosts notes = notes ≡ []
 PartForm (call.Begins name cmd) lines hosts notes = notes ≡ []
 PartForm (call.Steps name) lines hosts notes = notes ≡ []
 PartForm (call.Finishes name) lines hosts notes = (notes ≡ []) ⊎ SomeForm name lines hosts notes

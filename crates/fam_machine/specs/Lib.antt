@@ -8,3 +8,4 @@ pub mod TearsLine
 pub mod Fences
 pub mod Whole
 pub mod Mkfs
+pub mod MkfsRequest

@@ -1,7 +1,7 @@
 -- The operations that make a file system, on the maker's cache and the one memory; and what is refused before any.
 use Rattle.std.specs.Prelude.{ℕ, ◌*◌, ◌&&◌, nat_lt, if◌then◌else◌, Bool, true, false, List, [], ◌∷◌, ◌++◌, Option, Some, None, Result, Ok, Err}
 use Rattle.std.specs.List.{flat_map, fold}
-use Rattle.fam_base.specs.declared.entry.MkfsOptions.{MkfsOptions}
+use Rattle.fam_machine.specs.declared.request.MkfsRequest.{MkfsRequest}
 use Rattle.fam_base.specs.declared.entry.Params.{Params}
 use Rattle.fam_base.specs.Image.{line_at}
 use Rattle.fam_format.specs.declared.faults.SuperFault.{SuperFault}
@@ -41,9 +41,9 @@ abbrev pub drop_lines : List Put → Cache → Cache
 drop_lines puts cache = fold drop_line cache puts
 
 -- the parameters that are asked for, of a host of this UUID, on a device of so many lines
-abbrev pub asked : MkfsOptions → List ℕ → ℕ → Params
-asked options me lines =
-    record { log_length = options.log; slots = slots_of options.log; unit = options.unit; device = line_bytes * lines; fs = options.fs; master = me }
+abbrev pub asked : MkfsRequest → List ℕ → ℕ → Params
+asked request me lines =
+    record { log_length = request.log; slots = slots_of request.log; unit = request.unit; device = line_bytes * lines; fs = request.fs; master = me }
 
 -- a unit, and the length of a log of such units
 abbrev pub is_geometry : ℕ → ℕ → Bool

@@ -13,6 +13,7 @@ mod failures;
 mod lines;
 mod mkfs;
 mod op;
+mod request;
 mod transfers;
 
 pub use caches::{copies_by_line, no_dirty_line};
@@ -21,6 +22,7 @@ pub use failures::an_operation_fails_at_its_line;
 pub use lines::{a_line_is_loaded, a_line_is_put};
 pub use mkfs::a_file_system_is_made;
 pub use op::Op;
+pub use request::MkfsRequest;
 pub use transfers::{
     bring_transfers, failures_tear_line, fetch_transfers, leak_transfers, own_moves_transfer,
     send_transfers,

@@ -15,10 +15,11 @@ ghost use Rattle.fam_media.specs.Causes.{IsSteady, Rose};
 ghost use Rattle.fam_cache.specs.Runs.{AreCut, AreDone, over};
 
 use crate::lines::{FailedAt, read_line, write_line};
-use fam_base::{Line, LineNo, MkfsOptions, OutOfMemory, Params};
+use fam_base::{Line, LineNo, OutOfMemory, Params};
 use fam_cache::HostCache;
 use fam_entry::spell_log;
 use fam_format::{GATE_LINE, LINE_BYTES, LOG_LINE, LOG_OFFSET, SLOT_BYTES};
+use fam_machine::MkfsRequest;
 use fam_media::{MOST_LINES, Media};
 use fam_super::{LOG_LIMIT, Super, is_unit, read_super};
 use uuid::Uuid;
@@ -49,16 +50,16 @@ fn is_geometry(unit: u64, log: u64) -> bool
 }
 
 /// The parameters that are asked for, of the host `me`, on a device of so many lines.
-pub fn asked(options: &MkfsOptions, me: Uuid, lines: u64) -> Params
+pub fn asked(request: &MkfsRequest, me: Uuid, lines: u64) -> Params
     requires within { lines ≤ MOST_LINES }
-    ensures { result ≡ spec.asked options.now me lines }
+    ensures { result ≡ spec.asked request.now me lines }
 {
     Params {
-        log_length: options.log,
-        slots: (options.log / SLOT_BYTES).saturating_sub(1),
-        unit: options.unit,
+        log_length: request.log,
+        slots: (request.log / SLOT_BYTES).saturating_sub(1),
+        unit: request.unit,
         device: LINE_BYTES * lines,
-        fs: options.fs,
+        fs: request.fs,
         master: me,
     }
 }
@@ -185,19 +186,19 @@ fn make<M: Media>(cache: &mut HostCache, media: &mut M, params: &Params, force: 
 pub fn mkfs<M: Media>(
     cache: &mut HostCache,
     media: &mut M,
-    options: &MkfsOptions,
+    request: &MkfsRequest,
     me: Uuid,
 ) -> Result<MkfsEnd, OutOfMemory>
     // What is refused at once comes whatever the media and the memory do, and nothing is done.
-    ensures refused { (end : MkfsEnd) → refusals.refusal options.now.unit options.now.log (line_bytes * M.size media.old) ≡ Some end
+    ensures refused { (end : MkfsEnd) → refusals.refusal request.now.unit request.now.log (line_bytes * M.size media.old) ≡ Some end
         → result ≡ Ok end }
-    ensures untouched { (end : MkfsEnd) → refusals.refusal options.now.unit options.now.log (line_bytes * M.size media.old) ≡ Some end
+    ensures untouched { (end : MkfsEnd) → refusals.refusal request.now.unit request.now.log (line_bytes * M.size media.old) ≡ Some end
         → media.new ≡ media.old }
-    ensures unchanged { (end : MkfsEnd) → refusals.refusal options.now.unit options.now.log (line_bytes * M.size media.old) ≡ Some end
+    ensures unchanged { (end : MkfsEnd) → refusals.refusal request.now.unit request.now.log (line_bytes * M.size media.old) ≡ Some end
         → cache.new ≡ cache.old }
 
-    ensures ends { refusals.refusal options.now.unit options.now.log (line_bytes * M.size media.old) ≡ None → IfOk result
-        (MkfsEnds (spec.asked options.now me (M.size media.old)) options.now.force (M.size media.old)
+    ensures ends { refusals.refusal request.now.unit request.now.log (line_bytes * M.size media.old) ≡ None → IfOk result
+        (MkfsEnds (spec.asked request.now me (M.size media.old)) request.now.force (M.size media.old)
         (over (M.state media.old).image cache.old.lines) (over (M.state media.new).image cache.new.lines)
         (M.state media.old).faults (M.state media.new).faults) }
 
@@ -211,10 +212,10 @@ pub fn mkfs<M: Media>(
 
     ensures steady { IsSteady M.size M.state media.old media.new }
 {
-    let params = asked(options, me, media.lines());
-    if let Some(end) = refusal(options.unit, options.log, params.device) {
+    let params = asked(request, me, media.lines());
+    if let Some(end) = refusal(request.unit, request.log, params.device) {
         return Ok(end);
     }
     cache.reserve(ROOM)?;
-    Ok(make(cache, media, &params, options.force))
+    Ok(make(cache, media, &params, request.force))
 }

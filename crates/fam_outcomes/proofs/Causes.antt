@@ -117,7 +117,7 @@ parents_told journal = go (last_stops journal)
     go false = inl tt
 
 done_told : (shot : OneShot) (journal : List Note) → IsTold (done_status shot journal) (faults_of journal)
-done_told (Makes options) journal = last_told journal
+done_told (Makes request) journal = last_told journal
 done_told (Runs what) journal = last_told journal
 done_told (MakesParents path attr) journal = parents_told journal
 

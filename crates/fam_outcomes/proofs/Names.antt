@@ -5,7 +5,7 @@ use Rattle.std.specs.Prelude.{⊤, slice_get, not, ◌==◌, ◌&&◌, nat_lt, n
 use Rattle.std.specs.FinMap as finmap
 use Rattle.std.proofs.lemmas.List.{append_assoc, length-append, map_push}
 use Rattle.std.proofs.lemmas.Option.{same_Some, slice_get_within}
-use Rattle.fam_base.specs.MkfsOptions.{mkfs_options}
+use Rattle.fam_machine.specs.MkfsRequest.{mkfs_request}
 use Rattle.fam_format.specs.Stop.{or_else}
 use Rattle.fam_format.specs.Params.{need}
 use Rattle.fam_machine.specs.declared.op.Op.{Op}
@@ -142,9 +142,9 @@ module _ (m : Machines) where
       names_or (length m.hosts) (same_refusal (index_of (is_same name uuid) m.hosts)) (when (nat_le host_limit (length m.hosts)) why.TooManyHosts)
       (names_same (length m.hosts) (index_of (is_same name uuid) m.hosts) (place_below (is_same name uuid) m.hosts 0 (length m.hosts) (omega arith)))
       (names_when (length m.hosts) (nat_le host_limit (length m.hosts)) why.TooManyHosts tt)
-  refusal_named (call.Makes name options) =
-      names_on (length m.hosts) (number_of name m) (λ h. makes_refusal options.unit options.log h m) (number_below name) (λ h below.
-      names_or (length m.hosts) _ _ (names_early (length m.hosts) (early_refusal options.unit options.log (line_bytes * length m.memory)))
+  refusal_named (call.Makes name request) =
+      names_on (length m.hosts) (number_of name m) (λ h. makes_refusal request.unit request.log h m) (number_below name) (λ h below.
+      names_or (length m.hosts) _ _ (names_early (length m.hosts) (early_refusal request.unit request.log (line_bytes * length m.memory)))
       (names_or (length m.hosts) _ _ (names_busy (length m.hosts) (index_of is_busy m.hosts) (place_below is_busy m.hosts 0 (length m.hosts) (omega arith)))
       (names_dirty (length m.hosts) (dirty_from h 0 m.hosts) (dirty_below h m.hosts 0 (length m.hosts) (omega arith)))))
   refusal_named (call.Begins name cmd) =
@@ -320,8 +320,8 @@ operates_named h (suc count) old notes new (inr o) = named_parts old o.1 new o.2
 
 act_named : (c : Call) (h : ℕ) (host : HostState) (old : Machines) (notes : List Note) (new : Machines) → h < length old.hosts → ActsAt c h host old notes new → Named old notes new
 act_named (call.Declares name uuid) h host old notes new below x = absurd x
-act_named (call.Makes name options) h host old notes new below (inl x) = named_as old new _ notes _ x.notes_are x.left (named_same old _ _ (length-changed_at h _ old.hosts) (below, tt) refl)
-act_named (call.Makes name options) h host old notes new below (inr x) = named_as old new _ notes _ x.notes_are x.left (named_same old _ _ (length-changed_at h _ old.hosts) (tt, tt) refl)
+act_named (call.Makes name request) h host old notes new below (inl x) = named_as old new _ notes _ x.notes_are x.left (named_same old _ _ (length-changed_at h _ old.hosts) (below, tt) refl)
+act_named (call.Makes name request) h host old notes new below (inr x) = named_as old new _ notes _ x.notes_are x.left (named_same old _ _ (length-changed_at h _ old.hosts) (tt, tt) refl)
 act_named (call.Begins name cmd) h host old notes new below x = named_as old new _ notes _ x.0 x.1 (named_same old _ _ (length-changed_at h _ old.hosts) (below, tt) refl)
 act_named (call.Steps name) h host old notes new below x = operation_named h old notes new x
 act_named (call.Finishes name) h host old notes new below x = operates_named h x.count old notes new x.does
@@ -349,7 +349,7 @@ module _ (old : Machines) (notes : List Note) (new : Machines) where
   acts_named (call.Declares name uuid) may x =
       named_as old new _ notes _ x.0 x.1 (record { named = (tt, tt); count = length-append old.hosts (record { name = name; uuid = uuid; cache = finmap.empty; task = None } ∷ []) })
   acts_named (call.Refuses name cause) may x = named_as old new _ notes _ x.0 x.1 (named_same old old _ refl (may, tt) refl)
-  acts_named (call.Makes name options) may x = at_number_named (call.Makes name options) (number_of name old) x
+  acts_named (call.Makes name request) may x = at_number_named (call.Makes name request) (number_of name old) x
   acts_named (call.Begins name cmd) may x = at_number_named (call.Begins name cmd) (number_of name old) x
   acts_named (call.Steps name) may x = at_number_named (call.Steps name) (number_of name old) x
   acts_named (call.Finishes name) may x = at_number_named (call.Finishes name) (number_of name old) x
@@ -420,7 +420,7 @@ module _ (files : Files) where
 
   event_named : (e : Event) (old new : Session) (notes : List Note) → DoesEvent files e old notes new → Named old.machines notes new.machines
   event_named (event.Host name uuid) old new notes x = does_named old.machines notes new.machines (call.Declares name uuid) tt x.0
-  event_named (event.Mkfs name fs unit log force) old new notes x = does_named old.machines notes new.machines (call.Makes name (mkfs_options fs unit log force)) tt x.0
+  event_named (event.Mkfs name fs unit log force) old new notes x = does_named old.machines notes new.machines (call.Makes name (mkfs_request fs unit log force)) tt x.0
   event_named (event.Begin name what) old new notes (inl x) = begun_named name what old new notes x
   event_named (event.Begin name what) old new notes (inr x) = refused_named name what old new notes x
   event_named (event.Run name what) old new notes (inl x) =

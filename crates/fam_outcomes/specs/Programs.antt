@@ -6,7 +6,7 @@ use Rattle.std.specs.List.{list_any}
 use Rattle.fam_base.specs.declared.cmd.Attr.{Attr}
 use Rattle.fam_base.specs.declared.cmd.Cmd.TheVariants as cmd
 use Rattle.fam_base.specs.Paths.{slash}
-use Rattle.fam_base.specs.declared.entry.MkfsOptions.{MkfsOptions}
+use Rattle.fam_machine.specs.declared.request.MkfsRequest.{MkfsRequest}
 use Rattle.fam_crc.specs.Crc.{crc32}
 use Rattle.fam_media.specs.Files.{Files}
 use Rattle.fam_media.specs.Outside.{IfModelled}
@@ -64,7 +64,7 @@ script_status SinkFails journal = status.SinkFault
 
 -- a mkfs, a command, or directories along a path
 pub data OneShot : Type 0 where
-  Makes : (options : MkfsOptions) → OneShot
+  Makes : (request : MkfsRequest) → OneShot
   Runs : (what : Ask) → OneShot
   MakesParents : (path : List ℕ) (attr : Attr) → OneShot
 
@@ -79,7 +79,7 @@ path_prefixes path = prefixes_behind [] path
 
 -- what the one host does
 abbrev pub shot_events : List ℕ → OneShot → List Event
-shot_events name (Makes options) = event.Mkfs name options.fs options.unit options.log options.force ∷ []
+shot_events name (Makes request) = event.Mkfs name request.fs request.unit request.log request.force ∷ []
 shot_events name (Runs what) = event.Run name what ∷ []
 shot_events name (MakesParents path attr) = map (λ prefix. event.Run name (ask.Plain (cmd.Mkdir prefix attr))) (path_prefixes path)
 
@@ -126,7 +126,7 @@ ends_command (Refused name cause) = true
 
 -- a note that ends a run of a command on its own
 abbrev pub ends_shot : OneShot → Note → Bool
-ends_shot (Makes options) note = ends_mkfs note
+ends_shot (Makes request) note = ends_mkfs note
 ends_shot (Runs what) note = ends_command note
 ends_shot (MakesParents path attr) note = ends_command note
 
@@ -140,7 +140,7 @@ last_passes test (note ∷ next ∷ notes) = last_passes test (next ∷ notes)
 -- no note tells a media fault
 abbrev pub ShotText : OneShot → Ending → List Note → List ℕ → Type 0
 ShotText shot AllDone journal text = (last_passes (ends_shot shot) journal ≡ true) × (text ≡ shown journal)
-ShotText (Makes options) MkfsFails journal text = text ≡ shown journal
+ShotText (Makes request) MkfsFails journal text = text ≡ shown journal
 ShotText (Runs what) MkfsFails journal text = ⊥
 ShotText (MakesParents path attr) MkfsFails journal text = ⊥
 ShotText shot (SourceFails end) journal text = text ≡ source_line end
@@ -154,7 +154,7 @@ ShotPuts me shot events ending journal text = IsWholeRun me shot events journal 
 
 -- the status of what was run to its end
 abbrev pub done_status : OneShot → List Note → Status
-done_status (Makes options) journal = last_status journal
+done_status (Makes request) journal = last_status journal
 done_status (Runs what) journal = last_status journal
 done_status (MakesParents path attr) journal = parents_status journal
 
@@ -315,7 +315,7 @@ LeavesImage out = IfModelled out.media.old.image (λ start. IfModelled out.shelf
 
 -- so it is where a command says that no memory is left: an append has stored nothing then
 abbrev pub SparesImage : OneShot → Status → Outside → Type 0
-SparesImage (Makes options) own out = ⊤
+SparesImage (Makes request) own out = ⊤
 SparesImage (Runs what) own out = own ≡ status.OutOfMemory → LeavesImage out
 SparesImage (MakesParents path attr) own out = ⊤
 

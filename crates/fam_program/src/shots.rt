@@ -17,9 +17,10 @@ use crate::numbers::{last_number, put_number};
 use crate::parents::parent_events;
 use crate::puts::{put_line, put_memory, put_source_end};
 use crate::quiet::run_until_stop;
-use fam_base::{Attr, HostName, MkfsOptions, OutOfMemory, Path};
+use fam_base::{Attr, HostName, OutOfMemory, Path};
 use fam_events::EventFault;
 use fam_journal::{Ask, Event};
+use fam_machine::MkfsRequest;
 use fam_outcomes::Status;
 use fam_media::{Media, Shelf, Sink};
 use fam_script::{last_status, parents_status, shown};
@@ -128,12 +129,12 @@ pub fn run_command<M: Media, S: Shelf, K: Sink>(
 pub fn make_file_system<M: Media, S: Shelf, K: Sink>(
     alloc: Global,
     me: Uuid,
-    options: MkfsOptions,
+    request: MkfsRequest,
     media: &mut M,
     shelf: &mut S,
     out: &mut K,
 ) -> Status
-    ensures ends { TopEnds script_events storm (Some (Single me (Makes options))) (outside_of M.size M.state
+    ensures ends { TopEnds script_events storm (Some (Single me (Makes request))) (outside_of M.size M.state
         media.old media.new (change S.state shelf.old shelf.new)
         (change K.state out.old out.new)) result }
     ensures steady { IsSteady M.size M.state media.old media.new }
@@ -143,10 +144,10 @@ pub fn make_file_system<M: Media, S: Shelf, K: Sink>(
     let name = own_name();
     let making = Event::Mkfs {
         name,
-        fs: options.fs,
-        unit: options.unit,
-        log: options.log,
-        force: options.force,
+        fs: request.fs,
+        unit: request.unit,
+        log: request.log,
+        force: request.force,
     };
     let Ok(events) = two_events(alloc, name, me, making) else {
         return put_memory(out);

@@ -8,7 +8,7 @@ use Rattle.fam_base.specs.declared.entry.Params.{Params}
 use Rattle.fam_base.specs.declared.line.LineNo.{LineNo}
 use Rattle.fam_base.specs.Image.{Image, eight, line_at, with_line}
 use Rattle.fam_base.proofs.ImageLemmas.{with_line-line_at}
-use Rattle.fam_base.specs.MkfsOptions.{mkfs_options}
+use Rattle.fam_machine.specs.MkfsRequest.{mkfs_request}
 use Rattle.fam_format.specs.Params.{IsUuid, need}
 use Rattle.fam_machine.specs.declared.cell.Cell.{Cell}
 use Rattle.fam_machine.specs.declared.cell.Cell.TheVariants.{Absent}
@@ -53,7 +53,7 @@ module _ (me fs : List ℕ) (is_uuid : IsUuid fs) (image : Image) (enough : need
   lines = length image
 
   abbrev call : Call
-  call = Makes (codes "m") (mkfs_options fs 4096 65536 true)
+  call = Makes (codes "m") (mkfs_request fs 4096 65536 true)
 
   abbrev old : WorldView
   old = before_mkfs me journal

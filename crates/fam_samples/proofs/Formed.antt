@@ -3,7 +3,7 @@ use Rattle.std.proofs.Common.{◌≡◌, inl, inr, ℕ, ◌*◌, ◌≤◌, Bool
 use Rattle.std.specs.Prelude.{codes, nat_lt, option_map, if◌then◌else◌}
 use Rattle.std.proofs.lemmas.Bool.Decides.{nat_tests}
 use Rattle.std.proofs.lemmas.List.{length-replicate}
-use Rattle.fam_base.specs.MkfsOptions.{mkfs_options}
+use Rattle.fam_machine.specs.MkfsRequest.{mkfs_request}
 use Rattle.fam_format.specs.Params.{need}
 use Rattle.fam_format.specs.Stop.{or_else}
 use Rattle.fam_machine.specs.Caches.{Cache}
@@ -45,7 +45,7 @@ module _ (me : List ℕ) (journal : List Note) (cache now : Cache) (is : IsForme
 
   module _ (fs : List ℕ) (lines : ℕ) (enough : need 65536 4096 ≤ line_bytes * lines) where
     abbrev call : Call
-    call = Makes (codes "m") (mkfs_options fs 4096 65536 true)
+    call = Makes (codes "m") (mkfs_request fs 4096 65536 true)
 
     not_small : (n : ℕ) → n ≡ lines → nat_lt (line_bytes * n) (need 65536 4096) ≡ false
     not_small n is = grind (arith, nat_tests, is, enough)

@@ -10,7 +10,7 @@ use Rattle.std.proofs.lemmas.List.{length-replicate}
 use Rattle.std.proofs.lemmas.Option.{same_Some}
 use Rattle.fam_base.specs.declared.entry.Params.{Params}
 use Rattle.fam_base.specs.Image.{Image}
-use Rattle.fam_base.specs.MkfsOptions.{mkfs_options}
+use Rattle.fam_machine.specs.MkfsRequest.{mkfs_request}
 use Rattle.fam_format.specs.Params.{IsUuid, need}
 use Rattle.fam_format.specs.Stop.{or_else}
 use Rattle.fam_machine.specs.declared.cell.Cell.{Cell}
@@ -136,7 +136,7 @@ module _ (me fs : List ℕ) (is_uuid : IsUuid fs) (image : Image) (enough : need
   not_small : (n : ℕ) → n ≡ lines → nat_lt (line_bytes * n) (need 65536 4096) ≡ false
   not_small n is = grind (arith, nat_tests, is, enough)
 
-  pub free : refusal_in (Makes (codes "m") (mkfs_options fs 4096 65536 true)) old lines ≡ None
+  pub free : refusal_in (Makes (codes "m") (mkfs_request fs 4096 65536 true)) old lines ≡ None
   unfolding refusal_of
   free = ap (λ (t : Bool). or_else (option_map cause_of (if t then Some (TooSmall (need 65536 4096) (line_bytes * length (shown_state old lines).memory)) else None)) None) (not_small (length (shown_state old lines).memory) (length-replicate lines []))
 
@@ -150,7 +150,7 @@ module _ (me fs : List ℕ) (is_uuid : IsUuid fs) (image : Image) (enough : need
       }
   fits (suc h) view is = absurd cc
 
-  answers : Answers (Makes (codes "m") (mkfs_options fs 4096 65536 true)) lines None faults faults old new
+  answers : Answers (Makes (codes "m") (mkfs_request fs 4096 65536 true)) lines None faults faults old new
   answers = record {
     adds = record {
       notes = Made 0 p ∷ [];
@@ -170,7 +170,7 @@ module _ (me fs : List ℕ) (is_uuid : IsUuid fs) (image : Image) (enough : need
 
   module _ (start : Image) (state : Machines) (held : Held start state old state.memory) (same : image ≡ state.memory) (lines_are : length state.memory ≡ length start) (stands : WorldStands (length state.memory) state old) (host : HostState) (host_is : slice_get state.hosts 0 ≡ Some host) (mine : HostStands (length state.memory) host (host_m me finmap.empty None)) where
     abbrev call : Call
-    call = Makes (codes "m") (mkfs_options fs 4096 65536 true)
+    call = Makes (codes "m") (mkfs_request fs 4096 65536 true)
 
     params_are : asked 4096 65536 fs host.uuid (length state.memory) ≡ p
     params_are = ap₂ (λ (id : List ℕ) (n : ℕ). asked 4096 65536 fs id n) mine.uuid (sym (ap (λ (x : Image). length x) same))
@@ -217,12 +217,12 @@ module _ (me fs : List ℕ) (is_uuid : IsUuid fs) (image : Image) (enough : need
       held = kept_on start state left old new call (Made 0 p ∷ []) held is_uuid row new_stands refl;
     }
 
-  keeps : (start : Image) → CallKeeps (Makes (codes "m") (mkfs_options fs 4096 65536 true)) start (Some image) (Some done.image) old new
+  keeps : (start : Image) → CallKeeps (Makes (codes "m") (mkfs_request fs 4096 65536 true)) start (Some image) (Some done.image) old new
   keeps start state told held =
       let lines_are : length state.memory ≡ length start = held.kept.held.lines in
       let stands : WorldStands (length state.memory) state old = subst (λ (n : ℕ). WorldStands n state old) (sym lines_are) held.stands in
       let found = find_host (length state.memory) (host_m me finmap.empty None) (slice_get state.hosts 0) (stands 0) in
       moves start state held (same_Some image state.memory told) lines_are stands found.0 found.1 found.2
 
-  pub meets_mkfs : MakeCall (Makes (codes "m") (mkfs_options fs 4096 65536 true)) lines None (Some image) (Some done.image) faults faults old new
+  pub meets_mkfs : MakeCall (Makes (codes "m") (mkfs_request fs 4096 65536 true)) lines None (Some image) (Some done.image) faults faults old new
   meets_mkfs = record { answers = answers; leaves = keeps }

@@ -4,7 +4,7 @@ use Rattle.std.specs.Prelude.{ℕ, ◌≡◌, false, List, [], ◌∷◌, length
 use Rattle.fam_base.specs.declared.cmd.Cmd.{Cmd}
 use Rattle.fam_base.specs.declared.line.LineNo.{LineNo}
 use Rattle.fam_base.specs.Image.{Image}
-use Rattle.fam_base.specs.MkfsOptions.{mkfs_options}
+use Rattle.fam_machine.specs.MkfsRequest.{mkfs_request}
 use Rattle.fam_format.specs.Params.{IsUuid}
 use Rattle.fam_media.specs.Files.{Files}
 use Rattle.fam_protocol.specs.Tasks.{IsCommand}
@@ -49,7 +49,7 @@ pub record Trace (start : Image) (w : Wishes) : Type 0 where
   pub evicted : Moment
   pub halted : WorldView
   pub host : WorldCall (Declares w.name w.uuid) (length start) None empty_world declared
-  pub mkfs : MakeCall (Makes w.name (mkfs_options w.fs 4096 65536 false)) (length start) None (Some start) made.told first made.faults declared made.world
+  pub mkfs : MakeCall (Makes w.name (mkfs_request w.fs 4096 65536 false)) (length start) None (Some start) made.told first made.faults declared made.world
   pub begin : WorldCall (Begins w.name w.cmd) (length start) None made.world begun
   pub step : StepCall w.name (length start) None false made.told stepped.told made.faults stepped.faults begun stepped.world
   pub finish : MediaCall (Finishes w.name) (length start) None stepped.told finished.told stepped.faults finished.faults stepped.world finished.world
@@ -75,7 +75,7 @@ pub record CutTrace (start : Image) (w : Wishes) : Type 0 where
   pub cut : Moment
   pub line : LineNo
   pub host : WorldCall (Declares w.name w.uuid) (length start) None empty_world declared
-  pub mkfs : MakeCall (Makes w.name (mkfs_options w.fs 4096 65536 false)) (length start) (Some (why.MediaFault line)) (Some start) cut.told first cut.faults declared cut.world
+  pub mkfs : MakeCall (Makes w.name (mkfs_request w.fs 4096 65536 false)) (length start) (Some (why.MediaFault line)) (Some start) cut.told first cut.faults declared cut.world
 
 -- the journal is legal and follows, up to the mkfs
 pub record ComesToCut (start : Image) (ending : Ending) (files : Files) (events : List Event) (world : WorldView) (told : Option Image) : Type 0 where

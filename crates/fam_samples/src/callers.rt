@@ -3,7 +3,7 @@
 ghost use Rattle.std.specs.Prelude.{◌≤◌, ◌+◌, ◌*◌, length, true, [], ◌∷◌, ℕ, List, Some, None, false, codes};
 ghost use Rattle.fam_journal.specs.declared.event.Event.TheVariants.{Finish, Host};
 ghost use Rattle.fam_base.specs.Image.{Image};
-ghost use Rattle.fam_base.specs.MkfsOptions.{mkfs_options};
+ghost use Rattle.fam_machine.specs.MkfsRequest.{mkfs_request};
 ghost use Rattle.fam_format.specs.Params.{IsUuid, need};
 ghost use Rattle.fam_rules.specs.Place.{line_bytes};
 ghost use Rattle.fam_journal.specs.Calls.{Makes};
@@ -40,10 +40,10 @@ pub fn a_body_meets_what_calls_promise()
         → StepCall (codes "m") lines None false None None faults faults (before_step me lines journal) (after_step me lines journal) }
     ensures mkfs { (me fs : List ℕ) (image : Image) (journal : List Note) (faults : ℕ) → IsUuid fs
         → need 65536 4096 ≤ line_bytes * length image
-        → MakeCall (Makes (codes "m") (mkfs_options fs 4096 65536 true)) (length image) None (Some image) (Some (made_machine me fs image).image)
+        → MakeCall (Makes (codes "m") (mkfs_request fs 4096 65536 true)) (length image) None (Some image) (Some (made_machine me fs image).image)
         faults faults (before_mkfs me journal) (after_mkfs me fs image journal) }
     ensures cut { (me fs : List ℕ) (image : Image) (journal : List Note) (faults : ℕ) → IsUuid fs
         → need 65536 4096 ≤ line_bytes * length image
-        → MakeCall (Makes (codes "m") (mkfs_options fs 4096 65536 true)) (length image) (Some (MediaFault (record { 0 = 0 }))) (Some image)
+        → MakeCall (Makes (codes "m") (mkfs_request fs 4096 65536 true)) (length image) (Some (MediaFault (record { 0 = 0 }))) (Some image)
         (Some image) faults (faults + 1) (before_mkfs me journal) (after_cut me journal) }
 {}

@@ -2,7 +2,7 @@
 
 ghost use Rattle.std.specs.Prelude.{ℕ, ⊤, [], ◌∷◌, codes, false};
 ghost use Rattle.fam_base.specs.declared.cmd.Cmd.TheVariants.{Logplay};
-ghost use Rattle.fam_base.specs.MkfsOptions.{mkfs_options};
+ghost use Rattle.fam_machine.specs.MkfsRequest.{mkfs_request};
 ghost use Rattle.fam_journal.specs.Calls.{Makes};
 ghost use Rattle.fam_journal.specs.EventForms.{StartForm};
 ghost use Rattle.fam_journal.specs.Forms.{ActsForm, CompletesForm, OperationsForm};
@@ -28,8 +28,8 @@ pub fn forms_of_notes()
     ensures other_number { OperationsForm 0 (running_m (mkdir x)) (Mark 0 ∷ Found 0 0 ∷ Writes 0 1 (folder x) ∷ []) → ⊥ }
 
     // A mkfs makes just what was asked for.
-    ensures made { (lines : ℕ) → ActsForm (Makes (codes "m") (mkfs_options (uuid 255) 4096 65536 false)) 0 form_m lines idle_m
+    ensures made { (lines : ℕ) → ActsForm (Makes (codes "m") (mkfs_request (uuid 255) 4096 65536 false)) 0 form_m lines idle_m
         (Made 0 (asked 4096 65536 (uuid 255) form_m.uuid lines) ∷ []) }
-    ensures made_another { (lines : ℕ) → ActsForm (Makes (codes "m") (mkfs_options (uuid 255) 8192 65536 false)) 0 form_m lines idle_m
+    ensures made_another { (lines : ℕ) → ActsForm (Makes (codes "m") (mkfs_request (uuid 255) 8192 65536 false)) 0 form_m lines idle_m
         (Made 0 params ∷ []) → ⊥ }
 {}

@@ -1,6 +1,6 @@
 -- What comes of a call: the one clause of the top call.
 use Rattle.std.specs.Prelude.{ℕ, List, Option, Some, None, option_map}
-use Rattle.fam_base.specs.MkfsOptions.{mkfs_options}
+use Rattle.fam_machine.specs.MkfsRequest.{mkfs_request}
 use Rattle.fam_grammar.specs.Scripts.{script_events}
 use Rattle.fam_outcomes.specs.declared.status.Status.{Status}
 use Rattle.fam_outcomes.specs.Programs.{Command, Makes, MakesParents, OneShot, Runs, Script, Single, Storm, TopEnds}
@@ -24,7 +24,7 @@ fs_or random (Some fs) = fs
 
 -- a command of its own, as the journal's definitions speak of it
 abbrev pub shot_of : List ℕ → Shot → OneShot
-shot_of random (shot.Mkfs fs unit log force) = Makes (mkfs_options (fs_or random fs) unit log force)
+shot_of random (shot.Mkfs fs unit log force) = Makes (mkfs_request (fs_or random fs) unit log force)
 shot_of random (shot.Run what) = Runs what
 shot_of random (shot.Parents path attr) = MakesParents path attr
 

@@ -14,7 +14,8 @@ ghost use Rattle.fam_top.specs.Words.{order_named};
 
 use crate::fresh::fs_or;
 use crate::words::order;
-use fam_base::{MkfsOptions, OutOfMemory};
+use fam_base::OutOfMemory;
+use fam_machine::MkfsRequest;
 use fam_outcomes::Status;
 use fam_media::{Media, Shelf, Sink};
 use fam_program::{
@@ -60,13 +61,13 @@ fn run_shot<M: Media, S: Shelf, K: Sink>(
             log,
             force,
         } => {
-            let options = MkfsOptions {
+            let request = MkfsRequest {
                 fs: fs_or(random, fs),
                 unit,
                 log,
                 force,
             };
-            make_file_system(alloc, me, options, media, shelf, out)
+            make_file_system(alloc, me, request, media, shelf, out)
         }
         Shot::Parents { path, attr } => make_parents(alloc, me, &path, attr, media, shelf, out),
     }

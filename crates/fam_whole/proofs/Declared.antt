@@ -8,7 +8,7 @@ use Rattle.std.proofs.lemmas.Bool.Decides.{Decides-eqb}
 use Rattle.std.proofs.lemmas.List.{append-nil}
 use Rattle.std.proofs.lemmas.Option.{same_Some}
 use Rattle.fam_base.specs.Image.{Image}
-use Rattle.fam_base.specs.declared.entry.MkfsOptions.{MkfsOptions}
+use Rattle.fam_machine.specs.declared.request.MkfsRequest.{MkfsRequest}
 use Rattle.fam_format.specs.Params.{IsUuid}
 use Rattle.fam_format.specs.Stop.{or_else}
 use Rattle.fam_machine.specs.Mkfs.{early_refusal}
@@ -82,9 +82,9 @@ module _ (start : Image) (name me : List ℕ) where
   begin_refusal = ap (λ (o : Option ℕ). on_host o (λ h. begins_refusal h declared)) number_is ∙ or_none (command_refusal start)
 
   -- a file system is refused by its numbers alone, before any operation
-  pub make_refusal : (options : MkfsOptions) → refusal_of (call.Makes name options) declared ≡ option_map cause_of (early_refusal options.unit options.log (line_bytes * length start))
+  pub make_refusal : (request : MkfsRequest) → refusal_of (call.Makes name request) declared ≡ option_map cause_of (early_refusal request.unit request.log (line_bytes * length start))
   unfolding refusal_of
-  make_refusal options = ap (λ (o : Option ℕ). on_host o (λ h. makes_refusal options.unit options.log h declared)) number_is ∙ or_none (option_map cause_of (early_refusal options.unit options.log (line_bytes * length start)))
+  make_refusal request = ap (λ (o : Option ℕ). on_host o (λ h. makes_refusal request.unit request.log h declared)) number_is ∙ or_none (option_map cause_of (early_refusal request.unit request.log (line_bytes * length start)))
 
   -- Its events: it is declared, and does one thing.
 

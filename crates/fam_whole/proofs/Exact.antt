@@ -9,8 +9,8 @@ use Rattle.std.proofs.lemmas.Option.{same_Some}
 use Rattle.fam_base.specs.declared.cmd.Cmd.{Cmd}
 use Rattle.fam_base.specs.Image.{Image, eight, line_at, with_line}
 use Rattle.fam_base.proofs.ImageLemmas.{with_line-line_at}
-use Rattle.fam_base.specs.declared.entry.MkfsOptions.{MkfsOptions}
-use Rattle.fam_base.specs.MkfsOptions.{mkfs_options}
+use Rattle.fam_machine.specs.declared.request.MkfsRequest.{MkfsRequest}
+use Rattle.fam_machine.specs.MkfsRequest.{mkfs_request}
 use Rattle.fam_format.specs.Layout.{device_limit, least_lines}
 use Rattle.fam_machine.specs.Caches.{Cache, IsClean, IsCleanCell, cell_at}
 use Rattle.fam_machine.specs.Operations.{Machine, machine, operated, operated_all}
@@ -131,9 +131,9 @@ module _ (start : Image) (files : Files) (old : Machines) (journal : List Note) 
         sure = sure;
       })
 
-  makes_exact : (name : List ℕ) (options : MkfsOptions) (new : Machines) (notes : List Note) (h : ℕ) (host : HostState) → slice_get old.hosts h ≡ Some host → ActsAt (call.Makes name options) h host old notes new → EventExact x old new notes
-  makes_exact name options new notes h host is (inl made) =
-      let p = here.asked options host.uuid (length old.memory) in
+  makes_exact : (name : List ℕ) (request : MkfsRequest) (new : Machines) (notes : List Note) (h : ℕ) (host : HostState) → slice_get old.hosts h ≡ Some host → ActsAt (call.Makes name request) h host old notes new → EventExact x old new notes
+  makes_exact name request new notes h host is (inl made) =
+      let p = here.asked request host.uuid (length old.memory) in
       subst (λ (z : Machines). EventExact x old z notes) (sym made.left)
       (subst (EventExact x old _) (sym made.notes_are)
       record {
@@ -142,7 +142,7 @@ module _ (start : Image) (files : Files) (old : Machines) (journal : List Note) 
         whole = (tt, tt);
         sure = refl;
       })
-  makes_exact name options new notes h host is (inr met) =
+  makes_exact name request new notes h host is (inr met) =
       subst (λ (z : Machines). EventExact x old z notes) (sym met.left)
       (subst (EventExact x old _) (sym met.notes_are)
       record {
@@ -286,9 +286,9 @@ module _ (start : Image) (files : Files) (old : Machines) (journal : List Note) 
       by_refusal (call.Declares name uuid) old new.machines notes (subst (λ (z : Machines). Does (call.Declares name uuid) z notes new.machines) same does.0)
       (λ cause e f. quiet name cause new.machines notes e f) (λ free acts. declared_exact name uuid new.machines notes acts)
   event_exact (event.Mkfs name fs unit log force) sound whole s new same notes clean does =
-      by_refusal (call.Makes name (mkfs_options fs unit log force)) old new.machines notes (subst (λ (z : Machines). Does (call.Makes name (mkfs_options fs unit log force)) z notes new.machines) same does.0)
+      by_refusal (call.Makes name (mkfs_request fs unit log force)) old new.machines notes (subst (λ (z : Machines). Does (call.Makes name (mkfs_request fs unit log force)) z notes new.machines) same does.0)
       (λ cause e f. quiet name cause new.machines notes e f)
-      (λ free acts. by_host (call.Makes name (mkfs_options fs unit log force)) old new.machines notes acts (λ h host number is at. makes_exact name (mkfs_options fs unit log force) new.machines notes h host is at))
+      (λ free acts. by_host (call.Makes name (mkfs_request fs unit log force)) old new.machines notes acts (λ h host number is at. makes_exact name (mkfs_request fs unit log force) new.machines notes h host is at))
   event_exact (event.Begin name what) sound whole s new same notes clean does = absurd whole
   event_exact (event.Run name what) sound whole s new same notes clean (inl run) = run_exact name what s new same notes clean run
   event_exact (event.Run name what) sound whole s new same notes clean (inr (inl x)) =

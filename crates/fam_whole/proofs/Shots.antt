@@ -29,13 +29,13 @@ use Rattle.fam_whole.proofs.Scripts.{put_whole}
 
 -- a new file system's UUID is one
 abbrev pub IsSoundShot : OneShot → Type 0
-IsSoundShot (Makes options) = IsUuid options.fs
+IsSoundShot (Makes request) = IsUuid request.fs
 IsSoundShot (Runs what) = ⊤
 IsSoundShot (MakesParents path attr) = ⊤
 
 module _ (name : List ℕ) where
   sound_shot : (shot : OneShot) → IsSoundShot shot → AreSound (shot_events name shot)
-  sound_shot (Makes options) sound = (sound, tt)
+  sound_shot (Makes request) sound = (sound, tt)
   sound_shot (Runs what) sound = (tt, tt)
   sound_shot (MakesParents path attr) sound = go (path_prefixes path)
     where
@@ -44,7 +44,7 @@ module _ (name : List ℕ) where
       go (prefix ∷ prefixes) = (tt, go prefixes)
 
   whole_shot : (shot : OneShot) → AreWhole (shot_events name shot)
-  whole_shot (Makes options) = (tt, tt)
+  whole_shot (Makes request) = (tt, tt)
   whole_shot (Runs what) = (tt, tt)
   whole_shot (MakesParents path attr) = go (path_prefixes path)
     where

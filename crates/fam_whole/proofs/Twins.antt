@@ -7,7 +7,7 @@ use Rattle.std.proofs.lemmas.Option.{same_Some}
 use Rattle.fam_base.specs.declared.cmd.Cmd.{Cmd}
 use Rattle.fam_base.specs.declared.entry.Params.{Params}
 use Rattle.fam_base.specs.Image.{Image, line_at}
-use Rattle.fam_base.specs.declared.entry.MkfsOptions.{MkfsOptions}
+use Rattle.fam_machine.specs.declared.request.MkfsRequest.{MkfsRequest}
 use Rattle.fam_format.specs.declared.faults.SuperFault.{SuperFault}
 use Rattle.fam_format.specs.Layout.{device_limit}
 use Rattle.fam_format.specs.Reading.{super_in}
@@ -202,7 +202,7 @@ module _ (start : Image) (files : Files) where
     }
 
     -- both make a file system, or meet the same one
-    module _ (name : List ℕ) (options : MkfsOptions) (h i : ℕ) (host other : HostState) (number : number_of name s ≡ Some h) (number' : number_of name t ≡ Some i) (is : slice_get s.hosts h ≡ Some host) (is' : slice_get t.hosts i ≡ Some other) where
+    module _ (name : List ℕ) (request : MkfsRequest) (h i : ℕ) (host other : HostState) (number : number_of name s ≡ Some h) (number' : number_of name t ≡ Some i) (is : slice_get s.hosts h ≡ Some host) (is' : slice_get t.hosts i ≡ Some other) where
       phases : h ≡ i
       phases = same_Some h i (sym number ∙ numbers name ∙ number')
 
@@ -210,13 +210,13 @@ module _ (start : Image) (files : Files) where
       named = same_member s.hosts t.hosts i host other twins.hosts (subst (λ (n : ℕ). slice_get s.hosts n ≡ Some host) phases is) is'
 
       abbrev p : Params
-      p = here.asked options host.uuid (length s.memory)
+      p = here.asked request host.uuid (length s.memory)
 
       abbrev q : Params
-      q = here.asked options other.uuid (length t.memory)
+      q = here.asked request other.uuid (length t.memory)
 
       params : p ≡ q
-      params = ap₂ (λ (u : List ℕ) (n : ℕ). here.asked options u n) named.uuid (ap length twins.memory)
+      params = ap₂ (λ (u : List ℕ) (n : ℕ). here.asked request u n) named.uuid (ap length twins.memory)
 
       found_same : here.superblock_found p (machine_of s host) ≡ here.superblock_found q (machine_of t other)
       found_same =
@@ -224,7 +224,7 @@ module _ (start : Image) (files : Files) where
           ∙ ap (λ (z : Params). super_in (line_at t.memory) z.device) params
           ∙ sym (ap (λ (image : Image). super_in (line_at image) q.device) (read_image t.memory other.cache bt.kept.held.normal (bt.rests i other is').clean))
 
-      made_same : ActsAt (call.Makes name options) h host s a m → ActsAt (call.Makes name options) i other t b n → Same a b m n
+      made_same : ActsAt (call.Makes name request) h host s a m → ActsAt (call.Makes name request) i other t b n → Same a b m n
       made_same (inl x) (inl y) = record {
         notes = x.notes_are ∙ ap₂ (λ (k : ℕ) (z : Params). Made k z ∷ []) phases params ∙ sym y.notes_are;
         machines = subst (λ (z : Machines). Twins z n) (sym x.left) (subst (λ (z : Machines). Twins (with_machine h (operated_all (here.mkfs_ops p) (machine_of s host)) host.task s) z) (sym y.left)
@@ -235,8 +235,8 @@ module _ (start : Image) (files : Files) where
               hosts = same_on _ s.hosts _ (same_changed h _ (λ z. record { name = refl; uuid = refl }) s.hosts) (same_on s.hosts t.hosts _ twins.hosts (same_back _ t.hosts (same_changed i _ (λ z. record { name = refl; uuid = refl }) t.hosts)));
             });
       }
-      made_same (inl x) (inr y) = absurd (met_or_made options.force (here.superblock_found p (machine_of s host)) y.other x.free y.unforced (found_same ∙ y.stands))
-      made_same (inr x) (inl y) = absurd (met_or_made options.force (here.superblock_found q (machine_of t other)) x.other y.free x.unforced (sym found_same ∙ x.stands))
+      made_same (inl x) (inr y) = absurd (met_or_made request.force (here.superblock_found p (machine_of s host)) y.other x.free y.unforced (found_same ∙ y.stands))
+      made_same (inr x) (inl y) = absurd (met_or_made request.force (here.superblock_found q (machine_of t other)) x.other y.free x.unforced (sym found_same ∙ x.stands))
       made_same (inr x) (inr y) =
           let oks : ◌≡◌ {A = Result Params SuperFault} (Ok x.other) (Ok y.other) = sym x.stands ∙ found_same ∙ y.stands in
           let others : x.other ≡ y.other = cc in
@@ -249,11 +249,11 @@ module _ (start : Image) (files : Files) where
                 });
           }
 
-    pub makes_same : (name : List ℕ) (options : MkfsOptions) → Acts (call.Makes name options) s a m → Acts (call.Makes name options) t b n → Same a b m n
-    makes_same name options x y =
-        by_host (call.Makes name options) s m a x (λ h host number is at.
-        by_host (call.Makes name options) t n b y (λ i other number' is' at'.
-        made_same name options h i host other number number' is is' at at'))
+    pub makes_same : (name : List ℕ) (request : MkfsRequest) → Acts (call.Makes name request) s a m → Acts (call.Makes name request) t b n → Same a b m n
+    makes_same name request x y =
+        by_host (call.Makes name request) s m a x (λ h host number is at.
+        by_host (call.Makes name request) t n b y (λ i other number' is' at'.
+        made_same name request h i host other number number' is is' at at'))
 
     pub may_same : (name : List ℕ) → may_begin name s ≡ may_begin name t
     unfolding refusal_of

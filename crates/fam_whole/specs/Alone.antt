@@ -4,7 +4,7 @@ use Rattle.fam_base.specs.declared.cmd.Attr.{Attr}
 use Rattle.fam_base.specs.declared.cmd.Cmd.{Cmd}
 use Rattle.fam_base.specs.declared.entry.Params.{Params}
 use Rattle.fam_base.specs.Image.{Image, line_at}
-use Rattle.fam_base.specs.declared.entry.MkfsOptions.{MkfsOptions}
+use Rattle.fam_machine.specs.declared.request.MkfsRequest.{MkfsRequest}
 use Rattle.fam_format.specs.declared.faults.SuperFault.{SuperFault}
 use Rattle.fam_format.specs.Layout.{least_lines}
 use Rattle.fam_format.specs.Reading.{super_in}
@@ -81,9 +81,9 @@ mkfs_refusal start unit log force =
     or_else (option_map cause_of (early_refusal unit log (line_bytes * length start))) (standing_refusal force (super_in (line_at start) (line_bytes * length start)))
 
 -- a new file system is formatted, with the parameters that were asked for, and the host is its master
-abbrev pub MkfsEnds : Image → List ℕ → MkfsOptions → Outside → Status → Type 0
-MkfsEnds start me options out given =
-    EndsUnless (mkfs_refusal start options.unit options.log options.force) start out given (EndsAs out given (line (made_text (asked options me (length start)))) (formatted start (asked options me (length start))) status.Done)
+abbrev pub MkfsEnds : Image → List ℕ → MkfsRequest → Outside → Status → Type 0
+MkfsEnds start me request out given =
+    EndsUnless (mkfs_refusal start request.unit request.log request.force) start out given (EndsAs out given (line (made_text (asked request me (length start)))) (formatted start (asked request me (length start))) status.Done)
 
 -- Directories along a path.
 

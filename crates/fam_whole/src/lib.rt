@@ -7,7 +7,7 @@ ghost use Rattle.fam_base.specs.declared.cmd.Attr.{Attr};
 ghost use Rattle.fam_base.specs.declared.cmd.Cmd.{Cmd};
 ghost use Rattle.fam_base.specs.declared.entry.Params.{Params};
 ghost use Rattle.fam_base.specs.Image.{Image, line_at};
-ghost use Rattle.fam_base.specs.declared.entry.MkfsOptions.{MkfsOptions};
+ghost use Rattle.fam_machine.specs.declared.request.MkfsRequest.{MkfsRequest};
 ghost use Rattle.fam_format.specs.Params.{IsUuid};
 ghost use Rattle.fam_rules.specs.Asks.{File, entries_of};
 ghost use Rattle.fam_rules.specs.Place.{StandsAt};
@@ -100,11 +100,11 @@ pub fn a_command_of_its_own_is_exact()
         → TopEnds grammar storms (Some (Single me (Runs what))) out given → out.media.old.image ≡ Some start
         → out.shelf.old.files ≡ Some files → IsImage start → IsUuid me
         → (given ≡ OutOfMemory) ⊎ AskEnds files start me what out given }
-    ensures mkfs { (grammar : Grammar) (storms : Storms) (out : Outside) (given : Status) (me : List ℕ) (options : MkfsOptions)
+    ensures mkfs { (grammar : Grammar) (storms : Storms) (out : Outside) (given : Status) (me : List ℕ) (request : MkfsRequest)
         (files : Files) (start : Image) → NoneRose out
-        → TopEnds grammar storms (Some (Single me (Makes options))) out given → out.media.old.image ≡ Some start
-        → out.shelf.old.files ≡ Some files → IsImage start → IsUuid me → IsUuid options.fs
-        → (given ≡ OutOfMemory) ⊎ MkfsEnds start me options out given }
+        → TopEnds grammar storms (Some (Single me (Makes request))) out given → out.media.old.image ≡ Some start
+        → out.shelf.old.files ≡ Some files → IsImage start → IsUuid me → IsUuid request.fs
+        → (given ≡ OutOfMemory) ⊎ MkfsEnds start me request out given }
     ensures parents { (grammar : Grammar) (storms : Storms) (out : Outside) (given : Status) (me path : List ℕ) (attr : Attr)
         (files : Files) (start : Image) → NoneRose out
         → TopEnds grammar storms (Some (Single me (MakesParents path attr))) out given → out.media.old.image ≡ Some start

@@ -26,7 +26,7 @@ formed_same old new notes same journal hosts is =
 -- the journal tells the first refusal that the world has
 told_of : (c : Call) (lines : ℕ) (world : WorldView) → IsNoMake c → IsFormed world → refusal_told c lines (forms_of world.journal) ≡ refusal_in c world lines
 told_of (call.Declares name uuid) lines world other is = sym (refusal_formed lines world is (call.Declares name uuid) tt)
-told_of (call.Makes name options) lines world other is = absurd other
+told_of (call.Makes name request) lines world other is = absurd other
 told_of (call.Begins name cmd) lines world other is = sym (refusal_formed lines world is (call.Begins name cmd) tt)
 told_of (call.Steps name) lines world other is = sym (refusal_formed lines world is (call.Steps name) tt)
 told_of (call.Finishes name) lines world other is = sym (refusal_formed lines world is (call.Finishes name) tt)

@@ -4,7 +4,7 @@ use Rattle.std.specs.Prelude.{slice_get, option_map, nat_le, nat_lt, not}
 use Rattle.std.proofs.lemmas.List.{length-replicate}
 use Rattle.std.proofs.lemmas.Option.{same_Some}
 use Rattle.fam_base.specs.declared.cmd.Cmd.{Cmd}
-use Rattle.fam_base.specs.declared.entry.MkfsOptions.{MkfsOptions}
+use Rattle.fam_machine.specs.declared.request.MkfsRequest.{MkfsRequest}
 use Rattle.fam_format.specs.Layout.{least_lines}
 use Rattle.fam_format.specs.Stop.{or_else}
 use Rattle.fam_rules.specs.Place.{line_bytes}
@@ -51,12 +51,12 @@ module _ (hosts : List HostView) (journal : List Note) (name : List ℕ) (lines 
       ap (λ (n : Option ℕ). on_host n (λ h. call.begins_refusal h (shown_state w lines))) number
       ∙ ap (λ (n : ℕ). on_host o (λ h. or_else (when (nat_lt n least_lines) (why.ImageSmall n)) (when (is_busy_host (slice_get (map shown_host hosts) h)) (why.Busy (record { 0 = h }))))) (length-replicate lines [])
 
-  pub makes_first : (options : MkfsOptions) → refusal_in (call.Makes name options) w lines
-      ≡ on_host o (λ h. or_else (option_map cause_of (early_refusal options.unit options.log (line_bytes * lines))) (or_else (busy_refusal (index_of is_busy (map shown_host hosts))) (dirty_refusal (dirty_from h 0 (map shown_host hosts)))))
+  pub makes_first : (request : MkfsRequest) → refusal_in (call.Makes name request) w lines
+      ≡ on_host o (λ h. or_else (option_map cause_of (early_refusal request.unit request.log (line_bytes * lines))) (or_else (busy_refusal (index_of is_busy (map shown_host hosts))) (dirty_refusal (dirty_from h 0 (map shown_host hosts)))))
   unfolding refusal_of
-  makes_first options =
-      ap (λ (n : Option ℕ). on_host n (λ h. call.makes_refusal options.unit options.log h (shown_state w lines))) number
-      ∙ ap (λ (n : ℕ). on_host o (λ h. or_else (option_map cause_of (early_refusal options.unit options.log (line_bytes * n))) (or_else (busy_refusal (index_of is_busy (map shown_host hosts))) (dirty_refusal (dirty_from h 0 (map shown_host hosts)))))) (length-replicate lines [])
+  makes_first request =
+      ap (λ (n : Option ℕ). on_host n (λ h. call.makes_refusal request.unit request.log h (shown_state w lines))) number
+      ∙ ap (λ (n : ℕ). on_host o (λ h. or_else (option_map cause_of (early_refusal request.unit request.log (line_bytes * n))) (or_else (busy_refusal (index_of is_busy (map shown_host hosts))) (dirty_refusal (dirty_from h 0 (map shown_host hosts)))))) (length-replicate lines [])
 
 pub declares_first : (hosts : List HostView) (journal : List Note) (name uuid : List ℕ) (lines : ℕ) (o : Option ℕ) → index_of (is_same name uuid) (map shown_host hosts) ≡ o
     → refusal_in (call.Declares name uuid) (record { hosts = hosts; journal = journal }) lines ≡ or_else (same_refusal o) (when (nat_le host_limit (length (map shown_host hosts))) why.TooManyHosts)

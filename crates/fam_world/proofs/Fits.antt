@@ -56,7 +56,7 @@ world_fits c lines old all = by_refusal c (refusal_in c old lines)
     by_refusal : (c : Call) (o : Option Refusal) → FitsMedia lines (acted_by o c lines old).hosts
     by_refusal c (Some cause) = all
     by_refusal (call.Declares name uuid) None = fits_last lines old.hosts _ (record { task = tt; cache = λ l held. none_held l (l < lines) held }) all
-    by_refusal (call.Makes name options) None = all
+    by_refusal (call.Makes name request) None = all
     by_refusal (call.Begins name cmd) None = fits_hosted lines (number_in name old) (λ v. record v { task = Some (starting cmd v.uuid lines) }) _ old (λ v was. record { task = refl; cache = was.cache }) all
     by_refusal (call.Steps name) None = all
     by_refusal (call.Finishes name) None = all

@@ -3,7 +3,7 @@ use Rattle.std.proofs.Common.{◌≡◌, ℕ, ◌+◌, ◌*◌, ◌<◌, inl, in
 use Rattle.std.specs.Prelude.{slice_get, option_map, is_some}
 use Rattle.std.proofs.lemmas.List.{length-map}
 use Rattle.std.proofs.lemmas.Option.{same_Some}
-use Rattle.fam_base.specs.declared.entry.MkfsOptions.{MkfsOptions}
+use Rattle.fam_machine.specs.declared.request.MkfsRequest.{MkfsRequest}
 use Rattle.fam_format.specs.Stop.{or_else}
 use Rattle.fam_rules.specs.Place.{line_bytes}
 use Rattle.fam_machine.specs.Mkfs.{early_refusal}
@@ -34,15 +34,15 @@ views_look (v ∷ views) [] all = absurd all
 views_look (v ∷ views) (f ∷ forms) all =
     (record { name = sym all.0.name; uuid = sym all.0.uuid; busy = view_looks v.uuid v.task f.task all.0.task }, views_look views forms all.1)
 
-module _ (name : List ℕ) (options : MkfsOptions) (lines : ℕ) (world : WorldView) (is : IsFormed world) where
+module _ (name : List ℕ) (request : MkfsRequest) (lines : ℕ) (world : WorldView) (is : IsFormed world) where
   abbrev c : call.Call
-  c = call.Makes name options
+  c = call.Makes name request
 
   abbrev forms : List HostForm
   forms = forms_of world.journal
 
   abbrev early : Option Refusal
-  early = option_map cause_of (early_refusal options.unit options.log (line_bytes * length (shown_state world lines).memory))
+  early = option_map cause_of (early_refusal request.unit request.log (line_bytes * length (shown_state world lines).memory))
 
   abbrev busy : Option Refusal
   busy = busy_refusal (index_of is_busy (map shown_host world.hosts))
@@ -55,7 +55,7 @@ module _ (name : List ℕ) (options : MkfsOptions) (lines : ℕ) (world : WorldV
 
   -- what the journal tells, by the world's parts
   told_by : refusal_told c lines forms ≡ on_host (number_in name world) (λ h. or_else early busy)
-  told_by = ap (λ (o : Option ℕ). on_host o (λ h. makes_told options.unit options.log (shown_forms lines forms))) told_number ∙ ap (λ (b : Option Refusal). on_host (number_in name world) (λ h. or_else early b)) told_busy
+  told_by = ap (λ (o : Option ℕ). on_host o (λ h. makes_told request.unit request.log (shown_forms lines forms))) told_number ∙ ap (λ (b : Option Refusal). on_host (number_in name world) (λ h. or_else early b)) told_busy
 
   world_by : refusal_in c world lines ≡ on_host (number_in name world) (λ h. or_else early (or_else busy (dirty_refusal (dirty_from h 0 (map shown_host world.hosts)))))
   unfolding refusal_of

@@ -6,7 +6,7 @@ use Rattle.std.proofs.lemmas.Option.{same_Some}
 use Rattle.fam_base.specs.declared.entry.Params.{Params}
 use Rattle.fam_base.specs.declared.line.LineNo.{LineNo}
 use Rattle.fam_base.specs.Image.{Image}
-use Rattle.fam_base.specs.declared.entry.MkfsOptions.{MkfsOptions}
+use Rattle.fam_machine.specs.declared.request.MkfsRequest.{MkfsRequest}
 use Rattle.fam_format.specs.Layout.{gate_line, least_lines, log_line}
 use Rattle.fam_format.proofs.UnitPowers.{unit_told}
 use Rattle.fam_format.specs.Params.{IsUuid, is_log_length, is_unit}
@@ -54,7 +54,7 @@ use Rattle.fam_world.proofs.Rows.{first_refusal, found, refused_keeps, row_kept}
 
 -- a line of a mkfs, or another one
 elsewhere : (l : ℕ) (P : Type 0) → ((IsElsewhere l) → P) → ((l ≡ 0) → P) → ((l ≡ 1) → P) → ((l ≡ 2) → P) → ((l ≡ log_line) → P) → ((l ≡ gate_line) → P) → P
-elsewhere l P other magic prefix rest options.log gate =
+elsewhere l P other magic prefix rest request.log gate =
     elim (cases_eq l 0) [
       | inl e ↦ magic e
       | inr n0 ↦
@@ -65,7 +65,7 @@ elsewhere l P other magic prefix rest options.log gate =
                   | inl e ↦ rest e
                   | inr n2 ↦
                       elim (cases_eq l log_line) [
-                        | inl e ↦ options.log e
+                        | inl e ↦ request.log e
                         | inr n3 ↦
                             elim (cases_eq l gate_line) [
                               | inl e ↦ gate e
@@ -104,15 +104,15 @@ wide_of unit log lines free =
     let early = early_free unit log (line_bytes * lines) (none_before (early_refusal unit log (line_bytes * lines)) free) in
     omega (arith, early.1, (unit_told unit (both_first (is_unit unit) (is_log_length unit log) early.0)).least)
 
-module _ (name : List ℕ) (options : MkfsOptions) (is_uuid : IsUuid options.fs) (lines : ℕ) (old : WorldView) where
+module _ (name : List ℕ) (request : MkfsRequest) (is_uuid : IsUuid request.fs) (lines : ℕ) (old : WorldView) where
   abbrev c : call.Call
-  c = call.Makes name options
+  c = call.Makes name request
 
   -- it is refused at once
   pub make_refused : (told : Option Image) (faults : ℕ) (new : WorldView) (cause : Refusal) → IfModelled told (λ image. length image ≡ lines) → IsRefused c lines old cause → new.hosts ≡ old.hosts → new.journal ≡ old.journal ++ Refused name cause ∷ []
       → MakeCall c lines (Some cause) told told faults faults old new
   make_refused told faults new cause modelled refused hosts journal = record {
-    answers = refused_answers c lines faults old new cause refused hosts journal (λ is. refused_make name options lines old is cause refused.first);
+    answers = refused_answers c lines faults old new cause refused hosts journal (λ is. refused_make name request lines old is cause refused.first);
     leaves = λ start. leaves_refused cause c start told told old new refused.faultless (refused_keeps c lines start told old new cause is_uuid modelled refused.first hosts journal);
   }
 
@@ -120,7 +120,7 @@ module _ (name : List ℕ) (options : MkfsOptions) (is_uuid : IsUuid options.fs)
       (told now : Option Image) (faults faults_now : ℕ) (new : WorldView) (modelled : IfModelled told (λ image. length image ≡ lines)) (wide : 32770 ≤ lines) (cache : Cache)
       (others : (l : ℕ) → IsElsewhere l → cell_at cache l ≡ cell_at view.cache l) (hosts : new.hosts ≡ changed_at at (with_cache cache) old.hosts) (later : faults ≤ faults_now) where
     abbrev p : Params
-    p = asked options view.uuid lines
+    p = asked request view.uuid lines
 
     fits : HostFits lines view → HostFits lines (with_cache cache view)
     fits was = record {
@@ -148,8 +148,8 @@ module _ (name : List ℕ) (options : MkfsOptions) (is_uuid : IsUuid options.fs)
       abbrev host : (host : HostState) × (slice_get state.hosts at ≡ Some host) × Rattle.fam_journal.specs.View.HostStands (length start) host view
       host = found start state old held c lines lines_are at view number free view_is
 
-      params_are : asked options host.0.uuid (length state.memory) ≡ p
-      params_are = ap₂ (λ (id : List ℕ) (n : ℕ). asked options id n) host.2.uuid lines_are
+      params_are : asked request host.0.uuid (length state.memory) ≡ p
+      params_are = ap₂ (λ (id : List ℕ) (n : ℕ). asked request id n) host.2.uuid lines_are
 
       machine_is : machine_of state host.0 ≡ machine state.memory view.cache
       machine_is = ap (λ (x : Cache). machine state.memory x) host.2.cache
@@ -164,7 +164,7 @@ module _ (name : List ℕ) (options : MkfsOptions) (is_uuid : IsUuid options.fs)
           record { name = host.2.name; uuid = host.2.uuid; cache = sym same; task = host.2.task } held.stands k)
 
     -- it is made
-    module _ (journal : new.journal ≡ old.journal ++ Made at p ∷ []) (made : IsMadeAsAsked p options.force (over told view.cache) (over now cache)) where
+    module _ (journal : new.journal ≡ old.journal ++ Made at p ∷ []) (made : IsMadeAsAsked p request.force (over told view.cache) (over now cache)) where
       made_keeps : (start : Image) → CallKeeps c start told now old new
       made_keeps start state told_is held =
           let h = host start state told_is held in
@@ -174,21 +174,21 @@ module _ (name : List ℕ) (options : MkfsOptions) (is_uuid : IsUuid options.fs)
           let z : Machine = operated_all (mkfs_ops p) (machine_of state h.0) in
           let zm : z ≡ operated_all (mkfs_ops p) (machine state.memory view.cache) = ap (λ (x : Machine). operated_all (mkfs_ops p) x) same in
           let left : Machines = left_by start state told_is held z in
-          let acts : MakesFileSystem at p options.force h.0 state (Made at p ∷ []) left =
-          record { free = ap (λ (x : Machine). goes_on options.force (superblock_found p x)) same ∙ made.free state.memory told_is; notes_are = refl; left = refl } in
+          let acts : MakesFileSystem at p request.force h.0 state (Made at p ∷ []) left =
+          record { free = ap (λ (x : Machine). goes_on request.force (superblock_found p x)) same ∙ made.free state.memory told_is; notes_are = refl; left = refl } in
           row_kept start state old held c lines (modelled state.memory told_is) at view number free view_is new now (Made at p ∷ []) left (λ x. x)
-          (inl (subst (λ (q : Params). MakesFileSystem at q options.force h.0 state (Made at p ∷ []) left) (sym ps) acts)) is_uuid
+          (inl (subst (λ (q : Params). MakesFileSystem at q request.force h.0 state (Made at p ∷ []) left) (sym ps) acts)) is_uuid
           (m.image ∙ ap (λ (x : Machine). Some x.image) (sym zm)) journal (stands start state told_is held z (m.cache ∙ ap (λ (x : Machine). x.cache) (sym zm)))
 
       pub made_call : MakeCall c lines None told now faults faults_now old new
       made_call = record {
         answers = answers None (Made at p ∷ []) journal (omega (arith, later)) (subst (λ (n : ℕ). at < n) (sym count_is) within, tt) refl refl (λ cause e. absurd cc)
-            (λ is. maker_form name options lines old is at view number view_is free (Made at p ∷ []) (λ f e. inl (ap (λ (id : List ℕ). Made at (asked options id lines) ∷ []) (sym e))));
+            (λ is. maker_form name request lines old is at view number view_is free (Made at p ∷ []) (λ f e. inl (ap (λ (id : List ℕ). Made at (asked request id lines) ∷ []) (sym e))));
         leaves = made_keeps;
       }
 
     -- a superblock stands there
-    module _ (id : List ℕ) (journal : new.journal ≡ old.journal ++ Refused name (why.HasSuper id) ∷ []) (found_is : IsFound p options.force id (over told view.cache) (over now cache)) where
+    module _ (id : List ℕ) (journal : new.journal ≡ old.journal ++ Refused name (why.HasSuper id) ∷ []) (found_is : IsFound p request.force id (over told view.cache) (over now cache)) where
       found_keeps : (start : Image) → CallKeeps c start told now old new
       found_keeps start state told_is held =
           let h = host start state told_is held in
@@ -200,21 +200,21 @@ module _ (name : List ℕ) (options : MkfsOptions) (is_uuid : IsUuid options.fs)
           let zm : z ≡ operated_all read_ops (machine state.memory view.cache) = ap (λ (x : Machine). operated_all read_ops x) same in
           let left : Machines = left_by start state told_is held z in
           let notes : List Note = Refused name (why.HasSuper id) ∷ [] in
-          let acts : Meets at p options.force name h.0 state notes left =
+          let acts : Meets at p request.force name h.0 state notes left =
           record { unforced = found_is.unforced; other = names.other; stands = ap (λ (x : Machine). superblock_found p x) same ∙ names.reads; notes_are = ap (λ (u : List ℕ). Refused name (why.HasSuper u) ∷ []) names.named; left = refl } in
           row_kept start state old held c lines (modelled state.memory told_is) at view number free view_is new now notes left (λ x. x)
-          (inr (subst (λ (q : Params). Meets at q options.force name h.0 state notes left) (sym ps) acts)) is_uuid
+          (inr (subst (λ (q : Params). Meets at q request.force name h.0 state notes left) (sym ps) acts)) is_uuid
           (m.image ∙ ap (λ (x : Machine). Some x.image) (sym zm)) journal (stands start state told_is held z (m.cache ∙ ap (λ (x : Machine). x.cache) (sym zm)))
 
       pub found_call : MakeCall c lines (Some (why.HasSuper id)) told now faults faults_now old new
       found_call = record {
         answers = answers (Some (why.HasSuper id)) (Refused name (why.HasSuper id) ∷ []) journal (omega (arith, later)) (tt, tt) refl refl (λ cause e. subst IsLateMake (same_Some (why.HasSuper id) cause e) tt)
-            (λ is. maker_form name options lines old is at view number view_is free (Refused name (why.HasSuper id) ∷ []) (λ f e. inr (record { unforced = found_is.unforced; fs = id; notes_are = refl })));
+            (λ is. maker_form name request lines old is at view number view_is free (Refused name (why.HasSuper id) ∷ []) (λ f e. inr (record { unforced = found_is.unforced; fs = id; notes_are = refl })));
         leaves = found_keeps;
       }
 
     -- the media failed
-    module _ (line : LineNo) (journal : new.journal ≡ old.journal ++ Refused name (why.MediaFault line) ∷ []) (cut_is : IsCut p options.force lines line (over told view.cache) (over now cache) faults faults_now) where
+    module _ (line : LineNo) (journal : new.journal ≡ old.journal ++ Refused name (why.MediaFault line) ∷ []) (cut_is : IsCut p request.force lines line (over told view.cache) (over now cache) faults faults_now) where
       abbrev notes : List Note
       notes = Refused name (why.MediaFault line) ∷ []
 
@@ -223,16 +223,16 @@ module _ (name : List ℕ) (options : MkfsOptions) (is_uuid : IsUuid options.fs)
           let h = host start state told_is held in
           let same = machine_is start state told_is held in
           let ps = params_are start state told_is held in
-          let cut : HasCut (expected_ops options.force p (machine state.memory view.cache)) (machine state.memory view.cache) line now cache = cut_is.cut state.memory told_is in
+          let cut : HasCut (expected_ops request.force p (machine state.memory view.cache)) (machine state.memory view.cache) line now cache = cut_is.cut state.memory told_is in
           let left : Machines = left_by start state told_is held cut.left in
-          let acts : MakesCut at p options.force name h.0 state notes left =
-          record { line = line; left = cut.left; cuts = subst (λ (x : Machine). Rattle.fam_machine.specs.Cuts.Cuts (expected_ops options.force p x) x line cut.left) (sym same) cut.cuts; notes_are = refl; left_is = refl } in
+          let acts : MakesCut at p request.force name h.0 state notes left =
+          record { line = line; left = cut.left; cuts = subst (λ (x : Machine). Rattle.fam_machine.specs.Cuts.Cuts (expected_ops request.force p x) x line cut.left) (sym same) cut.cuts; notes_are = refl; left_is = refl } in
           let number_is : number_of name state ≡ Some at = number_shown (length start) state old name held.stands ∙ number in
           let row : BreaksOff c state notes left = (
             first_refusal start state old held c lines (modelled state.memory told_is) ∙ free,
             subst (λ (o : Option ℕ). AtNumber o state (λ k host. CutsAt c k host state notes left)) (sym number_is)
                 (subst (λ (o : Option HostState). OnHost o (λ host. CutsAt c at host state notes left)) (sym h.1)
-                (subst (λ (q : Params). MakesCut at q options.force name h.0 state notes left) (sym ps) acts)),
+                (subst (λ (q : Params). MakesCut at q request.force name h.0 state notes left) (sym ps) acts)),
           ) in
           record {
             state = left;
@@ -246,7 +246,7 @@ module _ (name : List ℕ) (options : MkfsOptions) (is_uuid : IsUuid options.fs)
 
       pub cut_call : MakeCall c lines (Some (why.MediaFault line)) told now faults faults_now old new
       cut_call = record {
-        answers = answers (Some (why.MediaFault line)) notes journal (counted cut_is.rose) (tt, tt) refl refl (λ cause e. subst IsLateMake (same_Some (why.MediaFault line) cause e) tt) (λ is. fault_form name options lines old is free line.0);
+        answers = answers (Some (why.MediaFault line)) notes journal (counted cut_is.rose) (tt, tt) refl refl (λ cause e. subst IsLateMake (same_Some (why.MediaFault line) cause e) tt) (λ is. fault_form name request lines old is free line.0);
         leaves = cut_breaks;
       }
         where
@@ -256,7 +256,7 @@ module _ (name : List ℕ) (options : MkfsOptions) (is_uuid : IsUuid options.fs)
 
     -- however it ended
     pub make_ended : (end : MkfsEnd) (given : Result (Unit {0}) WorldFault) → given ≡ end_result end → new.journal ≡ old.journal ++ end_note at name end ∷ []
-        → MkfsEnds p options.force lines (over told view.cache) (over now cache) faults faults_now end → IfAnswered given (λ answered. MakeCall c lines answered told now faults faults_now old new)
+        → MkfsEnds p request.force lines (over told view.cache) (over now cache) faults faults_now end → IfAnswered given (λ answered. MakeCall c lines answered told now faults faults_now old new)
     make_ended (ended.Made made) given is journal ends =
         subst (λ (r : Result (Unit {0}) WorldFault). IfAnswered r (λ answered. MakeCall c lines answered told now faults faults_now old new)) (sym is)
         (made_call (journal ∙ ap (λ (q : Params). old.journal ++ Made at q ∷ []) ends.0) ends.1)

@@ -22,9 +22,10 @@ use crate::fault::WorldFault;
 use crate::find::{busy_host, dirty_host, number};
 use crate::hosts::{Host, MOST_HOSTS};
 use crate::notes::{add, make_room, refused};
-use fam_base::{HostName, MkfsOptions, OutOfMemory};
+use fam_base::{HostName, OutOfMemory};
 use fam_format::LINE_BYTES;
 use fam_journal::{HostId, Refusal};
+use fam_machine::MkfsRequest;
 use fam_media::{MOST_LINES, Media};
 use fam_mkfs::{MkfsEnd, mkfs, refusal};
 use fam_notes::Note;
@@ -48,7 +49,7 @@ fn early_cause(unit: u64, log: u64, have: u64) -> Option<Refusal>
 fn maker(
     hosts: &Vec<Host>,
     name: &HostName,
-    options: &MkfsOptions,
+    request: &MkfsRequest,
     lines: u64,
 ) -> Result<usize, Refusal>
     requires few { vec_len hosts.now ≤ MOST_HOSTS }
@@ -56,13 +57,13 @@ fn maker(
     ensures within { IfOk result (λ at. at < vec_len hosts.now) }
     ensures plain { IfErr result IsPlain }
     ensures placed { (journal : List notes.Note)
-        → IsPlaced (Makes name.now options.now) lines (record { hosts = views hosts.now.items; journal = journal }) result }
-    ensures free { OnOk result (refusals.refusal options.now.unit options.now.log (line_bytes * lines) ≡ None) }
+        → IsPlaced (Makes name.now request.now) lines (record { hosts = views hosts.now.items; journal = journal }) result }
+    ensures free { OnOk result (refusals.refusal request.now.unit request.now.log (line_bytes * lines) ≡ None) }
 {
     let Some(at) = number(hosts, name) else {
         return Err(Refusal::NoHost);
     };
-    if let Some(cause) = early_cause(options.unit, options.log, LINE_BYTES * lines) {
+    if let Some(cause) = early_cause(request.unit, request.log, LINE_BYTES * lines) {
         return Err(cause);
     }
     if let Some(busy) = busy_host(hosts) {
@@ -92,11 +93,11 @@ fn is_uuid(id: Uuid)
 fn make_host<M: Media>(
     host: &mut Host,
     media: &mut M,
-    options: &MkfsOptions,
+    request: &MkfsRequest,
 ) -> Result<MkfsEnd, OutOfMemory>
-    requires free { refusals.refusal options.now.unit options.now.log (line_bytes * M.size media.old) ≡ None }
+    requires free { refusals.refusal request.now.unit request.now.log (line_bytes * M.size media.old) ≡ None }
     ensures host { host.new ≡ record host.old { cache = host.new.cache } }
-    ensures ends { IfOk result (MkfsEnds (spec.asked options.now host.old.uuid (M.size media.old)) options.now.force (M.size media.old)
+    ensures ends { IfOk result (MkfsEnds (spec.asked request.now host.old.uuid (M.size media.old)) request.now.force (M.size media.old)
         (over (M.state media.old).image host.old.cache.lines) (over (M.state media.new).image host.new.cache.lines)
         (M.state media.old).faults (M.state media.new).faults) }
     ensures others { (line : ℕ) → IsElsewhere line
@@ -105,7 +106,7 @@ fn make_host<M: Media>(
     ensures kept { OnErr result (host.new ≡ host.old) }
     ensures steady { IsSteady M.size M.state media.old media.new }
 {
-    mkfs(&mut host.cache, media, options, host.uuid)
+    mkfs(&mut host.cache, media, request, host.uuid)
 }
 
 /// Notes how making a file system ended, for which there is room, and gives the refusal that it is, if any.
@@ -145,10 +146,10 @@ pub(crate) fn mkfs_in<M: Media>(
     journal: &mut Vec<Note>,
     media: &mut M,
     name: &HostName,
-    options: &MkfsOptions,
+    request: &MkfsRequest,
 ) -> Result<(), WorldFault>
     requires few { vec_len hosts.old ≤ MOST_HOSTS }
-    ensures answered { IfAnswered result (λ answered. MakeCall (Makes name.now options.now) (M.size media.old)
+    ensures answered { IfAnswered result (λ answered. MakeCall (Makes name.now request.now) (M.size media.old)
         answered (M.state media.old).image (M.state media.new).image (M.state media.old).faults (M.state media.new).faults
         (world_view hosts.old.items journal.old.items) (world_view hosts.new.items journal.new.items)) }
     ensures undone { IsErrOf result WorldFault.OutOfMemory → media.new ≡ media.old }
@@ -157,15 +158,15 @@ pub(crate) fn mkfs_in<M: Media>(
     ensures size { M.size media.new ≡ M.size media.old }
     ensures few { vec_len hosts.new ≤ MOST_HOSTS }
 {
-    is_uuid(options.fs);
+    is_uuid(request.fs);
     if make_room(journal).is_err() {
         return Err(WorldFault::OutOfMemory);
     }
-    let at = match maker(hosts, name, options, media.lines()) {
+    let at = match maker(hosts, name, request, media.lines()) {
         Ok(at) => at,
         Err(cause) => return Err(refused(journal, name, cause)),
     };
-    match make_host(&mut hosts[at], media, options) {
+    match make_host(&mut hosts[at], media, request) {
         Ok(end) => note_end(journal, name, at, end),
         Err(_) => Err(WorldFault::OutOfMemory),
     }

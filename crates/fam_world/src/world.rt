@@ -8,7 +8,7 @@ ghost use Rattle.fam_journal.specs.Calls.{Begins, Declares, Finishes, Halts, Mak
 ghost use Rattle.fam_journal.specs.CallRecords.{FinishOutOfMemory, FitsMedia, MakeCall, MediaCall, StepCall, WorldCall};
 ghost use Rattle.fam_journal.specs.View.{HostView, empty_world};
 ghost use Rattle.fam_base.specs.Commands.{IsSoundCmd};
-ghost use Rattle.fam_base.specs.MkfsOptions.{mkfs_options};
+ghost use Rattle.fam_machine.specs.MkfsRequest.{mkfs_request};
 ghost use Rattle.fam_tasks.specs.Sound.{most_lines};
 ghost use Rattle.fam_world.specs.Answers.{IfAnswered, IfStepped, refusal_told};
 ghost use Rattle.fam_world.specs.Counted.{StepsSay, standing};
@@ -23,8 +23,9 @@ use crate::moves::{OwnMove, move_in};
 use crate::notes::{add, make_room};
 use crate::quiet::{begin_in, halt_in, host_in, stop_in};
 use crate::steps::{finish_in, step_in};
-use fam_base::{Cmd, HostName, LineNo, Mask, MkfsOptions, OutOfMemory};
+use fam_base::{Cmd, HostName, LineNo, Mask, OutOfMemory};
 use fam_journal::{HostId, Refusal};
+use fam_machine::MkfsRequest;
 use fam_media::Media;
 use fam_notes::Note;
 use std::alloc::Global;
@@ -205,7 +206,7 @@ impl World {
         log: u64,
         force: bool,
     ) -> Result<(), WorldFault>
-        ensures answered { IfAnswered result (λ answered. MakeCall (Makes name.now (mkfs_options fs unit log force)) (M.size media.old)
+        ensures answered { IfAnswered result (λ answered. MakeCall (Makes name.now (mkfs_request fs unit log force)) (M.size media.old)
             answered (M.state media.old).image (M.state media.new).image (M.state media.old).faults (M.state media.new).faults self.old self.new) }
         ensures undone { IsErrOf result WorldFault.OutOfMemory → media.new ≡ media.old }
         ensures err { IsErrOf result WorldFault.OutOfMemory → self.new ≡ self.old }
@@ -216,7 +217,7 @@ impl World {
             &mut self.journal,
             media,
             name,
-            &MkfsOptions {
+            &MkfsRequest {
                 fs,
                 unit,
                 log,

@@ -232,7 +232,7 @@ module _ (start : Image) (state : Machines) (journal : List Note) (kept : Kept s
         let enough : least_lines ≤ length state.memory = at_most least_lines (length state.memory) (no_when _ _ (or_first _ _ free)) in
         record { views = _; held = begun_held start state world held h d cmd command (omega (arith, enough, held.lines)); uuids = uuids_kept h _ (λ z. refl) state.hosts kept.uuids }
 
-    makes_sound : (fs : List ℕ) (unit log : ℕ) → IsUuid fs → makes_refusal unit log h state ≡ None → SoundParams (asked options d.host.uuid (length state.memory))
+    makes_sound : (fs : List ℕ) (unit log : ℕ) → IsUuid fs → makes_refusal unit log h state ≡ None → SoundParams (asked request d.host.uuid (length state.memory))
     makes_sound fs unit log uuid free =
         let may = may_make unit log h state free in
         record {
@@ -246,9 +246,9 @@ module _ (start : Image) (state : Machines) (journal : List Note) (kept : Kept s
         }
 
     pub made_kept : (fs : List ℕ) (unit log : ℕ) → IsUuid fs → makes_refusal unit log h state ≡ None
-        → Kept start (with_machine h (operated_all (mkfs_ops (asked options d.host.uuid (length state.memory))) (machine_of state d.host)) d.host.task state) (journal ++ Rattle.fam_journal.specs.Notes.Made h (asked options d.host.uuid (length state.memory)) ∷ [])
+        → Kept start (with_machine h (operated_all (mkfs_ops (asked request d.host.uuid (length state.memory))) (machine_of state d.host)) d.host.task state) (journal ++ Rattle.fam_journal.specs.Notes.Made h (asked request d.host.uuid (length state.memory)) ∷ [])
     made_kept fs unit log uuid free =
-        let p = asked options d.host.uuid (length state.memory) in
+        let p = asked request d.host.uuid (length state.memory) in
         let may = may_make unit log h state free in
         record {
           views = _;

@@ -90,7 +90,7 @@ module _ (a b : Machines) (alike : AreAlike a.hosts b.hosts) (lines : length a.m
       ap₂ (λ (o : Option ℕ) (n : ℕ). or_else (same_refusal o) (when (Rattle.std.specs.Prelude.nat_le host_limit n) why.TooManyHosts))
       (phases (is_same name uuid) (λ x y same. ap₂ (λ (n u : List ℕ). Rattle.std.specs.Prelude.◌||◌ (Rattle.fam_base.specs.PathOrder.path_eq n name) (Rattle.fam_base.specs.PathOrder.path_eq u uuid)) same.name same.uuid) a.hosts b.hosts 0 alike)
       (count_same a.hosts b.hosts alike)
-  refusal_same (call.Makes name options) = on_same (λ h. makes_refusal options.unit options.log h a) (λ h. makes_refusal options.unit options.log h b) name (makes_same options.unit options.log)
+  refusal_same (call.Makes name request) = on_same (λ h. makes_refusal request.unit request.log h a) (λ h. makes_refusal request.unit request.log h b) name (makes_same request.unit request.log)
   refusal_same (call.Begins name cmd) = on_same (λ h. begins_refusal h a) (λ h. begins_refusal h b) name begins_same
   refusal_same (call.Steps name) = on_same (λ h. idle_refusal h a) (λ h. idle_refusal h b) name idle_same
   refusal_same (call.Finishes name) = on_same (λ h. idle_refusal h a) (λ h. idle_refusal h b) name idle_same

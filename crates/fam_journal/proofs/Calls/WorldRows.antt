@@ -101,7 +101,7 @@ module _ (state : Machines) (world : WorldView) (stands : WorldStands (length st
     stands = more_stands lines state.hosts world.hosts _ _ (record { name = refl; uuid = refl; cache = refl; task = tt }) stands;
     joined = refl;
   }
-  acts (call.Makes name options) takes free = absurd takes
+  acts (call.Makes name request) takes free = absurd takes
   acts (call.Begins name cmd) takes free = by_number (number_in name world) refl
     where
       by_number : (o : Option ℕ) → number_in name world ≡ o → IsRow (call.Begins name cmd) lines state world (with_host o (λ v. record v { task = Some (starting cmd v.uuid lines) }) (λ h. Start h cmd) world)

@@ -5,7 +5,7 @@ use Rattle.std.specs.Prelude.{if◌then◌else◌, map, slice_get, nat_le, min, 
 use Rattle.std.specs.FinMap as finmap
 use Rattle.std.proofs.lemmas.Option.{same_Some}
 use Rattle.fam_base.specs.declared.cmd.Cmd.{Cmd}
-use Rattle.fam_base.specs.MkfsOptions.{mkfs_options}
+use Rattle.fam_machine.specs.MkfsRequest.{mkfs_request}
 use Rattle.fam_media.specs.Files.{Files}
 use Rattle.fam_machine.specs.HostMoves.{Evict, Leak, Fetch}
 use Rattle.fam_journal.specs.declared.event.Ask.{Ask}
@@ -209,7 +209,7 @@ module _ (lines : ℕ) (files : Files) (old : Session) (hosts : List HostForm) (
 
   pub event_form : (e : Event) (notes : List Note) (new : Session) → DoesEvent files e old notes new → Formed (EventForm e lines hosts) lines hosts notes new.machines
   event_form (event.Host name uuid) notes new x = row (call.Declares name uuid) notes new.machines x.0
-  event_form (event.Mkfs name fs unit log force) notes new x = row (call.Makes name (mkfs_options fs unit log force)) notes new.machines x.0
+  event_form (event.Mkfs name fs unit log force) notes new x = row (call.Makes name (mkfs_request fs unit log force)) notes new.machines x.0
   event_form (event.Begin name what) notes new (inl x) = starts name what new notes x
   event_form (event.Begin name what) notes new (inr x) = refused name what NoMore new notes x
   event_form (event.Run name what) notes new (inl x) = begin_free name what new notes x
@@ -227,7 +227,7 @@ module _ (lines : ℕ) (files : Files) (old : Session) (hosts : List HostForm) (
 
   pub event_breaks : (e : Event) (notes : List Note) (new : Session) → BreaksEvent e old notes new → EventBreaksForm e lines hosts notes
   event_breaks (event.Host name uuid) notes new x = absurd x
-  event_breaks (event.Mkfs name fs unit log force) notes new x = breaks_form lines m hosts formed notes new.machines name (mkfs_options fs unit log force) x.0
+  event_breaks (event.Mkfs name fs unit log force) notes new x = breaks_form lines m hosts formed notes new.machines name (mkfs_request fs unit log force) x.0
   event_breaks (event.Begin name what) notes new x = absurd x
   event_breaks (event.Run name what) notes new x = absurd x
   event_breaks (event.Step name count) notes new x = absurd x

@@ -64,7 +64,7 @@ module _ (lines : ℕ) (state left : Machines) (hosts : List HostForm) (notes : 
 
   pub cut_form : (c : Call) → BreaksOff c state notes left → BreaksForm c lines hosts notes
   cut_form (call.Declares name uuid) x = absurd (no_cut (call.Declares name uuid) (λ h host z. z) (number_of name state) x.1)
-  cut_form (call.Makes name options) x = breaks_form lines state hosts formed notes left name options x
+  cut_form (call.Makes name request) x = breaks_form lines state hosts formed notes left name request x
   cut_form (call.Begins name cmd) x = absurd (no_cut (call.Begins name cmd) (λ h host z. z) (number_of name state) x.1)
   cut_form (call.Steps name) x = absurd (no_cut (call.Steps name) (λ h host z. z) (number_of name state) x.1)
   cut_form (call.Finishes name) x = absurd (no_cut (call.Finishes name) (λ h host z. z) (number_of name state) x.1)
@@ -75,7 +75,7 @@ module _ (lines : ℕ) (state left : Machines) (hosts : List HostForm) (notes : 
 
   pub part_form : (c : Call) → DoesPart c state notes left → PartForm c lines hosts notes
   part_form (call.Declares name uuid) x = x.0
-  part_form (call.Makes name options) x = x.0
+  part_form (call.Makes name request) x = x.0
   part_form (call.Begins name cmd) x = x.0
   part_form (call.Steps name) x = x.0
   part_form (call.Finishes name) (inl x) =

@@ -81,7 +81,7 @@ busy_same (suc h) (a ∷ xs) (b ∷ bs) alike = busy_same h xs bs alike.1
 -- all calls but the making of a file system, which looks at dirty lines
 abbrev pub IsNoMake : Call → Type 0
 IsNoMake (call.Declares name uuid) = ⊤
-IsNoMake (call.Makes name options) = ⊥
+IsNoMake (call.Makes name request) = ⊥
 IsNoMake (call.Begins name cmd) = ⊤
 IsNoMake (call.Steps name) = ⊤
 IsNoMake (call.Finishes name) = ⊤
@@ -126,7 +126,7 @@ module _ (a b : Machines) (alike : Pairs Looks a.hosts b.hosts) (lines : length 
       ap₂ (λ (o : Option ℕ) (n : ℕ). or_else (same_refusal o) (when (nat_le host_limit n) why.TooManyHosts))
       (phases (is_same name uuid) (λ x y same. ap₂ (λ (n u : List ℕ). Rattle.std.specs.Prelude.◌||◌ (path_eq n name) (path_eq u uuid)) same.name same.uuid) a.hosts b.hosts 0 alike)
       (pairs_length Looks a.hosts b.hosts alike)
-  refusal_looks (call.Makes name options) other = absurd other
+  refusal_looks (call.Makes name request) other = absurd other
   refusal_looks (call.Begins name cmd) other = may_same name
   refusal_looks (call.Steps name) other = step_same name
   refusal_looks (call.Finishes name) other = step_same name

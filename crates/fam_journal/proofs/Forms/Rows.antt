@@ -7,7 +7,7 @@ use Rattle.fam_base.proofs.ImageLemmas.{length-with_line}
 use Rattle.fam_format.specs.Stop.{or_else}
 use Rattle.fam_machine.specs.Mkfs.{asked, early_refusal, mkfs_ops, read_ops}
 use Rattle.fam_base.specs.Image.{line_at}
-use Rattle.fam_base.specs.declared.entry.MkfsOptions.{MkfsOptions}
+use Rattle.fam_machine.specs.declared.request.MkfsRequest.{MkfsRequest}
 use Rattle.fam_machine.specs.Caches.{cell_at}
 use Rattle.fam_machine.specs.HostMoves.{moved_words}
 use Rattle.fam_machine.specs.Operations.{Machine}
@@ -73,14 +73,14 @@ module _ (lines : ℕ) (m : Machines) (hosts : List HostForm) (formed : AreForme
 
     act_form : (c : Call) (notes : List Note) (new : Machines) → ActsAt c h host m notes new → Formed (ActsForm c h f lines hosts) lines hosts notes new
     act_form (call.Declares name uuid) notes new x = absurd x
-    act_form (call.Makes name options) notes new (inl x) =
-        formed_as (ActsForm (call.Makes name options) h f lines hosts) lines hosts notes _ new _ x.notes_are x.left
+    act_form (call.Makes name request) notes new (inl x) =
+        formed_as (ActsForm (call.Makes name request) h f lines hosts) lines hosts notes _ new _ x.notes_are x.left
         record {
-          form = inl (ap₂ (λ (me : List ℕ) (n : ℕ). Made h (asked options me n) ∷ []) (sym is.uuid) formed.lines_are);
-          next = stays (Made h (asked options host.uuid (length m.memory)) ∷ []) _ refl (all_length (mkfs_ops (asked options host.uuid (length m.memory))) (machine_of m host));
+          form = inl (ap₂ (λ (me : List ℕ) (n : ℕ). Made h (asked request me n) ∷ []) (sym is.uuid) formed.lines_are);
+          next = stays (Made h (asked request host.uuid (length m.memory)) ∷ []) _ refl (all_length (mkfs_ops (asked request host.uuid (length m.memory))) (machine_of m host));
         }
-    act_form (call.Makes name options) notes new (inr x) =
-        formed_as (ActsForm (call.Makes name options) h f lines hosts) lines hosts notes _ new _ x.notes_are x.left
+    act_form (call.Makes name request) notes new (inr x) =
+        formed_as (ActsForm (call.Makes name request) h f lines hosts) lines hosts notes _ new _ x.notes_are x.left
         record {
           form = inr (record { unforced = x.unforced; fs = x.other.fs; notes_are = refl });
           next = stays (Refused name (why.HasSuper x.other.fs) ∷ []) _ refl (all_length read_ops (machine_of m host));
@@ -165,7 +165,7 @@ module _ (lines : ℕ) (m : Machines) (hosts : List HostForm) (formed : AreForme
           next = record { lines_are = formed.lines_are; formed = pairs_last (StateFormed lines) m.hosts hosts _ _ formed.formed record { name = refl; uuid = refl; task = tt } };
         }
     acts_form (call.Refuses name cause) x = noted (FreeForm (call.Refuses name cause) lines hosts) name cause (refl, may_refuse name cause x.2) x.0 x.1
-    acts_form (call.Makes name options) x = let a = acts_of (call.Makes name options) x in record { form = inl a.form; next = a.next }
+    acts_form (call.Makes name request) x = let a = acts_of (call.Makes name request) x in record { form = inl a.form; next = a.next }
     acts_form (call.Begins name cmd) x = acts_of (call.Begins name cmd) x
     acts_form (call.Steps name) x = acts_of (call.Steps name) x
     acts_form (call.Finishes name) x = acts_of (call.Finishes name) x
@@ -186,26 +186,26 @@ module _ (lines : ℕ) (m : Machines) (hosts : List HostForm) (formed : AreForme
 
     -- Making a file system.
 
-    module _ (name : List ℕ) (options : MkfsOptions) where
+    module _ (name : List ℕ) (request : MkfsRequest) where
       abbrev makes : Call
-      makes = call.Makes name options
+      makes = call.Makes name request
 
       abbrev Form : List Note → Type 0
       Form z = FormByRefusal name (refusal_told makes lines hosts) z (FreeForm makes lines hosts z)
 
-      early_same : option_map cause_of (early_refusal options.unit options.log (line_bytes * length m.memory)) ≡ option_map cause_of (early_refusal options.unit options.log (line_bytes * length told.memory))
-      early_same = ap (λ (n : ℕ). option_map cause_of (early_refusal options.unit options.log (line_bytes * n))) same_lines
+      early_same : option_map cause_of (early_refusal request.unit request.log (line_bytes * length m.memory)) ≡ option_map cause_of (early_refusal request.unit request.log (line_bytes * length told.memory))
+      early_same = ap (λ (n : ℕ). option_map cause_of (early_refusal request.unit request.log (line_bytes * n))) same_lines
 
       busy_told : busy_refusal (index_of is_busy m.hosts) ≡ busy_refusal (index_of is_busy told.hosts)
       busy_told = ap busy_refusal (busy_place m told look same_lines)
 
-      told_is : (h : ℕ) → number_of name told ≡ Some h → (e b : Option Refusal) → option_map cause_of (early_refusal options.unit options.log (line_bytes * length told.memory)) ≡ e → busy_refusal (index_of is_busy told.hosts) ≡ b → refusal_told makes lines hosts ≡ or_else e b
-      told_is h n e b e_is b_is = ap (λ (o : Option ℕ). on_host o (λ h. makes_told options.unit options.log told)) n ∙ ap₂ or_else e_is b_is
+      told_is : (h : ℕ) → number_of name told ≡ Some h → (e b : Option Refusal) → option_map cause_of (early_refusal request.unit request.log (line_bytes * length told.memory)) ≡ e → busy_refusal (index_of is_busy told.hosts) ≡ b → refusal_told makes lines hosts ≡ or_else e b
+      told_is h n e b e_is b_is = ap (λ (o : Option ℕ). on_host o (λ h. makes_told request.unit request.log told)) n ∙ ap₂ or_else e_is b_is
 
-      refusal_is : (h : ℕ) → number_of name told ≡ Some h → (e b d : Option Refusal) → option_map cause_of (early_refusal options.unit options.log (line_bytes * length told.memory)) ≡ e → busy_refusal (index_of is_busy told.hosts) ≡ b → dirty_refusal (dirty_from h 0 m.hosts) ≡ d → refusal_of makes m ≡ or_else e (or_else b d)
+      refusal_is : (h : ℕ) → number_of name told ≡ Some h → (e b d : Option Refusal) → option_map cause_of (early_refusal request.unit request.log (line_bytes * length told.memory)) ≡ e → busy_refusal (index_of is_busy told.hosts) ≡ b → dirty_refusal (dirty_from h 0 m.hosts) ≡ d → refusal_of makes m ≡ or_else e (or_else b d)
       unfolding refusal_of
       refusal_is h n e b d e_is b_is d_is =
-          ap (λ (o : Option ℕ). on_host o (λ h. makes_refusal options.unit options.log h m)) (number_told name ∙ n)
+          ap (λ (o : Option ℕ). on_host o (λ h. makes_refusal request.unit request.log h m)) (number_told name ∙ n)
           ∙ ap₂ or_else (early_same ∙ e_is) (ap₂ or_else (busy_told ∙ b_is) d_is)
 
       abbrev A : Type 0
@@ -230,7 +230,7 @@ module _ (lines : ℕ) (m : Machines) (hosts : List HostForm) (formed : AreForme
               let below = other.1 in
               record { maker = h; number = n; dirty = k; declared = omega (arith, below, pairs_length (StateFormed lines) m.hosts hosts formed.formed); other = other.0; notes_are = refl }
 
-      of_maker : (h : ℕ) → number_of name told ≡ Some h → (e b : Option Refusal) → option_map cause_of (early_refusal options.unit options.log (line_bytes * length told.memory)) ≡ e → busy_refusal (index_of is_busy told.hosts) ≡ b → Does makes m notes new → Formed Form lines hosts notes new
+      of_maker : (h : ℕ) → number_of name told ≡ Some h → (e b : Option Refusal) → option_map cause_of (early_refusal request.unit request.log (line_bytes * length told.memory)) ≡ e → busy_refusal (index_of is_busy told.hosts) ≡ b → Does makes m notes new → Formed Form lines hosts notes new
       of_maker h n (Some e) b e_is b_is x = by_told (Some e) (refusal_is h n (Some e) b (dirty_refusal (dirty_from h 0 m.hosts)) e_is b_is refl) (told_is h n (Some e) b e_is b_is) x
       of_maker h n None (Some b) e_is b_is x = by_told (Some b) (refusal_is h n None (Some b) (dirty_refusal (dirty_from h 0 m.hosts)) e_is b_is refl) (told_is h n None (Some b) e_is b_is) x
       of_maker h n None None e_is b_is x =
@@ -238,11 +238,11 @@ module _ (lines : ℕ) (m : Machines) (hosts : List HostForm) (formed : AreForme
 
       no_maker : number_of name told ≡ None → refusal_of makes m ≡ Some why.NoHost
       unfolding refusal_of
-      no_maker n = ap (λ (o : Option ℕ). on_host o (λ h. makes_refusal options.unit options.log h m)) (number_told name ∙ n)
+      no_maker n = ap (λ (o : Option ℕ). on_host o (λ h. makes_refusal request.unit request.log h m)) (number_told name ∙ n)
 
       by_maker : (o : Option ℕ) → number_of name told ≡ o → Does makes m notes new → Formed Form lines hosts notes new
-      by_maker None n x = by_told (Some why.NoHost) (no_maker n) (ap (λ (o : Option ℕ). on_host o (λ h. makes_told options.unit options.log told)) n) x
-      by_maker (Some h) n x = of_maker h n (option_map cause_of (early_refusal options.unit options.log (line_bytes * length told.memory))) (busy_refusal (index_of is_busy told.hosts)) refl refl x
+      by_maker None n x = by_told (Some why.NoHost) (no_maker n) (ap (λ (o : Option ℕ). on_host o (λ h. makes_told request.unit request.log told)) n) x
+      by_maker (Some h) n x = of_maker h n (option_map cause_of (early_refusal request.unit request.log (line_bytes * length told.memory))) (busy_refusal (index_of is_busy told.hosts)) refl refl x
 
       makes_form : Does makes m notes new → Formed Form lines hosts notes new
       makes_form x = by_maker (number_of name told) refl x
@@ -251,14 +251,14 @@ module _ (lines : ℕ) (m : Machines) (hosts : List HostForm) (formed : AreForme
       free_told : refusal_of makes m ≡ None → refusal_told makes lines hosts ≡ None
       free_told none = by_number (number_of name told) refl
         where
-          at_maker : (h : ℕ) → number_of name told ≡ Some h → (e b : Option Refusal) → option_map cause_of (early_refusal options.unit options.log (line_bytes * length told.memory)) ≡ e → busy_refusal (index_of is_busy told.hosts) ≡ b → refusal_told makes lines hosts ≡ None
+          at_maker : (h : ℕ) → number_of name told ≡ Some h → (e b : Option Refusal) → option_map cause_of (early_refusal request.unit request.log (line_bytes * length told.memory)) ≡ e → busy_refusal (index_of is_busy told.hosts) ≡ b → refusal_told makes lines hosts ≡ None
           at_maker h n (Some e) b e_is b_is = absurd (let some = sym none ∙ refusal_is h n (Some e) b (dirty_refusal (dirty_from h 0 m.hosts)) e_is b_is refl in cc)
           at_maker h n None (Some b) e_is b_is = absurd (let some = sym none ∙ refusal_is h n None (Some b) (dirty_refusal (dirty_from h 0 m.hosts)) e_is b_is refl in cc)
           at_maker h n None None e_is b_is = told_is h n None None e_is b_is
 
           by_number : (o : Option ℕ) → number_of name told ≡ o → refusal_told makes lines hosts ≡ None
           by_number None n = absurd (let some = sym none ∙ no_maker n in cc)
-          by_number (Some h) n = at_maker h n (option_map cause_of (early_refusal options.unit options.log (line_bytes * length told.memory))) (busy_refusal (index_of is_busy told.hosts)) refl refl
+          by_number (Some h) n = at_maker h n (option_map cause_of (early_refusal request.unit request.log (line_bytes * length told.memory))) (busy_refusal (index_of is_busy told.hosts)) refl refl
 
       cut_host : (h : ℕ) (o : Option HostState) → OnHost o (λ host. CutsAt makes h host m notes new) → FaultForm name notes
       cut_host h None x = absurd x
@@ -274,7 +274,7 @@ module _ (lines : ℕ) (m : Machines) (hosts : List HostForm) (formed : AreForme
     -- what a call does has its form
     pub does_form : (c : Call) → Does c m notes new → Formed (DoesForm c lines hosts) lines hosts notes new
     does_form (call.Declares name uuid) x = does_by (call.Declares name uuid) (refusal_looks m told look same_lines (call.Declares name uuid) tt) x
-    does_form (call.Makes name options) x = makes_form name options x
+    does_form (call.Makes name request) x = makes_form name request x
     does_form (call.Begins name cmd) x = does_by (call.Begins name cmd) (refusal_looks m told look same_lines (call.Begins name cmd) tt) x
     does_form (call.Steps name) x = does_by (call.Steps name) (refusal_looks m told look same_lines (call.Steps name) tt) x
     does_form (call.Finishes name) x = does_by (call.Finishes name) (refusal_looks m told look same_lines (call.Finishes name) tt) x

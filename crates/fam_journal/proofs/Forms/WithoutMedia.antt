@@ -77,7 +77,7 @@ module _ (lines : ℕ) (world : WorldView) (is : IsFormed world) where
 
   told_of : (c : Call) → IsNoMake c → refusal_told c lines forms ≡ refusal_in c world lines
   told_of (call.Declares name uuid) other = sym (refusal_formed lines world is (call.Declares name uuid) tt)
-  told_of (call.Makes name options) other = absurd other
+  told_of (call.Makes name request) other = absurd other
   told_of (call.Begins name cmd) other = sym (refusal_formed lines world is (call.Begins name cmd) tt)
   told_of (call.Steps name) other = sym (refusal_formed lines world is (call.Steps name) tt)
   told_of (call.Finishes name) other = sym (refusal_formed lines world is (call.Finishes name) tt)
@@ -98,7 +98,7 @@ module _ (lines : ℕ) (world : WorldView) (is : IsFormed world) where
     form = freed (call.Declares name uuid) (note.Host name uuid ∷ []) (told_of (call.Declares name uuid) tt ∙ free) refl;
     formed = added _ (note.Host name uuid) (pairs_last HostFormed world.hosts forms _ _ is record { name = refl; uuid = refl; task = tt });
   }
-  acted_form (call.Makes name options) takes free = absurd takes
+  acted_form (call.Makes name request) takes free = absurd takes
   acted_form (call.Begins name cmd) takes free =
       hosted (call.Begins name cmd) (λ v. record v { task = Some (starting cmd v.uuid lines) }) (λ h. note.Start h cmd) (number_in name world) refl (λ h none. no_host name _ free none) (λ h x. x) (λ h f. refl)
       (λ h. pairs_any HostFormed _ _ (λ v f at. record { name = at.name; uuid = at.uuid; task = record { cmd = refl; me_is = refl; stage = refl } }) h world.hosts forms is)
@@ -127,7 +127,7 @@ module _ (lines : ℕ) (world : WorldView) (is : IsFormed world) where
 
   no_make : (c : Call) → TakesNoMedia c lines world → IsNoMake c
   no_make (call.Declares name uuid) takes = tt
-  no_make (call.Makes name options) takes = takes
+  no_make (call.Makes name request) takes = takes
   no_make (call.Begins name cmd) takes = tt
   no_make (call.Steps name) takes = tt
   no_make (call.Finishes name) takes = tt

@@ -5,7 +5,7 @@ use Rattle.std.specs.Prelude.{slice_get, is_some}
 use Rattle.std.proofs.lemmas.List.{append-nil, append_assoc}
 use Rattle.std.proofs.lemmas.Option.{same_Some}
 use Rattle.fam_base.specs.Image.{Image}
-use Rattle.fam_base.specs.MkfsOptions.{mkfs_options}
+use Rattle.fam_machine.specs.MkfsRequest.{mkfs_request}
 use Rattle.fam_media.specs.Files.{Files}
 use Rattle.fam_machine.specs.declared.op.Op.{Op}
 use Rattle.fam_machine.specs.Operations.{Machine, given, operated}
@@ -98,8 +98,8 @@ module _ (start : Image) where
   module _ (state : Machines) (journal : List Note) (kept : Kept start state journal) (notes : List Note) (new : Machines) where
     act_ruled : (c : Call) (h : ℕ) (host : HostState) → ActsAt c h host state notes new → AreRuled (past_of start journal) notes
     act_ruled (call.Declares name uuid) h host x = absurd x
-    act_ruled (call.Makes name options) h host (inl x) = subst (AreRuled (past_of start journal)) (sym x.notes_are) (tt, tt)
-    act_ruled (call.Makes name options) h host (inr x) = subst (AreRuled (past_of start journal)) (sym x.notes_are) (tt, tt)
+    act_ruled (call.Makes name request) h host (inl x) = subst (AreRuled (past_of start journal)) (sym x.notes_are) (tt, tt)
+    act_ruled (call.Makes name request) h host (inr x) = subst (AreRuled (past_of start journal)) (sym x.notes_are) (tt, tt)
     act_ruled (call.Begins name cmd) h host x = subst (AreRuled (past_of start journal)) (sym x.0) (tt, tt)
     act_ruled (call.Steps name) h host x = operation_ruled h state journal kept notes new x
     act_ruled (call.Finishes name) h host x = operates_ruled h x.count state journal kept notes new x.does
@@ -120,7 +120,7 @@ module _ (start : Image) where
     acts_ruled : (c : Call) → Acts c state notes new → AreRuled (past_of start journal) notes
     acts_ruled (call.Declares name uuid) x = subst (AreRuled (past_of start journal)) (sym x.0) (tt, tt)
     acts_ruled (call.Refuses name cause) x = subst (AreRuled (past_of start journal)) (sym x.0) (tt, tt)
-    acts_ruled (call.Makes name options) x = number_ruled (call.Makes name options) (number_of name state) x
+    acts_ruled (call.Makes name request) x = number_ruled (call.Makes name request) (number_of name state) x
     acts_ruled (call.Begins name cmd) x = number_ruled (call.Begins name cmd) (number_of name state) x
     acts_ruled (call.Steps name) x = number_ruled (call.Steps name) (number_of name state) x
     acts_ruled (call.Finishes name) x = number_ruled (call.Finishes name) (number_of name state) x
@@ -141,7 +141,7 @@ module _ (start : Image) where
   module _ (files : Files) where
     event_ruled : (e : Event) → IsSoundEvent e → (old new : Session) (journal notes : List Note) → Kept start old.machines journal → DoesEvent files e old notes new → AreRuled (past_of start journal) notes
     event_ruled (event.Host name uuid) sound old new journal notes kept x = does_ruled old.machines journal kept notes new.machines (call.Declares name uuid) x.0
-    event_ruled (event.Mkfs name fs unit log force) sound old new journal notes kept x = does_ruled old.machines journal kept notes new.machines (call.Makes name (mkfs_options fs unit log force)) x.0
+    event_ruled (event.Mkfs name fs unit log force) sound old new journal notes kept x = does_ruled old.machines journal kept notes new.machines (call.Makes name (mkfs_request fs unit log force)) x.0
     event_ruled (event.Begin name what) sound old new journal notes kept (inl x) = does_ruled old.machines journal kept notes new.machines (call.Begins name x.cmd) x.does
     event_ruled (event.Begin name what) sound old new journal notes kept (inr (inl x)) = refusal_ruled old.machines journal kept notes new.machines name x.cause x.notes_are
     event_ruled (event.Begin name what) sound old new journal notes kept (inr (inr x)) = does_ruled old.machines journal kept notes new.machines (call.Refuses name x.cause) x.does

@@ -6,7 +6,7 @@ use Rattle.std.specs.FinMap as finmap
 use Rattle.std.proofs.lemmas.List.{append-nil, append_assoc}
 use Rattle.std.proofs.lemmas.Option.{same_Some}
 use Rattle.fam_base.specs.Image.{Image}
-use Rattle.fam_base.specs.MkfsOptions.{mkfs_options}
+use Rattle.fam_machine.specs.MkfsRequest.{mkfs_request}
 use Rattle.fam_media.specs.Files.{Files}
 use Rattle.fam_journal.specs.declared.event.Ask.{Ask}
 use Rattle.fam_journal.specs.declared.event.Event.{Event}
@@ -69,12 +69,12 @@ module _ (start : Image) (state : Machines) (journal : List Note) (kept : Kept s
   act_kept : (c : Call) → IsSoundCall c → refusal_of c state ≡ None → (h : ℕ) → number_of (name_of c) state ≡ Some h → (d : Declared start state (record { hosts = kept.views; journal = journal }) h) → ActsAt c h d.host state notes new → Kept start new (journal ++ notes)
   unfolding refusal_of
   act_kept (call.Declares name uuid) sound free h number d x = absurd x
-  act_kept (call.Makes name options) sound free h number d (inl x) =
-      let may : makes_refusal options.unit options.log h state ≡ None = sym (ap (λ (o : Option ℕ). on_host o (λ h. makes_refusal options.unit options.log h state)) number) ∙ free in
-      kept_as start journal notes _ new _ x.notes_are x.left (made_kept start state journal kept h d options.fs options.unit options.log sound may)
-  act_kept (call.Makes name options) sound free h number d (inr x) =
-      let may : makes_refusal options.unit options.log h state ≡ None = sym (ap (λ (o : Option ℕ). on_host o (λ h. makes_refusal options.unit options.log h state)) number) ∙ free in
-      kept_as start journal notes _ new _ x.notes_are x.left (met_kept start state journal kept h d name (why.HasSuper x.other.fs) (enough_to_make start state journal kept h d options.unit options.log may))
+  act_kept (call.Makes name request) sound free h number d (inl x) =
+      let may : makes_refusal request.unit request.log h state ≡ None = sym (ap (λ (o : Option ℕ). on_host o (λ h. makes_refusal request.unit request.log h state)) number) ∙ free in
+      kept_as start journal notes _ new _ x.notes_are x.left (made_kept start state journal kept h d request.fs request.unit request.log sound may)
+  act_kept (call.Makes name request) sound free h number d (inr x) =
+      let may : makes_refusal request.unit request.log h state ≡ None = sym (ap (λ (o : Option ℕ). on_host o (λ h. makes_refusal request.unit request.log h state)) number) ∙ free in
+      kept_as start journal notes _ new _ x.notes_are x.left (met_kept start state journal kept h d name (why.HasSuper x.other.fs) (enough_to_make start state journal kept h d request.unit request.log may))
   act_kept (call.Begins name cmd) sound free h number d x =
       let may : begins_refusal h state ≡ None = sym (ap (λ (o : Option ℕ). on_host o (λ h. begins_refusal h state)) number) ∙ free in
       kept_as start journal notes _ new _ x.0 x.1 (begins_kept start state journal kept h d cmd sound may)
@@ -111,7 +111,7 @@ module _ (start : Image) (state : Machines) (journal : List Note) (kept : Kept s
   acts_kept : (c : Call) → IsSoundCall c → refusal_of c state ≡ None → Acts c state notes new → Kept start new (journal ++ notes)
   acts_kept (call.Declares name uuid) sound free x = kept_as start journal notes _ new _ x.0 x.1 (declared_kept start state journal kept name uuid sound free)
   acts_kept (call.Refuses name cause) sound free x = kept_as start journal notes _ new _ x.0 x.1 (refused_kept start state journal kept name cause)
-  acts_kept (call.Makes name options) sound free x = acts_of_kept (call.Makes name options) sound free x
+  acts_kept (call.Makes name request) sound free x = acts_of_kept (call.Makes name request) sound free x
   acts_kept (call.Begins name cmd) sound free x = acts_of_kept (call.Begins name cmd) sound free x
   acts_kept (call.Steps name) sound free x = acts_of_kept (call.Steps name) sound free x
   acts_kept (call.Finishes name) sound free x = acts_of_kept (call.Finishes name) sound free x
@@ -157,7 +157,7 @@ module _ (start : Image) (files : Files) where
 
   pub event_kept : (e : Event) → IsSoundEvent e → (old new : Session) (journal notes : List Note) → Kept start old.machines journal → DoesEvent files e old notes new → Kept start new.machines (journal ++ notes)
   event_kept (event.Host name uuid) sound old new journal notes kept x = does_kept start old.machines journal kept notes new.machines (call.Declares name uuid) sound x.0
-  event_kept (event.Mkfs name fs unit log force) sound old new journal notes kept x = does_kept start old.machines journal kept notes new.machines (call.Makes name (mkfs_options fs unit log force)) sound x.0
+  event_kept (event.Mkfs name fs unit log force) sound old new journal notes kept x = does_kept start old.machines journal kept notes new.machines (call.Makes name (mkfs_request fs unit log force)) sound x.0
   event_kept (event.Begin name what) sound old new journal notes kept (inl x) = begun_kept name what old new journal notes kept x
   event_kept (event.Begin name what) sound old new journal notes kept (inr x) = refused_event_kept name what old new journal notes kept x
   event_kept (event.Run name what) sound old new journal notes kept (inl x) = goes_kept Completes completes_kept name what old new journal notes kept x
@@ -207,7 +207,7 @@ cut_notes c old new notes x = by_number (number_of (name_of c) old) x.1
   where
     at_host : (c : Call) (h : ℕ) (host : HostState) → CutsAt c h host old notes new → (who : List ℕ) × (cause : Refusal) × (notes ≡ Refused who cause ∷ [])
     at_host (call.Declares name uuid) h host y = absurd y
-    at_host (call.Makes name options) h host y = (name, why.MediaFault y.line, y.notes_are)
+    at_host (call.Makes name request) h host y = (name, why.MediaFault y.line, y.notes_are)
     at_host (call.Begins name cmd) h host y = absurd y
     at_host (call.Steps name) h host y = absurd y
     at_host (call.Finishes name) h host y = absurd y
@@ -239,7 +239,7 @@ module _ (start : Image) (image : IsImage start) (files : Files) (events : List 
 
   broken_notes : (e : Event) (old new : Session) (notes : List Note) → BreaksEvent e old notes new → (name : List ℕ) × (cause : Refusal) × (notes ≡ Refused name cause ∷ [])
   broken_notes (event.Host name uuid) old new notes x = absurd x
-  broken_notes (event.Mkfs name fs unit log force) old new notes x = cut_notes (call.Makes name (mkfs_options fs unit log force)) old.machines new.machines notes x.0
+  broken_notes (event.Mkfs name fs unit log force) old new notes x = cut_notes (call.Makes name (mkfs_request fs unit log force)) old.machines new.machines notes x.0
   broken_notes (event.Begin name what) old new notes x = absurd x
   broken_notes (event.Run name what) old new notes x = absurd x
   broken_notes (event.Step name count) old new notes x = absurd x

@@ -8,7 +8,7 @@ use Rattle.fam_base.specs.declared.cmd.Cmd.{Cmd}
 use Rattle.fam_base.specs.declared.cmd.Cmd.TheVariants as cmd
 use Rattle.fam_base.specs.declared.entry.Entry.{Entry}
 use Rattle.fam_base.specs.declared.entry.Params.{Params}
-use Rattle.fam_base.specs.MkfsOptions.{mkfs_options}
+use Rattle.fam_machine.specs.MkfsRequest.{mkfs_request}
 use Rattle.fam_format.specs.declared.faults.SuperFault.{SuperFault}
 use Rattle.fam_machine.specs.declared.op.Op.{Op}
 use Rattle.fam_machine.specs.Operations.{Breaking, Failure, failed}
@@ -135,10 +135,10 @@ module _ (old : Machines) (a b : List Note) (m n : Machines) (clean_a : IsFaultl
 
   one_act_at : (c : Call) (h : ℕ) (host : HostState) → ActsAt c h host old a m → ActsAt c h host old b n → Same a b m n
   one_act_at (call.Declares name uuid) h host x y = absurd x
-  one_act_at (call.Makes name options) h host (inl x) (inl y) = same_by x.notes_are x.left y.notes_are y.left
-  one_act_at (call.Makes name options) h host (inl x) (inr y) = absurd (met_or_made options.force _ y.other x.free y.unforced y.stands)
-  one_act_at (call.Makes name options) h host (inr x) (inl y) = absurd (met_or_made options.force _ x.other y.free x.unforced x.stands)
-  one_act_at (call.Makes name options) h host (inr x) (inr y) = one_meeting h _ options.force name host x y
+  one_act_at (call.Makes name request) h host (inl x) (inl y) = same_by x.notes_are x.left y.notes_are y.left
+  one_act_at (call.Makes name request) h host (inl x) (inr y) = absurd (met_or_made request.force _ y.other x.free y.unforced y.stands)
+  one_act_at (call.Makes name request) h host (inr x) (inl y) = absurd (met_or_made request.force _ x.other y.free x.unforced x.stands)
+  one_act_at (call.Makes name request) h host (inr x) (inr y) = one_meeting h _ request.force name host x y
   one_act_at (call.Begins name c) h host x y = same_by x.0 x.1 y.0 y.1
   one_act_at (call.Steps name) h host x y = one_operation h old a b m n x y clean_a clean_b
   one_act_at (call.Finishes name) h host x y = one_complete h old a b m n x y clean_a clean_b
@@ -160,7 +160,7 @@ module _ (old : Machines) (a b : List Note) (m n : Machines) (clean_a : IsFaultl
   one_act : (c : Call) → Acts c old a m → Acts c old b n → Same a b m n
   one_act (call.Declares name uuid) x y = same_by x.0 x.1 y.0 y.1
   one_act (call.Refuses name cause) x y = same_by x.0 x.1 y.0 y.1
-  one_act (call.Makes name options) x y = at_number (call.Makes name options) (number_of name old) x y
+  one_act (call.Makes name request) x y = at_number (call.Makes name request) (number_of name old) x y
   one_act (call.Begins name c) x y = at_number (call.Begins name c) (number_of name old) x y
   one_act (call.Steps name) x y = at_number (call.Steps name) (number_of name old) x y
   one_act (call.Finishes name) x y = at_number (call.Finishes name) (number_of name old) x y
@@ -280,7 +280,7 @@ module _ (one_listing : OneListing) where
 
   one_event : (files : Files) (e : Event) (old : Session) (a b : List Note) (m n : Session) → IsFaultless a → IsFaultless b → DoesEvent files e old a m → DoesEvent files e old b n → AreSame a b m n
   one_event files (event.Host name uuid) old a b m n clean_a clean_b x y = one_plain files old a b m n clean_a clean_b (call.Declares name uuid) x y
-  one_event files (event.Mkfs name fs unit log force) old a b m n clean_a clean_b x y = one_plain files old a b m n clean_a clean_b (call.Makes name (mkfs_options fs unit log force)) x y
+  one_event files (event.Mkfs name fs unit log force) old a b m n clean_a clean_b x y = one_plain files old a b m n clean_a clean_b (call.Makes name (mkfs_request fs unit log force)) x y
   one_event files (event.Begin name what) old a b m n clean_a clean_b (inl x) (inl y) = one_begun files old a b m n clean_a clean_b name what x y
   one_event files (event.Begin name what) old a b m n clean_a clean_b (inl x) (inr y) = absurd (begun_or_refused files name what old a b m n x y)
   one_event files (event.Begin name what) old a b m n clean_a clean_b (inr x) (inl y) = absurd (begun_or_refused files name what old b a n m y x)

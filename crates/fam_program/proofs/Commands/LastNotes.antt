@@ -132,22 +132,22 @@ host_end test name uuid lines journal refused stops f =
     (declared_end test name uuid f.0 (refusal_told (call.Declares name uuid) lines []) refused (subst (λ (ns : List Note). last_stops ns ≡ true) alone stops) f.2)
 
 -- a file system is made, or there is a cause why not
-module _ (name : List ℕ) (options : MkfsOptions) (lines : ℕ) where
-  acts_end : (h : ℕ) (hosts : List HostForm) (notes : List Note) (o : Option HostForm) → OfHostForm o (λ host. ActsForm (call.Makes name options) h host lines hosts notes) → last_passes ends_mkfs notes ≡ true
+module _ (name : List ℕ) (request : MkfsRequest) (lines : ℕ) where
+  acts_end : (h : ℕ) (hosts : List HostForm) (notes : List Note) (o : Option HostForm) → OfHostForm o (λ host. ActsForm (call.Makes name request) h host lines hosts notes) → last_passes ends_mkfs notes ≡ true
   acts_end h hosts notes None x = absurd x
-  acts_end h hosts notes (Some host) (inl x) = only ends_mkfs (Made h (asked options host.uuid lines)) notes x refl
+  acts_end h hosts notes (Some host) (inl x) = only ends_mkfs (Made h (asked request host.uuid lines)) notes x refl
   acts_end h hosts notes (Some host) (inr x) = only ends_mkfs (Refused name (why.HasSuper x.fs)) notes x.notes_are refl
 
-  at_end : (hosts : List HostForm) (notes : List Note) (o : Option ℕ) → AtForm o hosts (λ h host. ActsForm (call.Makes name options) h host lines hosts notes) → last_passes ends_mkfs notes ≡ true
+  at_end : (hosts : List HostForm) (notes : List Note) (o : Option ℕ) → AtForm o hosts (λ h host. ActsForm (call.Makes name request) h host lines hosts notes) → last_passes ends_mkfs notes ≡ true
   at_end hosts notes None x = absurd x
   at_end hosts notes (Some h) x = acts_end h hosts notes (slice_get hosts h) x
 
-  making_end : (hosts : List HostForm) (notes : List Note) (o : Option Refusal) → FormByRefusal name o notes (HostActsForm (call.Makes name options) lines hosts notes ⊎ DirtyForm name lines hosts notes) → last_passes ends_mkfs notes ≡ true
+  making_end : (hosts : List HostForm) (notes : List Note) (o : Option Refusal) → FormByRefusal name o notes (HostActsForm (call.Makes name request) lines hosts notes ⊎ DirtyForm name lines hosts notes) → last_passes ends_mkfs notes ≡ true
   making_end hosts notes None (inl x) = at_end hosts notes (number_of name (shown_forms lines hosts)) x
   making_end hosts notes None (inr x) = only ends_mkfs (Refused name (why.Dirty (record { 0 = x.dirty }))) notes x.notes_are refl
   making_end hosts notes (Some cause) x = only ends_mkfs (Refused name cause) notes x refl
 
-  pub mkfs_end : (hosts : List HostForm) (journal : List Note) → FollowsForm lines (event.Mkfs name options.fs options.unit options.log options.force ∷ []) hosts journal → last_passes ends_mkfs journal ≡ true
+  pub mkfs_end : (hosts : List HostForm) (journal : List Note) → FollowsForm lines (event.Mkfs name request.fs request.unit request.log request.force ∷ []) hosts journal → last_passes ends_mkfs journal ≡ true
   mkfs_end hosts journal f =
       let alone : journal ≡ f.0 = f.4 ∙ ap (λ (ns : List Note). f.0 ++ ns) f.3 ∙ append-nil f.0 in
-      subst (λ (ns : List Note). last_passes ends_mkfs ns ≡ true) (sym alone) (making_end hosts f.0 (refusal_told (call.Makes name options) lines hosts) f.2)
+      subst (λ (ns : List Note). last_passes ends_mkfs ns ≡ true) (sym alone) (making_end hosts f.0 (refusal_told (call.Makes name request) lines hosts) f.2)

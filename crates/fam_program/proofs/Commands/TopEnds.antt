@@ -4,7 +4,7 @@ use Rattle.std.proofs.Common.{◌≡◌, ◌⊎◌, ℕ, inl, inr, Bool, true, f
 use Rattle.std.specs.Prelude.{⊤, OnOk}
 use Rattle.std.proofs.lemmas.Bool.{false≢true}
 use Rattle.std.proofs.lemmas.List.{take_all}
-use Rattle.fam_base.specs.declared.entry.MkfsOptions.{MkfsOptions}
+use Rattle.fam_machine.specs.declared.request.MkfsRequest.{MkfsRequest}
 use Rattle.fam_grammar.specs.Scripts.{script_events}
 use Rattle.fam_rules.specs.Reply as reply
 use Rattle.fam_rules.specs.Reply.{Reply}
@@ -119,7 +119,7 @@ parents_told journal = by_stop (last_stops journal)
     by_stop false = refl
 
 done_told : (shot : OneShot) (journal : List Note) → is_lost (done_status shot journal) ≡ false
-done_told (Makes options) journal = last_told journal
+done_told (Makes request) journal = last_told journal
 done_told (Runs what) journal = last_told journal
 done_told (MakesParents path attr) journal = parents_told journal
 
@@ -129,7 +129,7 @@ done_own shot journal e = absurd (let told : false ≡ true = sym (done_told sho
 -- What is spared where no memory is left.
 
 own_spares : (shot : OneShot) (own : Status) (out : Outside) → (own ≡ status.OutOfMemory → ⊥) → SparesImage shot own out
-own_spares (Makes options) own out other = tt
+own_spares (Makes request) own out other = tt
 own_spares (Runs what) own out other = λ e. absurd (other e)
 own_spares (MakesParents path attr) own out other = tt
 
@@ -138,12 +138,12 @@ done_spares shot journal out = own_spares shot (done_status shot journal) out (�
 
 -- a run of one command
 abbrev pub SparedRun : OneShot → Outside → Type 0 → Type 0
-SparedRun (Makes options) out lacks = ⊤
+SparedRun (Makes request) out lacks = ⊤
 SparedRun (Runs what) out lacks = lacks → LeavesImage out
 SparedRun (MakesParents path attr) out lacks = ⊤
 
 lack_spares : (shot : OneShot) (own : Status) (out : Outside) (lacks : Type 0) → SparedRun shot out lacks → lacks → SparesImage shot own out
-lack_spares (Makes options) own out lacks spared lack = tt
+lack_spares (Makes request) own out lacks spared lack = tt
 lack_spares (Runs what) own out lacks spared lack = λ e. spared lack
 lack_spares (MakesParents path attr) own out lacks spared lack = tt
 
@@ -255,9 +255,9 @@ module _ (name me : List ℕ) (out : Outside) (journal : List Note) where
           behind_first ends_command (event.Host name me) (event.Run name what ∷ []) out.lines [] journal (λ hosts notes f. runs_end name (λ (w : Ask). w) what [] out.lines hosts notes f)
           (subst (λ (es : List Event). FollowsForm out.lines es [] journal) (x.all is) x.ended.form)
 
-  module _ (options : MkfsOptions) where
+  module _ (request : MkfsRequest) where
     abbrev makes : OneShot
-    makes = Makes options
+    makes = Makes request
 
     mkfs_ends : HasStopped out (alone_events name me makes) journal → last_passes ends_mkfs journal ≡ true
     mkfs_ends x = by_count x.count refl
@@ -276,11 +276,11 @@ module _ (name me : List ℕ) (out : Outside) (journal : List Note) where
         by_count zero is = absurd (none_done name me makes out journal x is)
         by_count (suc zero) is = by_stop (last_stops journal) refl is
         by_count (suc (suc k)) is =
-            behind_first ends_mkfs (event.Host name me) (event.Mkfs name options.fs options.unit options.log options.force ∷ []) out.lines [] journal (mkfs_end name options out.lines)
-            (subst (λ (es : List Event). FollowsForm out.lines (event.Host name me ∷ event.Mkfs name options.fs options.unit options.log options.force ∷ es) [] journal) (take_none k) (form_at (suc (suc k)) is))
+            behind_first ends_mkfs (event.Host name me) (event.Mkfs name request.fs request.unit request.log request.force ∷ []) out.lines [] journal (mkfs_end name request out.lines)
+            (subst (λ (es : List Event). FollowsForm out.lines (event.Host name me ∷ event.Mkfs name request.fs request.unit request.log request.force ∷ es) [] journal) (take_none k) (form_at (suc (suc k)) is))
 
   shot_ends : (shot : OneShot) → HasStopped out (alone_events name me shot) journal → last_passes (ends_shot shot) journal ≡ true
-  shot_ends (Makes options) x = mkfs_ends options x
+  shot_ends (Makes request) x = mkfs_ends request x
   shot_ends (Runs what) x = command_ends what x
   shot_ends (MakesParents path attr) x = parents_end name me path attr out journal x
 
@@ -291,8 +291,8 @@ module _ (name me : List ℕ) (out : Outside) (journal : List Note) where
   module _ (given : Status) (fact : Type 0) where
     -- the media failed in a mkfs
     broken : (shot : OneShot) → HasEnded MkfsFails out (alone_events name me shot) journal → GoesOn journal → LastSays status.MediaFault journal out.sink given → Ran me shot out journal fact given
-    broken (Makes options) x goes (inl put) = ran name me (Makes options) out journal given fact MkfsFails (alone_events name me (Makes options)) (shown journal) x (whole name me (Makes options) out journal goes, refl) media_own tt put (λ e. absurd cc)
-    broken (Makes options) x goes (inr put) = absurd (false≢true (sym put.1 ∙ fault_short x.caused))
+    broken (Makes request) x goes (inl put) = ran name me (Makes request) out journal given fact MkfsFails (alone_events name me (Makes request)) (shown journal) x (whole name me (Makes request) out journal goes, refl) media_own tt put (λ e. absurd cc)
+    broken (Makes request) x goes (inr put) = absurd (false≢true (sym put.1 ∙ fault_short x.caused))
     broken (Runs what) x goes put = absurd (none_breaks name me (λ (w : Ask). w) (what ∷ []) out journal x)
     broken (MakesParents path attr) x goes put = absurd (none_breaks name me (makes_one attr) (path_prefixes path) out journal x)
 

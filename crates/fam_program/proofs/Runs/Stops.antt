@@ -4,8 +4,8 @@ use Rattle.std.specs.Prelude.{◌||◌, slice_get}
 use Rattle.std.specs.List.{list_any}
 use Rattle.std.proofs.lemmas.List.{append-nil}
 use Rattle.fam_base.specs.declared.cmd.Cmd.{Cmd}
-use Rattle.fam_base.specs.declared.entry.MkfsOptions.{MkfsOptions}
-use Rattle.fam_base.specs.MkfsOptions.{mkfs_options}
+use Rattle.fam_machine.specs.declared.request.MkfsRequest.{MkfsRequest}
+use Rattle.fam_machine.specs.MkfsRequest.{mkfs_request}
 use Rattle.fam_journal.specs.declared.event.Ask.{Ask}
 use Rattle.fam_journal.specs.declared.event.Event.{Event}
 use Rattle.fam_journal.specs.declared.event.Event.TheVariants as event
@@ -101,17 +101,17 @@ declared name uuid notes None x = alone (Host name uuid) notes x
 declared name uuid notes (Some cause) x = alone (Refused name cause) notes x
 
 -- a file system is made or not: of either there is one note
-module _ (name : List ℕ) (options : MkfsOptions) (lines : ℕ) (hosts : List HostForm) (notes : List Note) where
-  acts : (h : ℕ) (o : Option HostForm) → OfHostForm o (λ host. ActsForm (call.Makes name options) h host lines hosts notes) → GoesOn notes
+module _ (name : List ℕ) (request : MkfsRequest) (lines : ℕ) (hosts : List HostForm) (notes : List Note) where
+  acts : (h : ℕ) (o : Option HostForm) → OfHostForm o (λ host. ActsForm (call.Makes name request) h host lines hosts notes) → GoesOn notes
   acts h None x = absurd x
-  acts h (Some host) (inl x) = alone (Made h (asked options host.uuid lines)) notes x
+  acts h (Some host) (inl x) = alone (Made h (asked request host.uuid lines)) notes x
   acts h (Some host) (inr x) = alone (Refused name (why.HasSuper x.fs)) notes x.notes_are
 
-  acts_at : (o : Option ℕ) → AtForm o hosts (λ h host. ActsForm (call.Makes name options) h host lines hosts notes) → GoesOn notes
+  acts_at : (o : Option ℕ) → AtForm o hosts (λ h host. ActsForm (call.Makes name request) h host lines hosts notes) → GoesOn notes
   acts_at None x = absurd x
   acts_at (Some h) x = acts h (slice_get hosts h) x
 
-  made : (o : Option Refusal) → FormByRefusal name o notes (HostActsForm (call.Makes name options) lines hosts notes ⊎ DirtyForm name lines hosts notes) → GoesOn notes
+  made : (o : Option Refusal) → FormByRefusal name o notes (HostActsForm (call.Makes name request) lines hosts notes ⊎ DirtyForm name lines hosts notes) → GoesOn notes
   made None (inl x) = acts_at (number_of name (shown_forms lines hosts)) x
   made None (inr x) = alone (Refused name (why.Dirty (record { 0 = x.dirty }))) notes x.notes_are
   made (Some cause) x = alone (Refused name cause) notes x
@@ -119,7 +119,7 @@ module _ (name : List ℕ) (options : MkfsOptions) (lines : ℕ) (hosts : List H
 -- an event that is done
 pub step_goes : (e : Event) → IsShotEvent e → (lines : ℕ) (hosts : List HostForm) (notes : List Note) → EventForm e lines hosts notes → GoesOn notes
 step_goes (event.Host name uuid) is lines hosts notes x = declared name uuid notes (refusal_told (call.Declares name uuid) lines hosts) x
-step_goes (event.Mkfs name fs unit log force) is lines hosts notes x = made name (mkfs_options fs unit log force) lines hosts notes (refusal_told (call.Makes name (mkfs_options fs unit log force)) lines hosts) x
+step_goes (event.Mkfs name fs unit log force) is lines hosts notes x = made name (mkfs_request fs unit log force) lines hosts notes (refusal_told (call.Makes name (mkfs_request fs unit log force)) lines hosts) x
 step_goes (event.Begin name what) is lines hosts notes x = absurd is
 step_goes (event.Run name what) is lines hosts notes x = begun name what lines hosts notes (may_begin name (shown_forms lines hosts)) x
 step_goes (event.Step name count) is lines hosts notes x = absurd is

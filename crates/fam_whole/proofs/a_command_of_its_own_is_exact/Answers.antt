@@ -18,10 +18,10 @@ returns c = record {
         | inl memory ↦ inl memory
         | inr x ↦ inr (ask_ends start me what files out given image me_sound x)
       ];
-  mkfs = λ grammar storms out given me options files start none top told_start told image me_sound fs_sound.
-      elim (shot_run out none me (Makes options) start files told_start told image me_sound fs_sound grammar storms given top) [
+  mkfs = λ grammar storms out given me request files start none top told_start told image me_sound fs_sound.
+      elim (shot_run out none me (Makes request) start files told_start told image me_sound fs_sound grammar storms given top) [
         | inl memory ↦ inl memory
-        | inr x ↦ inr (mkfs_ends start me options files out given image me_sound x)
+        | inr x ↦ inr (mkfs_ends start me request files out given image me_sound x)
       ];
   parents = λ grammar storms out given me path attr files start none top told_start told image me_sound.
       elim (shot_run out none me (MakesParents path attr) start files told_start told image me_sound tt grammar storms given top) [

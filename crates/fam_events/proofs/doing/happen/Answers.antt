@@ -1,5 +1,5 @@
 use Rattle.std.proofs.Common.{refl, subst, sym}
-use Rattle.fam_base.specs.MkfsOptions.{mkfs_options}
+use Rattle.fam_machine.specs.MkfsRequest.{mkfs_request}
 use Rattle.fam_media.specs.States.{change, ShelfChange}
 use Rattle.fam_journal.specs.declared.event.Event.{Event}
 use Rattle.fam_journal.specs.declared.event.Event.TheVariants as event
@@ -23,7 +23,7 @@ returns-in-Mkfs-clause-says g c =
     let shelf : ShelfChange = change g.S.Shelf.state c.args.shelf.now c.args.shelf.now in
     let a : Around = around g.M.Media.size g.M.Media.state c.args.media.now c.make.new.media c.args.world.now c.make.new.world (g.S.Shelf.state c.args.shelf.now).files c.args.copied.now c.args.copied.now in
     subst (λ (e : Event). EventSays e shelf a c.make.result) (sym c.in-Mkfs.is)
-    (event_says (event.Mkfs c.in-Mkfs.name c.in-Mkfs.fs c.in-Mkfs.unit c.in-Mkfs.log c.in-Mkfs.force) (call.Makes c.in-Mkfs.name (mkfs_options c.in-Mkfs.fs c.in-Mkfs.unit c.in-Mkfs.log c.in-Mkfs.force)) shelf a (mkfs_call c.in-Mkfs.name (mkfs_options c.in-Mkfs.fs c.in-Mkfs.unit c.in-Mkfs.log c.in-Mkfs.force)) refl c.make.result (c.make.ensures.says (g.S.Shelf.state c.args.shelf.now).files c.args.copied.now))
+    (event_says (event.Mkfs c.in-Mkfs.name c.in-Mkfs.fs c.in-Mkfs.unit c.in-Mkfs.log c.in-Mkfs.force) (call.Makes c.in-Mkfs.name (mkfs_request c.in-Mkfs.fs c.in-Mkfs.unit c.in-Mkfs.log c.in-Mkfs.force)) shelf a (mkfs_call c.in-Mkfs.name (mkfs_request c.in-Mkfs.fs c.in-Mkfs.unit c.in-Mkfs.log c.in-Mkfs.force)) refl c.make.result (c.make.ensures.says (g.S.Shelf.state c.args.shelf.now).files c.args.copied.now))
 
 pub returns-in-Step-clause-says : goal.returns-in-Step-clause-says
 returns-in-Step-clause-says g c =

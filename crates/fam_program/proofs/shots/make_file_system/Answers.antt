@@ -19,7 +19,7 @@ returns-in_default-clause-ends g c =
     let sink : SinkChange = change g.K.Sink.state c.args.out.now c.put_memory.new.out in
     let out : Outside = outside_of g.M.Media.size g.M.Media.state c.args.media.now c.args.media.now (change g.S.Shelf.state c.args.shelf.now c.args.shelf.now) sink in
     let later : NoneFalls out = record { media = omega arith; shelf = omega arith; shorts = omega arith; sink = c.put_memory.ensures.later } in
-    early_wants (Some (Single c.args.me (Makes c.args.options))) out c.put_memory.result refl later c.put_memory.ensures.put
+    early_wants (Some (Single c.args.me (Makes c.args.request))) out c.put_memory.result refl later c.put_memory.ensures.put
 
 pub run_until_stop-ended-requires-clause-fresh : goal.run_until_stop-ended-requires-clause-fresh
 run_until_stop-ended-requires-clause-fresh g c = c.new-world.ensures
@@ -42,7 +42,7 @@ returns-clause-ends g c =
     let out : Outside = outside_of g.M.Media.size g.M.Media.state c.args.media.now c.run_until_stop-ended.new.media (change g.S.Shelf.state c.args.shelf.now c.run_until_stop-ended.new.shelf) sink in
     let later : NoneFalls out = record { media = c.run_until_stop-ended.ensures.steady.later; shelf = c.run_until_stop-ended.ensures.shelf.faults_later; shorts = c.run_until_stop-ended.ensures.shelf.shorts_later; sink = c.put_end.ensures.later } in
     let journal : List Note = c.run_until_stop-ended.new.world.journal in
-    let shot : OneShot = Makes c.args.options in
+    let shot : OneShot = Makes c.args.request in
     let done : c.last_status-done.result ≡ last_status journal = c.last_status-done.ensures ∙ ap last_status c.journal.ensures in
     shot_top c.own_name-name.result c.args.me out journal c.put_end.result later shot c.run_until_stop-ended.result tt
     (subst (λ (es : List Event). ShotEnded c.run_until_stop-ended.result out es journal) c.in-Ok.ensures (c.run_until_stop-ended.ensures.ended sink))

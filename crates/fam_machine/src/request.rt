@@ -1,0 +1,16 @@
+//! What a mkfs is asked for.
+
+use uuid::Uuid;
+
+/// What a mkfs is asked for. Lengths are in bytes.
+#[derive(Clone, Copy)]
+pub struct MkfsRequest {
+    /// The UUID of the file system (RFC 9562).
+    pub fs: Uuid,
+    /// The bytes of an allocation unit.
+    pub unit: u64,
+    /// The bytes of the log with its header.
+    pub log: u64,
+    /// Whether a file system that stands there is written over.
+    pub force: bool,
+}
