@@ -11,6 +11,7 @@ use Rattle.fam_journal.specs.Past.{past_of}
 use Rattle.fam_format.specs.Layout.{least_lines}
 use Rattle.fam_format.specs.Stop.{or_else}
 use Rattle.fam_format.specs.Params.{IsUuid, SoundParams, is_log_length, is_unit, need}
+use Rattle.fam_machine.specs.declared.request.MkfsRequest.{MkfsRequest}
 use Rattle.fam_machine.specs.Caches.{Cache, dirty_count}
 use Rattle.fam_machine.specs.Operations.{Breaking, IsInImage, Failure, Machine, failed, given, operated_all}
 use Rattle.fam_machine.specs.declared.op.Op.{Op}
@@ -232,12 +233,12 @@ module _ (start : Image) (state : Machines) (journal : List Note) (kept : Kept s
         let enough : least_lines ≤ length state.memory = at_most least_lines (length state.memory) (no_when _ _ (or_first _ _ free)) in
         record { views = _; held = begun_held start state world held h d cmd command (omega (arith, enough, held.lines)); uuids = uuids_kept h _ (λ z. refl) state.hosts kept.uuids }
 
-    makes_sound : (fs : List ℕ) (unit log : ℕ) → IsUuid fs → makes_refusal unit log h state ≡ None → SoundParams (asked request d.host.uuid (length state.memory))
-    makes_sound fs unit log uuid free =
-        let may = may_make unit log h state free in
+    makes_sound : (request : MkfsRequest) → IsUuid request.fs → makes_refusal request.unit request.log h state ≡ None → SoundParams (asked request d.host.uuid (length state.memory))
+    makes_sound request uuid free =
+        let may = may_make request.unit request.log h state free in
         record {
-          unit = both_first (is_unit unit) (is_log_length unit log) may.form;
-          log_length = both_next (is_unit unit) (is_log_length unit log) may.form;
+          unit = both_first (is_unit request.unit) (is_log_length request.unit request.log) may.form;
+          log_length = both_next (is_unit request.unit) (is_log_length request.unit request.log) may.form;
           slots = refl;
           need = may.room;
           device = omega (arith, held.limit, held.lines);
@@ -245,15 +246,15 @@ module _ (start : Image) (state : Machines) (journal : List Note) (kept : Kept s
           master = kept.uuids h d.host d.host_is;
         }
 
-    pub made_kept : (fs : List ℕ) (unit log : ℕ) → IsUuid fs → makes_refusal unit log h state ≡ None
+    pub made_kept : (request : MkfsRequest) → IsUuid request.fs → makes_refusal request.unit request.log h state ≡ None
         → Kept start (with_machine h (operated_all (mkfs_ops (asked request d.host.uuid (length state.memory))) (machine_of state d.host)) d.host.task state) (journal ++ Rattle.fam_journal.specs.Notes.Made h (asked request d.host.uuid (length state.memory)) ∷ [])
-    made_kept fs unit log uuid free =
+    made_kept request uuid free =
         let p = asked request d.host.uuid (length state.memory) in
-        let may = may_make unit log h state free in
+        let may = may_make request.unit request.log h state free in
         record {
           views = _;
           held = subst (λ (z : Machine). Agrees start (with_machine h (operated_all (mkfs_ops p) z) d.host.task state) (record { hosts = changed_at h (λ v. record v { cache = (operated_all (mkfs_ops p) z).cache }) kept.views; journal = journal ++ Rattle.fam_journal.specs.Notes.Made h p ∷ [] }) (operated_all (mkfs_ops p) z).image) (sym same_cache)
-              (made_held start state world held h d p (makes_sound fs unit log uuid free) refl (sym d.stands.uuid)
+              (made_held start state world held h d p (makes_sound request uuid free) refl (sym d.stands.uuid)
               (λ k v is. let host = view_of k v is in idle_of (length start) host.0 v host.2 (none_passes is_busy state.hosts 0 may.busy k host.0 host.1))
               (λ k v ne is l. let host = view_of k v is in none_dirty v.cache (ap dirty_count (sym host.2.cache) ∙ none_dirty_from h state.hosts 0 may.dirty k host.0 host.1 (λ e. ne (zero_plus k ∙ e))) l));
           uuids = uuids_kept h _ (λ z. refl) state.hosts kept.uuids;

@@ -71,7 +71,7 @@ module _ (start : Image) (state : Machines) (journal : List Note) (kept : Kept s
   act_kept (call.Declares name uuid) sound free h number d x = absurd x
   act_kept (call.Makes name request) sound free h number d (inl x) =
       let may : makes_refusal request.unit request.log h state ≡ None = sym (ap (λ (o : Option ℕ). on_host o (λ h. makes_refusal request.unit request.log h state)) number) ∙ free in
-      kept_as start journal notes _ new _ x.notes_are x.left (made_kept start state journal kept h d request.fs request.unit request.log sound may)
+      kept_as start journal notes _ new _ x.notes_are x.left (made_kept start state journal kept h d request sound may)
   act_kept (call.Makes name request) sound free h number d (inr x) =
       let may : makes_refusal request.unit request.log h state ≡ None = sym (ap (λ (o : Option ℕ). on_host o (λ h. makes_refusal request.unit request.log h state)) number) ∙ free in
       kept_as start journal notes _ new _ x.notes_are x.left (met_kept start state journal kept h d name (why.HasSuper x.other.fs) (enough_to_make start state journal kept h d request.unit request.log may))
