@@ -6,6 +6,7 @@ use Rattle.fam_base.specs.declared.entry.Params.{Params}
 use Rattle.fam_base.specs.declared.entry.Entry.{Entry}
 use Rattle.fam_base.specs.PathOrder.{path_eq}
 use Rattle.fam_format.specs.Tree.{join_fault}
+use Rattle.fam_commands.specs.Classes.{Class, class_of, Replays, Appends, Compares, Reads, Surveys}
 
 -- the file system that was replayed, and its first entries
 pub record Kept : Type 0 where
@@ -32,16 +33,17 @@ used_by None p gate = []
 used_by (Some k) p gate = if is_same_params k.params p && nat_le (length k.entries) gate then k.entries else []
 
 -- the entries that a command begins with, once it has read superblock and gate: a check of the whole file system
--- looks at every slot
-unfoldable pub used : Option Kept → Cmd → Params → ℕ → List Entry
-used kept Fsck p gate = []
-used kept Logplay p gate = used_by kept p gate
-used kept (Mkdir path attr) p gate = used_by kept p gate
-used kept (Creat path size attr stripe fill) p gate = used_by kept p gate
-used kept (Cp path attr stripe bytes) p gate = used_by kept p gate
-used kept (Verify path against) p gate = used_by kept p gate
-used kept (Read path offset count) p gate = used_by kept p gate
-used kept (Check listing) p gate = used_by kept p gate
+-- looks at every slot; by the class of the command
+unfoldable pub used_in : Option Kept → Class → Params → ℕ → List Entry
+used_in kept Surveys p gate = []
+used_in kept Replays p gate = used_by kept p gate
+used_in kept Appends p gate = used_by kept p gate
+used_in kept (Compares path against) p gate = used_by kept p gate
+used_in kept (Reads path offset count) p gate = used_by kept p gate
+
+-- of a command
+abbrev pub used : Option Kept → Cmd → Params → ℕ → List Entry
+used kept cmd p gate = used_in kept (class_of cmd) p gate
 
 -- how many of them there are: the first slot that is read
 abbrev pub first_slot : Option Kept → Cmd → Params → ℕ → ℕ

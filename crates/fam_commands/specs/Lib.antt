@@ -1,3 +1,4 @@
+pub mod Classes
 pub mod Kept
 pub mod Task
 pub mod Turns

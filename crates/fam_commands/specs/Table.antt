@@ -32,6 +32,7 @@ use Rattle.fam_machine.specs.declared.op.Op.TheVariants.{Load, Store, WriteBack,
 use Rattle.fam_machine.specs.Operations.{line_no, load_ops, store_ops}
 use Rattle.fam_commands.specs.Kept.{Kept, used}
 use Rattle.fam_commands.specs.Task.{no_params, first_line, wanted_lines, content_of}
+use Rattle.fam_commands.specs.Classes.{Class, class_of, is_fsck, Replays, Appends, Compares, Reads, Surveys}
 
 -- what comes with an operation
 pub data RowNote : Type 0 where
@@ -132,16 +133,17 @@ fed_files words p first cmd entries =
 
 -- What is noted.
 
--- a reply on a damaged image: a check of the whole file system reports
+-- a reply on a damaged image: a check of the whole file system reports; by the class of the command
+abbrev pub fault_reply_in : Class → List ℕ → ℕ → Reply → Reply
+fault_reply_in Surveys words lines other = reply.Reports (report_of (fed_head words) (line_bytes * lines))
+fault_reply_in Replays words lines other = other
+fault_reply_in Appends words lines other = other
+fault_reply_in (Compares path against) words lines other = other
+fault_reply_in (Reads path offset count) words lines other = other
+
+-- of a command
 abbrev pub fault_reply : Cmd → List ℕ → ℕ → Reply → Reply
-fault_reply Fsck words lines other = reply.Reports (report_of (fed_head words) (line_bytes * lines))
-fault_reply Logplay words lines other = other
-fault_reply (Mkdir path attr) words lines other = other
-fault_reply (Creat path size attr stripe fill) words lines other = other
-fault_reply (Cp path attr stripe bytes) words lines other = other
-fault_reply (Verify path against) words lines other = other
-fault_reply (Read path offset count) words lines other = other
-fault_reply (Check listing) words lines other = other
+fault_reply cmd words lines other = fault_reply_in (class_of cmd) words lines other
 
 -- with the load of the magic
 abbrev pub magic_note : Cmd → List ℕ → ℕ → Option SuperFault → RowNote
@@ -184,16 +186,17 @@ reading_note (BadHeader fault) = Quiet
 reading_note (BadSlot i reason) = Answer (reply.BadSlot i reason)
 reading_note (Sound p entries) = Quiet
 
--- with the Digest of slot i: a check of the whole file system goes on
+-- with the Digest of slot i: a check of the whole file system goes on; by the class of the command
+abbrev pub slot_note_in : Class → List ℕ → Params → List Entry → ℕ → RowNote
+slot_note_in Surveys words p used i = Quiet
+slot_note_in Replays words p used i = reading_note (fed_slots words p used (i + 1))
+slot_note_in Appends words p used i = reading_note (fed_slots words p used (i + 1))
+slot_note_in (Compares path against) words p used i = reading_note (fed_slots words p used (i + 1))
+slot_note_in (Reads path offset count) words p used i = reading_note (fed_slots words p used (i + 1))
+
+-- of a command
 abbrev pub slot_note : Cmd → List ℕ → Params → List Entry → ℕ → RowNote
-slot_note Fsck words p used i = Quiet
-slot_note Logplay words p used i = reading_note (fed_slots words p used (i + 1))
-slot_note (Mkdir path attr) words p used i = reading_note (fed_slots words p used (i + 1))
-slot_note (Creat path size attr stripe fill) words p used i = reading_note (fed_slots words p used (i + 1))
-slot_note (Cp path attr stripe bytes) words p used i = reading_note (fed_slots words p used (i + 1))
-slot_note (Verify path against) words p used i = reading_note (fed_slots words p used (i + 1))
-slot_note (Read path offset count) words p used i = reading_note (fed_slots words p used (i + 1))
-slot_note (Check listing) words p used i = reading_note (fed_slots words p used (i + 1))
+slot_note cmd words p used i = slot_note_in (class_of cmd) words p used i
 
 -- an answer, where there is one
 abbrev pub answer_or : Option Reply → RowNote
@@ -212,16 +215,17 @@ fits_given content.Zero size = true
 fits_given (content.Seed seed) size = true
 fits_given (content.Bytes given) size = length given == size
 
--- so are those that a command compares with
+-- so are those that a command compares with; by the class of the command
+abbrev pub fits_content_in : Class → ℕ → Bool
+fits_content_in (Compares path against) size = fits_given against size
+fits_content_in Replays size = true
+fits_content_in Appends size = true
+fits_content_in (Reads path offset count) size = true
+fits_content_in Surveys size = true
+
+-- of a command
 abbrev pub fits_content : Cmd → ℕ → Bool
-fits_content (Verify path against) size = fits_given against size
-fits_content Logplay size = true
-fits_content (Mkdir path attr) size = true
-fits_content (Creat path wished attr stripe fill) size = true
-fits_content (Cp path attr stripe bytes) size = true
-fits_content (Read path offset count) size = true
-fits_content (Check listing) size = true
-fits_content Fsck size = true
+fits_content cmd size = fits_content_in (class_of cmd) size
 
 -- lines of the file are to be read
 abbrev pub reads_kind : Kind → Cmd → ℕ → Bool
@@ -232,16 +236,17 @@ abbrev pub reads_file : Cmd → Option File → Bool
 reads_file cmd None = false
 reads_file cmd (Some f) = reads_kind f.entry.kind cmd f.entry.size
 
--- which file a command reads
+-- which file a command reads; by the class of the command
+abbrev pub wanted_file_in : Class → List File → Option File
+wanted_file_in (Compares path against) files = file_at files path
+wanted_file_in (Reads path offset count) files = file_at files path
+wanted_file_in Replays files = None
+wanted_file_in Appends files = None
+wanted_file_in Surveys files = None
+
+-- of a command
 abbrev pub wanted_file : Cmd → List File → Option File
-wanted_file (Verify path against) files = file_at files path
-wanted_file (Read path offset count) files = file_at files path
-wanted_file Logplay files = None
-wanted_file (Mkdir path attr) files = None
-wanted_file (Creat path size attr stripe fill) files = None
-wanted_file (Cp path attr stripe bytes) files = None
-wanted_file (Check listing) files = None
-wanted_file Fsck files = None
+wanted_file cmd files = wanted_file_in (class_of cmd) files
 
 -- of a command that asks: quiet where lines of a file are to be read, or the answer
 abbrev pub asked_note : Cmd → List ℕ → Params → ℕ → List Entry → RowNote
@@ -336,14 +341,7 @@ last_rows Fsck me words p first entries = []
 
 -- the number behind the last slot that a command reads
 abbrev pub slots_of_cmd : Cmd → Params → ℕ → ℕ
-slots_of_cmd Fsck p gate = p.slots
-slots_of_cmd Logplay p gate = gate
-slots_of_cmd (Mkdir path attr) p gate = gate
-slots_of_cmd (Creat path size attr stripe fill) p gate = gate
-slots_of_cmd (Cp path attr stripe bytes) p gate = gate
-slots_of_cmd (Verify path against) p gate = gate
-slots_of_cmd (Read path offset count) p gate = gate
-slots_of_cmd (Check listing) p gate = gate
+slots_of_cmd cmd p gate = if is_fsck cmd then p.slots else gate
 
 -- the rows behind the gate, by the parameters and the kept entries that are used
 abbrev pub rows_behind : List Entry → Cmd → List ℕ → ℕ → List ℕ → Params → List Row

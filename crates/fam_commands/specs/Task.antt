@@ -20,6 +20,7 @@ use Rattle.fam_commands.specs.declared.phase.Part.{Part}
 use Rattle.fam_commands.specs.declared.phase.Part.TheVariants.{Superblock, Header, Slot, File}
 use Rattle.fam_commands.specs.declared.phase.Phase.{Phase}
 use Rattle.fam_commands.specs.declared.phase.Phase.TheVariants as at
+use Rattle.fam_commands.specs.Classes.{Class, class_of, Replays, Appends, Compares, Reads, Surveys}
 
 pub record Task : Type 0 where
   pub cmd : Cmd
@@ -82,27 +83,29 @@ abbrev pub size_of : Option Entry → ℕ
 size_of None = 0
 size_of (Some e) = e.size
 
--- the offset behind the last byte that a reader wants
-abbrev pub wanted_end : Cmd → ℕ → ℕ
-wanted_end (Read path offset count) size = min size (offset + count)
-wanted_end Logplay size = size
-wanted_end (Mkdir path attr) size = size
-wanted_end (Creat path wished attr stripe fill) size = size
-wanted_end (Cp path attr stripe bytes) size = size
-wanted_end (Verify path against) size = size
-wanted_end (Check listing) size = size
-wanted_end Fsck size = size
+-- the offset behind the last byte that a reader wants; by the class of the command
+abbrev pub wanted_end_in : Class → ℕ → ℕ
+wanted_end_in (Reads path offset count) size = min size (offset + count)
+wanted_end_in Replays size = size
+wanted_end_in Appends size = size
+wanted_end_in (Compares path against) size = size
+wanted_end_in Surveys size = size
 
--- the first byte of the file that a reader wants
+-- of a command
+abbrev pub wanted_end : Cmd → ℕ → ℕ
+wanted_end cmd size = wanted_end_in (class_of cmd) size
+
+-- the first byte of the file that a reader wants; by the class of the command
+abbrev pub wanted_start_in : Class → ℕ
+wanted_start_in (Reads path offset count) = offset
+wanted_start_in Replays = 0
+wanted_start_in Appends = 0
+wanted_start_in (Compares path against) = 0
+wanted_start_in Surveys = 0
+
+-- of a command
 abbrev pub wanted_start : Cmd → ℕ
-wanted_start (Read path offset count) = offset
-wanted_start Logplay = 0
-wanted_start (Mkdir path attr) = 0
-wanted_start (Creat path size attr stripe fill) = 0
-wanted_start (Cp path attr stripe bytes) = 0
-wanted_start (Verify path against) = 0
-wanted_start (Check listing) = 0
-wanted_start Fsck = 0
+wanted_start cmd = wanted_start_in (class_of cmd)
 
 -- the first line of the file that holds a wanted byte
 abbrev pub first_line : Cmd → ℕ

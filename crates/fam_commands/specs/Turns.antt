@@ -32,6 +32,7 @@ use Rattle.fam_commands.specs.declared.phase.Phase.{Phase}
 use Rattle.fam_commands.specs.declared.phase.Phase.TheVariants as at
 use Rattle.fam_commands.specs.Kept.{used, first_slot}
 use Rattle.fam_commands.specs.Task.{Task, size_of, wanted_end, part_count}
+use Rattle.fam_commands.specs.Classes.{Class, class_of, is_fsck, Replays, Appends, Compares, Reads, Surveys}
 
 pub data Turn : Type 0 where
   -- nothing is noted
@@ -47,25 +48,27 @@ pub data Turn : Type 0 where
 
 -- Answers on a damaged image: a check of the whole file system reports, others name the fault.
 
-abbrev pub super_fault_reply : Cmd → SuperFault → Reply
-super_fault_reply Fsck fault = Reports (super_report fault)
-super_fault_reply Logplay fault = NoSuperblock fault
-super_fault_reply (Mkdir path attr) fault = NoSuperblock fault
-super_fault_reply (Creat path size attr stripe fill) fault = NoSuperblock fault
-super_fault_reply (Cp path attr stripe bytes) fault = NoSuperblock fault
-super_fault_reply (Verify path against) fault = NoSuperblock fault
-super_fault_reply (Read path offset count) fault = NoSuperblock fault
-super_fault_reply (Check listing) fault = NoSuperblock fault
+abbrev pub super_fault_reply_in : Class → SuperFault → Reply
+super_fault_reply_in Surveys fault = Reports (super_report fault)
+super_fault_reply_in Replays fault = NoSuperblock fault
+super_fault_reply_in Appends fault = NoSuperblock fault
+super_fault_reply_in (Compares path against) fault = NoSuperblock fault
+super_fault_reply_in (Reads path offset count) fault = NoSuperblock fault
 
+-- of a command
+abbrev pub super_fault_reply : Cmd → SuperFault → Reply
+super_fault_reply cmd fault = super_fault_reply_in (class_of cmd) fault
+
+abbrev pub log_fault_reply_in : Class → LogFault → Reply
+log_fault_reply_in Surveys fault = Reports (log_report fault)
+log_fault_reply_in Replays fault = BadHeader fault
+log_fault_reply_in Appends fault = BadHeader fault
+log_fault_reply_in (Compares path against) fault = BadHeader fault
+log_fault_reply_in (Reads path offset count) fault = BadHeader fault
+
+-- of a command
 abbrev pub log_fault_reply : Cmd → LogFault → Reply
-log_fault_reply Fsck fault = Reports (log_report fault)
-log_fault_reply Logplay fault = BadHeader fault
-log_fault_reply (Mkdir path attr) fault = BadHeader fault
-log_fault_reply (Creat path size attr stripe fill) fault = BadHeader fault
-log_fault_reply (Cp path attr stripe bytes) fault = BadHeader fault
-log_fault_reply (Verify path against) fault = BadHeader fault
-log_fault_reply (Read path offset count) fault = BadHeader fault
-log_fault_reply (Check listing) fault = BadHeader fault
+log_fault_reply cmd fault = log_fault_reply_in (class_of cmd) fault
 
 -- Superblock and header.
 
@@ -98,17 +101,7 @@ header_turn t None = Goes (record t { phase = at.DropGate; words = [] })
 
 -- the number behind the last slot that the command reads: the gate's, or that of all slots
 abbrev pub slots_read : Task → ℕ
-slots_read t = slots_by t.cmd
-  where
-    slots_by : Cmd → ℕ
-    slots_by Fsck = t.params.slots
-    slots_by Logplay = t.gate
-    slots_by (Mkdir path attr) = t.gate
-    slots_by (Creat path size attr stripe fill) = t.gate
-    slots_by (Cp path attr stripe bytes) = t.gate
-    slots_by (Verify path against) = t.gate
-    slots_by (Read path offset count) = t.gate
-    slots_by (Check listing) = t.gate
+slots_read t = if is_fsck t.cmd then t.params.slots else t.gate
 
 -- the next slot, or the decision where all are read
 abbrev pub slot_or_decide : Task → ℕ → Phase
@@ -143,16 +136,17 @@ abbrev pub survey_turn : Task → ℕ → Turn
 survey_turn t i =
     Goes (record t { survey = survey_slot t.params t.gate i t.words t.survey; words = []; phase = slot_or_decide t (i + 1) })
 
--- the words of slot i
+-- the words of slot i; by the class of the command
+abbrev pub check_turn_in : Class → Task → ℕ → Turn
+check_turn_in Surveys t i = survey_turn t i
+check_turn_in Replays t i = slot_turn t i (entry_of t.params t.words i)
+check_turn_in Appends t i = slot_turn t i (entry_of t.params t.words i)
+check_turn_in (Compares path against) t i = slot_turn t i (entry_of t.params t.words i)
+check_turn_in (Reads path offset count) t i = slot_turn t i (entry_of t.params t.words i)
+
+-- of a command
 abbrev pub check_turn : Cmd → Task → ℕ → Turn
-check_turn Fsck t i = survey_turn t i
-check_turn Logplay t i = slot_turn t i (entry_of t.params t.words i)
-check_turn (Mkdir path attr) t i = slot_turn t i (entry_of t.params t.words i)
-check_turn (Creat path size attr stripe fill) t i = slot_turn t i (entry_of t.params t.words i)
-check_turn (Cp path attr stripe bytes) t i = slot_turn t i (entry_of t.params t.words i)
-check_turn (Verify path against) t i = slot_turn t i (entry_of t.params t.words i)
-check_turn (Read path offset count) t i = slot_turn t i (entry_of t.params t.words i)
-check_turn (Check listing) t i = slot_turn t i (entry_of t.params t.words i)
+check_turn cmd t i = check_turn_in (class_of cmd) t i
 
 -- The decision.
 
@@ -231,16 +225,17 @@ compare_turn t against j None = line_or (record t { words = [] }) File j (Ends (
 abbrev pub loaded_bytes : Task → ℕ → List ℕ
 loaded_bytes t offset = map (λ i. byte_in t.words (offset % line_bytes + i)) (range_with_len 0 (wanted_end t.cmd (size_of t.entry) - offset))
 
--- line j of the file was loaded
+-- line j of the file was loaded; by the class of the command
+abbrev pub file_turn_in : Class → Task → ℕ → Turn
+file_turn_in (Compares path against) t j = compare_turn t against j (line_difference t against j)
+file_turn_in (Reads path offset count) t j = line_or t File j (Ends (Bytes (length t.entries) (loaded_bytes t offset)))
+file_turn_in Replays t j = Goes t
+file_turn_in Appends t j = Goes t
+file_turn_in Surveys t j = Goes t
+
+-- of a command
 abbrev pub file_turn : Cmd → Task → ℕ → Turn
-file_turn (Verify path against) t j = compare_turn t against j (line_difference t against j)
-file_turn (Read path offset count) t j = line_or t File j (Ends (Bytes (length t.entries) (loaded_bytes t offset)))
-file_turn Logplay t j = Goes t
-file_turn (Mkdir path attr) t j = Goes t
-file_turn (Creat path size attr stripe fill) t j = Goes t
-file_turn (Cp path attr stripe bytes) t j = Goes t
-file_turn (Check listing) t j = Goes t
-file_turn Fsck t j = Goes t
+file_turn cmd t j = file_turn_in (class_of cmd) t j
 
 -- line j of a part was loaded
 abbrev pub line_turn : Task → Part → ℕ → Turn

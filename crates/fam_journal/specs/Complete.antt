@@ -26,6 +26,7 @@ use Rattle.fam_journal.specs.Machines.{Machines}
 use Rattle.fam_journal.specs.Legal.{InBounds, IsReportOf, OfHost, damaged_master}
 use Rattle.fam_journal.specs.Notes.{Answer, Replied, MediaFault, Note, Host, Made, Start, Mark, Found, Writes, Answered, Stop, Halt, Refused}
 use Rattle.fam_journal.specs.Past.{first_past, Damage, FewLines, NoSuperblock, BadHeader, BadSlot, State, Bad, Sound, HostPast, Past, past_after, with_pending}
+use Rattle.fam_commands.specs.Classes.{Class, class_of, Replays, Appends, Compares, Reads, Surveys}
 
 -- Sound states.
 
@@ -101,16 +102,17 @@ pub record IsDamagedMaster (image : Image) (damage : Damage) (host : HostPast) (
 abbrev pub IsDamagedAppend : Image → Damage → HostPast → Reply → Type 0
 IsDamagedAppend image damage host given = IsDamagedMaster image damage host given ⊎ IsDamagedClient image damage host given
 
--- a check of the whole file system reports; another command that reads answers the fault, whoever asks
+-- a check of the whole file system reports; another command that reads answers the fault, whoever asks; by the class of the command
+abbrev pub IsDamagedAnswerIn : Image → Damage → HostPast → Class → Reply → Type 0
+IsDamagedAnswerIn image damage host Surveys given = given ≡ reply.Reports (report_of (line_at image) (line_bytes * length image))
+IsDamagedAnswerIn image damage host Replays given = IsFaultAnswer damage given
+IsDamagedAnswerIn image damage host Appends given = IsDamagedAppend image damage host given
+IsDamagedAnswerIn image damage host (Compares path against) given = IsFaultAnswer damage given
+IsDamagedAnswerIn image damage host (Reads path offset count) given = IsFaultAnswer damage given
+
+-- of a command
 abbrev pub IsDamagedAnswer : Image → Damage → HostPast → Cmd → Reply → Type 0
-IsDamagedAnswer image damage host Fsck given = given ≡ reply.Reports (report_of (line_at image) (line_bytes * length image))
-IsDamagedAnswer image damage host Logplay given = IsFaultAnswer damage given
-IsDamagedAnswer image damage host (Mkdir path attr) given = IsDamagedAppend image damage host given
-IsDamagedAnswer image damage host (Creat path size attr stripe fill) given = IsDamagedAppend image damage host given
-IsDamagedAnswer image damage host (Cp path attr stripe bytes) given = IsDamagedAppend image damage host given
-IsDamagedAnswer image damage host (Verify path against) given = IsFaultAnswer damage given
-IsDamagedAnswer image damage host (Read path offset count) given = IsFaultAnswer damage given
-IsDamagedAnswer image damage host (Check entries) given = IsFaultAnswer damage given
+IsDamagedAnswer image damage host cmd given = IsDamagedAnswerIn image damage host (class_of cmd) given
 
 -- an answer of the rules, in a state
 abbrev pub IsRuled : State → HostPast → Cmd → Reply → Type 0

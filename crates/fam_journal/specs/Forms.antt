@@ -13,6 +13,7 @@ use Rattle.fam_machine.specs.Mkfs.{asked, early_refusal}
 use Rattle.fam_commands.specs.Stands.{StandsFor}
 use Rattle.fam_commands.specs.Task.{Task}
 use Rattle.fam_commands.specs.Appends.{HasWish}
+use Rattle.fam_commands.specs.Classes.{IsCheck, IsRead, IsVerify}
 use Rattle.fam_rules.specs.declared.answers.Refused.{Refused as Cause}
 use Rattle.fam_rules.specs.declared.answers.Refused.TheVariants as cause
 use Rattle.fam_rules.specs.Decide.{Wish, wish_of}
@@ -79,39 +80,6 @@ abbrev pub forms_of : List Note → List HostForm
 forms_of journal = forms_behind [] journal
 
 -- Answers of a command that has come to a stage.
-
--- the command compares a file's bytes
-abbrev pub IsVerify : Cmd → Type 0
-IsVerify Logplay = ⊥
-IsVerify (Mkdir path attr) = ⊥
-IsVerify (Creat path size attr stripe fill) = ⊥
-IsVerify (Cp path attr stripe bytes) = ⊥
-IsVerify (Verify path against) = ⊤
-IsVerify (Read path offset count) = ⊥
-IsVerify (Check entries) = ⊥
-IsVerify Fsck = ⊥
-
--- the command reads a file's bytes
-abbrev pub IsRead : Cmd → Type 0
-IsRead Logplay = ⊥
-IsRead (Mkdir path attr) = ⊥
-IsRead (Creat path size attr stripe fill) = ⊥
-IsRead (Cp path attr stripe bytes) = ⊥
-IsRead (Verify path against) = ⊥
-IsRead (Read path offset count) = ⊤
-IsRead (Check entries) = ⊥
-IsRead Fsck = ⊥
-
--- the command compares the tree with a listing
-abbrev pub IsCheck : Cmd → Type 0
-IsCheck Logplay = ⊥
-IsCheck (Mkdir path attr) = ⊥
-IsCheck (Creat path size attr stripe fill) = ⊥
-IsCheck (Cp path attr stripe bytes) = ⊥
-IsCheck (Verify path against) = ⊥
-IsCheck (Read path offset count) = ⊥
-IsCheck (Check entries) = ⊤
-IsCheck Fsck = ⊥
 
 -- nothing was found yet
 abbrev pub IsHead : CommandStage → Type 0

@@ -8,7 +8,5 @@
 mod laws;
 mod status;
 
-pub use laws::{
-    a_run_without_faults_is_complete, a_status_has_its_cause, a_text_only_grows,
-};
+pub use laws::{a_run_without_faults_is_complete, a_status_has_its_cause, a_text_only_grows};
 pub use status::Status;

@@ -29,6 +29,7 @@ use Rattle.fam_protocol.specs.Lines.{Fresh}
 use Rattle.fam_protocol.specs.Core.{IsWide}
 use Rattle.fam_protocol.specs.Tasks.{HasLoaded, part_words}
 use Rattle.fam_format.specs.Line.{line_words}
+use Rattle.fam_commands.specs.Classes.{Class, class_of, Replays, Appends, Compares, Reads, Surveys}
 
 -- memory is the image that was there, which reads as no sound file system, and no cache has anything to send
 pub record Still (image : Lines) (have : ℕ) (s : SharedState) : Type 0 where
@@ -57,17 +58,18 @@ pub record ReadsHeader (image : Lines) (have : ℕ) (t : Task) : Type 0 where
   pub super : ReadsSuper image have t
   pub header : log_fault (image log_line) t.params ≡ None
 
--- what is left to be read from slot i on gives the image's reading; or, for a check of the whole file system, its report
-abbrev pub Remains : Cmd → Lines → ℕ → ℕ → Task → Type 0
-Remains Fsck image have i t =
+-- what is left to be read from slot i on gives the image's reading; or, for a check of the whole file system, its report; by the class of the command
+abbrev pub RemainsIn : Class → Lines → ℕ → ℕ → Task → Type 0
+RemainsIn Surveys image have i t =
     report_by t.params t.gate (survey_slots image t.params t.gate i (t.params.slots - i) t.survey) ≡ report_of image have
-Remains Logplay image have i t = read_slots image t.params i (t.gate - i) t.entries ≡ reading_of image have
-Remains (Mkdir path attr) image have i t = read_slots image t.params i (t.gate - i) t.entries ≡ reading_of image have
-Remains (Creat path size attr stripe fill) image have i t = read_slots image t.params i (t.gate - i) t.entries ≡ reading_of image have
-Remains (Cp path attr stripe bytes) image have i t = read_slots image t.params i (t.gate - i) t.entries ≡ reading_of image have
-Remains (Verify path against) image have i t = read_slots image t.params i (t.gate - i) t.entries ≡ reading_of image have
-Remains (Read path offset count) image have i t = read_slots image t.params i (t.gate - i) t.entries ≡ reading_of image have
-Remains (Check listing) image have i t = read_slots image t.params i (t.gate - i) t.entries ≡ reading_of image have
+RemainsIn Replays image have i t = read_slots image t.params i (t.gate - i) t.entries ≡ reading_of image have
+RemainsIn Appends image have i t = read_slots image t.params i (t.gate - i) t.entries ≡ reading_of image have
+RemainsIn (Compares path against) image have i t = read_slots image t.params i (t.gate - i) t.entries ≡ reading_of image have
+RemainsIn (Reads path offset count) image have i t = read_slots image t.params i (t.gate - i) t.entries ≡ reading_of image have
+
+-- of a command
+abbrev pub Remains : Cmd → Lines → ℕ → ℕ → Task → Type 0
+Remains cmd image have i t = RemainsIn (class_of cmd) image have i t
 
 -- the gate is within the slots, and i of them are read
 pub record ReadsSlots (image : Lines) (have i : ℕ) (t : Task) : Type 0 where

@@ -26,6 +26,7 @@ use Rattle.fam_rules.specs.Written.{slot_part}
 use Rattle.fam_protocol.specs.SharedState.{SharedState}
 use Rattle.fam_protocol.specs.Lines.{IsAtLeast, Fresh, FreshGate, Holding, Asked, IsHandedOver, Finished, gate_of}
 use Rattle.fam_protocol.specs.Core.{System, top_of}
+use Rattle.fam_commands.specs.Classes.{Class, class_of, Replays, Appends, Compares, Reads, Surveys}
 
 -- Commands.
 
@@ -54,22 +55,25 @@ abbrev pub part_words : (ℕ → List ℕ) → Task → Part → List ℕ
 part_words memory t part =
     map (λ n. slice_index (memory (part_line t part (n / line_words))) (n % line_words)) (range_with_len 0 (line_words * part_count t part))
 
--- the first word that is kept when line j is read: a file that is compared is looked at line by line
+-- the first word that is kept when line j of a part is read that is looked at line by line: of a file alone
+abbrev pub compared_from : Part → ℕ → ℕ
+compared_from Superblock j = 0
+compared_from Header j = 0
+compared_from (Slot i) j = 0
+compared_from FileLines j = line_words * j
+
+-- the first word that is kept when line j is read: a file that is compared is looked at line by line; by the class of the
+-- command
+abbrev pub kept_from_in : Class → Part → ℕ → ℕ
+kept_from_in Replays part j = 0
+kept_from_in Appends part j = 0
+kept_from_in (Compares path against) part j = compared_from part j
+kept_from_in (Reads path offset count) part j = 0
+kept_from_in Surveys part j = 0
+
+-- of a command
 abbrev pub kept_from : Cmd → Part → ℕ → ℕ
-kept_from Logplay part j = 0
-kept_from (Mkdir path attr) part j = 0
-kept_from (Creat path size attr stripe fill) part j = 0
-kept_from (Cp path attr stripe bytes) part j = 0
-kept_from (Read path offset count) part j = 0
-kept_from (Check listing) part j = 0
-kept_from Fsck part j = 0
-kept_from (Verify path against) part j = compared_from part j
-  where
-    compared_from : Part → ℕ → ℕ
-    compared_from Superblock j = 0
-    compared_from Header j = 0
-    compared_from (Slot i) j = 0
-    compared_from FileLines j = line_words * j
+kept_from cmd part j = kept_from_in (class_of cmd) part j
 
 -- the task has the words of the lines before line j, as far as they are kept, and the first k of line j
 abbrev pub HasLoaded : (ℕ → List ℕ) → Task → Part → ℕ → ℕ → Type 0
@@ -112,27 +116,29 @@ pub record HasSurveyed (i gate : ℕ) (survey : Survey) (all : List File) : Type
   pub bad : survey.bad ≡ None
   pub past : survey.past ≤ i - gate
 
--- i slots are read: their entries are the first ones
-abbrev pub HasRead : Cmd → ℕ → Task → List File → Type 0
-HasRead Fsck i t all = HasSurveyed i t.gate t.survey all
-HasRead Logplay i t all = t.entries ≡ entries_of (take i all)
-HasRead (Mkdir path attr) i t all = t.entries ≡ entries_of (take i all)
-HasRead (Creat path size attr stripe fill) i t all = t.entries ≡ entries_of (take i all)
-HasRead (Cp path attr stripe bytes) i t all = t.entries ≡ entries_of (take i all)
-HasRead (Verify path against) i t all = t.entries ≡ entries_of (take i all)
-HasRead (Read path offset count) i t all = t.entries ≡ entries_of (take i all)
-HasRead (Check listing) i t all = t.entries ≡ entries_of (take i all)
+-- i slots are read: their entries are the first ones; by the class of the command
+abbrev pub HasReadIn : Class → ℕ → Task → List File → Type 0
+HasReadIn Surveys i t all = HasSurveyed i t.gate t.survey all
+HasReadIn Replays i t all = t.entries ≡ entries_of (take i all)
+HasReadIn Appends i t all = t.entries ≡ entries_of (take i all)
+HasReadIn (Compares path against) i t all = t.entries ≡ entries_of (take i all)
+HasReadIn (Reads path offset count) i t all = t.entries ≡ entries_of (take i all)
 
--- which path a command reads the file of
+-- of a command
+abbrev pub HasRead : Cmd → ℕ → Task → List File → Type 0
+HasRead cmd i t all = HasReadIn (class_of cmd) i t all
+
+-- which path a command reads the file of; by the class of the command
+abbrev pub wanted_path_in : Class → Option (List ℕ)
+wanted_path_in (Compares path against) = Some path
+wanted_path_in (Reads path offset count) = Some path
+wanted_path_in Replays = None
+wanted_path_in Appends = None
+wanted_path_in Surveys = None
+
+-- of a command
 abbrev pub wanted_path : Cmd → Option (List ℕ)
-wanted_path (Verify path against) = Some path
-wanted_path (Read path offset count) = Some path
-wanted_path Logplay = None
-wanted_path (Mkdir path attr) = None
-wanted_path (Creat path size attr stripe fill) = None
-wanted_path (Cp path attr stripe bytes) = None
-wanted_path (Check listing) = None
-wanted_path Fsck = None
+wanted_path cmd = wanted_path_in (class_of cmd)
 
 -- given bytes are as many as the file's
 abbrev pub IsGivenSize : Content → ℕ → Type 0
@@ -140,27 +146,29 @@ IsGivenSize content.Zero size = ⊤
 IsGivenSize (content.Seed seed) size = ⊤
 IsGivenSize (content.Bytes given) size = length given ≡ size
 
--- so are those that a command compares with
-abbrev pub IsOfSize : Cmd → ℕ → Type 0
-IsOfSize (Verify path against) size = IsGivenSize against size
-IsOfSize Logplay size = ⊤
-IsOfSize (Mkdir path attr) size = ⊤
-IsOfSize (Creat path wished attr stripe fill) size = ⊤
-IsOfSize (Cp path attr stripe bytes) size = ⊤
-IsOfSize (Read path offset count) size = ⊤
-IsOfSize (Check listing) size = ⊤
-IsOfSize Fsck size = ⊤
+-- so are those that a command compares with; by the class of the command
+abbrev pub IsOfSizeIn : Class → ℕ → Type 0
+IsOfSizeIn (Compares path against) size = IsGivenSize against size
+IsOfSizeIn Replays size = ⊤
+IsOfSizeIn Appends size = ⊤
+IsOfSizeIn (Reads path offset count) size = ⊤
+IsOfSizeIn Surveys size = ⊤
 
--- the file's bytes below an offset are the content's
+-- of a command
+abbrev pub IsOfSize : Cmd → ℕ → Type 0
+IsOfSize cmd size = IsOfSizeIn (class_of cmd) size
+
+-- the file's bytes below an offset are the content's; by the class of the command
+abbrev pub IsSameBelowIn : Class → File → ℕ → Type 0
+IsSameBelowIn (Compares path against) f end = (o : ℕ) → o < end → o < f.entry.size → slice_index f.bytes o ≡ content_byte against o
+IsSameBelowIn Replays f end = ⊤
+IsSameBelowIn Appends f end = ⊤
+IsSameBelowIn (Reads path offset count) f end = ⊤
+IsSameBelowIn Surveys f end = ⊤
+
+-- of a command
 abbrev pub IsSameBelow : Cmd → File → ℕ → Type 0
-IsSameBelow (Verify path against) f end = (o : ℕ) → o < end → o < f.entry.size → slice_index f.bytes o ≡ content_byte against o
-IsSameBelow Logplay f end = ⊤
-IsSameBelow (Mkdir path attr) f end = ⊤
-IsSameBelow (Creat path size attr stripe fill) f end = ⊤
-IsSameBelow (Cp path attr stripe bytes) f end = ⊤
-IsSameBelow (Read path offset count) f end = ⊤
-IsSameBelow (Check listing) f end = ⊤
-IsSameBelow Fsck f end = ⊤
+IsSameBelow cmd f end = IsSameBelowIn (class_of cmd) f end
 
 -- the task reads the file of this entry, one of those below its gate
 pub record ReadsFile (t : Task) (all : List File) (j : ℕ) : Type 0 where

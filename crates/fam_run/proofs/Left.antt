@@ -33,9 +33,10 @@ use Rattle.fam_commands.specs.Stands.{task_after}
 use Rattle.fam_commands.specs.Kept.{first_slot}
 use Rattle.fam_commands.specs.Task.{Task, first_line, size_of, wanted_end, wanted_lines, wanted_start}
 use Rattle.fam_commands.specs.Turns.{Turn, Goes, Marks, Finds, Writes, Ends, turn_at, magic_turn, super_turn, host_turn, host_refusal, header_turn, gate_turn, finds_or_goes, gate_loaded, slot_or_decide, check_turn, slot_turn, survey_turn, join_turn, decide_turn, wish_turn, append_turn, read_file, verify_lines, verify_turn, bytes_turn, kind_turn, found_turn, compare_turn, file_turn, line_difference, line_turn, word_turn, with_word, data_or_slot, slot_or_fence}
+use Rattle.fam_commands.specs.Classes.{LooksAtFile}
 use Rattle.fam_format.specs.Layout.{geometry}
 use Rattle.fam_format.specs.Line.{line_words}
-use Rattle.fam_tasks.specs.Commands.{slots_told, LooksAtFile}
+use Rattle.fam_tasks.specs.Commands.{slots_told}
 use Rattle.fam_tasks.specs.Sound.{HasSuper, HasValidGate, IsLine, IsProperFor, IsSoundAt, IsWantedLine}
 use Rattle.fam_tasks.proofs.Found.{size_fits}
 use Rattle.fam_tasks.proofs.Phases.{slots_within}

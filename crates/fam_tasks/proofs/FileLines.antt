@@ -15,8 +15,9 @@ use Rattle.fam_rules.specs.Written.{lines_of}
 use Rattle.fam_commands.specs.declared.phase.Part.TheVariants.{File}
 use Rattle.fam_commands.specs.Task.{Task, first_line, size_of, wanted_end, wanted_lines, wanted_start}
 use Rattle.fam_commands.specs.Turns.{Ends, compare_turn, file_turn, line_difference, line_or, loaded_bytes}
+use Rattle.fam_commands.specs.Classes.{IsRead, IsVerify, LooksAtFile}
 use Rattle.fam_tasks.specs.declared.task.Task.TheInside.{Inside}
-use Rattle.fam_tasks.specs.Commands.{content_used, kept_of_file, IsRead, IsVerify, LooksAtFile}
+use Rattle.fam_tasks.specs.Commands.{content_used, kept_of_file}
 use Rattle.fam_tasks.specs.Held.{HoldsFile}
 use Rattle.fam_tasks.specs.Sound.{HasValidGate, IsAtLine, IsProperFor}
 

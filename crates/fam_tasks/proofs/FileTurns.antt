@@ -14,13 +14,14 @@ use Rattle.fam_commands.specs.declared.phase.Phase.TheVariants as at
 use Rattle.fam_commands.specs.Task.{Task, size_of, wanted_end, wanted_lines, wanted_start}
 use Rattle.fam_commands.specs.Turns as turns
 use Rattle.fam_commands.specs.Turns.{Goes, Ends, file_turn, line_difference, line_or, loaded_bytes}
+use Rattle.fam_commands.specs.Classes.{IsVerify}
 use Rattle.fam_content.specs.Difference.{DiffersAt, IsFirst}
 use Rattle.fam_tasks.specs.declared.answer.Answer.{Answer}
 use Rattle.fam_tasks.specs.declared.answer.Answer.TheVariants as answer
 use Rattle.fam_tasks.specs.declared.answer.Turn.{Turn}
 use Rattle.fam_tasks.specs.declared.answer.Turn.TheVariants.{Go, Done}
 use Rattle.fam_tasks.specs.Answers.{reply_of}
-use Rattle.fam_tasks.specs.Commands.{content_used, IsVerify}
+use Rattle.fam_tasks.specs.Commands.{content_used}
 use Rattle.fam_tasks.specs.Tells.{Replies, Tells}
 use Rattle.fam_tasks.proofs.Compared.{Differing, nothing_differs, something_differs}
 use Rattle.fam_tasks.proofs.FileLines.{differs_turn, same_turn}

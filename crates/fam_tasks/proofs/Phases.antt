@@ -10,8 +10,9 @@ use Rattle.fam_commands.specs.declared.phase.Phase.{Phase}
 use Rattle.fam_commands.specs.declared.phase.Phase.TheVariants as at
 use Rattle.fam_commands.specs.Task.{Task}
 use Rattle.fam_commands.specs.Turns.{slots_read}
+use Rattle.fam_commands.specs.Classes.{is_fsck}
 use Rattle.fam_tasks.specs.declared.task.Task.TheInside.{Inside}
-use Rattle.fam_tasks.specs.Commands.{is_fsck, slots_told}
+use Rattle.fam_tasks.specs.Commands.{slots_told}
 use Rattle.fam_tasks.specs.Held.{HasLooked, IsHeldAt}
 use Rattle.fam_tasks.specs.Sound.{HasSuper, HasValidGate, IsSoundAt}
 

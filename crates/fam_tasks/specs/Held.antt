@@ -9,10 +9,11 @@ use Rattle.fam_commands.specs.declared.phase.Phase.TheVariants as at
 use Rattle.fam_commands.specs.Task.{content_of, size_of, wanted_end}
 use Rattle.fam_rules.specs.Content.{content_line}
 use Rattle.fam_tasks.specs.declared.task.Task.TheInside.{Inside}
-use Rattle.fam_tasks.specs.Commands.{is_fsck, slots_told}
+use Rattle.fam_tasks.specs.Commands.{slots_told}
 use Rattle.fam_tasks.specs.Model.{task_of}
 use Rattle.fam_tasks.specs.Slots.{added_in, entries_in, IsPlanFor, IsScanFor}
 use Rattle.fam_tasks.specs.Sound.{IsSound}
+use Rattle.fam_commands.specs.Classes.{Class, class_of, Replays, Appends, Compares, Reads, Surveys, is_fsck}
 
 -- no slot was looked at
 pub record IsUnread (t : Inside) : Type 0 where
@@ -26,16 +27,17 @@ pub record HasLooked (i : ℕ) (t : Inside) : Type 0 where
   pub entries : is_fsck t.cmd ≡ false → length (entries_in t.plan) ≡ i
   pub slots : is_fsck t.cmd ≡ true → added_in t.scan ≡ i
 
--- line j of the file comes next: the content is at that line, or there is room for the bytes
+-- line j of the file comes next: the content is at that line, or there is room for the bytes; by the class of the command
+abbrev pub HoldsFileIn : Class → ℕ → Inside → Type 0
+HoldsFileIn (Compares path against) j t = (t.contents.content ≡ against) × (t.contents.taken ≡ j)
+HoldsFileIn (Reads path offset count) j t = length t.room.items ≡ wanted_end (Read path offset count) (size_of t.entry) - offset
+HoldsFileIn Replays j t = ⊤
+HoldsFileIn Appends j t = ⊤
+HoldsFileIn Surveys j t = ⊤
+
+-- of a command
 abbrev pub HoldsFile : Cmd → ℕ → Inside → Type 0
-HoldsFile (Verify path against) j t = (t.contents.content ≡ against) × (t.contents.taken ≡ j)
-HoldsFile (Read path offset count) j t = length t.room.items ≡ wanted_end (Read path offset count) (size_of t.entry) - offset
-HoldsFile Logplay j t = ⊤
-HoldsFile (Mkdir path attr) j t = ⊤
-HoldsFile (Creat path size attr stripe fill) j t = ⊤
-HoldsFile (Cp path attr stripe bytes) j t = ⊤
-HoldsFile (Check listing) j t = ⊤
-HoldsFile Fsck j t = ⊤
+HoldsFile cmd j t = HoldsFileIn (class_of cmd) j t
 
 -- line j of the new file is at hand
 pub record HoldsLine (j : ℕ) (t : Inside) : Type 0 where

@@ -12,9 +12,9 @@ use Rattle.fam_commands.specs.declared.phase.Phase.{Phase}
 use Rattle.fam_commands.specs.declared.phase.Phase.TheVariants as at
 use Rattle.fam_commands.specs.Task.{Task, data_words, line_of, op_of, part_line}
 use Rattle.fam_commands.specs.Turns.{Goes, turn_of}
+use Rattle.fam_commands.specs.Classes.{IsVerify}
 use Rattle.fam_tasks.specs.Sound.{IsSound}
 use Rattle.fam_tasks.specs.declared.answer.Verified.{Verified}
-use Rattle.fam_tasks.specs.Commands.{IsVerify}
 use Rattle.fam_tasks.specs.Tells.{Tells, is_reading, turn_by}
 
 -- word 1 of this line of a part is loaded next

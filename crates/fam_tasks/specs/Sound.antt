@@ -12,7 +12,8 @@ use Rattle.fam_commands.specs.declared.phase.Part.TheVariants.{Superblock, Heade
 use Rattle.fam_commands.specs.declared.phase.Phase.{Phase}
 use Rattle.fam_commands.specs.declared.phase.Phase.TheVariants as at
 use Rattle.fam_commands.specs.Task.{Task, first_line, size_of, wanted_lines}
-use Rattle.fam_tasks.specs.Commands.{kept_of_file, slots_told, LooksAtFile}
+use Rattle.fam_commands.specs.Classes.{LooksAtFile}
+use Rattle.fam_tasks.specs.Commands.{kept_of_file, slots_told}
 
 -- the most lines of an image: 1 TiB
 abbrev pub most_lines : ℕ

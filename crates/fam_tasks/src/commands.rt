@@ -2,8 +2,9 @@
 
 ghost use Rattle.std.specs.Prelude.{◌≡◌, IfOk, IsSome, None};
 ghost use Rattle.std.specs.Bool.{OnTrue, OnFalse};
+ghost use Rattle.fam_commands.specs.Classes.{is_fsck};
 ghost use Rattle.fam_rules.specs.Decide.{wish_of};
-ghost use Rattle.fam_tasks.specs.Commands.{content_used, is_fsck, slots_told};
+ghost use Rattle.fam_tasks.specs.Commands.{content_used, slots_told};
 
 use fam_base::{Cmd, Content, OutOfMemory, Params};
 

@@ -40,8 +40,9 @@ use Rattle.fam_rules.specs.Reports.{log_report, report_by}
 use Rattle.fam_rules.specs.Written.{lines_of}
 use Rattle.fam_format.specs.Layout.{geometry}
 use Rattle.fam_commands.specs.Appends.{HasWish}
+use Rattle.fam_commands.specs.Classes.{IsCheck, IsRead, IsVerify}
 use Rattle.fam_journal.specs.Past.{reported_count}
-use Rattle.fam_journal.specs.Forms.{CauseForm, CountForm, EntryForm, IsCheck, IsRead, IsVerify, IsHead, HasReadGate, IsWished, ReplyForm, CommandStage, Begun, Marked, Met, Named, reading_stage, stage_at, stage_of}
+use Rattle.fam_journal.specs.Forms.{CauseForm, CountForm, EntryForm, IsHead, HasReadGate, IsWished, ReplyForm, CommandStage, Begun, Marked, Met, Named, reading_stage, stage_at, stage_of}
 
 -- the task that goes on is of the same command and host, at this stage
 pub record IsNext (me : List ℕ) (cmd : Cmd) (stage : CommandStage) (next : Task) : Type 0 where

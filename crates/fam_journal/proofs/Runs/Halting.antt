@@ -29,6 +29,7 @@ use Rattle.fam_commands.specs.Stands.{task_after}
 use Rattle.fam_commands.specs.Kept.{first_slot, used}
 use Rattle.fam_commands.specs.Task.{Task, part_count, size_of, starting, wanted_end}
 use Rattle.fam_commands.specs.Turns.{Turn, Goes, Marks, Finds, Writes, Ends, append_turn, check_turn, compare_turn, decide_turn, file_turn, finds_or_goes, found_turn, gate_turn, header_turn, host_refusal, host_turn, join_turn, kind_turn, line_difference, line_turn, magic_turn, slot_or_decide, slot_turn, slots_read, super_turn, turn_at, verify_lines, verify_turn, wish_turn, gate_loaded}
+use Rattle.fam_commands.specs.Classes.{LooksAtFile}
 use Rattle.fam_rules.specs.declared.answers.Refused.{Refused}
 use Rattle.fam_rules.specs.Decide.{Wish, decide_wish, wish_of}
 use Rattle.fam_rules.specs.Place.{line_bytes}
@@ -126,28 +127,18 @@ module _ (part : Part) (j : ℕ) (P : Task → Type 0) (stays : (t : Task) (w : 
 
 -- Lines of a file.
 
-abbrev pub ReadsFile : Cmd → Type 0
-ReadsFile Logplay = ⊥
-ReadsFile (Mkdir path attr) = ⊥
-ReadsFile (Creat path size attr stripe fill) = ⊥
-ReadsFile (Cp path attr stripe bytes) = ⊥
-ReadsFile (Verify path against) = ⊤
-ReadsFile (Read path offset count) = ⊤
-ReadsFile (Check entries) = ⊥
-ReadsFile Fsck = ⊥
-
 record AtFile (n j : ℕ) (t : Task) : Type 0 where
-  reads : ReadsFile t.cmd
+  reads : LooksAtFile t.cmd
   left : part_count t File ≤ j + 1 + n
 
-file_line : (j : ℕ) (t : Task) → ReadsFile t.cmd → ((u : Task) → u.cmd ≡ t.cmd → u.entry ≡ t.entry → nat_lt (j + 1) (part_count t File) ≡ true → Halts (record u { phase = at.Drop File (j + 1) })) → HaltsTurn (line_turn t File j)
+file_line : (j : ℕ) (t : Task) → LooksAtFile t.cmd → ((u : Task) → u.cmd ≡ t.cmd → u.entry ≡ t.entry → nat_lt (j + 1) (part_count t File) ≡ true → Halts (record u { phase = at.Drop File (j + 1) })) → HaltsTurn (line_turn t File j)
 file_line j t reads next = by_cmd t.cmd refl reads
   where
     by_found : (against : Content) (o : Option ℕ) → HaltsTurn (compare_turn t against j o)
     by_found against (Some b) = tt
     by_found against None = pick (nat_lt (j + 1) (part_count t File)) _ _ (λ is. next (record t { words = [] }) refl refl is) (λ is. tt)
 
-    by_cmd : (c : Cmd) → t.cmd ≡ c → ReadsFile c → HaltsTurn (file_turn c t j)
+    by_cmd : (c : Cmd) → t.cmd ≡ c → LooksAtFile c → HaltsTurn (file_turn c t j)
     by_cmd (Verify path against) is reads = by_found against (line_difference t against j)
     by_cmd (Read path offset count) is reads = pick (nat_lt (j + 1) (part_count t File)) _ _ (λ is. next t refl refl is) (λ is. tt)
     by_cmd Logplay is reads = absurd reads
@@ -163,7 +154,7 @@ same_count t u e f = rw e (rw f refl)
 file_read : (n j : ℕ) (t : Task) → AtFile n j t → Halts (record t { phase = at.Drop File j })
 file_read zero j = line_read File j (AtFile zero j) (λ t w p x. record { reads = x.reads; left = x.left }) (λ t x. file_line j t x.reads (λ u e f is. absurd (let left = x.left in grind (arith, nat_tests, left, is))))
 file_read (suc n) j = line_read File j (AtFile (suc n) j) (λ t w p x. record { reads = x.reads; left = x.left }) (λ t x. file_line j t x.reads
-    (λ u e f is. file_read n (j + 1) u (record { reads = subst ReadsFile (sym e) x.reads; left = let left = x.left in let same = same_count t u e f in omega (arith, left, same) })))
+    (λ u e f is. file_read n (j + 1) u (record { reads = subst LooksAtFile (sym e) x.reads; left = let left = x.left in let same = same_count t u e f in omega (arith, left, same) })))
 
 -- The decision.
 
@@ -175,13 +166,13 @@ decides_found : (t : Task) (o : Option Entry) (turn : Entry → Turn) → ((e : 
 decides_found t None turn h = tt
 decides_found t (Some e) turn h = decides_kind t e.kind (turn e) (h e)
 
-reads_entry : (t : Task) (e : Entry) → ReadsFile t.cmd → Halts (record t { entry = Some e; phase = at.Drop File 0; words = [] })
+reads_entry : (t : Task) (e : Entry) → LooksAtFile t.cmd → Halts (record t { entry = Some e; phase = at.Drop File 0; words = [] })
 reads_entry t e reads = file_read (part_count (record t { entry = Some e }) File) 0 (record t { entry = Some e; words = [] }) (record { reads = reads; left = omega arith })
 
-decides_lines : (t : Task) (e : Entry) → ReadsFile t.cmd → HaltsTurn (verify_lines t e)
+decides_lines : (t : Task) (e : Entry) → LooksAtFile t.cmd → HaltsTurn (verify_lines t e)
 decides_lines t e reads = pick (e.size == 0) _ _ (λ is. tt) (λ is. reads_entry t e reads)
 
-decides_verify : (t : Task) (e : Entry) (against : Content) → ReadsFile t.cmd → HaltsTurn (verify_turn t e against)
+decides_verify : (t : Task) (e : Entry) (against : Content) → LooksAtFile t.cmd → HaltsTurn (verify_turn t e against)
 decides_verify t e (content.Bytes given) reads = pick (length given == e.size) _ _ (λ is. decides_lines t e reads) (λ is. tt)
 decides_verify t e (content.Seed seed) reads = decides_lines t e reads
 decides_verify t e content.Zero reads = decides_lines t e reads
@@ -202,9 +193,9 @@ decide_halts s = halting (record s { phase = at.Decide }) (λ word. by_cmd s.cmd
     by_cmd Logplay is = tt
     by_cmd (Check listing) is = tt
     by_cmd Fsck is = tt
-    by_cmd (Verify path against) is = decides_found (record s { phase = at.Decide }) (finmap.get (replay s.entries) path) _ (λ e. decides_verify (record s { phase = at.Decide }) e against (subst ReadsFile (sym is) tt))
+    by_cmd (Verify path against) is = decides_found (record s { phase = at.Decide }) (finmap.get (replay s.entries) path) _ (λ e. decides_verify (record s { phase = at.Decide }) e against (subst LooksAtFile (sym is) tt))
     by_cmd (Read path offset count) is =
-        decides_found (record s { phase = at.Decide }) (finmap.get (replay s.entries) path) _ (λ e. pick (nat_le (wanted_end s.cmd e.size) offset) _ _ (λ b. tt) (λ b. reads_entry (record s { phase = at.Decide }) e (subst ReadsFile (sym is) tt)))
+        decides_found (record s { phase = at.Decide }) (finmap.get (replay s.entries) path) _ (λ e. pick (nat_le (wanted_end s.cmd e.size) offset) _ _ (λ b. tt) (λ b. reads_entry (record s { phase = at.Decide }) e (subst LooksAtFile (sym is) tt)))
     by_cmd (Mkdir path attr) is = decides_wish (record s { phase = at.Decide }) _ (ap wish_of is)
     by_cmd (Creat path size attr stripe fill) is = decides_wish (record s { phase = at.Decide }) _ (ap wish_of is)
     by_cmd (Cp path attr stripe bytes) is = decides_wish (record s { phase = at.Decide }) _ (ap wish_of is)

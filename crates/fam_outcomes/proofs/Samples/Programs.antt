@@ -126,19 +126,9 @@ module _ (script : List ℕ) (within : length script ≤ script_limit) (files : 
   abbrev out : Outside
   out = record {
     lines = 0;
-    image = Some [];
-    image_now = Some [];
-    faults = 0;
-    faults_now = 0;
-    files = Some files;
-    shelf = 0;
-    shelf_now = 0;
-    shorts = 0;
-    shorts_now = 0;
-    bytes = Some [];
-    bytes_now = Some (render notes);
-    sink = 0;
-    sink_now = 0;
+    media = record { old = record { image = Some []; faults = 0 }; new = record { image = Some []; faults = 0 } };
+    shelf = record { old = record { files = Some files; faults = 0; shorts = 0 }; new = record { files = Some files; faults = 0; shorts = 0 } };
+    sink = record { old = record { bytes = Some []; faults = 0 }; new = record { bytes = Some (render notes); faults = 0 } };
   }
 
   ran : RunsOn AllDone files two [] (Some []) notes

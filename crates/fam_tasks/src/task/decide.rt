@@ -11,8 +11,9 @@ ghost use Rattle.fam_commands.specs.declared.phase.Phase.TheVariants as at;
 ghost use Rattle.fam_commands.specs.Task as spec;
 ghost use Rattle.fam_commands.specs.Turns as turns;
 ghost use Rattle.fam_commands.specs.Turns.{turn_of};
+ghost use Rattle.fam_commands.specs.Classes.{IsCheck, IsRead, IsVerify, is_fsck};
 ghost use Rattle.fam_tasks.specs.declared.answer.Turn.TheVariants.{Done};
-ghost use Rattle.fam_tasks.specs.Commands.{content_used, is_fsck, IsCheck, IsRead, IsVerify};
+ghost use Rattle.fam_tasks.specs.Commands.{content_used};
 ghost use Rattle.fam_tasks.specs.Tells.{Tells, WantsMemory};
 
 use super::{Task, done};

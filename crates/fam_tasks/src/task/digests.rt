@@ -7,7 +7,7 @@ ghost use Rattle.fam_format.specs.Tree.{join_fault};
 ghost use Rattle.fam_commands.specs.declared.phase.Phase.TheVariants as at;
 ghost use Rattle.fam_commands.specs.Turns as turns;
 ghost use Rattle.fam_commands.specs.Turns.{turn_of};
-ghost use Rattle.fam_tasks.specs.Commands.{is_fsck};
+ghost use Rattle.fam_commands.specs.Classes.{is_fsck};
 ghost use Rattle.fam_tasks.specs.Slots.{ShowWants};
 ghost use Rattle.fam_tasks.specs.declared.answer.Answer.TheVariants.{MediaFault};
 ghost use Rattle.fam_tasks.specs.declared.answer.Turn.TheVariants.{Done};

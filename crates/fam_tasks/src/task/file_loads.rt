@@ -8,7 +8,7 @@ ghost use Rattle.fam_commands.specs.declared.phase.Phase.TheVariants as at;
 ghost use Rattle.fam_commands.specs.Task as spec;
 ghost use Rattle.fam_commands.specs.Turns as turns;
 ghost use Rattle.fam_commands.specs.Turns.{turn_of};
-ghost use Rattle.fam_tasks.specs.Commands.{IsRead, IsVerify};
+ghost use Rattle.fam_commands.specs.Classes.{IsRead, IsVerify};
 ghost use Rattle.fam_tasks.specs.Tells.{IsCompared, Tells, turn_by};
 
 use super::{Task, done};

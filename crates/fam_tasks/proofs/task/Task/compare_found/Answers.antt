@@ -7,10 +7,11 @@ use Rattle.fam_commands.specs.declared.phase.Phase.{Phase}
 use Rattle.fam_commands.specs.declared.phase.Phase.TheVariants as at
 use Rattle.fam_commands.specs.Task.{Task, size_of, wanted_lines}
 use Rattle.fam_commands.specs.Turns.{Ends, file_turn, line_or}
+use Rattle.fam_commands.specs.Classes.{IsVerify}
 use Rattle.fam_content.specs.Difference.{DiffersAt, IsFirst}
 use Rattle.fam_tasks.specs.declared.answer.Answer.TheVariants as answer
 use Rattle.fam_tasks.specs.declared.answer.Turn.TheVariants.{Done}
-use Rattle.fam_tasks.specs.Commands.{content_used, IsVerify}
+use Rattle.fam_tasks.specs.Commands.{content_used}
 use Rattle.fam_tasks.specs.Contents.{ContentsState}
 use Rattle.fam_tasks.specs.Held.{IsHeldAt}
 use Rattle.fam_tasks.specs.Model.{task_of}

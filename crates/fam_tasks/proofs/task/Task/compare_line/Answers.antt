@@ -5,7 +5,7 @@ use Rattle.fam_commands.specs.declared.phase.Phase.{Phase}
 use Rattle.fam_commands.specs.declared.phase.Phase.TheVariants as at
 use Rattle.fam_commands.specs.Task.{Task}
 use Rattle.fam_commands.specs.Turns.{file_turn}
-use Rattle.fam_tasks.specs.Commands.{IsVerify}
+use Rattle.fam_commands.specs.Classes.{IsVerify}
 use Rattle.fam_tasks.specs.Model.{task_of}
 use Rattle.fam_tasks.specs.Sound.{IsSoundAt}
 use Rattle.fam_tasks.specs.Tells.{Tells, turn_by}

@@ -3,7 +3,7 @@ use Rattle.fam_format.specs.Slot.{Proper}
 use Rattle.fam_commands.specs.declared.phase.Phase.{Phase}
 use Rattle.fam_commands.specs.declared.phase.Phase.TheVariants as at
 use Rattle.fam_commands.specs.Task.{Task, wanted_end, wanted_start}
-use Rattle.fam_tasks.specs.Commands.{IsRead}
+use Rattle.fam_commands.specs.Classes.{IsRead}
 use Rattle.fam_tasks.specs.Model.{task_of}
 use Rattle.fam_tasks.specs.Sound.{IsSoundAt}
 use Rattle.fam_tasks.proofs.FileLines.{none_kept, read_held, read_looks, some_wanted, wanted_line}

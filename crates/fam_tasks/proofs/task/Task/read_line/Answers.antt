@@ -7,8 +7,8 @@ use Rattle.fam_commands.specs.declared.phase.Phase.{Phase}
 use Rattle.fam_commands.specs.declared.phase.Phase.TheVariants as at
 use Rattle.fam_commands.specs.Task.{Task, size_of, wanted_end, wanted_lines, wanted_start}
 use Rattle.fam_commands.specs.Turns.{loaded_bytes, with_word}
+use Rattle.fam_commands.specs.Classes.{IsRead}
 use Rattle.fam_tasks.specs.declared.answer.Answer.TheVariants as answer
-use Rattle.fam_tasks.specs.Commands.{IsRead}
 use Rattle.fam_tasks.specs.Held.{IsHeldAt}
 use Rattle.fam_tasks.specs.Model.{task_of}
 use Rattle.fam_tasks.specs.Sound.{IsSoundAt}

@@ -3,7 +3,7 @@ use Rattle.fam_format.specs.Slot.{Proper}
 use Rattle.fam_commands.specs.declared.phase.Phase.{Phase}
 use Rattle.fam_commands.specs.declared.phase.Phase.TheVariants as at
 use Rattle.fam_commands.specs.Task.{Task}
-use Rattle.fam_tasks.specs.Commands.{IsVerify}
+use Rattle.fam_commands.specs.Classes.{IsVerify}
 use Rattle.fam_tasks.specs.Model.{task_of}
 use Rattle.fam_tasks.specs.Sound.{IsSoundAt}
 use Rattle.fam_tasks.proofs.FileLines.{none_kept, verify_held, verify_looks, verify_some, wanted_line}
