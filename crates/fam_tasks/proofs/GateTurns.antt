@@ -1,17 +1,9 @@
 -- The turn behind the gate, of a task whose host keeps nothing.
-use Rattle.std.proofs.Common.{◌≡◌, ℕ, ◌≤◌, Bool, true, false, cond, nat_lt, List, [], length, Option, Some, None, refl, sym, ap, subst, ◌∙◌, arith}
-use Rattle.std.proofs.lemmas.Bool.Decides.{nat_tests}
+use Rattle.std.proofs.Common.{◌≡◌, ℕ, true, List, [], length, Option, Some, None, sym, ap, subst, ◌∙◌}
 use Rattle.std.specs.Prelude.{is_some}
 use Rattle.fam_base.specs.declared.entry.Entry.{Entry}
-use Rattle.fam_base.specs.declared.entry.Params.{Params}
-use Rattle.fam_format.specs.declared.faults.LogFault.{LogFault}
-use Rattle.fam_format.specs.declared.faults.LogFault.TheVariants.{BadLog}
-use Rattle.fam_format.specs.declared.faults.LogField.TheVariants as field
-use Rattle.fam_format.specs.Log.{gate_fault}
 use Rattle.fam_rules.specs.Decide.{Wish, wish_of}
-use Rattle.fam_commands.specs.declared.phase.Part.TheVariants.{Slot}
 use Rattle.fam_commands.specs.declared.phase.Phase.{Phase}
-use Rattle.fam_commands.specs.declared.phase.Phase.TheVariants as at
 use Rattle.fam_commands.specs.Kept.{used}
 use Rattle.fam_commands.specs.Task.{Task}
 use Rattle.fam_commands.specs.Turns.{finds_or_goes, gate_loaded, gate_turn, slot_or_decide}
@@ -31,11 +23,6 @@ loaded_is t n p kept entries phase =
     ∙ ap (λ (list : List Entry). record t { gate = n; entries = list; phase = slot_or_decide (record t { gate = n }) 0 }) entries
     ∙ sym (ap (λ (list : List Entry). record t { gate = n; entries = list; phase = slot_or_decide (record t { gate = n }) (length list) }) none)
 
-no_fault : (n : ℕ) (p : Params) → n ≤ p.slots → gate_fault n p ≡ None
-no_fault n p within =
-    let low : nat_lt p.slots n ≡ false = grind (arith, nat_tests, within) in
-    ap (λ (b : Bool). cond b (Some (BadLog field.Gate n p.slots)) None) low
-
 some_finds : (o : Option Wish) (n : ℕ) (loaded new : Task) (turn : Turn) → is_some o ≡ true → turn ≡ Note (Found n) → new ≡ loaded → Tells (finds_or_goes o n loaded) turn new
 some_finds None n loaded new turn some is same = absurd cc
 some_finds (Some w) n loaded new turn some is same = (is, same)
@@ -43,16 +30,12 @@ some_finds (Some w) n loaded new turn some is same = (is, same)
 none_goes : (o : Option Wish) (n : ℕ) (loaded new : Task) (turn : Turn) → o ≡ None → turn ≡ Go → new ≡ loaded → Tells (finds_or_goes o n loaded) turn new
 none_goes o n loaded new turn none is same = subst (λ (o : Option Wish). Tells (finds_or_goes o n loaded) turn new) (sym none) (is, same)
 
-module _ (t : Task) (n : ℕ) (p : Phase) (turn : Turn) (kept : t.kept ≡ None) (entries : t.entries ≡ []) (phase : p ≡ next_phase 0 (slots_told t.cmd t.params n)) (within : n ≤ t.params.slots) where
+module _ (t : Task) (n : ℕ) (p : Phase) (turn : Turn) (kept : t.kept ≡ None) (entries : t.entries ≡ []) (phase : p ≡ next_phase 0 (slots_told t.cmd t.params n)) where
   abbrev new : Task
   new = record t { gate = n; phase = p }
 
-  pub gate_finds : is_some (wish_of t.cmd) ≡ true → turn ≡ Note (Found n) → Tells (gate_turn t n (gate_fault n t.params)) turn new
-  gate_finds some is =
-      subst (λ (o : Option LogFault). Tells (gate_turn t n o) turn new) (sym (no_fault n t.params within))
-      (some_finds (wish_of t.cmd) n (gate_loaded t n) new turn some is (loaded_is t n p kept entries phase))
+  pub gate_finds : is_some (wish_of t.cmd) ≡ true → turn ≡ Note (Found n) → Tells (gate_turn t n None) turn new
+  gate_finds some is = some_finds (wish_of t.cmd) n (gate_loaded t n) new turn some is (loaded_is t n p kept entries phase)
 
-  pub gate_goes : wish_of t.cmd ≡ None → turn ≡ Go → Tells (gate_turn t n (gate_fault n t.params)) turn new
-  gate_goes none is =
-      subst (λ (o : Option LogFault). Tells (gate_turn t n o) turn new) (sym (no_fault n t.params within))
-      (none_goes (wish_of t.cmd) n (gate_loaded t n) new turn none is (loaded_is t n p kept entries phase))
+  pub gate_goes : wish_of t.cmd ≡ None → turn ≡ Go → Tells (gate_turn t n None) turn new
+  gate_goes none is = none_goes (wish_of t.cmd) n (gate_loaded t n) new turn none is (loaded_is t n p kept entries phase)

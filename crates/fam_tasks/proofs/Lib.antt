@@ -1,7 +1,6 @@
 pub mod Lines
 pub mod Found
 pub mod Compared
-mod EightWords
 pub mod FileLines
 pub mod Phases
 pub mod GateTurns
@@ -9,4 +8,4 @@ pub mod FileTurns
 pub mod Rest
 pub mod WholeLine
 pub mod SlotLine
-pub mod Replicas
+pub mod AllFound

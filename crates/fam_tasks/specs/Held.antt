@@ -7,24 +7,25 @@ use Rattle.fam_commands.specs.declared.phase.Part.TheVariants.{Superblock, Heade
 use Rattle.fam_commands.specs.declared.phase.Phase.{Phase}
 use Rattle.fam_commands.specs.declared.phase.Phase.TheVariants as at
 use Rattle.fam_commands.specs.Task.{content_of, size_of, wanted_end}
+use Rattle.fam_replay.specs.Replay.{entries_in, IsReplayOf}
 use Rattle.fam_rules.specs.Content.{content_line}
 use Rattle.fam_tasks.specs.declared.task.Task.TheInside.{Inside}
 use Rattle.fam_tasks.specs.Commands.{slots_told}
 use Rattle.fam_tasks.specs.Model.{task_of}
-use Rattle.fam_tasks.specs.Slots.{added_in, entries_in, IsPlanFor, IsScanFor}
+use Rattle.fam_tasks.specs.Survey.{added_in, IsScanFor}
 use Rattle.fam_tasks.specs.Sound.{IsSound}
 use Rattle.fam_commands.specs.Classes.{Class, class_of, Replays, Appends, Compares, Reads, Surveys, is_fsck}
 
 -- no slot was looked at
 pub record IsUnread (t : Inside) : Type 0 where
-  pub plan : t.plan ≡ None
+  pub replay : t.replay ≡ None
   pub scan : t.scan ≡ None
 
--- i slots were looked at: plan and check are the file system's, and were told of as many
+-- i slots were looked at: replay and check are the file system's, and were told of as many
 pub record HasLooked (i : ℕ) (t : Inside) : Type 0 where
-  pub plan : IsPlanFor t.params t.plan
+  pub replay : IsReplayOf t.params t.gate t.replay
   pub scan : IsScanFor t.params t.gate t.scan
-  pub entries : is_fsck t.cmd ≡ false → length (entries_in t.plan) ≡ i
+  pub entries : is_fsck t.cmd ≡ false → length (entries_in t.replay) ≡ i
   pub slots : is_fsck t.cmd ≡ true → added_in t.scan ≡ i
 
 -- line j of the file comes next: the content is at that line, or there is room for the bytes; by the class of the command

@@ -2,7 +2,7 @@ pub mod Answers
 pub mod Commands
 pub mod Contents
 pub mod ContentsHeld
-pub mod Slots
+pub mod Survey
 pub mod Tells
 pub mod Begins
 pub mod Rest
@@ -10,4 +10,3 @@ pub mod Sound
 pub mod Model
 pub mod Held
 pub mod SlotLines
-pub mod Replica

@@ -2,7 +2,8 @@
 use Rattle.std.specs.Prelude.{None}
 use Rattle.fam_commands.specs.Task.{Task}
 use Rattle.fam_tasks.specs.declared.task.Task.TheInside.{Inside}
-use Rattle.fam_tasks.specs.Slots.{entries_in, survey_in}
+use Rattle.fam_replay.specs.Replay.{entries_in}
+use Rattle.fam_tasks.specs.Survey.{survey_in}
 
 -- its command, host and phase, and what it read
 abbrev pub task_of : Inside → Task
@@ -14,7 +15,7 @@ task_of t = record {
   params = t.params;
   kept = None;
   gate = t.gate;
-  entries = entries_in t.plan;
+  entries = entries_in t.replay;
   words = t.buffer;
   entry = t.entry;
   survey = survey_in t.scan;

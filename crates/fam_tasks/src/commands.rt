@@ -1,12 +1,15 @@
 //! What a task asks of its command.
 
-ghost use Rattle.std.specs.Prelude.{◌≡◌, IfOk, IsSome, None};
+ghost use Rattle.std.specs.Prelude.{◌≡◌, IfOk, IsSome, None, Some};
 ghost use Rattle.std.specs.Bool.{OnTrue, OnFalse};
 ghost use Rattle.fam_commands.specs.Classes.{is_fsck};
 ghost use Rattle.fam_rules.specs.Decide.{wish_of};
+ghost use Rattle.fam_rules.specs.declared.answers.Refused.TheVariants.{NotMaster};
+ghost use Rattle.fam_commands.specs.Turns.{host_refusal};
 ghost use Rattle.fam_tasks.specs.Commands.{content_used, slots_told};
 
 use fam_base::{Cmd, Content, OutOfMemory, Params};
+use uuid::Uuid;
 
 /// Whether a command checks the whole file system.
 pub(crate) fn is_fsck(cmd: &Cmd) -> bool
@@ -47,5 +50,19 @@ pub(crate) fn content_used(cmd: &Cmd) -> Result<Content, OutOfMemory>
         Cmd::Cp { bytes, .. } => Ok(Content::Bytes(bytes)),
         Cmd::Verify { against, .. } => Ok(against),
         _ => Ok(Content::Zero),
+    }
+}
+
+/// Whether this host may not go on, since the command appends and another host is the master.
+pub(crate) fn is_refused(cmd: &Cmd, params: &Params, me: &Uuid) -> bool
+    ensures other { OnTrue result (host_refusal (wish_of cmd.now) params.now me.now
+        ≡ Some (NotMaster me.now params.now.master)) }
+    ensures master { OnFalse result (host_refusal (wish_of cmd.now) params.now me.now ≡ None) }
+{
+    match cmd {
+        Cmd::Mkdir { .. } => *me != params.master,
+        Cmd::Creat { .. } => *me != params.master,
+        Cmd::Cp { .. } => *me != params.master,
+        _ => false,
     }
 }

@@ -11,16 +11,13 @@ mod buffer;
 mod byte_text;
 mod commands;
 mod contents;
-mod parts;
-mod replica;
 mod replies;
-mod same;
-mod slots;
+mod survey;
 mod task;
 mod wanted;
 
 pub use answer::{Answer, TaskNote, Turn, Verified};
 pub use byte_text::ByteText;
 pub use fam_machine::Op;
-pub use replica::Replica;
+pub use fam_replay::Replica;
 pub use task::{SlotDue, Task};

@@ -13,7 +13,7 @@ ghost use Rattle.fam_commands.specs.Classes.{is_fsck};
 ghost use Rattle.fam_machine.specs.Operations.{IsWithin};
 ghost use Rattle.fam_tasks.specs.declared.answer.Answer.TheVariants.{MediaFault};
 ghost use Rattle.fam_tasks.specs.declared.answer.Turn.TheVariants.{Done, Go};
-ghost use Rattle.fam_tasks.specs.Slots.{ShowWants};
+ghost use Rattle.fam_tasks.specs.Survey.{ShowWants};
 ghost use Rattle.fam_tasks.specs.Sound.{most_lines, HasSuper, IsFileLine, IsLine, IsSound, IsWantedLine};
 ghost use Rattle.fam_tasks.specs.Tells.{Tells, WantsMemory, is_digest, is_reading};
 
@@ -29,9 +29,6 @@ mod stores;
 use crate::answer::{Answer, Turn};
 use crate::buffer::Buffer;
 use crate::contents::Contents;
-use crate::parts::line_of_slot;
-use crate::replica::Replica;
-use crate::slots::Kept;
 use crate::wanted::first_line;
 use fam_base::{Cmd, Content, Entry, LineNo, OutOfMemory, Params};
 use fam_commands::{Part, Phase};
@@ -39,6 +36,7 @@ use fam_extents::file_line;
 use fam_format::{GATE_LINE, LAST_WORD, LOG_LINE, SLOT_LINES};
 use fam_fsck::Fsck;
 use fam_machine::Op;
+use fam_replay::{Replay, Replica, line_of_slot};
 pub use slot_lines::SlotDue;
 use std::alloc::Global;
 use std::marker::Model;
@@ -57,10 +55,8 @@ pub struct Task {
     phase: Phase,
     params: Params,
     gate: u64,
-    /// What is kept from the host's earlier commands, and for later ones.
-    kept: Kept,
     /// The entries of the slots that were read; a check of the whole file system has none.
-    plan: Option<Replica>,
+    replay: Replay,
     /// A check of the whole file system, with the slots that it was shown.
     scan: Option<Fsck>,
     buffer: Buffer,
@@ -132,11 +128,7 @@ impl Task {
                 master: none,
             },
             gate: 0,
-            kept: Kept {
-                replica: None,
-                keeps: false,
-            },
-            plan: None,
+            replay: Replay::new(alloc),
             scan: None,
             buffer: Buffer::new(),
             entry: None,
@@ -150,16 +142,12 @@ impl Task {
     pub fn remember(&mut self, replica: Option<Replica>)
         ensures { self.new ≡ self.old }
     {
-        self.kept = Kept {
-            replica,
-            keeps: true,
-        };
+        self.replay.remember(replica);
     }
 
     /// What is kept for the host's next command, if anything is. A task that has played its tree keeps nothing.
     pub fn into_replica(self) -> Option<Replica> {
-        let Task { plan, kept, .. } = self;
-        plan.or(kept.replica)
+        self.replay.into_kept()
     }
 
     /// What is known of every task: its numbers fit its phase. A call does nothing.

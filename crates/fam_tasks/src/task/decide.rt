@@ -1,9 +1,12 @@
 //! Turns of a task that decides, with all slots read.
 
 ghost use Rattle.std.specs.Prelude.{◌≡◌, ◌≤◌, ◌<◌, None, Ok, Some, IfErr, IfOk, IfSome, IsSome, OnErr, length, true};
+ghost use Rattle.fam_base.specs.Commands.{IsListing};
 ghost use Rattle.fam_base.specs.declared.cmd.Cmd.TheVariants as cmd;
 ghost use Rattle.fam_base.specs.declared.entry.Entry.{Entry};
 ghost use Rattle.fam_format.specs.Slot.{Proper};
+ghost use Rattle.fam_format.specs.Tree.{replay};
+ghost use Rattle.fam_rules.specs.Checks.{checked};
 ghost use Rattle.fam_rules.specs.Content.{content_line};
 ghost use Rattle.fam_rules.specs.Decide.{wish_of};
 ghost use Rattle.fam_rules.specs.Reply.{Length};
@@ -12,6 +15,7 @@ ghost use Rattle.fam_commands.specs.Task as spec;
 ghost use Rattle.fam_commands.specs.Turns as turns;
 ghost use Rattle.fam_commands.specs.Turns.{turn_of};
 ghost use Rattle.fam_commands.specs.Classes.{IsCheck, IsRead, IsVerify, is_fsck};
+ghost use Rattle.fam_replay.specs.Replay.{entries_in, HasFoundAll};
 ghost use Rattle.fam_tasks.specs.declared.answer.Turn.TheVariants.{Done};
 ghost use Rattle.fam_tasks.specs.Commands.{content_used};
 ghost use Rattle.fam_tasks.specs.Tells.{Tells, WantsMemory};
@@ -22,11 +26,15 @@ use crate::byte_text::ByteText;
 use crate::commands::content_used;
 use crate::contents::Contents;
 use crate::replies::refusal_answer;
-use crate::slots::{checked, count, decided, found_at, report_of, tree_of};
+use crate::survey::report_of;
 use crate::wanted::{wanted_end, wanted_start};
 use fam_base::{Cmd, Content, Entry, Kind, OutOfMemory};
 use fam_commands::{Part, Phase};
 use fam_entry::spell;
+use fam_fsck::check;
+use fam_replay::Replay;
+use fam_rules::Checked;
+use fam_tree::Tree;
 use std::alloc::Global;
 
 /// The content of a new file of `size` bytes, with its first line taken where there is one.
@@ -87,6 +95,18 @@ fn other_length(against: &Content, size: u64) -> Option<u64>
     }
 }
 
+/// How the tree of the entries that were found differs from a listing.
+fn checked(alloc: Global, found: &Replay, listing: &[Entry]) -> Checked
+    requires all { HasFoundAll found.now }
+    requires listing { IsListing listing.now }
+    ensures { result ≡ checked (replay (entries_in found.now)) listing.now }
+{
+    match found.tree() {
+        Some(tree) => check(tree, listing),
+        None => check(&Tree::new(alloc), listing),
+    }
+}
+
 /// So many zeros.
 fn zeros(alloc: Global, count: u64) -> Result<Vec<u8>, OutOfMemory>
     ensures { IfOk result (λ bytes. length bytes.items ≡ count) }
@@ -120,14 +140,12 @@ impl Task {
     /// Answers with the tree of all entries.
     fn play(&mut self) -> Turn
         requires phase { self.old.phase ≡ at.Decide }
+        requires logplay { self.old.cmd ≡ cmd.Logplay }
         ensures { Tells (turns.decide_turn cmd.Logplay self.old) result self.new }
     {
-        let m = count(&self.plan);
-        let plan = self.plan.take();
-        let answer = Answer::Played {
-            m,
-            tree: tree_of(self.alloc, plan),
-        };
+        let m = self.replay.count();
+        let tree = self.replay.take_tree();
+        let answer = Answer::Played { m, tree };
         done(&mut self.phase, answer)
     }
 
@@ -141,8 +159,8 @@ impl Task {
             unreachable!();
         };
         let answer = Answer::Checked {
-            m: count(&self.plan),
-            checked: checked(self.alloc, &mut self.plan, listing.as_slice()),
+            m: self.replay.count(),
+            checked: checked(self.alloc, &self.replay, listing.as_slice()),
         };
         done(&mut self.phase, answer)
     }
@@ -167,14 +185,10 @@ impl Task {
         ensures want { OnErr result (WantsMemory self.old.entries
             (turns.wish_turn self.old (wish_of self.old.cmd))) }
     {
-        match decided(
-            self.alloc,
-            &mut self.kept,
-            &mut self.plan,
-            &self.params,
-            &self.cmd,
-            self.me,
-        )? {
+        match self
+            .replay
+            .decide(&self.params, self.gate, &self.cmd, self.me)?
+        {
             Ok(entry) => self.write(&entry),
             Err(refused) => Ok(done(&mut self.phase, refusal_answer(refused))),
         }
@@ -208,8 +222,8 @@ impl Task {
         let Cmd::Verify { path, against } = &self.cmd else {
             unreachable!();
         };
-        let m = count(&self.plan);
-        match file_found(found_at(&mut self.plan, path), m) {
+        let m = self.replay.count();
+        match file_found(self.replay.at(path), m) {
             Err(answer) => Ok(done(&mut self.phase, answer)),
             Ok(entry) => match other_length(against, entry.size) {
                 None => self.verify_file(&entry),
@@ -235,7 +249,7 @@ impl Task {
         ensures want { OnErr result (WantsMemory self.old.entries (turns.verify_lines self.old entry.now)) }
     {
         if entry.size == 0 {
-            let m = count(&self.plan);
+            let m = self.replay.count();
             return Ok(done(&mut self.phase, Answer::Same { m }));
         }
         self.contents = Contents::new(content_used(&self.cmd)?);
@@ -259,8 +273,8 @@ impl Task {
         let Cmd::Read { path, .. } = &self.cmd else {
             unreachable!();
         };
-        let m = count(&self.plan);
-        match file_found(found_at(&mut self.plan, path), m) {
+        let m = self.replay.count();
+        match file_found(self.replay.at(path), m) {
             Err(answer) => Ok(done(&mut self.phase, answer)),
             Ok(entry) => self.read_file(&entry),
         }
@@ -281,7 +295,7 @@ impl Task {
         let end = wanted_end(&self.cmd, entry.size);
         if end <= start {
             let answer = Answer::Bytes {
-                m: count(&self.plan),
+                m: self.replay.count(),
                 bytes: ByteText::new(Vec::new(self.alloc)),
             };
             return Ok(done(&mut self.phase, answer));

@@ -1,14 +1,13 @@
 //! Turns of a task that looks at the words of a slot.
 
-ghost use Rattle.std.specs.Prelude.{◌≡◌, ◌≢◌, None, Ok, IfOk, OnErr, false, true};
+ghost use Rattle.std.specs.Prelude.{◌≡◌, ◌≢◌, None, IfOk, OnErr, false, true};
 ghost use Rattle.fam_base.specs.declared.line.LineNo.{LineNo};
-ghost use Rattle.fam_format.specs.Slot.{entry_of, Proper};
-ghost use Rattle.fam_format.specs.Tree.{join_fault};
+ghost use Rattle.fam_format.specs.Slot.{entry_of};
 ghost use Rattle.fam_commands.specs.declared.phase.Phase.TheVariants as at;
 ghost use Rattle.fam_commands.specs.Turns as turns;
 ghost use Rattle.fam_commands.specs.Turns.{turn_of};
 ghost use Rattle.fam_commands.specs.Classes.{is_fsck};
-ghost use Rattle.fam_tasks.specs.Slots.{ShowWants};
+ghost use Rattle.fam_tasks.specs.Survey.{ShowWants};
 ghost use Rattle.fam_tasks.specs.declared.answer.Answer.TheVariants.{MediaFault};
 ghost use Rattle.fam_tasks.specs.declared.answer.Turn.TheVariants.{Done};
 ghost use Rattle.fam_tasks.specs.Tells.{Tells, WantsMemory, slot_turn_by};
@@ -16,9 +15,8 @@ ghost use Rattle.fam_tasks.specs.Tells.{Tells, WantsMemory, slot_turn_by};
 use super::{Task, slot_or_decide};
 use crate::answer::{Answer, Turn};
 use crate::commands::is_fsck;
-use crate::parts::{check_slot, checked_slot};
-use crate::slots::{find, join, show};
-use fam_base::{Entry, OutOfMemory, PATH_LIMIT};
+use crate::survey::show;
+use fam_base::OutOfMemory;
 use fam_format::Reason;
 
 impl Task {
@@ -55,31 +53,11 @@ impl Task {
         if is_fsck(&self.cmd) {
             return self.show_slot(slot);
         }
-        if self.find_entry(slot) {
-            return Ok(None);
-        }
-        self.read_entry(slot)
+        self.read_slot(slot)
     }
 
-    /// Goes on behind a slot whose words are those that are kept of it. Of others nothing is done, and the answer is that.
-    fn find_entry(&mut self, slot: u64) -> bool
-        requires phase { self.old.phase ≡ at.Check slot }
-        requires other { is_fsck self.old.cmd ≡ false }
-        ensures found { result ≡ true → Tells (turns.slot_turn self.old slot
-            (entry_of self.old.params self.old.words slot)) (slot_turn_by slot None) self.new }
-        ensures other { result ≡ false → self.new ≡ self.old }
-    {
-        let words = self.buffer.slot();
-        if !find(&mut self.kept, &mut self.plan, &self.params, words) {
-            return false;
-        }
-        self.buffer.clear();
-        self.phase = slot_or_decide(slot + 1, self.gate);
-        true
-    }
-
-    /// Reads the entry of a slot.
-    fn read_entry(&mut self, slot: u64) -> Result<Option<Reason>, OutOfMemory>
+    /// Reads the words of a slot: its entry joins those before it, or not.
+    fn read_slot(&mut self, slot: u64) -> Result<Option<Reason>, OutOfMemory>
         requires phase { self.old.phase ≡ at.Check slot }
         requires other { is_fsck self.old.cmd ≡ false }
         ensures turn { IfOk result (λ reason. Tells (turns.slot_turn self.old slot
@@ -88,37 +66,8 @@ impl Task {
         ensures want { OnErr result (WantsMemory self.old.entries (turns.slot_turn self.old slot
             (entry_of self.old.params self.old.words slot))) }
     {
-        let mut field = [0; PATH_LIMIT];
-        match check_slot(&self.buffer, slot, &self.params, &mut field) {
-            Ok(()) => {
-                let entry = checked_slot(&self.buffer, &field);
-                self.join(slot, &entry)
-            }
-            Err(reason) => Ok(Some(reason)),
-        }
-    }
-
-    /// The entry of a slot joins those before it, or not.
-    fn join(&mut self, slot: u64, entry: &Entry) -> Result<Option<Reason>, OutOfMemory>
-        requires phase { self.old.phase ≡ at.Check slot }
-        requires other { is_fsck self.old.cmd ≡ false }
-        requires proper { Proper self.old.params entry.now }
-        requires read { entry_of self.old.params self.old.words slot ≡ Ok entry.now }
-        ensures turn { IfOk result (λ reason. Tells (turns.join_turn self.old slot entry.now
-            (join_fault self.old.params self.old.entries entry.now)) (slot_turn_by slot reason) self.new) }
-        ensures err { OnErr result (self.new ≡ self.old) }
-        ensures want { OnErr result (WantsMemory self.old.entries (turns.join_turn self.old slot entry.now
-            (join_fault self.old.params self.old.entries entry.now))) }
-    {
         let words = self.buffer.slot();
-        match join(
-            self.alloc,
-            &mut self.kept,
-            &mut self.plan,
-            &self.params,
-            words,
-            entry,
-        )? {
+        match self.replay.read_slot(&self.params, self.gate, words)? {
             Some(reason) => Ok(Some(reason)),
             None => {
                 self.buffer.clear();

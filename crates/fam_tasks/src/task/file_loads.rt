@@ -14,7 +14,6 @@ ghost use Rattle.fam_tasks.specs.Tells.{IsCompared, Tells, turn_by};
 use super::{Task, done};
 use crate::answer::{Answer, Turn, Verified};
 use crate::byte_text::ByteText;
-use crate::slots::count;
 use crate::wanted::{wanted_lines, wanted_start};
 use fam_base::{Cmd, Line};
 use fam_commands::{Part, Phase};
@@ -111,7 +110,7 @@ impl Task {
     {
         let size = self.file_size();
         let lines = wanted_lines(&self.cmd, size);
-        let m = count(&self.plan);
+        let m = self.replay.count();
         self.contents.take(size);
         match compare(found, self.contents.line(), LINE_BYTES * line, size) {
             Some((offset, found, wanted)) => {
@@ -146,7 +145,7 @@ impl Task {
             result self.new }
     {
         let lines = wanted_lines(&self.cmd, self.file_size());
-        let m = count(&self.plan);
+        let m = self.replay.count();
         let first = wanted_start(&self.cmd) % LINE_BYTES;
         self.buffer.push(word);
         if line + 1 < lines {

@@ -1,8 +1,10 @@
 //! Turns of a task that read: what comes of the words that its loads gave.
 
-ghost use Rattle.std.specs.Prelude.{◌≡◌, ◌+◌, ◌<◌, None, length, true};
+ghost use Rattle.std.specs.Prelude.{◌≡◌, ◌+◌, ◌*◌, ◌<◌, ◌≤◌, None, IfOk, length, true};
+ghost use Rattle.fam_format.specs.Layout.{device_limit};
 ghost use Rattle.fam_format.specs.Log.{gate_fault};
-ghost use Rattle.fam_format.specs.Super.{magic_fault};
+ghost use Rattle.fam_format.specs.Params.{SoundParams};
+ghost use Rattle.fam_format.specs.Super.{magic_fault, super_body_of};
 ghost use Rattle.fam_commands.specs.declared.phase.Part.TheVariants as part;
 ghost use Rattle.fam_commands.specs.declared.phase.Phase.TheVariants as at;
 ghost use Rattle.fam_commands.specs.Turns as turns;
@@ -13,12 +15,25 @@ ghost use Rattle.fam_tasks.specs.Tells.{Tells, is_reading};
 
 use super::{LAST_LINE, Task, done, slot_or_decide};
 use crate::answer::{Answer, TaskNote, Turn};
-use crate::commands::{appends, slots_told};
-use crate::parts::{is_refused, read_body, read_header};
+use crate::buffer::Buffer;
+use crate::commands::{appends, is_refused, slots_told};
 use crate::replies::{log_answer, super_answer};
+use fam_base::Params;
 use fam_commands::{Part, Phase};
-use fam_format::{LAST_WORD, LINE_BYTES, LogFault, LogField, SuperFault};
+use fam_format::{LAST_WORD, LINE_BYTES, LINE_WORDS, SuperFault};
+use fam_replay::{read_gate, read_header, read_superblock};
 use fam_super::MAGIC;
+
+/// The parameters that lines 1 and 2 tell, or the first fault. `have` is the image's bytes.
+fn read_body(words: &Buffer, have: u64) -> Result<Params, SuperFault>
+    requires count { length words.now ≡ 2 * LINE_WORDS }
+    requires have { have ≤ device_limit }
+    ensures value { result ≡ super_body_of words.now have }
+    ensures sound { IfOk result (λ p. SoundParams p) }
+    ensures device { IfOk result (λ p. p.device ≤ have) }
+{
+    read_superblock(&words.line(0), &words.line(LINE_WORDS), have)
+}
 
 impl Task {
     /// Line 0 was dropped.
@@ -182,7 +197,7 @@ impl Task {
             result self.new }
     {
         self.buffer.push(word);
-        match read_header(&self.buffer, &self.params) {
+        match read_header(&self.buffer.line(0), &self.params) {
             Err(fault) => {
                 let answer = log_answer(&self.cmd, fault);
                 done(&mut self.phase, answer)
@@ -229,16 +244,21 @@ impl Task {
         ensures { Tells (turns.gate_turn self.old gate (gate_fault gate self.old.params))
             result self.new }
     {
-        let slots = self.params.slots;
-        if slots < gate {
-            let fault = LogFault::BadLog {
-                field: LogField::Gate,
-                found: gate,
-                wanted: slots,
-            };
-            let answer = log_answer(&self.cmd, fault);
-            return done(&mut self.phase, answer);
+        match read_gate(gate, &self.params) {
+            Err(fault) => {
+                let answer = log_answer(&self.cmd, fault);
+                done(&mut self.phase, answer)
+            }
+            Ok(()) => self.begin_slots(gate),
         }
+    }
+
+    /// Goes on to the first slot that the gate counts, or to the decision.
+    fn begin_slots(&mut self, gate: u64) -> Turn
+        requires phase { self.old.phase ≡ at.Gate }
+        requires within { gate ≤ self.old.params.slots }
+        ensures { Tells (turns.gate_turn self.old gate None) result self.new }
+    {
         self.gate = gate;
         self.phase = slot_or_decide(0, slots_told(&self.cmd, &self.params, gate));
         if appends(&self.cmd) {

@@ -11,10 +11,10 @@ ghost use Rattle.fam_tasks.specs.Rest.{ComparesLine, DropsLine, IsComparedLine, 
 
 use super::Task;
 use crate::answer::Verified;
-use crate::parts::line_of_slot;
 use fam_base::{Cmd, Line, LineNo};
 use fam_commands::{Part, Phase};
 use fam_format::{LAST_WORD, LINE_WORDS};
+use fam_replay::line_of_slot;
 
 impl Task {
     /// The line of which the task loads word 1 next, if it does.

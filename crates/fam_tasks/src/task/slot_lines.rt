@@ -9,10 +9,10 @@ ghost use Rattle.fam_tasks.specs.Rest.{DropsLine};
 ghost use Rattle.fam_tasks.specs.SlotLines.{IsSlotLine, LoadsSlotLine};
 
 use super::{LAST_LINE, Task};
-use crate::parts::line_of_slot;
 use fam_base::{Line, LineNo};
 use fam_commands::{Part, Phase};
 use fam_format::SLOT_LINES;
+use fam_replay::line_of_slot;
 
 /// Which line of which slot a task drops next, before it loads the line's words.
 #[derive(Clone, Copy)]

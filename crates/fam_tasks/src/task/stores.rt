@@ -11,11 +11,11 @@ ghost use Rattle.fam_tasks.specs.Tells.{Tells};
 
 use super::{LAST_LINE, Task};
 use crate::answer::Turn;
-use crate::parts::line_of_slot;
 use fam_commands::Phase;
 use fam_extents::lines_of;
 use fam_format::{LAST_WORD, LINE_WORDS};
 use fam_machine::Op;
+use fam_replay::line_of_slot;
 
 impl Task {
     /// Whether the first store of an append comes next.

@@ -1,0 +1,4 @@
+mod EightWords
+mod Found
+mod Lines
+pub mod Replicas

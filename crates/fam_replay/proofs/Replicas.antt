@@ -1,0 +1,52 @@
+-- What is kept of slots is found again.
+use Rattle.std.proofs.Common.{◌≡◌, ℕ, ◌+◌, ◌<◌, ◌≤◌, List, [], ◌∷◌, ◌++◌, length, take, get_or, Option, Some, None, Result, Ok, Err, sym, ap, subst, ◌∙◌, arith}
+use Rattle.std.specs.Prelude.{IfOk}
+use Rattle.std.specs.List.{slice_get}
+use Rattle.std.proofs.lemmas.List.{length-take, length-take-le, take_all, take_more}
+use Rattle.std.proofs.lemmas.Option.{slice_get_within, get_or_from_slice_get, slice_get-get_or}
+use Rattle.fam_base.specs.declared.entry.Entry.{Entry}
+use Rattle.fam_base.specs.declared.entry.Params.{Params}
+use Rattle.fam_format.specs.declared.faults.Reason.{Reason}
+use Rattle.fam_format.specs.Slot.{entry_of}
+use Rattle.fam_plan.specs.State.{PlanState, IsHistory}
+use Rattle.fam_replay.specs.Replica.{IsReplica, FindsNext, ReplicaState}
+use Rattle.fam_replay.specs.Replay.{entries_in, HasFoundAll, IsReplayOf, Joins, ReadsNext, Refused}
+
+-- The next entry is one that is kept.
+module _ (s : PlanState) (slots : List (List ℕ)) (found : ℕ) (words : List ℕ) (is : IsReplica s slots found) (history : IsHistory s) (kept : slice_get slots found ≡ Some words) where
+  pub below : found < length s.entries
+  below = omega (arith, slice_get_within slots found words kept, is.read.few)
+
+  count : length (take found s.entries) ≡ found
+  count = length-take-le found s.entries (omega (arith, below))
+
+  entry_there : (e : Entry) × (slice_get s.entries found ≡ Some e)
+  entry_there = elim (s.entries) as (λ (l : List Entry). found < length l → (e : Entry) × (slice_get l found ≡ Some e)) [
+    | [] ↦ λ h. absurd (omega arith)
+    | e ∷ l ↦ λ h. (get_or (e ∷ l) found e, slice_get-get_or (e ∷ l) found e h)
+  ] below
+
+  pub finds : FindsNext s.params words (take found s.entries) (take (found + 1) s.entries)
+  finds =
+      let e = entry_there.0 in
+      record {
+        entry = e;
+        read = subst (λ (k : ℕ). entry_of s.params words k ≡ Ok e) (sym count) (is.read.read found words e kept entry_there.1);
+        joins = (history.added found e entry_there.1).joins;
+        added = take_more s.entries found e below ∙ ap (λ (x : Entry). take found s.entries ++ x ∷ []) (get_or_from_slice_get s.entries found e e entry_there.1);
+      }
+
+-- where all entries were found, those that were found are all
+pub whole : (entries : List Entry) (found : ℕ) → length entries ≤ found → take found entries ≡ entries
+whole entries found is = take_all found entries is
+
+-- where as many were found as the gate counts, nothing more is kept
+pub all_found : (p : Params) (gate : ℕ) (o : Option ReplicaState) → IsReplayOf p gate o → length (entries_in o) ≡ gate → HasFoundAll o
+all_found p gate None fits all = tt
+all_found p gate (Some s) fits all = omega (arith, fits.1, all, length-take s.found s.entries)
+
+-- what comes of an entry that was read
+pub reads_by : {E : Type 0} (p : Params) (words : List ℕ) (old new : List Entry) (e : Entry) (result : Result (Option Reason) E) → entry_of p words (length old) ≡ Ok e → IfOk result (λ reason. Joins reason p old e new) → IfOk result (λ reason. ReadsNext reason p words old new)
+reads_by p words old new e (Ok None) read joins = record { entry = e; read = read; joins = joins.0; added = joins.1 }
+reads_by p words old new e (Ok (Some reason)) read joins = (Refused e read joins.0, joins.1)
+reads_by p words old new e (Err fault) read joins = tt

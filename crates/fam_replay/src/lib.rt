@@ -1,0 +1,16 @@
+//! What the words of a log come to: its parameters, and the entries of its slots.
+//!
+//! A reader hands in the words as it loads them, and a `Replay` keeps the entries that they told. What it read may be
+//! kept, as a `Replica`: a later reading finds a slot again by its words, and doesn't judge it anew. A contract sees
+//! the entries that were found so far (`specs/Replay.antt`), and behind them those that are kept
+//! (`specs/Replica.antt`). How words are loaded is the caller's business.
+#![tactic(auto)]
+
+mod head;
+mod replay;
+mod replica;
+mod same;
+
+pub use head::{line_of_slot, read_gate, read_header, read_superblock};
+pub use replay::Replay;
+pub use replica::Replica;

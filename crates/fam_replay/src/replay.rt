@@ -1,0 +1,358 @@
+//! A reading of a log's slots, one after another. Its entries take memory, so they are first kept with the first slot
+//! that is read. What an earlier reading kept is taken over then.
+
+ghost use Rattle.std.specs.Prelude.{◌≡◌, ◌≤◌, ◌<◌, ℕ, [], false, true, None, Ok, Some, IfOk, IfSome, IsErr, IsSome, OnOk, OnErr, OnSome, length};
+ghost use Rattle.std.specs.FinMap as map;
+ghost use Rattle.fam_base.specs.Commands.{IsSoundCmd};
+ghost use Rattle.fam_base.specs.declared.entry.Params.{Params};
+ghost use Rattle.fam_format.specs.Params.{SoundParams};
+ghost use Rattle.fam_format.specs.Slot.{entry_of, Proper};
+ghost use Rattle.fam_format.specs.Tree.{join_fault, replay};
+ghost use Rattle.fam_rules.specs.Decide.{decide, wish_of};
+ghost use Rattle.fam_plan.specs.Faults.{reason_of};
+ghost use Rattle.fam_plan.specs.Needs.{NeedsUnits};
+ghost use Rattle.fam_replay.specs.Replica.{FindsNext, JoinsNext};
+ghost use Rattle.fam_replay.specs.Replay.{entries_in, HasFoundAll, IsReplayOf, IsRoomFor, Joins, ReadsNext};
+
+use crate::replica::Replica;
+use fam_base::{Cmd, Entry, OutOfMemory, PATH_LIMIT, Params, Path};
+use fam_entry::{check_entry, checked_entry};
+use fam_format::{Reason, SLOT_WORDS};
+use fam_plan::{AddFault, first_entry_fault, first_entry_refusal};
+use fam_rules::Refused;
+use fam_tree::Tree;
+use std::alloc::Global;
+use std::marker::Model;
+use uuid::Uuid;
+
+/// The entries of the slots that were read, and what an earlier reading kept of them. A contract sees a replica where a
+/// slot was read.
+#[derive(Drop)]
+pub struct Replay {
+    alloc: Global,
+    /// What an earlier reading kept, until it is taken over.
+    kept: Option<Replica>,
+    /// Whether the words of the slots are kept for later readings.
+    keeps: bool,
+    replica: Option<Replica>,
+}
+
+impl Model for Replay {
+    ghost use Rattle.std.specs.Prelude.{Option};
+    ghost use Rattle.std.specs.Coded.{coded_option};
+    ghost use Rattle.fam_replay.specs.Replica.{ReplicaState, replica_code};
+
+    ghost Value = { Option ReplicaState };
+
+    ghost coded = { coded_option replica_code };
+
+    ghost view = { λ r. r.replica };
+}
+
+/// What is kept, where it is of the file system with these parameters and the gate counts no fewer entries: nothing of
+/// it was found so far.
+fn take_over(kept: &mut Option<Replica>, keeps: bool, params: &Params, gate: u64) -> Option<Replica>
+    ensures fits { IsReplayOf params.now gate result }
+    ensures none { entries_in result ≡ [] }
+{
+    match kept.take() {
+        Some(mut replica) => {
+            if !replica.is_of(params, gate) {
+                return None;
+            }
+            replica.rewind(keeps);
+            Some(replica)
+        }
+        None => None,
+    }
+}
+
+/// Why an entry doesn't join, if memory didn't run out.
+fn reason_against(fault: AddFault) -> Result<Reason, OutOfMemory>
+    ensures reason { IfOk result (λ reason. reason_of fault ≡ Some reason) }
+    ensures none { OnErr result (reason_of fault ≡ None) }
+{
+    match fault {
+        AddFault::Exists(kind) => Ok(Reason::Exists(kind)),
+        AddFault::NoParent => Ok(Reason::NoParent),
+        AddFault::ParentIsFile => Ok(Reason::ParentIsFile),
+        AddFault::Overlap(unit) => Ok(Reason::Overlap(unit)),
+        AddFault::OutOfMemory => Err(OutOfMemory),
+    }
+}
+
+/// Adds the entry of a slot to those that were found where it joins them, and otherwise says why it doesn't.
+fn add(
+    replica: &mut Replica,
+    words: &[u64; SLOT_WORDS],
+    entry: &Entry,
+) -> Result<Option<Reason>, OutOfMemory>
+    requires proper { Proper replica.old.params entry.now }
+    requires left { length (entries_in (Some replica.old)) < replica.old.params.slots }
+    requires read { entry_of replica.old.params words.now (length (entries_in (Some replica.old))) ≡ Ok entry.now }
+    ensures joins { IfOk result (λ fault. Joins fault replica.old.params
+        (entries_in (Some replica.old)) entry.now (entries_in (Some replica.new))) }
+    ensures params { replica.new.params ≡ replica.old.params }
+    ensures whole { HasFoundAll (Some replica.new) }
+    ensures err { OnErr result (entries_in (Some replica.new) ≡ entries_in (Some replica.old)) }
+    ensures want { OnErr result (join_fault replica.old.params (entries_in (Some replica.old)) entry.now ≡ None) }
+{
+    match replica.add(words, entry) {
+        Ok(()) => Ok(None),
+        Err(fault) => match reason_against(fault) {
+            Ok(reason) => Ok(Some(reason)),
+            Err(full) => Err(full),
+        },
+    }
+}
+
+/// Why the first entry of a log doesn't join, where no memory is left for a plan.
+fn fault_alone(params: &Params, entry: &Entry) -> Result<Option<Reason>, OutOfMemory>
+    requires sound { SoundParams params.now }
+    requires proper { Proper params.now entry.now }
+    ensures fault { IfOk result (λ fault. Joins fault params.now [] entry.now []) }
+    ensures want { OnErr result (join_fault params.now [] entry.now ≡ None) }
+{
+    match first_entry_fault(params, entry) {
+        Some(reason) => Ok(Some(reason)),
+        None => Err(OutOfMemory),
+    }
+}
+
+/// Why a command appends no first entry to a log, where no memory is left for a plan.
+fn refused_alone(
+    params: &Params,
+    cmd: &Cmd,
+    me: &Uuid,
+) -> Result<Result<Entry, Refused>, OutOfMemory>
+    requires sound { SoundParams params.now }
+    requires wish { IsSome (wish_of cmd.now) }
+    ensures value { IfOk result (λ decision. decide params.now me.now [] cmd.now ≡ Some decision) }
+    ensures none { IfOk result (λ decision. IsErr decision) }
+    ensures want { OnErr result (NeedsUnits (decide params.now me.now [] cmd.now)) }
+{
+    match first_entry_refusal(params, cmd, me) {
+        Ok(()) => Err(OutOfMemory),
+        Err(refused) => Ok(Err(refused)),
+    }
+}
+
+impl Replay {
+    /// Before the first slot. Nothing is kept, neither from an earlier reading nor for a later one.
+    pub fn new(alloc: Global) -> Replay
+        ensures { result ≡ None }
+    {
+        Replay {
+            alloc,
+            kept: None,
+            keeps: false,
+            replica: None,
+        }
+    }
+
+    /// Takes what an earlier reading kept, and keeps more for a later one: a slot that has the same words isn't judged
+    /// again. It changes nothing that is read.
+    pub fn remember(&mut self, kept: Option<Replica>)
+        ensures { self.new ≡ self.old }
+    {
+        self.kept = kept;
+        self.keeps = true;
+    }
+
+    /// What is kept for a later reading, if anything is.
+    pub fn into_kept(self) -> Option<Replica> {
+        let Replay { kept, replica, .. } = self;
+        replica.or(kept)
+    }
+
+    /// How many entries were found.
+    pub fn count(&self) -> u64
+        ensures { result ≡ length (entries_in self.now) }
+    {
+        match &self.replica {
+            Some(replica) => replica.count(),
+            None => 0,
+        }
+    }
+
+    /// Whether the words of the next slot are those that are kept of it. Then its entry joins those that were found.
+    #[inline(always)]
+    fn find(&mut self, params: &Params, gate: u64, words: &[u64; SLOT_WORDS]) -> bool
+        requires { IsReplayOf params.now gate self.old }
+        ensures found { result ≡ true → FindsNext params.now words.now (entries_in self.old) (entries_in self.new) }
+        ensures other { result ≡ false → entries_in self.new ≡ entries_in self.old }
+        ensures fits { IsReplayOf params.now gate self.new }
+    {
+        if self.replica.is_none() {
+            self.replica = take_over(&mut self.kept, self.keeps, params, gate);
+        }
+        match &mut self.replica {
+            Some(replica) => replica.find(words),
+            None => false,
+        }
+    }
+
+    /// Makes a replica of no entries, where there is none.
+    fn begin(&mut self, params: &Params, gate: u64) -> Result<(), OutOfMemory>
+        requires sound { SoundParams params.now }
+        requires fits { IsReplayOf params.now gate self.old }
+        ensures some { OnOk result (IsSome self.new) }
+        ensures same { entries_in self.new ≡ entries_in self.old }
+        ensures fits { IsReplayOf params.now gate self.new }
+        ensures none { OnErr result (entries_in self.old ≡ []) }
+    {
+        if self.replica.is_none() {
+            self.replica = take_over(&mut self.kept, self.keeps, params, gate);
+        }
+        if self.replica.is_none() {
+            self.replica = Some(Replica::new(self.alloc, params, self.keeps)?);
+        }
+        Ok(())
+    }
+
+    /// The entry of the next slot joins those that were found, or not.
+    fn join(
+        &mut self,
+        params: &Params,
+        gate: u64,
+        words: &[u64; SLOT_WORDS],
+        entry: &Entry,
+    ) -> Result<Option<Reason>, OutOfMemory>
+        requires sound { SoundParams params.now }
+        requires fits { IsReplayOf params.now gate self.old }
+        requires gate { gate ≤ params.now.slots }
+        requires left { length (entries_in self.old) < gate }
+        requires proper { Proper params.now entry.now }
+        requires read { entry_of params.now words.now (length (entries_in self.old)) ≡ Ok entry.now }
+        ensures joins { IfOk result (λ fault.
+            Joins fault params.now (entries_in self.old) entry.now (entries_in self.new)) }
+        ensures fits { IsReplayOf params.now gate self.new }
+        ensures err { OnErr result (entries_in self.new ≡ entries_in self.old) }
+        ensures want { OnErr result (join_fault params.now (entries_in self.old) entry.now ≡ None) }
+    {
+        if self.begin(params, gate).is_err() {
+            return fault_alone(params, entry);
+        }
+        match &mut self.replica {
+            Some(replica) => add(replica, words, entry),
+            None => unreachable!(),
+        }
+    }
+
+    /// Reads the words of the next slot as an entry's.
+    fn judge(
+        &mut self,
+        params: &Params,
+        gate: u64,
+        words: &[u64; SLOT_WORDS],
+    ) -> Result<Option<Reason>, OutOfMemory>
+        requires sound { SoundParams params.now }
+        requires fits { IsReplayOf params.now gate self.old }
+        requires gate { gate ≤ params.now.slots }
+        requires left { length (entries_in self.old) < gate }
+        ensures reads { IfOk result (λ reason.
+            ReadsNext reason params.now words.now (entries_in self.old) (entries_in self.new)) }
+        ensures fits { IsReplayOf params.now gate self.new }
+        ensures err { OnErr result (entries_in self.new ≡ entries_in self.old) }
+        ensures want { OnErr result (JoinsNext params.now words.now (entries_in self.old)) }
+    {
+        let mut field = [0; PATH_LIMIT];
+        match check_entry(words, self.count(), params, &mut field) {
+            Ok(()) => {
+                let entry = checked_entry(words, &field);
+                self.join(params, gate, words, &entry)
+            }
+            Err(reason) => Ok(Some(reason)),
+        }
+    }
+
+    /// Reads the words of the next slot, which the gate counts: its entry joins those that were found, or the reason
+    /// against it is given. Where memory lacks for an entry that joins, what was found stays.
+    pub fn read_slot(
+        &mut self,
+        params: &Params,
+        gate: u64,
+        words: &[u64; SLOT_WORDS],
+    ) -> Result<Option<Reason>, OutOfMemory>
+        requires sound { SoundParams params.now }
+        requires fits { IsReplayOf params.now gate self.old }
+        requires gate { gate ≤ params.now.slots }
+        requires left { length (entries_in self.old) < gate }
+
+        ensures reads { IfOk result (λ reason.
+            ReadsNext reason params.now words.now (entries_in self.old) (entries_in self.new)) }
+        ensures fits { IsReplayOf params.now gate self.new }
+        ensures err { OnErr result (entries_in self.new ≡ entries_in self.old) }
+        ensures want { OnErr result (JoinsNext params.now words.now (entries_in self.old)) }
+    {
+        if self.find(params, gate, words) {
+            return Ok(None);
+        }
+        self.judge(params, gate, words)
+    }
+
+    /// What a command appends behind the entries that were found, or why nothing. Nothing else may be kept.
+    pub fn decide(
+        &mut self,
+        params: &Params,
+        gate: u64,
+        cmd: &Cmd,
+        me: Uuid,
+    ) -> Result<Result<Entry, Refused>, OutOfMemory>
+        requires sound { SoundParams params.now }
+        requires fits { IsReplayOf params.now gate self.old }
+        requires all { length (entries_in self.old) ≡ gate }
+        requires wish { IsSome (wish_of cmd.now) }
+
+        ensures value { IfOk result (λ decision. decide params.now me (entries_in self.old) cmd.now ≡ Some decision) }
+        ensures may { IsSoundCmd cmd.now → IfOk result (λ decision. IfOk decision (IsRoomFor params.now (entries_in self.old))) }
+        ensures same { entries_in self.new ≡ entries_in self.old }
+        ensures fits { IsReplayOf params.now gate self.new }
+        ensures want { OnErr result (NeedsUnits (decide params.now me (entries_in self.old) cmd.now)) }
+        ensures none { OnErr result (entries_in self.old ≡ []) }
+    {
+        if self.begin(params, gate).is_err() {
+            return refused_alone(params, cmd, &me);
+        }
+        match &self.replica {
+            Some(replica) => Ok(replica.decide(cmd, me)),
+            None => unreachable!(),
+        }
+    }
+
+    /// What stands at a path, by the entries that were found. Nothing else may be kept.
+    pub fn at(&self, path: &Path) -> Option<Entry>
+        requires { HasFoundAll self.now }
+        ensures value { result ≡ map.get (replay (entries_in self.now)) path.now }
+        ensures proper { (p : Params) (gate : ℕ) → IsReplayOf p gate self.now → IfSome result (Proper p) }
+    {
+        match &self.replica {
+            Some(replica) => replica.at(path),
+            None => None,
+        }
+    }
+
+    /// The tree of the entries that were found, where a slot was read. Nothing else may be kept.
+    pub fn tree(&self) -> Option<&Tree>
+        requires { HasFoundAll self.now }
+        ensures some { IfSome result (λ tree. tree.now ≡ replay (entries_in self.now)) }
+        ensures none { result ≡ None → entries_in self.now ≡ [] }
+    {
+        match &self.replica {
+            Some(replica) => Some(replica.tree()),
+            None => None,
+        }
+    }
+
+    /// The tree of the entries that were found, which the caller takes over: nothing is kept of it. Nothing else may be
+    /// kept before.
+    pub fn take_tree(&mut self) -> Tree
+        requires { HasFoundAll self.old }
+        ensures { result ≡ replay (entries_in self.old) }
+    {
+        match self.replica.take() {
+            Some(replica) => replica.into_tree(),
+            None => Tree::new(self.alloc),
+        }
+    }
+}

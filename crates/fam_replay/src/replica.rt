@@ -1,0 +1,203 @@
+//! What is kept of the log that was read: a slot that has the words which an earlier reading found is neither read nor
+//! judged again.
+
+ghost use Rattle.std.specs.Prelude.{◌≡◌, ◌++◌, ◌∷◌, [], ◌<◌, ◌≤◌, ℕ, true, false, None, Some, Ok, IfOk, IfErr, IfSome, IsSome, OnOk, OnErr, length, option_map, slice_get, take};
+ghost use Rattle.std.specs.FinMap as map;
+ghost use Rattle.fam_base.specs.Commands.{IsSoundCmd};
+ghost use Rattle.fam_format.specs.Params.{SoundParams};
+ghost use Rattle.fam_format.specs.Slot.{entry_of, Proper};
+ghost use Rattle.fam_format.specs.Tree.{join_fault, replay};
+ghost use Rattle.fam_rules.specs.Decide.{decide, wish_of};
+ghost use Rattle.fam_plan.specs.Faults.{reason_of};
+ghost use Rattle.fam_replay.specs.Replica.{AreRead, FindsNext, IsWhole, KeepsWords, found_in};
+ghost use Rattle.fam_replay.specs.Replay.{IsReplayOf, IsRoomFor};
+
+use crate::same::same_slot;
+use fam_base::{Cmd, Entry, OutOfMemory, Params, Path};
+use fam_format::SLOT_WORDS;
+use fam_plan::{AddFault, Plan};
+use fam_rules::Refused;
+use fam_tree::Tree;
+use std::alloc::Global;
+use std::marker::Model;
+use uuid::Uuid;
+
+/// A plan of the entries of a log, with the words of the slots from which they were read. The reading that is under way
+/// has found the first of them, and those behind are kept from an earlier one.
+#[derive(Drop)]
+pub struct Replica {
+    plan: Plan,
+    /// The words of the first slots, where they are kept.
+    slots: Vec<[u64; SLOT_WORDS]>,
+    /// How many of the plan's entries the reading has found.
+    found: u64,
+    /// Whether the words of further slots are kept.
+    keeps: bool,
+}
+
+impl Model for Replica {
+    ghost use Rattle.fam_replay.specs.Replica.{IsReplica, ReplicaState, replica_code};
+
+    ghost Value = { ReplicaState };
+
+    ghost coded = { replica_code };
+
+    ghost view = { λ r. record { params = r.plan.params; entries = r.plan.entries; found = r.found } };
+
+    ghost invariant = { λ r. IsReplica r.plan r.slots.items r.found };
+}
+
+/// Forgets the entries behind the first `found`, and the words of their slots.
+fn forget(plan: &mut Plan, slots: &mut Vec<[u64; SLOT_WORDS]>, found: u64)
+    requires { AreRead plan.old.params slots.old.items plan.old.entries }
+    ensures read { AreRead plan.new.params slots.new.items plan.new.entries }
+    ensures first { plan.new.entries ≡ take found plan.old.entries }
+    ensures params { plan.new.params ≡ plan.old.params }
+{
+    plan.truncate(found);
+    slots.truncate(found as usize);
+}
+
+/// Keeps the words of a slot, if they are wanted and those of all slots before it are kept. Where memory lacks they are
+/// not.
+fn keep(slots: &mut Vec<[u64; SLOT_WORDS]>, wanted: bool, slot: u64, words: &[u64; SLOT_WORDS])
+    ensures { KeepsWords slot words.now slots.old.items slots.new.items }
+{
+    if wanted && slots.len() as u64 == slot {
+        let _ = slots.push(*words);
+    }
+}
+
+/// The words that are kept of a slot.
+#[inline(always)]
+fn kept_at(slots: &[[u64; SLOT_WORDS]], slot: u64) -> Option<&[u64; SLOT_WORDS]>
+    ensures { option_map (λ words. words.now) result ≡ slice_get slots.now slot }
+{
+    slots.get(slot as usize)
+}
+
+/// Whether these are the words that are kept of a slot.
+#[inline(always)]
+fn is_kept(slots: &[[u64; SLOT_WORDS]], slot: u64, words: &[u64; SLOT_WORDS]) -> bool
+    ensures { result ≡ true → slice_get slots.now slot ≡ Some words.now }
+{
+    match kept_at(slots, slot) {
+        Some(kept) => same_slot(kept, words),
+        None => false,
+    }
+}
+
+impl Replica {
+    /// No entries. The words of slots are kept, or not.
+    pub(crate) fn new(alloc: Global, params: &Params, keeps: bool) -> Result<Replica, OutOfMemory>
+        requires { SoundParams params.now }
+        ensures { IfOk result (λ r. r ≡ record { params = params.now; entries = []; found = 0 }) }
+    {
+        Ok(Replica {
+            plan: Plan::new(alloc, params)?,
+            slots: Vec::new(alloc),
+            found: 0,
+            keeps,
+        })
+    }
+
+    /// Begins another reading, which has found nothing so far. The words of further slots are kept, or not.
+    pub(crate) fn rewind(&mut self, keeps: bool)
+        ensures { self.new ≡ record self.old { found = 0 } }
+    {
+        self.found = 0;
+        self.keeps = keeps;
+    }
+
+    /// Whether it is of the file system with these parameters, and the gate counts no fewer entries.
+    pub(crate) fn is_of(&self, params: &Params, gate: u64) -> bool
+        ensures { result ≡ true → IsReplayOf params.now gate (Some self.now) }
+    {
+        self.plan.params() == params && self.plan.count() <= gate
+    }
+
+    /// Whether the next slot has the words that are kept of it. Then its entry is found: it joins those before it.
+    #[inline(always)]
+    pub(crate) fn find(&mut self, words: &[u64; SLOT_WORDS]) -> bool
+        ensures found { result ≡ true
+            → FindsNext self.old.params words.now (found_in self.old) (found_in self.new) }
+        ensures other { result ≡ false → self.new ≡ self.old }
+        ensures kept { self.new.entries ≡ self.old.entries }
+        ensures params { self.new.params ≡ self.old.params }
+    {
+        if !is_kept(&self.slots, self.found, words) {
+            return false;
+        }
+        self.plan.each_entry_joins();
+        self.found += 1;
+        true
+    }
+
+    /// Adds the entry that the words of the next slot tell, where it joins those that were found. A fault leaves these
+    /// as they were. What was kept behind them is forgotten.
+    pub(crate) fn add(&mut self, words: &[u64; SLOT_WORDS], entry: &Entry) -> Result<(), AddFault>
+        requires proper { Proper self.old.params entry.now }
+        requires left { length (found_in self.old) < self.old.params.slots }
+        requires read { entry_of self.old.params words.now (length (found_in self.old)) ≡ Ok entry.now }
+
+        ensures joins { OnOk result (join_fault self.old.params (found_in self.old) entry.now ≡ None) }
+        ensures added { OnOk result (found_in self.new ≡ found_in self.old ++ entry.now ∷ []) }
+        ensures cause { IfErr result (λ fault. reason_of fault
+            ≡ join_fault self.old.params (found_in self.old) entry.now) }
+        ensures same { OnErr result (found_in self.new ≡ found_in self.old) }
+        ensures whole { IsWhole self.new }
+        ensures params { self.new.params ≡ self.old.params }
+    {
+        forget(&mut self.plan, &mut self.slots, self.found);
+        self.plan.add(entry)?;
+        keep(&mut self.slots, self.keeps, self.found, words);
+        self.found = self.plan.count();
+        Ok(())
+    }
+
+    /// What a command appends behind the entries that were found, or why nothing.
+    pub(crate) fn decide(&self, cmd: &Cmd, me: Uuid) -> Result<Entry, Refused>
+        requires wish { IsSome (wish_of cmd.now) }
+        requires whole { IsWhole self.now }
+        ensures value { decide self.now.params me (found_in self.now) cmd.now ≡ Some result }
+        ensures may { IsSoundCmd cmd.now
+            → IfOk result (λ entry. IsRoomFor self.now.params (found_in self.now) entry) }
+    {
+        self.plan.decide(cmd, me)
+    }
+
+    /// How many entries were found.
+    pub(crate) fn count(&self) -> u64
+        ensures value { result ≡ self.now.found }
+        ensures within { self.now.found ≤ length self.now.entries }
+    {
+        let _ = &self.plan;
+        self.found
+    }
+
+    /// What stands at each path, by the entries that were found.
+    pub(crate) fn tree(&self) -> &Tree
+        requires { IsWhole self.now }
+        ensures { result.now ≡ replay (found_in self.now) }
+    {
+        self.plan.tree()
+    }
+
+    /// The tree, which the caller takes over.
+    pub(crate) fn into_tree(self) -> Tree
+        requires { IsWhole self }
+        ensures { result ≡ replay (found_in self) }
+    {
+        self.plan.into_tree()
+    }
+
+    /// What stands at a path, by the entries that were found.
+    pub(crate) fn at(&self, path: &Path) -> Option<Entry>
+        requires { IsWhole self.now }
+        ensures value { result ≡ map.get (replay (found_in self.now)) path.now }
+        ensures proper { IfSome result (Proper self.now.params) }
+    {
+        self.plan.each_entry_joins();
+        self.plan.tree().get(path)
+    }
+}

@@ -1,0 +1,15 @@
+-- A task that decides has found all entries that its host keeps.
+use Rattle.std.proofs.Common.{◌≡◌, Bool, false, cond, ap, subst, ◌∙◌}
+use Rattle.fam_commands.specs.declared.phase.Phase.{Phase}
+use Rattle.fam_commands.specs.declared.phase.Phase.TheVariants as at
+use Rattle.fam_replay.specs.Replay.{HasFoundAll}
+use Rattle.fam_replay.proofs.Replicas.{all_found}
+use Rattle.fam_tasks.specs.declared.task.Task.TheInside.{Inside}
+use Rattle.fam_tasks.specs.Commands.{is_fsck}
+use Rattle.fam_tasks.specs.Held.{IsHeldAt, IsTask}
+
+-- as many as the gate counts, and no more are kept
+pub all_found_at : (t : Inside) → IsTask t → t.phase ≡ at.Decide → is_fsck t.cmd ≡ false → HasFoundAll t.replay
+all_found_at t is phase other =
+    let held : IsHeldAt at.Decide t = subst (λ (p : Phase). IsHeldAt p t) phase is.held in
+    all_found t.params t.gate t.replay held.replay (held.entries other ∙ ap (λ (b : Bool). cond b t.params.slots t.gate) other)

@@ -1,5 +1,0 @@
-use Rattle.std.proofs.Common.{◌≡◌}
-use Rattle.fam_tasks.proofs.same.same_slot.Given as goal
-
-abbrev pub invariant-lines : goal.invariant-lines
-invariant-lines l = l.left_words ≡ l.right_words → l.left ≡ l.right
