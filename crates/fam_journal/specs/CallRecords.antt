@@ -26,6 +26,7 @@ use Rattle.fam_journal.specs.Notes.{Note, Host, Made, Start, Mark, Found, Writes
 use Rattle.fam_journal.specs.View.{HostView, WorldView, WorldStands}
 use Rattle.fam_journal.specs.Kept.{Held}
 use Rattle.fam_journal.specs.ByWorld.{busy_in, number_in, refusal_in, world_after}
+use Rattle.fam_journal.specs.NoteClasses.{note_class, Declared, Formatted, Going, Answering, Refusing}
 
 -- What a call makes of it. `told` is the media's image, where it is modelled.
 
@@ -143,18 +144,17 @@ pub record Adds (lines before now : ℕ) (old new : WorldView) : Type 0 where
 abbrev pub CallForm : Call → ℕ → List HostForm → List Note → Type 0
 CallForm c lines hosts notes = DoesForm c lines hosts notes ⊎ BreaksForm c lines hosts notes
 
--- the cause of a refusal that is noted; other notes have none
+-- the cause of a refusal that is noted; other notes have none; by the class of the note
+abbrev pub cause_noted_in : NoteClass → Option Refusal
+cause_noted_in (Declared name uuid) = None
+cause_noted_in (Formatted host p) = None
+cause_noted_in (Going host) = None
+cause_noted_in (Answering host answer) = None
+cause_noted_in (Refusing name cause) = Some cause
+
+-- of a note
 abbrev pub cause_noted : Note → Option Refusal
-cause_noted (Host name uuid) = None
-cause_noted (Made host p) = None
-cause_noted (Start host cmd) = None
-cause_noted (Mark host) = None
-cause_noted (Found host n) = None
-cause_noted (Writes host seq entry) = None
-cause_noted (Answered host answer) = None
-cause_noted (Stop host) = None
-cause_noted (Halt host) = None
-cause_noted (Refused name cause) = Some cause
+cause_noted note = cause_noted_in (note_class note)
 
 -- the refusal that the notes of a call tell
 abbrev pub refusal_noted : List Note → Option Refusal

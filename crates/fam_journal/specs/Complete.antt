@@ -27,6 +27,7 @@ use Rattle.fam_journal.specs.Legal.{InBounds, IsReportOf, OfHost, damaged_master
 use Rattle.fam_journal.specs.Notes.{Answer, Replied, MediaFault, Note, Host, Made, Start, Mark, Found, Writes, Answered, Stop, Halt, Refused}
 use Rattle.fam_journal.specs.Past.{first_past, Damage, FewLines, NoSuperblock, BadHeader, BadSlot, State, Bad, Sound, HostPast, Past, past_after, with_pending}
 use Rattle.fam_commands.specs.Classes.{Class, class_of, Replays, Appends, Compares, Reads, Surveys}
+use Rattle.fam_journal.specs.NoteClasses.{NoteClass, note_class, Declared, Formatted, Going, Answering, Refusing}
 
 -- Sound states.
 
@@ -132,18 +133,17 @@ abbrev pub IsRuledAnswer : Answer → ℕ → Past → Type 0
 IsRuledAnswer (Replied given) host past = OfHost (slice_get past.hosts host) (HasRuled past given)
 IsRuledAnswer (MediaFault line) host past = ⊤
 
--- so it is of a note that is an answer
+-- so it is of a note that is an answer; by the class of the note
+abbrev pub IsRuledNoteIn : NoteClass → Past → Type 0
+IsRuledNoteIn (Declared name uuid) past = ⊤
+IsRuledNoteIn (Formatted host p) past = ⊤
+IsRuledNoteIn (Going host) past = ⊤
+IsRuledNoteIn (Answering host answer) past = IsRuledAnswer answer host past
+IsRuledNoteIn (Refusing name cause) past = ⊤
+
+-- of a note
 abbrev pub IsRuledNote : Note → Past → Type 0
-IsRuledNote (Host name uuid) past = ⊤
-IsRuledNote (Made host p) past = ⊤
-IsRuledNote (Start host cmd) past = ⊤
-IsRuledNote (Mark host) past = ⊤
-IsRuledNote (Found host n) past = ⊤
-IsRuledNote (Writes host seq entry) past = ⊤
-IsRuledNote (Answered host answer) past = IsRuledAnswer answer host past
-IsRuledNote (Stop host) past = ⊤
-IsRuledNote (Halt host) past = ⊤
-IsRuledNote (Refused name cause) past = ⊤
+IsRuledNote note past = IsRuledNoteIn (note_class note) past
 
 -- every answer is one of the rules
 abbrev pub AreRuled : Past → List Note → Type 0

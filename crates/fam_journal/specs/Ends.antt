@@ -14,6 +14,7 @@ use Rattle.fam_journal.specs.Events.{Session}
 use Rattle.fam_journal.specs.Follows.{Follows, FollowsBroken, FollowsCut, FollowsPrefix, FollowsLast, FollowsToSource, SourceEnd}
 use Rattle.fam_journal.specs.Notes.{Answer, Replied, MediaFault, Note, Host, Made, Start, Mark, Found, Writes, Answered, Stop, Halt, Refused}
 use Rattle.fam_journal.specs.Past.{State, Bad, Sound, past_of, settled_length, with_pending}
+use Rattle.fam_journal.specs.NoteClasses.{NoteClass, note_class, Declared, Formatted, Going, Answering, Refusing}
 
 -- Notes that count.
 
@@ -40,18 +41,17 @@ cause_faults (why.CopyLimit sum) = 0
 cause_faults (why.BadListing at) = 0
 cause_faults (why.MediaFault at) = 1
 
--- how many faults a note tells
+-- how many faults a note tells; by the class of the note
+abbrev pub note_faults_in : NoteClass → ℕ
+note_faults_in (Declared name uuid) = 0
+note_faults_in (Formatted host p) = 0
+note_faults_in (Going host) = 0
+note_faults_in (Answering host answer) = answer_faults answer
+note_faults_in (Refusing name cause) = cause_faults cause
+
+-- of a note
 abbrev pub note_faults : Note → ℕ
-note_faults (Host name uuid) = 0
-note_faults (Made host p) = 0
-note_faults (Start host cmd) = 0
-note_faults (Mark host) = 0
-note_faults (Found host n) = 0
-note_faults (Writes host seq entry) = 0
-note_faults (Answered host answer) = answer_faults answer
-note_faults (Stop host) = 0
-note_faults (Halt host) = 0
-note_faults (Refused name cause) = cause_faults cause
+note_faults note = note_faults_in (note_class note)
 
 -- how often the media failed, as the notes have it
 abbrev pub faults_of : List Note → ℕ
@@ -110,44 +110,41 @@ ReadsAfter SinkFails state after = ReadsAs state after
 -- The counts of a storm: answers, refusals, and the history's length at the end. That is 0 before the first mkfs that
 -- succeeded.
 
--- the note is an answer
+-- the note is an answer; by the class of the note
+abbrev pub is_answer_note_in : NoteClass → Bool
+is_answer_note_in (Declared name uuid) = false
+is_answer_note_in (Formatted host p) = false
+is_answer_note_in (Going host) = false
+is_answer_note_in (Answering host answer) = true
+is_answer_note_in (Refusing name cause) = false
+
+-- of a note
 abbrev pub is_answer_note : Note → Bool
-is_answer_note (Host name uuid) = false
-is_answer_note (Made host p) = false
-is_answer_note (Start host cmd) = false
-is_answer_note (Mark host) = false
-is_answer_note (Found host n) = false
-is_answer_note (Writes host seq entry) = false
-is_answer_note (Answered host answer) = true
-is_answer_note (Stop host) = false
-is_answer_note (Halt host) = false
-is_answer_note (Refused name cause) = false
+is_answer_note note = is_answer_note_in (note_class note)
 
--- the note is a refusal
+-- the note is a refusal; by the class of the note
+abbrev pub is_refused_note_in : NoteClass → Bool
+is_refused_note_in (Declared name uuid) = false
+is_refused_note_in (Formatted host p) = false
+is_refused_note_in (Going host) = false
+is_refused_note_in (Answering host answer) = false
+is_refused_note_in (Refusing name cause) = true
+
+-- of a note
 abbrev pub is_refused_note : Note → Bool
-is_refused_note (Host name uuid) = false
-is_refused_note (Made host p) = false
-is_refused_note (Start host cmd) = false
-is_refused_note (Mark host) = false
-is_refused_note (Found host n) = false
-is_refused_note (Writes host seq entry) = false
-is_refused_note (Answered host answer) = false
-is_refused_note (Stop host) = false
-is_refused_note (Halt host) = false
-is_refused_note (Refused name cause) = true
+is_refused_note note = is_refused_note_in (note_class note)
 
--- the note says that a file system was made
+-- the note says that a file system was made; by the class of the note
+abbrev pub is_made_note_in : NoteClass → Bool
+is_made_note_in (Declared name uuid) = false
+is_made_note_in (Formatted host p) = true
+is_made_note_in (Going host) = false
+is_made_note_in (Answering host answer) = false
+is_made_note_in (Refusing name cause) = false
+
+-- of a note
 abbrev pub is_made_note : Note → Bool
-is_made_note (Host name uuid) = false
-is_made_note (Made host p) = true
-is_made_note (Start host cmd) = false
-is_made_note (Mark host) = false
-is_made_note (Found host n) = false
-is_made_note (Writes host seq entry) = false
-is_made_note (Answered host answer) = false
-is_made_note (Stop host) = false
-is_made_note (Halt host) = false
-is_made_note (Refused name cause) = false
+is_made_note note = is_made_note_in (note_class note)
 
 -- how many answers, refusals and settled entries there are
 pub record Counted : Type 0 where

@@ -1,4 +1,5 @@
 pub mod Notes
+pub mod NoteClasses
 pub mod Members
 pub mod Past
 pub mod Legal

@@ -3,6 +3,7 @@ use Rattle.std.specs.Prelude.{ℕ, ⊤, ◌+◌, ◌<◌, List, [], ◌∷◌}
 use Rattle.fam_journal.specs.declared.refusal.Refusal.{Refusal}
 use Rattle.fam_journal.specs.declared.refusal.Refusal.TheVariants as why
 use Rattle.fam_journal.specs.Notes.{Note, Host, Made, Start, Mark, Found, Writes, Answered, Stop, Halt, Refused}
+use Rattle.fam_journal.specs.NoteClasses.{NoteClass, note_class, Declared, Formatted, Going, Answering, Refusing}
 
 -- a refusal names one of so many hosts, or none
 abbrev pub NamesCause : ℕ → Refusal → Type 0
@@ -22,36 +23,34 @@ NamesCause n (why.CopyLimit sum) = ⊤
 NamesCause n (why.BadListing at) = ⊤
 NamesCause n (why.MediaFault at) = ⊤
 
--- a note names one of so many hosts
+-- a note names one of so many hosts; by the class of the note
+abbrev pub IsNamedIn : ℕ → NoteClass → Type 0
+IsNamedIn n (Declared name uuid) = ⊤
+IsNamedIn n (Formatted host p) = host < n
+IsNamedIn n (Going host) = host < n
+IsNamedIn n (Answering host answer) = host < n
+IsNamedIn n (Refusing name cause) = NamesCause n cause
+
+-- of a note
 abbrev pub IsNamed : ℕ → Note → Type 0
-IsNamed n (Host name uuid) = ⊤
-IsNamed n (Made host p) = host < n
-IsNamed n (Start host cmd) = host < n
-IsNamed n (Mark host) = host < n
-IsNamed n (Found host count) = host < n
-IsNamed n (Writes host seq entry) = host < n
-IsNamed n (Answered host answer) = host < n
-IsNamed n (Stop host) = host < n
-IsNamed n (Halt host) = host < n
-IsNamed n (Refused name cause) = NamesCause n cause
+IsNamed n note = IsNamedIn n (note_class note)
 
 -- each of these notes names one of so many hosts
 abbrev pub AreNamed : ℕ → List Note → Type 0
 AreNamed n [] = ⊤
 AreNamed n (note ∷ notes) = IsNamed n note × AreNamed n notes
 
--- how many hosts are declared behind a note
+-- how many hosts are declared behind a note; by the class of the note
+abbrev pub declared_after_in : ℕ → NoteClass → ℕ
+declared_after_in n (Declared name uuid) = n + 1
+declared_after_in n (Formatted host p) = n
+declared_after_in n (Going host) = n
+declared_after_in n (Answering host answer) = n
+declared_after_in n (Refusing name cause) = n
+
+-- of a note
 abbrev pub declared_after : ℕ → Note → ℕ
-declared_after n (Host name uuid) = n + 1
-declared_after n (Made host p) = n
-declared_after n (Start host cmd) = n
-declared_after n (Mark host) = n
-declared_after n (Found host count) = n
-declared_after n (Writes host seq entry) = n
-declared_after n (Answered host answer) = n
-declared_after n (Stop host) = n
-declared_after n (Halt host) = n
-declared_after n (Refused name cause) = n
+declared_after n note = declared_after_in n (note_class note)
 
 -- each note names a host that is declared before it: one of the first so many, or of the notes before
 abbrev pub NameDeclared : ℕ → List Note → Type 0

@@ -23,6 +23,7 @@ use Rattle.fam_journal.specs.Notes.{Note, Host, Made, Start, Mark, Found, Writes
 use Rattle.fam_outcomes.specs.Runs.{HasRun, IsPut, NoneFalls, Outside, RunsOn, SourceCaused}
 use Rattle.fam_outcomes.specs.Statuses.{good_status, is_good, last_status, last_stops, note_stops, parents_status}
 use Rattle.fam_outcomes.specs.Texts.{line, name_text, number, render, shown}
+use Rattle.fam_journal.specs.NoteClasses.{NoteClass, note_class, Declared, Formatted, Going, Answering, Refusing}
 
 -- Lines that end a run early.
 
@@ -98,31 +99,29 @@ pub record IsWholeRun (me : List ℕ) (shot : OneShot) (events : List Event) (jo
   pub goes_on : list_any note_stops (without_last journal) ≡ false
   pub all : last_stops journal ≡ false → take count (shot_events name shot) ≡ shot_events name shot
 
--- the last note of a mkfs, and of a command, that were run to their end
-abbrev pub ends_mkfs : Note → Bool
-ends_mkfs (Host name uuid) = false
-ends_mkfs (Made host p) = true
-ends_mkfs (Start host cmd) = false
-ends_mkfs (Mark host) = false
-ends_mkfs (Found host n) = false
-ends_mkfs (Writes host seq entry) = false
-ends_mkfs (Answered host answer) = false
-ends_mkfs (Stop host) = false
-ends_mkfs (Halt host) = false
-ends_mkfs (Refused name cause) = true
+-- the last note of a mkfs, and of a command, that were run to their end; by the class of the note
+abbrev pub ends_mkfs_in : NoteClass → Bool
+ends_mkfs_in (Declared name uuid) = false
+ends_mkfs_in (Formatted host p) = true
+ends_mkfs_in (Going host) = false
+ends_mkfs_in (Answering host answer) = false
+ends_mkfs_in (Refusing name cause) = true
 
--- a note that ends a command: its answer, or a refusal
+-- of a note
+abbrev pub ends_mkfs : Note → Bool
+ends_mkfs note = ends_mkfs_in (note_class note)
+
+-- a note that ends a command: its answer, or a refusal; by the class of the note
+abbrev pub ends_command_in : NoteClass → Bool
+ends_command_in (Declared name uuid) = false
+ends_command_in (Formatted host p) = false
+ends_command_in (Going host) = false
+ends_command_in (Answering host answer) = true
+ends_command_in (Refusing name cause) = true
+
+-- of a note
 abbrev pub ends_command : Note → Bool
-ends_command (Host name uuid) = false
-ends_command (Made host p) = false
-ends_command (Start host cmd) = false
-ends_command (Mark host) = false
-ends_command (Found host n) = false
-ends_command (Writes host seq entry) = false
-ends_command (Answered host answer) = true
-ends_command (Stop host) = false
-ends_command (Halt host) = false
-ends_command (Refused name cause) = true
+ends_command note = ends_command_in (note_class note)
 
 -- a note that ends a run of a command on its own
 abbrev pub ends_shot : OneShot → Note → Bool

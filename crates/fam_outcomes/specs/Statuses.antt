@@ -13,6 +13,7 @@ use Rattle.fam_outcomes.specs.declared.status.Status.{Status}
 use Rattle.fam_outcomes.specs.declared.status.Status.TheVariants as status
 use Rattle.fam_journal.specs.Notes.{Answer, Replied, MediaFault, Note, Host, Made, Start, Mark, Found, Writes, Answered, Stop, Halt, Refused}
 use Rattle.fam_outcomes.specs.Texts.{is_sound_report}
+use Rattle.fam_journal.specs.NoteClasses.{NoteClass, note_class, Declared, Formatted, Going, Answering, Refusing}
 
 -- 0 alone is success
 abbrev pub status_number : Status → ℕ
@@ -89,18 +90,17 @@ cause_status (why.CopyLimit sum) = status.Refused
 cause_status (why.BadListing at) = status.Refused
 cause_status (why.MediaFault at) = status.MediaFault
 
--- of a note alone: what isn't an answer or a refusal is as it should be
+-- of a note alone: what isn't an answer or a refusal is as it should be; by the class of the note
+abbrev pub note_status_in : NoteClass → Status
+note_status_in (Declared name uuid) = status.Done
+note_status_in (Formatted host p) = status.Done
+note_status_in (Going host) = status.Done
+note_status_in (Answering host answer) = answer_status answer
+note_status_in (Refusing name cause) = cause_status cause
+
+-- of a note
 abbrev pub note_status : Note → Status
-note_status (Host name uuid) = status.Done
-note_status (Made host p) = status.Done
-note_status (Start host cmd) = status.Done
-note_status (Mark host) = status.Done
-note_status (Found host n) = status.Done
-note_status (Writes host seq entry) = status.Done
-note_status (Answered host answer) = answer_status answer
-note_status (Stop host) = status.Done
-note_status (Halt host) = status.Done
-note_status (Refused name cause) = cause_status cause
+note_status note = note_status_in (note_class note)
 
 -- of the last note
 abbrev pub last_status : List Note → Status
@@ -157,18 +157,17 @@ abbrev pub answer_stops : Answer → Bool
 answer_stops (Replied given) = reply_stops given
 answer_stops (MediaFault at) = true
 
--- no run comes behind this note
+-- no run comes behind this note; by the class of the note
+abbrev pub note_stops_in : NoteClass → Bool
+note_stops_in (Declared name uuid) = false
+note_stops_in (Formatted host p) = false
+note_stops_in (Going host) = false
+note_stops_in (Answering host answer) = answer_stops answer
+note_stops_in (Refusing name cause) = true
+
+-- of a note
 abbrev pub note_stops : Note → Bool
-note_stops (Host name uuid) = false
-note_stops (Made host p) = false
-note_stops (Start host cmd) = false
-note_stops (Mark host) = false
-note_stops (Found host n) = false
-note_stops (Writes host seq entry) = false
-note_stops (Answered host answer) = answer_stops answer
-note_stops (Stop host) = false
-note_stops (Halt host) = false
-note_stops (Refused name cause) = true
+note_stops note = note_stops_in (note_class note)
 
 -- no run comes behind the last note
 abbrev pub last_stops : List Note → Bool

@@ -37,6 +37,7 @@ use Rattle.fam_tree.specs.Lines.{entry_line, listing, mode_text}
 use Rattle.fam_journal.specs.declared.refusal.Refusal.{Refusal}
 use Rattle.fam_journal.specs.declared.refusal.Refusal.TheVariants as why
 use Rattle.fam_journal.specs.Notes.{Answer, Replied, MediaFault, Note, Host, Made, Start, Mark, Found, Writes, Answered, Stop, Halt, Refused}
+use Rattle.fam_journal.specs.NoteClasses.{NoteClass, note_class, Declared, Formatted, Going, Answering, Refusing}
 
 -- a text as a line
 abbrev pub line : List ℕ → List ℕ
@@ -293,31 +294,29 @@ note_text names (Stop host) = line (codes "stop")
 note_text names (Halt host) = line (codes "halt")
 note_text names (Refused name cause) = line (codes "refused " ++ refusal_text names cause)
 
--- the name of a note's host
-abbrev pub name_of_note : List (List ℕ) → Note → List ℕ
-name_of_note names (Host name uuid) = name
-name_of_note names (Made host p) = host_name names host
-name_of_note names (Start host cmd) = host_name names host
-name_of_note names (Mark host) = host_name names host
-name_of_note names (Found host n) = host_name names host
-name_of_note names (Writes host seq entry) = host_name names host
-name_of_note names (Answered host answer) = host_name names host
-name_of_note names (Stop host) = host_name names host
-name_of_note names (Halt host) = host_name names host
-name_of_note names (Refused name cause) = name
+-- the name of a note's host; by the class of the note
+abbrev pub name_of_note_in : List (List ℕ) → NoteClass → List ℕ
+name_of_note_in names (Declared name uuid) = name
+name_of_note_in names (Formatted host p) = host_name names host
+name_of_note_in names (Going host) = host_name names host
+name_of_note_in names (Answering host answer) = host_name names host
+name_of_note_in names (Refusing name cause) = name
 
--- the names after a note
+-- of a note
+abbrev pub name_of_note : List (List ℕ) → Note → List ℕ
+name_of_note names note = name_of_note_in names (note_class note)
+
+-- the names after a note; by the class of the note
+abbrev pub names_after_in : List (List ℕ) → NoteClass → List (List ℕ)
+names_after_in names (Declared name uuid) = names ++ name ∷ []
+names_after_in names (Formatted host p) = names
+names_after_in names (Going host) = names
+names_after_in names (Answering host answer) = names
+names_after_in names (Refusing name cause) = names
+
+-- of a note
 abbrev pub names_after : List (List ℕ) → Note → List (List ℕ)
-names_after names (Host name uuid) = names ++ name ∷ []
-names_after names (Made host p) = names
-names_after names (Start host cmd) = names
-names_after names (Mark host) = names
-names_after names (Found host n) = names
-names_after names (Writes host seq entry) = names
-names_after names (Answered host answer) = names
-names_after names (Stop host) = names
-names_after names (Halt host) = names
-names_after names (Refused name cause) = names
+names_after names note = names_after_in names (note_class note)
 
 -- the names after some notes
 abbrev pub names_behind : List (List ℕ) → List Note → List (List ℕ)

@@ -22,6 +22,7 @@ use Rattle.fam_outcomes.specs.Programs.{EndsEarly, IsWholeRun, OneShot, Runs, Sh
 use Rattle.fam_outcomes.specs.Runs.{IsPut, NoneFalls, Outside}
 use Rattle.fam_outcomes.specs.Texts.{line, number}
 use Rattle.fam_program.specs.Runs.{HasEnded}
+use Rattle.fam_journal.specs.NoteClasses.{NoteClass, note_class, Declared, Formatted, Going, Answering, Refusing}
 
 -- a shelf on which no file is, and no call of which failed
 abbrev pub empty_shelf : ShelfState
@@ -61,18 +62,17 @@ abbrev pub answered_tree : Answer → Option (ℕ × Tree)
 answered_tree (Replied given) = replied_tree given
 answered_tree (MediaFault at) = None
 
--- that of a note
+-- that of a note; by the class of the note
+abbrev pub tree_in_in : NoteClass → Option (ℕ × Tree)
+tree_in_in (Declared name uuid) = None
+tree_in_in (Formatted host p) = None
+tree_in_in (Going host) = None
+tree_in_in (Answering host answer) = answered_tree answer
+tree_in_in (Refusing name cause) = None
+
+-- of a note
 abbrev pub tree_in : Note → Option (ℕ × Tree)
-tree_in (Host name uuid) = None
-tree_in (Made host p) = None
-tree_in (Start host cmd) = None
-tree_in (Mark host) = None
-tree_in (Found host n) = None
-tree_in (Writes host seq entry) = None
-tree_in (Answered host answer) = answered_tree answer
-tree_in (Stop host) = None
-tree_in (Halt host) = None
-tree_in (Refused name cause) = None
+tree_in note = tree_in_in (note_class note)
 
 -- that of the last note
 abbrev pub shown_tree : List Note → Option (ℕ × Tree)

@@ -14,6 +14,7 @@ use Rattle.fam_events.specs.declared.fault.EventFault.TheVariants as fault
 use Rattle.fam_program.specs.declared.numbers.NumberLine.{NumberLine}
 use Rattle.fam_program.specs.declared.numbers.NumberLine.TheVariants as by
 use Rattle.fam_program.specs.Puts.{EndSays, Put}
+use Rattle.fam_journal.specs.NoteClasses.{NoteClass, note_class, Declared, Formatted, Going, Answering, Refusing}
 
 -- Last notes for whose line no memory is wanted: an entry is appended, or the media failed.
 
@@ -28,18 +29,17 @@ abbrev pub is_short_cause : Refusal → Bool
 is_short_cause (why.MediaFault at) = true
 is_short_cause cause = false
 
--- a note whose text has one number alone
+-- a note whose text has one number alone; by the class of the note
+abbrev pub is_short_in : NoteClass → Bool
+is_short_in (Declared name uuid) = false
+is_short_in (Formatted host p) = false
+is_short_in (Going host) = false
+is_short_in (Answering host answer) = is_short_answer answer
+is_short_in (Refusing name cause) = is_short_cause cause
+
+-- of a note
 abbrev pub is_short : Note → Bool
-is_short (Host name uuid) = false
-is_short (Made host p) = false
-is_short (Start host cmd) = false
-is_short (Mark host) = false
-is_short (Found host n) = false
-is_short (Writes host seq entry) = false
-is_short (Answered host answer) = is_short_answer answer
-is_short (Stop host) = false
-is_short (Halt host) = false
-is_short (Refused name cause) = is_short_cause cause
+is_short note = is_short_in (note_class note)
 
 -- such a line: words, and a number
 abbrev pub number_text : NumberLine → List ℕ

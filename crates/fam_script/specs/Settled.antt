@@ -6,6 +6,7 @@ use Rattle.fam_rules.specs.declared.answers.LogState.TheVariants as log
 use Rattle.fam_rules.specs.Reply as reply
 use Rattle.fam_rules.specs.Reply.{Reply}
 use Rattle.fam_script.specs.declared.counts.Settled.{Settled}
+use Rattle.fam_journal.specs.NoteClasses.{NoteClass, note_class, Declared, Formatted, Going, Answering, Refusing}
 
 -- nothing is settled
 abbrev pub empty : Settled
@@ -68,18 +69,17 @@ continued (Stop h) s = s
 continued (Halt h) s = s
 continued (Refused name cause) s = s
 
--- or not
+-- or not; by the class of the note
+abbrev pub begun_in : NoteClass → Option Settled
+begun_in (Declared name uuid) = None
+begun_in (Formatted h p) = Some empty
+begun_in (Going h) = None
+begun_in (Answering h answer) = None
+begun_in (Refusing name cause) = None
+
+-- of a note
 abbrev pub begun : Note → Option Settled
-begun (Host name uuid) = None
-begun (Made h p) = Some empty
-begun (Start h cmd) = None
-begun (Mark h) = None
-begun (Found h n) = None
-begun (Writes h seq e) = None
-begun (Answered h answer) = None
-begun (Stop h) = None
-begun (Halt h) = None
-begun (Refused name cause) = None
+begun note = begun_in (note_class note)
 
 -- behind one note
 abbrev pub settled_after : Note → Option Settled → Option Settled

@@ -5,7 +5,7 @@ use Rattle.fam_commands.specs.declared.phase.Phase.TheVariants as at
 use Rattle.fam_replay.specs.Replay.{HasFoundAll}
 use Rattle.fam_replay.proofs.Replicas.{all_found}
 use Rattle.fam_tasks.specs.declared.task.Task.TheInside.{Inside}
-use Rattle.fam_tasks.specs.Commands.{is_fsck}
+use Rattle.fam_commands.specs.Classes.{is_fsck}
 use Rattle.fam_tasks.specs.Held.{IsHeldAt, IsTask}
 
 -- as many as the gate counts, and no more are kept

@@ -26,6 +26,7 @@ use Rattle.fam_outcomes.specs.Programs.{Command, EndsEarly, Grammar, ScriptPuts,
 use Rattle.fam_outcomes.specs.Runs.{IsPut, Outside}
 use Rattle.fam_outcomes.specs.Statuses.{good_status, is_good}
 use Rattle.fam_outcomes.specs.Texts.{render}
+use Rattle.fam_journal.specs.NoteClasses.{NoteClass, note_class, Declared, Formatted, Going, Answering, Refusing}
 
 -- an event that no other host's step interrupts
 abbrev pub IsWholeEvent : Event → Type 0
@@ -76,18 +77,17 @@ abbrev pub answered_image : Image → State → Answer → Image
 answered_image image state (Replied given) = replied_image image state given
 answered_image image state (MediaFault line) = image
 
--- the image behind a note
+-- the image behind a note; by the class of the note
+abbrev pub image_after_in : Past → Image → NoteClass → Image
+image_after_in past image (Declared name uuid) = image
+image_after_in past image (Formatted host p) = formatted image p
+image_after_in past image (Going host) = image
+image_after_in past image (Answering host answer) = answered_image image past.state answer
+image_after_in past image (Refusing name cause) = image
+
+-- of a note
 abbrev pub image_after : Past → Image → Note → Image
-image_after past image (Host name uuid) = image
-image_after past image (Made host p) = formatted image p
-image_after past image (Start host cmd) = image
-image_after past image (Mark host) = image
-image_after past image (Found host n) = image
-image_after past image (Writes host seq entry) = image
-image_after past image (Answered host answer) = answered_image image past.state answer
-image_after past image (Stop host) = image
-image_after past image (Halt host) = image
-image_after past image (Refused name cause) = image
+image_after past image note = image_after_in past image (note_class note)
 
 -- the image behind some notes
 abbrev pub image_behind : Past → Image → List Note → Image
@@ -131,18 +131,17 @@ abbrev pub IsWholeAnswer : Answer → ℕ → Past → Image → Type 0
 IsWholeAnswer (Replied given) host past image = IsWholeReply given past.state image × OfHost (slice_get past.hosts host) (IsByRules image given)
 IsWholeAnswer (MediaFault line) host past image = ⊤
 
--- so it is of a note that is an answer
+-- so it is of a note that is an answer; by the class of the note
+abbrev pub IsWholeNoteIn : NoteClass → Past → Image → Type 0
+IsWholeNoteIn (Declared name uuid) past image = ⊤
+IsWholeNoteIn (Formatted host p) past image = ⊤
+IsWholeNoteIn (Going host) past image = ⊤
+IsWholeNoteIn (Answering host answer) past image = IsWholeAnswer answer host past image
+IsWholeNoteIn (Refusing name cause) past image = ⊤
+
+-- of a note
 abbrev pub IsWholeNote : Note → Past → Image → Type 0
-IsWholeNote (Host name uuid) past image = ⊤
-IsWholeNote (Made host p) past image = ⊤
-IsWholeNote (Start host cmd) past image = ⊤
-IsWholeNote (Mark host) past image = ⊤
-IsWholeNote (Found host n) past image = ⊤
-IsWholeNote (Writes host seq entry) past image = ⊤
-IsWholeNote (Answered host answer) past image = IsWholeAnswer answer host past image
-IsWholeNote (Stop host) past image = ⊤
-IsWholeNote (Halt host) past image = ⊤
-IsWholeNote (Refused name cause) past image = ⊤
+IsWholeNote note past image = IsWholeNoteIn (note_class note) past image
 
 -- so it is of each note, of the image behind those before it
 abbrev pub AreWholeNotes : Past → Image → List Note → Type 0
@@ -207,18 +206,17 @@ pub record AreAlike {files : Files} {one other : List Event} {start : Image} (a 
   pub notes : notes_of_commands a ≡ notes_of_commands b
   pub image : a.last.machines.memory ≡ b.last.machines.memory
 
--- a cache's own move notes nothing but that it was refused
+-- a cache's own move notes nothing but that it was refused; by the class of the note
+abbrev pub IsRefusalIn : NoteClass → Type 0
+IsRefusalIn (Declared name uuid) = ⊥
+IsRefusalIn (Formatted host p) = ⊥
+IsRefusalIn (Going host) = ⊥
+IsRefusalIn (Answering host answer) = ⊥
+IsRefusalIn (Refusing name cause) = ⊤
+
+-- of a note
 abbrev pub IsRefusal : Note → Type 0
-IsRefusal (Host name uuid) = ⊥
-IsRefusal (Made host p) = ⊥
-IsRefusal (Start host cmd) = ⊥
-IsRefusal (Mark host) = ⊥
-IsRefusal (Found host n) = ⊥
-IsRefusal (Writes host seq entry) = ⊥
-IsRefusal (Answered host answer) = ⊥
-IsRefusal (Stop host) = ⊥
-IsRefusal (Halt host) = ⊥
-IsRefusal (Refused name cause) = ⊤
+IsRefusal note = IsRefusalIn (note_class note)
 
 -- each note is a refusal
 abbrev pub AreRefusals : List Note → Type 0

@@ -7,7 +7,6 @@ use Rattle.std.proofs.lemmas.List.{take_all, take_more, take-append-le}
 use Rattle.std.proofs.lemmas.Option.{slice_get_cases}
 use Rattle.fam_base.specs.declared.entry.Params.{Params}
 use Rattle.fam_base.specs.declared.entry.Entry.{Entry}
-use Rattle.fam_commands.specs.Classes.{IsRead}
 use Rattle.fam_format.specs.declared.faults.SuperFault.{SuperFault}
 use Rattle.fam_format.specs.declared.faults.LogFault.{LogFault}
 use Rattle.fam_format.specs.declared.faults.Reason.{Reason}

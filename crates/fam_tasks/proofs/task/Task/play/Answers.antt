@@ -1,6 +1,6 @@
 use Rattle.std.proofs.Common.{ap, ◌∙◌}
 use Rattle.fam_commands.specs.Task.{Task}
-use Rattle.fam_tasks.specs.Commands.{is_fsck}
+use Rattle.fam_commands.specs.Classes.{is_fsck}
 use Rattle.fam_tasks.proofs.AllFound.{all_found_at}
 use Rattle.fam_tasks.proofs.task.Task.play.Goals as goal
 

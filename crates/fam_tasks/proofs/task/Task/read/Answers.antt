@@ -5,7 +5,7 @@ use Rattle.fam_format.specs.Slot.{Proper}
 use Rattle.fam_commands.specs.declared.phase.Phase.{Phase}
 use Rattle.fam_commands.specs.declared.phase.Phase.TheVariants as at
 use Rattle.fam_commands.specs.Task.{Task}
-use Rattle.fam_tasks.specs.Commands.{is_fsck}
+use Rattle.fam_commands.specs.Classes.{is_fsck}
 use Rattle.fam_tasks.specs.Held.{IsHeldAt}
 use Rattle.fam_tasks.proofs.AllFound.{all_found_at}
 use Rattle.fam_tasks.proofs.task.Task.read.Goals as goal
