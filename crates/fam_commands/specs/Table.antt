@@ -32,7 +32,7 @@ use Rattle.fam_machine.specs.declared.op.Op.TheVariants.{Load, Store, WriteBack,
 use Rattle.fam_machine.specs.Operations.{line_no, load_ops, store_ops}
 use Rattle.fam_commands.specs.Kept.{Kept, used}
 use Rattle.fam_commands.specs.Task.{no_params, first_line, wanted_lines, content_of}
-use Rattle.fam_commands.specs.Classes.{Class, class_of, is_fsck, Replays, Appends, Compares, Reads, Surveys}
+use Rattle.fam_commands.specs.Classes.{Class, class_of, Replays, Appends, Compares, Reads, Surveys, is_fsck}
 
 -- what comes with an operation
 pub data RowNote : Type 0 where

@@ -32,7 +32,7 @@ use Rattle.fam_commands.specs.declared.phase.Phase.{Phase}
 use Rattle.fam_commands.specs.declared.phase.Phase.TheVariants as at
 use Rattle.fam_commands.specs.Kept.{used, first_slot}
 use Rattle.fam_commands.specs.Task.{Task, size_of, wanted_end, part_count}
-use Rattle.fam_commands.specs.Classes.{Class, class_of, is_fsck, Replays, Appends, Compares, Reads, Surveys}
+use Rattle.fam_commands.specs.Classes.{Class, class_of, Replays, Appends, Compares, Reads, Surveys, is_fsck}
 
 pub data Turn : Type 0 where
   -- nothing is noted

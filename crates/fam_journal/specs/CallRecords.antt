@@ -26,7 +26,7 @@ use Rattle.fam_journal.specs.Notes.{Note, Host, Made, Start, Mark, Found, Writes
 use Rattle.fam_journal.specs.View.{HostView, WorldView, WorldStands}
 use Rattle.fam_journal.specs.Kept.{Held}
 use Rattle.fam_journal.specs.ByWorld.{busy_in, number_in, refusal_in, world_after}
-use Rattle.fam_journal.specs.NoteClasses.{note_class, Declared, Formatted, Going, Answering, Refusing}
+use Rattle.fam_journal.specs.NoteClasses.{NoteClass, note_class, Declared, Formatted, Going, Answering, Refusing}
 
 -- What a call makes of it. `told` is the media's image, where it is modelled.
 

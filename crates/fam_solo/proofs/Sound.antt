@@ -49,7 +49,6 @@ use Rattle.fam_machine.proofs.OneOperation.{operated_length, operated_normal}
 use Rattle.fam_solo.proofs.Machine.{Looks, ran_cmd, ran_length, ran_looks, ran_me, ran_normal, looks_end, looks_on, word_of}
 use Rattle.fam_solo.proofs.Replies.{Answers, asked, decided, refused_client, reports_sound}
 use Rattle.fam_commands.proofs.BeforeWrites.{EndsAt, SaysAt, turn_says}
-use Rattle.fam_commands.specs.Classes.{IsRead}
 use Rattle.fam_solo.proofs.OneHost.{Stepped, first_settled, hosts_of, only, rests_alone, run_of, shared, stepped, invariant_first}
 use Rattle.fam_solo.proofs.Writes.{GateAt, Writing, all_sent, all_written, ends_there, writes_on}
 use Rattle.fam_solo.proofs.Written.{appended_alike, written_normal}
