@@ -32,32 +32,6 @@ mark_more words old from to w x bits below read spans before u =
           ∙ before u ∙ ap (λ (b : Bool). old u || (is_between from to u && b)) tests
     ]
 
-here_and : (o p : Bool) → ((o && not (p && false)) && not p) ≡ (o && not (p && true))
-here_and true true = refl
-here_and true false = refl
-here_and false p = refl
-
--- one more word was cleared
-pub clear_more : (words : List ℕ) (old : ℕ → Bool) (from to w x bits : ℕ) → w < length words → x ≡ get_or words w 0 → ((i : ℕ) → i < 64 → has_bit bits i ≡ not (is_between from to (64 * w + i))) → ((u : ℕ) → is_bit_set words u ≡ (old u && not (is_between from to u && ltb (u / 64) w))) → (u : ℕ) → is_bit_set (set words w (bit_and x bits)) u ≡ (old u && not (is_between from to u && ltb (u / 64) (w + 1)))
-clear_more words old from to w x bits below read spans before u =
-    elim (cases_eq (u / 64) w) [
-      | inl at ↦
-          let place : 64 * w + u % 64 ≡ u = omega arith in
-          let same : get_or (set words w (bit_and x bits)) (u / 64) 0 ≡ bit_and x bits = ap (λ (k : ℕ). get_or (set words w (bit_and x bits)) k 0) at ∙ get_or-set_same words w (bit_and x bits) 0 below in
-          let had : has_bit x (u % 64) ≡ is_bit_set words u = ap (λ (v : ℕ). has_bit v (u % 64)) (read ∙ ap (λ (k : ℕ). get_or words k 0) (sym at)) in
-          let was : is_bit_set words u ≡ (old u && not (is_between from to u && false)) = before u ∙ ap (λ (b : Bool). old u && not (is_between from to u && b)) (le-ltb (u / 64) w (omega arith)) in
-          let kept : has_bit bits (u % 64) ≡ not (is_between from to u) = spans (u % 64) (omega arith) ∙ ap (λ (k : ℕ). not (is_between from to k)) place in
-          ap (λ (v : ℕ). has_bit v (u % 64)) same ∙ has_bit-and x bits (u % 64)
-          ∙ ap (λ (b : Bool). b && has_bit bits (u % 64)) (had ∙ was)
-          ∙ ap (λ (b : Bool). (old u && not (is_between from to u && false)) && b) kept
-          ∙ here_and (old u) (is_between from to u)
-          ∙ ap (λ (b : Bool). old u && not (is_between from to u && b)) (sym (lt-ltb (u / 64) (w + 1) (omega arith)))
-      | inr other ↦
-          let tests : ltb (u / 64) w ≡ ltb (u / 64) (w + 1) = grind (arith, nat_tests) in
-          ap (λ (v : ℕ). has_bit v (u % 64)) (get_or-set_other words w (u / 64) (bit_and x bits) 0 other)
-          ∙ before u ∙ ap (λ (b : Bool). old u && not (is_between from to u && b)) tests
-    ]
-
 -- the next of two tests
 pub next_either : (f g : ℕ → Bool) (from to a b : ℕ) → IsNext f true from to a → IsNext g true from a b → IsNext (λ u. f u || g u) true from to b
 next_either f g from to a b p q = record {

@@ -148,18 +148,6 @@ marked_more old now unit extents i start end u below s e h =
     ∙ sym (or_assoc (old u) (holds (units_in unit (take i extents)) u) (is_between start end u))
     ∙ ap (λ (b : Bool). old u || b) (holds_more unit extents i start end below s e u)
 
-not_or : (o a b : Bool) → ((o && not a) && not b) ≡ (o && not (a || b))
-not_or true true b = refl
-not_or true false b = refl
-not_or false a b = refl
-
--- one extent more is cleared
-pub cleared_more : (old : ℕ → Bool) (now : Bool) (unit : ℕ) (extents : List Extent) (i start end u : ℕ) → i < length extents → start ≡ (get_or extents i no_extent).offset / unit → end ≡ start + (get_or extents i no_extent).length / unit → now ≡ (old u && not (holds (units_in unit (take i extents)) u)) → (now && not (is_between start end u)) ≡ (old u && not (holds (units_in unit (take (i + 1) extents)) u))
-cleared_more old now unit extents i start end u below s e h =
-    ap (λ (b : Bool). b && not (is_between start end u)) h
-    ∙ not_or (old u) (holds (units_in unit (take i extents)) u) (is_between start end u)
-    ∙ ap (λ (b : Bool). old u && not b) (holds_more unit extents i start end below s e u)
-
 -- the count of one extent more
 pub count_more : (unit : ℕ) (extents : List Extent) (i start end count : ℕ) → i < length extents → end ≡ start + (get_or extents i no_extent).length / unit → count ≡ length (units_in unit (take i extents)) → count + (end - start) ≡ length (units_in unit (take (i + 1) extents))
 count_more unit extents i start end count below e h =

@@ -58,17 +58,6 @@ module _ (words : List ℕ) (units used : ℕ) (within : used ≤ units) (marked
       let first : passing (λ u. ltb u used) units ≡ used = passing_first used units ∙ (omega arith) in
       sym first ∙ passing_same (λ u. ltb u used) (is_bit_set words) units (λ u below. sym (marked u)) ∙ sym (counted words units)
 
-and_false : (b : Bool) → (b && false) ≡ false
-and_false true = refl
-and_false false = refl
-
--- a unit that is held was used, or still is
-restored : (was held now : Bool) → now ≡ (was && not held) → (held ≡ true → was ≡ true) → was ≡ (now || held)
-restored true true now e f = sym (ap (λ (b : Bool). b || true) e)
-restored true false now e f = sym (ap (λ (b : Bool). b || false) e)
-restored false true now e f = absurd (false≢true (f refl))
-restored false false now e f = sym (ap (λ (b : Bool). b || false) e)
-
 -- extents that lie within the device
 module _ (words : List ℕ) (units unit : ℕ) (map : List Bool) (extents : List Extent) (view : units_of_words words units ≡ map) (some : 0 < unit) (within : LieWithin unit (length map) extents) where
   pub lie_within : LieWithin unit units extents
@@ -96,28 +85,6 @@ module _ (words : List ℕ) (units unit : ℕ) (map : List Bool) (extents : List
       passing_same (is_bit_set new) (λ u. is_bit_set words u || holds (units_in unit extents) u) units (λ u below. marked u)
       ∙ passing_more (is_bit_set words) (units_in unit extents) units clear (units_below unit units extents some lie_within) in
       omega (arith, had, n, more, counted words units, counted new units)
-
-  -- after they were cleared the list lacks the extents' units
-  pub taken_less : (new : List ℕ) → ((u : ℕ) → is_bit_set new u ≡ (is_bit_set words u && not (holds (units_in unit extents) u))) → (u : ℕ) → is_taken (units_of_words new units) u ≡ (is_taken map u && not (holds (units_in unit extents) u))
-  taken_less new cleared u = elim (cases_lt u units) [
-    | inl below ↦ taken_below new units u below ∙ cleared u ∙ ap (λ (b : Bool). b && not (holds (units_in unit extents) u)) (taken_of_view words units map view u below)
-    | inr past ↦
-        let old : is_taken map u ≡ false = ap (λ (bs : List Bool). is_taken bs u) (sym view) ∙ taken_past words units u past in
-        rw (taken_past new units u past, old) refl
-  ]
-
-  -- and as many less are used as the extents have, where all of these were used, each once
-  pub counted_less : (new : List ℕ) (used count : ℕ) → used ≡ taken_units (units_of_words words units) → ((u : ℕ) → holds (units_in unit extents) u ≡ true → is_taken map u ≡ true) → first_overlap (λ _. false) (units_in unit extents) ≡ None → count ≡ length (units_in unit extents) → ((u : ℕ) → is_bit_set new u ≡ (is_bit_set words u && not (holds (units_in unit extents) u))) → count + taken_units (units_of_words new units) ≡ used
-  counted_less new used count had taken once n cleared =
-      let us : List ℕ = units_in unit extents in
-      let free : first_overlap (is_bit_set new) us ≡ None =
-      overlap_same_on (is_bit_set new) (λ _. false) us (λ u h. cleared u ∙ ap (λ (b : Bool). is_bit_set words u && not b) h ∙ and_false (is_bit_set words u)) ∙ once in
-      let was : (u : ℕ) → holds us u ≡ true → is_bit_set words u ≡ true =
-      λ u h. taken_of_view words units map view u (units_below unit units extents some lie_within u h) ∙ taken u h in
-      let less : passing (is_bit_set words) units ≡ passing (is_bit_set new) units + length us =
-      passing_same (is_bit_set words) (λ u. is_bit_set new u || holds us u) units (λ u below. restored (is_bit_set words u) (holds us u) (is_bit_set new u) (cleared u) (was u))
-      ∙ passing_more (is_bit_set new) us units free (units_below unit units extents some lie_within) in
-      omega (arith, had, n, less, counted words units, counted new units)
 
 -- no more are used than there are
 pub counted_le : (words : List ℕ) (units : ℕ) → taken_units (units_of_words words units) ≤ units

@@ -7,7 +7,7 @@ ghost use Rattle.fam_alloc.specs.Taken.{is_taken, taken_units, holds, LieWithin}
 ghost use Rattle.fam_alloc.specs.TakeFaults.{NamesOverlap};
 
 use crate::bits::{MOST_UNITS, mark, zeros};
-use crate::overlap::{clear_all, first_overlap, mark_free};
+use crate::overlap::{first_overlap, mark_free};
 use crate::run::{first_strips, lowest_run};
 use crate::starts::Starts;
 use fam_base::{Extents, OutOfMemory};
@@ -108,20 +108,6 @@ impl AllocMap {
             }
             Err(taken) => Err(TakeFault::Overlap(taken)),
         }
-    }
-
-    /// Marks all units of the extents as free: what undoes `take`.
-    pub fn give_back(&mut self, extents: &Extents, unit: u64)
-        requires unit { 0 < unit }
-        requires within { LieWithin unit (length self.old) extents.now }
-        requires taken { (u : ℕ) → holds (units_in unit extents.now) u ≡ true → is_taken self.old u ≡ true }
-        requires once { first_overlap (λ _. false) (units_in unit extents.now) ≡ None }
-
-        ensures value { (u : ℕ) →
-            is_taken self.new u ≡ (is_taken self.old u && not (holds (units_in unit extents.now) u)) }
-        ensures units { length self.new ≡ length self.old }
-    {
-        self.used -= clear_all(&mut self.words, extents, unit, self.units);
     }
 
     /// The lowest start of so many free units in a row.

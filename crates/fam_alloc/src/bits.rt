@@ -1,6 +1,6 @@
 //! A bitmap of units: bit `u % 64` of word `u / 64` is unit `u`.
 
-ghost use Rattle.std.specs.Prelude.{◌≡◌, ℕ, true, not, ◌+◌, ◌*◌, ◌<◌, ◌≤◌, ◌&&◌, ◌||◌, nat_lt, replicate, vec_len, IfOk};
+ghost use Rattle.std.specs.Prelude.{◌≡◌, ℕ, true, not, ◌+◌, ◌*◌, ◌<◌, ◌≤◌, ◌||◌, nat_lt, replicate, vec_len, IfOk};
 ghost use Rattle.fam_alloc.specs.Next.{has_bit, is_bit_set, is_between, IsNext};
 
 use fam_base::OutOfMemory;
@@ -100,27 +100,5 @@ pub fn mark(words: &mut Vec<u64>, from: u64, to: u64)
 {
     for word in from / 64..to.div_ceil(64) {
         words[word as usize] |= span(word, from, to);
-    }
-}
-
-/// The bits of a word that stand for units below `from` or from `to` on.
-fn beside(word: u64, from: u64, to: u64) -> u64
-    requires { 64 * word ≤ MOST_UNITS }
-    ensures { (i : ℕ) → i < 64 → has_bit result i ≡ not (is_between from to (64 * word + i)) }
-{
-    flipped(span(word, from, to))
-}
-
-/// Marks the units from `from` on and below `to` as free.
-pub fn clear(words: &mut Vec<u64>, from: u64, to: u64)
-    requires order { from ≤ to }
-    requires within { to ≤ 64 * vec_len words.old }
-    requires few { to ≤ MOST_UNITS }
-    ensures cleared { (u : ℕ) →
-        is_bit_set words.new.items u ≡ (is_bit_set words.old.items u && not (is_between from to u)) }
-    ensures len { vec_len words.new ≡ vec_len words.old }
-{
-    for word in from / 64..to.div_ceil(64) {
-        words[word as usize] &= beside(word, from, to);
     }
 }

@@ -14,6 +14,8 @@ mod used_units;
 
 pub use alloc_map::{AllocMap, TakeFault};
 pub use bits::MOST_UNITS;
-pub use overlap::{overlap_behind, repeats_unit, shares_unit};
+pub use overlap::{
+    Run, first_below, first_held, first_shared, overlap_behind, repeats_unit, run_at, shares_unit,
+};
 pub use starts::Starts;
 pub use used_units::UsedUnits;

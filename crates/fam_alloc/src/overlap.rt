@@ -8,15 +8,15 @@ ghost use Rattle.fam_rules.specs.Reports.{is_overlap};
 ghost use Rattle.fam_alloc.specs.Next.{is_bit_set, is_between, IsNext};
 ghost use Rattle.fam_alloc.specs.Taken.{LieWithin, holds};
 
-use crate::bits::{MOST_UNITS, clear, mark, next};
+use crate::bits::{MOST_UNITS, mark, next};
 use crate::layers::Layers;
 use fam_base::{Extent, Extents};
 
 /// Units from `start` on and below `end`.
 #[derive(Clone, Copy)]
-struct Run {
-    start: u64,
-    end: u64,
+pub struct Run {
+    pub start: u64,
+    pub end: u64,
 }
 
 /// The extent at a place.
@@ -33,7 +33,7 @@ fn extent_at(extents: &Extents, i: u64) -> Extent
 }
 
 /// The units of the extent at a place.
-fn run_at(extents: &Extents, unit: u64, units: u64, i: u64) -> Run
+pub fn run_at(extents: &Extents, unit: u64, units: u64, i: u64) -> Run
     requires unit { 0 < unit }
     requires within { LieWithin unit units extents.now }
     requires few { units ≤ MOST_UNITS }
@@ -59,7 +59,7 @@ fn first_in(run: Run, from: u64, to: u64) -> u64
 }
 
 /// The first unit of a run that one of the first `count` extents holds, or the run's end.
-fn first_shared(extents: &Extents, unit: u64, units: u64, count: u64, run: Run) -> u64
+pub fn first_shared(extents: &Extents, unit: u64, units: u64, count: u64, run: Run) -> u64
     requires unit { 0 < unit }
     requires within { LieWithin unit units extents.now }
     requires few { units ≤ MOST_UNITS }
@@ -72,6 +72,29 @@ fn first_shared(extents: &Extents, unit: u64, units: u64, count: u64, run: Run) 
         first = first_in(run_at(extents, unit, units, i), run.start, first);
     }
     first
+}
+
+/// The first unit of a run that one of the extents holds, or the run's end.
+pub fn first_held(extents: &Extents, unit: u64, units: u64, run: Run) -> u64
+    requires unit { 0 < unit }
+    requires within { LieWithin unit units extents.now }
+    requires few { units ≤ MOST_UNITS }
+    requires order { run.start ≤ run.end }
+    ensures { IsNext (holds (units_in unit extents.now)) true run.start run.end result }
+{
+    first_shared(extents, unit, units, extents.len(), run)
+}
+
+/// The first unit of a run that is below `head`, or the run's end.
+pub fn first_below(head: u64, run: Run) -> u64
+    requires { run.start ≤ run.end }
+    ensures { IsNext (λ u. nat_lt u head) true run.start run.end result }
+{
+    if run.start < head.min(run.end) {
+        run.start
+    } else {
+        run.end
+    }
 }
 
 /// The first unit of a run that is used or that one of the first `count` extents holds, or the run's end.
@@ -129,14 +152,9 @@ fn first_behind(head: u64, extents: &Extents, unit: u64, units: u64, count: u64,
     ensures { IsNext (λ u. nat_lt u head || holds (units_in unit (take count extents.now)) u)
         true run.start run.end result }
 {
-    let below = Run {
-        start: 0,
-        end: head,
-    };
-    let end = first_in(below, run.start, run.end);
     let before = Run {
         start: run.start,
-        end,
+        end: first_below(head, run),
     };
     first_shared(extents, unit, units, count, before)
 }
@@ -204,26 +222,6 @@ pub fn mark_free(words: &mut Vec<u64>, extents: &Extents, unit: u64, units: u64)
     Ok(mark_all(words, extents, unit, units))
 }
 
-/// Marks the units of the extents as free, and gives their number.
-pub fn clear_all(words: &mut Vec<u64>, extents: &Extents, unit: u64, units: u64) -> u64
-    requires unit { 0 < unit }
-    requires within { LieWithin unit units extents.now }
-    requires few { units ≤ MOST_UNITS }
-    requires covered { units ≤ 64 * vec_len words.old }
-    ensures count { result ≡ length (units_in unit extents.now) }
-    ensures cleared { (u : ℕ) → is_bit_set words.new.items u
-        ≡ (is_bit_set words.old.items u && not (holds (units_in unit extents.now) u)) }
-    ensures len { vec_len words.new ≡ vec_len words.old }
-{
-    let mut count = 0;
-    for i in 0..extents.len() {
-        let run = run_at(extents, unit, units, i);
-        clear(words, run.start, run.end);
-        count += run.end - run.start;
-    }
-    count
-}
-
 /// Marks the units of the extents as used, whether they were or not.
 pub fn cover_all(layers: &mut Layers, extents: &Extents, unit: u64, units: u64)
     requires unit { 0 < unit }
@@ -250,7 +248,7 @@ pub fn shares_unit(before: &Extents, extents: &Extents, unit: u64, units: u64) -
 {
     for i in 0..extents.len() {
         let run = run_at(extents, unit, units, i);
-        if first_shared(before, unit, units, before.len(), run) < run.end {
+        if first_held(before, unit, units, run) < run.end {
             return true;
         }
     }

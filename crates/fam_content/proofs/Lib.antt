@@ -1,3 +1,5 @@
+pub mod Along
+pub mod Callers
 pub mod Cutting
 pub mod LittleEndian
 pub mod Lines

@@ -2,5 +2,5 @@ pub mod Histories
 pub mod Decisions
 pub mod Entries
 pub mod FirstEntries
-pub mod Fewer
+pub mod Prefixes
 pub mod PieceLemmas

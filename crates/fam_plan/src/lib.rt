@@ -5,6 +5,7 @@
 //! appends is `decide` of `fam_rules` over that list.
 #![tactic(auto)]
 
+mod among;
 mod decide;
 mod fault;
 mod first;

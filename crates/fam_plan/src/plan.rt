@@ -167,31 +167,6 @@ impl Plan {
         }
     }
 
-    /// Takes the last entry away, if there is one.
-    fn take_last(&mut self)
-        ensures fewer { self.new.entries ≡ take (length self.old.entries - 1) self.old.entries }
-        ensures params { self.new.params ≡ self.old.params }
-    {
-        let Some(path) = self.order.pop() else {
-            return;
-        };
-        let Some(entry) = self.tree.get(&path) else {
-            unreachable!();
-        };
-        self.tree.take_back(&path);
-        self.used.give_back(&entry.extents, self.params.unit);
-    }
-
-    /// Leaves the first `count` entries, where there are more. It takes no memory.
-    pub fn truncate(&mut self, count: u64)
-        ensures first { self.new.entries ≡ take count self.old.entries }
-        ensures params { self.new.params ≡ self.old.params }
-    {
-        for _entry in 0..self.count().saturating_sub(count) {
-            self.take_last();
-        }
-    }
-
     /// What stands at each path.
     pub fn tree(&self) -> &Tree
         ensures { result.now ≡ replay self.now.entries }

@@ -9,16 +9,15 @@ ghost use Rattle.fam_format.specs.Params.{SoundParams};
 ghost use Rattle.fam_format.specs.Slot.{entry_of, Proper};
 ghost use Rattle.fam_format.specs.Tree.{join_fault, replay};
 ghost use Rattle.fam_rules.specs.Decide.{decide, wish_of};
-ghost use Rattle.fam_plan.specs.Faults.{reason_of};
 ghost use Rattle.fam_plan.specs.Needs.{NeedsUnits};
 ghost use Rattle.fam_replay.specs.Replica.{FindsNext, JoinsNext};
 ghost use Rattle.fam_replay.specs.Replay.{entries_in, HasFoundAll, IsReplayOf, IsRoomFor, Joins, ReadsNext};
 
-use crate::replica::Replica;
+use crate::replica::{Replica, reason_or_memory};
 use fam_base::{Cmd, Entry, OutOfMemory, PATH_LIMIT, Params, Path};
 use fam_entry::{check_entry, checked_entry};
 use fam_format::{Reason, SLOT_WORDS};
-use fam_plan::{AddFault, first_entry_fault, first_entry_refusal};
+use fam_plan::{first_entry_fault, first_entry_refusal};
 use fam_rules::Refused;
 use fam_tree::Tree;
 use std::alloc::Global;
@@ -67,45 +66,6 @@ fn take_over(kept: &mut Option<Replica>, keeps: bool, params: &Params, gate: u64
     }
 }
 
-/// Why an entry doesn't join, if memory didn't run out.
-fn reason_against(fault: AddFault) -> Result<Reason, OutOfMemory>
-    ensures reason { IfOk result (λ reason. reason_of fault ≡ Some reason) }
-    ensures none { OnErr result (reason_of fault ≡ None) }
-{
-    match fault {
-        AddFault::Exists(kind) => Ok(Reason::Exists(kind)),
-        AddFault::NoParent => Ok(Reason::NoParent),
-        AddFault::ParentIsFile => Ok(Reason::ParentIsFile),
-        AddFault::Overlap(unit) => Ok(Reason::Overlap(unit)),
-        AddFault::OutOfMemory => Err(OutOfMemory),
-    }
-}
-
-/// Adds the entry of a slot to those that were found where it joins them, and otherwise says why it doesn't.
-fn add(
-    replica: &mut Replica,
-    words: &[u64; SLOT_WORDS],
-    entry: &Entry,
-) -> Result<Option<Reason>, OutOfMemory>
-    requires proper { Proper replica.old.params entry.now }
-    requires left { length (entries_in (Some replica.old)) < replica.old.params.slots }
-    requires read { entry_of replica.old.params words.now (length (entries_in (Some replica.old))) ≡ Ok entry.now }
-    ensures joins { IfOk result (λ fault. Joins fault replica.old.params
-        (entries_in (Some replica.old)) entry.now (entries_in (Some replica.new))) }
-    ensures params { replica.new.params ≡ replica.old.params }
-    ensures whole { HasFoundAll (Some replica.new) }
-    ensures err { OnErr result (entries_in (Some replica.new) ≡ entries_in (Some replica.old)) }
-    ensures want { OnErr result (join_fault replica.old.params (entries_in (Some replica.old)) entry.now ≡ None) }
-{
-    match replica.add(words, entry) {
-        Ok(()) => Ok(None),
-        Err(fault) => match reason_against(fault) {
-            Ok(reason) => Ok(Some(reason)),
-            Err(full) => Err(full),
-        },
-    }
-}
-
 /// Why the first entry of a log doesn't join, where no memory is left for a plan.
 fn fault_alone(params: &Params, entry: &Entry) -> Result<Option<Reason>, OutOfMemory>
     requires sound { SoundParams params.now }
@@ -113,10 +73,7 @@ fn fault_alone(params: &Params, entry: &Entry) -> Result<Option<Reason>, OutOfMe
     ensures fault { IfOk result (λ fault. Joins fault params.now [] entry.now []) }
     ensures want { OnErr result (join_fault params.now [] entry.now ≡ None) }
 {
-    match first_entry_fault(params, entry) {
-        Some(reason) => Ok(Some(reason)),
-        None => Err(OutOfMemory),
-    }
+    reason_or_memory(first_entry_fault(params, entry))
 }
 
 /// Why a command appends no first entry to a log, where no memory is left for a plan.
@@ -234,7 +191,7 @@ impl Replay {
             return fault_alone(params, entry);
         }
         match &mut self.replica {
-            Some(replica) => add(replica, words, entry),
+            Some(replica) => replica.add(self.alloc, words, entry),
             None => unreachable!(),
         }
     }

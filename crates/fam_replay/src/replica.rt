@@ -1,7 +1,7 @@
 //! What is kept of the log that was read: a slot that has the words which an earlier reading found is neither read nor
 //! judged again.
 
-ghost use Rattle.std.specs.Prelude.{◌≡◌, ◌++◌, ◌∷◌, [], ◌<◌, ◌≤◌, ℕ, true, false, None, Some, Ok, IfOk, IfErr, IfSome, IsSome, OnOk, OnErr, length, option_map, slice_get, take};
+ghost use Rattle.std.specs.Prelude.{◌≡◌, ◌+◌, [], ◌<◌, ◌≤◌, ℕ, true, false, None, Some, Ok, IfOk, IfSome, IsSome, OnOk, OnErr, length, max, option_map, slice_get, take};
 ghost use Rattle.std.specs.FinMap as map;
 ghost use Rattle.fam_base.specs.Commands.{IsSoundCmd};
 ghost use Rattle.fam_format.specs.Params.{SoundParams};
@@ -10,11 +10,11 @@ ghost use Rattle.fam_format.specs.Tree.{join_fault, replay};
 ghost use Rattle.fam_rules.specs.Decide.{decide, wish_of};
 ghost use Rattle.fam_plan.specs.Faults.{reason_of};
 ghost use Rattle.fam_replay.specs.Replica.{AreRead, FindsNext, IsWhole, KeepsWords, found_in};
-ghost use Rattle.fam_replay.specs.Replay.{IsReplayOf, IsRoomFor};
+ghost use Rattle.fam_replay.specs.Replay.{IsReplayOf, IsRoomFor, Joins};
 
 use crate::same::same_slot;
 use fam_base::{Cmd, Entry, OutOfMemory, Params, Path};
-use fam_format::SLOT_WORDS;
+use fam_format::{Reason, SLOT_WORDS};
 use fam_plan::{AddFault, Plan};
 use fam_rules::Refused;
 use fam_tree::Tree;
@@ -47,15 +47,51 @@ impl Model for Replica {
     ghost invariant = { λ r. IsReplica r.plan r.slots.items r.found };
 }
 
-/// Forgets the entries behind the first `found`, and the words of their slots.
-fn forget(plan: &mut Plan, slots: &mut Vec<[u64; SLOT_WORDS]>, found: u64)
-    requires { AreRead plan.old.params slots.old.items plan.old.entries }
+/// Forgets the entries behind the first `found`, and the words of their slots: the plan is made anew. Where memory lacks
+/// nothing changes.
+fn forget(
+    alloc: Global,
+    plan: &mut Plan,
+    slots: &mut Vec<[u64; SLOT_WORDS]>,
+    found: u64,
+) -> Result<(), OutOfMemory>
+    requires read { AreRead plan.old.params slots.old.items plan.old.entries }
+    requires within { found ≤ length plan.old.entries }
     ensures read { AreRead plan.new.params slots.new.items plan.new.entries }
-    ensures first { plan.new.entries ≡ take found plan.old.entries }
+    ensures first { OnOk result (plan.new.entries ≡ take found plan.old.entries) }
+    ensures same { OnErr result (plan.new ≡ plan.old) }
     ensures params { plan.new.params ≡ plan.old.params }
 {
-    plan.truncate(found);
-    slots.truncate(found as usize);
+    if found < plan.count() {
+        *plan = plan.first(alloc, found)?;
+        slots.truncate(found as usize);
+    }
+    Ok(())
+}
+
+/// Why an entry doesn't join, or out of memory where nothing is against it.
+pub(crate) fn reason_or_memory(fault: Option<Reason>) -> Result<Option<Reason>, OutOfMemory>
+    ensures reason { IfOk result (λ reason. reason ≡ fault) }
+    ensures some { IfOk result (λ reason. IsSome reason) }
+    ensures none { OnErr result (fault ≡ None) }
+{
+    match fault {
+        Some(reason) => Ok(Some(reason)),
+        None => Err(OutOfMemory),
+    }
+}
+
+/// The fault of a plan among the reasons of a log's reader, if memory didn't run out.
+fn reason_against(fault: AddFault) -> Option<Reason>
+    ensures { result ≡ reason_of fault }
+{
+    match fault {
+        AddFault::Exists(kind) => Some(Reason::Exists(kind)),
+        AddFault::NoParent => Some(Reason::NoParent),
+        AddFault::ParentIsFile => Some(Reason::ParentIsFile),
+        AddFault::Overlap(unit) => Some(Reason::Overlap(unit)),
+        AddFault::OutOfMemory => None,
+    }
 }
 
 /// Keeps the words of a slot, if they are wanted and those of all slots before it are kept. Where memory lacks they are
@@ -133,26 +169,37 @@ impl Replica {
         true
     }
 
-    /// Adds the entry that the words of the next slot tell, where it joins those that were found. A fault leaves these
-    /// as they were. What was kept behind them is forgotten.
-    pub(crate) fn add(&mut self, words: &[u64; SLOT_WORDS], entry: &Entry) -> Result<(), AddFault>
+    /// Adds the entry that the words of the next slot tell where it joins those that were found, and otherwise says why
+    /// it doesn't. What is kept behind these is forgotten then.
+    pub(crate) fn add(
+        &mut self,
+        alloc: Global,
+        words: &[u64; SLOT_WORDS],
+        entry: &Entry,
+    ) -> Result<Option<Reason>, OutOfMemory>
         requires proper { Proper self.old.params entry.now }
         requires left { length (found_in self.old) < self.old.params.slots }
         requires read { entry_of self.old.params words.now (length (found_in self.old)) ≡ Ok entry.now }
 
-        ensures joins { OnOk result (join_fault self.old.params (found_in self.old) entry.now ≡ None) }
-        ensures added { OnOk result (found_in self.new ≡ found_in self.old ++ entry.now ∷ []) }
-        ensures cause { IfErr result (λ fault. reason_of fault
-            ≡ join_fault self.old.params (found_in self.old) entry.now) }
-        ensures same { OnErr result (found_in self.new ≡ found_in self.old) }
-        ensures whole { IsWhole self.new }
+        ensures joins { IfOk result (λ reason.
+            Joins reason self.old.params (found_in self.old) entry.now (found_in self.new)) }
+        ensures few { length self.new.entries ≤ max (length self.old.entries) (length (found_in self.old) + 1) }
         ensures params { self.new.params ≡ self.old.params }
+        ensures err { OnErr result (found_in self.new ≡ found_in self.old) }
+        ensures want { OnErr result (join_fault self.old.params (found_in self.old) entry.now ≡ None) }
     {
-        forget(&mut self.plan, &mut self.slots, self.found);
-        self.plan.add(entry)?;
-        keep(&mut self.slots, self.keeps, self.found, words);
-        self.found = self.plan.count();
-        Ok(())
+        match forget(alloc, &mut self.plan, &mut self.slots, self.found) {
+            Ok(()) => {}
+            Err(_) => return reason_or_memory(self.plan.fault_among(self.found, entry)),
+        }
+        match self.plan.add(entry) {
+            Ok(()) => {
+                keep(&mut self.slots, self.keeps, self.found, words);
+                self.found = self.plan.count();
+                Ok(None)
+            }
+            Err(fault) => reason_or_memory(reason_against(fault)),
+        }
     }
 
     /// What a command appends behind the entries that were found, or why nothing.

@@ -32,7 +32,7 @@ use crate::contents::Contents;
 use crate::wanted::first_line;
 use fam_base::{Cmd, Content, Entry, LineNo, OutOfMemory, Params};
 use fam_commands::{Part, Phase};
-use fam_extents::file_line;
+use fam_content::file_line;
 use fam_format::{GATE_LINE, LAST_WORD, LOG_LINE, SLOT_LINES};
 use fam_fsck::Fsck;
 use fam_machine::Op;

@@ -4,7 +4,7 @@ ghost use Rattle.std.specs.Prelude.{◌≡◌};
 ghost use Rattle.fam_commands.specs.Task as spec;
 
 use fam_base::Cmd;
-use fam_extents::lines_of;
+use fam_content::lines_of;
 use fam_format::LINE_BYTES;
 
 /// The first byte that a command wants of a file.

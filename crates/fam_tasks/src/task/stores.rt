@@ -12,7 +12,7 @@ ghost use Rattle.fam_tasks.specs.Tells.{Tells};
 use super::{LAST_LINE, Task};
 use crate::answer::Turn;
 use fam_commands::Phase;
-use fam_extents::lines_of;
+use fam_content::lines_of;
 use fam_format::{LAST_WORD, LINE_WORDS};
 use fam_machine::Op;
 use fam_replay::line_of_slot;

@@ -1,0 +1,29 @@
+//! The lines of a file: line `j` has its bytes `64 j` to `64 j + 63`.
+
+ghost use Rattle.std.specs.Prelude.{◌≡◌, ◌↔◌, ◌+◌, ◌*◌, ◌/◌, ◌<◌, ℕ};
+ghost use Rattle.std.specs.Int.{div_ceil};
+ghost use Rattle.fam_rules.specs.Place as places;
+
+use crate::places::place;
+use fam_base::{Entry, LineNo};
+use fam_format::LINE_BYTES;
+
+/// The device's line that holds line `j` of the file, all of its 64 bytes in their order.
+pub fn file_line(entry: &Entry, j: u64) -> LineNo
+    requires file { places.IsProperEntry entry.now }
+    requires below { places.line_bytes * j < entry.now.size }
+
+    ensures value { result.0 ≡ places.place entry.now (places.line_bytes * j) / places.line_bytes }
+    ensures bytes { (b : ℕ) → b < places.line_bytes
+        → places.place entry.now (places.line_bytes * j + b) ≡ places.line_bytes * result.0 + b }
+{
+    LineNo(place(entry, LINE_BYTES * j) / LINE_BYTES)
+}
+
+/// How many lines hold `size` bytes: `size / 64`, rounded up.
+pub fn lines_of(size: u64) -> u64
+    ensures value { result ≡ div_ceil size places.line_bytes }
+    ensures each { (j : ℕ) → (places.line_bytes * j < size) ↔ (j < result) }
+{
+    size.div_ceil(LINE_BYTES)
+}
