@@ -1,4 +1,5 @@
 pub mod Classes
+pub mod ReplyClasses
 pub mod Kept
 pub mod Task
 pub mod Turns

@@ -12,6 +12,7 @@ use Rattle.fam_events.specs.declared.fault.EventFault.{EventFault}
 use Rattle.fam_events.specs.declared.fault.EventFault.TheVariants as fault
 use Rattle.fam_world.specs.declared.fault.WorldFault.{WorldFault}
 use Rattle.fam_world.specs.declared.fault.WorldFault.TheVariants as world
+use Rattle.fam_journal.specs.RefusalClasses.{RefusalClass, refusal_class, AtOnce, ByHost, ByImage, BySource, ByFault}
 
 -- a refused call has noted that, and the run goes on
 abbrev pub outcome : Result (Unit {0}) WorldFault → Result (Unit {0}) EventFault
@@ -19,23 +20,17 @@ outcome (Ok x) = Ok x
 outcome (Err (world.Refused cause)) = Ok tt
 outcome (Err world.OutOfMemory) = Err fault.OutOfMemory
 
--- but behind a mkfs in which the media failed nothing goes on
+-- but behind a mkfs in which the media failed nothing goes on; by the class of the refusal
+abbrev pub broken_by_in : RefusalClass → Result (Unit {0}) EventFault
+broken_by_in AtOnce = Ok tt
+broken_by_in (ByHost host) = Ok tt
+broken_by_in ByImage = Ok tt
+broken_by_in BySource = Ok tt
+broken_by_in (ByFault at) = Err fault.MkfsFailed
+
+-- of a refusal
 abbrev pub broken_by : Refusal → Result (Unit {0}) EventFault
-broken_by why.NoHost = Ok tt
-broken_by (why.SameHost host) = Ok tt
-broken_by why.TooManyHosts = Ok tt
-broken_by (why.BadGeometry unit log) = Ok tt
-broken_by (why.TooSmall need have) = Ok tt
-broken_by (why.ImageSmall lines) = Ok tt
-broken_by (why.Busy host) = Ok tt
-broken_by (why.Dirty host) = Ok tt
-broken_by (why.HasSuper uuid) = Ok tt
-broken_by why.Idle = Ok tt
-broken_by (why.NoLine at lines) = Ok tt
-broken_by (why.NoFile name) = Ok tt
-broken_by (why.CopyLimit sum) = Ok tt
-broken_by (why.BadListing at) = Ok tt
-broken_by (why.MediaFault at) = Err fault.MkfsFailed
+broken_by cause = broken_by_in (refusal_class cause)
 
 -- how an event ends, by what the world's mkfs answered
 abbrev pub make_outcome : Result (Unit {0}) WorldFault → Result (Unit {0}) EventFault

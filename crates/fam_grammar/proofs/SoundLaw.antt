@@ -5,7 +5,6 @@ use Rattle.std.specs.List.{list_all}
 use Rattle.std.proofs.lemmas.Bool.Decides.{nat_tests}
 use Rattle.std.proofs.lemmas.Option.{same_Some}
 use Rattle.fam_base.specs.Commands.{mode_limit, read_limit}
-use Rattle.fam_machine.specs.MkfsOptions.{mkfs_options}
 use Rattle.fam_journal.specs.declared.event.Event.{Event}
 use Rattle.fam_grammar.specs.declared.keywords.CommandWord.{CommandWord}
 use Rattle.fam_grammar.specs.declared.keywords.CommandWord.TheVariants as command

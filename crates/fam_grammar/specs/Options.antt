@@ -1,7 +1,6 @@
 -- Options: words behind the others of a line, in any order, each at most once.
 use Rattle.std.specs.Prelude.{ℕ, Bool, true, false, if◌then◌else◌, List, [], ◌∷◌, codes, Option, Some, None, option_map, option_and_then}
 use Rattle.std.specs.Str.{bytes_eq}
-use Rattle.fam_machine.specs.MkfsOptions.{mkfs_options}
 use Rattle.fam_grammar.specs.declared.options.FileOption.{FileOption}
 use Rattle.fam_grammar.specs.declared.options.FileOption.TheVariants as file
 use Rattle.fam_grammar.specs.declared.options.FileOptions.{FileOptions}

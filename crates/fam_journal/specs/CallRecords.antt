@@ -27,6 +27,7 @@ use Rattle.fam_journal.specs.View.{HostView, WorldView, WorldStands}
 use Rattle.fam_journal.specs.Kept.{Held}
 use Rattle.fam_journal.specs.ByWorld.{busy_in, number_in, refusal_in, world_after}
 use Rattle.fam_journal.specs.NoteClasses.{NoteClass, note_class, Declared, Formatted, Going, Answering, Refusing}
+use Rattle.fam_journal.specs.RefusalClasses.{RefusalClass, refusal_class, AtOnce, ByHost, ByImage, BySource, ByFault}
 
 -- What a call makes of it. `told` is the media's image, where it is modelled.
 
@@ -162,41 +163,29 @@ refusal_noted [] = None
 refusal_noted (note ∷ []) = cause_noted note
 refusal_noted (note ∷ next ∷ notes) = None
 
--- what may still be refused of a call after the tests of `refusal_of`: by what mkfs reads, by memory, or as it is told to
-abbrev pub IsLateMake : Refusal → Type 0
-IsLateMake why.NoHost = ⊥
-IsLateMake (why.SameHost host) = ⊥
-IsLateMake why.TooManyHosts = ⊥
-IsLateMake (why.BadGeometry unit log) = ⊥
-IsLateMake (why.TooSmall need have) = ⊥
-IsLateMake (why.ImageSmall lines) = ⊥
-IsLateMake (why.Busy host) = ⊥
-IsLateMake (why.Dirty host) = ⊥
-IsLateMake (why.HasSuper uuid) = ⊤
-IsLateMake why.Idle = ⊥
-IsLateMake (why.NoLine at lines) = ⊥
-IsLateMake (why.NoFile name) = ⊥
-IsLateMake (why.CopyLimit sum) = ⊥
-IsLateMake (why.BadListing at) = ⊥
-IsLateMake (why.MediaFault at) = ⊤
+-- what may still be refused of a call after the tests of `refusal_of`: by what mkfs reads, by memory, or as it is told to; by the class of the refusal
+abbrev pub IsLateMakeIn : RefusalClass → Type 0
+IsLateMakeIn AtOnce = ⊥
+IsLateMakeIn (ByHost host) = ⊥
+IsLateMakeIn ByImage = ⊤
+IsLateMakeIn BySource = ⊥
+IsLateMakeIn (ByFault at) = ⊤
 
--- a cache's move is refused so once it has begun: the media failed
+-- of a refusal
+abbrev pub IsLateMake : Refusal → Type 0
+IsLateMake cause = IsLateMakeIn (refusal_class cause)
+
+-- a cache's move is refused so once it has begun: the media failed; by the class of the refusal
+abbrev pub IsLateMoveIn : RefusalClass → Type 0
+IsLateMoveIn AtOnce = ⊥
+IsLateMoveIn (ByHost host) = ⊥
+IsLateMoveIn ByImage = ⊥
+IsLateMoveIn BySource = ⊥
+IsLateMoveIn (ByFault at) = ⊤
+
+-- of a refusal
 abbrev pub IsLateMove : Refusal → Type 0
-IsLateMove why.NoHost = ⊥
-IsLateMove (why.SameHost host) = ⊥
-IsLateMove why.TooManyHosts = ⊥
-IsLateMove (why.BadGeometry unit log) = ⊥
-IsLateMove (why.TooSmall need have) = ⊥
-IsLateMove (why.ImageSmall lines) = ⊥
-IsLateMove (why.Busy host) = ⊥
-IsLateMove (why.Dirty host) = ⊥
-IsLateMove (why.HasSuper uuid) = ⊥
-IsLateMove why.Idle = ⊥
-IsLateMove (why.NoLine at lines) = ⊥
-IsLateMove (why.NoFile name) = ⊥
-IsLateMove (why.CopyLimit sum) = ⊥
-IsLateMove (why.BadListing at) = ⊥
-IsLateMove (why.MediaFault at) = ⊤
+IsLateMove cause = IsLateMoveIn (refusal_class cause)
 
 -- a call is refused so once it has begun: a mkfs or a cache's move
 abbrev pub IsLate : Call → Refusal → Type 0
@@ -242,23 +231,17 @@ pub record StepCall (name : List ℕ) (lines : ℕ) (answered : Option Refusal) 
   pub answers : AnswersStep name lines answered over faults faults_now old new
   pub keeps : (start : Image) → CallKeeps (call.Steps name) start told told_now old new
 
--- a mkfs is cut by a media fault where it answers that, and else does its row
+-- a mkfs is cut by a media fault where it answers that, and else does its row; by the class of the refusal
+abbrev pub KeepsOrBreaksIn : RefusalClass → Call → Image → Option Image → Option Image → WorldView → WorldView → Type 0
+KeepsOrBreaksIn AtOnce c start told told_now old new = CallKeeps c start told told_now old new
+KeepsOrBreaksIn (ByHost host) c start told told_now old new = CallKeeps c start told told_now old new
+KeepsOrBreaksIn ByImage c start told told_now old new = CallKeeps c start told told_now old new
+KeepsOrBreaksIn BySource c start told told_now old new = CallKeeps c start told told_now old new
+KeepsOrBreaksIn (ByFault at) c start told told_now old new = CallBreaks c start told told_now old new
+
+-- of a refusal
 abbrev pub KeepsOrBreaks : Refusal → Call → Image → Option Image → Option Image → WorldView → WorldView → Type 0
-KeepsOrBreaks why.NoHost c start told told_now old new = CallKeeps c start told told_now old new
-KeepsOrBreaks (why.SameHost host) c start told told_now old new = CallKeeps c start told told_now old new
-KeepsOrBreaks why.TooManyHosts c start told told_now old new = CallKeeps c start told told_now old new
-KeepsOrBreaks (why.BadGeometry unit log) c start told told_now old new = CallKeeps c start told told_now old new
-KeepsOrBreaks (why.TooSmall need have) c start told told_now old new = CallKeeps c start told told_now old new
-KeepsOrBreaks (why.ImageSmall lines) c start told told_now old new = CallKeeps c start told told_now old new
-KeepsOrBreaks (why.Busy host) c start told told_now old new = CallKeeps c start told told_now old new
-KeepsOrBreaks (why.Dirty host) c start told told_now old new = CallKeeps c start told told_now old new
-KeepsOrBreaks (why.HasSuper uuid) c start told told_now old new = CallKeeps c start told told_now old new
-KeepsOrBreaks why.Idle c start told told_now old new = CallKeeps c start told told_now old new
-KeepsOrBreaks (why.NoLine at lines) c start told told_now old new = CallKeeps c start told told_now old new
-KeepsOrBreaks (why.NoFile name) c start told told_now old new = CallKeeps c start told told_now old new
-KeepsOrBreaks (why.CopyLimit sum) c start told told_now old new = CallKeeps c start told told_now old new
-KeepsOrBreaks (why.BadListing at) c start told told_now old new = CallKeeps c start told told_now old new
-KeepsOrBreaks (why.MediaFault at) c start told told_now old new = CallBreaks c start told told_now old new
+KeepsOrBreaks cause c start told told_now old new = KeepsOrBreaksIn (refusal_class cause) c start told told_now old new
 
 -- what a mkfs leaves on an image that is modelled: its row, or where the media failed what stands behind the cut
 abbrev pub MakeLeaves : Option Refusal → Call → Image → Option Image → Option Image → WorldView → WorldView → Type 0

@@ -21,6 +21,7 @@ use Rattle.fam_journal.specs.Members.{index_of}
 use Rattle.fam_machine.specs.Mkfs as early
 use Rattle.fam_machine.specs.Mkfs.{EarlyRefusal, asked, expected_ops, early_refusal, superblock_found, goes_on, mkfs_ops, read_ops}
 use Rattle.fam_journal.specs.Notes.{Note, Host, Made, Start, Stop, Halt, Refused}
+use Rattle.fam_journal.specs.RefusalClasses.{RefusalClass, refusal_class, AtOnce, ByHost, ByImage, BySource, ByFault}
 
 -- what the world is asked for, of the host of a name
 pub data Call : Type 0 where
@@ -151,23 +152,17 @@ refusal_of (Refuses name cause) m = None
 
 -- Causes that are handed in: what an ask's source comes to, or that nothing may begin.
 
--- a cause that a source has: there is none of this name, it is too long, or no listing
+-- a cause that a source has: there is none of this name, it is too long, or no listing; by the class of the refusal
+abbrev pub IsOfSourceIn : RefusalClass → Type 0
+IsOfSourceIn AtOnce = ⊥
+IsOfSourceIn (ByHost host) = ⊥
+IsOfSourceIn ByImage = ⊥
+IsOfSourceIn BySource = ⊤
+IsOfSourceIn (ByFault at) = ⊥
+
+-- of a refusal
 abbrev pub IsOfSource : Refusal → Type 0
-IsOfSource why.NoHost = ⊥
-IsOfSource (why.SameHost host) = ⊥
-IsOfSource why.TooManyHosts = ⊥
-IsOfSource (why.BadGeometry unit log) = ⊥
-IsOfSource (why.TooSmall need have) = ⊥
-IsOfSource (why.ImageSmall lines) = ⊥
-IsOfSource (why.Busy host) = ⊥
-IsOfSource (why.Dirty host) = ⊥
-IsOfSource (why.HasSuper uuid) = ⊥
-IsOfSource why.Idle = ⊥
-IsOfSource (why.NoLine at lines) = ⊥
-IsOfSource (why.NoFile name) = ⊤
-IsOfSource (why.CopyLimit sum) = ⊤
-IsOfSource (why.BadListing at) = ⊤
-IsOfSource (why.MediaFault at) = ⊥
+IsOfSource cause = IsOfSourceIn (refusal_class cause)
 
 -- a refusal that may be handed in: a source's, or that of a host that may not begin
 abbrev pub MayBeRefused : List ℕ → Refusal → Machines → Type 0

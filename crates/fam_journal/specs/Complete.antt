@@ -28,6 +28,7 @@ use Rattle.fam_journal.specs.Notes.{Answer, Replied, MediaFault, Note, Host, Mad
 use Rattle.fam_journal.specs.Past.{first_past, Damage, FewLines, NoSuperblock, BadHeader, BadSlot, State, Bad, Sound, HostPast, Past, past_after, with_pending}
 use Rattle.fam_commands.specs.Classes.{Class, class_of, Replays, Appends, Compares, Reads, Surveys}
 use Rattle.fam_journal.specs.NoteClasses.{NoteClass, note_class, Declared, Formatted, Going, Answering, Refusing}
+use Rattle.fam_commands.specs.ReplyClasses.{ReplyClass, reply_class, Appending, Declining, Showing, Reporting, Faulty}
 
 -- Sound states.
 
@@ -36,23 +37,18 @@ pub record AnswersClient (p : Params) (host : HostPast) (why : Cause) : Type 0 w
   pub other : host.uuid ≢ p.master
   pub is : why ≡ cause.NotMaster host.uuid p.master
 
--- it is done; or its host is a client; or the decision refuses it, with nothing pending
-abbrev pub IsAppendAnswer : Params → List File → Option File → HostPast → Cmd → Reply → Type 0
-IsAppendAnswer p history pending host cmd (reply.Appended seq) = ⊤
-IsAppendAnswer p history pending host cmd (reply.NotAppended why) =
+-- it is done; or its host is a client; or the decision refuses it, with nothing pending; by the class of the reply
+abbrev pub IsAppendAnswerIn : Params → List File → Option File → HostPast → Cmd → ReplyClass → Type 0
+IsAppendAnswerIn p history pending host cmd (Appending seq) = ⊤
+IsAppendAnswerIn p history pending host cmd (Declining why) =
     AnswersClient p host why ⊎ ((pending ≡ None) × (decide p host.uuid (entries_of history) cmd ≡ Some (Err why)))
-IsAppendAnswer p history pending host cmd (reply.Played m tree) = ⊥
-IsAppendAnswer p history pending host cmd (reply.Same m) = ⊥
-IsAppendAnswer p history pending host cmd (reply.Differs m offset found wanted) = ⊥
-IsAppendAnswer p history pending host cmd (reply.Length m size wanted) = ⊥
-IsAppendAnswer p history pending host cmd (reply.Bytes m bytes) = ⊥
-IsAppendAnswer p history pending host cmd (reply.NotFound m) = ⊥
-IsAppendAnswer p history pending host cmd (reply.IsDirectory m) = ⊥
-IsAppendAnswer p history pending host cmd (reply.Checks m checked) = ⊥
-IsAppendAnswer p history pending host cmd (reply.Reports report) = ⊥
-IsAppendAnswer p history pending host cmd (reply.NoSuperblock fault) = ⊥
-IsAppendAnswer p history pending host cmd (reply.BadHeader fault) = ⊥
-IsAppendAnswer p history pending host cmd (reply.BadSlot seq reason) = ⊥
+IsAppendAnswerIn p history pending host cmd (Showing m) = ⊥
+IsAppendAnswerIn p history pending host cmd (Reporting report) = ⊥
+IsAppendAnswerIn p history pending host cmd Faulty = ⊥
+
+-- of a reply
+abbrev pub IsAppendAnswer : Params → List File → Option File → HostPast → Cmd → Reply → Type 0
+IsAppendAnswer p history pending host cmd given = IsAppendAnswerIn p history pending host cmd (reply_class given)
 
 -- the question's answer on the first entries, of which there are so many as were settled at the mark, or more
 pub record AsksPrefix (host : HostPast) (all : List File) (cmd : Cmd) (given : Reply) : Type 0 where

@@ -15,6 +15,7 @@ use Rattle.fam_journal.specs.Follows.{Follows, FollowsBroken, FollowsCut, Follow
 use Rattle.fam_journal.specs.Notes.{Answer, Replied, MediaFault, Note, Host, Made, Start, Mark, Found, Writes, Answered, Stop, Halt, Refused}
 use Rattle.fam_journal.specs.Past.{State, Bad, Sound, past_of, settled_length, with_pending}
 use Rattle.fam_journal.specs.NoteClasses.{NoteClass, note_class, Declared, Formatted, Going, Answering, Refusing}
+use Rattle.fam_journal.specs.RefusalClasses.{RefusalClass, refusal_class, AtOnce, ByHost, ByImage, BySource, ByFault}
 
 -- Notes that count.
 
@@ -23,23 +24,17 @@ abbrev pub answer_faults : Answer → ℕ
 answer_faults (Replied given) = 0
 answer_faults (MediaFault at) = 1
 
--- how many faults a refusal tells
+-- how many faults a refusal tells; by the class of the refusal
+abbrev pub cause_faults_in : RefusalClass → ℕ
+cause_faults_in AtOnce = 0
+cause_faults_in (ByHost host) = 0
+cause_faults_in ByImage = 0
+cause_faults_in BySource = 0
+cause_faults_in (ByFault at) = 1
+
+-- of a refusal
 abbrev pub cause_faults : Refusal → ℕ
-cause_faults why.NoHost = 0
-cause_faults (why.SameHost host) = 0
-cause_faults why.TooManyHosts = 0
-cause_faults (why.BadGeometry unit log) = 0
-cause_faults (why.TooSmall need have) = 0
-cause_faults (why.ImageSmall lines) = 0
-cause_faults (why.Busy host) = 0
-cause_faults (why.Dirty host) = 0
-cause_faults (why.HasSuper uuid) = 0
-cause_faults why.Idle = 0
-cause_faults (why.NoLine at lines) = 0
-cause_faults (why.NoFile name) = 0
-cause_faults (why.CopyLimit sum) = 0
-cause_faults (why.BadListing at) = 0
-cause_faults (why.MediaFault at) = 1
+cause_faults cause = cause_faults_in (refusal_class cause)
 
 -- how many faults a note tells; by the class of the note
 abbrev pub note_faults_in : NoteClass → ℕ

@@ -1,5 +1,6 @@
 pub mod Notes
 pub mod NoteClasses
+pub mod RefusalClasses
 pub mod Members
 pub mod Past
 pub mod Legal

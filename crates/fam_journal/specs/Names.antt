@@ -4,24 +4,19 @@ use Rattle.fam_journal.specs.declared.refusal.Refusal.{Refusal}
 use Rattle.fam_journal.specs.declared.refusal.Refusal.TheVariants as why
 use Rattle.fam_journal.specs.Notes.{Note, Host, Made, Start, Mark, Found, Writes, Answered, Stop, Halt, Refused}
 use Rattle.fam_journal.specs.NoteClasses.{NoteClass, note_class, Declared, Formatted, Going, Answering, Refusing}
+use Rattle.fam_journal.specs.RefusalClasses.{RefusalClass, refusal_class, AtOnce, ByHost, ByImage, BySource, ByFault}
 
--- a refusal names one of so many hosts, or none
+-- a refusal names one of so many hosts, or none; by the class of the refusal
+abbrev pub NamesCauseIn : ℕ → RefusalClass → Type 0
+NamesCauseIn n AtOnce = ⊤
+NamesCauseIn n (ByHost host) = host.0 < n
+NamesCauseIn n ByImage = ⊤
+NamesCauseIn n BySource = ⊤
+NamesCauseIn n (ByFault at) = ⊤
+
+-- of a refusal
 abbrev pub NamesCause : ℕ → Refusal → Type 0
-NamesCause n why.NoHost = ⊤
-NamesCause n (why.SameHost host) = host.0 < n
-NamesCause n why.TooManyHosts = ⊤
-NamesCause n (why.BadGeometry unit log) = ⊤
-NamesCause n (why.TooSmall need have) = ⊤
-NamesCause n (why.ImageSmall lines) = ⊤
-NamesCause n (why.Busy host) = host.0 < n
-NamesCause n (why.Dirty host) = host.0 < n
-NamesCause n (why.HasSuper uuid) = ⊤
-NamesCause n why.Idle = ⊤
-NamesCause n (why.NoLine at lines) = ⊤
-NamesCause n (why.NoFile name) = ⊤
-NamesCause n (why.CopyLimit sum) = ⊤
-NamesCause n (why.BadListing at) = ⊤
-NamesCause n (why.MediaFault at) = ⊤
+NamesCause n cause = NamesCauseIn n (refusal_class cause)
 
 -- a note names one of so many hosts; by the class of the note
 abbrev pub IsNamedIn : ℕ → NoteClass → Type 0

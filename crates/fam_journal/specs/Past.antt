@@ -19,6 +19,7 @@ use Rattle.fam_rules.specs.Reply.{Reply}
 use Rattle.fam_protocol.specs.After.{Named}
 use Rattle.fam_journal.specs.Members.{changed_at}
 use Rattle.fam_journal.specs.Notes.{Answer, Replied, MediaFault, Note, Host, Made, Start, Mark, Found, Writes, Answered, Stop, Halt, Refused}
+use Rattle.fam_commands.specs.ReplyClasses.{ReplyClass, reply_class, Appending, Declining, Showing, Reporting, Faulty}
 
 -- The settled state.
 
@@ -86,44 +87,34 @@ reported_count (log.Sound entries slots) = Some entries
 reported_count (log.BadLog field found wanted) = None
 reported_count log.Unread = None
 
--- how many entries a reply is of
+-- how many entries a reply is of; by the class of the reply
+abbrev pub count_of_in : ReplyClass → Option ℕ
+count_of_in (Appending seq) = None
+count_of_in (Declining refused) = None
+count_of_in (Showing m) = Some m
+count_of_in (Reporting report) = reported_count report.log
+count_of_in Faulty = None
+
+-- of a reply
 abbrev pub count_of : Reply → Option ℕ
-count_of (reply.Appended seq) = None
-count_of (reply.NotAppended refused) = None
-count_of (reply.Played m tree) = Some m
-count_of (reply.Same m) = Some m
-count_of (reply.Differs m offset found wanted) = Some m
-count_of (reply.Length m size wanted) = Some m
-count_of (reply.Bytes m bytes) = Some m
-count_of (reply.NotFound m) = Some m
-count_of (reply.IsDirectory m) = Some m
-count_of (reply.Checks m checked) = Some m
-count_of (reply.Reports report) = reported_count report.log
-count_of (reply.NoSuperblock fault) = None
-count_of (reply.BadHeader fault) = None
-count_of (reply.BadSlot seq reason) = None
+count_of given = count_of_in (reply_class given)
 
 -- so many entries were shown, where any were
 abbrev pub shows_count : Option ℕ → State → State
 shows_count None state = state
 shows_count (Some m) state = shows m state
 
--- the state after a reply
+-- the state after a reply; by the class of the reply
+abbrev pub replied_in : ReplyClass → State → State
+replied_in (Appending seq) state = acknowledges seq state
+replied_in (Declining refused) state = state
+replied_in (Showing m) state = shows m state
+replied_in (Reporting report) state = shows_count (reported_count report.log) state
+replied_in Faulty state = state
+
+-- of a reply
 abbrev pub replied : Reply → State → State
-replied (reply.Appended seq) state = acknowledges seq state
-replied (reply.NotAppended refused) state = state
-replied (reply.Played m tree) state = shows m state
-replied (reply.Same m) state = shows m state
-replied (reply.Differs m offset found wanted) state = shows m state
-replied (reply.Length m size wanted) state = shows m state
-replied (reply.Bytes m bytes) state = shows m state
-replied (reply.NotFound m) state = shows m state
-replied (reply.IsDirectory m) state = shows m state
-replied (reply.Checks m checked) state = shows m state
-replied (reply.Reports report) state = shows_count (reported_count report.log) state
-replied (reply.NoSuperblock fault) state = state
-replied (reply.BadHeader fault) state = state
-replied (reply.BadSlot seq reason) state = state
+replied given state = replied_in (reply_class given) state
 
 -- the state after a task's end
 abbrev pub ended : Answer → State → State

@@ -14,6 +14,7 @@ use Rattle.fam_outcomes.specs.declared.status.Status.TheVariants as status
 use Rattle.fam_journal.specs.Notes.{Answer, Replied, MediaFault, Note, Host, Made, Start, Mark, Found, Writes, Answered, Stop, Halt, Refused}
 use Rattle.fam_outcomes.specs.Texts.{is_sound_report}
 use Rattle.fam_journal.specs.NoteClasses.{NoteClass, note_class, Declared, Formatted, Going, Answering, Refusing}
+use Rattle.fam_commands.specs.ReplyClasses.{ReplyClass, reply_class, Appending, Declining, Showing, Reporting, Faulty}
 
 -- 0 alone is success
 abbrev pub status_number : Status → ℕ
@@ -135,22 +136,17 @@ refusal_stops cause.ParentIsFile = true
 refusal_stops (cause.LogFull slots) = true
 refusal_stops (cause.NoSpace units) = true
 
--- a reply stops it, but that of an append
+-- a reply stops it, but that of an append; by the class of the reply
+abbrev pub reply_stops_in : ReplyClass → Bool
+reply_stops_in (Appending seq) = false
+reply_stops_in (Declining refused) = refusal_stops refused
+reply_stops_in (Showing m) = true
+reply_stops_in (Reporting report) = true
+reply_stops_in Faulty = true
+
+-- of a reply
 abbrev pub reply_stops : Reply → Bool
-reply_stops (reply.Appended seq) = false
-reply_stops (reply.NotAppended refused) = refusal_stops refused
-reply_stops (reply.Played m tree) = true
-reply_stops (reply.Same m) = true
-reply_stops (reply.Differs m offset found wanted) = true
-reply_stops (reply.Length m size wanted) = true
-reply_stops (reply.Bytes m bytes) = true
-reply_stops (reply.NotFound m) = true
-reply_stops (reply.IsDirectory m) = true
-reply_stops (reply.Checks m checked) = true
-reply_stops (reply.Reports report) = true
-reply_stops (reply.NoSuperblock fault) = true
-reply_stops (reply.BadHeader fault) = true
-reply_stops (reply.BadSlot seq reason) = true
+reply_stops given = reply_stops_in (reply_class given)
 
 -- an answer stops it where its reply does, or where the media failed
 abbrev pub answer_stops : Answer → Bool

@@ -23,6 +23,7 @@ use Rattle.fam_protocol.specs.SharedState.{SharedState}
 use Rattle.fam_protocol.specs.Lines.{IsAtLeast, gate_of}
 use Rattle.fam_protocol.specs.Core.{System, Core, top_of}
 use Rattle.fam_protocol.specs.Tasks.{TaskHolds}
+use Rattle.fam_commands.specs.ReplyClasses.{ReplyClass, reply_class, Appending, Declining, Showing, Reporting, Faulty}
 
 -- What a host keeps of its task's notes.
 
@@ -113,22 +114,17 @@ read_by_log (log.Sound entries slots) = entries
 read_by_log (log.BadLog field found wanted) = 0
 read_by_log log.Unread = 0
 
--- how many entries a reply shows to be in the history
+-- how many entries a reply shows to be in the history; by the class of the reply
+abbrev pub shown_by_in : ReplyClass → ℕ
+shown_by_in (Appending seq) = seq + 1
+shown_by_in (Declining refused) = 0
+shown_by_in (Showing m) = m
+shown_by_in (Reporting report) = read_by_log report.log
+shown_by_in Faulty = 0
+
+-- of a reply
 abbrev pub shown_by : Reply → ℕ
-shown_by (Appended seq) = seq + 1
-shown_by (NotAppended refused) = 0
-shown_by (Played m tree) = m
-shown_by (Same m) = m
-shown_by (Differs m offset found wanted) = m
-shown_by (Length m size wanted) = m
-shown_by (Bytes m bytes) = m
-shown_by (NotFound m) = m
-shown_by (IsDirectory m) = m
-shown_by (Checks m checked) = m
-shown_by (Reports report) = read_by_log report.log
-shown_by (NoSuperblock fault) = 0
-shown_by (BadHeader fault) = 0
-shown_by (BadSlot seq reason) = 0
+shown_by given = shown_by_in (reply_class given)
 
 -- the history's length
 abbrev pub settled_after : Turn → ℕ → ℕ

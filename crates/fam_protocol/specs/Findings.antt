@@ -21,6 +21,7 @@ use Rattle.fam_protocol.specs.Tasks.{HasRead, wanted_path}
 use Rattle.fam_protocol.specs.After.{IsPastGate, Run}
 use Rattle.fam_protocol.specs.Invariant.{Hosts, Known, Damaged, Invariant}
 use Rattle.fam_protocol.specs.Steps.{Steps}
+use Rattle.fam_commands.specs.ReplyClasses.{ReplyClass, reply_class, Appending, Declining, Showing, Reporting, Faulty}
 
 -- Moments of a run.
 
@@ -112,39 +113,29 @@ pub record IsLoadedWord (j k word : ℕ) (t : Task) (all : List File) : Type 0 w
 abbrev pub IsFoundCount : ℕ → List File → ℕ → Type 0
 IsFoundCount n all settled = (n ≡ settled) ⊎ ((n ≡ settled + 1) × (n ≡ length all))
 
--- an answer made of the entries and bytes that were read
-abbrev pub IsOfEntries : Reply → Type 0
-IsOfEntries (Played m tree) = ⊤
-IsOfEntries (Same m) = ⊤
-IsOfEntries (Differs m offset found wanted) = ⊤
-IsOfEntries (Length m size wanted) = ⊤
-IsOfEntries (Bytes m bytes) = ⊤
-IsOfEntries (NotFound m) = ⊤
-IsOfEntries (IsDirectory m) = ⊤
-IsOfEntries (Checks m checked) = ⊤
-IsOfEntries (Appended seq) = ⊥
-IsOfEntries (NotAppended refused) = ⊥
-IsOfEntries (Reports report) = ⊥
-IsOfEntries (NoSuperblock fault) = ⊥
-IsOfEntries (BadHeader fault) = ⊥
-IsOfEntries (BadSlot seq reason) = ⊥
+-- an answer made of the entries and bytes that were read; by the class of the reply
+abbrev pub IsOfEntriesIn : ReplyClass → Type 0
+IsOfEntriesIn (Showing m) = ⊤
+IsOfEntriesIn (Appending seq) = ⊥
+IsOfEntriesIn (Declining refused) = ⊥
+IsOfEntriesIn (Reporting report) = ⊥
+IsOfEntriesIn Faulty = ⊥
 
--- an answer that names a fault of the image
+-- of a reply
+abbrev pub IsOfEntries : Reply → Type 0
+IsOfEntries given = IsOfEntriesIn (reply_class given)
+
+-- an answer that names a fault of the image; by the class of the reply
+abbrev pub IsOfFaultIn : ReplyClass → Type 0
+IsOfFaultIn Faulty = ⊤
+IsOfFaultIn (Appending seq) = ⊥
+IsOfFaultIn (Declining refused) = ⊥
+IsOfFaultIn (Showing m) = ⊥
+IsOfFaultIn (Reporting report) = ⊥
+
+-- of a reply
 abbrev pub IsOfFault : Reply → Type 0
-IsOfFault (NoSuperblock fault) = ⊤
-IsOfFault (BadHeader fault) = ⊤
-IsOfFault (BadSlot seq reason) = ⊤
-IsOfFault (Appended seq) = ⊥
-IsOfFault (NotAppended refused) = ⊥
-IsOfFault (Played m tree) = ⊥
-IsOfFault (Same m) = ⊥
-IsOfFault (Differs m offset found wanted) = ⊥
-IsOfFault (Length m size wanted) = ⊥
-IsOfFault (Bytes m bytes) = ⊥
-IsOfFault (NotFound m) = ⊥
-IsOfFault (IsDirectory m) = ⊥
-IsOfFault (Checks m checked) = ⊥
-IsOfFault (Reports report) = ⊥
+IsOfFault given = IsOfFaultIn (reply_class given)
 
 -- a refusal for another cause than the host
 abbrev pub IsOfDecision : Refused → Type 0

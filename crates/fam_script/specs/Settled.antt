@@ -7,6 +7,7 @@ use Rattle.fam_rules.specs.Reply as reply
 use Rattle.fam_rules.specs.Reply.{Reply}
 use Rattle.fam_script.specs.declared.counts.Settled.{Settled}
 use Rattle.fam_journal.specs.NoteClasses.{NoteClass, note_class, Declared, Formatted, Going, Answering, Refusing}
+use Rattle.fam_commands.specs.ReplyClasses.{ReplyClass, reply_class, Appending, Declining, Showing, Reporting, Faulty}
 
 -- nothing is settled
 abbrev pub empty : Settled
@@ -34,22 +35,17 @@ reports (log.Sound entries slots) s = shows entries s
 reports (log.BadLog field found wanted) s = s
 reports log.Unread s = s
 
--- a task replied
+-- a task replied; by the class of the reply
+abbrev pub replied_in : ReplyClass → Settled → Settled
+replied_in (Appending seq) s = acknowledges seq s
+replied_in (Declining refused) s = s
+replied_in (Showing m) s = shows m s
+replied_in (Reporting report) s = reports report.log s
+replied_in Faulty s = s
+
+-- of a reply
 abbrev pub replied : Reply → Settled → Settled
-replied (reply.Appended seq) s = acknowledges seq s
-replied (reply.NotAppended refused) s = s
-replied (reply.Played m tree) s = shows m s
-replied (reply.Same m) s = shows m s
-replied (reply.Differs m offset found wanted) s = shows m s
-replied (reply.Length m size wanted) s = shows m s
-replied (reply.Bytes m bytes) s = shows m s
-replied (reply.NotFound m) s = shows m s
-replied (reply.IsDirectory m) s = shows m s
-replied (reply.Checks m checked) s = shows m s
-replied (reply.Reports report) s = reports report.log s
-replied (reply.NoSuperblock fault) s = s
-replied (reply.BadHeader fault) s = s
-replied (reply.BadSlot seq reason) s = s
+replied given s = replied_in (reply_class given) s
 
 -- a task ended
 abbrev pub answered : Answer → Settled → Settled

@@ -27,6 +27,7 @@ use Rattle.fam_outcomes.specs.Runs.{IsPut, Outside}
 use Rattle.fam_outcomes.specs.Statuses.{good_status, is_good}
 use Rattle.fam_outcomes.specs.Texts.{render}
 use Rattle.fam_journal.specs.NoteClasses.{NoteClass, note_class, Declared, Formatted, Going, Answering, Refusing}
+use Rattle.fam_commands.specs.ReplyClasses.{ReplyClass, reply_class, Appending, Declining, Showing, Reporting, Faulty}
 
 -- an event that no other host's step interrupts
 abbrev pub IsWholeEvent : Event → Type 0
@@ -55,22 +56,17 @@ acknowledged_image image (Bad own damage gate) seq = image
 acknowledged_image image (Sound p history None) seq = image
 acknowledged_image image (Sound p history (Some f)) seq = written image p seq f.entry f.bytes
 
--- the image behind a reply: an append alone writes
+-- the image behind a reply: an append alone writes; by the class of the reply
+abbrev pub replied_image_in : Image → State → ReplyClass → Image
+replied_image_in image state (Appending seq) = acknowledged_image image state seq
+replied_image_in image state (Declining refused) = image
+replied_image_in image state (Showing m) = image
+replied_image_in image state (Reporting report) = image
+replied_image_in image state Faulty = image
+
+-- of a reply
 abbrev pub replied_image : Image → State → Reply → Image
-replied_image image state (reply.Appended seq) = acknowledged_image image state seq
-replied_image image state (reply.NotAppended refused) = image
-replied_image image state (reply.Played m tree) = image
-replied_image image state (reply.Same m) = image
-replied_image image state (reply.Differs m offset found wanted) = image
-replied_image image state (reply.Length m size wanted) = image
-replied_image image state (reply.Bytes m bytes) = image
-replied_image image state (reply.NotFound m) = image
-replied_image image state (reply.IsDirectory m) = image
-replied_image image state (reply.Checks m checked) = image
-replied_image image state (reply.Reports report) = image
-replied_image image state (reply.NoSuperblock fault) = image
-replied_image image state (reply.BadHeader fault) = image
-replied_image image state (reply.BadSlot seq reason) = image
+replied_image image state given = replied_image_in image state (reply_class given)
 
 -- the image behind an answer
 abbrev pub answered_image : Image → State → Answer → Image

@@ -1,5 +1,4 @@
 use Rattle.std.proofs.Common.{◌≡◌, length}
-use Rattle.fam_machine.specs.MkfsOptions.{mkfs_options}
 use Rattle.fam_grammar.specs.Cursor.{words_left, IsShort}
 use Rattle.fam_grammar.specs.Options.{mkfs_options, no_mkfs_options}
 use Rattle.fam_grammar.proofs.events.mkfs_options.Given as goal

@@ -1,0 +1,36 @@
+-- Classes of replies. Where replies of a class are alike a table speaks of the class, so a new reply chooses its class here,
+-- once, and has no rows of its own but where it differs.
+use Rattle.std.specs.Prelude.{ℕ}
+use Rattle.fam_rules.specs.declared.answers.Refused.{Refused}
+use Rattle.fam_rules.specs.declared.answers.Report.{Report}
+use Rattle.fam_rules.specs.Reply.{Reply, Appended, NotAppended, Played, Same, Differs, Length, Bytes, NotFound, IsDirectory, Checks, Reports, NoSuperblock, BadHeader, BadSlot}
+
+-- what a reply tells
+pub data ReplyClass : Type 0 where
+  -- an entry of this number is appended
+  Appending : (seq : ℕ) → ReplyClass
+  -- nothing is appended
+  Declining : (refused : Refused) → ReplyClass
+  -- something of the first m entries
+  Showing : (m : ℕ) → ReplyClass
+  -- a survey of all slots
+  Reporting : (report : Report) → ReplyClass
+  -- the image is damaged
+  Faulty : ReplyClass
+
+-- the class of a reply
+abbrev pub reply_class : Reply → ReplyClass
+reply_class (Appended seq) = Appending seq
+reply_class (NotAppended refused) = Declining refused
+reply_class (Played m tree) = Showing m
+reply_class (Same m) = Showing m
+reply_class (Differs m offset found wanted) = Showing m
+reply_class (Length m size wanted) = Showing m
+reply_class (Bytes m bytes) = Showing m
+reply_class (NotFound m) = Showing m
+reply_class (IsDirectory m) = Showing m
+reply_class (Checks m checked) = Showing m
+reply_class (Reports report) = Reporting report
+reply_class (NoSuperblock fault) = Faulty
+reply_class (BadHeader fault) = Faulty
+reply_class (BadSlot seq reason) = Faulty
