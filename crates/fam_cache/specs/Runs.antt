@@ -13,6 +13,7 @@ pub record CacheOver : Type 0 where
   pub image : Option Image
   pub lines : Cache
 
+-- this image and this cache
 abbrev pub over : Option Image → Cache → CacheOver
 over image lines = record { image = image; lines = lines }
 

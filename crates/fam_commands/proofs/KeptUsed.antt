@@ -12,7 +12,7 @@ use Rattle.fam_base.specs.declared.entry.Params.{Params}
 use Rattle.fam_base.specs.declared.entry.Entry.{Entry}
 use Rattle.fam_base.specs.PathOrder.{path_cmp, path_eq}
 use Rattle.fam_format.specs.Tree.{replay}
-use Rattle.fam_commands.specs.Kept.{AllJoin, IsKept, Kept, is_same_params, used, used_by, used_in}
+use Rattle.fam_commands.specs.Kept.{AllJoin, IsKept, Kept, is_same_params, used, used_by, class_used}
 use Rattle.fam_commands.proofs.Steps.Slots.{lookups_more}
 use Rattle.fam_format.proofs.JoinLaws.{joins_from}
 
@@ -47,6 +47,6 @@ used_by_finds (Some k) p gate joined = by_test k.params k.entries (is_same_param
 
 -- of a history
 pub used_finds : (kept : Option Kept) (cmd : Cmd) (p : Params) (gate : ℕ) → IsKept kept → Finds (used kept cmd p gate)
-unfolding used_in
+unfolding class_used
 used_finds kept Fsck p gate joined = finds_none
 used_finds kept cmd p gate joined = used_by_finds kept p gate joined

@@ -6,18 +6,18 @@ use Rattle.fam_base.specs.declared.cmd.Cmd.{Cmd}
 use Rattle.fam_base.specs.declared.cmd.Cmd.TheVariants.{Fsck}
 use Rattle.fam_base.specs.declared.entry.Params.{Params}
 use Rattle.fam_base.specs.declared.entry.Entry.{Entry}
-use Rattle.fam_commands.specs.Kept.{Kept, is_same_params, used, used_by, used_in}
+use Rattle.fam_commands.specs.Kept.{Kept, is_same_params, used, used_by, class_used}
 
 -- a check of the whole file system uses none
 pub used_fsck : (kept : Option Kept) (p : Params) (gate : ℕ) → used kept Fsck p gate ≡ []
-unfolding used_in
+unfolding class_used
 used_fsck kept p gate = refl
 
 pub used_fsck_count : (kept : Option Kept) (p : Params) (gate : ℕ) → length (used kept Fsck p gate) ≡ 0
 used_fsck_count kept p gate = ap (λ (list : List Entry). length list) (used_fsck kept p gate)
 
 pub used_none : (cmd : Cmd) (p : Params) (gate : ℕ) → used None cmd p gate ≡ []
-unfolding used_in used_by
+unfolding class_used used_by
 used_none Fsck p gate = refl
 used_none cmd p gate = refl
 
@@ -36,7 +36,7 @@ used_by_cases (Some k) p gate =
 
 -- none is used, or all that are kept
 pub used_cases : (kept : Option Kept) (cmd : Cmd) (p : Params) (gate : ℕ) → (used kept cmd p gate ≡ []) ⊎ ((k : Kept) × (kept ≡ Some k) × (used kept cmd p gate ≡ k.entries))
-unfolding used_in
+unfolding class_used
 used_cases kept Fsck p gate = inl refl
 used_cases kept cmd p gate = used_by_cases kept p gate
 
@@ -52,6 +52,6 @@ used_by_below (Some k) p gate = by_test k.entries (is_same_params k.params p) ga
 
 -- no more than the gate counts
 pub used_below : (kept : Option Kept) (cmd : Cmd) (p : Params) (gate : ℕ) → length (used kept cmd p gate) ≤ gate
-unfolding used_in
+unfolding class_used
 used_below kept Fsck p gate = omega arith
 used_below kept cmd p gate = used_by_below kept p gate

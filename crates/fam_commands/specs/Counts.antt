@@ -73,6 +73,7 @@ field_steps field.Slots = log_header_steps
 field_steps field.Uuid = log_header_steps
 field_steps field.Rest = log_header_steps
 
+-- of a fault of header or gate
 abbrev pub fault_steps : LogFault → ℕ
 fault_steps (log_fault.BadLog field found wanted) = field_steps field
 
@@ -92,6 +93,7 @@ log_steps g first (log.Sound entries slots) = decided_steps g first slots
 log_steps g first (log.BadLog field found wanted) = field_steps field
 log_steps g first log.Unread = 0
 
+-- by what a check of the whole file system finds of superblock and log
 abbrev pub report_steps : Geometry → ℕ → SuperState → LogState → ℕ
 report_steps g first superblock.Sound state = log_steps g first state
 report_steps g first (superblock.NoSuper word) state = word_steps

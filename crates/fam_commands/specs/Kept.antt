@@ -34,16 +34,16 @@ used_by (Some k) p gate = if is_same_params k.params p && nat_le (length k.entri
 
 -- the entries that a command begins with, once it has read superblock and gate: a check of the whole file system
 -- looks at every slot; by the class of the command
-unfoldable pub used_in : Option Kept → Class → Params → ℕ → List Entry
-used_in kept Surveys p gate = []
-used_in kept Replays p gate = used_by kept p gate
-used_in kept Appends p gate = used_by kept p gate
-used_in kept (Compares path against) p gate = used_by kept p gate
-used_in kept (Reads path offset count) p gate = used_by kept p gate
+unfoldable pub class_used : Option Kept → Class → Params → ℕ → List Entry
+class_used kept Surveys p gate = []
+class_used kept Replays p gate = used_by kept p gate
+class_used kept Appends p gate = used_by kept p gate
+class_used kept (Compares path against) p gate = used_by kept p gate
+class_used kept (Reads path offset count) p gate = used_by kept p gate
 
 -- of a command
 abbrev pub used : Option Kept → Cmd → Params → ℕ → List Entry
-used kept cmd p gate = used_in kept (class_of cmd) p gate
+used kept cmd p gate = class_used kept (class_of cmd) p gate
 
 -- how many of them there are: the first slot that is read
 abbrev pub first_slot : Option Kept → Cmd → Params → ℕ → ℕ

@@ -232,6 +232,7 @@ abbrev pub reads_kind : Kind → Cmd → ℕ → Bool
 reads_kind kind.Directory cmd size = false
 reads_kind kind.File cmd size = fits_content cmd size && nat_lt 0 (wanted_lines cmd size)
 
+-- where there is one
 abbrev pub reads_file : Cmd → Option File → Bool
 reads_file cmd None = false
 reads_file cmd (Some f) = reads_kind f.entry.kind cmd f.entry.size
@@ -283,6 +284,7 @@ early_reply_note end (reply.NoSuperblock fault) = Quiet
 early_reply_note end (reply.BadHeader fault) = Quiet
 early_reply_note end (reply.BadSlot seq reason) = Quiet
 
+-- by the reply, where there is one
 abbrev pub early_note : ℕ → Option Reply → RowNote
 early_note end None = Quiet
 early_note end (Some given) = early_reply_note end given

@@ -22,6 +22,7 @@ use Rattle.fam_commands.specs.declared.phase.Phase.{Phase}
 use Rattle.fam_commands.specs.declared.phase.Phase.TheVariants as at
 use Rattle.fam_commands.specs.Classes.{Class, class_of, Replays, Appends, Compares, Reads, Surveys}
 
+-- a command on its way, in a phase, with what it has read
 pub record Task : Type 0 where
   pub cmd : Cmd
   -- the UUID of its host
@@ -73,6 +74,7 @@ starting cmd me lines = mounted None cmd me lines
 abbrev pub used_in : Task → List Entry
 used_in t = used t.kept t.cmd t.params t.gate
 
+-- the first slot that it reads: as many entries are kept
 abbrev pub first_in : Task → ℕ
 first_in t = length (used_in t)
 
@@ -141,6 +143,7 @@ data_words t j = content_line (content_of t.cmd) (size_of t.entry) j
 
 -- The operation that comes next.
 
+-- in a phase
 abbrev pub op_at : Task → Phase → Op
 op_at t at.DropMagic = Invalidate (line_no 0)
 op_at t at.Magic = Load (line_no 0) 0
@@ -159,5 +162,6 @@ op_at t at.StoreGate = Store (line_no gate_line) 0 (t.gate + 1)
 op_at t at.SendGate = WriteBack (line_no gate_line)
 op_at t at.FenceGate = Fence
 
+-- in its own phase
 abbrev pub op_of : Task → Op
 op_of t = op_at t t.phase

@@ -34,6 +34,7 @@ use Rattle.fam_commands.specs.Kept.{used, first_slot}
 use Rattle.fam_commands.specs.Task.{Task, size_of, wanted_end, part_count}
 use Rattle.fam_commands.specs.Classes.{Class, class_of, Replays, Appends, Compares, Reads, Surveys, is_fsck}
 
+-- what comes of an operation for its task
 pub data Turn : Type 0 where
   -- nothing is noted
   Goes : (t : Task) → Turn
@@ -48,6 +49,7 @@ pub data Turn : Type 0 where
 
 -- Answers on a damaged image: a check of the whole file system reports, others name the fault.
 
+-- the superblock has this fault; by the class of the command
 abbrev pub super_fault_reply_in : Class → SuperFault → Reply
 super_fault_reply_in Surveys fault = Reports (super_report fault)
 super_fault_reply_in Replays fault = NoSuperblock fault
@@ -59,6 +61,7 @@ super_fault_reply_in (Reads path offset count) fault = NoSuperblock fault
 abbrev pub super_fault_reply : Cmd → SuperFault → Reply
 super_fault_reply cmd fault = super_fault_reply_in (class_of cmd) fault
 
+-- header or gate has this fault; by the class of the command
 abbrev pub log_fault_reply_in : Class → LogFault → Reply
 log_fault_reply_in Surveys fault = Reports (log_report fault)
 log_fault_reply_in Replays fault = BadHeader fault
@@ -268,6 +271,7 @@ slot_or_fence t j = if nat_lt (j + 1) (geometry t.params).lines then at.StoreSlo
 
 -- What comes of the operation in a phase; `word` is what a load gave.
 
+-- in a phase
 abbrev pub turn_at : Phase → Task → ℕ → Turn
 turn_at at.DropMagic t word = Goes (record t { phase = at.Magic })
 turn_at at.Magic t word = magic_turn t (magic_fault word)

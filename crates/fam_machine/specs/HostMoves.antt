@@ -8,6 +8,7 @@ use Rattle.fam_machine.specs.Caches.{cell_at, with_cell}
 use Rattle.fam_machine.specs.OneLine.{failed_leak, failed_send, fetched, leaked, sent}
 use Rattle.fam_machine.specs.Operations.{Machine, machine}
 
+-- what a cache does by itself at a line
 pub data Move : Type 0 where
   -- a line is sent, where it is dirty, and then absent
   Evict : Move

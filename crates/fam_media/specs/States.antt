@@ -29,11 +29,14 @@ pub record Change (T : Type 0) : Type 0 where
 abbrev pub change : {S T : Type 0} → (S → T) → S → S → Change T
 change state before behind = record { old = state before; new = state behind }
 
+-- of what a media tells
 abbrev pub MediaChange : Type 0
 MediaChange = Change MediaState
 
+-- of what a shelf tells
 abbrev pub ShelfChange : Type 0
 ShelfChange = Change ShelfState
 
+-- of what a sink tells
 abbrev pub SinkChange : Type 0
 SinkChange = Change SinkState

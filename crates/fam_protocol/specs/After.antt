@@ -168,6 +168,7 @@ pub record IsClient (p : Params) (t : Task) (me master : List ℕ) : Type 0 wher
   pub master_is : master ≡ p.master
   pub other : me ≢ master
 
+-- the causes of which an append may be refused: its host is a client, or the decision on the whole history
 abbrev pub MayRefuse : Refused → System → Task → List File → ℕ → Type 0
 MayRefuse (refused.NotMaster me master) sys t all settled = IsClient sys.params t me master
 MayRefuse refused.BadStripe sys t all settled = RefusesWhole sys.params t all settled refused.BadStripe
@@ -185,6 +186,7 @@ pub record AppendsNamed (r : Run) (all : List File) (seq : ℕ) : Type 0 where
   pub named : r.named ≡ Some (record { seq = seq; entry = file.entry })
   pub entry : r.task.entry ≡ Some file.entry
 
+-- what a command may answer on a sound file system
 abbrev pub MayReply : Reply → System → Run → List File → ℕ → Type 0
 MayReply (Appended seq) sys r all settled = AppendsNamed r all seq
 MayReply (NotAppended why) sys r all settled = MayRefuse why sys r.task all settled
@@ -240,6 +242,7 @@ abbrev pub Changes : System → ℕ → SharedState → List File → ℕ → Li
 Changes sys host s all settled all' settled' =
     ((sys.master ≡ Some host) × Relists sys s all settled all' settled') ⊎ Raises s all settled all' settled'
 
+-- what a turn says is allowed, and what holds behind it
 pub record After (turn : Turn) (sys : System) (host : ℕ) (floor : Option ℕ) (named : Option Named) (t : Task) (s : SharedState) (all : List File) (settled : ℕ) : Type 0 where
   pub may : MaySay turn sys (record { task = t; floor = floor; named = named }) all settled
   pub core : Core sys s (list_after turn all) (settled_after turn settled)

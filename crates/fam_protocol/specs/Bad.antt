@@ -163,6 +163,7 @@ pub record FindsBad (image : Lines) (have n : ℕ) : Type 0 where
   pub reason : Reason
   pub bad : reading_of image have ≡ BadSlot slot reason
 
+-- what a turn may say on a damaged image: nothing is appended
 abbrev pub MaySayBad : Turn → Lines → ℕ → Task → Type 0
 MaySayBad (Goes next) image have t = ⊤
 MaySayBad (Marks next) image have t = ⊤
@@ -170,6 +171,7 @@ MaySayBad (Finds n next) image have t = FindsBad image have n
 MaySayBad (Writes seq e next) image have t = ⊥
 MaySayBad (Ends reply) image have t = MayReplyBad reply image have t
 
+-- behind a turn that goes on the task is one of a damaged image still
 abbrev pub GoesOnBad : Turn → Lines → ℕ → (ℕ → Option (List ℕ)) → ℕ → SharedState → Type 0
 GoesOnBad (Goes t) image have uuid host s = BadTaskHolds image have uuid host t s
 GoesOnBad (Marks t) image have uuid host s = BadTaskHolds image have uuid host t s

@@ -87,6 +87,7 @@ pub record IsMaster (sys : System) : Type 0 where
   pub is : (h : ℕ) → sys.master ≡ Some h → sys.uuid h ≡ Some sys.params.master
   pub only : (h : ℕ) → sys.uuid h ≡ Some sys.params.master → sys.master ≡ Some h
 
+-- what holds of a sound file system at every moment, whatever the tasks are at
 pub record Core (sys : System) (s : SharedState) (all : List File) (settled : ℕ) : Type 0 where
   pub wide : IsWide s
   pub head : HeadStands sys s

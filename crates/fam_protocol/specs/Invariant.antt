@@ -65,6 +65,7 @@ pub record IsKnown (p : Params) (all : List File) (settled lines : ℕ) (hosts :
   -- what is kept is the history's front
   pub kept : (h : ℕ) → KeepsPrefix p all settled (hosts.kept h)
 
+-- by what is settled of the image
 abbrev pub InvariantBy : Settled → ℕ → Hosts → SharedState → Type 0
 InvariantBy (Small image) lines hosts s = IsSmall image lines hosts s
 InvariantBy (Damaged image) lines hosts s = IsDamaged image lines hosts s

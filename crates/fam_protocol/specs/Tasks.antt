@@ -286,6 +286,7 @@ pub record IsAtGate (sys : System) (host : ℕ) (floor : Option ℕ) (s : Shared
   pub copy : FreshGate floor (s.memory gate_line) (s.copy host gate_line)
   pub masters : sys.master ≡ Some host → Fresh (s.memory gate_line) (s.copy host gate_line)
 
+-- what holds of a task in each phase
 abbrev pub AtPhase : Phase → System → ℕ → Option ℕ → Task → SharedState → List File → ℕ → Type 0
 AtPhase at.DropMagic sys host floor t s all settled = NoSlot t
 AtPhase at.Magic sys host floor t s all settled = NoSlot t × Fresh (s.memory 0) (s.copy host 0)

@@ -56,6 +56,7 @@ fetches host lines = map (Transfers host) lines
 
 -- The scene: a sound file system, its master with a command that appends, and a reader.
 
+-- what the five runs begin with
 pub record Scene : Type 0 where
   -- the image, its parameters, and the entries that are published
   pub image : Image
@@ -134,6 +135,7 @@ slot_lines c = map (λ j. slot_line c.params (next c) j) (range_with_len 0 (geom
 
 -- What is changed.
 
+-- the operation drops a line
 abbrev pub is_drop : Op → Bool
 is_drop (Invalidate line) = true
 is_drop (Load line word) = false
@@ -146,6 +148,7 @@ is_drop Digest = false
 abbrev pub drops : List Op → List Op
 drops ops = filter is_drop ops
 
+-- the others
 abbrev pub without_drops : List Op → List Op
 without_drops ops = filter (λ op. not (is_drop op)) ops
 

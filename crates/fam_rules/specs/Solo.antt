@@ -90,6 +90,7 @@ decision_image image p entries cmd (Some (Ok e)) = written image p (length entri
 decision_image image p entries cmd (Some (Err refused)) = image
 decision_image image p entries cmd None = image
 
+-- by what the image reads as: a damaged one stays
 abbrev pub reading_image : Image → List ℕ → Cmd → Reading → Image
 reading_image image me cmd (Sound p entries) = decision_image image p entries cmd (decide p me entries cmd)
 reading_image image me cmd (NoSuperblock fault) = image

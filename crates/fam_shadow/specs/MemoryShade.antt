@@ -36,6 +36,7 @@ abbrev pub made_by : Option ℕ → List ℕ → Nodes → Nodes
 made_by None name nodes = with_node name Directory nodes
 made_by (Some kept) name nodes = nodes
 
+-- with its count
 abbrev pub after_make_dir : List ℕ → MemShadeState → MemShadeState
 after_make_dir name s = record (after_call s) { nodes = made_by (next_kept s) name s.nodes }
 
@@ -44,5 +45,6 @@ abbrev pub put_by : Option ℕ → List ℕ → List ℕ → Nodes → Nodes
 put_by None name bytes nodes = with_node name (File bytes) nodes
 put_by (Some kept) name bytes nodes = if min kept (length bytes) == 0 then nodes else with_node name (File (take kept bytes)) nodes
 
+-- with its count
 abbrev pub after_put : List ℕ → List ℕ → MemShadeState → MemShadeState
 after_put name bytes s = record (after_call s) { nodes = put_by (next_kept s) name bytes s.nodes }

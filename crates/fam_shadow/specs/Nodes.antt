@@ -21,6 +21,7 @@ pub record ShadeState : Type 0 where
   pub nodes : Option Nodes
   pub faults : ℕ
 
+-- of what a shade tells
 abbrev pub ShadeChange : Type 0
 ShadeChange = Change ShadeState
 
@@ -30,6 +31,7 @@ look_of None = look.Nothing
 look_of (Some Directory) = look.Directory
 look_of (Some (File bytes)) = look.File
 
+-- at this name
 abbrev pub look_at : Nodes → List ℕ → Look
 look_at nodes name = look_of (map.get nodes name)
 

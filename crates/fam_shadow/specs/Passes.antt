@@ -26,6 +26,7 @@ AreProper entries = AllByRecursion (λ e. is_path e.path ≡ true) entries
 abbrev pub IsNew : List ℕ → List Entry → Type 0
 IsNew name entries = AllByRecursion (λ e. name_of e ≢ name) entries
 
+-- all names differ
 abbrev pub AreDistinct : List Entry → Type 0
 AreDistinct [] = ⊤
 AreDistinct (e ∷ entries) = IsNew (name_of e) entries × AreDistinct entries
@@ -48,6 +49,7 @@ first_met (e ∷ entries) held = if is_clash (Some (node_of e)) (map.get held (n
 abbrev pub with_entry : Nodes → Entry → Nodes
 with_entry held e = with_node (name_of e) (node_of e) held
 
+-- with those of all of them
 abbrev pub with_entries : List Entry → Nodes → Nodes
 with_entries entries held = fold with_entry held entries
 
@@ -83,8 +85,10 @@ FaultAt named before now (fault.Clash name) = ⊥
 FaultAt named before now (fault.ShadeFault name) = named name × Rose before now
 FaultAt named before now fault.OutOfMemory = ⊤
 
+-- at this entry
 abbrev pub EntryFault : Entry → ℕ → ℕ → ShadowFault → Type 0
 EntryFault e before now given = FaultAt (λ name. name ≡ name_of e) before now given
 
+-- at one of these entries
 abbrev pub PassFault : List Entry → ℕ → ℕ → ShadowFault → Type 0
 PassFault entries before now given = FaultAt (IsNamed entries) before now given

@@ -26,6 +26,7 @@ abbrev pub node_by : Kind → List ℕ → Node
 node_by kind.Directory bytes = Directory
 node_by kind.File bytes = File bytes
 
+-- by its kind
 abbrev pub node_of : Entry → Node
 node_of e = node_by e.kind (description e)
 
@@ -37,6 +38,7 @@ name_of e = escaped e.path
 abbrev pub names_of : Tree → List (List ℕ)
 names_of tree = list_map name_of (map.values tree)
 
+-- each entry's name, with its node
 abbrev pub named_nodes : List Entry → List (List ℕ × Node)
 named_nodes entries = list_map (λ e. (name_of e, node_of e)) entries
 
@@ -91,6 +93,7 @@ abbrev pub RunsBy : Option (List ℕ) → Tree → Nodes → Nodes → Type 0
 RunsBy None tree old new = IsShadowed tree old new
 RunsBy (Some clash) tree old new = new ≡ old
 
+-- by the first clash of the tree with what stood there
 abbrev pub Runs : Tree → Nodes → Nodes → Type 0
 Runs tree old new = RunsBy (clash_of tree old) tree old new
 

@@ -20,6 +20,7 @@ without_end ([] ∷ []) = []
 without_end ((byte ∷ bytes) ∷ []) = (byte ∷ bytes) ∷ []
 without_end (line ∷ next ∷ more) = line ∷ without_end (next ∷ more)
 
+-- cut at each line feed
 unfoldable pub text_lines : List ℕ → List (List ℕ)
 text_lines bytes = without_end (slice_split (λ byte. byte == line_feed) bytes)
 
@@ -31,6 +32,7 @@ IsWord n = n < 2 ^ 64
 abbrev pub IsWordExtent : Extent → Type 0
 IsWordExtent x = IsWord x.offset × IsWord x.length
 
+-- extents of such numbers
 abbrev pub AreWordExtents : List Extent → Type 0
 AreWordExtents xs = All (λ (x : Extent). IsWordExtent x) xs
 
@@ -79,6 +81,7 @@ abbrev pub BodySays : Bool → List ℕ → List (List ℕ) → Result (List Ent
 BodySays true first rest said = LinesSay 2 None rest said
 BodySays false first rest said = LinesSay 1 None (first ∷ rest) said
 
+-- of the lines of a text
 abbrev pub TextSays : List (List ℕ) → Result (List Entry) ℕ → Type 0
 TextSays [] said = LinesSay 1 None [] said
 TextSays (first ∷ rest) said = BodySays (path_eq first (played_line (length rest))) first rest said

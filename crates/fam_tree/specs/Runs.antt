@@ -24,6 +24,7 @@ tree_of es = finmap.from_entries (keyed es)
 abbrev pub AllBelow : List ℕ → List Entry → Type 0
 AllBelow q es = AllByRecursion (λ e. path_cmp e.path q ≡ Less) es
 
+-- or above it
 abbrev pub AllAbove : List ℕ → List Entry → Type 0
 AllAbove q es = AllByRecursion (λ e. path_cmp q e.path ≡ Less) es
 
@@ -108,6 +109,7 @@ entry_at entries place = slice_index_or entries place no_entry
 abbrev pub run_of : List Entry → List ℕ → List Entry
 run_of entries places = map (entry_at entries) places
 
+-- at those of each run
 abbrev pub runs_of : List Entry → List (List ℕ) → List (List Entry)
 runs_of entries runs = map (run_of entries) runs
 
