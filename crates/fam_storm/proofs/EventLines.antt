@@ -29,7 +29,7 @@ use Rattle.fam_grammar.proofs.StripeWords.{size-decimal}
 use Rattle.fam_tree.proofs.Printed.{IsOut, No, decimal_no, no_both}
 use Rattle.fam_storm.specs.Draws.{after, drawn}
 use Rattle.fam_storm.specs.Events.{IsEventLine}
-use Rattle.fam_storm.specs.Storm.{Turn, Words, append_turn, begin_words, begun_words, cache_turn, client, client_step_words, client_turn, creat_words, cut_turn, end_lines, evict_words, fetch_words, finish_words, front_lines, leak_words, line_number, line_text, logplay_words, mkdir_words, seed_word, step_words, storm_lines, turn, turn_of, turns, verify_words}
+use Rattle.fam_storm.specs.Storm.{Round, Words, append_round, begin_words, begun_words, cache_round, client, client_step_words, client_round, creat_words, cut_round, end_lines, evict_words, fetch_words, finish_words, front_lines, leak_words, line_number, line_text, logplay_words, mkdir_words, seed_word, step_words, storm_lines, round, round_of, rounds, verify_words}
 use Rattle.fam_storm.proofs.PlainWords.{path_read}
 
 -- Words: no blank in them, no carriage return and no line feed.
@@ -370,7 +370,7 @@ front_events : AreEvents front_lines
 front_events = (host_line_0, (host_line_1, (host_line_2, (host_line_3, (mkfs_line, tt)))))
 
 -- whatever a test says
-either_way : (t : Bool) (x y : Turn) → AreEvents x.lines → AreEvents y.lines → AreEvents (cond t x y).lines
+either_way : (t : Bool) (x y : Round) → AreEvents x.lines → AreEvents y.lines → AreEvents (cond t x y).lines
 either_way true x y h k = h
 either_way false x y h k = k
 
@@ -393,7 +393,7 @@ module _ (i : ℕ) (few : i < 100000) (s : List ℕ) where
   word_of : (bound : ℕ) (t : List ℕ) → 0 < bound → bound < 200000 → drawn bound t < 2 ^ 64
   word_of bound t some low = omega (arith, low, below_bound (plus_plus t).0 bound some)
 
-  cut_events : AreEvents (cut_turn i s).lines
+  cut_events : AreEvents (cut_round i s).lines
   cut_events = (
     begun_line i (drawn 20000 s) small_i (word_of 20000 s (omega arith) (omega arith)),
     (
@@ -402,7 +402,7 @@ module _ (i : ℕ) (few : i < 100000) (s : List ℕ) where
     ),
   )
 
-  append_events : (case : ℕ) → AreEvents (append_turn i case s).lines
+  append_events : (case : ℕ) → AreEvents (append_round i case s).lines
   append_events case =
       either_way (nat_lt case 2) _ _ (mkdir_line i small_i, tt)
       (either_way (nat_lt case 4) _ _ (creat_line i (drawn 20000 s) small_i (word_of 20000 s (omega arith) (omega arith)), tt) cut_events)
@@ -416,34 +416,34 @@ module _ (i : ℕ) (few : i < 100000) (s : List ℕ) where
   mask_below : (t : List ℕ) → drawn 256 t < 256
   mask_below t = below_bound (plus_plus t).0 256 (omega arith)
 
-  cache_events : (case : ℕ) → AreEvents (cache_turn case s).lines
+  cache_events : (case : ℕ) → AreEvents (cache_round case s).lines
   cache_events case =
       either_way (nat_lt case 8) _ _ (logplay_line (drawn 3 s) (client_below s), tt)
       (either_way (nat_lt case 10) _ _ (fetch_line (drawn 3 s) _ _ (client_below s) (line_below (after s)) (mask_below (after (after s))), tt)
       (either_way (nat_lt case 11) _ _ (leak_line _ _ (line_below s) (mask_below (after s)), tt) (evict_line _ (line_below s), tt)))
 
-  client_events : (case : ℕ) → AreEvents (client_turn i case s).lines
+  client_events : (case : ℕ) → AreEvents (client_round i case s).lines
   client_events case =
       either_way (nat_lt case 13) _ _ (begin_line (drawn 3 s) (client_below s), tt)
       (either_way (nat_lt case 14) _ _ (client_step_line (drawn 3 s) (1 + drawn 4000 (after s)) (client_below s) (ne_eqb _ 0 (λ e. omega (arith, e))) (omega (arith, below_bound (plus_plus (after s)).0 4000 (omega arith))), tt)
       (either_way (nat_lt case 15) _ _ (finish_line (drawn 3 s) (client_below s), tt)
       (verify_line (drawn 3 s) (drawn (i + 1) (after s)) (client_below s) (word_of (i + 1) (after s) (omega arith) (omega (arith, few))), tt)))
 
-  case_events : (case : ℕ) → AreEvents (turn_of i case s).lines
+  case_events : (case : ℕ) → AreEvents (round_of i case s).lines
   case_events case = either_way (nat_lt case 5) _ _ (append_events case) (either_way (nat_lt case 12) _ _ (cache_events case) (client_events case))
 
-turn_events : (i : ℕ) (s : List ℕ) → i < 100000 → AreEvents (turn i s).lines
-unfolding turn
-turn_events i s few = case_events i few (after s) (drawn 16 s)
+round_events : (i : ℕ) (s : List ℕ) → i < 100000 → AreEvents (round i s).lines
+unfolding round
+round_events i s few = case_events i few (after s) (drawn 16 s)
 
-turns_events : (i more : ℕ) (s : List ℕ) → i + more ≤ 100000 → AreEvents (turns i more s)
-turns_events i zero s few = tt
-turns_events i (suc more) s few =
-    events_append (turn i s).lines (turns (i + 1) more (turn i s).state) (turn_events i s (omega (arith, few))) (turns_events (i + 1) more (turn i s).state (omega (arith, few)))
+rounds_events : (i more : ℕ) (s : List ℕ) → i + more ≤ 100000 → AreEvents (rounds i more s)
+rounds_events i zero s few = tt
+rounds_events i (suc more) s few =
+    events_append (round i s).lines (rounds (i + 1) more (round i s).state) (round_events i s (omega (arith, few))) (rounds_events (i + 1) more (round i s).state (omega (arith, few)))
 
 pub whole_events : (seed size : ℕ) → size ≤ 100000 → AreEvents (storm_lines seed size)
 whole_events seed size few =
-    events_append front_lines (turns 0 size (stream_state seed 0)) front_events (turns_events 0 size (stream_state seed 0) (omega (arith, few)))
+    events_append front_lines (rounds 0 size (stream_state seed 0)) front_events (rounds_events 0 size (stream_state seed 0) (omega (arith, few)))
 
 pub all_events : (seed size : ℕ) → size ≤ 100000 → All (λ (words : Words). IsEventLine words) (storm_lines seed size)
 all_events seed size few = all_of (storm_lines seed size) (whole_events seed size few)

@@ -101,66 +101,66 @@ end_lines e =
     else if e == 1 then (codes "halt" ∷ codes "m" ∷ []) ∷ []
     else (codes "evict" ∷ codes "m" ∷ codes "32769" ∷ []) ∷ (codes "halt" ∷ codes "m" ∷ []) ∷ []
 
--- Turns.
+-- Rounds.
 
--- what a turn writes, and the generator behind its draws
-pub record Turn : Type 0 where
+-- what a round writes, and the generator behind its draws
+pub record Round : Type 0 where
   pub lines : List Words
   pub state : List ℕ
 
 -- an append that is cut off: size, steps and end are drawn in this order
-abbrev pub cut_turn : ℕ → List ℕ → Turn
-cut_turn i s = record {
+abbrev pub cut_round : ℕ → List ℕ → Round
+cut_round i s = record {
   lines = begun_words i (drawn 20000 s) ∷ step_words (1 + drawn 12000 (after s)) ∷ end_lines (drawn 3 (after (after s)));
   state = after (after (after s));
 }
 
 -- cases 0 to 4: the master appends
-abbrev pub append_turn : ℕ → ℕ → List ℕ → Turn
-append_turn i case s =
+abbrev pub append_round : ℕ → ℕ → List ℕ → Round
+append_round i case s =
     if nat_lt case 2 then record { lines = mkdir_words i ∷ []; state = s }
     else if nat_lt case 4 then record { lines = creat_words i (drawn 20000 s) ∷ []; state = after s }
-    else cut_turn i s
+    else cut_round i s
 
 -- a client's cache brings a line: client, line and mask are drawn in this order
-abbrev pub fetch_turn : List ℕ → Turn
-fetch_turn s = record {
+abbrev pub fetch_round : List ℕ → Round
+fetch_round s = record {
   lines = fetch_words (drawn 3 s) (line_number (drawn 1024 (after s))) (drawn 256 (after (after s))) ∷ [];
   state = after (after (after s));
 }
 
 -- cases 5 to 11: a client reads the log; or a cache moves a line
-abbrev pub cache_turn : ℕ → List ℕ → Turn
-cache_turn case s =
+abbrev pub cache_round : ℕ → List ℕ → Round
+cache_round case s =
     if nat_lt case 8 then record { lines = logplay_words (drawn 3 s) ∷ []; state = after s }
-    else if nat_lt case 10 then fetch_turn s
+    else if nat_lt case 10 then fetch_round s
     else if nat_lt case 11 then record { lines = leak_words (line_number (drawn 1024 s)) (drawn 256 (after s)) ∷ []; state = after (after s) }
     else record { lines = evict_words (line_number (drawn 1024 s)) ∷ []; state = after s }
 
 -- cases 12 to 15: a client reads the log in steps, or verifies a file
-abbrev pub client_turn : ℕ → ℕ → List ℕ → Turn
-client_turn i case s =
+abbrev pub client_round : ℕ → ℕ → List ℕ → Round
+client_round i case s =
     if nat_lt case 13 then record { lines = begin_words (drawn 3 s) ∷ []; state = after s }
     else if nat_lt case 14 then record { lines = client_step_words (drawn 3 s) (1 + drawn 4000 (after s)) ∷ []; state = after (after s) }
     else if nat_lt case 15 then record { lines = finish_words (drawn 3 s) ∷ []; state = after s }
     else record { lines = verify_words (drawn 3 s) (drawn (i + 1) (after s)) ∷ []; state = after (after s) }
 
--- turn i of a case, from the generator behind the draw of the case
-abbrev pub turn_of : ℕ → ℕ → List ℕ → Turn
-turn_of i case s = if nat_lt case 5 then append_turn i case s else if nat_lt case 12 then cache_turn case s else client_turn i case s
+-- round i of a case, from the generator behind the draw of the case
+abbrev pub round_of : ℕ → ℕ → List ℕ → Round
+round_of i case s = if nat_lt case 5 then append_round i case s else if nat_lt case 12 then cache_round case s else client_round i case s
 
--- turn i: the case is drawn first
-unfoldable pub turn : ℕ → List ℕ → Turn
-turn i s = turn_of i (drawn 16 s) (after s)
+-- round i: the case is drawn first
+unfoldable pub round : ℕ → List ℕ → Round
+round i s = round_of i (drawn 16 s) (after s)
 
--- so many turns, from turn i on
-abbrev pub turns : ℕ → ℕ → List ℕ → List Words
-turns i zero s = []
-turns i (suc more) s = (turn i s).lines ++ turns (i + 1) more (turn i s).state
+-- so many rounds, from round i on
+abbrev pub rounds : ℕ → ℕ → List ℕ → List Words
+rounds i zero s = []
+rounds i (suc more) s = (round i s).lines ++ rounds (i + 1) more (round i s).state
 
 -- all lines of a storm of this seed and size
 abbrev pub storm_lines : ℕ → ℕ → List Words
-storm_lines seed size = front_lines ++ turns 0 size (stream_state seed 0)
+storm_lines seed size = front_lines ++ rounds 0 size (stream_state seed 0)
 
 -- its script
 unfoldable pub storm : ℕ → ℕ → List ℕ

@@ -28,7 +28,7 @@ fn put_line(made: Result<String, AllocError>, into: &mut Vec<u8>) -> Result<(), 
     put(b"\n", into)
 }
 
-/// The hosts and the file system, before the first turn.
+/// The hosts and the file system, before the first round.
 pub(crate) fn put_front(into: &mut Vec<u8>) -> Result<(), OutOfMemory>
     ensures { OnOk result (into.new.items ≡ into.old.items ++ text_of front_lines) }
 {

@@ -6,8 +6,8 @@ use Rattle.fam_outcomes.specs.declared.status.Status.{Status}
 use Rattle.fam_outcomes.specs.Programs.{Command, Makes, MakesParents, OneShot, Runs, Script, Single, Storm, TopEnds}
 use Rattle.fam_outcomes.specs.Runs.{Outside}
 use Rattle.fam_storm.specs.Storm.{storm}
-use Rattle.fam_words.specs.declared.wanted.Order.{Order}
-use Rattle.fam_words.specs.declared.wanted.Order.TheVariants as order
+use Rattle.fam_words.specs.declared.wanted.Invocation.{Invocation}
+use Rattle.fam_words.specs.declared.wanted.Invocation.TheVariants as invocation
 use Rattle.fam_words.specs.declared.wanted.Shot.{Shot}
 use Rattle.fam_words.specs.declared.wanted.Shot.TheVariants as shot
 use Rattle.fam_top.specs.Fresh.{version4_of}
@@ -28,14 +28,14 @@ shot_of random (shot.Mkfs fs unit log force) = Makes (mkfs_request (fs_or random
 shot_of random (shot.Run what) = Runs what
 shot_of random (shot.Parents path attr) = MakesParents path attr
 
--- the command that an order is: on the host that it names, or this one
-abbrev pub command_of : List ℕ → List ℕ → Order → Command
-command_of me random (order.Single system what) = Single (host_or me system) (shot_of random what)
-command_of me random (order.Script file) = Script file
-command_of me random (order.Storm seed size prints) = Storm seed size prints
+-- the command that an invocation is: on the host that it names, or this one
+abbrev pub command_of : List ℕ → List ℕ → Invocation → Command
+command_of me random (invocation.Single system what) = Single (host_or me system) (shot_of random what)
+command_of me random (invocation.Script file) = Script file
+command_of me random (invocation.Storm seed size prints) = Storm seed size prints
 
 -- what the words ask for is done, for a host of the UUID `me` where they name no other, and with these random bytes; or they are no
 -- command. Each command runs on hosts with caches and keeps a journal: the text is that of one journal, and the image that is
 -- left is where that journal leads
-abbrev pub CallEnds : Option Order → List ℕ → List ℕ → Outside → Status → Type 0
+abbrev pub CallEnds : Option Invocation → List ℕ → List ℕ → Outside → Status → Type 0
 CallEnds asked me random out status = TopEnds script_events storm (option_map (command_of me random) asked) out status

@@ -7,13 +7,13 @@ ghost use Rattle.fam_media.specs.Causes.{IsShelfSteady, IsSteady};
 ghost use Rattle.fam_media.specs.States.{change};
 ghost use Rattle.fam_program.specs.Runs.{outside_of};
 ghost use Rattle.fam_storm.specs.Storm.{storm};
-ghost use Rattle.fam_words.specs.Calls.{IsSoundOrder, IsSoundShot};
+ghost use Rattle.fam_words.specs.Calls.{IsSoundInvocation, IsSoundShot};
 ghost use Rattle.fam_top.specs.Calls as calls;
 ghost use Rattle.fam_top.specs.Calls.{CallEnds, command_of, shot_of};
-ghost use Rattle.fam_top.specs.Words.{order_named};
+ghost use Rattle.fam_top.specs.Words.{invocation_named};
 
 use crate::fresh::fs_or;
-use crate::words::order;
+use crate::words::invocation;
 use fam_base::OutOfMemory;
 use fam_machine::MkfsRequest;
 use fam_outcomes::Status;
@@ -21,7 +21,7 @@ use fam_media::{Media, Shelf, Sink};
 use fam_program::{
     make_file_system, make_parents, put_memory, put_usage, run_command, run_script_file, run_storm,
 };
-use fam_words::{Order, Shot};
+use fam_words::{Invocation, Shot};
 use std::alloc::Global;
 use uuid::Uuid;
 
@@ -74,29 +74,29 @@ fn run_shot<M: Media, S: Shelf, K: Sink>(
 }
 
 /// Does what the words ask for, and puts what comes of it.
-fn run_order<M: Media, S: Shelf, K: Sink>(
+fn run_invocation<M: Media, S: Shelf, K: Sink>(
     alloc: Global,
-    order: Order,
+    invocation: Invocation,
     me: Uuid,
     random: [u8; 16],
     media: &mut M,
     shelf: &mut S,
     out: &mut K,
 ) -> Status
-    requires sound { IsSoundOrder order }
-    ensures ends { TopEnds script_events storm (Some (command_of me random order)) (outside_of M.size M.state
+    requires sound { IsSoundInvocation invocation }
+    ensures ends { TopEnds script_events storm (Some (command_of me random invocation)) (outside_of M.size M.state
         media.old media.new (change S.state shelf.old shelf.new)
         (change K.state out.old out.new)) result }
     ensures steady { IsSteady M.size M.state media.old media.new }
     ensures sink { (K.state out.old).faults ≤ (K.state out.new).faults }
     ensures shelf { IsShelfSteady (S.state shelf.old) (S.state shelf.new) }
 {
-    match order {
-        Order::Single { system, shot } => {
+    match invocation {
+        Invocation::Single { system, shot } => {
             run_shot(alloc, shot, host_or(me, system), random, media, shelf, out)
         }
-        Order::Script { file } => run_script_file(alloc, file.text(), media, shelf, out),
-        Order::Storm { seed, size, prints } => run_storm(
+        Invocation::Script { file } => run_script_file(alloc, file.text(), media, shelf, out),
+        Invocation::Storm { seed, size, prints } => run_storm(
             alloc, seed, size, prints, media, shelf, out,
         ),
     }
@@ -120,14 +120,14 @@ pub fn famfs<M: Media, S: Shelf, K: Sink>(
     shelf: &mut S,
     out: &mut K,
 ) -> Status
-    ensures ends { CallEnds (order_named (map string_bytes words.now.items)) me random (outside_of M.size M.state
+    ensures ends { CallEnds (invocation_named (map string_bytes words.now.items)) me random (outside_of M.size M.state
         media.old media.new (change S.state shelf.old shelf.new) (change K.state out.old out.new)) result }
     ensures steady { IsSteady M.size M.state media.old media.new }
     ensures sink { (K.state out.old).faults ≤ (K.state out.new).faults }
     ensures shelf { IsShelfSteady (S.state shelf.old) (S.state shelf.new) }
 {
-    match order(alloc, words) {
-        Ok(Some(order)) => run_order(alloc, order, me, random, media, shelf, out),
+    match invocation(alloc, words) {
+        Ok(Some(invocation)) => run_invocation(alloc, invocation, me, random, media, shelf, out),
         Ok(None) => put_usage(out),
         Err(OutOfMemory) => put_memory(out),
     }

@@ -1,21 +1,21 @@
 //! The words of a call.
 
 ghost use Rattle.std.specs.Prelude.{◌≡◌, map, string_bytes, IfOk, IfSome};
-ghost use Rattle.fam_words.specs.Calls.{IsSoundOrder};
-ghost use Rattle.fam_top.specs.Words.{image_named, order_named};
+ghost use Rattle.fam_words.specs.Calls.{IsSoundInvocation};
+ghost use Rattle.fam_top.specs.Words.{image_named, invocation_named};
 
 use fam_base::{NameText, OutOfMemory};
-use fam_words::{Order, read_words};
+use fam_words::{Invocation, read_words};
 use std::alloc::Global;
 
 /// What the words after the program's name ask for, and `None` exactly where they are no command.
-#[tactic(auto, unfolding(crate::specs::Words::order_named))]
-pub(crate) fn order(alloc: Global, words: &Vec<String>) -> Result<Option<Order>, OutOfMemory>
-    ensures value { IfOk result (λ order. order ≡ order_named (map string_bytes words.now.items)) }
-    ensures sound { IfOk result (λ order. IfSome order IsSoundOrder) }
+#[tactic(auto, unfolding(crate::specs::Words::invocation_named))]
+pub(crate) fn invocation(alloc: Global, words: &Vec<String>) -> Result<Option<Invocation>, OutOfMemory>
+    ensures value { IfOk result (λ invocation. invocation ≡ invocation_named (map string_bytes words.now.items)) }
+    ensures sound { IfOk result (λ invocation. IfSome invocation IsSoundInvocation) }
 {
     match read_words(alloc, words.as_slice())? {
-        Some(call) => Ok(Some(call.order)),
+        Some(call) => Ok(Some(call.invocation)),
         None => Ok(None),
     }
 }

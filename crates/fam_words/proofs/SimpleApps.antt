@@ -5,8 +5,8 @@ use Rattle.clap.proofs.OnLiterals.{clap_on_literals}
 use Rattle.fam_words.specs.Simple.{word_rule, option_rule, flag_rule, plain_app}
 use Rattle.fam_words.specs.Apps.{mkfs_app, logplay_app, mkdir_app, creat_app, cp_app, verify_app, read_app, check_app, fsck_app, script_app, storm_app}
 use Rattle.fam_words.specs.Calls.{app_named}
-use Rattle.fam_words.specs.declared.orders.Name.{Name}
-use Rattle.fam_words.specs.declared.orders.Name.TheVariants as name
+use Rattle.fam_words.specs.declared.invocations.Name.{Name}
+use Rattle.fam_words.specs.declared.invocations.Name.TheVariants as name
 use Rattle.fam_words.specs.Shadows.{shadow_app}
 
 mkfs_simple : is_simple_and_free mkfs_app ≡ true

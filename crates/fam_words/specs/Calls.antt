@@ -16,12 +16,12 @@ use Rattle.fam_journal.specs.declared.event.Ask.{Ask}
 use Rattle.fam_journal.specs.declared.event.Ask.TheVariants as ask
 use Rattle.fam_grammar.specs.Sound.{IsSoundAsk}
 use Rattle.fam_words.specs.declared.wanted.Call.{Call}
-use Rattle.fam_words.specs.declared.wanted.Order.{Order}
-use Rattle.fam_words.specs.declared.wanted.Order.TheVariants as order
+use Rattle.fam_words.specs.declared.wanted.Invocation.{Invocation}
+use Rattle.fam_words.specs.declared.wanted.Invocation.TheVariants as invocation
 use Rattle.fam_words.specs.declared.wanted.Shot.{Shot}
 use Rattle.fam_words.specs.declared.wanted.Shot.TheVariants as shot
-use Rattle.fam_words.specs.declared.orders.Name.{Name}
-use Rattle.fam_words.specs.declared.orders.Name.TheVariants as name
+use Rattle.fam_words.specs.declared.invocations.Name.{Name}
+use Rattle.fam_words.specs.declared.invocations.Name.TheVariants as name
 use Rattle.fam_words.specs.Apps.{mkfs_app, logplay_app, mkdir_app, creat_app, cp_app, verify_app, read_app, check_app, fsck_app, script_app, storm_app}
 use Rattle.fam_words.specs.Simple.{flag_in, rows_given, value_in}
 use Rattle.fam_words.specs.Values.{attr_of_texts, if_given, most_storm, name_of_text, needed, or_default, path_of_text, storm_size_of, stripe_of_texts}
@@ -132,46 +132,46 @@ unfoldable pub check_shot : List Row → Option Shot
 check_shot rows = option_map (λ source. shot.Run (ask.Check source)) (needed name_of_text (value_in (codes "listing") rows))
 
 -- a storm with these values, where each is good
-abbrev pub storm_with : Option ℕ → Option ℕ → Bool → Option Order
+abbrev pub storm_with : Option ℕ → Option ℕ → Bool → Option Invocation
 storm_with None size prints = None
 storm_with (Some seed) None prints = None
-storm_with (Some seed) (Some size) prints = Some (order.Storm seed size prints)
+storm_with (Some seed) (Some size) prints = Some (invocation.Storm seed size prints)
 
 -- the storm that its words ask for
-unfoldable pub storm_order : List Row → Option Order
-storm_order rows =
+unfoldable pub storm_invocation : List Row → Option Invocation
+storm_invocation rows =
     storm_with (needed number_of_text (value_in (codes "seed") rows)) (needed storm_size_of (value_in (codes "size") rows))
     (flag_in (codes "print") rows)
 
 -- the script that its words ask for
-unfoldable pub script_order : List Row → Option Order
-script_order rows = option_map (λ file. order.Script file) (needed name_of_text (value_in (codes "file") rows))
+unfoldable pub script_invocation : List Row → Option Invocation
+script_invocation rows = option_map (λ file. invocation.Script file) (needed name_of_text (value_in (codes "file") rows))
 
 -- Calls.
 
--- an order for the image of this name
-abbrev pub call_with : Option Text → Option Order → Option Call
+-- an invocation for the image of this name
+abbrev pub call_with : Option Text → Option Invocation → Option Call
 call_with None what = None
 call_with (Some image) None = None
-call_with (Some image) (Some what) = Some (record { image = image; order = what })
+call_with (Some image) (Some what) = Some (record { image = image; invocation = what })
 
--- an order on IMAGE
-abbrev pub order_call : List Row → Option Order → Option Call
-order_call rows what = call_with (value_in (codes "image") rows) what
+-- an invocation on IMAGE
+abbrev pub invocation_call : List Row → Option Invocation → Option Call
+invocation_call rows what = call_with (value_in (codes "image") rows) what
 
 -- --system
 abbrev pub system_of : Option Text → Option (Option (List ℕ))
 system_of text = if_given parsed text
 
 -- a command of its own, where its host and what it does are good
-abbrev pub single_with : Option (Option (List ℕ)) → Option Shot → Option Order
+abbrev pub single_with : Option (Option (List ℕ)) → Option Shot → Option Invocation
 single_with None what = None
 single_with (Some system) None = None
-single_with (Some system) (Some what) = Some (order.Single system what)
+single_with (Some system) (Some what) = Some (invocation.Single system what)
 
 -- a command of its own, on the host of --system
-abbrev pub single_order : List Row → Option Shot → Option Order
-single_order rows what = single_with (system_of (value_in (codes "system") rows)) what
+abbrev pub single_invocation : List Row → Option Shot → Option Invocation
+single_invocation rows what = single_with (system_of (value_in (codes "system") rows)) what
 
 -- the words of a command, as clap reads them
 abbrev pub app_named : Name → App
@@ -188,22 +188,22 @@ app_named name.Script = script_app
 app_named name.Storm = storm_app
 
 -- what the values of a command's words ask for
-abbrev pub order_in : Name → List Row → Option Order
-order_in name.Mkfs rows = single_order rows (mkfs_shot rows)
-order_in name.Logplay rows = single_order rows (Some (shot.Run (ask.Plain cmd.Logplay)))
-order_in name.Mkdir rows = single_order rows (mkdir_shot rows)
-order_in name.Creat rows = single_order rows (creat_shot rows)
-order_in name.Cp rows = single_order rows (cp_shot rows)
-order_in name.Verify rows = single_order rows (verify_shot rows)
-order_in name.Read rows = single_order rows (read_shot rows)
-order_in name.Check rows = single_order rows (check_shot rows)
-order_in name.Fsck rows = single_order rows (Some (shot.Run (ask.Plain cmd.Fsck)))
-order_in name.Script rows = script_order rows
-order_in name.Storm rows = storm_order rows
+abbrev pub invocation_in : Name → List Row → Option Invocation
+invocation_in name.Mkfs rows = single_invocation rows (mkfs_shot rows)
+invocation_in name.Logplay rows = single_invocation rows (Some (shot.Run (ask.Plain cmd.Logplay)))
+invocation_in name.Mkdir rows = single_invocation rows (mkdir_shot rows)
+invocation_in name.Creat rows = single_invocation rows (creat_shot rows)
+invocation_in name.Cp rows = single_invocation rows (cp_shot rows)
+invocation_in name.Verify rows = single_invocation rows (verify_shot rows)
+invocation_in name.Read rows = single_invocation rows (read_shot rows)
+invocation_in name.Check rows = single_invocation rows (check_shot rows)
+invocation_in name.Fsck rows = single_invocation rows (Some (shot.Run (ask.Plain cmd.Fsck)))
+invocation_in name.Script rows = script_invocation rows
+invocation_in name.Storm rows = storm_invocation rows
 
 -- the words behind a command's name: none where clap names a fault
 abbrev pub call_behind : Name → List Text → Option Call
-call_behind which words = option_and_then (λ rows. order_call rows (order_in which rows)) (rows_given (app_named which) words)
+call_behind which words = option_and_then (λ rows. invocation_call rows (invocation_in which rows)) (rows_given (app_named which) words)
 
 -- the commands' names
 unfoldable pub name_of : Text → Option Name
@@ -234,8 +234,8 @@ IsSoundShot (shot.Mkfs fs unit log force) = ⊤
 IsSoundShot (shot.Run what) = IsSoundAsk what
 IsSoundShot (shot.Parents path attr) = IsSoundAttr attr
 
--- the command on its own that is ordered is within its limits
-abbrev pub IsSoundOrder : Order → Type 0
-IsSoundOrder (order.Single system what) = IsSoundShot what
-IsSoundOrder (order.Script file) = ⊤
-IsSoundOrder (order.Storm seed size prints) = (1 ≤ size) × (size ≤ most_storm)
+-- the command on its own that is invoked is within its limits
+abbrev pub IsSoundInvocation : Invocation → Type 0
+IsSoundInvocation (invocation.Single system what) = IsSoundShot what
+IsSoundInvocation (invocation.Script file) = ⊤
+IsSoundInvocation (invocation.Storm seed size prints) = (1 ≤ size) × (size ≤ most_storm)

@@ -6,13 +6,13 @@
 #![tactic(auto)]
 
 mod apps;
-mod orders;
+mod invocations;
 mod shadows;
 mod shots;
 mod simple;
 mod values;
 mod wanted;
 
-pub use orders::read_words;
+pub use invocations::read_words;
 pub use shadows::read_shadow_words;
-pub use wanted::{Call, Order, ShadowCall, Shot};
+pub use wanted::{Call, Invocation, ShadowCall, Shot};

@@ -15,7 +15,7 @@ use crate::values::{
     attr_of, count_of, name_of, number_if_given, number_of, path_of, size_of, size_or, storm_size,
     stripe_of, uuid_if_given,
 };
-use crate::wanted::{Order, Shot};
+use crate::wanted::{Invocation, Shot};
 use clap::ArgMatches;
 use fam_base::{Attr, Cmd, Content, NameText, OutOfMemory, Path, Stripe};
 use fam_grammar::{DEFAULT_LOG, DEFAULT_UNIT, DIRECTORY_MODE, FILE_MODE};
@@ -231,12 +231,12 @@ pub(crate) fn check(alloc: Global, found: &ArgMatches<'_>) -> Result<Option<Shot
 }
 
 /// Run or print a storm.
-#[tactic(auto, unfolding(crate::specs::Calls::storm_order))]
-pub(crate) fn storm(found: &ArgMatches<'_>) -> Option<Order>
-    ensures sound { IfSome result spec.IsSoundOrder }
-    ensures value { result ≡ spec.storm_order (rows_of (found_of found.now)) }
+#[tactic(auto, unfolding(crate::specs::Calls::storm_invocation))]
+pub(crate) fn storm(found: &ArgMatches<'_>) -> Option<Invocation>
+    ensures sound { IfSome result spec.IsSoundInvocation }
+    ensures value { result ≡ spec.storm_invocation (rows_of (found_of found.now)) }
 {
-    Some(Order::Storm {
+    Some(Invocation::Storm {
         seed: number_of(value(found, "seed"))?,
         size: storm_size(value(found, "size"))?,
         prints: is_given(found, "print"),
@@ -244,13 +244,13 @@ pub(crate) fn storm(found: &ArgMatches<'_>) -> Option<Order>
 }
 
 /// Run a script.
-#[tactic(auto, unfolding(crate::specs::Calls::script_order))]
-pub(crate) fn script(alloc: Global, found: &ArgMatches<'_>) -> Result<Option<Order>, OutOfMemory>
-    ensures sound { IfOk result (λ order. IfSome order spec.IsSoundOrder) }
-    ensures value { IfOk result (λ order. order ≡ spec.script_order (rows_of (found_of found.now))) }
+#[tactic(auto, unfolding(crate::specs::Calls::script_invocation))]
+pub(crate) fn script(alloc: Global, found: &ArgMatches<'_>) -> Result<Option<Invocation>, OutOfMemory>
+    ensures sound { IfOk result (λ invocation. IfSome invocation spec.IsSoundInvocation) }
+    ensures value { IfOk result (λ invocation. invocation ≡ spec.script_invocation (rows_of (found_of found.now))) }
 {
     match name_of(alloc, value(found, "file"))? {
-        Some(file) => Ok(Some(Order::Script { file })),
+        Some(file) => Ok(Some(Invocation::Script { file })),
         None => Ok(None),
     }
 }

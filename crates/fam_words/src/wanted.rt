@@ -9,7 +9,7 @@ use uuid::Uuid;
 pub struct Call {
     /// The name of the image's file. It may be empty.
     pub image: NameText,
-    pub order: Order,
+    pub invocation: Invocation,
 }
 
 /// The shadow of an image's tree.
@@ -25,7 +25,7 @@ pub struct ShadowCall {
 
 /// What is to be done with the image.
 #[derive(Drop)]
-pub enum Order {
+pub enum Invocation {
     /// A command of its own, on a host of this UUID where one is given.
     Single { system: Option<Uuid>, shot: Shot },
     /// Run the script that this file holds.

@@ -1,7 +1,7 @@
 use Rattle.std.proofs.Common.{sym, ◌∙◌}
 use Rattle.fam_rules.proofs.Streams.{stream_state_start}
 use Rattle.fam_storm.specs.Storm.{storm}
-use Rattle.fam_storm.proofs.Texts.{begins, turn_put}
+use Rattle.fam_storm.proofs.Texts.{begins, round_put}
 use Rattle.fam_storm.proofs.script.storm.Goals as goal
 
 pub loop-i-init : goal.loop-i-init
@@ -11,5 +11,5 @@ loop-i-init c =
 
 pub loop-i-preserved : goal.loop-i-preserved
 loop-i-preserved c =
-    turn_put c.loop-i.i c.args.size c.loop-i.generator c.put_turn.new.generator c.loop-i.script.items c.put_turn.new.into.items (storm c.args.seed c.args.size)
-    c.loop-i-test.true c.in_ok-put_turn.ensures.lines c.put_turn.ensures.state c.loop-i.invariant
+    round_put c.loop-i.i c.args.size c.loop-i.generator c.put_round.new.generator c.loop-i.script.items c.put_round.new.into.items (storm c.args.seed c.args.size)
+    c.loop-i-test.true c.in_ok-put_round.ensures.lines c.put_round.ensures.state c.loop-i.invariant

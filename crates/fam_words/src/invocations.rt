@@ -7,7 +7,7 @@ ghost use Rattle.fam_words.specs.Calls.{call_behind, call_of, call_with};
 
 use crate::simple::{matches, value};
 use crate::values::uuid_if_given;
-use crate::wanted::{Call, Order, Shot};
+use crate::wanted::{Call, Invocation, Shot};
 use crate::{apps, shots};
 use clap::{ArgMatches, Command};
 use fam_base::{Cmd, NameText, OutOfMemory};
@@ -62,31 +62,31 @@ fn name_of(word: &str) -> Option<Name>
     }
 }
 
-/// An order, on the image that the words name.
+/// An invocation, on the image that the words name.
 fn on_image(
     alloc: Global,
     image: Option<&str>,
-    order: Option<Order>,
+    invocation: Option<Invocation>,
 ) -> Result<Option<Call>, OutOfMemory>
-    ensures sound { IfSome order spec.IsSoundOrder → IfOk result (λ call. IfSome call (λ c. spec.IsSoundOrder c.order)) }
-    ensures value { IfOk result (λ call. call ≡ call_with (option_map (λ s. s.now) image.entry) order) }
+    ensures sound { IfSome invocation spec.IsSoundInvocation → IfOk result (λ call. IfSome call (λ c. spec.IsSoundInvocation c.invocation)) }
+    ensures value { IfOk result (λ call. call ≡ call_with (option_map (λ s. s.now) image.entry) invocation) }
 {
-    match (image, order) {
-        (Some(image), Some(order)) => Ok(Some(Call {
+    match (image, invocation) {
+        (Some(image), Some(invocation)) => Ok(Some(Call {
             image: NameText::new(alloc, image)?,
-            order,
+            invocation,
         })),
         _ => Ok(None),
     }
 }
 
 /// A command of its own, on the host that the words name.
-fn on_host(found: &ArgMatches<'_>, shot: Option<Shot>) -> Option<Order>
-    ensures sound { IfSome shot spec.IsSoundShot → IfSome result spec.IsSoundOrder }
-    ensures value { result ≡ spec.single_order (rows_of (found_of found.now)) shot }
+fn on_host(found: &ArgMatches<'_>, shot: Option<Shot>) -> Option<Invocation>
+    ensures sound { IfSome shot spec.IsSoundShot → IfSome result spec.IsSoundInvocation }
+    ensures value { result ≡ spec.single_invocation (rows_of (found_of found.now)) shot }
 {
     let system = uuid_if_given(value(found, "system"))?;
-    Some(Order::Single {
+    Some(Invocation::Single {
         system,
         shot: shot?,
     })
@@ -111,14 +111,14 @@ fn command_of<'a>(alloc: Global, name: Name) -> Result<Command<'a>, OutOfMemory>
     }
 }
 
-/// The order that the values of a command's words ask for.
-fn order_in(
+/// The invocation that the values of a command's words ask for.
+fn invocation_in(
     alloc: Global,
     name: Name,
     found: &ArgMatches<'_>,
-) -> Result<Option<Order>, OutOfMemory>
-    ensures sound { IfOk result (λ order. IfSome order spec.IsSoundOrder) }
-    ensures value { IfOk result (λ order. order ≡ spec.order_in name (rows_of (found_of found.now))) }
+) -> Result<Option<Invocation>, OutOfMemory>
+    ensures sound { IfOk result (λ invocation. IfSome invocation spec.IsSoundInvocation) }
+    ensures value { IfOk result (λ invocation. invocation ≡ spec.invocation_in name (rows_of (found_of found.now))) }
 {
     match name {
         Name::Mkfs => Ok(on_host(found, shots::mkfs(found))),
@@ -137,21 +137,21 @@ fn order_in(
 
 /// The words behind a command's name.
 fn behind(alloc: Global, name: Name, words: &[String]) -> Result<Option<Call>, OutOfMemory>
-    ensures sound { IfOk result (λ call. IfSome call (λ c. spec.IsSoundOrder c.order)) }
+    ensures sound { IfOk result (λ call. IfSome call (λ c. spec.IsSoundInvocation c.invocation)) }
     ensures value { IfOk result (λ call. call ≡ call_behind name (map string_bytes words.now)) }
 {
     let command = command_of(alloc, name)?;
     let Some(found) = matches(command, words)? else {
         return Ok(None);
     };
-    let order = order_in(alloc, name, &found)?;
-    on_image(alloc, value(&found, "image"), order)
+    let invocation = invocation_in(alloc, name, &found)?;
+    on_image(alloc, value(&found, "image"), invocation)
 }
 
 /// The command that the words after the program's name are, and `None` exactly where they are none.
 #[tactic(auto, unfolding(crate::specs::Calls::call_of))]
 pub fn read_words(alloc: Global, words: &[String]) -> Result<Option<Call>, OutOfMemory>
-    ensures sound { IfOk result (λ call. IfSome call (λ c. spec.IsSoundOrder c.order)) }
+    ensures sound { IfOk result (λ call. IfSome call (λ c. spec.IsSoundInvocation c.invocation)) }
     ensures value { IfOk result (λ call. call ≡ call_of (map string_bytes words.now)) }
 {
     let [first, rest @ ..] = words else {

@@ -1,7 +1,7 @@
 use Rattle.std.proofs.Common.{◌≡◌, ◌++◌, ℕ, List, subst}
 use Rattle.std.specs.Result.{OnOk}
 use Rattle.fam_storm.proofs.Texts.{creat_is, cut_is}
-use Rattle.fam_storm.proofs.turns.put_append.Goals as goal
+use Rattle.fam_storm.proofs.rounds.put_append.Goals as goal
 
 pub returns-then-case-lt4-clause-lines : goal.returns-then-case-lt4-clause-lines
 returns-then-case-lt4-clause-lines c =

@@ -2,7 +2,7 @@ use Rattle.std.proofs.Common.{◌≡◌, ◌+◌, ℕ, List, ap, subst, ◌∙�
 use Rattle.std.specs.Result.{OnOk}
 use Rattle.fam_storm.specs.Draws.{after, drawn}
 use Rattle.fam_storm.proofs.Texts.{cut_put}
-use Rattle.fam_storm.proofs.turns.put_cut.Goals as goal
+use Rattle.fam_storm.proofs.rounds.put_cut.Goals as goal
 
 pub returns-clause-lines : goal.returns-clause-lines
 returns-clause-lines c =

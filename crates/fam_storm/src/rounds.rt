@@ -1,7 +1,7 @@
-//! The turns of a storm. `specs/Storm.antt` has them by their cases.
+//! The rounds of a storm. `specs/Storm.antt` has them by their cases.
 
 ghost use Rattle.std.specs.Prelude.{◌≡◌, ◌+◌, ◌^◌, ◌<◌, ◌≤◌, ◌++◌, OnOk};
-ghost use Rattle.fam_storm.specs.Storm.{append_turn, cache_turn, client_turn, cut_turn, fetch_turn, text_of, turn, turn_of};
+ghost use Rattle.fam_storm.specs.Storm.{append_round, cache_round, client_round, cut_round, fetch_round, text_of, round, round_of};
 
 use crate::draw::draw;
 use crate::lines::{
@@ -23,8 +23,8 @@ fn put_cut(
     generator: &mut Xoshiro256PlusPlus,
     into: &mut Vec<u8>,
 ) -> Result<(), OutOfMemory>
-    ensures lines { OnOk result (into.new.items ≡ into.old.items ++ text_of (cut_turn i generator.old).lines) }
-    ensures state { generator.new ≡ (cut_turn i generator.old).state }
+    ensures lines { OnOk result (into.new.items ≡ into.old.items ++ text_of (cut_round i generator.old).lines) }
+    ensures state { generator.new ≡ (cut_round i generator.old).state }
 {
     let size = draw(generator, 20_000);
     let count = 1 + draw(generator, 12_000);
@@ -42,8 +42,8 @@ fn put_append(
     generator: &mut Xoshiro256PlusPlus,
     into: &mut Vec<u8>,
 ) -> Result<(), OutOfMemory>
-    ensures lines { OnOk result (into.new.items ≡ into.old.items ++ text_of (append_turn i case generator.old).lines) }
-    ensures state { generator.new ≡ (append_turn i case generator.old).state }
+    ensures lines { OnOk result (into.new.items ≡ into.old.items ++ text_of (append_round i case generator.old).lines) }
+    ensures state { generator.new ≡ (append_round i case generator.old).state }
 {
     if case < 2 {
         return put_mkdir(alloc, i, into);
@@ -61,8 +61,8 @@ fn put_fetched(
     generator: &mut Xoshiro256PlusPlus,
     into: &mut Vec<u8>,
 ) -> Result<(), OutOfMemory>
-    ensures lines { OnOk result (into.new.items ≡ into.old.items ++ text_of (fetch_turn generator.old).lines) }
-    ensures state { generator.new ≡ (fetch_turn generator.old).state }
+    ensures lines { OnOk result (into.new.items ≡ into.old.items ++ text_of (fetch_round generator.old).lines) }
+    ensures state { generator.new ≡ (fetch_round generator.old).state }
 {
     let j = draw(generator, 3);
     let line = GATE_LINE + draw(generator, LINES);
@@ -77,8 +77,8 @@ fn put_cached(
     generator: &mut Xoshiro256PlusPlus,
     into: &mut Vec<u8>,
 ) -> Result<(), OutOfMemory>
-    ensures lines { OnOk result (into.new.items ≡ into.old.items ++ text_of (cache_turn case generator.old).lines) }
-    ensures state { generator.new ≡ (cache_turn case generator.old).state }
+    ensures lines { OnOk result (into.new.items ≡ into.old.items ++ text_of (cache_round case generator.old).lines) }
+    ensures state { generator.new ≡ (cache_round case generator.old).state }
 {
     if case < 8 {
         let j = draw(generator, 3);
@@ -104,8 +104,8 @@ fn put_client(
     into: &mut Vec<u8>,
 ) -> Result<(), OutOfMemory>
     requires { i + 1 < 2 ^ 64 }
-    ensures lines { OnOk result (into.new.items ≡ into.old.items ++ text_of (client_turn i case generator.old).lines) }
-    ensures state { generator.new ≡ (client_turn i case generator.old).state }
+    ensures lines { OnOk result (into.new.items ≡ into.old.items ++ text_of (client_round i case generator.old).lines) }
+    ensures state { generator.new ≡ (client_round i case generator.old).state }
 {
     let j = draw(generator, 3);
     if case < 13 {
@@ -122,7 +122,7 @@ fn put_client(
     put_verify(alloc, j, file, into)
 }
 
-/// A turn of a case.
+/// A round of a case.
 fn put_case(
     alloc: Global,
     i: u64,
@@ -131,8 +131,8 @@ fn put_case(
     into: &mut Vec<u8>,
 ) -> Result<(), OutOfMemory>
     requires { i + 1 < 2 ^ 64 }
-    ensures lines { OnOk result (into.new.items ≡ into.old.items ++ text_of (turn_of i case generator.old).lines) }
-    ensures state { generator.new ≡ (turn_of i case generator.old).state }
+    ensures lines { OnOk result (into.new.items ≡ into.old.items ++ text_of (round_of i case generator.old).lines) }
+    ensures state { generator.new ≡ (round_of i case generator.old).state }
 {
     if case < 5 {
         return put_append(alloc, i, case, generator, into);
@@ -143,17 +143,17 @@ fn put_case(
     put_client(alloc, i, case, generator, into)
 }
 
-/// Turn `i`.
-#[tactic(auto, unfolding(crate::specs::Storm::turn))]
-pub(crate) fn put_turn(
+/// Round `i`.
+#[tactic(auto, unfolding(crate::specs::Storm::round))]
+pub(crate) fn put_round(
     alloc: Global,
     i: u64,
     generator: &mut Xoshiro256PlusPlus,
     into: &mut Vec<u8>,
 ) -> Result<(), OutOfMemory>
     requires { i + 1 < 2 ^ 64 }
-    ensures lines { OnOk result (into.new.items ≡ into.old.items ++ text_of (turn i generator.old).lines) }
-    ensures state { generator.new ≡ (turn i generator.old).state }
+    ensures lines { OnOk result (into.new.items ≡ into.old.items ++ text_of (round i generator.old).lines) }
+    ensures state { generator.new ≡ (round i generator.old).state }
 {
     let case = draw(generator, 16);
     put_case(alloc, i, case, generator, into)

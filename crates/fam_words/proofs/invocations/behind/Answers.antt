@@ -1,7 +1,7 @@
 use Rattle.std.proofs.Common.{ap, ◌∙◌}
 use Rattle.clap.specs.Faults.{is_simple_and_free}
 use Rattle.fam_words.proofs.SimpleApps.{named_simple}
-use Rattle.fam_words.proofs.orders.behind.Goals as goal
+use Rattle.fam_words.proofs.invocations.behind.Goals as goal
 
 -- each command is simple, and its arguments have no rules on others
 pub matches-requires : goal.matches-requires
