@@ -19,8 +19,8 @@ mod slots;
 mod task;
 mod wanted;
 
-pub use answer::{Answer, TaskNote, Turn, Verified};
+pub use answer::{Answer, TaskNote, Turn};
 pub use byte_text::ByteText;
 pub use fam_machine::Op;
 pub use replica::Replica;
-pub use task::{SlotDue, Task};
+pub use task::{Due, SlotDue, Task};

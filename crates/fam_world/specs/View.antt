@@ -14,6 +14,7 @@ use Rattle.fam_world.specs.declared.hosts.Host.{Host}
 abbrev pub host_view : Host → HostView
 host_view h = record { name = h.name; uuid = h.uuid; cache = h.cache.lines; task = h.task }
 
+-- all hosts
 abbrev pub views : List Host → List HostView
 views hosts = map host_view hosts
 
@@ -29,8 +30,10 @@ is_dirty_other maker at host = not (at == maker) && nat_lt 0 (dirty_count host.c
 abbrev pub note_view : Kept → Note
 note_view note = unwrap_or (note_of note) (Refused [] why.NoHost)
 
+-- all notes
 abbrev pub notes_view : List Kept → List Note
 notes_view notes = map note_view notes
 
+-- a world of these hosts and notes
 abbrev pub world_view : List Host → List Kept → WorldView
 world_view hosts journal = record { hosts = views hosts; journal = notes_view journal }

@@ -1,9 +1,12 @@
-use Rattle.std.proofs.Common.{sym, ◌∙◌, arith}
+use Rattle.std.proofs.Common.{◌≡◌, Err, ap, sym, ◌∙◌, arith}
+use Rattle.fam_cache.specs.States.{CacheState}
+use Rattle.fam_tasks.specs.declared.answer.Turn.TheVariants.{Go}
 use Rattle.fam_run.specs.Led.{HasBrokenOff}
 use Rattle.fam_run.specs.Step.{Around, around}
 use Rattle.fam_run.proofs.Come.{fault_at}
 use Rattle.fam_run.proofs.Joined.{broken_behind, done_both, done_led}
 use Rattle.fam_run.proofs.Led.{led_lines}
+use Rattle.fam_run.proofs.Operated.{alone, from_same, to_same}
 use Rattle.fam_run.proofs.slots.load_slot.Goals as goal
 
 -- src/slots.rt:93:15
@@ -18,8 +21,8 @@ load_line-requires-in-lines g c =
     }
 
 -- src/slots.rt:96:54
-pub returns-in-Err-MediaFault-clause-failed : goal.returns-in-Err-MediaFault-clause-failed
-returns-in-Err-MediaFault-clause-failed g c =
+pub returns-in-Err-MediaFault-clause-advanced : goal.returns-in-Err-MediaFault-clause-advanced
+returns-in-Err-MediaFault-clause-advanced g c =
     let m = g.M.Media in
     let inv = c.lines.invariant in
     let a : Around = around m.image m.size m.faults c.args.task.now c.lines.task c.args.cache.now c.lines.cache c.args.media.now c.lines.media in
@@ -36,7 +39,7 @@ lines-preserved g c =
     let m = g.M.Media in
     let inv = c.lines.invariant in
     let a : Around = around m.image m.size m.faults c.args.task.now c.lines.task c.args.cache.now c.lines.cache c.args.media.now c.lines.media in
-    let r = c.in-Ok-true in
+    let r = c.in-Ok-true-load_line in
     let new = c.load_line-in-lines.new in
     let all = c.load_line-in-lines.ensures in
     record {
@@ -46,3 +49,34 @@ lines-preserved g c =
       image = all.image ∙ inv.image;
       steady = record { size = all.steady.size ∙ inv.steady.size; later = omega (arith, inv.steady.later, all.steady.later) };
     }
+
+pub returns-in-Ok-false-clause-advanced : goal.returns-in-Ok-false-clause-advanced
+returns-in-Ok-false-clause-advanced g c =
+    let m = g.M.Media in
+    let b = c.in-Ok-false in
+    let a : Around = around m.image m.size m.faults c.args.task.now c.operate.new.task c.args.cache.now c.operate.new.cache c.args.media.now c.operate.new.media in
+    let cache : c.load_line.new.cache ≡ c.args.cache.now = b.ensures.other_cache b.field-0-test in
+    let media : c.load_line.new.media ≡ c.args.media.now = b.ensures.other b.field-0-test in
+    from_same a c.operate.result c.load_line.new.task c.load_line.new.cache.lines (m.image c.load_line.new.media) (m.size c.load_line.new.media) (m.faults c.load_line.new.media) (b.ensures.other_task b.field-0-test) (ap (λ (s : CacheState). s.lines) cache) (ap m.image media) (ap m.size media) (ap m.faults media)
+    (alone (record a { task = c.load_line.new.task; old = c.load_line.new.cache.lines; modelled = m.image c.load_line.new.media; size = m.size c.load_line.new.media; before = m.faults c.load_line.new.media }) c.operate.result c.operate.ensures.operated)
+
+pub returns-in-Ok-false-load_line-clause-advanced : goal.returns-in-Ok-false-load_line-clause-advanced
+returns-in-Ok-false-load_line-clause-advanced g c =
+    let m = g.M.Media in
+    let b = c.in-Ok-false-load_line in
+    let new = c.load_line-in-lines.new in
+    let a : Around = around m.image m.size m.faults c.args.task.now c.lines.task c.args.cache.now c.lines.cache c.args.media.now c.lines.media in
+    let cache : new.cache ≡ c.lines.cache = b.ensures.other_cache b.field-0-test in
+    let media : new.media ≡ c.lines.media = b.ensures.other b.field-0-test in
+    to_same a Go new.task new.cache.lines (m.image new.media) (m.faults new.media) (b.ensures.other_task b.field-0-test) (ap (λ (s : CacheState). s.lines) cache) (ap m.image media) (ap m.faults media) c.lines.invariant.done
+
+pub returns-in-Err-OutOfMemory-clause-advanced : goal.returns-in-Err-OutOfMemory-clause-advanced
+returns-in-Err-OutOfMemory-clause-advanced g c =
+    let m = g.M.Media in
+    let b = c.in-Err-OutOfMemory in
+    let full = ap Err b.field-0-is in
+    let new = c.load_line-in-lines.new in
+    let a : Around = around m.image m.size m.faults c.args.task.now c.lines.task c.args.cache.now c.lines.cache c.args.media.now c.lines.media in
+    let cache : new.cache ≡ c.lines.cache = b.ensures.unchanged full in
+    let media : new.media ≡ c.lines.media = b.ensures.undone full in
+    to_same a Go new.task new.cache.lines (m.image new.media) (m.faults new.media) (b.ensures.unmoved full) (ap (λ (s : CacheState). s.lines) cache) (ap m.image media) (ap m.faults media) c.lines.invariant.done
