@@ -45,21 +45,21 @@ fn bring_absent<M: Media>(
     requires absent { cell_at (cache_of places.old.items) line.0 ≡ Cell.Absent }
     requires within { line.0 < M.size media.old }
 
-    ensures cache { OnOk result (FromMemory (M.image media.old) line.0
+    ensures cache { OnOk result (FromMemory (M.state media.old).image line.0
         (λ memory. cache_of places.new.items ≡ cell_changed line.0 (brought memory) (cache_of places.old.items))) }
     ensures stands { IfOk result (λ at. IsPlaceOf places.new.items at line.0) }
     ensures held { OnOk result (IsHeld (cell_at (cache_of places.new.items) line.0)) }
     ensures err { OnErr result (cache_of places.new.items ≡ cache_of places.old.items) }
 
-    ensures failed { IsErrOf result CacheFault.Failed → Rose (M.faults media.old) (M.faults media.new) }
+    ensures failed { IsErrOf result CacheFault.Failed → Rose (M.state media.old).faults (M.state media.new).faults }
     ensures full { IsErrOf result CacheFault.OutOfMemory →
         vec_capacity places.old ≤ vec_len places.old }
     ensures undone { IsErrOf result CacheFault.OutOfMemory → media.new ≡ media.old }
     ensures unmoved { IsErrOf result CacheFault.OutOfMemory →
         vec_capacity places.new ≡ vec_capacity places.old }
 
-    ensures image { M.image media.new ≡ M.image media.old }
-    ensures steady { IsSteady M.size M.faults media.old media.new }
+    ensures image { (M.state media.new).image ≡ (M.state media.old).image }
+    ensures steady { IsSteady M.size M.state media.old media.new }
     ensures sorted { IsTrue (is_sorted nat_cmp places.new.items) }
     ensures capacity { vec_capacity places.old ≤ vec_capacity places.new }
     ensures one { vec_len places.new ≤ vec_len places.old + 1 }
@@ -84,7 +84,7 @@ fn bring<M: Media>(
     requires sorted { IsTrue (is_sorted nat_cmp places.old.items) }
     requires within { line.0 < M.size media.old }
 
-    ensures cache { OnOk result (FromMemory (M.image media.old) line.0
+    ensures cache { OnOk result (FromMemory (M.state media.old).image line.0
         (λ memory. cache_of places.new.items ≡ cell_changed line.0 (brought memory) (cache_of places.old.items))) }
     ensures stands { IfOk result (λ at. IsPlaceOf places.new.items at line.0) }
     ensures held { OnOk result (IsHeld (cell_at (cache_of places.new.items) line.0)) }
@@ -92,15 +92,15 @@ fn bring<M: Media>(
 
     ensures idle { IsHeld (cell_at (cache_of places.old.items) line.0) → IsOk result }
     ensures same { IsHeld (cell_at (cache_of places.old.items) line.0) → media.new ≡ media.old }
-    ensures failed { IsErrOf result CacheFault.Failed → Rose (M.faults media.old) (M.faults media.new) }
+    ensures failed { IsErrOf result CacheFault.Failed → Rose (M.state media.old).faults (M.state media.new).faults }
     ensures full { IsErrOf result CacheFault.OutOfMemory →
         vec_capacity places.old ≤ vec_len places.old }
     ensures undone { IsErrOf result CacheFault.OutOfMemory → media.new ≡ media.old }
     ensures unmoved { IsErrOf result CacheFault.OutOfMemory →
         vec_capacity places.new ≡ vec_capacity places.old }
 
-    ensures image { M.image media.new ≡ M.image media.old }
-    ensures steady { IsSteady M.size M.faults media.old media.new }
+    ensures image { (M.state media.new).image ≡ (M.state media.old).image }
+    ensures steady { IsSteady M.size M.state media.old media.new }
     ensures sorted { IsTrue (is_sorted nat_cmp places.new.items) }
     ensures capacity { vec_capacity places.old ≤ vec_capacity places.new }
     ensures one { vec_len places.new ≤ vec_len places.old + 1 }
@@ -126,13 +126,13 @@ fn refresh<M: Media>(
     requires sorted { IsTrue (is_sorted nat_cmp places.old.items) }
     requires within { line.0 < M.size media.old }
 
-    ensures cache { OnOk result (FromMemory (M.image media.old) line.0
+    ensures cache { OnOk result (FromMemory (M.state media.old).image line.0
         (λ memory. cache_of places.new.items ≡ cell_changed line.0 (fetched mask.0 memory) (cache_of places.old.items))) }
     ensures err { OnErr result (cache_of places.new.items ≡ cache_of places.old.items) }
 
     ensures idle { IsDirty (cell_at (cache_of places.old.items) line.0) → IsOk result }
     ensures same { IsDirty (cell_at (cache_of places.old.items) line.0) → media.new ≡ media.old }
-    ensures failed { IsErrOf result CacheFault.Failed → Rose (M.faults media.old) (M.faults media.new) }
+    ensures failed { IsErrOf result CacheFault.Failed → Rose (M.state media.old).faults (M.state media.new).faults }
     ensures full { IsErrOf result CacheFault.OutOfMemory →
         vec_capacity places.old ≤ vec_len places.old }
     ensures absent { IsErrOf result CacheFault.OutOfMemory →
@@ -141,8 +141,8 @@ fn refresh<M: Media>(
     ensures unmoved { IsErrOf result CacheFault.OutOfMemory →
         vec_capacity places.new ≡ vec_capacity places.old }
 
-    ensures image { M.image media.new ≡ M.image media.old }
-    ensures steady { IsSteady M.size M.faults media.old media.new }
+    ensures image { (M.state media.new).image ≡ (M.state media.old).image }
+    ensures steady { IsSteady M.size M.state media.old media.new }
     ensures sorted { IsTrue (is_sorted nat_cmp places.new.items) }
     ensures capacity { vec_capacity places.old ≤ vec_capacity places.new }
     ensures one { vec_len places.new ≤ vec_len places.old + 1 }
@@ -176,15 +176,15 @@ fn send_place<M: Media>(
         (cache_of places.new.items ≡ cell_changed line.0 cleaned (cache_of places.old.items)) }
     ensures items { OnOk result (places.new.items
         ≡ slice_set places.old.items at (line.0, cleaned (copy_in_place places.old.items at))) }
-    ensures memory { OnOk result (M.image media.new ≡ option_map
+    ensures memory { OnOk result ((M.state media.new).image ≡ option_map
         (line_changed line.0 (λ memory. sent memory (cell_at (cache_of places.old.items) line.0)))
-        (M.image media.old)) }
+        (M.state media.old).image) }
     ensures err { OnErr result (places.new.items ≡ places.old.items) }
-    ensures torn { OnErr result (IfModelled (M.image media.old) (λ image. FailsTo line.0
+    ensures torn { OnErr result (IfModelled (M.state media.old).image (λ image. FailsTo line.0
         (λ through memory. failed_send through memory (cell_at (cache_of places.old.items) line.0))
-        image (M.image media.new))) }
+        image (M.state media.new).image)) }
 
-    ensures cause { HasCause (M.faults media.old) (M.faults media.new) result }
+    ensures cause { HasCause (M.state media.old).faults (M.state media.new).faults result }
     ensures size { M.size media.new ≡ M.size media.old }
     ensures sorted { IsTrue (is_sorted nat_cmp places.new.items) }
     ensures capacity { vec_capacity places.new ≡ vec_capacity places.old }
@@ -212,20 +212,20 @@ fn send_asked<M: Media>(
     requires range { AskedWithin first last (cache_of places.old.items) }
     requires within { (line : ℕ) → IsAsked (cell_at (cache_of places.old.items) line) → line < M.size media.old }
 
-    ensures operated { OnOk result (IfModelled (M.image media.old) (λ image. IsMachine
+    ensures operated { OnOk result (IfModelled (M.state media.old).image (λ image. IsMachine
         (operated Op.Fence (machine image (cache_of places.old.items)))
-        (M.image media.new) (cache_of places.new.items))) }
+        (M.state media.new).image (cache_of places.new.items))) }
     ensures cache { OnOk result (cache_of places.new.items
         ≡ cleaned_lines (asked_lines (cache_of places.old.items)) (cache_of places.old.items)) }
-    ensures failed { IfErr result (λ fault. IfModelled (M.image media.old) (λ image. HasFailed Op.Fence
-        (machine image (cache_of places.old.items)) fault.0 (M.image media.new) (cache_of places.new.items))) }
+    ensures failed { IfErr result (λ fault. IfModelled (M.state media.old).image (λ image. HasFailed Op.Fence
+        (machine image (cache_of places.old.items)) fault.0 (M.state media.new).image (cache_of places.new.items))) }
     ensures err { OnErr result (CleansSome (cache_of places.old.items) (cache_of places.new.items)) }
     ensures line { IfErr result (λ fault. IsAsked (cell_at (cache_of places.old.items) fault.0.0)) }
 
     ensures idle { ((line : ℕ) → ¬ (IsAsked (cell_at (cache_of places.old.items) line))) → IsOk result }
     ensures same { ((line : ℕ) → ¬ (IsAsked (cell_at (cache_of places.old.items) line))) →
         media.new ≡ media.old }
-    ensures cause { HasCause (M.faults media.old) (M.faults media.new) result }
+    ensures cause { HasCause (M.state media.old).faults (M.state media.new).faults result }
     ensures size { M.size media.new ≡ M.size media.old }
     ensures sorted { IsTrue (is_sorted nat_cmp places.new.items) }
     ensures capacity { vec_capacity places.new ≡ vec_capacity places.old }
@@ -260,17 +260,17 @@ fn drop_line<M: Media>(
 
     ensures cache { OnOk result
         (cache_of places.new.items ≡ with_cell line.0 Cell.Absent (cache_of places.old.items)) }
-    ensures memory { OnOk result (M.image media.new ≡ option_map
+    ensures memory { OnOk result ((M.state media.new).image ≡ option_map
         (line_changed line.0 (λ memory. sent memory (cell_at (cache_of places.old.items) line.0)))
-        (M.image media.old)) }
+        (M.state media.old).image) }
     ensures err { OnErr result (cache_of places.new.items ≡ cache_of places.old.items) }
-    ensures torn { OnErr result (IfModelled (M.image media.old) (λ image. FailsTo line.0
+    ensures torn { OnErr result (IfModelled (M.state media.old).image (λ image. FailsTo line.0
         (λ through memory. failed_send through memory (cell_at (cache_of places.old.items) line.0))
-        image (M.image media.new))) }
+        image (M.state media.new).image)) }
 
     ensures idle { ¬ (IsDirty (cell_at (cache_of places.old.items) line.0)) → IsOk result }
     ensures same { ¬ (IsDirty (cell_at (cache_of places.old.items) line.0)) → media.new ≡ media.old }
-    ensures cause { HasCause (M.faults media.old) (M.faults media.new) result }
+    ensures cause { HasCause (M.state media.old).faults (M.state media.new).faults result }
     ensures size { M.size media.new ≡ M.size media.old }
     ensures sorted { IsTrue (is_sorted nat_cmp places.new.items) }
     ensures capacity { vec_capacity places.new ≡ vec_capacity places.old }
@@ -298,16 +298,16 @@ fn leak_line<M: Media>(
     requires sorted { IsTrue (is_sorted nat_cmp places.now.items) }
     requires within { line.0 < M.size media.old }
 
-    ensures memory { OnOk result (M.image media.new ≡ option_map
+    ensures memory { OnOk result ((M.state media.new).image ≡ option_map
         (line_changed line.0 (λ memory. leaked mask.0 memory (cell_at (cache_of places.now.items) line.0)))
-        (M.image media.old)) }
-    ensures torn { OnErr result (IfModelled (M.image media.old) (λ image. FailsTo line.0
+        (M.state media.old).image) }
+    ensures torn { OnErr result (IfModelled (M.state media.old).image (λ image. FailsTo line.0
         (λ through memory. failed_leak mask.0 through memory (cell_at (cache_of places.now.items) line.0))
-        image (M.image media.new))) }
+        image (M.state media.new).image)) }
 
     ensures idle { ¬ (IsDirty (cell_at (cache_of places.now.items) line.0)) → IsOk result }
     ensures same { ¬ (IsDirty (cell_at (cache_of places.now.items) line.0)) → media.new ≡ media.old }
-    ensures cause { HasCause (M.faults media.old) (M.faults media.new) result }
+    ensures cause { HasCause (M.state media.old).faults (M.state media.new).faults result }
     ensures size { M.size media.new ≡ M.size media.old }
 {
     let spot = seek(places, last, line.0);
@@ -395,7 +395,7 @@ impl HostCache {
         // The word is that of the copy that the host now has.
         ensures value { IfOk result
             (λ value. value ≡ slice_index (words_of (cell_at self.new.lines line.0)) word) }
-        ensures cache { OnOk result (FromMemory (M.image media.old) line.0
+        ensures cache { OnOk result (FromMemory (M.state media.old).image line.0
             (λ memory. self.new.lines ≡ cell_changed line.0 (brought memory) self.old.lines)) }
         ensures err { OnErr result (self.new.lines ≡ self.old.lines) }
 
@@ -404,13 +404,13 @@ impl HostCache {
         ensures same { IsHeld (cell_at self.old.lines line.0) → media.new ≡ media.old }
 
         // Room is taken first, so where it is missing nothing was done.
-        ensures failed { IsErrOf result CacheFault.Failed → Rose (M.faults media.old) (M.faults media.new) }
+        ensures failed { IsErrOf result CacheFault.Failed → Rose (M.state media.old).faults (M.state media.new).faults }
         ensures room { IsErrOf result CacheFault.OutOfMemory → self.old.spare ≡ 0 }
         ensures undone { IsErrOf result CacheFault.OutOfMemory → media.new ≡ media.old }
         ensures unchanged { IsErrOf result CacheFault.OutOfMemory → self.new ≡ self.old }
 
-        ensures image { M.image media.new ≡ M.image media.old }
-        ensures steady { IsSteady M.size M.faults media.old media.new }
+        ensures image { (M.state media.new).image ≡ (M.state media.old).image }
+        ensures steady { IsSteady M.size M.state media.old media.new }
 
         // Only a line that was brought takes a place.
         ensures spare { self.old.spare ≤ self.new.spare + 1 }
@@ -436,7 +436,7 @@ impl HostCache {
         requires within { line.0 < M.size media.old }
         requires word { word < 8 }
 
-        ensures cache { OnOk result (FromMemory (M.image media.old) line.0
+        ensures cache { OnOk result (FromMemory (M.state media.old).image line.0
             (λ memory. self.new.lines ≡ cell_changed line.0 (stored word value memory) self.old.lines)) }
         ensures err { OnErr result (self.new.lines ≡ self.old.lines) }
 
@@ -445,13 +445,13 @@ impl HostCache {
         ensures same { IsHeld (cell_at self.old.lines line.0) → media.new ≡ media.old }
 
         // Room is taken first, so where it is missing nothing was done.
-        ensures failed { IsErrOf result CacheFault.Failed → Rose (M.faults media.old) (M.faults media.new) }
+        ensures failed { IsErrOf result CacheFault.Failed → Rose (M.state media.old).faults (M.state media.new).faults }
         ensures room { IsErrOf result CacheFault.OutOfMemory → self.old.spare ≡ 0 }
         ensures undone { IsErrOf result CacheFault.OutOfMemory → media.new ≡ media.old }
         ensures unchanged { IsErrOf result CacheFault.OutOfMemory → self.new ≡ self.old }
 
-        ensures image { M.image media.new ≡ M.image media.old }
-        ensures steady { IsSteady M.size M.faults media.old media.new }
+        ensures image { (M.state media.new).image ≡ (M.state media.old).image }
+        ensures steady { IsSteady M.size M.state media.old media.new }
 
         // Only a line that was brought takes a place.
         ensures spare { self.old.spare ≤ self.new.spare + 1 }
@@ -507,14 +507,14 @@ impl HostCache {
         ensures clean { IfOk result (λ renewed. IfSome renewed (λ words.
             ¬ (IsDirty (cell_at self.old.lines line.0)))) }
         ensures words { IfOk result (λ renewed. IfSome renewed (λ words.
-            IfModelled (M.image media.old) (λ image. eight words ≡ line_at image line.0))) }
+            IfModelled (M.state media.old).image (λ image. eight words ≡ line_at image line.0))) }
         ensures cache { IfOk result (λ renewed. IfSome renewed (λ words.
             self.new.lines ≡ with_cell line.0 (Cell.Clean (eight words)) self.old.lines)) }
         ensures other { IfOk result (λ renewed. renewed ≡ None → self.new ≡ self.old) }
         ensures same { IfOk result (λ renewed. renewed ≡ None → media.new ≡ media.old) }
         ensures dirty { IfOk result (λ renewed. renewed ≡ None → IsDirty (cell_at self.old.lines line.0)) }
 
-        ensures failed { IsErrOf result CacheFault.Failed → Rose (M.faults media.old) (M.faults media.new) }
+        ensures failed { IsErrOf result CacheFault.Failed → Rose (M.state media.old).faults (M.state media.new).faults }
         ensures failed_clean { IsErrOf result CacheFault.Failed → ¬ (IsDirty (cell_at self.old.lines line.0)) }
         ensures failed_lines { IsErrOf result CacheFault.Failed →
             self.new.lines ≡ with_cell line.0 Cell.Absent self.old.lines }
@@ -524,8 +524,8 @@ impl HostCache {
         ensures undone { IsErrOf result CacheFault.OutOfMemory → media.new ≡ media.old }
         ensures unchanged { IsErrOf result CacheFault.OutOfMemory → self.new ≡ self.old }
 
-        ensures image { M.image media.new ≡ M.image media.old }
-        ensures steady { IsSteady M.size M.faults media.old media.new }
+        ensures image { (M.state media.new).image ≡ (M.state media.old).image }
+        ensures steady { IsSteady M.size M.state media.old media.new }
         ensures spare { self.old.spare ≤ self.new.spare + 1 }
         ensures err_spare { OnErr result (self.old.spare ≤ self.new.spare) }
     {
@@ -564,7 +564,7 @@ impl HostCache {
         ensures absent { IfOk result (λ put. put ≡ true → cell_at self.old.lines line.0 ≡ Cell.Absent) }
         ensures lines { OnOk result (self.new.lines ≡ self.old.lines) }
         ensures memory { IfOk result (λ put. put ≡ true →
-            M.image media.new ≡ option_map (with_line line.0 words.now) (M.image media.old)) }
+            (M.state media.new).image ≡ option_map (with_line line.0 words.now) (M.state media.old).image) }
         ensures other { IfOk result (λ put. put ≡ false → self.new ≡ self.old) }
         ensures same { IfOk result (λ put. put ≡ false → media.new ≡ media.old) }
         ensures held { IfOk result (λ put. put ≡ false → IsHeld (cell_at self.old.lines line.0)) }
@@ -572,12 +572,12 @@ impl HostCache {
         // No place is taken.
         ensures ok_spare { OnOk result (self.old.spare ≤ self.new.spare) }
 
-        ensures failed { IsErrOf result CacheFault.Failed → Rose (M.faults media.old) (M.faults media.new) }
+        ensures failed { IsErrOf result CacheFault.Failed → Rose (M.state media.old).faults (M.state media.new).faults }
         ensures failed_absent { IsErrOf result CacheFault.Failed → cell_at self.old.lines line.0 ≡ Cell.Absent }
         ensures failed_lines { IsErrOf result CacheFault.Failed →
             self.new.lines ≡ with_cell line.0 (Cell.Dirty false (eight words.now)) self.old.lines }
         ensures torn { IsErrOf result CacheFault.Failed →
-            IsTorn (M.image media.old) (M.image media.new) line.0 words.now }
+            IsTorn (M.state media.old).image (M.state media.new).image line.0 words.now }
 
         ensures room { IsErrOf result CacheFault.OutOfMemory → self.old.spare ≡ 0 }
         ensures room_absent { IsErrOf result CacheFault.OutOfMemory →
@@ -585,7 +585,7 @@ impl HostCache {
         ensures undone { IsErrOf result CacheFault.OutOfMemory → media.new ≡ media.old }
         ensures unchanged { IsErrOf result CacheFault.OutOfMemory → self.new ≡ self.old }
 
-        ensures steady { IsSteady M.size M.faults media.old media.new }
+        ensures steady { IsSteady M.size M.state media.old media.new }
         ensures spare { self.old.spare ≤ self.new.spare + 1 }
     {
         let spot = seek(&self.places, self.last, line.0);
@@ -625,7 +625,7 @@ impl HostCache {
     ) -> Result<(), CacheFault>
         requires within { line.0 < M.size media.old }
 
-        ensures cache { OnOk result (FromMemory (M.image media.old) line.0
+        ensures cache { OnOk result (FromMemory (M.state media.old).image line.0
             (λ memory. self.new.lines ≡ cell_changed line.0 (fetched mask.0 memory) self.old.lines)) }
         ensures err { OnErr result (self.new.lines ≡ self.old.lines) }
 
@@ -634,15 +634,15 @@ impl HostCache {
         ensures same { IsDirty (cell_at self.old.lines line.0) → media.new ≡ media.old }
 
         // Room is taken first, so where it is missing nothing was done.
-        ensures failed { IsErrOf result CacheFault.Failed → Rose (M.faults media.old) (M.faults media.new) }
+        ensures failed { IsErrOf result CacheFault.Failed → Rose (M.state media.old).faults (M.state media.new).faults }
         ensures room { IsErrOf result CacheFault.OutOfMemory → self.old.spare ≡ 0 }
         ensures absent { IsErrOf result CacheFault.OutOfMemory →
             ¬ (IsHeld (cell_at self.old.lines line.0)) }
         ensures undone { IsErrOf result CacheFault.OutOfMemory → media.new ≡ media.old }
         ensures unchanged { IsErrOf result CacheFault.OutOfMemory → self.new ≡ self.old }
 
-        ensures image { M.image media.new ≡ M.image media.old }
-        ensures steady { IsSteady M.size M.faults media.old media.new }
+        ensures image { (M.state media.new).image ≡ (M.state media.old).image }
+        ensures steady { IsSteady M.size M.state media.old media.new }
 
         // Only a line that was brought takes a place.
         ensures spare { self.old.spare ≤ self.new.spare + 1 }
@@ -673,10 +673,10 @@ impl HostCache {
         requires within { (line : ℕ) → IsAsked (cell_at self.old.lines line) → line < M.size media.old }
 
         // Where the image is modelled, it and the cache are those of the machine.
-        ensures operated { OnOk result (IfModelled (M.image media.old) (λ image. IsMachine
-            (operated Op.Fence (machine image self.old.lines)) (M.image media.new) self.new.lines)) }
-        ensures failed { IfErr result (λ fault. IfModelled (M.image media.old) (λ image. HasFailed Op.Fence
-            (machine image self.old.lines) fault.0 (M.image media.new) self.new.lines)) }
+        ensures operated { OnOk result (IfModelled (M.state media.old).image (λ image. IsMachine
+            (operated Op.Fence (machine image self.old.lines)) (M.state media.new).image self.new.lines)) }
+        ensures failed { IfErr result (λ fault. IfModelled (M.state media.old).image (λ image. HasFailed Op.Fence
+            (machine image self.old.lines) fault.0 (M.state media.new).image self.new.lines)) }
 
         ensures cache { OnOk result (self.new.lines ≡ cleaned_lines (asked_lines self.old.lines) self.old.lines) }
         ensures err { OnErr result (CleansSome self.old.lines self.new.lines) }
@@ -686,7 +686,7 @@ impl HostCache {
         ensures ok { ((line : ℕ) → ¬ (IsAsked (cell_at self.old.lines line))) → IsOk result }
         ensures same { ((line : ℕ) → ¬ (IsAsked (cell_at self.old.lines line))) → media.new ≡ media.old }
 
-        ensures cause { HasCause (M.faults media.old) (M.faults media.new) result }
+        ensures cause { HasCause (M.state media.old).faults (M.state media.new).faults result }
         ensures size { M.size media.new ≡ M.size media.old }
         ensures spare { self.new.spare ≡ self.old.spare }
     {
@@ -705,21 +705,21 @@ impl HostCache {
         requires within { line.0 < M.size media.old }
 
         ensures cache { OnOk result (self.new.lines ≡ with_cell line.0 Cell.Absent self.old.lines) }
-        ensures memory { OnOk result (M.image media.new ≡ option_map
+        ensures memory { OnOk result ((M.state media.new).image ≡ option_map
             (line_changed line.0 (λ memory. sent memory (cell_at self.old.lines line.0)))
-            (M.image media.old)) }
+            (M.state media.old).image) }
 
         // A send that fails leaves each word of this line old or new, and the host keeps its copy.
         ensures err { OnErr result (self.new.lines ≡ self.old.lines) }
-        ensures torn { OnErr result (IfModelled (M.image media.old) (λ image. FailsTo line.0
+        ensures torn { OnErr result (IfModelled (M.state media.old).image (λ image. FailsTo line.0
             (λ through memory. failed_send through memory (cell_at self.old.lines line.0))
-            image (M.image media.new))) }
+            image (M.state media.new).image)) }
 
         // Only a dirty line is sent.
         ensures ok { ¬ (IsDirty (cell_at self.old.lines line.0)) → IsOk result }
         ensures same { ¬ (IsDirty (cell_at self.old.lines line.0)) → media.new ≡ media.old }
 
-        ensures cause { HasCause (M.faults media.old) (M.faults media.new) result }
+        ensures cause { HasCause (M.state media.old).faults (M.state media.new).faults result }
         ensures size { M.size media.new ≡ M.size media.old }
         ensures spare { self.old.spare ≤ self.new.spare }
     {
@@ -732,21 +732,21 @@ impl HostCache {
         requires within { line.0 < M.size media.old }
 
         ensures cache { OnOk result (self.new.lines ≡ with_cell line.0 Cell.Absent self.old.lines) }
-        ensures memory { OnOk result (M.image media.new ≡ option_map
+        ensures memory { OnOk result ((M.state media.new).image ≡ option_map
             (line_changed line.0 (λ memory. sent memory (cell_at self.old.lines line.0)))
-            (M.image media.old)) }
+            (M.state media.old).image) }
 
         // A send that fails leaves each word of this line old or new, and the host keeps its copy.
         ensures err { OnErr result (self.new.lines ≡ self.old.lines) }
-        ensures torn { OnErr result (IfModelled (M.image media.old) (λ image. FailsTo line.0
+        ensures torn { OnErr result (IfModelled (M.state media.old).image (λ image. FailsTo line.0
             (λ through memory. failed_send through memory (cell_at self.old.lines line.0))
-            image (M.image media.new))) }
+            image (M.state media.new).image)) }
 
         // Only a dirty line is sent.
         ensures ok { ¬ (IsDirty (cell_at self.old.lines line.0)) → IsOk result }
         ensures same { ¬ (IsDirty (cell_at self.old.lines line.0)) → media.new ≡ media.old }
 
-        ensures cause { HasCause (M.faults media.old) (M.faults media.new) result }
+        ensures cause { HasCause (M.state media.old).faults (M.state media.new).faults result }
         ensures size { M.size media.new ≡ M.size media.old }
         ensures spare { self.old.spare ≤ self.new.spare }
     {
@@ -758,20 +758,20 @@ impl HostCache {
         requires within { line.0 < M.size media.old }
 
         ensures cache { self.new ≡ self.old }
-        ensures memory { OnOk result (M.image media.new ≡ option_map
+        ensures memory { OnOk result ((M.state media.new).image ≡ option_map
             (line_changed line.0 (λ memory. leaked mask.0 memory (cell_at self.old.lines line.0)))
-            (M.image media.old)) }
+            (M.state media.old).image) }
 
         // A send that fails leaves each of the masked words old or new, and every other word as it was.
-        ensures torn { OnErr result (IfModelled (M.image media.old) (λ image. FailsTo line.0
+        ensures torn { OnErr result (IfModelled (M.state media.old).image (λ image. FailsTo line.0
             (λ through memory. failed_leak mask.0 through memory (cell_at self.old.lines line.0))
-            image (M.image media.new))) }
+            image (M.state media.new).image)) }
 
         // Only a dirty line is sent.
         ensures ok { ¬ (IsDirty (cell_at self.old.lines line.0)) → IsOk result }
         ensures same { ¬ (IsDirty (cell_at self.old.lines line.0)) → media.new ≡ media.old }
 
-        ensures cause { HasCause (M.faults media.old) (M.faults media.new) result }
+        ensures cause { HasCause (M.state media.old).faults (M.state media.new).faults result }
         ensures size { M.size media.new ≡ M.size media.old }
     {
         self.last = leak_line(&self.places, self.last, media, line, mask)?;

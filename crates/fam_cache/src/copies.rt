@@ -16,13 +16,13 @@ use fam_media::{Failed, Media};
 /// The copy after a load or before a store: an absent line is brought from memory.
 fn bring_copy<M: Media>(copy: Cell, media: &mut M, line: LineNo) -> Result<Cell, Failed>
     requires within { line.0 < M.size media.old }
-    ensures copy { IfOk result (λ new. FromMemory (M.image media.old) line.0
+    ensures copy { IfOk result (λ new. FromMemory (M.state media.old).image line.0
         (λ memory. normal new ≡ brought memory (normal copy))) }
     ensures idle { IsHeld (normal copy) → IsOk result }
     ensures same { IsHeld (normal copy) → media.new ≡ media.old }
-    ensures image { M.image media.new ≡ M.image media.old }
+    ensures image { (M.state media.new).image ≡ (M.state media.old).image }
     ensures size { M.size media.new ≡ M.size media.old }
-    ensures cause { HasCause (M.faults media.old) (M.faults media.new) result }
+    ensures cause { HasCause (M.state media.old).faults (M.state media.new).faults result }
 {
     match copy {
         Cell::Absent => match media.read(line) {
@@ -42,13 +42,13 @@ pub(crate) fn fetch_copy<M: Media>(
     mask: Mask,
 ) -> Result<Cell, Failed>
     requires within { line.0 < M.size media.old }
-    ensures copy { IfOk result (λ new. FromMemory (M.image media.old) line.0
+    ensures copy { IfOk result (λ new. FromMemory (M.state media.old).image line.0
         (λ memory. normal new ≡ fetched mask.0 memory (normal copy))) }
     ensures idle { IsDirty (normal copy) → IsOk result }
     ensures same { IsDirty (normal copy) → media.new ≡ media.old }
-    ensures image { M.image media.new ≡ M.image media.old }
+    ensures image { (M.state media.new).image ≡ (M.state media.old).image }
     ensures size { M.size media.new ≡ M.size media.old }
-    ensures cause { HasCause (M.faults media.old) (M.faults media.new) result }
+    ensures cause { HasCause (M.state media.old).faults (M.state media.new).faults result }
 {
     match copy {
         Cell::Absent => bring_copy(copy, media, line),
@@ -63,14 +63,14 @@ pub(crate) fn fetch_copy<M: Media>(
 /// Sends a dirty copy whole to memory.
 pub(crate) fn send_copy<M: Media>(copy: Cell, media: &mut M, line: LineNo) -> Result<(), Failed>
     requires within { line.0 < M.size media.old }
-    ensures memory { OnOk result (M.image media.new
-        ≡ option_map (line_changed line.0 (λ memory. sent memory (normal copy))) (M.image media.old)) }
-    ensures torn { OnErr result (IfModelled (M.image media.old) (λ image. FailsTo line.0
-        (λ through memory. failed_send through memory (normal copy)) image (M.image media.new))) }
+    ensures memory { OnOk result ((M.state media.new).image
+        ≡ option_map (line_changed line.0 (λ memory. sent memory (normal copy))) (M.state media.old).image) }
+    ensures torn { OnErr result (IfModelled (M.state media.old).image (λ image. FailsTo line.0
+        (λ through memory. failed_send through memory (normal copy)) image (M.state media.new).image)) }
     ensures idle { ¬ (IsDirty (normal copy)) → IsOk result }
     ensures same { ¬ (IsDirty (normal copy)) → media.new ≡ media.old }
     ensures size { M.size media.new ≡ M.size media.old }
-    ensures cause { HasCause (M.faults media.old) (M.faults media.new) result }
+    ensures cause { HasCause (M.state media.old).faults (M.state media.new).faults result }
 {
     match copy {
         Cell::Absent => Ok(()),
@@ -87,14 +87,14 @@ pub(crate) fn leak_copy<M: Media>(
     mask: Mask,
 ) -> Result<(), Failed>
     requires within { line.0 < M.size media.old }
-    ensures memory { OnOk result (M.image media.new
-        ≡ option_map (line_changed line.0 (λ memory. leaked mask.0 memory (normal copy))) (M.image media.old)) }
-    ensures torn { OnErr result (IfModelled (M.image media.old) (λ image. FailsTo line.0
-        (λ through memory. failed_leak mask.0 through memory (normal copy)) image (M.image media.new))) }
+    ensures memory { OnOk result ((M.state media.new).image
+        ≡ option_map (line_changed line.0 (λ memory. leaked mask.0 memory (normal copy))) (M.state media.old).image) }
+    ensures torn { OnErr result (IfModelled (M.state media.old).image (λ image. FailsTo line.0
+        (λ through memory. failed_leak mask.0 through memory (normal copy)) image (M.state media.new).image)) }
     ensures idle { ¬ (IsDirty (normal copy)) → IsOk result }
     ensures same { ¬ (IsDirty (normal copy)) → media.new ≡ media.old }
     ensures size { M.size media.new ≡ M.size media.old }
-    ensures cause { HasCause (M.faults media.old) (M.faults media.new) result }
+    ensures cause { HasCause (M.state media.old).faults (M.state media.new).faults result }
 {
     match copy {
         Cell::Clean(_) | Cell::Absent => Ok(()),

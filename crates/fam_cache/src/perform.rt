@@ -28,21 +28,21 @@ impl HostCache {
         requires asked { SendsWithin op (M.size media.old) self.old.lines }
 
         // Where the image is modelled, it, the cache and the word are those of the machine.
-        ensures operated { OnOk result (IfModelled (M.image media.old) (λ image.
-            IsMachine (operated op (machine image self.old.lines)) (M.image media.new) self.new.lines)) }
-        ensures given { IfOk result (λ word. IfModelled (M.image media.old) (λ image.
+        ensures operated { OnOk result (IfModelled (M.state media.old).image (λ image.
+            IsMachine (operated op (machine image self.old.lines)) (M.state media.new).image self.new.lines)) }
+        ensures given { IfOk result (λ word. IfModelled (M.state media.old).image (λ image.
             word ≡ given op (machine image self.old.lines))) }
-        ensures failed { IfErr result (λ fault. IfMediaFault fault (λ line. IfModelled (M.image media.old) (λ image.
-            HasFailed op (machine image self.old.lines) line (M.image media.new) self.new.lines))) }
+        ensures failed { IfErr result (λ fault. IfMediaFault fault (λ line. IfModelled (M.state media.old).image (λ image.
+            HasFailed op (machine image self.old.lines) line (M.state media.new).image self.new.lines))) }
 
         // On any media the cache is what the table makes of the operation's line, and the word is that of the copy.
-        ensures cache { OnOk result (LeavesCache op (M.image media.old) self.old.lines self.new.lines) }
+        ensures cache { OnOk result (LeavesCache op (M.state media.old).image self.old.lines self.new.lines) }
         ensures word { IfOk result (λ word. word ≡ word_of op self.new.lines) }
         ensures err { OnErr result (LeavesFailed op self.old.lines self.new.lines) }
         ensures line { IfErr result (λ fault. IfMediaFault fault (λ line. IsAtLine op line self.old.lines)) }
         ensures inside { IfErr result (λ fault. IfMediaFault fault (λ line. line.0 < M.size media.old)) }
         ensures rose { IfErr result (λ fault. IfMediaFault fault (λ line.
-            Rose (M.faults media.old) (M.faults media.new))) }
+            Rose (M.state media.old).faults (M.state media.new).faults)) }
 
         // An operation that brings no line and sends none asks nothing of memory.
         ensures ok { AsksNothing op self.old.lines → IsOk result }
@@ -53,7 +53,7 @@ impl HostCache {
         ensures undone { IsErrOf result OperationFault.OutOfMemory → media.new ≡ media.old }
         ensures unchanged { IsErrOf result OperationFault.OutOfMemory → self.new ≡ self.old }
 
-        ensures steady { IsSteady M.size M.faults media.old media.new }
+        ensures steady { IsSteady M.size M.state media.old media.new }
 
         // Only a line that was brought takes a place.
         ensures spare { self.old.spare ≤ self.new.spare + 1 }

@@ -33,7 +33,7 @@ pub(crate) fn renew_in_place<M: Media>(
     ensures clean { IfOk result (λ renewed. IfSome renewed (λ words.
         ¬ (IsDirty (cell_at (cache_of places.old.items) line.0)))) }
     ensures words { IfOk result (λ renewed. IfSome renewed (λ words.
-        IfModelled (M.image media.old) (λ image. eight words ≡ line_at image line.0))) }
+        IfModelled (M.state media.old).image (λ image. eight words ≡ line_at image line.0))) }
     ensures cache { IfOk result (λ renewed. IfSome renewed (λ words.
         cache_of places.new.items ≡ with_cell line.0 (Cell.Clean (eight words)) (cache_of places.old.items))) }
     ensures other { IfOk result (λ renewed. renewed ≡ None → places.new ≡ places.old) }
@@ -44,9 +44,9 @@ pub(crate) fn renew_in_place<M: Media>(
     ensures failed_clean { OnErr result (¬ (IsDirty (cell_at (cache_of places.old.items) line.0))) }
     ensures failed_lines { OnErr result
         (cache_of places.new.items ≡ with_cell line.0 Cell.Absent (cache_of places.old.items)) }
-    ensures cause { HasCause (M.faults media.old) (M.faults media.new) result }
+    ensures cause { HasCause (M.state media.old).faults (M.state media.new).faults result }
 
-    ensures image { M.image media.new ≡ M.image media.old }
+    ensures image { (M.state media.new).image ≡ (M.state media.old).image }
     ensures size { M.size media.new ≡ M.size media.old }
     ensures sorted { IsTrue (is_sorted nat_cmp places.new.items) }
     ensures capacity { vec_capacity places.new ≡ vec_capacity places.old }
@@ -81,11 +81,11 @@ pub(crate) fn bring_to_gap<M: Media>(
 
     ensures absent { cell_at (cache_of places.old.items) line.0 ≡ Cell.Absent }
     ensures words { IfOk result (λ words.
-        IfModelled (M.image media.old) (λ image. eight words ≡ line_at image line.0)) }
+        IfModelled (M.state media.old).image (λ image. eight words ≡ line_at image line.0)) }
     ensures cache { IfOk result (λ words.
         cache_of places.new.items ≡ with_cell line.0 (Cell.Clean (eight words)) (cache_of places.old.items)) }
 
-    ensures failed { IsErrOf result CacheFault.Failed → Rose (M.faults media.old) (M.faults media.new) }
+    ensures failed { IsErrOf result CacheFault.Failed → Rose (M.state media.old).faults (M.state media.new).faults }
     ensures failed_lines { OnErr result
         (cache_of places.new.items ≡ with_cell line.0 Cell.Absent (cache_of places.old.items)) }
     ensures full { IsErrOf result CacheFault.OutOfMemory →
@@ -95,8 +95,8 @@ pub(crate) fn bring_to_gap<M: Media>(
         vec_capacity places.new ≡ vec_capacity places.old }
     ensures unchanged { IsErrOf result CacheFault.OutOfMemory → places.new.items ≡ places.old.items }
 
-    ensures image { M.image media.new ≡ M.image media.old }
-    ensures steady { IsSteady M.size M.faults media.old media.new }
+    ensures image { (M.state media.new).image ≡ (M.state media.old).image }
+    ensures steady { IsSteady M.size M.state media.old media.new }
     ensures sorted { IsTrue (is_sorted nat_cmp places.new.items) }
     ensures capacity { vec_capacity places.old ≤ vec_capacity places.new }
     ensures one { vec_len places.new ≤ vec_len places.old + 1 }

@@ -6,12 +6,12 @@ use Rattle.fam_base.specs.declared.cmd.Cmd.TheVariants.{Logplay}
 use Rattle.fam_base.specs.Image.{Image}
 use Rattle.fam_media.specs.Files.{Files}
 use Rattle.fam_media.specs.Outside.{IfModelled}
+use Rattle.fam_media.specs.States.{ShelfChange}
 use Rattle.fam_protocol.specs.Tasks.{IsCommand}
 use Rattle.fam_sources.specs.declared.sourced.SourceEnd.{SourceEnd}
 use Rattle.fam_sources.specs.declared.sourced.Sourced.{Sourced as Came}
 use Rattle.fam_sources.specs.declared.sourced.Sourced.TheVariants as came_of
 use Rattle.fam_sources.specs.Sourced.{IsEnded, HoldsSource, IsSourced, IsUnfit, HasEndCause}
-use Rattle.fam_sources.specs.Whole.{ShelfChange}
 use Rattle.fam_journal.specs.declared.event.Ask.{Ask}
 use Rattle.fam_journal.specs.declared.event.Event.TheVariants.{Begin}
 use Rattle.fam_journal.specs.declared.refusal.Refusal.{Refusal}
@@ -129,7 +129,7 @@ module _ (name : List ℕ) (what : Ask) (lines : ℕ) (old : WorldView) (formed 
 
   module _ (free : first ≡ None) where
     -- the source makes no command
-    pub unfit : (new : WorldView) (cause : Refusal) (change : ShelfChange) (now : ℕ) → change.files ≡ files → IsUnfit change copied what now cause → WorldCall (call.Refuses name cause) lines None old new → AskRefused name what (asking lines old new told faults files copied now)
+    pub unfit : (new : WorldView) (cause : Refusal) (change : ShelfChange) (now : ℕ) → change.old.files ≡ files → IsUnfit change copied what now cause → WorldCall (call.Refuses name cause) lines None old new → AskRefused name what (asking lines old new told faults files copied now)
     unfit new cause change now same u w = record {
       adds = of_form (quiet_adds (call.Refuses name cause) lines None old new w (inl (of_source what cause u.form)) formed fits told faults files copied now);
       keeps = λ start files_now state files_are told_is held.
@@ -170,7 +170,7 @@ module _ (name : List ℕ) (what : Ask) (lines : ℕ) (old : WorldView) (formed 
         }
 
     -- the reading of its source ended early
-    pub ended : (end : SourceEnd) (change : ShelfChange) → change.files ≡ files → IsEnded change copied what end → EventEnded (Begin name what) end (asking lines old old told faults files copied copied) × HasEndCause change end
+    pub ended : (end : SourceEnd) (change : ShelfChange) → change.old.files ≡ files → IsEnded change copied what end → EventEnded (Begin name what) end (asking lines old old told faults files copied copied) × HasEndCause change end
     ended end change same e = (
       record {
         adds = still_adds (asking lines old old told faults files copied copied) record { world = refl; media = refl; count = refl } (SourceForm (Begin name what)) formed fits
@@ -195,7 +195,7 @@ module _ (name : List ℕ) (what : Ask) (lines : ℕ) (old : WorldView) (formed 
         reads = ap (λ (o : Option (List ℕ)). named_source name o) e.source
 
     -- the command begins
-    module _ (cmd : Cmd) (fits_words : IsCommand cmd) (new : WorldView) (change : ShelfChange) (now : ℕ) (same : change.files ≡ files) (ready : HoldsSource change copied what now cmd) (w : WorldCall (call.Begins name cmd) lines None old new) where
+    module _ (cmd : Cmd) (fits_words : IsCommand cmd) (new : WorldView) (change : ShelfChange) (now : ℕ) (same : change.old.files ≡ files) (ready : HoldsSource change copied what now cmd) (w : WorldCall (call.Begins name cmd) lines None old new) where
       abbrev a : Around
       a = asking lines old new told faults files copied now
 

@@ -3,7 +3,7 @@ use Rattle.std.proofs.Common.{◌≡◌, ℕ, ◌<◌, inl, inr, true, false, Li
 use Rattle.fam_base.specs.Image.{Image}
 use Rattle.fam_media.specs.Files.{Files}
 use Rattle.fam_media.specs.Outside.{IfModelled}
-use Rattle.fam_sources.specs.Whole.{ShelfChange}
+use Rattle.fam_media.specs.States.{ShelfChange}
 use Rattle.fam_journal.specs.declared.event.Event.TheVariants.{Step}
 use Rattle.fam_journal.specs.CallRecords.{FitsMedia}
 use Rattle.fam_journal.specs.Forms.{IsFormed}

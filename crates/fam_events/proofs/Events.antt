@@ -8,10 +8,10 @@ use Rattle.fam_base.specs.Image.{Image}
 use Rattle.fam_media.specs.Files.{Files}
 use Rattle.fam_media.specs.Outside.{IfModelled}
 use Rattle.fam_sources.specs.declared.sourced.SourceEnd.{SourceEnd}
-use Rattle.fam_sources.specs.Whole.{ShelfChange}
 use Rattle.fam_machine.specs.HostMoves.{Evict, Fetch, Leak}
 use Rattle.fam_base.specs.declared.line.LineNo.{LineNo}
 use Rattle.fam_base.specs.declared.line.Mask.{Mask}
+use Rattle.fam_media.specs.States.{MediaChange, ShelfChange}
 use Rattle.fam_journal.specs.declared.event.Ask.{Ask}
 use Rattle.fam_journal.specs.declared.event.Event.{Event}
 use Rattle.fam_journal.specs.declared.event.Event.TheVariants as event
@@ -276,12 +276,15 @@ with_lines n m same name what shelf old new told faults files copied now r says 
 -- A run: it begins, and then a finish goes on from there.
 
 module _ (name : List ℕ) (what : Ask) (lines : ℕ) (old mid new : WorldView) (told told_now : Option Image) (faults faults_now : ℕ) (files : Option Files) (copied now : ℕ) (formed : IsFormed old) (begun : AskBegun name what (asking lines old mid told faults files copied now)) (modelled : IfModelled told (λ image. length image ≡ lines)) where
+  abbrev over : MediaChange
+  over = record { old = record { image = told; faults = faults }; new = record { image = told_now; faults = faults_now } }
+
   -- from the mid on, and all of it
   abbrev b : Around
-  b = record { lines = lines; old = mid; new = new; told = told; told_now = told_now; faults = faults; faults_now = faults_now; files = files; copied = now; copied_now = now }
+  b = record { lines = lines; old = mid; new = new; media = over; files = files; copied = now; copied_now = now }
 
   abbrev a : Around
-  a = record { lines = lines; old = old; new = new; told = told; told_now = told_now; faults = faults; faults_now = faults_now; files = files; copied = copied; copied_now = now }
+  a = record { lines = lines; old = old; new = new; media = over; files = files; copied = copied; copied_now = now }
 
   abbrev forms : List HostForm
   forms = forms_of old.journal

@@ -47,7 +47,7 @@ no_break (call.Refuses name cause) lines hosts notes other is = absurd is
 
 module _ (c : Call) (a : Around) (formed : IsFormed a.old) (fits : FitsMedia a.lines a.old.hosts) where
   -- notes that are added, of a form
-  pub added : (form : ℕ → List HostForm → List Note → Type 0) (adds : Adds a.lines a.faults a.faults_now a.old a.new) → form a.lines (forms_of a.old.journal) adds.notes → AddsForm form a
+  pub added : (form : ℕ → List HostForm → List Note → Type 0) (adds : Adds a.lines a.media.old.faults a.media.new.faults a.old a.new) → form a.lines (forms_of a.old.journal) adds.notes → AddsForm form a
   added form adds is = record {
     notes = adds.notes;
     joined = adds.joined;
@@ -60,7 +60,7 @@ module _ (c : Call) (a : Around) (formed : IsFormed a.old) (fits : FitsMedia a.l
   }
 
   -- it did its row, on every media
-  pub answers_form : IsNoMake c → (answered : Option Refusal) (x : Answers c a.lines answered a.faults a.faults_now a.old a.new) → AddsForm (DoesForm c) a
+  pub answers_form : IsNoMake c → (answered : Option Refusal) (x : Answers c a.lines answered a.media.old.faults a.media.new.faults a.old a.new) → AddsForm (DoesForm c) a
   answers_form whole answered x = added (DoesForm c) x.adds (by_form (x.form formed))
     where
       by_form : CallForm c a.lines (forms_of a.old.journal) x.adds.notes → DoesForm c a.lines (forms_of a.old.journal) x.adds.notes
@@ -69,7 +69,7 @@ module _ (c : Call) (a : Around) (formed : IsFormed a.old) (fits : FitsMedia a.l
 
   module _ (same : a.copied_now ≡ a.copied) where
     -- and where the image is modelled
-    pub row_kept : ((start : Image) → CallKeeps c start a.told a.told_now a.old a.new) → Told (λ files start. Keeps (Rattle.fam_journal.specs.Events.Calls c) start) a
+    pub row_kept : ((start : Image) → CallKeeps c start a.media.old.image a.media.new.image a.old a.new) → Told (λ files start. Keeps (Rattle.fam_journal.specs.Events.Calls c) start) a
     row_kept keeps start files state files_are told_is held =
         let d = keeps start state told_is held in
         record {
@@ -77,7 +77,7 @@ module _ (c : Call) (a : Around) (formed : IsFormed a.old) (fits : FitsMedia a.l
           held = d.held;
         }
 
-    pub part_kept : ((start : Image) → CallParts c start a.told a.told_now a.old a.new) → Told (λ files start. Keeps (CallsPart c) start) a
+    pub part_kept : ((start : Image) → CallParts c start a.media.old.image a.media.new.image a.old a.new) → Told (λ files start. Keeps (CallsPart c) start) a
     part_kept keeps start files state files_are told_is held =
         let d = keeps start state told_is held in
         record {
@@ -85,7 +85,7 @@ module _ (c : Call) (a : Around) (formed : IsFormed a.old) (fits : FitsMedia a.l
           held = d.held;
         }
 
-    pub broken_kept : ((start : Image) → CallBreaks c start a.told a.told_now a.old a.new) → Told (λ files start. Breaks (CallsBreak c) start) a
+    pub broken_kept : ((start : Image) → CallBreaks c start a.media.old.image a.media.new.image a.old a.new) → Told (λ files start. Breaks (CallsBreak c) start) a
     broken_kept keeps start files state files_are told_is held =
         let d = keeps start state told_is held in
         record {
@@ -93,17 +93,17 @@ module _ (c : Call) (a : Around) (formed : IsFormed a.old) (fits : FitsMedia a.l
           legal = d.legal;
         }
 
-    pub call_done : IsNoMake c → (answered : Option Refusal) → MediaCall c a.lines answered a.told a.told_now a.faults a.faults_now a.old a.new → CallDone c a
+    pub call_done : IsNoMake c → (answered : Option Refusal) → MediaCall c a.lines answered a.media.old.image a.media.new.image a.media.old.faults a.media.new.faults a.old a.new → CallDone c a
     call_done whole answered x = record { adds = answers_form whole answered x.answers; keeps = row_kept x.keeps }
 
-    pub media_says : IsNoMake c → (called : Result (Unit {0}) WorldFault) → IfAnswered called (λ answered. MediaCall c a.lines answered a.told a.told_now a.faults a.faults_now a.old a.new)
+    pub media_says : IsNoMake c → (called : Result (Unit {0}) WorldFault) → IfAnswered called (λ answered. MediaCall c a.lines answered a.media.old.image a.media.new.image a.media.old.faults a.media.new.faults a.old a.new)
         → (IsErrOf called fault.OutOfMemory → CallPart c a) → CallSays c a (outcome called)
     media_says whole (Ok x) w part = call_done whole None w
     media_says whole (Err (fault.Refused cause)) w part = call_done whole (Some cause) w
     media_says whole (Err fault.OutOfMemory) w part = part refl
 
 -- a finish that found no memory
-pub finish_part : (name : List ℕ) (a : Around) → IsFormed a.old → FitsMedia a.lines a.old.hosts → a.copied_now ≡ a.copied → FinishOutOfMemory name a.lines a.told a.told_now a.faults a.faults_now a.old a.new → CallPart (call.Finishes name) a
+pub finish_part : (name : List ℕ) (a : Around) → IsFormed a.old → FitsMedia a.lines a.old.hosts → a.copied_now ≡ a.copied → FinishOutOfMemory name a.lines a.media.old.image a.media.new.image a.media.old.faults a.media.new.faults a.old a.new → CallPart (call.Finishes name) a
 finish_part name a formed fits same x = record {
   adds = added (call.Finishes name) a formed fits (PartForm (call.Finishes name)) x.adds (x.form formed);
   keeps = part_kept (call.Finishes name) a formed fits same x.parts;
@@ -182,14 +182,14 @@ module _ (name fs : List ℕ) (unit log : ℕ) (force : Bool) (a : Around) (form
   whole_form answered notes clean (inl x) said = x
   whole_form answered notes clean (inr x) said = absurd (no_fault answered (record { 0 = x.1.0 }) clean (said ∙ ap refusal_noted x.1.1))
 
-  make_done : (answered : Option Refusal) → IfFaultless answered → Answers c a.lines answered a.faults a.faults_now a.old a.new → ((start : Image) → CallKeeps c start a.told a.told_now a.old a.new) → CallDone c a
+  make_done : (answered : Option Refusal) → IfFaultless answered → Answers c a.lines answered a.media.old.faults a.media.new.faults a.old a.new → ((start : Image) → CallKeeps c start a.media.old.image a.media.new.image a.old a.new) → CallDone c a
   make_done answered clean x keeps = record {
     adds = added c a formed fits (DoesForm c) x.adds (whole_form answered x.adds.notes clean (x.form formed) x.said);
     keeps = row_kept c a formed fits same keeps;
   }
 
   abbrev Made : Option Refusal → Type 0
-  Made answered = MakeCall c a.lines answered a.told a.told_now a.faults a.faults_now a.old a.new
+  Made answered = MakeCall c a.lines answered a.media.old.image a.media.new.image a.media.old.faults a.media.new.faults a.old a.new
 
   refused_says : (cause : Refusal) → Made (Some cause) → CallSays c a (broken_by cause)
   refused_says why.NoHost w = make_done (Some why.NoHost) refl w.answers w.leaves

@@ -102,7 +102,7 @@ module _ (a : Around) (still : IsStill a) where
     form = is;
   }
 
-  pub still_keeps : (P : Files → Rattle.fam_journal.specs.Events.Session → List Note → Rattle.fam_journal.specs.Events.Session → Type 0) → ((files : Files) (start : Image) (state : Machines) → a.files ≡ Some files → a.told ≡ Some state.memory → Held start state a.old state.memory → P files (session state a.copied) [] (session state a.copied))
+  pub still_keeps : (P : Files → Rattle.fam_journal.specs.Events.Session → List Note → Rattle.fam_journal.specs.Events.Session → Type 0) → ((files : Files) (start : Image) (state : Machines) → a.files ≡ Some files → a.media.old.image ≡ Some state.memory → Held start state a.old state.memory → P files (session state a.copied) [] (session state a.copied))
       → Told (λ files start. Keeps (P files) start) a
   still_keeps P each start files state files_are told_is held = record {
     comes = record {

@@ -54,7 +54,7 @@ free_of c lines before now old new a = go (refusal_in c old lines) refl
 
 -- a step from a world to the next
 abbrev pub next_of : Around → WorldView → Option Image → ℕ → Around
-next_of a new told faults = record a { new = new; told_now = told; faults_now = faults }
+next_of a new told faults = record a { new = new; media = record { old = a.media.old; new = record { image = told; faults = faults } } }
 
 module _ (name : List ℕ) (a : Around) (formed : IsFormed a.old) (fits : FitsMedia a.lines a.old.hosts) where
   abbrev forms : List HostForm
@@ -105,7 +105,7 @@ module _ (name : List ℕ) (a : Around) (formed : IsFormed a.old) (fits : FitsMe
         by_host (call.Steps name) state left notes (subst (λ (o : Option Refusal). ByRefusal name o notes state left (Acts (call.Steps name) state notes left)) free row)
         (λ h host h_is host_is op. subst (λ (k : ℕ). Operation k state notes left) (same_Some h at (sym h_is ∙ number)) op)
 
-    module _ (modelled : IfModelled a.told_now (λ image. length image ≡ a.lines)) (over : Bool) (new : WorldView) (told : Option Image) (faults : ℕ) (w : StepCall name a.lines None over a.told_now told a.faults_now faults a.new new) where
+    module _ (modelled : IfModelled a.media.new.image (λ image. length image ≡ a.lines)) (over : Bool) (new : WorldView) (told : Option Image) (faults : ℕ) (w : StepCall name a.lines None over a.media.new.image told a.media.new.faults faults a.new new) where
       abbrev more : List Note
       more = w.answers.answers.adds.notes
 
@@ -166,16 +166,16 @@ module _ (name : List ℕ) (a : Around) (formed : IsFormed a.old) (fits : FitsMe
   -- Steps, one behind another.
 
   -- one more step of what was done so far
-  pub next_so_far : (count : ℕ) → StepsSoFar name count a → IfModelled a.told_now (λ image. length image ≡ a.lines) → (over : Bool) (new : WorldView) (told : Option Image) (faults : ℕ) → StepCall name a.lines None over a.told_now told a.faults_now faults a.new new
+  pub next_so_far : (count : ℕ) → StepsSoFar name count a → IfModelled a.media.new.image (λ image. length image ≡ a.lines) → (over : Bool) (new : WorldView) (told : Option Image) (faults : ℕ) → StepCall name a.lines None over a.media.new.image told a.media.new.faults faults a.new new
       → (at : ℕ) × Stepped name at (suc count) (not over) (next_of a new told faults)
   next_so_far count (inr x) modelled over new told faults w = (x.0, more_stepped x.0 count x.1 modelled over new told faults w)
   next_so_far count (inl x) modelled over new told faults w =
       let free : refusal_in (call.Steps name) a.old a.lines ≡ None =
-      subst (λ (z : WorldView). refusal_in (call.Steps name) z a.lines ≡ None) x.1.world (free_of (call.Steps name) a.lines a.faults_now faults a.new new w.answers.answers) in
+      subst (λ (z : WorldView). refusal_in (call.Steps name) z a.lines ≡ None) x.1.world (free_of (call.Steps name) a.lines a.media.new.faults faults a.new new w.answers.answers) in
       let r = free_runs a.lines a.old formed name free in
       (r.0, subst (λ (n : ℕ). Stepped name r.0 (suc n) (not over) (next_of a new told faults)) (sym x.0) (more_stepped r.0 0 (start_stepped r.0 r.1 free r.2 x.1) modelled over new told faults w))
 
-  module _ (at count : ℕ) (runs : Bool) (s : Stepped name at count runs a) (modelled : IfModelled a.told (λ image. length image ≡ a.lines)) where
+  module _ (at count : ℕ) (runs : Bool) (s : Stepped name at count runs a) (modelled : IfModelled a.media.old.image (λ image. length image ≡ a.lines)) where
     steps_form : (limit : ℕ) → count ≤ limit → StepsForm limit name a.lines forms s.adds.notes
     steps_form limit within = record {
       host = at;
@@ -202,7 +202,7 @@ module _ (name : List ℕ) (a : Around) (formed : IsFormed a.old) (fits : FitsMe
     unfolding refusal_of
     told_free = sym (refusal_formed a.lines a.old formed (call.Steps name) tt) ∙ s.free
 
-    module _ (start : Image) (state : Machines) (told_is : a.told ≡ Some state.memory) (held : Held start state a.old state.memory) where
+    module _ (start : Image) (state : Machines) (told_is : a.media.old.image ≡ Some state.memory) (held : Held start state a.old state.memory) where
       number_is : number_of name state ≡ Some at
       number_is = number_shown (length start) state a.old name held.stands ∙ s.first
 
@@ -232,7 +232,7 @@ module _ (name : List ℕ) (a : Around) (formed : IsFormed a.old) (fits : FitsMe
     }
 
     -- as many as were wanted, or fewer up to the answer
-    done_event : (limit : ℕ) → count ≤ limit → ((start : Image) (files : Files) (state : Machines) (files_are : a.files ≡ Some files) (told_is : a.told ≡ Some state.memory) (held : Held start state a.old state.memory)
+    done_event : (limit : ℕ) → count ≤ limit → ((start : Image) (files : Files) (state : Machines) (files_are : a.files ≡ Some files) (told_is : a.media.old.image ≡ Some state.memory) (held : Held start state a.old state.memory)
         → (k : Keeps (DoesCount at count) start a state) → DoesOperations at limit state k.comes.notes k.comes.last.machines) → a.copied_now ≡ a.copied → EventDone (Step name limit) a
     done_event limit within whole copied = record {
       adds = record {
@@ -263,12 +263,12 @@ module _ (name : List ℕ) (a : Around) (formed : IsFormed a.old) (fits : FitsMe
     }
 
   -- all are done
-  pub all_done : (limit : ℕ) → 0 < limit → StepsSoFar name limit a → IfModelled a.told (λ image. length image ≡ a.lines) → a.copied_now ≡ a.copied → EventDone (Step name limit) a
+  pub all_done : (limit : ℕ) → 0 < limit → StepsSoFar name limit a → IfModelled a.media.old.image (λ image. length image ≡ a.lines) → a.copied_now ≡ a.copied → EventDone (Step name limit) a
   all_done limit some (inl x) modelled copied = absurd (let none = x.0 in omega (arith, some, none))
   all_done limit some (inr x) modelled copied = done_event x.0 limit true x.1 modelled limit (omega arith) (λ start files state files_are told_is held k. k.comes.does.0) copied
 
   -- the task has answered
-  pub answered_done : (limit at count : ℕ) → suc count ≤ limit → Stepped name at (suc count) false a → IfModelled a.told (λ image. length image ≡ a.lines) → a.copied_now ≡ a.copied → EventDone (Step name limit) a
+  pub answered_done : (limit at count : ℕ) → suc count ≤ limit → Stepped name at (suc count) false a → IfModelled a.media.old.image (λ image. length image ≡ a.lines) → a.copied_now ≡ a.copied → EventDone (Step name limit) a
   answered_done limit at count within s modelled copied =
       done_event at (suc count) false s modelled limit within
       (λ start files state files_are told_is held k.
@@ -277,7 +277,7 @@ module _ (name : List ℕ) (a : Around) (formed : IsFormed a.old) (fits : FitsMe
       copied
 
   -- no memory was left for the next one
-  pub wanting : (limit count : ℕ) → count ≤ limit → StepsSoFar name count a → IfModelled a.told (λ image. length image ≡ a.lines) → EventPart (Step name limit) a
+  pub wanting : (limit count : ℕ) → count ≤ limit → StepsSoFar name count a → IfModelled a.media.old.image (λ image. length image ≡ a.lines) → EventPart (Step name limit) a
   wanting limit count within (inr x) modelled = part_event x.0 count true x.1 modelled limit within refl
   wanting limit count within (inl x) modelled = record {
     adds = still_adds a x.1 (FormOfPart (Step name limit)) formed fits (inl refl);
@@ -285,7 +285,7 @@ module _ (name : List ℕ) (a : Around) (formed : IsFormed a.old) (fits : FitsMe
   }
 
   -- it was refused at once
-  module _ (cause : Refusal) (new : WorldView) (told : Option Image) (faults : ℕ) (still : IsStill a) (w : StepCall name a.lines (Some cause) false a.told_now told a.faults_now faults a.new new) (modelled : IfModelled a.told (λ image. length image ≡ a.lines)) (limit : ℕ) where
+  module _ (cause : Refusal) (new : WorldView) (told : Option Image) (faults : ℕ) (still : IsStill a) (w : StepCall name a.lines (Some cause) false a.media.new.image told a.media.new.faults faults a.new new) (modelled : IfModelled a.media.old.image (λ image. length image ≡ a.lines)) (limit : ℕ) where
     first_cause : (own : Refusal) × (refusal_in (call.Steps name) a.new a.lines ≡ Some own)
     first_cause = go (refusal_in (call.Steps name) a.new a.lines) refl
       where

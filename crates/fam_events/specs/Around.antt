@@ -2,6 +2,7 @@
 use Rattle.std.specs.Prelude.{ℕ, ◌≡◌, ◌≤◌, ◌++◌, List, length, Option, Some}
 use Rattle.fam_base.specs.Image.{Image}
 use Rattle.fam_media.specs.Files.{Files}
+use Rattle.fam_media.specs.States.{change, MediaState, MediaChange}
 use Rattle.fam_journal.specs.CallRecords.{FitsMedia}
 use Rattle.fam_journal.specs.Ends.{HasCounted}
 use Rattle.fam_journal.specs.Events.{Session}
@@ -17,12 +18,9 @@ use Rattle.fam_journal.specs.View.{WorldView}
 -- faults always
 pub record Around : Type 0 where
   pub lines : ℕ
+  pub media : MediaChange
   pub old : WorldView
   pub new : WorldView
-  pub told : Option Image
-  pub told_now : Option Image
-  pub faults : ℕ
-  pub faults_now : ℕ
   pub files : Option Files
   pub copied : ℕ
   pub copied_now : ℕ
@@ -31,12 +29,9 @@ pub record Around : Type 0 where
 abbrev pub asking : ℕ → WorldView → WorldView → Option Image → ℕ → Option Files → ℕ → ℕ → Around
 asking lines old new told faults files copied copied_now = record {
   lines = lines;
+  media = record { old = record { image = told; faults = faults }; new = record { image = told; faults = faults } };
   old = old;
   new = new;
-  told = told;
-  told_now = told;
-  faults = faults;
-  faults_now = faults;
   files = files;
   copied = copied;
   copied_now = copied_now;
@@ -47,15 +42,12 @@ abbrev pub still : ℕ → WorldView → WorldView → Option Image → ℕ → 
 still lines old new told faults files copied = asking lines old new told faults files copied copied
 
 -- a media and a world, from one state to another, by what the media tells of each
-abbrev pub around : {M : Type 0} → (M → Option Image) → (M → ℕ) → (M → ℕ) → M → M → WorldView → WorldView → Option Files → ℕ → ℕ → Around
-around image size faults media media_now old new files copied copied_now = record {
+abbrev pub around : {M : Type 0} → (M → ℕ) → (M → MediaState) → M → M → WorldView → WorldView → Option Files → ℕ → ℕ → Around
+around size state media media_now old new files copied copied_now = record {
   lines = size media;
+  media = change state media media_now;
   old = old;
   new = new;
-  told = image media;
-  told_now = image media_now;
-  faults = faults media;
-  faults_now = faults media_now;
   files = files;
   copied = copied;
   copied_now = copied_now;
@@ -67,8 +59,8 @@ pub record AddsForm (P : ℕ → List HostForm → List Note → Type 0) (a : Ar
   pub notes : List Note
   pub joined : a.new.journal ≡ a.old.journal ++ notes
   pub named : AreNamed (length a.old.hosts) notes
-  pub counted : HasCounted a.faults a.faults_now notes
-  pub later : a.faults ≤ a.faults_now
+  pub counted : HasCounted a.media.old.faults a.media.new.faults notes
+  pub later : a.media.old.faults ≤ a.media.new.faults
   pub fits : FitsMedia a.lines a.new.hosts
   pub formed : IsFormed a.new
   pub form : P a.lines (forms_of a.old.journal) notes
@@ -76,14 +68,16 @@ pub record AddsForm (P : ℕ → List HostForm → List Note → Type 0) (a : Ar
 -- Where image and files are modelled: on a state at which the world was held a relation of sessions holds, with the notes that
 -- are added, and the media has its last image.
 
+-- the machine of all hosts, and how many bytes of sources were read
 abbrev pub session : Machines → ℕ → Session
 session machines copied = record { machines = machines; copied = copied }
 
+-- what an event does on a modelled image, from a state for which the world is held
 pub record Comes (P : Session → List Note → Session → Type 0) (a : Around) (state : Machines) : Type 0 where
   pub last : Session
   pub notes : List Note
   pub does : P (session state a.copied) notes last
-  pub told_is : a.told_now ≡ Some last.machines.memory
+  pub told_is : a.media.new.image ≡ Some last.machines.memory
   pub joined : a.new.journal ≡ a.old.journal ++ notes
 
 -- and the world is held again, at the last state
@@ -99,5 +93,5 @@ pub record Breaks (P : Session → List Note → Session → Type 0) (start : Im
 -- from every state that the image tells, with the shelf's files
 abbrev pub Told : (Files → Image → Around → Machines → Type 0) → Around → Type 0
 Told Q a =
-    (start : Image) (files : Files) (state : Machines) → a.files ≡ Some files → a.told ≡ Some state.memory → Held start state a.old state.memory
+    (start : Image) (files : Files) (state : Machines) → a.files ≡ Some files → a.media.old.image ≡ Some state.memory → Held start state a.old state.memory
     → Q files start a state

@@ -1,8 +1,8 @@
 -- What comes of telling a host to begin what it is asked for.
 use Rattle.std.specs.Prelude.{ℕ, ◌≡◌, List, [], length, None, Result, Ok, Err}
 use Rattle.fam_media.specs.Files.{Files}
+use Rattle.fam_media.specs.States.{ShelfChange}
 use Rattle.fam_sources.specs.Sourced.{HasEndCause}
-use Rattle.fam_sources.specs.Whole.{ShelfChange}
 use Rattle.fam_journal.specs.declared.event.Ask.{Ask}
 use Rattle.fam_journal.specs.declared.event.Event.TheVariants.{Begin}
 use Rattle.fam_journal.specs.Calls.{may_begin}
@@ -23,9 +23,11 @@ use Rattle.fam_events.specs.Happens.{EventEnded}
 abbrev pub RefusedForm : List ℕ → Ask → ℕ → List HostForm → List Note → Type 0
 RefusedForm name what lines hosts notes = FormByRefusal name (may_begin name (shown_forms lines hosts)) notes (UnfitNotes name what notes)
 
+-- an ask is refused, and its media isn't touched
 abbrev pub Refuses : List ℕ → Ask → ℕ → Files → Session → List Note → Session → Type 0
 Refuses name what copied files old notes new = RefusesEvent files name what old notes new × (new.copied ≡ copied)
 
+-- an ask was refused: its note, and what stays
 pub record AskRefused (name : List ℕ) (what : Ask) (a : Around) : Type 0 where
   pub adds : AddsForm (RefusedForm name what) a
   pub keeps : Told (λ files start. Keeps (Refuses name what a.copied_now files) start) a
@@ -35,9 +37,11 @@ pub record BegunForm (name : List ℕ) (what : Ask) (lines : ℕ) (hosts : List 
   pub free : may_begin name (shown_forms lines hosts) ≡ None
   pub starts : StartForm NoMore name what lines hosts notes
 
+-- a host begins what it is asked for
 abbrev pub Starts : List ℕ → Ask → ℕ → Files → Session → List Note → Session → Type 0
 Starts name what copied files old notes new = IsBegun files name what old notes new × (new.copied ≡ copied)
 
+-- a host began what it is asked for: its note, and what stays
 pub record AskBegun (name : List ℕ) (what : Ask) (a : Around) : Type 0 where
   pub adds : AddsForm (BegunForm name what) a
   pub keeps : Told (λ files start. Keeps (Starts name what a.copied_now files) start) a
@@ -49,10 +53,12 @@ pub record AskBegun (name : List ℕ) (what : Ask) (a : Around) : Type 0 where
 abbrev pub Nothing : Session → List Note → Session → Type 0
 Nothing old notes new = (notes ≡ []) × (new ≡ old)
 
+-- no memory was found: all is as it was
 pub record AskUndone (a : Around) : Type 0 where
   pub adds : AddsForm (λ lines hosts notes. notes ≡ []) a
   pub keeps : Told (λ files start. Keeps Nothing start) a
 
+-- what is promised of an ask, by how it came out
 abbrev pub AskSays : List ℕ → Ask → ShelfChange → Around → Result Asked EventFault → Type 0
 AskSays name what shelf a (Ok Begun) = AskBegun name what a
 AskSays name what shelf a (Ok Refused) = AskRefused name what a

@@ -37,6 +37,7 @@ broken_by (why.CopyLimit sum) = Ok tt
 broken_by (why.BadListing at) = Ok tt
 broken_by (why.MediaFault at) = Err fault.MkfsFailed
 
+-- how an event ends, by what the world's mkfs answered
 abbrev pub make_outcome : Result (Unit {0}) WorldFault → Result (Unit {0}) EventFault
 make_outcome (Ok x) = Ok x
 make_outcome (Err (world.Refused cause)) = broken_by cause
@@ -46,6 +47,7 @@ make_outcome (Err world.OutOfMemory) = Err fault.OutOfMemory
 abbrev pub CallsPart : Call → Session → List Note → Session → Type 0
 CallsPart c old notes new = DoesPart c old.machines notes new.machines × (new.copied ≡ old.copied)
 
+-- a call is cut by a media fault, behind which nothing goes on
 abbrev pub CallsBreak : Call → Session → List Note → Session → Type 0
 CallsBreak c old notes new = BreaksOff c old.machines notes new.machines × (new.copied ≡ old.copied)
 

@@ -1,9 +1,9 @@
 -- What comes of an event, on every media and shelf, by how it ends.
 use Rattle.std.specs.Prelude.{ℕ, ◌≡◌, ◌⊎◌, List, [], Some, None, Result, Ok, Err}
 use Rattle.fam_media.specs.Files.{Files}
+use Rattle.fam_media.specs.States.{ShelfChange}
 use Rattle.fam_sources.specs.declared.sourced.SourceEnd.{SourceEnd}
 use Rattle.fam_sources.specs.Sourced.{HasEndCause, end_of}
-use Rattle.fam_sources.specs.Whole.{ShelfChange}
 use Rattle.fam_journal.specs.declared.event.Event.{Event}
 use Rattle.fam_journal.specs.Calls.{may_begin}
 use Rattle.fam_journal.specs.EventForms.{EventBreaksForm, EventForm, EventPartForm}
@@ -19,6 +19,7 @@ use Rattle.fam_events.specs.declared.fault.EventFault.TheVariants as fault
 abbrev pub IsDoneBy : Event → ℕ → Files → Session → List Note → Session → Type 0
 IsDoneBy e copied files old notes new = DoesEvent files e old notes new × (new.copied ≡ copied)
 
+-- an event is done, and the run may go on
 pub record EventDone (e : Event) (a : Around) : Type 0 where
   pub adds : AddsForm (EventForm e) a
   pub keeps : Told (λ files start. Keeps (IsDoneBy e a.copied_now files) start) a
@@ -36,9 +37,11 @@ pub record SourceForm (e : Event) (lines : ℕ) (hosts : List HostForm) (notes :
   pub reads : event_source e ≡ Some (host, source)
   pub free : may_begin host (shown_forms lines hosts) ≡ None
 
+-- an event came to its source, which failed so
 abbrev pub IsToSource : Event → SourceEnd → Files → Session → List Note → Session → Type 0
 IsToSource e end files old notes new = ReadsSource files e (end_of end) old × (notes ≡ []) × (new ≡ old)
 
+-- an event ended at its source: nothing was done
 pub record EventEnded (e : Event) (end : SourceEnd) (a : Around) : Type 0 where
   pub adds : AddsForm (SourceForm e) a
   pub keeps : Told (λ files start. Keeps (IsToSource e end files) start) a
@@ -47,9 +50,11 @@ pub record EventEnded (e : Event) (end : SourceEnd) (a : Around) : Type 0 where
 abbrev pub FormOfPart : Event → ℕ → List HostForm → List Note → Type 0
 FormOfPart e lines hosts notes = (notes ≡ []) ⊎ EventPartForm e lines hosts notes
 
+-- some of an event's operations are done
 abbrev pub IsPart : Event → Files → Session → List Note → Session → Type 0
 IsPart e files old notes new = ((notes ≡ []) × (new ≡ old)) ⊎ PartOf files e old notes new
 
+-- no memory was left in an event: some of its operations may be done
 pub record EventPart (e : Event) (a : Around) : Type 0 where
   pub adds : AddsForm (FormOfPart e) a
   pub keeps : Told (λ files start. Keeps (IsPart e files) start) a

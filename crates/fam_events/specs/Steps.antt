@@ -29,8 +29,8 @@ pub record Stepped (name : List ℕ) (at count : ℕ) (runs : Bool) (a : Around)
 -- world and media are as they were
 pub record IsStill (a : Around) : Type 0 where
   pub world : a.new ≡ a.old
-  pub media : a.told_now ≡ a.told
-  pub count : a.faults_now ≡ a.faults
+  pub media : a.media.new.image ≡ a.media.old.image
+  pub count : a.media.new.faults ≡ a.media.old.faults
 
 -- nothing is done yet, or so many operations, behind which the task runs on
 abbrev pub StepsSoFar : List ℕ → ℕ → Around → Type 0

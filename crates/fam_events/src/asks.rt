@@ -12,8 +12,9 @@ ghost use Rattle.fam_journal.specs.Forms.{IsFormed};
 ghost use Rattle.fam_grammar.specs.Sound.{IsSoundAsk};
 ghost use Rattle.fam_protocol.specs.Tasks.{IsCommand};
 ghost use Rattle.fam_tasks.specs.Sound.{most_lines};
+ghost use Rattle.fam_media.specs.Causes.{IsShelfSteady};
 ghost use Rattle.fam_media.specs.Outside.{IfModelled};
-ghost use Rattle.fam_sources.specs.Whole.{IsShelfSteady, changed};
+ghost use Rattle.fam_media.specs.States.{change};
 ghost use Rattle.fam_events.specs.Around.{asking};
 ghost use Rattle.fam_events.specs.Begins.{AskSays};
 ghost use Rattle.fam_events.specs.Rested.{IsRested, IsUnstoredOf};
@@ -88,11 +89,11 @@ fn read<S: Shelf>(
     requires free { (cmd : Command) → refusal_in (Begins name.now cmd) world.old lines ≡ None }
     ensures says { (told : Option Image) (faults : ℕ) → IfModelled told (λ image. length image ≡ lines)
         → FitsMedia lines world.old.hosts
-        → AskSays name.now what (changed S.files S.faults S.shorts shelf.old shelf.new) (asking lines world.old world.new
-        told faults (S.files shelf.old) copied.old copied.new) result }
+        → AskSays name.now what (change S.state shelf.old shelf.new) (asking lines world.old world.new
+        told faults (S.state shelf.old).files copied.old copied.new) result }
     ensures unstored { IfOk result (λ asked. asked ≡ Begun → IsRested world.old
         → IsUnstoredOf name.now world.old world.new) }
-    ensures steady { IsShelfSteady S.files S.faults S.shorts shelf.old shelf.new }
+    ensures steady { IsShelfSteady (S.state shelf.old) (S.state shelf.new) }
 {
     let Ok(resolved) = resolve(alloc, shelf, what, *copied) else {
         return Err(EventFault::OutOfMemory);
@@ -127,11 +128,11 @@ pub(crate) fn ask<S: Shelf>(
     requires formed { IsFormed world.old }
     ensures says { (told : Option Image) (faults : ℕ) → IfModelled told (λ image. length image ≡ lines)
         → FitsMedia lines world.old.hosts
-        → AskSays name.now what (changed S.files S.faults S.shorts shelf.old shelf.new) (asking lines world.old world.new
-        told faults (S.files shelf.old) copied.old copied.new) result }
+        → AskSays name.now what (change S.state shelf.old shelf.new) (asking lines world.old world.new
+        told faults (S.state shelf.old).files copied.old copied.new) result }
     ensures unstored { IfOk result (λ asked. asked ≡ Begun → IsRested world.old
         → IsUnstoredOf name.now world.old world.new) }
-    ensures steady { IsShelfSteady S.files S.faults S.shorts shelf.old shelf.new }
+    ensures steady { IsShelfSteady (S.state shelf.old) (S.state shelf.new) }
 {
     match world.may_begin(lines, name) {
         Ok(()) => read(alloc, world, shelf, copied, lines, name, what),

@@ -100,7 +100,7 @@ pub(crate) fn make<M: Media>(
 ) -> Result<(), EventFault>
     requires formed { IsFormed world.old }
     requires fits { FitsMedia (M.size media.old) world.old.hosts }
-    ensures says { (files : Option Files) (copied : ℕ) → CallSays (Makes name.now fs unit log force) (around M.image M.size M.faults
+    ensures says { (files : Option Files) (copied : ℕ) → CallSays (Makes name.now fs unit log force) (around M.size M.state
         media.old media.new world.old world.new files copied copied) result }
     ensures size { M.size media.new ≡ M.size media.old }
 {
@@ -117,10 +117,10 @@ pub(crate) fn finish<M: Media>(
 ) -> Result<(), EventFault>
     requires formed { IsFormed world.old }
     requires fits { FitsMedia (M.size media.old) world.old.hosts }
-    ensures says { (files : Option Files) (copied : ℕ) → CallSays (Finishes name.now) (around M.image M.size M.faults
+    ensures says { (files : Option Files) (copied : ℕ) → CallSays (Finishes name.now) (around M.size M.state
         media.old media.new world.old world.new files copied copied) result }
     ensures same { OnErr result ((h : ℕ) → number_in name.now world.old ≡ Some h → IsUnstoredAt h world.old
-        → IfModelled (M.image media.old) (λ image. M.image media.new ≡ Some image)) }
+        → IfModelled (M.state media.old).image (λ image. (M.state media.new).image ≡ Some image)) }
     ensures size { M.size media.new ≡ M.size media.old }
 {
     noted(world.finish(media, name))
@@ -135,7 +135,7 @@ pub(crate) fn evict<M: Media>(
 ) -> Result<(), EventFault>
     requires formed { IsFormed world.old }
     requires fits { FitsMedia (M.size media.old) world.old.hosts }
-    ensures says { (files : Option Files) (copied : ℕ) → CallSays (Moves name.now line.0 how.Evict) (around M.image M.size M.faults
+    ensures says { (files : Option Files) (copied : ℕ) → CallSays (Moves name.now line.0 how.Evict) (around M.size M.state
         media.old media.new world.old world.new files copied copied) result }
     ensures size { M.size media.new ≡ M.size media.old }
 {
@@ -152,7 +152,7 @@ pub(crate) fn leak<M: Media>(
 ) -> Result<(), EventFault>
     requires formed { IsFormed world.old }
     requires fits { FitsMedia (M.size media.old) world.old.hosts }
-    ensures says { (files : Option Files) (copied : ℕ) → CallSays (Moves name.now line.0 (how.Leak mask.0)) (around M.image M.size M.faults
+    ensures says { (files : Option Files) (copied : ℕ) → CallSays (Moves name.now line.0 (how.Leak mask.0)) (around M.size M.state
         media.old media.new world.old world.new files copied copied) result }
     ensures size { M.size media.new ≡ M.size media.old }
 {
@@ -169,7 +169,7 @@ pub(crate) fn fetch<M: Media>(
 ) -> Result<(), EventFault>
     requires formed { IsFormed world.old }
     requires fits { FitsMedia (M.size media.old) world.old.hosts }
-    ensures says { (files : Option Files) (copied : ℕ) → CallSays (Moves name.now line.0 (how.Fetch mask.0)) (around M.image M.size M.faults
+    ensures says { (files : Option Files) (copied : ℕ) → CallSays (Moves name.now line.0 (how.Fetch mask.0)) (around M.size M.state
         media.old media.new world.old world.new files copied copied) result }
     ensures size { M.size media.new ≡ M.size media.old }
 {

@@ -6,8 +6,9 @@ ghost use Rattle.fam_grammar.specs.Sound.{IsSoundAsk, IsSoundEvent};
 ghost use Rattle.fam_journal.specs.declared.event.Event.TheVariants as event;
 ghost use Rattle.fam_journal.specs.CallRecords.{FitsMedia};
 ghost use Rattle.fam_journal.specs.Forms.{IsFormed};
+ghost use Rattle.fam_media.specs.Causes.{IsShelfSteady};
 ghost use Rattle.fam_media.specs.Outside.{IfModelled};
-ghost use Rattle.fam_sources.specs.Whole.{IsShelfSteady, changed};
+ghost use Rattle.fam_media.specs.States.{change};
 ghost use Rattle.fam_events.specs.Around.{around};
 ghost use Rattle.fam_events.specs.Happens.{EventSays};
 ghost use Rattle.fam_events.specs.Rested.{IsRested, IsRun};
@@ -35,10 +36,10 @@ fn begin<M: Media, S: Shelf>(
     requires sound { IsSoundAsk what }
     requires formed { IsFormed world.old }
     requires fits { FitsMedia (M.size media.old) world.old.hosts }
-    ensures says { EventSays (event.Begin name what) (changed S.files S.faults S.shorts shelf.old shelf.new)
-        (around M.image M.size M.faults media.old media.new world.old world.new (S.files shelf.old) copied.old copied.new) result }
+    ensures says { EventSays (event.Begin name what) (change S.state shelf.old shelf.new)
+        (around M.size M.state media.old media.new world.old world.new (S.state shelf.old).files copied.old copied.new) result }
     ensures same { media.new ≡ media.old }
-    ensures steady { IsShelfSteady S.files S.faults S.shorts shelf.old shelf.new }
+    ensures steady { IsShelfSteady (S.state shelf.old) (S.state shelf.new) }
 {
     match ask(alloc, world, shelf, copied, media.lines(), &name, what) {
         Ok(_) => Ok(()),
@@ -59,12 +60,12 @@ fn run<M: Media, S: Shelf>(
     requires sound { IsSoundAsk what }
     requires formed { IsFormed world.old }
     requires fits { FitsMedia (M.size media.old) world.old.hosts }
-    ensures says { EventSays (event.Run name what) (changed S.files S.faults S.shorts shelf.old shelf.new)
-        (around M.image M.size M.faults media.old media.new world.old world.new (S.files shelf.old) copied.old copied.new) result }
+    ensures says { EventSays (event.Run name what) (change S.state shelf.old shelf.new)
+        (around M.size M.state media.old media.new world.old world.new (S.state shelf.old).files copied.old copied.new) result }
     ensures same { OnErr result (IsRested world.old
-        → IfModelled (M.image media.old) (λ image. M.image media.new ≡ Some image)) }
+        → IfModelled (M.state media.old).image (λ image. (M.state media.new).image ≡ Some image)) }
     ensures size { M.size media.new ≡ M.size media.old }
-    ensures steady { IsShelfSteady S.files S.faults S.shorts shelf.old shelf.new }
+    ensures steady { IsShelfSteady (S.state shelf.old) (S.state shelf.new) }
 {
     match ask(alloc, world, shelf, copied, media.lines(), &name, what) {
         Ok(Asked::Refused) => Ok(()),
@@ -90,15 +91,15 @@ pub fn happen<M: Media, S: Shelf>(
     requires sound { IsSoundEvent event }
     requires formed { IsFormed world.old }
     requires fits { FitsMedia (M.size media.old) world.old.hosts }
-    ensures says { EventSays event (changed S.files S.faults S.shorts shelf.old shelf.new)
-        (around M.image M.size M.faults media.old media.new world.old world.new (S.files shelf.old) copied.old copied.new) result }
+    ensures says { EventSays event (change S.state shelf.old shelf.new)
+        (around M.size M.state media.old media.new world.old world.new (S.state shelf.old).files copied.old copied.new) result }
 
     // A run that ends early leaves the image as it was, where no cache had anything to send.
     ensures same { IsRun event → OnErr result (IsRested world.old
-        → IfModelled (M.image media.old) (λ image. M.image media.new ≡ Some image)) }
+        → IfModelled (M.state media.old).image (λ image. (M.state media.new).image ≡ Some image)) }
 
     ensures size { M.size media.new ≡ M.size media.old }
-    ensures steady { IsShelfSteady S.files S.faults S.shorts shelf.old shelf.new }
+    ensures steady { IsShelfSteady (S.state shelf.old) (S.state shelf.new) }
 {
     match event {
         Event::Host(name, uuid) => declare(world, &name, uuid),

@@ -4,5 +4,4 @@ pub mod SpellingLemmas
 pub mod Joined
 pub mod Respelled
 pub mod StripeWords
-pub mod PrintedLaw
 pub mod SoundLaw

@@ -23,14 +23,6 @@ pub behind-in_prefix : (prefix : List ℕ) (byte : ℕ) (bytes : Option (List �
 behind-in_prefix prefix byte None = refl
 behind-in_prefix prefix byte (Some bytes) = ap (λ (l : List ℕ). Some l) (sym (append_assoc prefix (byte ∷ []) bytes))
 
-pub behind-none : (prefix : List ℕ) → behind prefix None ≡ None
-behind-none prefix = refl
-
--- no bytes in front
-pub behind-nil : (bytes : Option (List ℕ)) → behind [] bytes ≡ bytes
-behind-nil None = refl
-behind-nil (Some bytes) = refl
-
 -- bytes that pass a test, or don't
 passes : (test : List ℕ → Bool) (bytes : List ℕ) → test bytes ≡ true → Some bytes ≡ passing test bytes
 passes test bytes is = ap (λ (t : Bool). cond t (Some bytes) None) (sym is)
@@ -93,9 +85,6 @@ pub read_none : (word prefix : List ℕ) (rest : Option (List ℕ)) → unescape
 read_none word prefix rest was none = was ∙ ap (behind prefix) none
 
 -- tests
-
-pub true_of : (b : Bool) → IsTrue b → b ≡ true
-true_of b is = is
 
 pub false_of : (b : Bool) → (IsTrue b → ⊥) → b ≡ false
 false_of true other = absurd (other refl)

@@ -6,6 +6,7 @@ use Rattle.fam_grammar.specs.declared.keywords.EventWord.TheVariants as event
 use Rattle.fam_grammar.specs.declared.keywords.CommandWord.{CommandWord}
 use Rattle.fam_grammar.specs.declared.keywords.CommandWord.TheVariants as command
 
+-- the event that a word begins
 unfoldable pub event_word : List ℕ → Option EventWord
 event_word word =
     if bytes_eq word (codes "host") then Some event.Host
@@ -21,6 +22,7 @@ event_word word =
     else if bytes_eq word (codes "fetch") then Some event.Fetch
     else None
 
+-- the command that a word begins
 unfoldable pub command_word : List ℕ → Option CommandWord
 command_word word =
     if bytes_eq word (codes "logplay") then Some command.Logplay

@@ -7,5 +7,4 @@ pub mod Cursor
 pub mod Options
 pub mod Lines
 pub mod Scripts
-pub mod Printed
 pub mod Sound

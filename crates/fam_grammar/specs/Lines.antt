@@ -27,9 +27,11 @@ use Rattle.fam_grammar.specs.Words.{Word}
 abbrev pub attr_of : ℕ → FileOptions → Attr
 attr_of mode o = record { mode = unwrap_or o.mode mode; uid = unwrap_or o.uid 0; gid = unwrap_or o.gid 0 }
 
+-- the mode of a directory where none is given: 0755
 abbrev pub directory_mode : ℕ
 directory_mode = 0x1ed
 
+-- the mode of a file where none is given: 0644
 abbrev pub file_mode : ℕ
 file_mode = 0x1a4
 
@@ -42,9 +44,11 @@ fill_of (Some seed) = content.Seed seed
 abbrev pub mkdir_takes : Takes
 mkdir_takes = record { seed = false; stripe = false }
 
+-- a creat takes every option
 abbrev pub creat_takes : Takes
 creat_takes = record { seed = true; stripe = true }
 
+-- a cp takes every option but a seed
 abbrev pub cp_takes : Takes
 cp_takes = record { seed = false; stripe = true }
 
@@ -119,6 +123,7 @@ ask_line end words = then_reads (word_of command_word end words) (ask_behind end
 abbrev pub default_unit : ℕ
 default_unit = 2097152
 
+-- the bytes of a log where none are given
 abbrev pub default_log : ℕ
 default_log = 8388608
 
@@ -143,6 +148,7 @@ begin_line end words =
     then_reads (word_of name_of end words) (λ name rest.
     then_reads (ask_line end rest) (λ asked none. Reads (event.Begin name asked) none))
 
+-- an ask that a host begins and runs to its answer
 abbrev pub run_line : ℕ → List Word → Reading Event
 run_line end words =
     then_reads (word_of name_of end words) (λ name rest.
@@ -177,6 +183,7 @@ leak_line end words =
     then_reads (word_of mask_of end rest) (λ mask.
     ends_with (event.Leak name (record { 0 = at }) (record { 0 = mask })))))
 
+-- a line of memory, and a mask: all eight words where none is given
 abbrev pub fetch_line : ℕ → List Word → Reading Event
 fetch_line end words =
     then_reads (word_of name_of end words) (λ name rest.

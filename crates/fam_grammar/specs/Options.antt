@@ -66,20 +66,24 @@ no_file_options = record { mode = None; uid = None; gid = None; seed = None; str
 
 -- Of mkfs.
 
+-- one option of a mkfs
 unfoldable pub mkfs_option_of : List ℕ → Option MkfsOption
 mkfs_option_of word =
     keyed (value_behind (codes "unit=") word) (λ v. option_map mkfs.Unit (size_of_text v))
     (keyed (value_behind (codes "log=") word) (λ v. option_map mkfs.Log (size_of_text v))
     (if bytes_eq word (codes "force") then Some mkfs.Force else None))
 
+-- an option joins those before it; none is given twice
 abbrev pub with_mkfs_option : MkfsOptions → MkfsOption → Option MkfsOptions
 with_mkfs_option given (mkfs.Unit unit) = once given.unit (record given { unit = Some unit })
 with_mkfs_option given (mkfs.Log log) = once given.log (record given { log = Some log })
 with_mkfs_option given mkfs.Force = if given.force then None else Some (record given { force = true })
 
+-- a word joins the options before it, where it is one
 abbrev pub with_mkfs_word : MkfsOptions → List ℕ → Option MkfsOptions
 with_mkfs_word given word = option_and_then (with_mkfs_option given) (mkfs_option_of word)
 
+-- the options that stand at a line's end
 abbrev pub mkfs_options : MkfsOptions → List Word → Reading MkfsOptions
 mkfs_options given [] = Reads given []
 mkfs_options given (word ∷ words) =
@@ -88,5 +92,6 @@ mkfs_options given (word ∷ words) =
       | Some more ↦ mkfs_options more words
     ]
 
+-- no option is given
 abbrev pub no_mkfs_options : MkfsOptions
 no_mkfs_options = record { unit = None; log = None; force = false }

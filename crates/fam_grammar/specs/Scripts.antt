@@ -16,6 +16,7 @@ LineReading = Result (Option Event) ℕ
 abbrev pub is_comment : Word → Bool
 is_comment word = slice_index word.text 0 == 35
 
+-- the event of a line, or the column of the word that doesn't fit
 abbrev pub event_or_column : Reading Event → LineReading
 event_or_column (Reads event rest) = Ok (Some event)
 event_or_column (Misfit column) = Err column

@@ -35,6 +35,7 @@ in_prefix byte bytes = option_map (λ rest. byte ∷ rest) bytes
 abbrev pub is_escape : ℕ → ℕ → Bool
 is_escape a b = (a == 0x5c) && (b == 0x78)
 
+-- a byte stands before the rest, where both are read
 abbrev pub in_prefix_of : Option ℕ → Option (List ℕ) → Option (List ℕ)
 in_prefix_of None bytes = None
 in_prefix_of (Some byte) bytes = in_prefix byte bytes
@@ -59,6 +60,7 @@ path_of word = option_and_then (passing is_path) (unescaped word)
 abbrev pub is_file_name : List ℕ → Bool
 is_file_name bytes = not (length bytes == 0) && is_utf8 bytes
 
+-- the name of a source, behind its escapes
 unfoldable pub file_of : List ℕ → Option (List ℕ)
 file_of word = option_and_then (passing is_file_name) (unescaped word)
 

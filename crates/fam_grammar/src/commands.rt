@@ -9,6 +9,7 @@ ghost use Rattle.fam_grammar.specs.Lines.{attr_of, directory_mode, file_mode, fi
 ghost use Rattle.fam_grammar.specs.Options.{file_options, no_file_options};
 
 use crate::cursor::fitting;
+use crate::defaults::{DIRECTORY_MODE, FILE_MODE};
 use crate::fault::LineFault;
 use crate::keywords::CommandWord;
 use crate::numbers::number;
@@ -18,12 +19,6 @@ use crate::words::{Line, Words};
 use fam_base::{Attr, Cmd, Content, NameText, OutOfMemory, Path};
 use fam_journal::Ask;
 use std::alloc::Global;
-
-/// The mode of a directory where none is given.
-const DIRECTORY_MODE: u32 = 0o755;
-
-/// The mode of a file where none is given.
-const FILE_MODE: u32 = 0o644;
 
 /// The options that are left, all of them.
 fn file_options(words: &mut Words<'_>, line: Line, takes: Takes) -> Result<FileOptions, LineFault>

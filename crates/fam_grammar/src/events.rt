@@ -7,6 +7,7 @@ ghost use Rattle.fam_grammar.specs.Options.{mkfs_options, no_mkfs_options};
 ghost use Rattle.fam_journal.specs.declared.event.Event.TheVariants as event;
 
 use crate::commands::ask;
+use crate::defaults::{DEFAULT_LOG, DEFAULT_UNIT};
 use crate::fault::LineFault;
 use crate::keywords::EventWord;
 use crate::options::MkfsOptions;
@@ -14,12 +15,6 @@ use crate::words::{Line, Words};
 use fam_base::{LineNo, Mask};
 use fam_journal::Event;
 use std::alloc::Global;
-
-/// The bytes of a unit where no `unit=` is given.
-const DEFAULT_UNIT: u64 = 2_097_152;
-
-/// The bytes of the log where no `log=` is given.
-const DEFAULT_LOG: u64 = 8_388_608;
 
 fn host(words: &mut Words<'_>, line: Line) -> Result<Event, LineFault>
     requires short { IsShort words.old }

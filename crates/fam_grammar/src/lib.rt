@@ -5,6 +5,7 @@
 
 mod commands;
 mod cursor;
+mod defaults;
 mod events;
 mod fault;
 mod keywords;
@@ -15,8 +16,9 @@ mod script;
 mod spellings;
 mod words;
 
+pub use defaults::{DEFAULT_LOG, DEFAULT_UNIT, DIRECTORY_MODE, FILE_MODE};
 pub use fault::LineFault;
-pub use laws::{a_printed_command_reads_as_itself, what_reads_is_sound};
+pub use laws::what_reads_is_sound;
 pub use numbers::{number, size};
 pub use script::read_line;
 pub use spellings::{count_of, id_of, mode_of};

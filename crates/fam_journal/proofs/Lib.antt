@@ -3,5 +3,3 @@ pub mod Settled
 pub mod Calls
 pub mod Runs
 pub mod Forms
-pub mod Texts
-pub mod Samples

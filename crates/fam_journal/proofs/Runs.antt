@@ -3,8 +3,7 @@ pub mod Following
 pub mod Completing
 pub mod Ending
 pub mod Halting
-pub mod Faultless
 pub mod Unique
 pub mod Left
 pub mod Ruled
-pub mod Causes
+pub mod Listings

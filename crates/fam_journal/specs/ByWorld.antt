@@ -13,13 +13,16 @@ use Rattle.fam_journal.specs.View.{HostView, WorldView, WorldStands}
 
 -- What a world's own hosts show of a refusal: names, UUIDs, caches, and who has a task. On an image of so many lines.
 
+-- a task that runs shows that it runs, and nothing more
 abbrev pub shown_task : Option Task → Option TaskState
 shown_task None = None
 shown_task (Some t) = Some (task_begun Logplay [])
 
+-- a host as refusals see it: whose it is, its cache, and whether it has a task
 abbrev pub shown_host : HostView → HostState
 shown_host view = record { name = view.name; uuid = view.uuid; cache = view.cache; task = shown_task view.task }
 
+-- a world as refusals see it, over a memory of so many lines
 abbrev pub shown_state : WorldView → ℕ → Machines
 shown_state world lines = record { memory = replicate lines []; hosts = map shown_host world.hosts }
 
@@ -29,6 +32,7 @@ refusal_in c world lines = refusal_of c (shown_state world lines)
 
 -- Calls that take no media: what they make of the world is told by the world alone.
 
+-- the number of the host of this name, or none
 abbrev pub number_in : List ℕ → WorldView → Option ℕ
 number_in name world = number_of name (shown_state world 0)
 
@@ -36,6 +40,7 @@ number_in name world = number_of name (shown_state world 0)
 abbrev pub busy_in : ℕ → WorldView → Bool
 busy_in h world = busy_at h (shown_state world 0)
 
+-- a world with these notes behind its own
 abbrev pub with_notes : List Note → WorldView → WorldView
 with_notes notes world = record world { journal = world.journal ++ notes }
 
@@ -44,6 +49,7 @@ abbrev pub with_host : Option ℕ → (HostView → HostView) → (ℕ → Note)
 with_host None change note world = world
 with_host (Some h) change note world = record { hosts = changed_at h change world.hosts; journal = world.journal ++ note h ∷ [] }
 
+-- the world behind a call that isn't refused and takes no media
 abbrev pub acted : Call → ℕ → WorldView → WorldView
 acted (call.Declares name uuid) lines world =
     record { hosts = world.hosts ++ record { name = name; uuid = uuid; cache = map_of_lines.empty; task = None } ∷ []; journal = world.journal ++ Host name uuid ∷ [] }
@@ -57,6 +63,7 @@ acted (call.Halts name) lines world = with_host (number_in name world) (λ v. re
 acted (call.Moves name line move) lines world = world
 acted (call.Refuses name cause) lines world = with_notes (Refused name cause ∷ []) world
 
+-- the world behind a call that takes no media: with its refusal noted, or with what it does
 abbrev pub acted_by : Option Refusal → Call → ℕ → WorldView → WorldView
 acted_by (Some cause) c lines world = with_notes (Refused (name_of c) cause ∷ []) world
 acted_by None c lines world = acted c lines world

@@ -60,6 +60,7 @@ pub record SomeOfFinish (name : List ℕ) (state : Machines) (notes : List Note)
 abbrev pub FinishPart : List ℕ → Machines → List Note → Machines → Type 0
 FinishPart name state notes left = SomeOfFinish name state notes left ⊎ ((notes ≡ []) × (left ≡ state))
 
+-- what a call has done for which no memory was found: nothing, but some operations of a finish
 abbrev pub DoesPart : Call → Machines → List Note → Machines → Type 0
 DoesPart (call.Declares name uuid) state notes left = (notes ≡ []) × (left ≡ state)
 DoesPart (call.Makes name fs unit log force) state notes left = (notes ≡ []) × (left ≡ state)
@@ -77,10 +78,12 @@ abbrev pub CallKeeps : Call → Image → Option Image → Option Image → Worl
 CallKeeps call start before told old new =
     (state : Machines) → before ≡ Some state.memory → Held start state old state.memory → DoesRow start told (Does call state) old new
 
+-- on an image that is modelled the world is held behind such a call, as what was done has it
 abbrev pub CallParts : Call → Image → Option Image → Option Image → WorldView → WorldView → Type 0
 CallParts call start before told old new =
     (state : Machines) → before ≡ Some state.memory → Held start state old state.memory → DoesRow start told (DoesPart call state) old new
 
+-- on an image that is modelled a mkfs was cut by a media fault, as its row has it
 abbrev pub CallBreaks : Call → Image → Option Image → Option Image → WorldView → WorldView → Type 0
 CallBreaks call start before told old new =
     (state : Machines) → before ≡ Some state.memory → Held start state old state.memory → LeavesBroken start told (BreaksOff call state) old new
@@ -99,10 +102,12 @@ IsSoundCall (call.Refuses name cause) = ⊤
 
 -- What a call promises on every media, modelled or not. `before` and `now` are the media's counts of faults.
 
+-- the task is that of an image of so many lines
 abbrev pub TaskFits : ℕ → Option Task → Type 0
 TaskFits lines None = ⊤
 TaskFits lines (Some t) = t.lines ≡ lines
 
+-- the host's task, and every line that its cache holds, are of an image of so many lines
 pub record HostFits (lines : ℕ) (view : HostView) : Type 0 where
   pub task : TaskFits lines view.task
   pub cache : (l : ℕ) → IsHeld (cell_at view.cache l) → l < lines
@@ -138,6 +143,7 @@ pub record Adds (lines before now : ℕ) (old new : WorldView) : Type 0 where
 abbrev pub CallForm : Call → ℕ → List HostForm → List Note → Type 0
 CallForm c lines hosts notes = DoesForm c lines hosts notes ⊎ BreaksForm c lines hosts notes
 
+-- the cause of a refusal that is noted; other notes have none
 abbrev pub cause_noted : Note → Option Refusal
 cause_noted (Host name uuid) = None
 cause_noted (Made host p) = None
@@ -174,6 +180,7 @@ IsLateMake (why.CopyLimit sum) = ⊥
 IsLateMake (why.BadListing at) = ⊥
 IsLateMake (why.MediaFault at) = ⊤
 
+-- a cache's move is refused so once it has begun: the media failed
 abbrev pub IsLateMove : Refusal → Type 0
 IsLateMove why.NoHost = ⊥
 IsLateMove (why.SameHost host) = ⊥
@@ -191,6 +198,7 @@ IsLateMove (why.CopyLimit sum) = ⊥
 IsLateMove (why.BadListing at) = ⊥
 IsLateMove (why.MediaFault at) = ⊤
 
+-- a call is refused so once it has begun: a mkfs or a cache's move
 abbrev pub IsLate : Call → Refusal → Type 0
 IsLate (call.Declares name uuid) cause = ⊥
 IsLate (call.Makes name fs unit log force) cause = IsLateMake cause
@@ -252,6 +260,7 @@ KeepsOrBreaks (why.CopyLimit sum) c start told told_now old new = CallKeeps c st
 KeepsOrBreaks (why.BadListing at) c start told told_now old new = CallKeeps c start told told_now old new
 KeepsOrBreaks (why.MediaFault at) c start told told_now old new = CallBreaks c start told told_now old new
 
+-- what a mkfs leaves on an image that is modelled: its row, or where the media failed what stands behind the cut
 abbrev pub MakeLeaves : Option Refusal → Call → Image → Option Image → Option Image → WorldView → WorldView → Type 0
 MakeLeaves None c start told told_now old new = CallKeeps c start told told_now old new
 MakeLeaves (Some cause) c start told told_now old new = KeepsOrBreaks cause c start told told_now old new
@@ -283,9 +292,11 @@ pub record FinishOutOfMemory (name : List ℕ) (lines : ℕ) (told told_now : Op
 abbrev pub own_machine : Image → HostView → Machine
 own_machine image view = record { image = image; cache = view.cache }
 
+-- the turn of a host's task on the word that its next operation gives
 abbrev pub own_turn : Image → HostView → Task → Turn
 own_turn image view t = turn_given t (unwrap_or (given (op_of t) (own_machine image view)) 0)
 
+-- the world behind one operation of a host's task, which the media served
 abbrev pub stepped_world : Image → ℕ → HostView → Task → WorldView → WorldView
 stepped_world image h view t world = record {
   hosts = changed_at h (λ v. record v { cache = (operated (op_of t) (own_machine image view)).cache; task = task_after (own_turn image view t) }) world.hosts;

@@ -64,6 +64,7 @@ abbrev pub is_busy_host : Option HostState → Bool
 is_busy_host None = false
 is_busy_host (Some host) = is_busy host
 
+-- host h is declared and has a task, as a test
 abbrev pub busy_at : ℕ → Machines → Bool
 busy_at h m = is_busy_host (slice_get m.hosts h)
 
@@ -75,18 +76,22 @@ host_limit = 64
 abbrev pub is_same : List ℕ → List ℕ → HostState → Bool
 is_same name uuid host = path_eq host.name name || path_eq host.uuid uuid
 
+-- an earlier host has the name or the UUID
 abbrev pub same_refusal : Option ℕ → Option Refusal
 same_refusal None = None
 same_refusal (Some h) = Some (why.SameHost (record { 0 = h }))
 
+-- this host has a task
 abbrev pub busy_refusal : Option ℕ → Option Refusal
 busy_refusal None = None
 busy_refusal (Some h) = Some (why.Busy (record { 0 = h }))
 
+-- this host has a line that memory may lack
 abbrev pub dirty_refusal : Option ℕ → Option Refusal
 dirty_refusal None = None
 dirty_refusal (Some h) = Some (why.Dirty (record { 0 = h }))
 
+-- a cause where a test passes
 abbrev pub when : Bool → Refusal → Option Refusal
 when true cause = Some cause
 when false cause = None
@@ -122,9 +127,11 @@ begins_refusal h m =
 abbrev pub may_begin : List ℕ → Machines → Option Refusal
 may_begin name m = on_host (number_of name m) (λ h. begins_refusal h m)
 
+-- the host has no task
 abbrev pub idle_refusal : ℕ → Machines → Option Refusal
 idle_refusal h m = when (not (busy_at h m)) why.Idle
 
+-- the image has no such line
 abbrev pub line_refusal : ℕ → Machines → Option Refusal
 line_refusal line m = when (nat_le (length m.memory) line) (why.NoLine line (length m.memory))
 
@@ -143,6 +150,7 @@ refusal_of (Refuses name cause) m = None
 
 -- Causes that are handed in: what an ask's source comes to, or that nothing may begin.
 
+-- a cause that a source has: there is none of this name, it is too long, or no listing
 abbrev pub IsOfSource : Refusal → Type 0
 IsOfSource why.NoHost = ⊥
 IsOfSource (why.SameHost host) = ⊥
@@ -160,6 +168,7 @@ IsOfSource (why.CopyLimit sum) = ⊤
 IsOfSource (why.BadListing at) = ⊤
 IsOfSource (why.MediaFault at) = ⊥
 
+-- a refusal that may be handed in: a source's, or that of a host that may not begin
 abbrev pub MayBeRefused : List ℕ → Refusal → Machines → Type 0
 MayBeRefused name cause m = IsOfSource cause ⊎ (may_begin name m ≡ Some cause)
 
@@ -188,6 +197,7 @@ abbrev pub OnHost : Option HostState → (HostState → Type 0) → Type 0
 OnHost None P = ⊥
 OnHost (Some host) P = P host
 
+-- so it is of host h, which is declared
 abbrev pub AtHost : ℕ → Machines → (HostState → Type 0) → Type 0
 AtHost h m P = OnHost (slice_get m.hosts h) P
 
@@ -197,6 +207,7 @@ pub record MakesFileSystem (h : ℕ) (p : Params) (force : Bool) (host : HostSta
   pub notes_are : notes ≡ Made h p ∷ []
   pub left : new ≡ with_machine h (operated_all (mkfs_ops p) (machine_of old host)) host.task old
 
+-- a mkfs that isn't forced meets a superblock, and is refused
 pub record Meets (h : ℕ) (p : Params) (force : Bool) (name : List ℕ) (host : HostState) (old : Machines) (notes : List Note) (new : Machines) : Type 0 where
   pub unforced : force ≡ false
   pub other : Params
@@ -217,6 +228,7 @@ pub record Moved (h line : ℕ) (move : Move) (host : HostState) (old : Machines
   pub notes_are : notes ≡ []
   pub left : new ≡ with_machine h (moved move line (machine_of old host)) host.task old
 
+-- the media failed in a cache's move, after some of its words were sent
 pub record MoveFails (h line : ℕ) (move : Move) (name : List ℕ) (host : HostState) (old : Machines) (notes : List Note) (new : Machines) : Type 0 where
   pub through : ℕ
   pub image : Rattle.fam_base.specs.Image.Image
@@ -244,9 +256,11 @@ abbrev pub AtNumber : Option ℕ → Machines → (ℕ → HostState → Type 0)
 AtNumber None m P = ⊥
 AtNumber (Some h) m P = AtHost h m (P h)
 
+-- what a call does of the host that it names
 abbrev pub ActsOf : Call → Machines → List Note → Machines → Type 0
 ActsOf call old notes new = AtNumber (number_of (name_of call) old) old (λ h host. ActsAt call h host old notes new)
 
+-- what a call does that isn't refused, and after which the run goes on; a host is declared behind the others
 abbrev pub Acts : Call → Machines → List Note → Machines → Type 0
 Acts (Declares name uuid) old notes new =
     (notes ≡ Host name uuid ∷ []) × (new ≡ record old { hosts = old.hosts ++ record { name = name; uuid = uuid; cache = map.empty; task = None } ∷ [] })
@@ -280,6 +294,7 @@ CutsAt (Halts name) h host old notes new = ⊥
 CutsAt (Moves name line move) h host old notes new = ⊥
 CutsAt (Refuses name cause) h host old notes new = ⊥
 
+-- a call that isn't refused at once is cut by a media fault, behind which nothing goes on
 abbrev pub BreaksOff : Call → Machines → List Note → Machines → Type 0
 BreaksOff call old notes new =
     (refusal_of call old ≡ None) × AtNumber (number_of (name_of call) old) old (λ h host. CutsAt call h host old notes new)

@@ -58,11 +58,13 @@ pub record AsksPrefix (host : HostPast) (all : List File) (cmd : Cmd) (given : R
   pub bounds : InBounds host m all
   pub is : ask (take m all) cmd ≡ Some given
 
+-- the answer is a report of these entries
 pub record IsReportAnswer (p : Params) (host : HostPast) (all : List File) (given : Reply) : Type 0 where
   pub report : Report
   pub is : given ≡ reply.Reports report
   pub says : IsReportOf p host all report
 
+-- an answer of the rules where the state is sound: of the command's own kind
 abbrev pub IsSoundAnswer : Params → List File → Option File → HostPast → Cmd → Reply → Type 0
 IsSoundAnswer p history pending host Logplay given = AsksPrefix host (with_pending history pending) Logplay given
 IsSoundAnswer p history pending host (Mkdir path attr) given = IsAppendAnswer p history pending host (Mkdir path attr) given
@@ -110,6 +112,7 @@ IsDamagedAnswer image damage host (Verify path against) given = IsFaultAnswer da
 IsDamagedAnswer image damage host (Read path offset count) given = IsFaultAnswer damage given
 IsDamagedAnswer image damage host (Check entries) given = IsFaultAnswer damage given
 
+-- an answer of the rules, in a state
 abbrev pub IsRuled : State → HostPast → Cmd → Reply → Type 0
 IsRuled (Sound p history pending) host cmd given = IsSoundAnswer p history pending host cmd given
 IsRuled (Bad image damage gate) host cmd given = IsDamagedAnswer image damage host cmd given
@@ -122,10 +125,12 @@ pub record HasRuled (past : Past) (given : Reply) (host : HostPast) : Type 0 whe
   pub told : host.cmd ≡ Some cmd
   pub is : IsRuled past.state host cmd given
 
+-- a host's answer is one of the rules, or tells a media fault
 abbrev pub IsRuledAnswer : Answer → ℕ → Past → Type 0
 IsRuledAnswer (Replied given) host past = OfHost (slice_get past.hosts host) (HasRuled past given)
 IsRuledAnswer (MediaFault line) host past = ⊤
 
+-- so it is of a note that is an answer
 abbrev pub IsRuledNote : Note → Past → Type 0
 IsRuledNote (Host name uuid) past = ⊤
 IsRuledNote (Made host p) past = ⊤
@@ -173,6 +178,7 @@ RunEnds (event.Evict name line) notes = ⊤
 RunEnds (event.Leak name line mask) notes = ⊤
 RunEnds (event.Fetch name line mask) notes = ⊤
 
+-- each run of a script's events has ended in its answer
 abbrev pub RunsEnd : (files : Files) (events : List Event) (old : Session) (journal : List Note) (new : Session) → Follows files events old journal new → Type 0
 RunsEnd files [] old journal new follows = ⊤
 RunsEnd files (e ∷ events) old journal new follows = RunEnds e follows.1 × RunsEnd files events follows.0 follows.2 new follows.4

@@ -22,6 +22,7 @@ abbrev pub answer_faults : Answer → ℕ
 answer_faults (Replied given) = 0
 answer_faults (MediaFault at) = 1
 
+-- how many faults a refusal tells
 abbrev pub cause_faults : Refusal → ℕ
 cause_faults why.NoHost = 0
 cause_faults (why.SameHost host) = 0
@@ -39,6 +40,7 @@ cause_faults (why.CopyLimit sum) = 0
 cause_faults (why.BadListing at) = 0
 cause_faults (why.MediaFault at) = 1
 
+-- how many faults a note tells
 abbrev pub note_faults : Note → ℕ
 note_faults (Host name uuid) = 0
 note_faults (Made host p) = 0
@@ -108,6 +110,7 @@ ReadsAfter SinkFails state after = ReadsAs state after
 -- The counts of a storm: answers, refusals, and the history's length at the end. That is 0 before the first mkfs that
 -- succeeded.
 
+-- the note is an answer
 abbrev pub is_answer_note : Note → Bool
 is_answer_note (Host name uuid) = false
 is_answer_note (Made host p) = false
@@ -120,6 +123,7 @@ is_answer_note (Stop host) = false
 is_answer_note (Halt host) = false
 is_answer_note (Refused name cause) = false
 
+-- the note is a refusal
 abbrev pub is_refused_note : Note → Bool
 is_refused_note (Host name uuid) = false
 is_refused_note (Made host p) = false
@@ -132,6 +136,7 @@ is_refused_note (Stop host) = false
 is_refused_note (Halt host) = false
 is_refused_note (Refused name cause) = true
 
+-- the note says that a file system was made
 abbrev pub is_made_note : Note → Bool
 is_made_note (Host name uuid) = false
 is_made_note (Made host p) = true
@@ -144,6 +149,7 @@ is_made_note (Stop host) = false
 is_made_note (Halt host) = false
 is_made_note (Refused name cause) = false
 
+-- how many answers, refusals and settled entries there are
 pub record Counted : Type 0 where
   pub answers : ℕ
   pub refused : ℕ

@@ -27,6 +27,7 @@ AskForm (ask.Cp source path attr stripe) c = (bytes : List ℕ) × (c ≡ cmd.Cp
 AskForm (ask.VerifySource path source) c = (bytes : List ℕ) × (c ≡ cmd.Verify path (content.Bytes bytes))
 AskForm (ask.Check source) c = (entries : List Entry) × (c ≡ cmd.Check entries)
 
+-- an ask that compares the tree with a source's listing
 abbrev pub IsListingAsk : Ask → Type 0
 IsListingAsk (ask.Plain own) = ⊥
 IsListingAsk (ask.Cp source path attr stripe) = ⊥

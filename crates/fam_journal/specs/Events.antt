@@ -85,6 +85,7 @@ pub record MayNot (name : List ℕ) (old : Session) (notes : List Note) (new : S
   pub notes_are : notes ≡ Refused name cause ∷ []
   pub same : new ≡ old
 
+-- a host that may begin is refused what it is asked for, since its source doesn't fit; what was read of it counts
 pub record HasNoSource (files : Files) (name : List ℕ) (what : Ask) (old : Session) (notes : List Note) (new : Session) : Type 0 where
   pub free : may_begin name old.machines ≡ None
   pub cause : Refusal
@@ -93,6 +94,7 @@ pub record HasNoSource (files : Files) (name : List ℕ) (what : Ask) (old : Ses
   pub does : Does (Refuses name cause) old.machines notes new.machines
   pub copied_is : new.copied ≡ copied
 
+-- an ask is refused: its host may not begin, or its source doesn't fit
 abbrev pub RefusesEvent : Files → List ℕ → Ask → Session → List Note → Session → Type 0
 RefusesEvent files name what old notes new = MayNot name old notes new ⊎ HasNoSource files name what old notes new
 
@@ -187,6 +189,7 @@ abbrev pub named_source : List ℕ → Option (List ℕ) → Option (List ℕ ×
 named_source name None = None
 named_source name (Some source) = Some (name, source)
 
+-- the host and the source of an event that reads one
 abbrev pub event_source : Event → Option (List ℕ × List ℕ)
 event_source (event.Host name uuid) = None
 event_source (event.Mkfs name fs unit log force) = None

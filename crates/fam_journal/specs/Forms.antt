@@ -41,6 +41,7 @@ pub data CommandStage : Type 0 where
   -- it named the entry of this number
   Named : (seq : ℕ) → CommandStage
 
+-- a command on its way, as notes tell it: which one, and how far it has come
 pub record TaskForm : Type 0 where
   pub cmd : Cmd
   pub stage : CommandStage
@@ -79,6 +80,7 @@ forms_of journal = forms_behind [] journal
 
 -- Answers of a command that has come to a stage.
 
+-- the command compares a file's bytes
 abbrev pub IsVerify : Cmd → Type 0
 IsVerify Logplay = ⊥
 IsVerify (Mkdir path attr) = ⊥
@@ -89,6 +91,7 @@ IsVerify (Read path offset count) = ⊥
 IsVerify (Check entries) = ⊥
 IsVerify Fsck = ⊥
 
+-- the command reads a file's bytes
 abbrev pub IsRead : Cmd → Type 0
 IsRead Logplay = ⊥
 IsRead (Mkdir path attr) = ⊥
@@ -99,6 +102,7 @@ IsRead (Read path offset count) = ⊤
 IsRead (Check entries) = ⊥
 IsRead Fsck = ⊥
 
+-- the command compares the tree with a listing
 abbrev pub IsCheck : Cmd → Type 0
 IsCheck Logplay = ⊥
 IsCheck (Mkdir path attr) = ⊥
@@ -200,6 +204,7 @@ abbrev pub OfTask : Option TaskForm → (TaskForm → Type 0) → Type 0
 OfTask None P = ⊥
 OfTask (Some t) P = P t
 
+-- so it is of the task of a declared host, with the host's UUID
 abbrev pub OfRunning : Option HostForm → (List ℕ → TaskForm → Type 0) → Type 0
 OfRunning None P = ⊥
 OfRunning (Some host) P = OfTask host.task (P host.uuid)
@@ -226,10 +231,12 @@ pub record UnfinishedForm (h : ℕ) (hosts : List HostForm) (notes : List Note) 
 
 -- Refusals: the first one, as far as the notes tell it.
 
+-- a task that runs, as refusals see it
 abbrev pub shown_running : Option TaskForm → Option TaskState
 shown_running None = None
 shown_running (Some t) = Some (task_begun t.cmd [])
 
+-- a host as refusals see it, but its cache, of which notes tell nothing
 abbrev pub shown_form : HostForm → HostState
 shown_form host = record { name = host.name; uuid = host.uuid; cache = finmap.empty; task = shown_running host.task }
 
@@ -241,6 +248,7 @@ shown_forms lines hosts = record { memory = replicate lines []; hosts = map show
 abbrev pub makes_told : ℕ → ℕ → Machines → Option Refusal
 makes_told unit log m = or_else (option_map cause_of (early_refusal unit log (line_bytes * length m.memory))) (busy_refusal (index_of is_busy m.hosts))
 
+-- the first refusal that notes tell of a call; which caches are dirty they don't
 abbrev pub refusal_told : Call → ℕ → List HostForm → Option Refusal
 refusal_told (call.Declares name uuid) lines hosts = refusal_of (call.Declares name uuid) (shown_forms lines hosts)
 refusal_told (call.Makes name fs unit log force) lines hosts = on_host (number_of name (shown_forms lines hosts)) (λ h. makes_told unit log (shown_forms lines hosts))
@@ -293,14 +301,17 @@ abbrev pub OfHostForm : Option HostForm → (HostForm → Type 0) → Type 0
 OfHostForm None P = ⊥
 OfHostForm (Some host) P = P host
 
+-- so it is of the host of this number
 abbrev pub AtForm : Option ℕ → List HostForm → (ℕ → HostForm → Type 0) → Type 0
 AtForm None hosts P = ⊥
 AtForm (Some h) hosts P = OfHostForm (slice_get hosts h) (P h)
 
+-- the form of what a call does of the host that it names
 abbrev pub HostActsForm : Call → ℕ → List HostForm → List Note → Type 0
 HostActsForm c lines hosts notes =
     AtForm (number_of (name_of c) (shown_forms lines hosts)) hosts (λ h host. ActsForm c h host lines hosts notes)
 
+-- the form of a call's notes where notes tell no refusal of it
 abbrev pub FreeForm : Call → ℕ → List HostForm → List Note → Type 0
 FreeForm (call.Declares name uuid) lines hosts notes = notes ≡ Host name uuid ∷ []
 FreeForm (call.Makes name fs unit log force) lines hosts notes = HostActsForm (call.Makes name fs unit log force) lines hosts notes ⊎ DirtyForm name lines hosts notes
@@ -385,6 +396,7 @@ stage_at at.FenceSlot t = Named t.gate
 stage_at at.SendGate t = Named t.gate
 stage_at at.FenceGate t = Named t.gate
 
+-- how far a task has come
 abbrev pub stage_of : Task → CommandStage
 stage_of t = stage_at t.phase t
 
@@ -394,12 +406,14 @@ pub record IsTaskForm (me : List ℕ) (t : Task) (form : TaskForm) : Type 0 wher
   pub me_is : t.me ≡ me
   pub stage : form.stage ≡ stage_of t
 
+-- a task is as notes tell it
 abbrev pub TaskFormed : List ℕ → Option Task → Option TaskForm → Type 0
 TaskFormed me None None = ⊤
 TaskFormed me None (Some form) = ⊥
 TaskFormed me (Some t) None = ⊥
 TaskFormed me (Some t) (Some form) = IsTaskForm me t form
 
+-- a world's host is as notes tell it
 pub record HostFormed (view : HostView) (form : HostForm) : Type 0 where
   pub name : form.name ≡ view.name
   pub uuid : form.uuid ≡ view.uuid
@@ -424,17 +438,20 @@ pub record IsStateTask (lines : ℕ) (me : List ℕ) (state : TaskState) (form :
   pub stands : StandsFor None state.cmd state.me lines task state.words state.made
   pub is : IsTaskForm me task form
 
+-- a task of the machine is as notes tell it
 abbrev pub StateTaskFormed : ℕ → List ℕ → Option TaskState → Option TaskForm → Type 0
 StateTaskFormed lines me None None = ⊤
 StateTaskFormed lines me None (Some form) = ⊥
 StateTaskFormed lines me (Some state) None = ⊥
 StateTaskFormed lines me (Some state) (Some form) = IsStateTask lines me state form
 
+-- a host of the machine is as notes tell it
 pub record StateFormed (lines : ℕ) (host : HostState) (form : HostForm) : Type 0 where
   pub name : form.name ≡ host.name
   pub uuid : form.uuid ≡ host.uuid
   pub task : StateTaskFormed lines host.uuid host.task form.task
 
+-- the machine has so many lines, and its hosts are as notes tell them
 pub record AreFormed (lines : ℕ) (m : Machines) (hosts : List HostForm) : Type 0 where
   pub lines_are : length m.memory ≡ lines
   pub formed : Pairs (StateFormed lines) m.hosts hosts

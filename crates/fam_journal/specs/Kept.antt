@@ -24,15 +24,18 @@ use Rattle.fam_journal.specs.View.{HostView, WorldView, HostStandsAt, WorldStand
 pub record TaskTold (t : Task) (told : HostPast) : Type 0 where
   pub cmd : told.cmd ≡ Some t.cmd
 
+-- where a host has a task, the journal tells of it
 abbrev pub IfRuns : Option Task → HostPast → Type 0
 IfRuns None told = ⊤
 IfRuns (Some t) told = TaskTold t told
 
+-- a host is as the journal tells it
 pub record HostTold (view : HostView) (told : HostPast) : Type 0 where
   pub name : told.name ≡ view.name
   pub uuid : told.uuid ≡ view.uuid
   pub task : IfRuns view.task told
 
+-- at one number: a host as the journal tells it, or neither has one
 abbrev pub ToldAt : Option HostView → Option HostPast → Type 0
 ToldAt None None = ⊤
 ToldAt (Some view) (Some told) = HostTold view told
@@ -48,34 +51,42 @@ settled_bad image (NoSuperblock fault) = Damaged image
 settled_bad image (BadHeader fault) = Damaged image
 settled_bad image (BadSlot i reason) = Damaged image
 
+-- what the protocol has settled, as a journal's state tells it
 abbrev pub settled_of : State → Settled
 settled_of (Bad image damage gate) = settled_bad (line_at image) damage
 settled_of (Sound p history pending) = Known p (with_pending history pending) (length history)
 
+-- a task as a run of the protocol: with the floor that the journal tells, and the entry that it named
 abbrev pub run_of : Task → HostPast → Run
 run_of t told = record { task = t; floor = told.floor; named = told.wrote }
 
+-- the run of a host that has a task
 abbrev pub run_with : Option Task → Option HostPast → Option Run
 run_with None told = None
 run_with (Some t) None = None
 run_with (Some t) (Some told) = Some (run_of t told)
 
+-- the run of the host at one number, or none
 abbrev pub run_at : Option HostView → Option HostPast → Option Run
 run_at None told = None
 run_at (Some view) told = run_with view.task told
 
+-- the UUID of the host at one number, or none
 abbrev pub uuid_at : Option HostView → Option (List ℕ)
 uuid_at None = None
 uuid_at (Some view) = Some view.uuid
 
+-- the copy that the host at one number has of a line
 abbrev pub copy_at : Option HostView → ℕ → Cell
 copy_at None l = Absent
 copy_at (Some view) l = cell_at view.cache l
 
+-- hosts as the protocol has them, by their numbers
 abbrev pub hosts_of : List HostView → List HostPast → Hosts
 hosts_of views told =
     record { uuid = λ h. uuid_at (slice_get views h); run = λ h. run_at (slice_get views h) (slice_get told h); kept = λ h. None }
 
+-- memory and copies as the protocol has them
 abbrev pub shared_of : Image → List HostView → SharedState
 shared_of image views = record { memory = line_at image; copy = λ h l. copy_at (slice_get views h) l }
 

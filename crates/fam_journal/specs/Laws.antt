@@ -67,6 +67,7 @@ pub record TwoAnswers (start : Image) : Type 0 where
 abbrev pub first_entries : {start : Image} → TwoAnswers start → List File
 first_entries {start} two = take two.m (entries_at (past_of start two.before).state)
 
+-- the entries of the second answer
 abbrev pub second_entries : {start : Image} → TwoAnswers start → List File
 second_entries {start} two =
     take two.n (entries_at (past_of start (two.before ++ Answered two.first_host (Replied two.first) ∷ two.between)).state)
@@ -94,6 +95,7 @@ IsSoundEvent (event.Evict name line) = ⊤
 IsSoundEvent (event.Leak name line mask) = ⊤
 IsSoundEvent (event.Fetch name line mask) = ⊤
 
+-- each event is within its limits
 abbrev pub AreSound : List Event → Type 0
 AreSound [] = ⊤
 AreSound (e ∷ events) = IsSoundEvent e × AreSound events

@@ -27,12 +27,14 @@ abbrev pub FoundPending : ℕ → ℕ → Option File → Type 0
 FoundPending n settled None = n ≡ settled
 FoundPending n settled (Some f) = (n ≡ settled) ⊎ (n ≡ settled + 1)
 
+-- on a damaged image the count that is found is the gate, where a slot is bad
 abbrev pub FoundBad : ℕ → Damage → ℕ → Type 0
 FoundBad n (FewLines lines) gate = ⊥
 FoundBad n (NoSuperblock fault) gate = ⊥
 FoundBad n (BadHeader fault) gate = ⊥
 FoundBad n (BadSlot i reason) gate = n ≡ gate
 
+-- a master may find so many entries
 abbrev pub FoundAllowed : ℕ → State → Type 0
 FoundAllowed n (Sound p history pending) = FoundPending n (length history) pending
 FoundAllowed n (Bad image damage gate) = FoundBad n damage gate
@@ -44,10 +46,12 @@ pub record IsDecided (p : Params) (host : HostPast) (history : List File) (pendi
   pub none : pending ≡ None
   pub is : decide p host.uuid (entries_of history) cmd ≡ Some decision
 
+-- the rules decide so of the host's command, by the entries before it
 abbrev pub DecideAllowed : HostPast → Result Entry Cause → State → Type 0
 DecideAllowed host decision (Sound p history pending) = IsDecided p host history pending decision
 DecideAllowed host decision (Bad image damage gate) = ⊥
 
+-- the entry that the rules decide on, numbered by what is settled
 abbrev pub WritesAllowed : ℕ → Entry → HostPast → State → Type 0
 WritesAllowed seq e host (Sound p history pending) = (seq ≡ length history) × IsDecided p host history pending (Ok e)
 WritesAllowed seq e host (Bad image damage gate) = ⊥
@@ -61,6 +65,7 @@ pub record IsAcknowledged (seq : ℕ) (host : HostPast) (history : List File) : 
   pub count : length history ≡ seq + 1
   pub last : option_map (λ (f : File). f.entry) (slice_get history seq) ≡ Some entry
 
+-- entry seq may be acknowledged: it is the host's own
 abbrev pub AppendedAllowed : ℕ → HostPast → State → Type 0
 AppendedAllowed seq host (Sound p history pending) = IsAcknowledged seq host history
 AppendedAllowed seq host (Bad image damage gate) = ⊥
@@ -70,12 +75,14 @@ abbrev pub master_read : Result Params SuperFault → Option (List ℕ)
 master_read (Ok p) = Some p.master
 master_read (Err fault) = None
 
+-- the UUID of the host that may append to a damaged image, where its superblock reads
 abbrev pub damaged_master : Image → Damage → Option (List ℕ)
 damaged_master image (FewLines lines) = None
 damaged_master image (NoSuperblock fault) = None
 damaged_master image (BadHeader fault) = master_read (super_in (line_at image) (line_bytes * length image))
 damaged_master image (BadSlot i reason) = master_read (super_in (line_at image) (line_bytes * length image))
 
+-- the UUID of the host that may append, where there is one
 abbrev pub master_of : State → Option (List ℕ)
 master_of (Sound p history pending) = Some p.master
 master_of (Bad image damage gate) = damaged_master image damage
@@ -86,6 +93,7 @@ pub record IsOther (me master : List ℕ) (host : HostPast) (state : State) : Ty
   pub master_is : master_of state ≡ Some master
   pub other : me ≢ master
 
+-- an append may be refused so: another host may append alone, or the rules decide it
 abbrev pub CauseAllowed : Cause → HostPast → State → Type 0
 CauseAllowed (cause.NotMaster me master) host state = IsOther me master host state
 CauseAllowed cause.BadStripe host state = DecideAllowed host (Err cause.BadStripe) state
@@ -111,6 +119,7 @@ pub record IsAskedOf (host : HostPast) (m : ℕ) (all : List File) (given : Repl
   pub told : host.cmd ≡ Some cmd
   pub is : ask (take m all) cmd ≡ Some given
 
+-- a command that reads may reply so of the first m entries
 abbrev pub AskAllowed : ℕ → Reply → HostPast → State → Type 0
 AskAllowed m given host (Sound p history pending) = IsAskedOf host m (with_pending history pending) given
 AskAllowed m given host (Bad image damage gate) = ⊥
@@ -121,6 +130,7 @@ pub record IsReportOf (p : Params) (host : HostPast) (all : List File) (report :
   pub bounds : InBounds host m all
   pub is : IsSoundReport p (entries_of (take m all)) report
 
+-- a report may say so: of the settled entries, or of the damaged image as it reads
 abbrev pub ReportAllowed : Report → HostPast → State → Type 0
 ReportAllowed report host (Sound p history pending) = IsReportOf p host (with_pending history pending) report
 ReportAllowed report host (Bad image damage gate) = report ≡ report_of (line_at image) (line_bytes * length image)

@@ -6,12 +6,8 @@ pub mod Machines
 pub mod Calls
 pub mod Events
 pub mod Follows
-pub mod Texts
 pub mod Names
-pub mod Statuses
 pub mod Ends
-pub mod Runs
-pub mod Programs
 pub mod View
 pub mod Kept
 pub mod ByWorld

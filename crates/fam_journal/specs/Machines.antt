@@ -19,12 +19,14 @@ pub record TaskState : Type 0 where
   pub words : List ℕ
   pub made : ℕ
 
+-- a declared host: its name, its UUID, its cache, and the command that it runs
 pub record HostState : Type 0 where
   pub name : List ℕ
   pub uuid : List ℕ
   pub cache : Cache
   pub task : Option TaskState
 
+-- memory, and the hosts in the order in which they were declared
 pub record Machines : Type 0 where
   pub memory : Image
   pub hosts : List HostState
@@ -108,15 +110,18 @@ cut h m None = None
 cut h m (Some failure) =
     Some (record { notes = Answered h (MediaFault failure.line.0) ∷ []; left = with_machine h failure.left None m })
 
+-- the operation that a task does next comes out so, where there is one
 abbrev pub op_done : Outcome → ℕ → Machines → HostState → TaskState → Option Op → Option Done
 op_done outcome h m host t None = None
 op_done Passes h m host t (Some op) = served h m host t op (next_note t (length m.memory) (given op (machine_of m host)))
 op_done (Fails through) h m host t (Some op) = cut h m (failed through op (machine_of m host))
 
+-- a host's task does its next operation, where it has one
 abbrev pub task_done : Outcome → ℕ → Machines → HostState → Option TaskState → Option Done
 task_done outcome h m host None = None
 task_done outcome h m host (Some t) = op_done outcome h m host t (next_op t (length m.memory))
 
+-- a declared host does the next operation of its task
 abbrev pub host_done : Outcome → ℕ → Machines → Option HostState → Option Done
 host_done outcome h m None = None
 host_done outcome h m (Some host) = task_done outcome h m host host.task

@@ -11,6 +11,7 @@ pub data Answer : Type 0 where
   Replied : (reply : Reply) → Answer
   MediaFault : (line : ℕ) → Answer
 
+-- what a journal tells, one thing after another
 pub data Note : Type 0 where
   -- a host is declared
   Host : (name uuid : List ℕ) → Note

@@ -103,6 +103,7 @@ count_of (reply.NoSuperblock fault) = None
 count_of (reply.BadHeader fault) = None
 count_of (reply.BadSlot seq reason) = None
 
+-- so many entries were shown, where any were
 abbrev pub shows_count : Option ℕ → State → State
 shows_count None state = state
 shows_count (Some m) state = shows m state

@@ -14,6 +14,7 @@ pub record HostView : Type 0 where
   pub cache : Cache
   pub task : Option Task
 
+-- a world: its hosts in the order in which they were declared, and its journal
 pub record WorldView : Type 0 where
   pub hosts : List HostView
   pub journal : List Note
@@ -31,6 +32,7 @@ TaskStands lines (Some s) (Some t) = StandsFor None s.cmd s.me lines t s.words s
 TaskStands lines None (Some t) = ⊥
 TaskStands lines (Some s) None = ⊥
 
+-- a world's host stands for one of the machine
 pub record HostStands (lines : ℕ) (state : HostState) (view : HostView) : Type 0 where
   pub name : state.name ≡ view.name
   pub uuid : state.uuid ≡ view.uuid

@@ -1,14 +1,13 @@
 //! Laws of journals, each with an empty body.
 
-ghost use Rattle.std.specs.Prelude.{◌≡◌, ◌⊎◌, ◌≤◌, ◌++◌, true, false, ℕ, Option, Some, None, Ok, List, [], ◌∷◌, length, map, slice_get, take};
-ghost use Rattle.std.specs.FinMap as finmap;
+ghost use Rattle.std.specs.Prelude.{◌≡◌, ◌≤◌, ◌++◌, true, ℕ, Some, None, List, [], ◌∷◌, length, slice_get, take};
 ghost use Rattle.fam_base.specs.declared.entry.Entry.{Entry};
-ghost use Rattle.fam_base.specs.Image.{Image, line_at};
+ghost use Rattle.fam_base.specs.Image.{Image};
 ghost use Rattle.fam_journal.specs.Calls.{busy_at, refusal_of, BreaksOff, Call, Completes, Does, Steps};
 ghost use Rattle.fam_journal.specs.CallRecords.{IsStepped, DoesPart, HasForm, IsSoundCall};
 ghost use Rattle.fam_commands.specs.Task.{Task};
-ghost use Rattle.fam_journal.specs.Complete.{AreRuled, CanEnd, EndsInAnswer, IsComplete};
-ghost use Rattle.fam_journal.specs.Ends.{AllDone, Ending, EventsDone, HasCounted, IsFaultless, EndsOutOfMemory, ReadsAs};
+ghost use Rattle.fam_journal.specs.Complete.{AreRuled, CanEnd, EndsInAnswer};
+ghost use Rattle.fam_journal.specs.Ends.{Ending, EventsDone, IsFaultless, ReadsAs};
 ghost use Rattle.fam_journal.specs.Events.{Continues, Session, first_session};
 ghost use Rattle.fam_journal.specs.EventForms.{EndsForm, FollowsForm};
 ghost use Rattle.fam_journal.specs.Follows.{Follows};
@@ -19,14 +18,8 @@ ghost use Rattle.fam_journal.specs.ByWorld.{number_in, refusal_in, IsRow, TakesN
 ghost use Rattle.fam_journal.specs.Laws.{AreSame, AreSound, IsFree, IsPrefix, NoneMade, MaySayNext, IsImage, IsSettled, TaskAt, TwoAnswers, first_entries, history_at, second_entries, turn_at};
 ghost use Rattle.fam_journal.specs.Legal.{Legal, LegalBehind};
 ghost use Rattle.fam_journal.specs.Machines.{Machines, notes_of, unused};
-ghost use Rattle.fam_journal.specs.Names.{AreNamed, NameDeclared};
 ghost use Rattle.fam_journal.specs.Notes.{Note, Writes};
-ghost use Rattle.fam_journal.specs.Programs.{Command, Grammar, Script, Storm, Storms, TopEnds, script_limit};
-ghost use Rattle.fam_journal.specs.Runs.{HasRisen, IsCaused, NoneRose, Outside, RunsOn};
-ghost use Rattle.fam_journal.specs.declared.status.Status.{Status};
-ghost use Rattle.fam_journal.specs.declared.status.Status.TheVariants.{Done, MediaFault, OutOfMemory, Refused, SinkFault, SourceFault};
-ghost use Rattle.fam_journal.specs.Texts.{names_behind, render, render_behind};
-ghost use Rattle.fam_journal.specs.Past.{Bad, Damage, HostPast, first_past, past_behind, past_of};
+ghost use Rattle.fam_journal.specs.Past.{Bad, Damage, first_past, past_behind, past_of};
 ghost use Rattle.fam_journal.specs.declared.event.Ask.{Ask};
 ghost use Rattle.fam_journal.specs.declared.event.Event.{Event};
 ghost use Rattle.fam_journal.specs.Members.{changed_at};
@@ -141,50 +134,6 @@ pub fn a_call_without_media_does_its_row()
     ensures { (state : Machines) (world : WorldView) (call : Call) → WorldStands (length state.memory) state world
         → TakesNoMedia call (length state.memory) world
         → IsRow call (length state.memory) state world (world_after call (length state.memory) world) }
-{}
-
-/// The text of a longer journal is the old text and what is put for the notes that were added (`more`). In a journal
-/// that follows events from no hosts each note names a host that is declared before it (`named`), also with notes added
-/// that name hosts of the journal (`adds`); and hosts' names are those of the journal's own notes (`names`).
-pub fn a_text_only_grows()
-    ensures more { (old added : List Note) → render (old ++ added) ≡ render old ++ render_behind (names_behind [] old) added }
-    ensures named { (files : Files) (events : List Event) (image : Image) (journal : List Note) (last : Session)
-        → Follows files events (first_session image) journal last
-        → NameDeclared 0 journal }
-    ensures adds { (old added : List Note) → NameDeclared 0 old → AreNamed (length (names_behind [] old)) added
-        → NameDeclared 0 (old ++ added) }
-    ensures names { (image : Image) (journal : List Note)
-        → names_behind [] journal ≡ map (λ (host : HostPast). host.name) (past_of image journal).hosts }
-{}
-
-/// A status that names a fault has its cause: the media's count of faults rose; the shelf's count of faults, or that of
-/// shorts; the sink's. So it is on every media, shelf and sink, whatever they tell.
-pub fn a_status_has_its_cause()
-    ensures media { (grammar : Grammar) (storms : Storms) (command : Option Command) (out : Outside) (given : Status)
-        → TopEnds grammar storms command out given → given ≡ MediaFault → HasRisen out.faults out.faults_now }
-    ensures source { (grammar : Grammar) (storms : Storms) (command : Option Command) (out : Outside) (given : Status)
-        → TopEnds grammar storms command out given → given ≡ SourceFault
-        → HasRisen out.shelf out.shelf_now ⊎ HasRisen out.shorts out.shorts_now }
-    ensures sink { (grammar : Grammar) (storms : Storms) (command : Option Command) (out : Outside) (given : Status)
-        → TopEnds grammar storms command out given → given ≡ SinkFault → HasRisen out.sink out.sink_now }
-{}
-
-/// Where no count rose, of media, shelf and sink, events are all done, each with its answer by the rules, or there was
-/// no memory (`run`). So a script that the shelf holds, and that is no longer than a script may be and has no bad line,
-/// is read and run to its end: its status is Done or Refused, or there was no memory (`script`); and a storm's is Done,
-/// or that (`storm`).
-pub fn a_run_without_faults_is_complete()
-    ensures run { (out : Outside) (ending : Ending) (journal : List Note) (files : Files) (events : List Event) (start : Image)
-        → NoneRose out → IsImage start → AreSound events → HasCounted out.faults out.faults_now journal
-        → IsCaused ending events journal out → RunsOn ending files events start out.image_now journal
-        → ((ending ≡ AllDone) × IsComplete files events start journal) ⊎ (ending ≡ EndsOutOfMemory) }
-    ensures script { (grammar : Grammar) (storms : Storms) (out : Outside) (given : Status) (name : List ℕ) (files : Files)
-        (bytes : List ℕ) (events : List Event) → NoneRose out → TopEnds grammar storms (Some (Script name)) out given
-        → out.files ≡ Some files → finmap.get files name ≡ Some bytes → length bytes ≤ script_limit → grammar bytes ≡ Ok events
-        → (given ≡ Done) ⊎ (given ≡ Refused) ⊎ (given ≡ OutOfMemory) }
-    ensures storm { (grammar : Grammar) (storms : Storms) (out : Outside) (given : Status) (seed size : ℕ)
-        → NoneRose out → TopEnds grammar storms (Some (Storm seed size false)) out given
-        → (given ≡ Done) ⊎ (given ≡ OutOfMemory) }
 {}
 
 /// An operation that the media serves is the row of a step, where the world makes of its own host what its own task

@@ -2,6 +2,7 @@ pub mod Causes
 pub mod Outside
 pub mod Modelled
 pub mod Files
+pub mod States
 pub mod Plans
 pub mod MemoryMedia
 pub mod MemorySink

@@ -5,7 +5,7 @@ use Rattle.fam_base.specs.declared.line.Mask.{Mask}
 use Rattle.fam_media.specs.Plans.{one_more, planned, count_if}
 
 -- the lines, how many calls were made, which ones are to fail and let which words through, and the count of faults
-pub record MediaState : Type 0 where
+pub record MemMediaState : Type 0 where
   pub image : Image
   pub calls : ℕ
   pub plan : List (ℕ × Mask)
@@ -16,19 +16,19 @@ abbrev pub blank : ℕ → Image
 blank lines = replicate lines (eight [])
 
 -- no call was made and none is to fail
-abbrev pub fresh : ℕ → MediaState
+abbrev pub fresh : ℕ → MemMediaState
 fresh lines = record { image = blank lines; calls = 0; plan = []; faults = 0 }
 
 -- what is planned for the next call
-abbrev pub next_mask : MediaState → Option Mask
+abbrev pub next_mask : MemMediaState → Option Mask
 next_mask m = planned m.plan m.calls
 
 -- the image as the media tells it, eight words in each line
-abbrev pub modelled_image : MediaState → Option Image
+abbrev pub modelled_image : MemMediaState → Option Image
 modelled_image m = Some (map eight m.image)
 
 -- after a read: a call was counted, and where it failed a fault
-abbrev pub after_call : MediaState → MediaState
+abbrev pub after_call : MemMediaState → MemMediaState
 after_call m = record m { calls = one_more m.calls; faults = count_if (is_some (next_mask m)) m.faults }
 
 -- the image after a write: the whole line, or where it was to fail the words of the mask
@@ -37,6 +37,6 @@ after_words None line words image = with_line line words image
 after_words (Some mask) line words image = with_masked line words mask.0 image
 
 -- after a write
-abbrev pub after_write : ℕ → List ℕ → MediaState → MediaState
+abbrev pub after_write : ℕ → List ℕ → MemMediaState → MemMediaState
 after_write line words m =
     record (after_call m) { image = after_words (next_mask m) line words m.image }

@@ -4,7 +4,7 @@ use Rattle.fam_media.specs.Plans.{one_more, planned, count_if}
 
 -- the bytes put, the most there may be, how many puts were made, which ones are to fail and keep how many
 -- bytes of their piece, and the count of faults
-pub record SinkState : Type 0 where
+pub record MemSinkState : Type 0 where
   pub bytes : List ℕ
   pub room : ℕ
   pub calls : ℕ
@@ -12,12 +12,12 @@ pub record SinkState : Type 0 where
   pub faults : ℕ
 
 -- nothing was put and no put is to fail
-abbrev pub empty_sink : ℕ → SinkState
+abbrev pub empty_sink : ℕ → MemSinkState
 empty_sink room = record { bytes = []; room = room; calls = 0; plan = []; faults = 0 }
 
 -- how many bytes the next put keeps of a piece of that size where it fails, and None where it doesn't fail:
 -- none of a piece that passes the room, and else as was planned
-abbrev pub next_kept : ℕ → SinkState → Option ℕ
+abbrev pub next_kept : ℕ → MemSinkState → Option ℕ
 next_kept size s = if nat_lt s.room (length s.bytes + size) then Some 0 else planned s.plan s.calls
 
 -- what a put keeps of its piece
@@ -26,10 +26,10 @@ kept_of None piece = piece
 kept_of (Some kept) piece = take kept piece
 
 -- the counts after a put of a piece of that size
-abbrev pub after_count : ℕ → SinkState → SinkState
+abbrev pub after_count : ℕ → MemSinkState → MemSinkState
 after_count size s = record s { calls = one_more s.calls; faults = count_if (is_some (next_kept size s)) s.faults }
 
 -- after a put
-abbrev pub after_put : List ℕ → SinkState → SinkState
+abbrev pub after_put : List ℕ → MemSinkState → MemSinkState
 after_put piece s =
     record (after_count (length piece) s) { bytes = s.bytes ++ kept_of (next_kept (length piece) s) piece }

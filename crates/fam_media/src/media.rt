@@ -1,10 +1,11 @@
 //! A media: an image of lines that several hosts share.
 
-ghost use Rattle.std.specs.Prelude.{◌≡◌, ℕ, ◌<◌, ◌≤◌, Option, IfOk, OnOk, OnErr, length};
+ghost use Rattle.std.specs.Prelude.{◌≡◌, ℕ, ◌<◌, ◌≤◌, IfOk, OnOk, OnErr, length};
 ghost use Rattle.std.specs.Option.{option_map};
-ghost use Rattle.fam_base.specs.Image.{Image, IsNormal, eight, line_at, with_line};
+ghost use Rattle.fam_base.specs.Image.{IsNormal, eight, line_at, with_line};
 ghost use Rattle.fam_media.specs.Causes.{HasCause};
 ghost use Rattle.fam_media.specs.Outside.{IfModelled, IsTorn};
+ghost use Rattle.fam_media.specs.States.{MediaState};
 
 use fam_base::{Line, LineNo};
 
@@ -17,14 +18,11 @@ pub const MOST_LINES: u64 = 17_179_869_184;
 
 /// Memory that several hosts share, as lines of eight words.
 pub trait Media {
-    /// The image, where it is modelled.
-    ghost image: { Self → Option Image };
-
     /// How many lines there are, also where no image is modelled.
     ghost size: { Self → ℕ };
 
-    /// How often a call failed.
-    ghost faults: { Self → ℕ };
+    /// The image, where it is modelled, and how often a call failed.
+    ghost state: { Self → MediaState };
 
     /// Returns how many lines there are. No call changes this.
     fn lines(&self) -> u64
@@ -36,24 +34,24 @@ pub trait Media {
         requires within { line.0 < size self.old }
 
         ensures words { IfOk result
-            (λ words. IfModelled (image self.old) (λ lines. eight words ≡ line_at lines line.0)) }
-        ensures same { image self.new ≡ image self.old }
+            (λ words. IfModelled (state self.old).image (λ lines. eight words ≡ line_at lines line.0)) }
+        ensures same { (state self.new).image ≡ (state self.old).image }
         ensures size { size self.new ≡ size self.old }
-        ensures cause { HasCause (faults self.old) (faults self.new) result };
+        ensures cause { HasCause (state self.old).faults (state self.new).faults result };
 
     /// Writes a line, and no other one. Where the write fails each word of the line is old or new.
     fn write(&mut self, line: LineNo, words: &Line) -> Result<(), Failed>
         requires within { line.0 < size self.old }
 
         ensures written { OnOk result
-            (image self.new ≡ option_map (with_line line.0 words.now) (image self.old)) }
-        ensures torn { OnErr result (IsTorn (image self.old) (image self.new) line.0 words.now) }
+            ((state self.new).image ≡ option_map (with_line line.0 words.now) (state self.old).image) }
+        ensures torn { OnErr result (IsTorn (state self.old).image (state self.new).image line.0 words.now) }
         ensures size { size self.new ≡ size self.old }
-        ensures cause { HasCause (faults self.old) (faults self.new) result };
+        ensures cause { HasCause (state self.old).faults (state self.new).faults result };
 
     /// Each line of an image that is modelled has eight words.
-    ghost normal: { (m : Self) → IsNormal (image m) };
+    ghost normal: { (m : Self) → IsNormal (state m).image };
 
     /// An image that is modelled has as many lines as the media.
-    ghost modelled: { (m : Self) → IfModelled (image m) (λ lines. length lines ≡ size m) };
+    ghost modelled: { (m : Self) → IfModelled (state m).image (λ lines. length lines ≡ size m) };
 }

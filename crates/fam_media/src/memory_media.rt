@@ -29,9 +29,9 @@ impl Model for MemMedia {
     ghost use Rattle.std.specs.Prelude.{◌≤◌, length, map};
     ghost use Rattle.fam_base.specs.Image.{eight};
     ghost use Rattle.fam_media.specs.declared.media.TheConstants.{MOST_LINES};
-    ghost use Rattle.fam_media.specs.MemoryMedia.{MediaState};
+    ghost use Rattle.fam_media.specs.MemoryMedia.{MemMediaState};
 
-    ghost Value = { MediaState };
+    ghost Value = { MemMediaState };
 
     ghost view = { λ m. record {
       image = map eight m.lines.items;
@@ -132,11 +132,9 @@ impl MemMedia {
 }
 
 impl Media for MemMedia {
-    ghost image = { modelled_image };
-
     ghost size = { λ m. length m.image };
 
-    ghost faults = { λ m. m.faults };
+    ghost state = { λ m. record { image = modelled_image m; faults = m.faults } };
 
     fn lines(&self) -> u64 {
         self.lines.len() as u64

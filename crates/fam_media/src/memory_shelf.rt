@@ -37,9 +37,9 @@ impl Model for MemShelf {
     ghost use Rattle.std.specs.Prelude.{map as list_map};
     ghost use Rattle.std.specs.String.{string_bytes};
     ghost use Rattle.std.specs.FinMap as map;
-    ghost use Rattle.fam_media.specs.MemoryShelf.{ShelfState, state_code};
+    ghost use Rattle.fam_media.specs.MemoryShelf.{MemShelfState, state_code};
 
-    ghost Value = { ShelfState };
+    ghost Value = { MemShelfState };
 
     ghost coded = { state_code };
 
@@ -224,11 +224,7 @@ impl MemShelf {
 }
 
 impl Shelf for MemShelf {
-    ghost files = { λ s. Some s.files };
-
-    ghost faults = { λ s. s.faults };
-
-    ghost shorts = { λ s. s.shorts };
+    ghost state = { λ s. record { files = Some s.files; faults = s.faults; shorts = s.shorts } };
 
     fn size(&mut self, name: &str) -> Result<Option<u64>, Failed>
         ensures value { IfOk result

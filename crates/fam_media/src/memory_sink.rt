@@ -27,9 +27,9 @@ pub struct MemSink {
 impl Model for MemSink {
     ghost use Rattle.std.specs.Prelude.{◌≤◌, length};
     ghost use Rattle.std.specs.Vec.{vec_capacity};
-    ghost use Rattle.fam_media.specs.MemorySink.{SinkState};
+    ghost use Rattle.fam_media.specs.MemorySink.{MemSinkState};
 
-    ghost Value = { SinkState };
+    ghost Value = { MemSinkState };
 
     ghost view = { λ s. record {
       bytes = s.bytes.items;
@@ -130,9 +130,7 @@ impl MemSink {
 }
 
 impl Sink for MemSink {
-    ghost bytes = { λ s. Some s.bytes };
-
-    ghost faults = { λ s. s.faults };
+    ghost state = { λ s. record { bytes = Some s.bytes; faults = s.faults } };
 
     fn put(&mut self, piece: &[u8]) -> Result<(), Failed>
         ensures put { OnOk result

@@ -26,10 +26,10 @@ fn operate<M: Media>(cache: &mut HostCache, media: &mut M, op: Op) -> Result<Opt
     requires room { ¬ (BringsNone op cache.old.lines) → 0 < cache.old.spare }
 
     ensures done { OnOk result (AreDone (op ∷ [])
-        (over (M.image media.old) cache.old.lines) (over (M.image media.new) cache.new.lines)) }
+        (over (M.state media.old).image cache.old.lines) (over (M.state media.new).image cache.new.lines)) }
     ensures cut { IfErr result (λ at. AreCut (op ∷ []) at.0
-        (over (M.image media.old) cache.old.lines) (over (M.image media.new) cache.new.lines)) }
-    ensures cache { OnOk result (LeavesCache op (M.image media.old) cache.old.lines cache.new.lines) }
+        (over (M.state media.old).image cache.old.lines) (over (M.state media.new).image cache.new.lines)) }
+    ensures cache { OnOk result (LeavesCache op (M.state media.old).image cache.old.lines cache.new.lines) }
     ensures word { IfOk result (λ word. word ≡ word_of op cache.new.lines) }
     ensures others { (other : ℕ) → op_line op ≢ Some (line_no other)
         → cell_at cache.new.lines other ≡ cell_at cache.old.lines other }
@@ -37,8 +37,8 @@ fn operate<M: Media>(cache: &mut HostCache, media: &mut M, op: Op) -> Result<Opt
     ensures held_spare { BringsNone op cache.old.lines → cache.old.spare ≤ cache.new.spare }
     ensures err_spare { OnErr result (cache.old.spare ≤ cache.new.spare) }
     ensures within { IfErr result (λ at. at.0.0 < M.size media.old) }
-    ensures rose { OnErr result (Rose (M.faults media.old) (M.faults media.new)) }
-    ensures steady { IsSteady M.size M.faults media.old media.new }
+    ensures rose { OnErr result (Rose (M.state media.old).faults (M.state media.new).faults) }
+    ensures steady { IsSteady M.size M.state media.old media.new }
 {
     match cache.perform(media, op) {
         Ok(word) => Ok(word),
@@ -57,9 +57,9 @@ pub(crate) fn read_line<M: Media>(
     requires room { 0 < cache.old.spare }
 
     ensures done { OnOk result (AreDone (load_ops line.0 8)
-        (over (M.image media.old) cache.old.lines) (over (M.image media.new) cache.new.lines)) }
+        (over (M.state media.old).image cache.old.lines) (over (M.state media.new).image cache.new.lines)) }
     ensures cut { IfErr result (λ at. AreCut (load_ops line.0 8) at.0
-        (over (M.image media.old) cache.old.lines) (over (M.image media.new) cache.new.lines)) }
+        (over (M.state media.old).image cache.old.lines) (over (M.state media.new).image cache.new.lines)) }
     ensures words { IfOk result
         (λ words. words ≡ eight (words_of (cell_at cache.new.lines line.0))) }
     ensures held { OnOk result (IsHeld (cell_at cache.new.lines line.0)) }
@@ -67,8 +67,8 @@ pub(crate) fn read_line<M: Media>(
         → cell_at cache.new.lines other ≡ cell_at cache.old.lines other }
     ensures spare { cache.old.spare ≤ cache.new.spare + 1 }
     ensures within { IfErr result (λ at. at.0.0 < M.size media.old) }
-    ensures rose { OnErr result (Rose (M.faults media.old) (M.faults media.new)) }
-    ensures steady { IsSteady M.size M.faults media.old media.new }
+    ensures rose { OnErr result (Rose (M.state media.old).faults (M.state media.new).faults) }
+    ensures steady { IsSteady M.size M.state media.old media.new }
 {
     operate(cache, media, Op::Invalidate(line))?;
     let mut words = [0; 8];
@@ -90,17 +90,17 @@ pub(crate) fn write_line<M: Media>(
     requires room { ¬ (IsHeld (cell_at cache.old.lines line.0)) → 0 < cache.old.spare }
 
     ensures done { OnOk result (AreDone (put_ops (line.0, words.now))
-        (over (M.image media.old) cache.old.lines) (over (M.image media.new) cache.new.lines)) }
+        (over (M.state media.old).image cache.old.lines) (over (M.state media.new).image cache.new.lines)) }
     ensures cut { IfErr result (λ at. AreCut (put_ops (line.0, words.now)) at.0
-        (over (M.image media.old) cache.old.lines) (over (M.image media.new) cache.new.lines)) }
+        (over (M.state media.old).image cache.old.lines) (over (M.state media.new).image cache.new.lines)) }
     ensures others { (other : ℕ) → other ≢ line.0
         → cell_at cache.new.lines other ≡ cell_at cache.old.lines other }
     ensures spare { cache.old.spare ≤ cache.new.spare + 1 }
     ensures held_spare { IsHeld (cell_at cache.old.lines line.0)
         → cache.old.spare ≤ cache.new.spare }
     ensures within { IfErr result (λ at. at.0.0 < M.size media.old) }
-    ensures rose { OnErr result (Rose (M.faults media.old) (M.faults media.new)) }
-    ensures steady { IsSteady M.size M.faults media.old media.new }
+    ensures rose { OnErr result (Rose (M.state media.old).faults (M.state media.new).faults) }
+    ensures steady { IsSteady M.size M.state media.old media.new }
 {
     for word in 0..8 {
         operate(cache, media, Op::Store(line, word, words[word as usize]))?;

@@ -86,10 +86,10 @@ fn read_super_lines<M: Media>(cache: &mut HostCache, media: &mut M) -> Result<[L
     requires room { 3 ≤ cache.old.spare }
 
     ensures done { OnOk result (AreDone spec.read_ops
-        (over (M.image media.old) cache.old.lines) (over (M.image media.new) cache.new.lines)) }
+        (over (M.state media.old).image cache.old.lines) (over (M.state media.new).image cache.new.lines)) }
     ensures cut { IfErr result (λ at. AreCut spec.read_ops at.0
-        (over (M.image media.old) cache.old.lines) (over (M.image media.new) cache.new.lines)) }
-    ensures found { IfOk result (λ lines. (image : Image) → M.image media.old ≡ Some image
+        (over (M.state media.old).image cache.old.lines) (over (M.state media.new).image cache.new.lines)) }
+    ensures found { IfOk result (λ lines. (image : Image) → (M.state media.old).image ≡ Some image
         → (have : ℕ) → super_in (line_at lines) have
         ≡ super_in (line_at (operated_all spec.read_ops (machine image cache.old.lines)).image) have) }
     ensures held { OnOk result (HeldLines cache.new.lines) }
@@ -97,8 +97,8 @@ fn read_super_lines<M: Media>(cache: &mut HostCache, media: &mut M) -> Result<[L
         → cell_at cache.new.lines line ≡ cell_at cache.old.lines line }
     ensures spare { OnOk result (cache.old.spare ≤ cache.new.spare + 3) }
     ensures within { IfErr result (λ at. at.0.0 < M.size media.old) }
-    ensures rose { OnErr result (Rose (M.faults media.old) (M.faults media.new)) }
-    ensures steady { IsSteady M.size M.faults media.old media.new }
+    ensures rose { OnErr result (Rose (M.state media.old).faults (M.state media.new).faults) }
+    ensures steady { IsSteady M.size M.state media.old media.new }
 {
     let magic = read_line(cache, media, LineNo(0))?;
     let first = read_line(cache, media, LineNo(1))?;
@@ -131,14 +131,14 @@ fn write_super<M: Media>(
     requires room { 3 ≤ cache.old.spare }
 
     ensures done { OnOk result (AreDone (spec.write_ops params.now)
-        (over (M.image media.old) cache.old.lines) (over (M.image media.new) cache.new.lines)) }
+        (over (M.state media.old).image cache.old.lines) (over (M.state media.new).image cache.new.lines)) }
     ensures cut { IfErr result (λ at. AreCut (spec.write_ops params.now) at.0
-        (over (M.image media.old) cache.old.lines) (over (M.image media.new) cache.new.lines)) }
+        (over (M.state media.old).image cache.old.lines) (over (M.state media.new).image cache.new.lines)) }
     ensures others { (line : ℕ) → IsElsewhere line
         → cell_at cache.new.lines line ≡ cell_at cache.old.lines line }
     ensures within { IfErr result (λ at. at.0.0 < M.size media.old) }
-    ensures rose { OnErr result (Rose (M.faults media.old) (M.faults media.new)) }
-    ensures steady { IsSteady M.size M.faults media.old media.new }
+    ensures rose { OnErr result (Rose (M.state media.old).faults (M.state media.new).faults) }
+    ensures steady { IsSteady M.size M.state media.old media.new }
 {
     let [magic, first, second] = Super::spell(params);
     let header = spell_log(params);
@@ -157,11 +157,11 @@ fn make<M: Media>(cache: &mut HostCache, media: &mut M, params: &Params, force: 
     requires room { 6 ≤ cache.old.spare }
 
     ensures ends { MkfsEnds params.now force (M.size media.old)
-        (over (M.image media.old) cache.old.lines) (over (M.image media.new) cache.new.lines)
-        (M.faults media.old) (M.faults media.new) result }
+        (over (M.state media.old).image cache.old.lines) (over (M.state media.new).image cache.new.lines)
+        (M.state media.old).faults (M.state media.new).faults result }
     ensures others { (line : ℕ) → IsElsewhere line
         → cell_at cache.new.lines line ≡ cell_at cache.old.lines line }
-    ensures steady { IsSteady M.size M.faults media.old media.new }
+    ensures steady { IsSteady M.size M.state media.old media.new }
 {
     let lines = match read_super_lines(cache, media) {
         Ok(lines) => lines,
@@ -201,8 +201,8 @@ pub fn mkfs<M: Media>(
 
     ensures ends { refusals.refusal unit log (line_bytes * M.size media.old) ≡ None → IfOk result
         (MkfsEnds (spec.asked unit log fs me (M.size media.old)) force (M.size media.old)
-        (over (M.image media.old) cache.old.lines) (over (M.image media.new) cache.new.lines)
-        (M.faults media.old) (M.faults media.new)) }
+        (over (M.state media.old).image cache.old.lines) (over (M.state media.new).image cache.new.lines)
+        (M.state media.old).faults (M.state media.new).faults) }
 
     // The cache has of every other line what it had, also where nothing is modelled.
     ensures others { (line : ℕ) → IsElsewhere line
@@ -212,7 +212,7 @@ pub fn mkfs<M: Media>(
     ensures undone { OnErr result (media.new ≡ media.old) }
     ensures kept { OnErr result (cache.new ≡ cache.old) }
 
-    ensures steady { IsSteady M.size M.faults media.old media.new }
+    ensures steady { IsSteady M.size M.state media.old media.new }
 {
     let params = asked(unit, log, fs, me, media.lines());
     if let Some(end) = refusal(unit, log, params.device) {

@@ -1,6 +1,4 @@
-pub mod Slashes
-pub mod Settling
-pub mod Lasts
-pub mod Printing
-pub mod Counting
-pub mod StormTexts
+pub mod Names
+pub mod Causes
+pub mod Faultless
+pub mod Samples

@@ -1,3 +1,4 @@
-pub mod Answers
-pub mod Settled
-pub mod StormLines
+pub mod Texts
+pub mod Statuses
+pub mod Runs
+pub mod Programs

@@ -1,16 +1,14 @@
-//! What comes of a run: of the notes that a world keeps, their text, their counts and the status that they end with;
-//! and the directories along a path.
+//! What a run of the program comes to: the text of its journal, its status, and what each of its commands puts and
+//! leaves.
 //!
-//! A contract sees kept notes as notes of a journal (`fam_world/specs/View.antt`), and cites what fam_journal says of
-//! those: `specs/Statuses.antt`, `Ends.antt`, `Texts.antt` and `Programs.antt`.
+//! `specs/Texts.antt` is the text of a journal, and `specs/Statuses.antt` has the statuses. `specs/Runs.antt` says what a
+//! run of events promises, `specs/Programs.antt` what the top call promises of each command.
 #![tactic(auto)]
 
-mod components;
-mod counts;
-mod statuses;
-mod texts;
+mod laws;
+mod status;
 
-pub use components::prefixes;
-pub use counts::{Counts, count_notes};
-pub use statuses::{is_good, last_status, last_stops, note_status, note_stops, parents_status};
-pub use texts::{note_line, shown, storm_line, text_crc};
+pub use laws::{
+    a_run_without_faults_is_complete, a_status_has_its_cause, a_text_only_grows,
+};
+pub use status::Status;

@@ -1,4 +1,3 @@
 pub mod Joining
-pub mod Says
 pub mod Survey
 pub mod Told

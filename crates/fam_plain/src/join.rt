@@ -1,17 +1,13 @@
-//! Whether an entry joins a list, by scans over the whole list.
+//! Whether an entry joins the tree of a list, by scans over the whole list.
 
-ghost use Rattle.std.specs.Prelude.{◌≡◌, IfOk};
+ghost use Rattle.std.specs.Prelude.{◌≡◌};
 ghost use Rattle.std.specs.FinMap as map;
-ghost use Rattle.fam_format.specs.Params.{SoundParams};
 ghost use Rattle.fam_format.specs.Tree as tree;
 ghost use Rattle.fam_format.specs.Tree.{replay};
-ghost use Rattle.fam_format.specs.Units.{first_overlap, is_used, units_in};
 ghost use Rattle.fam_base.specs.Paths.{parent_of};
 
-use crate::units::{first_overlap, head_units, list_units, push_units};
-use fam_base::{Entry, Kind, OutOfMemory, Params, Path};
+use fam_base::{Entry, Kind, Path};
 use fam_format::Reason;
-use std::alloc::Global;
 
 /// The last entry of the list at the path.
 fn entry_at(entries: &[Entry], path: &Path) -> Option<Entry>
@@ -64,40 +60,4 @@ pub(crate) fn tree_fault(entries: &[Entry], entry: &Entry) -> Option<Reason>
         Some(fault) => Some(fault),
         None => parent_fault(entries, entry),
     }
-}
-
-fn overlap_fault(
-    alloc: Global,
-    params: &Params,
-    entries: &[Entry],
-    entry: &Entry,
-) -> Result<Option<Reason>, OutOfMemory>
-    requires { SoundParams params.now }
-    ensures { IfOk result (λ fault. fault ≡ tree.overlap_fault
-        (first_overlap (is_used params.now entries.now) (units_in params.now.unit entry.now.extents))) }
-{
-    let mut seen = list_units(alloc, params.unit, entries)?;
-    let mut units = Vec::new(alloc);
-    push_units(&mut units, params.unit, entry.extents.as_slice())?;
-    match first_overlap(head_units(params), &mut seen, &units)? {
-        Some(unit) => Ok(Some(Reason::Overlap(unit))),
-        None => Ok(None),
-    }
-}
-
-/// Why an entry doesn't join a list, or nothing where it does.
-#[tactic(auto, unfolding(fam_format::specs::Tree::join_fault))]
-pub(crate) fn join_fault(
-    alloc: Global,
-    params: &Params,
-    entries: &[Entry],
-    entry: &Entry,
-) -> Result<Option<Reason>, OutOfMemory>
-    requires { SoundParams params.now }
-    ensures { IfOk result (λ fault. fault ≡ tree.join_fault params.now entries.now entry.now) }
-{
-    if let Some(fault) = tree_fault(entries, entry) {
-        return Ok(Some(fault));
-    }
-    overlap_fault(alloc, params, entries, entry)
 }

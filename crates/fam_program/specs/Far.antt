@@ -3,6 +3,7 @@ use Rattle.std.specs.Prelude.{ℕ, ⊤, ◌≡◌, ◌≤◌, List, [], ◌∷�
 use Rattle.fam_base.specs.Image.{Image}
 use Rattle.fam_media.specs.Files.{Files}
 use Rattle.fam_media.specs.Outside.{IfModelled}
+use Rattle.fam_media.specs.States.{MediaState}
 use Rattle.fam_journal.specs.declared.event.Event.{Event}
 use Rattle.fam_journal.specs.CallRecords.{FitsMedia}
 use Rattle.fam_journal.specs.Ends.{HasCounted}
@@ -24,15 +25,13 @@ AreSoundEvents (event ∷ events) = IsSoundEvent event × AreSoundEvents events
 pub record Base : Type 0 where
   pub events : List Event
   pub lines : ℕ
-  pub told : Option Image
-  pub faults : ℕ
+  pub media : MediaState
   pub files : Option Files
 
 -- what it has come to: the world, and what the media tells by now; so many bytes of sources were read
 pub record Now : Type 0 where
   pub world : WorldView
-  pub told : Option Image
-  pub faults : ℕ
+  pub media : MediaState
   pub copied : ℕ
 
 -- where image and files are modelled: from the first session the journal's rules lead to one with this image, at which the
@@ -40,7 +39,7 @@ pub record Now : Type 0 where
 pub record FarOn (files : Files) (events : List Event) (start : Image) (n : Now) : Type 0 where
   pub last : Session
   pub follows : Follows files events (first_session start) n.world.journal last
-  pub left : n.told ≡ Some last.machines.memory
+  pub left : n.media.image ≡ Some last.machines.memory
   pub held : Held start last.machines n.world last.machines.memory
   pub copied : last.copied ≡ n.copied
 
@@ -48,9 +47,9 @@ pub record FarOn (files : Files) (events : List Event) (start : Image) (n : Now)
 -- as many faults as they tell; tasks and cached lines are the media's, and hosts are what the journal tells
 pub record Far (b : Base) (count : ℕ) (n : Now) : Type 0 where
   pub named : NameDeclared 0 n.world.journal
-  pub counted : HasCounted b.faults n.faults n.world.journal
-  pub later : b.faults ≤ n.faults
+  pub counted : HasCounted b.media.faults n.media.faults n.world.journal
+  pub later : b.media.faults ≤ n.media.faults
   pub fits : FitsMedia b.lines n.world.hosts
   pub formed : IsFormed n.world
   pub form : FollowsForm b.lines (take count b.events) [] n.world.journal
-  pub on : IfModelled b.told (λ start. IfModelled b.files (λ files. FarOn files (take count b.events) start n))
+  pub on : IfModelled b.media.image (λ start. IfModelled b.files (λ files. FarOn files (take count b.events) start n))

@@ -2,23 +2,24 @@
 use Rattle.std.specs.Prelude.{ℕ, ⊤, ◌≡◌, ◌⊎◌, ◌<◌, ◌≤◌, List, length, Some, None, Ok, Err}
 use Rattle.std.specs.FinMap as map
 use Rattle.fam_media.specs.Outside.{IfModelled}
+use Rattle.fam_media.specs.States.{ShelfChange, SinkChange}
 use Rattle.fam_sources.specs.declared.sourced.SourceEnd.{SourceEnd}
 use Rattle.fam_sources.specs.declared.sourced.SourceEnd.TheVariants as end
 use Rattle.fam_sources.specs.Sourced.{HasEndCause, end_of}
-use Rattle.fam_sources.specs.Whole.{HoldsBytes, ShelfChange}
+use Rattle.fam_sources.specs.Whole.{HoldsBytes}
 use Rattle.fam_journal.specs.declared.event.Event.{Event}
-use Rattle.fam_journal.specs.declared.status.Status.{Status}
-use Rattle.fam_journal.specs.declared.status.Status.TheVariants as status
-use Rattle.fam_journal.specs.Programs.{Early, EarlyOutOfMemory, LongScript, NoScript, ScriptFails, early_status, early_text, memory_line, script_limit}
-use Rattle.fam_journal.specs.Programs as program
+use Rattle.fam_outcomes.specs.declared.status.Status.{Status}
+use Rattle.fam_outcomes.specs.declared.status.Status.TheVariants as status
+use Rattle.fam_outcomes.specs.Programs.{Early, EarlyOutOfMemory, LongScript, NoScript, ScriptFails, early_status, early_text, memory_line, script_limit}
+use Rattle.fam_outcomes.specs.Programs as program
 use Rattle.fam_grammar.specs.Scripts.{script_events}
 use Rattle.fam_program.specs.declared.fault.ScriptFault.{ScriptFault}
 use Rattle.fam_program.specs.declared.fault.ScriptFault.TheVariants.{BadLine, Ended, NoFile, OutOfMemory, TooLong}
-use Rattle.fam_program.specs.Puts.{Put, SinkChange}
+use Rattle.fam_program.specs.Puts.{Put}
 
 -- the script of this name is so many bytes, which are these where the files are modelled
 abbrev pub HoldsScript : ShelfChange → List ℕ → List ℕ → Type 0
-HoldsScript change name bytes = (length bytes ≤ script_limit) × IfModelled change.files (λ files. map.get files name ≡ Some bytes)
+HoldsScript change name bytes = (length bytes ≤ script_limit) × IfModelled change.old.files (λ files. map.get files name ≡ Some bytes)
 
 -- and it has these events
 pub record HoldsEvents (change : ShelfChange) (name : List ℕ) (events : List Event) : Type 0 where
@@ -35,12 +36,12 @@ pub record HoldsBadLine (change : ShelfChange) (name : List ℕ) (line column : 
 -- a script that is short is no longer than a script may be
 abbrev pub IsShortScript : ShelfChange → List ℕ → SourceEnd → Type 0
 IsShortScript change name end.Faulted = ⊤
-IsShortScript change name (end.Short size got) = (size ≤ script_limit) × HoldsBytes change.files name (λ bytes. size ≡ length bytes)
+IsShortScript change name (end.Short size got) = (size ≤ script_limit) × HoldsBytes change.old.files name (λ bytes. size ≡ length bytes)
 
 -- each fault has its cause
 abbrev pub IsUnread : ShelfChange → List ℕ → ScriptFault → Type 0
-IsUnread change name NoFile = IfModelled change.files (λ files. map.get files name ≡ None)
-IsUnread change name (TooLong size) = (script_limit < size) × HoldsBytes change.files name (λ bytes. size ≡ length bytes)
+IsUnread change name NoFile = IfModelled change.old.files (λ files. map.get files name ≡ None)
+IsUnread change name (TooLong size) = (script_limit < size) × HoldsBytes change.old.files name (λ bytes. size ≡ length bytes)
 IsUnread change name (Ended end) = HasEndCause change end × IsShortScript change name end
 IsUnread change name (BadLine line column) = HoldsBadLine change name line column
 IsUnread change name OutOfMemory = ⊤

@@ -2,34 +2,25 @@
 use Rattle.std.specs.Prelude.{ℕ, ◌≡◌, ◌⊎◌, ◌++◌, List, Option, option_map, take}
 use Rattle.fam_media.specs.Causes.{Rose}
 use Rattle.fam_media.specs.Outside.{IsPartlyPut, with_piece}
-use Rattle.fam_journal.specs.declared.status.Status.{Status}
-use Rattle.fam_journal.specs.declared.status.Status.TheVariants as status
+use Rattle.fam_media.specs.States.{SinkChange}
+use Rattle.fam_outcomes.specs.declared.status.Status.{Status}
+use Rattle.fam_outcomes.specs.declared.status.Status.TheVariants as status
 use Rattle.fam_journal.specs.Notes.{Note}
-use Rattle.fam_journal.specs.Programs.{memory_line, source_line}
-use Rattle.fam_journal.specs.Texts.{render_behind}
+use Rattle.fam_outcomes.specs.Programs.{memory_line, source_line}
+use Rattle.fam_outcomes.specs.Texts.{render_behind}
 use Rattle.fam_sources.specs.declared.sourced.SourceEnd.{SourceEnd}
 use Rattle.fam_sources.specs.Sourced.{end_of}
 use Rattle.fam_events.specs.declared.fault.EventFault.{EventFault}
 use Rattle.fam_events.specs.declared.fault.EventFault.TheVariants as fault
 
--- a sink from one state to another: the bytes, where they are modelled, and its count of faults
-pub record SinkChange : Type 0 where
-  pub bytes : Option (List ℕ)
-  pub bytes_now : Option (List ℕ)
-  pub faults : ℕ
-  pub faults_now : ℕ
-
-abbrev pub sink_changed : {K : Type 0} → (K → Option (List ℕ)) → (K → ℕ) → K → K → SinkChange
-sink_changed bytes faults old now = record { bytes = bytes old; bytes_now = bytes now; faults = faults old; faults_now = faults now }
-
 -- a text was put whole
 abbrev pub PutWhole : List ℕ → SinkChange → Type 0
-PutWhole text s = s.bytes_now ≡ option_map (with_piece text) s.bytes
+PutWhole text s = s.new.bytes ≡ option_map (with_piece text) s.old.bytes
 
 -- or a part of it, where the sink failed
 pub record PutPart (text : List ℕ) (s : SinkChange) : Type 0 where
-  pub part : IsPartlyPut s.bytes s.bytes_now text
-  pub rose : Rose s.faults s.faults_now
+  pub part : IsPartlyPut s.old.bytes s.new.bytes text
+  pub rose : Rose s.old.faults s.new.faults
 
 -- with its own status, or with that of a sink that failed
 abbrev pub Put : Status → List ℕ → SinkChange → Status → Type 0

@@ -6,9 +6,9 @@ use Rattle.fam_journal.specs.declared.event.Event.{Event}
 use Rattle.fam_journal.specs.declared.event.Event.TheVariants as event
 use Rattle.fam_journal.specs.Ends.{AllDone, IsFaultless}
 use Rattle.fam_journal.specs.Notes.{Note}
-use Rattle.fam_journal.specs.Programs.{last_passes, without_last}
-use Rattle.fam_journal.specs.Runs.{Outside}
-use Rattle.fam_journal.specs.Statuses.{last_stops, note_stops}
+use Rattle.fam_outcomes.specs.Programs.{last_passes, without_last}
+use Rattle.fam_outcomes.specs.Runs.{Outside}
+use Rattle.fam_outcomes.specs.Statuses.{last_stops, note_stops}
 use Rattle.fam_events.specs.declared.fault.EventFault.{EventFault}
 use Rattle.fam_events.specs.declared.fault.EventFault.TheVariants as fault
 use Rattle.fam_program.specs.Runs.{HasEnded, ending_of}
@@ -21,6 +21,7 @@ EventsEnded (Err fault) out events journal = HasEnded (ending_of fault) out even
 
 -- Events of which the last note may stop the run: a host is declared, makes a file system, or runs a command.
 
+-- an event of a command on its own: a mkfs or a run
 abbrev pub IsShotEvent : Event → Type 0
 IsShotEvent (event.Host name uuid) = ⊤
 IsShotEvent (event.Mkfs name fs unit log force) = ⊤
@@ -34,6 +35,7 @@ IsShotEvent (event.Evict name line) = ⊥
 IsShotEvent (event.Leak name line mask) = ⊥
 IsShotEvent (event.Fetch name line mask) = ⊥
 
+-- each event is one of a command on its own
 abbrev pub AreShotEvents : List Event → Type 0
 AreShotEvents [] = ⊤
 AreShotEvents (event ∷ events) = IsShotEvent event × AreShotEvents events

@@ -2,17 +2,16 @@
 use Rattle.std.specs.Prelude.{ℕ, List, [], Option}
 use Rattle.fam_base.specs.Image.{Image}
 use Rattle.fam_media.specs.Outside.{IfModelled}
+use Rattle.fam_media.specs.States.{change, MediaState, ShelfChange, SinkChange}
 use Rattle.fam_journal.specs.declared.event.Event.{Event}
 use Rattle.fam_journal.specs.Ends.{Ending, EndsOutOfMemory, HasCounted, MkfsFails, SourceFails}
 use Rattle.fam_journal.specs.EventForms.{EndsForm}
 use Rattle.fam_journal.specs.Names.{NameDeclared}
 use Rattle.fam_journal.specs.Notes.{Note}
-use Rattle.fam_journal.specs.Runs.{IsCaused, Outside, RunsOn}
+use Rattle.fam_outcomes.specs.Runs.{IsCaused, Outside, RunsOn}
 use Rattle.fam_events.specs.declared.fault.EventFault.{EventFault}
 use Rattle.fam_events.specs.declared.fault.EventFault.TheVariants as fault
 use Rattle.fam_sources.specs.Sourced.{end_of}
-use Rattle.fam_sources.specs.Whole.{ShelfChange}
-use Rattle.fam_program.specs.Puts.{SinkChange}
 
 -- the ending that an event's result makes
 abbrev pub ending_of : EventFault → Ending
@@ -24,25 +23,10 @@ ending_of fault.OutOfMemory = EndsOutOfMemory
 pub record HasEnded (ending : Ending) (out : Outside) (events : List Event) (journal : List Note) : Type 0 where
   pub named : NameDeclared 0 journal
   pub form : EndsForm ending out.lines events [] journal
-  pub counted : HasCounted out.faults out.faults_now journal
+  pub counted : HasCounted out.media.old.faults out.media.new.faults journal
   pub caused : IsCaused ending events journal out
-  pub told : IfModelled out.image (λ start. IfModelled out.files (λ files. RunsOn ending files events start out.image_now journal))
+  pub told : IfModelled out.media.old.image (λ start. IfModelled out.shelf.old.files (λ files. RunsOn ending files events start out.media.new.image journal))
 
 -- what media, shelf and sink tell before and after
-abbrev pub outside_of : {M : Type 0} → (M → ℕ) → (M → Option Image) → (M → ℕ) → M → M → ShelfChange → SinkChange → Outside
-outside_of size image faults media media_now shelf sink = record {
-  lines = size media;
-  image = image media;
-  image_now = image media_now;
-  faults = faults media;
-  faults_now = faults media_now;
-  files = shelf.files;
-  shelf = shelf.faults;
-  shelf_now = shelf.faults_now;
-  shorts = shelf.shorts;
-  shorts_now = shelf.shorts_now;
-  bytes = sink.bytes;
-  bytes_now = sink.bytes_now;
-  sink = sink.faults;
-  sink_now = sink.faults_now;
-}
+abbrev pub outside_of : {M : Type 0} → (M → ℕ) → (M → MediaState) → M → M → ShelfChange → SinkChange → Outside
+outside_of size state before behind shelf sink = record { lines = size before; media = change state before behind; shelf = shelf; sink = sink }

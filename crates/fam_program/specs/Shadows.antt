@@ -2,44 +2,38 @@
 use Rattle.std.specs.Prelude.{ℕ, ◌≡◌, ◌⊎◌, ◌++◌, List, [], ◌∷◌, codes, Option, Some, None, option_map, Result, Ok, Err, IfErr}
 use Rattle.std.specs.FinMap as map
 use Rattle.fam_base.specs.declared.cmd.Cmd.TheVariants as cmd
+use Rattle.fam_media.specs.States.{ShelfState, ShelfChange}
 use Rattle.fam_format.specs.Tree.{Tree}
 use Rattle.fam_grammar.specs.Scripts.{script_events}
 use Rattle.fam_rules.specs.Reply as reply
 use Rattle.fam_rules.specs.Reply.{Reply}
 use Rattle.fam_shadow.specs.declared.fault.ShadowFault.{ShadowFault}
 use Rattle.fam_shadow.specs.declared.fault.ShadowFault.TheVariants as fault
-use Rattle.fam_shadow.specs.Nodes.{Nodes}
+use Rattle.fam_shadow.specs.Nodes.{ShadeChange}
 use Rattle.fam_shadow.specs.Shadows.{Becomes, FaultCaused, ShadowEnds}
-use Rattle.fam_sources.specs.Whole.{ShelfChange}
 use Rattle.fam_storm.specs.Storm.{storm}
 use Rattle.fam_journal.specs.declared.event.Ask.TheVariants as ask
 use Rattle.fam_journal.specs.declared.event.Event.{Event}
-use Rattle.fam_journal.specs.declared.status.Status.{Status}
-use Rattle.fam_journal.specs.declared.status.Status.TheVariants as status
+use Rattle.fam_outcomes.specs.declared.status.Status.{Status}
+use Rattle.fam_outcomes.specs.declared.status.Status.TheVariants as status
 use Rattle.fam_journal.specs.Ends.{AllDone}
 use Rattle.fam_journal.specs.Notes.{Answer, Replied, MediaFault, Note, Host, Made, Start, Mark, Found, Writes, Answered, Stop, Halt, Refused}
-use Rattle.fam_journal.specs.Programs.{EndsEarly, IsWholeRun, OneShot, Runs, ShotRuns, Single, memory_line}
-use Rattle.fam_journal.specs.Runs.{IsPut, NoneFalls, Outside}
-use Rattle.fam_journal.specs.Texts.{line, number}
+use Rattle.fam_outcomes.specs.Programs.{EndsEarly, IsWholeRun, OneShot, Runs, ShotRuns, Single, memory_line}
+use Rattle.fam_outcomes.specs.Runs.{IsPut, NoneFalls, Outside}
+use Rattle.fam_outcomes.specs.Texts.{line, number}
 use Rattle.fam_program.specs.Runs.{HasEnded}
 
--- a shelf on which no file is, and which never fails
+-- a shelf on which no file is, and no call of which failed
+abbrev pub empty_shelf : ShelfState
+empty_shelf = record { files = Some map.empty; faults = 0; shorts = 0 }
+
+-- it stays so
 abbrev pub no_files : ShelfChange
-no_files = record { files = Some map.empty; faults = 0; faults_now = 0; shorts = 0; shorts_now = 0 }
-
--- a folder from one state to another: what stands there, where it is told, and its count of faults
-pub record ShadeChange : Type 0 where
-  pub nodes : Option Nodes
-  pub nodes_now : Option Nodes
-  pub faults : ℕ
-  pub faults_now : ℕ
-
-abbrev pub shade_changed : {D : Type 0} → (D → Option Nodes) → (D → ℕ) → D → D → ShadeChange
-shade_changed nodes faults old now = record { nodes = nodes old; nodes_now = nodes now; faults = faults old; faults_now = faults now }
+no_files = record { old = empty_shelf; new = empty_shelf }
 
 -- it is as it was
 abbrev pub IsUntouched : ShadeChange → Type 0
-IsUntouched s = s.nodes_now ≡ s.nodes
+IsUntouched shade = shade.new.nodes ≡ shade.old.nodes
 
 -- the command that shows the tree
 abbrev pub logplay : OneShot
@@ -62,6 +56,7 @@ replied_tree (reply.NoSuperblock fault) = None
 replied_tree (reply.BadHeader fault) = None
 replied_tree (reply.BadSlot seq reason) = None
 
+-- the tree that a logplay answers, and of how many entries it is
 abbrev pub answered_tree : Answer → Option (ℕ × Tree)
 answered_tree (Replied given) = replied_tree given
 answered_tree (MediaFault at) = None
@@ -96,6 +91,7 @@ abbrev pub shadow_text : ℕ → Result (Unit {0}) ShadowFault → List ℕ
 shadow_text m (Ok done) = line (codes "shadowed" ++ number m)
 shadow_text m (Err given) = fault_text given
 
+-- the status of a shadow, by how the writing ended
 abbrev pub shadow_status : Result (Unit {0}) ShadowFault → Status
 shadow_status (Ok done) = status.Done
 shadow_status (Err (fault.Clash name)) = status.Refused
@@ -116,8 +112,8 @@ pub record HasShadowed (me : List ℕ) (out : Outside) (shade : ShadeChange) (te
   pub tree : Tree
   pub shown : shown_tree journal ≡ Some (m, tree)
   pub written : Result (Unit {0}) ShadowFault
-  pub becomes : Becomes shade.nodes shade.nodes_now (ShadowEnds tree written)
-  pub caused : IfErr written (FaultCaused tree shade.faults shade.faults_now)
+  pub becomes : Becomes shade.old.nodes shade.new.nodes (ShadowEnds tree written)
+  pub caused : IfErr written (FaultCaused tree shade.old.faults shade.new.faults)
   pub says : ShadowSays m written text own
 
 -- text and status are logplay's, which showed no tree
@@ -126,6 +122,7 @@ pub record HasLogplayed (me : List ℕ) (out : Outside) (shade : ShadeChange) (t
   pub none : runs.ending ≡ AllDone → shown_tree runs.run.journal ≡ None
   pub untouched : IsUntouched shade
 
+-- what a shadow comes to: a logplay ran, and its tree was written, or not
 abbrev pub ShadowRuns : Option (List ℕ) → Outside → ShadeChange → List ℕ → Status → Type 0
 ShadowRuns None out shade text own = ⊥
 ShadowRuns (Some me) out shade text own = HasShadowed me out shade text own ⊎ HasLogplayed me out shade text own

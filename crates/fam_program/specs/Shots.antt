@@ -1,30 +1,34 @@
 -- What is put of a command of its own, and for which lines of it no memory is wanted.
 use Rattle.std.specs.Prelude.{ℕ, ◌≡◌, ◌⊎◌, ◌++◌, Bool, true, false, List, codes, Result, Ok, Err}
+use Rattle.fam_media.specs.States.{SinkChange}
 use Rattle.fam_rules.specs.Reply as reply
 use Rattle.fam_journal.specs.declared.refusal.Refusal.{Refusal}
 use Rattle.fam_journal.specs.declared.refusal.Refusal.TheVariants as why
-use Rattle.fam_journal.specs.declared.status.Status.{Status}
-use Rattle.fam_journal.specs.declared.status.Status.TheVariants as status
+use Rattle.fam_outcomes.specs.declared.status.Status.{Status}
+use Rattle.fam_outcomes.specs.declared.status.Status.TheVariants as status
 use Rattle.fam_journal.specs.Notes.{Answer, Replied, MediaFault, Note, Host, Made, Start, Mark, Found, Writes, Answered, Stop, Halt, Refused}
-use Rattle.fam_journal.specs.Programs.{last_passes, memory_line}
-use Rattle.fam_journal.specs.Texts.{line, number, shown}
+use Rattle.fam_outcomes.specs.Programs.{last_passes, memory_line}
+use Rattle.fam_outcomes.specs.Texts.{line, number, shown}
 use Rattle.fam_events.specs.declared.fault.EventFault.{EventFault}
 use Rattle.fam_events.specs.declared.fault.EventFault.TheVariants as fault
 use Rattle.fam_program.specs.declared.numbers.NumberLine.{NumberLine}
 use Rattle.fam_program.specs.declared.numbers.NumberLine.TheVariants as by
-use Rattle.fam_program.specs.Puts.{EndSays, Put, SinkChange}
+use Rattle.fam_program.specs.Puts.{EndSays, Put}
 
 -- Last notes for whose line no memory is wanted: an entry is appended, or the media failed.
 
+-- an answer whose text has one number alone
 abbrev pub is_short_answer : Answer → Bool
 is_short_answer (Replied (reply.Appended seq)) = true
 is_short_answer (Replied given) = false
 is_short_answer (MediaFault at) = true
 
+-- a refusal whose text has one number alone
 abbrev pub is_short_cause : Refusal → Bool
 is_short_cause (why.MediaFault at) = true
 is_short_cause cause = false
 
+-- a note whose text has one number alone
 abbrev pub is_short : Note → Bool
 is_short (Host name uuid) = false
 is_short (Made host p) = false

@@ -2,7 +2,7 @@
 //!
 //! `specs/Far.antt` says how far a run has come, `specs/Runs.antt` how it has ended, `specs/Scripts.antt` what a script
 //! puts of it, `specs/Files.antt` what a file's script is, and `specs/Shots.antt` what a command of its own puts; the
-//! definitions are those of fam_journal, as is `TopEnds`, which says it of each of the program's commands.
+//! definitions are those of fam_outcomes, as is `TopEnds`, which says it of each of the program's commands.
 #![tactic(auto)]
 
 mod fault;

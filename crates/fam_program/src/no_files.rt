@@ -10,11 +10,7 @@ use fam_media::{Failed, Shelf};
 pub(crate) struct NoFiles;
 
 impl Shelf for NoFiles {
-    ghost files = { λ _. Some map.empty };
-
-    ghost faults = { λ _. 0 };
-
-    ghost shorts = { λ _. 0 };
+    ghost state = { λ _. record { files = Some map.empty; faults = 0; shorts = 0 } };
 
     fn size(&mut self, _name: &str) -> Result<Option<u64>, Failed> {
         Ok(None)

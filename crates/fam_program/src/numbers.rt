@@ -1,15 +1,16 @@
 //! Lines of words and one number, which are made without memory: what an append comes to is told in any case.
 
 ghost use Rattle.std.specs.Prelude.{◌≡◌, ◌++◌, ◌∷◌, ◌≤◌, [], IfSome, List, None, codes, decimal, drop, false, length, ℕ};
-ghost use Rattle.fam_journal.specs.Programs.{last_passes};
-ghost use Rattle.fam_journal.specs.Texts as text;
-ghost use Rattle.fam_outcomes.specs.Answers.{answer_view};
-ghost use Rattle.fam_world.specs.View.{note_view, notes_view};
-ghost use Rattle.fam_program.specs.Puts.{Put, sink_changed};
+ghost use Rattle.fam_media.specs.States.{change};
+ghost use Rattle.fam_outcomes.specs.Programs.{last_passes};
+ghost use Rattle.fam_outcomes.specs.Texts as text;
+ghost use Rattle.fam_notes.specs.Notes.{answer_view, note_view, notes_view};
+ghost use Rattle.fam_program.specs.Puts.{Put};
 ghost use Rattle.fam_program.specs.Shots.{is_short, is_short_answer, is_short_cause, number_text};
 
 use crate::puts::put_line;
-use fam_journal::{Refusal, Status};
+use fam_journal::Refusal;
+use fam_outcomes::Status;
 use fam_media::Sink;
 use fam_notes::Note;
 use fam_tasks::Answer;
@@ -132,8 +133,8 @@ fn write_number(words: &[u8], number: u64, room: &mut [u8; ROOM]) -> usize
 /// Puts words, a number and a line feed, and gives their status.
 fn put_words<K: Sink>(words: &[u8], number: u64, own: Status, out: &mut K) -> Status
     requires short { length words.now ≤ 21 }
-    ensures put { Put own (words.now ++ (decimal number ++ 10 ∷ [])) (sink_changed K.bytes K.faults out.old out.new) result }
-    ensures later { K.faults out.old ≤ K.faults out.new }
+    ensures put { Put own (words.now ++ (decimal number ++ 10 ∷ [])) (change K.state out.old out.new) result }
+    ensures later { (K.state out.old).faults ≤ (K.state out.new).faults }
 {
     let mut room = [0; ROOM];
     let start = write_number(words, number, &mut room);
@@ -142,8 +143,8 @@ fn put_words<K: Sink>(words: &[u8], number: u64, own: Status, out: &mut K) -> St
 
 /// Puts a line that says one number, and gives its status. It takes no memory.
 pub(crate) fn put_number<K: Sink>(short: NumberLine, own: Status, out: &mut K) -> Status
-    ensures put { Put own (number_text short) (sink_changed K.bytes K.faults out.old out.new) result }
-    ensures later { K.faults out.old ≤ K.faults out.new }
+    ensures put { Put own (number_text short) (change K.state out.old out.new) result }
+    ensures later { (K.state out.old).faults ≤ (K.state out.new).faults }
 {
     match short {
         NumberLine::Appended(seq) => put_words(b"ok ", seq, own, out),

@@ -2,11 +2,11 @@
 
 ghost use Rattle.std.specs.Prelude.{◌≡◌, ◌++◌, ◌∷◌, [], IfOk, OnOk};
 ghost use Rattle.fam_journal.specs.declared.event.Event.TheVariants as event;
-ghost use Rattle.fam_journal.specs.Programs.{MakesParents, shot_events};
+ghost use Rattle.fam_outcomes.specs.Programs.{MakesParents, shot_events};
 
 use fam_base::{Attr, Cmd, HostName, OutOfMemory, Path};
 use fam_journal::{Ask, Event};
-use fam_outcomes::prefixes;
+use fam_script::prefixes;
 use std::alloc::Global;
 use uuid::Uuid;
 

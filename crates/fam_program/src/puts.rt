@@ -1,29 +1,30 @@
 //! What is put of a run: the notes of each event, and the line that ends it early.
 
 ghost use Rattle.std.specs.Prelude.{◌≡◌, ◌≤◌, [], IsErrOf, OnOk, drop, length, take};
+ghost use Rattle.fam_media.specs.States.{change};
 ghost use Rattle.fam_journal.specs.Names.{IsNamed, NameDeclared};
-ghost use Rattle.fam_journal.specs.Programs.{memory_line, usage_line};
-ghost use Rattle.fam_journal.specs.declared.status.Status.TheVariants as status;
-ghost use Rattle.fam_journal.specs.Texts as text;
-ghost use Rattle.fam_world.specs.View.{note_view, notes_view};
-ghost use Rattle.fam_program.specs.Puts.{EndSays, Put, PutPart, PutSome, PutWhole, StopSays, sink_changed};
+ghost use Rattle.fam_outcomes.specs.Programs.{memory_line, usage_line};
+ghost use Rattle.fam_outcomes.specs.declared.status.Status.TheVariants as status;
+ghost use Rattle.fam_outcomes.specs.Texts as text;
+ghost use Rattle.fam_notes.specs.Notes.{note_view, notes_view};
+ghost use Rattle.fam_program.specs.Puts.{EndSays, Put, PutPart, PutSome, PutWhole, StopSays};
 
 use crate::fault::PutFault;
 use crate::lines::{MEMORY, USAGE, end_line};
 use fam_base::HostName;
 use fam_events::EventFault;
-use fam_journal::Status;
+use fam_outcomes::Status;
 use fam_media::Sink;
 use fam_notes::Note;
-use fam_outcomes::note_line;
+use fam_script::note_line;
 use fam_sources::SourceEnd;
 use fam_world::World;
 use std::alloc::Global;
 
 /// Puts a text, and gives its status, or that of a sink that failed.
 pub(crate) fn put_line<K: Sink>(out: &mut K, own: Status, text: &[u8]) -> Status
-    ensures put { Put own text.now (sink_changed K.bytes K.faults out.old out.new) result }
-    ensures later { K.faults out.old ≤ K.faults out.new }
+    ensures put { Put own text.now (change K.state out.old out.new) result }
+    ensures later { (K.state out.old).faults ≤ (K.state out.new).faults }
 {
     match out.put(text) {
         Ok(()) => own,
@@ -33,24 +34,24 @@ pub(crate) fn put_line<K: Sink>(out: &mut K, own: Status, text: &[u8]) -> Status
 
 /// Puts what the words of a call may be, and gives the status of words that are none.
 pub fn put_usage<K: Sink>(out: &mut K) -> Status
-    ensures put { Put status.Usage usage_line (sink_changed K.bytes K.faults out.old out.new) result }
-    ensures later { K.faults out.old ≤ K.faults out.new }
+    ensures put { Put status.Usage usage_line (change K.state out.old out.new) result }
+    ensures later { (K.state out.old).faults ≤ (K.state out.new).faults }
 {
     put_line(out, Status::Usage, USAGE.as_bytes())
 }
 
 /// Puts that no memory is left, and gives the status.
 pub fn put_memory<K: Sink>(out: &mut K) -> Status
-    ensures put { Put status.OutOfMemory memory_line (sink_changed K.bytes K.faults out.old out.new) result }
-    ensures later { K.faults out.old ≤ K.faults out.new }
+    ensures put { Put status.OutOfMemory memory_line (change K.state out.old out.new) result }
+    ensures later { (K.state out.old).faults ≤ (K.state out.new).faults }
 {
     put_line(out, Status::OutOfMemory, MEMORY.as_bytes())
 }
 
 /// Puts how the reading of a source ended early, or that no memory is left to say so, and gives the status.
 pub(crate) fn put_source_end<K: Sink>(alloc: Global, end: SourceEnd, out: &mut K) -> Status
-    ensures says { EndSays end (sink_changed K.bytes K.faults out.old out.new) result }
-    ensures later { K.faults out.old ≤ K.faults out.new }
+    ensures says { EndSays end (change K.state out.old out.new) result }
+    ensures later { (K.state out.old).faults ≤ (K.state out.new).faults }
 {
     match end_line(alloc, end) {
         Ok(line) => put_line(out, Status::SourceFault, line.as_slice()),
@@ -68,12 +69,12 @@ fn put_note<K: Sink>(
 ) -> Result<(), PutFault>
     requires { IsNamed (length names.old.items) (note_view note.now) }
     ensures put { OnOk result (PutWhole (text.note_line names.old.items (note_view note.now))
-        (sink_changed K.bytes K.faults out.old out.new)) }
+        (change K.state out.old out.new)) }
     ensures names { OnOk result (names.new.items ≡ text.names_after names.old.items (note_view note.now)) }
     ensures part { IsErrOf result PutFault.Sink → PutPart (text.note_line names.old.items (note_view note.now))
-        (sink_changed K.bytes K.faults out.old out.new) }
+        (change K.state out.old out.new) }
     ensures undone { IsErrOf result PutFault.OutOfMemory → out.new ≡ out.old }
-    ensures later { K.faults out.old ≤ K.faults out.new }
+    ensures later { (K.state out.old).faults ≤ (K.state out.new).faults }
 {
     let Ok(line) = note_line(alloc, note, names) else {
         return Err(PutFault::OutOfMemory);
@@ -94,13 +95,13 @@ fn put_each<K: Sink>(
 ) -> Result<(), PutFault>
     requires { NameDeclared (length names.old.items) (notes_view notes.now) }
     ensures put { OnOk result (PutWhole (text.render_behind names.old.items (notes_view notes.now))
-        (sink_changed K.bytes K.faults out.old out.new)) }
+        (change K.state out.old out.new)) }
     ensures names { OnOk result (names.new.items ≡ text.names_behind names.old.items (notes_view notes.now)) }
     ensures part { IsErrOf result PutFault.Sink → PutPart (text.render_behind names.old.items (notes_view notes.now))
-        (sink_changed K.bytes K.faults out.old out.new) }
+        (change K.state out.old out.new) }
     ensures some { IsErrOf result PutFault.OutOfMemory → PutSome names.old.items (notes_view notes.now)
-        (sink_changed K.bytes K.faults out.old out.new) }
-    ensures later { K.faults out.old ≤ K.faults out.new }
+        (change K.state out.old out.new) }
+    ensures later { (K.state out.old).faults ≤ (K.state out.new).faults }
 {
     'notes: for note in notes {
         match put_note(alloc, note, names, out) {
@@ -125,13 +126,13 @@ pub(crate) fn put_notes<K: Sink>(
     requires names { names.old.items ≡ text.names_behind [] (take from world.now.journal) }
 
     ensures put { OnOk result (PutWhole (text.render_behind names.old.items (drop from world.now.journal))
-        (sink_changed K.bytes K.faults out.old out.new)) }
+        (change K.state out.old out.new)) }
     ensures names { OnOk result (names.new.items ≡ text.names_behind [] world.now.journal) }
     ensures part { IsErrOf result PutFault.Sink → PutPart (text.render_behind names.old.items (drop from world.now.journal))
-        (sink_changed K.bytes K.faults out.old out.new) }
+        (change K.state out.old out.new) }
     ensures some { IsErrOf result PutFault.OutOfMemory → PutSome names.old.items (drop from world.now.journal)
-        (sink_changed K.bytes K.faults out.old out.new) }
-    ensures later { K.faults out.old ≤ K.faults out.new }
+        (change K.state out.old out.new) }
+    ensures later { (K.state out.old).faults ≤ (K.state out.new).faults }
 {
     put_each(alloc, &world.journal()[from..], names, out)
 }
@@ -150,8 +151,8 @@ fn put_broken<K: Sink>(
     requires names { names.old.items ≡ text.names_behind [] (take from world.now.journal) }
 
     ensures says { StopSays EventFault.MkfsFailed names.old.items (drop from world.now.journal)
-        (sink_changed K.bytes K.faults out.old out.new) result }
-    ensures later { K.faults out.old ≤ K.faults out.new }
+        (change K.state out.old out.new) result }
+    ensures later { (K.state out.old).faults ≤ (K.state out.new).faults }
 {
     match put_notes(alloc, world, from, names, out) {
         Ok(()) => Status::MediaFault,
@@ -173,8 +174,8 @@ fn put_cut<K: Sink>(
     requires names { names.old.items ≡ text.names_behind [] (take from world.now.journal) }
 
     ensures says { StopSays EventFault.OutOfMemory names.old.items (drop from world.now.journal)
-        (sink_changed K.bytes K.faults out.old out.new) result }
-    ensures later { K.faults out.old ≤ K.faults out.new }
+        (change K.state out.old out.new) result }
+    ensures later { (K.state out.old).faults ≤ (K.state out.new).faults }
 {
     match put_notes(alloc, world, from, names, out) {
         Ok(()) => put_memory(out),
@@ -197,8 +198,8 @@ pub(crate) fn put_stop<K: Sink>(
     requires names { names.old.items ≡ text.names_behind [] (take from world.now.journal) }
 
     ensures says { StopSays fault names.old.items (drop from world.now.journal)
-        (sink_changed K.bytes K.faults out.old out.new) result }
-    ensures later { K.faults out.old ≤ K.faults out.new }
+        (change K.state out.old out.new) result }
+    ensures later { (K.state out.old).faults ≤ (K.state out.new).faults }
 {
     match fault {
         EventFault::MkfsFailed => put_broken(alloc, world, from, names, out),

@@ -1,12 +1,11 @@
 //! Events that are run with nothing put of them.
 
 ghost use Rattle.std.specs.Prelude.{◌≡◌, Some};
-ghost use Rattle.fam_media.specs.Causes.{IsSteady};
+ghost use Rattle.fam_media.specs.Causes.{IsShelfSteady, IsSteady};
 ghost use Rattle.fam_media.specs.Outside.{IfModelled};
-ghost use Rattle.fam_sources.specs.Whole.{IsShelfSteady, changed};
+ghost use Rattle.fam_media.specs.States.{change, SinkChange};
 ghost use Rattle.fam_journal.specs.View.{empty_world};
 ghost use Rattle.fam_program.specs.Far.{AreSoundEvents};
-ghost use Rattle.fam_program.specs.Puts.{SinkChange};
 ghost use Rattle.fam_program.specs.Quiet.{AreShotEvents, EventsEnded, IsOneRun, MayLack, ShotEnded};
 ghost use Rattle.fam_program.specs.Runs.{outside_of};
 
@@ -14,7 +13,7 @@ use crate::script::is_image;
 use fam_events::{EventFault, happen};
 use fam_journal::Event;
 use fam_media::{Media, Shelf};
-use fam_outcomes::last_stops;
+use fam_script::last_stops;
 use fam_world::World;
 use std::alloc::Global;
 
@@ -31,10 +30,10 @@ pub(crate) fn run_events<M: Media, S: Shelf>(
 ) -> Result<(), EventFault>
     requires fresh { world.old ≡ empty_world }
     requires sound { AreSoundEvents events.items }
-    ensures ended { (sink : SinkChange) → EventsEnded result (outside_of M.size M.image M.faults media.old media.new
-        (changed S.files S.faults S.shorts shelf.old shelf.new) sink) events.items world.new.journal }
-    ensures steady { IsSteady M.size M.faults media.old media.new }
-    ensures shelf { IsShelfSteady S.files S.faults S.shorts shelf.old shelf.new }
+    ensures ended { (sink : SinkChange) → EventsEnded result (outside_of M.size M.state media.old media.new
+        (change S.state shelf.old shelf.new) sink) events.items world.new.journal }
+    ensures steady { IsSteady M.size M.state media.old media.new }
+    ensures shelf { IsShelfSteady (S.state shelf.old) (S.state shelf.new) }
 {
     is_image(media);
     let mut copied = 0;
@@ -59,15 +58,15 @@ pub(crate) fn run_until_stop<M: Media, S: Shelf>(
     requires fresh { world.old ≡ empty_world }
     requires sound { AreSoundEvents events.items }
     requires shot { AreShotEvents events.items }
-    ensures ended { (sink : SinkChange) → ShotEnded result (outside_of M.size M.image M.faults media.old media.new
-        (changed S.files S.faults S.shorts shelf.old shelf.new) sink) events.items world.new.journal }
+    ensures ended { (sink : SinkChange) → ShotEnded result (outside_of M.size M.state media.old media.new
+        (change S.state shelf.old shelf.new) sink) events.items world.new.journal }
 
     // One command that finds no memory leaves the image, and so does one for whose line there may be none.
-    ensures same { IsOneRun events.items → MayLack result world.new.journal → IfModelled (M.image media.old) (λ start.
-        IfModelled (S.files shelf.old) (λ files. M.image media.new ≡ Some start)) }
+    ensures same { IsOneRun events.items → MayLack result world.new.journal → IfModelled (M.state media.old).image (λ start.
+        IfModelled (S.state shelf.old).files (λ files. (M.state media.new).image ≡ Some start)) }
 
-    ensures steady { IsSteady M.size M.faults media.old media.new }
-    ensures shelf { IsShelfSteady S.files S.faults S.shorts shelf.old shelf.new }
+    ensures steady { IsSteady M.size M.state media.old media.new }
+    ensures shelf { IsShelfSteady (S.state shelf.old) (S.state shelf.new) }
 {
     is_image(media);
     let mut copied = 0;

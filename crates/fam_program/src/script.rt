@@ -1,22 +1,22 @@
 //! Scripts: events are run in their order, and the notes of each are put when it is done.
 
 ghost use Rattle.std.specs.Prelude.{◌≡◌, ◌≤◌};
-ghost use Rattle.fam_media.specs.Causes.{IsSteady};
-ghost use Rattle.fam_sources.specs.Whole.{IsShelfSteady, changed};
+ghost use Rattle.fam_media.specs.Causes.{IsShelfSteady, IsSteady};
 ghost use Rattle.fam_media.specs.Outside.{IfModelled};
+ghost use Rattle.fam_media.specs.States.{change};
 ghost use Rattle.fam_journal.specs.Laws.{IsImage};
-ghost use Rattle.fam_journal.specs.Statuses.{good_status, is_good};
+ghost use Rattle.fam_outcomes.specs.Statuses.{good_status, is_good};
 ghost use Rattle.fam_program.specs.Far.{AreSoundEvents};
 ghost use Rattle.fam_program.specs.Scripts.{ScriptRan};
 ghost use Rattle.fam_program.specs.Runs.{outside_of};
-ghost use Rattle.fam_program.specs.Puts.{sink_changed};
 
 use crate::fault::PutFault;
 use crate::puts::{put_memory, put_notes, put_stop};
 use fam_events::happen;
-use fam_journal::{Event, Status};
+use fam_journal::Event;
+use fam_outcomes::Status;
 use fam_media::{Media, Shelf, Sink};
-use fam_outcomes::is_good;
+use fam_script::is_good;
 use fam_world::World;
 use std::alloc::Global;
 
@@ -33,7 +33,7 @@ fn end_status(world: &World) -> Status
 
 /// An image has at most 1 TiB, and lines of eight words. A call does nothing.
 pub(crate) fn is_image<M: Media>(media: &M)
-    ensures { IfModelled (M.image media.now) IsImage }
+    ensures { IfModelled (M.state media.now).image IsImage }
 {
     let _ = media.lines();
 }
@@ -51,11 +51,11 @@ pub fn run_script<M: Media, S: Shelf, K: Sink>(
     out: &mut K,
 ) -> Status
     requires sound { AreSoundEvents events.items }
-    ensures ran { ScriptRan events.items (outside_of M.size M.image M.faults media.old media.new
-        (changed S.files S.faults S.shorts shelf.old shelf.new) (sink_changed K.bytes K.faults out.old out.new)) result }
-    ensures steady { IsSteady M.size M.faults media.old media.new }
-    ensures shelf { IsShelfSteady S.files S.faults S.shorts shelf.old shelf.new }
-    ensures later { K.faults out.old ≤ K.faults out.new }
+    ensures ran { ScriptRan events.items (outside_of M.size M.state media.old media.new
+        (change S.state shelf.old shelf.new) (change K.state out.old out.new)) result }
+    ensures steady { IsSteady M.size M.state media.old media.new }
+    ensures shelf { IsShelfSteady (S.state shelf.old) (S.state shelf.new) }
+    ensures later { (K.state out.old).faults ≤ (K.state out.new).faults }
 {
     is_image(media);
     let mut world = World::new(alloc);

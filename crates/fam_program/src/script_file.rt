@@ -1,26 +1,27 @@
 //! The script of a file: it is read from the shelf, and its events are run.
 
 ghost use Rattle.std.specs.Prelude.{◌≡◌, ◌≤◌, [], IfErr, IfOk, Some};
-ghost use Rattle.fam_media.specs.Causes.{IsSteady};
-ghost use Rattle.fam_sources.specs.Whole.{IsShelfSteady, changed};
-ghost use Rattle.fam_journal.specs.Programs.{Script, TopEnds};
-ghost use Rattle.fam_journal.specs.Programs as program;
+ghost use Rattle.fam_media.specs.Causes.{IsShelfSteady, IsSteady};
+ghost use Rattle.fam_media.specs.States.{change};
+ghost use Rattle.fam_outcomes.specs.Programs.{Script, TopEnds};
+ghost use Rattle.fam_outcomes.specs.Programs as program;
 ghost use Rattle.fam_grammar.specs.Scripts.{script_events};
 ghost use Rattle.fam_storm.specs.Storm.{storm};
 ghost use Rattle.fam_program.specs.Far.{AreSoundEvents};
 ghost use Rattle.fam_program.specs.Files.{HoldsEvents, HoldsScript, IsUnread, PutsEarly, early_of};
 ghost use Rattle.fam_program.specs.Runs.{outside_of};
-ghost use Rattle.fam_program.specs.Puts.{sink_changed};
 
 use crate::fault::ScriptFault;
-use crate::lines::{end_line, line_of, line_with_name};
+use crate::lines::end_line;
 use crate::puts::{put_line, put_memory};
 use crate::read::read_script;
 use crate::script::run_script;
 use fam_base::OutOfMemory;
 use fam_grammar::LineFault;
-use fam_journal::{Event, Status};
+use fam_journal::Event;
+use fam_outcomes::Status;
 use fam_media::{Media, Shelf, Sink};
+use fam_script::{line_of, line_with_last_name};
 use fam_sources::{SourceEnd, WholeFault, read_whole};
 use std::alloc::Global;
 
@@ -29,9 +30,9 @@ pub const SCRIPT_LIMIT: u64 = 16_777_216;
 
 /// The bytes of a script.
 fn script_bytes<S: Shelf>(alloc: Global, shelf: &mut S, name: &str) -> Result<Vec<u8>, ScriptFault>
-    ensures bytes { IfOk result (λ bytes. HoldsScript (changed S.files S.faults S.shorts shelf.old shelf.new) name.now bytes.items) }
-    ensures fault { IfErr result (IsUnread (changed S.files S.faults S.shorts shelf.old shelf.new) name.now) }
-    ensures steady { IsShelfSteady S.files S.faults S.shorts shelf.old shelf.new }
+    ensures bytes { IfOk result (λ bytes. HoldsScript (change S.state shelf.old shelf.new) name.now bytes.items) }
+    ensures fault { IfErr result (IsUnread (change S.state shelf.old shelf.new) name.now) }
+    ensures steady { IsShelfSteady (S.state shelf.old) (S.state shelf.new) }
 {
     match read_whole(alloc, shelf, name, 0, SCRIPT_LIMIT) {
         Ok(bytes) => Ok(bytes),
@@ -47,10 +48,10 @@ fn script_bytes<S: Shelf>(alloc: Global, shelf: &mut S, name: &str) -> Result<Ve
 
 /// The events of a script.
 fn events_of<S: Shelf>(alloc: Global, shelf: &mut S, name: &str) -> Result<Vec<Event>, ScriptFault>
-    ensures read { IfOk result (λ events. HoldsEvents (changed S.files S.faults S.shorts shelf.old shelf.new) name.now events.items) }
+    ensures read { IfOk result (λ events. HoldsEvents (change S.state shelf.old shelf.new) name.now events.items) }
     ensures sound { IfOk result (λ events. AreSoundEvents events.items) }
-    ensures fault { IfErr result (IsUnread (changed S.files S.faults S.shorts shelf.old shelf.new) name.now) }
-    ensures steady { IsShelfSteady S.files S.faults S.shorts shelf.old shelf.new }
+    ensures fault { IfErr result (IsUnread (change S.state shelf.old shelf.new) name.now) }
+    ensures steady { IsShelfSteady (S.state shelf.old) (S.state shelf.new) }
 {
     let bytes = script_bytes(alloc, shelf, name)?;
     match read_script(alloc, bytes.as_slice()) {
@@ -65,7 +66,7 @@ fn fault_line(alloc: Global, name: &str, fault: ScriptFault) -> Result<Vec<u8>, 
     ensures { IfOk result (λ line. line.items ≡ program.early_text (early_of name.now fault)) }
 {
     match fault {
-        ScriptFault::NoFile => line_with_name(alloc, "no file", name),
+        ScriptFault::NoFile => line_with_last_name(alloc, "no file", name.as_bytes()),
         ScriptFault::TooLong(size) => {
             line_of(alloc, format!(in alloc; "script too long {size}"))
         }
@@ -92,8 +93,8 @@ fn fault_status(fault: ScriptFault) -> Status
 
 /// Puts why a script isn't run, or that no memory is left to say so, and gives the status.
 fn put_fault<K: Sink>(alloc: Global, name: &str, fault: ScriptFault, out: &mut K) -> Status
-    ensures put { PutsEarly (early_of name.now fault) (sink_changed K.bytes K.faults out.old out.new) result }
-    ensures later { K.faults out.old ≤ K.faults out.new }
+    ensures put { PutsEarly (early_of name.now fault) (change K.state out.old out.new) result }
+    ensures later { (K.state out.old).faults ≤ (K.state out.new).faults }
 {
     match fault_line(alloc, name, fault) {
         Ok(line) => put_line(out, fault_status(fault), line.as_slice()),
@@ -113,11 +114,11 @@ pub fn run_script_file<M: Media, S: Shelf, K: Sink>(
     shelf: &mut S,
     out: &mut K,
 ) -> Status
-    ensures ends { TopEnds script_events storm (Some (Script name.now)) (outside_of M.size M.image M.faults media.old media.new
-        (changed S.files S.faults S.shorts shelf.old shelf.new) (sink_changed K.bytes K.faults out.old out.new)) result }
-    ensures steady { IsSteady M.size M.faults media.old media.new }
-    ensures shelf { IsShelfSteady S.files S.faults S.shorts shelf.old shelf.new }
-    ensures later { K.faults out.old ≤ K.faults out.new }
+    ensures ends { TopEnds script_events storm (Some (Script name.now)) (outside_of M.size M.state media.old media.new
+        (change S.state shelf.old shelf.new) (change K.state out.old out.new)) result }
+    ensures steady { IsSteady M.size M.state media.old media.new }
+    ensures shelf { IsShelfSteady (S.state shelf.old) (S.state shelf.new) }
+    ensures later { (K.state out.old).faults ≤ (K.state out.new).faults }
 {
     match events_of(alloc, shelf, name) {
         Ok(events) => run_script(alloc, events, media, shelf, out),

@@ -2,26 +2,26 @@
 
 ghost use Rattle.std.specs.Prelude.{◌≡◌, ◌≤◌, ◌⊎◌, IfOk, IfSome, IsOk, None, OnOk, OnSome, Some, option_map};
 ghost use Rattle.fam_media.specs.Causes.{IsSteady};
-ghost use Rattle.fam_journal.specs.Programs.{memory_line};
-ghost use Rattle.fam_journal.specs.declared.status.Status.TheVariants as status;
-ghost use Rattle.fam_outcomes.specs.Answers.{answer_view};
-ghost use Rattle.fam_program.specs.Puts.{Put, sink_changed};
+ghost use Rattle.fam_media.specs.States.{change};
+ghost use Rattle.fam_outcomes.specs.Programs.{memory_line};
+ghost use Rattle.fam_outcomes.specs.declared.status.Status.TheVariants as status;
+ghost use Rattle.fam_notes.specs.Notes.{answer_view, note_view, notes_view};
+ghost use Rattle.fam_program.specs.Puts.{Put};
 ghost use Rattle.fam_program.specs.Runs.{outside_of};
 ghost use Rattle.fam_program.specs.Shadows as spec;
-ghost use Rattle.fam_program.specs.Shadows.{ShadowTop, fault_text, no_files, shade_changed, shadow_status, shadow_text};
-ghost use Rattle.fam_world.specs.View.{note_view, notes_view};
+ghost use Rattle.fam_program.specs.Shadows.{ShadowTop, fault_text, no_files, shadow_status, shadow_text};
 
-use crate::lines::line_of;
 use crate::no_files::NoFiles;
 use crate::puts::{put_line, put_memory};
 use crate::quiet::run_until_stop;
 use crate::shots::{own_name, put_end, two_events};
 use fam_base::{Cmd, OutOfMemory};
 use fam_events::EventFault;
-use fam_journal::{Ask, Event, Status};
+use fam_journal::{Ask, Event};
+use fam_outcomes::Status;
 use fam_media::{Media, Sink};
 use fam_notes::Note;
-use fam_outcomes::last_status;
+use fam_script::{last_status, line_of};
 use fam_shadow::{Shade, ShadowFault, shadow};
 use fam_tasks::Answer;
 use fam_tree::Tree;
@@ -149,9 +149,9 @@ fn put_shadow<K: Sink>(
     written: &Result<(), ShadowFault>,
     out: &mut K,
 ) -> Status
-    ensures put { Put (shadow_status written.now) (shadow_text m written.now) (sink_changed K.bytes K.faults out.old out.new) result
-        ⊎ Put status.OutOfMemory memory_line (sink_changed K.bytes K.faults out.old out.new) result }
-    ensures later { K.faults out.old ≤ K.faults out.new }
+    ensures put { Put (shadow_status written.now) (shadow_text m written.now) (change K.state out.old out.new) result
+        ⊎ Put status.OutOfMemory memory_line (change K.state out.old out.new) result }
+    ensures later { (K.state out.old).faults ≤ (K.state out.new).faults }
 {
     match shadow_line(alloc, m, written) {
         Ok(line) => put_line(out, shadow_status(written), line.as_slice()),
@@ -171,11 +171,11 @@ pub fn write_shadow<M: Media, D: Shade, K: Sink>(
     shade: &mut D,
     out: &mut K,
 ) -> Status
-    ensures ends { ShadowTop (Some me) (outside_of M.size M.image M.faults media.old media.new no_files
-        (sink_changed K.bytes K.faults out.old out.new)) (shade_changed D.nodes D.faults shade.old shade.new) result }
-    ensures steady { IsSteady M.size M.faults media.old media.new }
+    ensures ends { ShadowTop (Some me) (outside_of M.size M.state media.old media.new no_files
+        (change K.state out.old out.new)) (change D.state shade.old shade.new) result }
+    ensures steady { IsSteady M.size M.state media.old media.new }
     ensures shade { D.faults shade.old ≤ D.faults shade.new }
-    ensures later { K.faults out.old ≤ K.faults out.new }
+    ensures later { (K.state out.old).faults ≤ (K.state out.new).faults }
 {
     let name = own_name();
     let ask = Ask::Plain(Cmd::Logplay);

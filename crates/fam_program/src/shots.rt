@@ -6,12 +6,11 @@ ghost use Rattle.fam_grammar.specs.Scripts.{script_events};
 ghost use Rattle.fam_grammar.specs.Sound.{IsSoundAsk};
 ghost use Rattle.fam_journal.specs.declared.event.Event.TheVariants as event;
 ghost use Rattle.fam_journal.specs.Names.{NameDeclared};
-ghost use Rattle.fam_journal.specs.Programs.{Makes, MakesParents, Runs, Single, TopEnds};
-ghost use Rattle.fam_program.specs.Puts.{sink_changed};
+ghost use Rattle.fam_outcomes.specs.Programs.{Makes, MakesParents, Runs, Single, TopEnds};
 ghost use Rattle.fam_program.specs.Runs.{outside_of};
 ghost use Rattle.fam_program.specs.Shots.{LastSays, ShotSays};
-ghost use Rattle.fam_media.specs.Causes.{IsSteady};
-ghost use Rattle.fam_sources.specs.Whole.{IsShelfSteady, changed};
+ghost use Rattle.fam_media.specs.Causes.{IsShelfSteady, IsSteady};
+ghost use Rattle.fam_media.specs.States.{change};
 ghost use Rattle.fam_storm.specs.Storm.{storm};
 
 use crate::numbers::{last_number, put_number};
@@ -20,9 +19,10 @@ use crate::puts::{put_line, put_memory, put_source_end};
 use crate::quiet::run_until_stop;
 use fam_base::{Attr, HostName, OutOfMemory, Path};
 use fam_events::EventFault;
-use fam_journal::{Ask, Event, Status};
+use fam_journal::{Ask, Event};
+use fam_outcomes::Status;
 use fam_media::{Media, Shelf, Sink};
-use fam_outcomes::{last_status, parents_status, shown};
+use fam_script::{last_status, parents_status, shown};
 use fam_world::World;
 use std::alloc::Global;
 use uuid::Uuid;
@@ -58,8 +58,8 @@ pub(crate) fn two_events(
 /// entry is appended, and that the media failed, is put in any case.
 fn put_last<K: Sink>(alloc: Global, world: &World, own: Status, out: &mut K) -> Status
     requires named { NameDeclared 0 world.now.journal }
-    ensures put { LastSays own world.now.journal (sink_changed K.bytes K.faults out.old out.new) result }
-    ensures later { K.faults out.old ≤ K.faults out.new }
+    ensures put { LastSays own world.now.journal (change K.state out.old out.new) result }
+    ensures later { (K.state out.old).faults ≤ (K.state out.new).faults }
 {
     let notes = world.journal();
     if let Some(short) = last_number(notes) {
@@ -80,8 +80,8 @@ pub(crate) fn put_end<K: Sink>(
     out: &mut K,
 ) -> Status
     requires named { NameDeclared 0 world.now.journal }
-    ensures says { ShotSays ended done world.now.journal (sink_changed K.bytes K.faults out.old out.new) result }
-    ensures later { K.faults out.old ≤ K.faults out.new }
+    ensures says { ShotSays ended done world.now.journal (change K.state out.old out.new) result }
+    ensures later { (K.state out.old).faults ≤ (K.state out.new).faults }
 {
     match ended {
         Ok(()) => put_last(alloc, world, done, out),
@@ -104,12 +104,12 @@ pub fn run_command<M: Media, S: Shelf, K: Sink>(
     out: &mut K,
 ) -> Status
     requires sound { IsSoundAsk ask }
-    ensures ends { TopEnds script_events storm (Some (Single me (Runs ask))) (outside_of M.size M.image M.faults
-        media.old media.new (changed S.files S.faults S.shorts shelf.old shelf.new)
-        (sink_changed K.bytes K.faults out.old out.new)) result }
-    ensures steady { IsSteady M.size M.faults media.old media.new }
-    ensures shelf { IsShelfSteady S.files S.faults S.shorts shelf.old shelf.new }
-    ensures later { K.faults out.old ≤ K.faults out.new }
+    ensures ends { TopEnds script_events storm (Some (Single me (Runs ask))) (outside_of M.size M.state
+        media.old media.new (change S.state shelf.old shelf.new)
+        (change K.state out.old out.new)) result }
+    ensures steady { IsSteady M.size M.state media.old media.new }
+    ensures shelf { IsShelfSteady (S.state shelf.old) (S.state shelf.new) }
+    ensures later { (K.state out.old).faults ≤ (K.state out.new).faults }
 {
     let name = own_name();
     let Ok(events) = two_events(alloc, name, me, Event::Run(name, ask)) else {
@@ -136,12 +136,12 @@ pub fn make_file_system<M: Media, S: Shelf, K: Sink>(
     shelf: &mut S,
     out: &mut K,
 ) -> Status
-    ensures ends { TopEnds script_events storm (Some (Single me (Makes fs unit log force))) (outside_of M.size M.image M.faults
-        media.old media.new (changed S.files S.faults S.shorts shelf.old shelf.new)
-        (sink_changed K.bytes K.faults out.old out.new)) result }
-    ensures steady { IsSteady M.size M.faults media.old media.new }
-    ensures shelf { IsShelfSteady S.files S.faults S.shorts shelf.old shelf.new }
-    ensures later { K.faults out.old ≤ K.faults out.new }
+    ensures ends { TopEnds script_events storm (Some (Single me (Makes fs unit log force))) (outside_of M.size M.state
+        media.old media.new (change S.state shelf.old shelf.new)
+        (change K.state out.old out.new)) result }
+    ensures steady { IsSteady M.size M.state media.old media.new }
+    ensures shelf { IsShelfSteady (S.state shelf.old) (S.state shelf.new) }
+    ensures later { (K.state out.old).faults ≤ (K.state out.new).faults }
 {
     let name = own_name();
     let making = Event::Mkfs {
@@ -175,12 +175,12 @@ pub fn make_parents<M: Media, S: Shelf, K: Sink>(
     out: &mut K,
 ) -> Status
     requires mode { attr.mode ≤ mode_limit }
-    ensures ends { TopEnds script_events storm (Some (Single me (MakesParents path.now attr))) (outside_of M.size M.image M.faults
-        media.old media.new (changed S.files S.faults S.shorts shelf.old shelf.new)
-        (sink_changed K.bytes K.faults out.old out.new)) result }
-    ensures steady { IsSteady M.size M.faults media.old media.new }
-    ensures shelf { IsShelfSteady S.files S.faults S.shorts shelf.old shelf.new }
-    ensures later { K.faults out.old ≤ K.faults out.new }
+    ensures ends { TopEnds script_events storm (Some (Single me (MakesParents path.now attr))) (outside_of M.size M.state
+        media.old media.new (change S.state shelf.old shelf.new)
+        (change K.state out.old out.new)) result }
+    ensures steady { IsSteady M.size M.state media.old media.new }
+    ensures shelf { IsShelfSteady (S.state shelf.old) (S.state shelf.new) }
+    ensures later { (K.state out.old).faults ≤ (K.state out.new).faults }
 {
     let Ok(events) = parent_events(alloc, own_name(), me, path, attr) else {
         return put_memory(out);

@@ -3,15 +3,15 @@
 ghost use Rattle.std.specs.Prelude.{◌≡◌, ◌≤◌, ◌⊎◌, IfOk, List, Ok, Some, length};
 ghost use Rattle.fam_grammar.specs.Scripts.{script_events};
 ghost use Rattle.fam_journal.specs.declared.event.Event.{Event as Happening};
-ghost use Rattle.fam_journal.specs.declared.status.Status.TheVariants as status;
+ghost use Rattle.fam_outcomes.specs.declared.status.Status.TheVariants as status;
 ghost use Rattle.fam_journal.specs.Names.{NameDeclared};
-ghost use Rattle.fam_journal.specs.Programs.{Storm, TopEnds, memory_line};
-ghost use Rattle.fam_journal.specs.Programs as program;
+ghost use Rattle.fam_outcomes.specs.Programs.{Storm, TopEnds, memory_line};
+ghost use Rattle.fam_outcomes.specs.Programs as program;
 ghost use Rattle.fam_program.specs.Far.{AreSoundEvents};
-ghost use Rattle.fam_program.specs.Puts.{Put, sink_changed};
+ghost use Rattle.fam_program.specs.Puts.{Put};
 ghost use Rattle.fam_program.specs.Runs.{outside_of};
-ghost use Rattle.fam_media.specs.Causes.{IsSteady};
-ghost use Rattle.fam_sources.specs.Whole.{IsShelfSteady, changed};
+ghost use Rattle.fam_media.specs.Causes.{IsShelfSteady, IsSteady};
+ghost use Rattle.fam_media.specs.States.{change};
 ghost use Rattle.fam_storm.specs.Events.{ReadNoSource};
 ghost use Rattle.fam_storm.specs.Storm.{storm as storm_text};
 
@@ -21,9 +21,10 @@ use crate::read::read_script;
 use fam_base::OutOfMemory;
 use fam_events::EventFault;
 use fam_grammar::LineFault;
-use fam_journal::{Event, Status};
+use fam_journal::Event;
+use fam_outcomes::Status;
 use fam_media::{Media, Shelf, Sink};
-use fam_outcomes::{count_notes, storm_line, text_crc};
+use fam_script::{count_notes, storm_line, text_crc};
 use fam_storm::{a_storm_is_an_event_for_each_line, a_storm_reads_no_source, storm};
 use fam_world::World;
 use std::alloc::Global;
@@ -80,9 +81,9 @@ fn put_summary<K: Sink>(
 ) -> Status
     requires named { NameDeclared 0 world.now.journal }
     ensures put { (all : List Happening) → events ≡ length all
-        → Put own (program.storm_line seed size all world.now.journal) (sink_changed K.bytes K.faults out.old out.new) result
-        ⊎ Put status.OutOfMemory memory_line (sink_changed K.bytes K.faults out.old out.new) result }
-    ensures later { K.faults out.old ≤ K.faults out.new }
+        → Put own (program.storm_line seed size all world.now.journal) (change K.state out.old out.new) result
+        ⊎ Put status.OutOfMemory memory_line (change K.state out.old out.new) result }
+    ensures later { (K.state out.old).faults ≤ (K.state out.new).faults }
 {
     match summary(alloc, seed, size, events, world) {
         Ok(line) => put_line(out, own, line.as_slice()),
@@ -106,12 +107,12 @@ pub fn run_storm<M: Media, S: Shelf, K: Sink>(
     out: &mut K,
 ) -> Status
     requires small { size ≤ 100000 }
-    ensures ends { TopEnds script_events storm_text (Some (Storm seed size prints)) (outside_of M.size M.image M.faults
-        media.old media.new (changed S.files S.faults S.shorts shelf.old shelf.new)
-        (sink_changed K.bytes K.faults out.old out.new)) result }
-    ensures steady { IsSteady M.size M.faults media.old media.new }
-    ensures shelf { IsShelfSteady S.files S.faults S.shorts shelf.old shelf.new }
-    ensures later { K.faults out.old ≤ K.faults out.new }
+    ensures ends { TopEnds script_events storm_text (Some (Storm seed size prints)) (outside_of M.size M.state
+        media.old media.new (change S.state shelf.old shelf.new)
+        (change K.state out.old out.new)) result }
+    ensures steady { IsSteady M.size M.state media.old media.new }
+    ensures shelf { IsShelfSteady (S.state shelf.old) (S.state shelf.new) }
+    ensures later { (K.state out.old).faults ≤ (K.state out.new).faults }
 {
     let Ok(script) = storm(alloc, seed, size) else {
         return put_memory(out);

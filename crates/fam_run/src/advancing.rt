@@ -50,10 +50,10 @@ fn go_on<M: Media>(
     requires asked { SendsWithin (op_of task.old) (M.size media.old) cache.old.lines }
 
     ensures advanced { Advanced
-        (around M.image M.size M.faults task.old task.new cache.old cache.new media.old media.new) result }
+        (around M.size M.state task.old task.new cache.old cache.new media.old media.new) result }
     ensures want { IsErrOf result OperationFault.OutOfMemory → WantsRoom task.old cache.old }
     ensures places { PlacesKept task.old cache.old task.new cache.new result }
-    ensures steady { IsSteady M.size M.faults media.old media.new }
+    ensures steady { IsSteady M.size M.state media.old media.new }
 {
     match task.due() {
         Due::Slot(due) => load_slot(cache, task, media, due),
@@ -81,12 +81,12 @@ pub fn advance<M: Media>(
     requires asked { SendsWithin (op_of task.old) (M.size media.old) cache.old.lines }
 
     ensures advanced { Advanced
-        (around M.image M.size M.faults task.old task.new cache.old cache.new media.old media.new) result }
+        (around M.size M.state task.old task.new cache.old cache.new media.old media.new) result }
     ensures want { IsErrOf result OperationFault.OutOfMemory → WantsRoom task.old cache.old }
 
     // An append has its places from its first store on, and finds memory.
     ensures places { PlacesMade task.old cache.old task.new cache.new result }
-    ensures steady { IsSteady M.size M.faults media.old media.new }
+    ensures steady { IsSteady M.size M.state media.old media.new }
 {
     match make_places(cache, task) {
         Ok(()) => go_on(cache, task, media),

@@ -33,9 +33,9 @@ pub(crate) fn compare_line<M: Media>(
     requires due { IsComparedLine line task.old }
 
     ensures advanced { Advanced
-        (around M.image M.size M.faults task.old task.new cache.old cache.new media.old media.new) result }
+        (around M.size M.state task.old task.new cache.old cache.new media.old media.new) result }
     ensures want { IsErrOf result OperationFault.OutOfMemory → WantsRoom task.old cache.old }
-    ensures steady { IsSteady M.size M.faults media.old media.new }
+    ensures steady { IsSteady M.size M.state media.old media.new }
 {
     task.is_sound();
     match cache.renew_line(media, line) {

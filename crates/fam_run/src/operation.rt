@@ -29,14 +29,14 @@ pub fn operate<M: Media>(
     requires asked { SendsWithin (op_of task.old) (M.size media.old) cache.old.lines }
 
     ensures operated { Operated
-        (around M.image M.size M.faults task.old task.new cache.old cache.new media.old media.new) result }
+        (around M.size M.state task.old task.new cache.old cache.new media.old media.new) result }
     ensures undone { IsErrOf result OperationFault.OutOfMemory → media.new ≡ media.old }
     ensures unchanged { IsErrOf result OperationFault.OutOfMemory → cache.new ≡ cache.old }
     ensures want { IsErrOf result OperationFault.OutOfMemory → LacksRoom (op_of task.old) task.old cache.old }
 
     // An append that has its places keeps them, and finds memory.
     ensures places { ReadyPlacesKept task.old cache.old task.new cache.new result }
-    ensures steady { IsSteady M.size M.faults media.old media.new }
+    ensures steady { IsSteady M.size M.state media.old media.new }
 {
     task.is_sound();
     match task.next() {

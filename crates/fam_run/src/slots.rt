@@ -35,11 +35,11 @@ fn load_line<M: Media>(
     requires due { task.old.phase ≡ at.Drop (part.Slot due.slot) due.line }
 
     ensures loaded { IfOk result (λ loaded. loaded ≡ true → HasDone
-        (around M.image M.size M.faults task.old task.new cache.old cache.new media.old media.new) Go) }
+        (around M.size M.state task.old task.new cache.old cache.new media.old media.new) Go) }
     ensures next { IfOk result (λ loaded. loaded ≡ true → due.line + 1 < SLOT_LINES
         → task.new.phase ≡ at.Drop (part.Slot due.slot) (due.line + 1)) }
     ensures failed { IfErr result (λ fault. IfMediaFault fault (HasBrokenOff
-        (around M.image M.size M.faults task.old task.new cache.old cache.new media.old media.new))) }
+        (around M.size M.state task.old task.new cache.old cache.new media.old media.new))) }
 
     ensures other { IfOk result (λ loaded. loaded ≡ false → media.new ≡ media.old) }
     ensures other_cache { IfOk result (λ loaded. loaded ≡ false → cache.new ≡ cache.old) }
@@ -49,8 +49,8 @@ fn load_line<M: Media>(
     ensures unchanged { IsErrOf result OperationFault.OutOfMemory → cache.new ≡ cache.old }
     ensures unmoved { IsErrOf result OperationFault.OutOfMemory → task.new ≡ task.old }
     ensures want { IsErrOf result OperationFault.OutOfMemory → LacksRoomWhole task.old cache.old }
-    ensures image { M.image media.new ≡ M.image media.old }
-    ensures steady { IsSteady M.size M.faults media.old media.new }
+    ensures image { (M.state media.new).image ≡ (M.state media.old).image }
+    ensures steady { IsSteady M.size M.state media.old media.new }
 {
     task.is_sound();
     let line = task.line_of_slot_due(due);
@@ -88,9 +88,9 @@ pub(crate) fn load_slot<M: Media>(
     requires below { due.line < SLOT_LINES }
 
     ensures advanced { Advanced
-        (around M.image M.size M.faults task.old task.new cache.old cache.new media.old media.new) result }
+        (around M.size M.state task.old task.new cache.old cache.new media.old media.new) result }
     ensures want { IsErrOf result OperationFault.OutOfMemory → WantsRoom task.old cache.old }
-    ensures steady { IsSteady M.size M.faults media.old media.new }
+    ensures steady { IsSteady M.size M.state media.old media.new }
 {
     match load_line(cache, task, media, due) {
         Ok(true) => {}

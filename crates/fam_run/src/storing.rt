@@ -33,10 +33,10 @@ pub(crate) fn store_line<M: Media>(
     requires due { task.old.phase ≡ at.StoreData number 0 }
 
     ensures advanced { Advanced
-        (around M.image M.size M.faults task.old task.new cache.old cache.new media.old media.new) result }
+        (around M.size M.state task.old task.new cache.old cache.new media.old media.new) result }
     ensures want { IsErrOf result OperationFault.OutOfMemory → WantsRoom task.old cache.old }
     ensures places { PlacesKept task.old cache.old task.new cache.new result }
-    ensures steady { IsSteady M.size M.faults media.old media.new }
+    ensures steady { IsSteady M.size M.state media.old media.new }
 {
     task.is_sound();
     let due = task.line_due(number);

@@ -5,7 +5,7 @@ use Rattle.std.specs.Fmt.{decimal}
 use Rattle.std.proofs.lemmas.Fmt.{decimal_digit}
 use Rattle.std.proofs.lemmas.List.{append_assoc}
 use Rattle.fam_base.specs.Escapes.{escaped}
-use Rattle.fam_journal.specs.Texts.{line}
+use Rattle.fam_outcomes.specs.Texts.{line}
 use Rattle.fam_tree.specs.Lines.{mode_text}
 
 -- a digit below eight

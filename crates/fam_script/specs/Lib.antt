@@ -1,2 +1,4 @@
-pub mod Prints
 pub mod Reports
+pub mod Settled
+pub mod StormLines
+pub mod Spelled

@@ -1,7 +1,13 @@
--- The lines of a report in three parts, each behind the text before it.
+-- The line of a check and the lines of a report in parts.
 use Rattle.std.specs.Prelude.{ℕ, List, ◌++◌, codes, if◌then◌else◌}
+use Rattle.fam_rules.specs.declared.answers.Checked.{Checked}
 use Rattle.fam_rules.specs.declared.answers.Report.{Report}
-use Rattle.fam_journal.specs.Texts.{line, number, is_sound_report, super_state_text, log_state_text, overlap_text, bad_text}
+use Rattle.fam_outcomes.specs.Texts.{line, number, is_sound_report, super_state_text, log_state_text, overlap_text, bad_text}
+
+-- how a tree differs from a listing, in front of the first path
+abbrev pub checked_prefix : ℕ → Checked → List ℕ
+checked_prefix m c =
+    codes "checked" ++ number m ++ codes " missing" ++ number c.missing ++ codes " extra" ++ number c.extra ++ codes " changed" ++ number c.changed ++ codes " first"
 
 -- whether anything is wrong
 abbrev pub verdict_text : Report → List ℕ

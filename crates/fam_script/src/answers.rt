@@ -1,20 +1,20 @@
-//! The texts of answers. fam_journal's `specs/Texts.antt` has their forms.
+//! The texts of answers. fam_outcomes' `specs/Texts.antt` has their forms.
 
 ghost use Rattle.std.specs.Prelude.{◌≡◌, ◌<◌, ◌++◌, IfOk, codes, string_bytes};
 ghost use Rattle.fam_base.specs.Escapes.{hex_digit};
 ghost use Rattle.fam_format.specs.declared.faults.SuperFault.TheVariants as super_fault;
 ghost use Rattle.fam_format.specs.declared.faults.LogFault.TheVariants as log_fault;
-ghost use Rattle.fam_journal.specs.Texts as text;
+ghost use Rattle.fam_outcomes.specs.Texts as text;
 ghost use Rattle.fam_rules.specs.declared.answers.Refused.TheVariants as refused;
 ghost use Rattle.fam_rules.specs.Reply as reply;
-ghost use Rattle.fam_notes.specs.Notes.{answer_of};
-ghost use Rattle.fam_script.specs.Prints.{PrintsAnswer, checked_prefix};
+ghost use Rattle.fam_notes.specs.Notes.{answer_view};
+ghost use Rattle.fam_script.specs.Reports.{checked_prefix};
 
 use crate::digits::{byte_digits, bytes_text};
 use crate::faults::{entry_line, kind, log_line, played_lines, super_line};
 use crate::lines::{line, line_of, line_with, line_with_last_name};
 use crate::reports::report_lines;
-use fam_base::{Kind, OutOfMemory};
+use fam_base::{Kind, LineNo, OutOfMemory};
 use fam_format::{LogFault, LogField, SuperFault, SuperField};
 use fam_rules::Checked;
 use fam_tasks::Answer;
@@ -134,9 +134,17 @@ fn bad_log_line(
     )
 }
 
+/// The line of a media that failed.
+fn media_fault_line(alloc: Global, at: LineNo) -> Result<Vec<u8>, OutOfMemory>
+    ensures { IfOk result (λ bytes. bytes.items ≡ text.line (text.fault_text at.0)) }
+{
+    let at = at.0;
+    line_of(alloc, format!(in alloc; "media fault {at}"))
+}
+
 /// The text of an answer: its line, and the further lines of a listing or a report.
 pub fn answer_text(alloc: Global, answer: &Answer) -> Result<Vec<u8>, OutOfMemory>
-    ensures { IfOk result (λ bytes. PrintsAnswer (answer_of answer.now) bytes.items) }
+    ensures { IfOk result (λ bytes. bytes.items ≡ text.answer_text (answer_view answer.now)) }
 {
     match answer {
         Answer::Ok(seq) => line_of(alloc, format!(in alloc; "ok {seq}")),
@@ -156,10 +164,7 @@ pub fn answer_text(alloc: Global, answer: &Answer) -> Result<Vec<u8>, OutOfMemor
         Answer::Length { m, size, wanted } => {
             line_of(alloc, length_text(alloc, *m, *size, *wanted))
         }
-        Answer::MediaFault(at) => {
-            let at = at.0;
-            line_of(alloc, format!(in alloc; "media fault {at}"))
-        }
+        Answer::MediaFault(at) => media_fault_line(alloc, *at),
         Answer::NoSuper(word) => super_line(alloc, SuperFault::NoSuper(*word)),
         Answer::BadSuper {
             field,

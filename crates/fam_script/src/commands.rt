@@ -1,8 +1,8 @@
-//! The texts of commands, as they begin. fam_journal's `specs/Texts.antt` has their forms.
+//! The texts of commands, as they begin. fam_outcomes' `specs/Texts.antt` has their forms.
 
 ghost use Rattle.std.specs.Prelude.{◌≡◌, ◌++◌, IfOk, string_bytes, codes};
 ghost use Rattle.fam_base.specs.declared.cmd.Cmd.TheVariants as cmd;
-ghost use Rattle.fam_journal.specs.Texts as text;
+ghost use Rattle.fam_outcomes.specs.Texts as text;
 
 use crate::lines::{line, line_of, line_with_name};
 use fam_base::{Attr, Cmd, Content, OutOfMemory, Path, Stripe};

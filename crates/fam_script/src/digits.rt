@@ -3,7 +3,7 @@
 ghost use Rattle.std.specs.Prelude.{◌≡◌, ◌<◌, ◌/◌, ◌%◌, ◌++◌, [], ◌∷◌, IfOk, OnOk};
 ghost use Rattle.std.specs.List.{flat_map};
 ghost use Rattle.fam_base.specs.Escapes.{hex_digit};
-ghost use Rattle.fam_journal.specs.Texts.{byte_text, bytes_text};
+ghost use Rattle.fam_outcomes.specs.Texts.{byte_text, bytes_text};
 
 use crate::lines::put;
 use fam_base::OutOfMemory;

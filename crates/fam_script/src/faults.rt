@@ -1,7 +1,7 @@
-//! The texts of faults that reading an image finds. fam_journal's `specs/Texts.antt` has their forms.
+//! The texts of faults that reading an image finds. fam_outcomes' `specs/Texts.antt` has their forms.
 
 ghost use Rattle.std.specs.Prelude.{◌≡◌, IfOk, string_bytes};
-ghost use Rattle.fam_journal.specs.Texts as text;
+ghost use Rattle.fam_outcomes.specs.Texts as text;
 ghost use Rattle.fam_rules.specs.Reply as reply;
 
 use crate::lines::{line, line_of, put};

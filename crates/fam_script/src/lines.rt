@@ -2,7 +2,7 @@
 
 ghost use Rattle.std.specs.Prelude.{◌≡◌, ◌++◌, [], ◌∷◌, ℕ, List, IfOk, OnOk, string_bytes};
 ghost use Rattle.fam_base.specs.Escapes.{escaped};
-ghost use Rattle.fam_journal.specs.Texts as text;
+ghost use Rattle.fam_outcomes.specs.Texts as text;
 
 use fam_base::{OutOfMemory, escape};
 use std::alloc::{AllocError, Global};
@@ -18,7 +18,7 @@ pub(crate) fn put(bytes: &[u8], into: &mut Vec<u8>) -> Result<(), OutOfMemory>
 }
 
 /// A text as a line.
-pub(crate) fn line(alloc: Global, words: &str) -> Result<Vec<u8>, OutOfMemory>
+pub fn line(alloc: Global, words: &str) -> Result<Vec<u8>, OutOfMemory>
     ensures { IfOk result (λ bytes. bytes.items ≡ text.line words.now) }
 {
     let mut bytes = Vec::new(alloc);
@@ -28,7 +28,7 @@ pub(crate) fn line(alloc: Global, words: &str) -> Result<Vec<u8>, OutOfMemory>
 }
 
 /// The line of a text that may have found no memory.
-pub(crate) fn line_of(
+pub fn line_of(
     alloc: Global,
     made: Result<String, AllocError>,
 ) -> Result<Vec<u8>, OutOfMemory>
@@ -70,7 +70,7 @@ pub(crate) fn line_with_name(
 }
 
 /// The line of a text with a name at its end, behind a space.
-pub(crate) fn line_with_last_name(
+pub fn line_with_last_name(
     alloc: Global,
     prefix: &str,
     name: &[u8],

@@ -1,10 +1,10 @@
-//! Notes in print. fam_journal's `specs/Texts.antt` has their lines.
+//! Notes in print. fam_outcomes' `specs/Texts.antt` has their lines.
 
 ghost use Rattle.std.specs.Prelude.{◌≡◌, ◌++◌, IfOk, length, codes, string_bytes};
 ghost use Rattle.fam_tree.specs.Lines.{entry_line};
-ghost use Rattle.fam_journal.specs.Texts as text;
-ghost use Rattle.fam_notes.specs.Notes.{note_of, NamesHosts};
-ghost use Rattle.fam_script.specs.Prints.{PrintsNote, PrintsText, IsNameOf};
+ghost use Rattle.fam_outcomes.specs.Texts as text;
+ghost use Rattle.fam_journal.specs.Names.{IsNamed};
+ghost use Rattle.fam_notes.specs.Notes.{note_view};
 
 use crate::answers::answer_text;
 use crate::commands::start_line;
@@ -39,8 +39,8 @@ fn writes_line(alloc: Global, seq: u64, entry: &Entry) -> Result<Vec<u8>, OutOfM
 
 /// The text of a note without its host's name, with its line feeds. `names` are those of the hosts declared so far.
 pub fn note_text(alloc: Global, note: &Note, names: &[HostName]) -> Result<Vec<u8>, OutOfMemory>
-    requires { NamesHosts (length names.now) note.now }
-    ensures { IfOk result (λ bytes. PrintsText names.now (note_of note.now) bytes.items) }
+    requires { IsNamed (length names.now) (note_view note.now) }
+    ensures { IfOk result (λ bytes. bytes.items ≡ text.note_text names.now (note_view note.now)) }
 {
     match note {
         Note::Host { uuid, .. } => line_of(alloc, format!(in alloc; "host {uuid}")),
@@ -58,8 +58,8 @@ pub fn note_text(alloc: Global, note: &Note, names: &[HostName]) -> Result<Vec<u
 
 /// The name of a note's host.
 fn note_name<'a>(note: &'a Note, names: &'a [HostName]) -> &'a [u8]
-    requires { NamesHosts (length names.now) note.now }
-    ensures { IsNameOf names.now (note_of note.now) result.now }
+    requires { IsNamed (length names.now) (note_view note.now) }
+    ensures { result.now ≡ text.name_of_note names.now (note_view note.now) }
 {
     match note {
         Note::Host { name, .. } => name.bytes(),
@@ -79,8 +79,8 @@ fn note_name<'a>(note: &'a Note, names: &'a [HostName]) -> &'a [u8]
 /// feed. `names` are those of the hosts declared so far, in their order; a note that declares a host, and a refusal,
 /// bring their own.
 pub fn print_note(alloc: Global, note: &Note, names: &[HostName]) -> Result<Vec<u8>, OutOfMemory>
-    requires named { NamesHosts (length names.now) note.now }
-    ensures value { IfOk result (λ bytes. PrintsNote names.now (note_of note.now) bytes.items) }
+    requires named { IsNamed (length names.now) (note_view note.now) }
+    ensures value { IfOk result (λ bytes. bytes.items ≡ text.note_line names.now (note_view note.now)) }
 {
     let rest = note_text(alloc, note, names)?;
     let mut text = Vec::new(alloc);

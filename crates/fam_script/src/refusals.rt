@@ -1,8 +1,8 @@
-//! The texts of refusals. fam_journal's `specs/Texts.antt` has their forms.
+//! The texts of refusals. fam_outcomes' `specs/Texts.antt` has their forms.
 
 ghost use Rattle.std.specs.Prelude.{◌≡◌, ◌<◌, ◌++◌, IfOk, codes, length};
 ghost use Rattle.fam_journal.specs.Names.{NamesCause};
-ghost use Rattle.fam_journal.specs.Texts as text;
+ghost use Rattle.fam_outcomes.specs.Texts as text;
 
 use crate::lines::{line, line_of, line_with, line_with_name};
 use fam_base::{HostName, OutOfMemory};

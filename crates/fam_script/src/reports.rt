@@ -1,7 +1,7 @@
-//! The text of a report. fam_journal's `specs/Texts.antt` has its lines.
+//! The text of a report. fam_outcomes' `specs/Texts.antt` has its lines.
 
 ghost use Rattle.std.specs.Prelude.{◌≡◌, ◌++◌, IfOk, OnOk, ℕ, List, string_bytes};
-ghost use Rattle.fam_journal.specs.Texts as text;
+ghost use Rattle.fam_outcomes.specs.Texts as text;
 ghost use Rattle.fam_script.specs.Reports.{verdict_text, files_text, units_text, states_text, counts_text, findings_text};
 
 use crate::faults::{log_text, reason_text, super_text};

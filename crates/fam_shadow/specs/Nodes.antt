@@ -4,6 +4,7 @@ use Rattle.std.specs.Option.{option_map}
 use Rattle.std.specs.FinMap as map
 use Rattle.fam_media.specs.Causes.{Rose}
 use Rattle.fam_media.specs.Files.{name_cmp}
+use Rattle.fam_media.specs.States.{Change}
 use Rattle.fam_shadow.specs.declared.node.Node.{Node}
 use Rattle.fam_shadow.specs.declared.node.Node.TheVariants.{Directory, File}
 use Rattle.fam_shadow.specs.declared.shade.Look.{Look}
@@ -14,6 +15,14 @@ use Rattle.fam_shadow.specs.declared.shade.ShadeStop.TheVariants as stop
 -- a directory or a file's bytes at each name
 abbrev pub Nodes : Type 0
 Nodes = map.FinMap name_cmp Node
+
+-- what a shade tells: what stands at each name, where it is told, and how often a call failed
+pub record ShadeState : Type 0 where
+  pub nodes : Option Nodes
+  pub faults : ℕ
+
+abbrev pub ShadeChange : Type 0
+ShadeChange = Change ShadeState
 
 -- what a look at a name tells
 abbrev pub look_of : Option Node → Look

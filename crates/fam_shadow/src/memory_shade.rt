@@ -41,9 +41,9 @@ impl Model for MemShade {
     ghost use Rattle.std.specs.FinMap as map;
     ghost use Rattle.fam_media.specs.Files.{name_cmp};
     ghost use Rattle.fam_shadow.specs.contracts.node.Node as node_type;
-    ghost use Rattle.fam_shadow.specs.MemoryShade.{ShadeState};
+    ghost use Rattle.fam_shadow.specs.MemoryShade.{MemShadeState};
 
-    ghost Value = { ShadeState };
+    ghost Value = { MemShadeState };
 
     ghost coded = { Prim.hlevel (codes, map.code {R = name_cmp} (coded_list coded_ℕ) node_type.the_row.coded) };
 
@@ -197,9 +197,7 @@ impl MemShade {
 }
 
 impl Shade for MemShade {
-    ghost nodes = { λ s. Some s.nodes };
-
-    ghost faults = { λ s. s.faults };
+    ghost state = { λ s. record { nodes = Some s.nodes; faults = s.faults } };
 
     fn look(&mut self, name: &str) -> Result<Look, Failed>
         ensures value { IfOk result (λ look. IfModelled (Some self.old.nodes) (λ nodes. look ≡ look_at nodes name.now)) }

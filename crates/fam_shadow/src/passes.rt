@@ -35,11 +35,11 @@ fn clash_at<D: Shade>(
     entry: &Entry,
     shade: &mut D,
 ) -> Result<Option<NameText>, ShadowFault>
-    ensures met { IfOk result (λ met. IfModelled (D.nodes shade.old) (λ held. met ≡ first_met (entry.now ∷ []) held)) }
+    ensures met { IfOk result (λ met. IfModelled (D.state shade.old).nodes (λ held. met ≡ first_met (entry.now ∷ []) held)) }
     ensures path { OnOk result (is_path entry.now.path ≡ true) }
-    ensures same { D.nodes shade.new ≡ D.nodes shade.old }
-    ensures fault { IfErr result (EntryFault entry.now (D.faults shade.old) (D.faults shade.new)) }
-    ensures later { D.faults shade.old ≤ D.faults shade.new }
+    ensures same { (D.state shade.new).nodes ≡ (D.state shade.old).nodes }
+    ensures fault { IfErr result (EntryFault entry.now (D.state shade.old).faults (D.state shade.new).faults) }
+    ensures later { (D.state shade.old).faults ≤ (D.state shade.new).faults }
 {
     let name = name_of(alloc, entry)?;
     let Ok(look) = shade.look(name.text()) else {
@@ -57,11 +57,11 @@ fn first_clash<D: Shade>(
     tree: &Tree,
     shade: &mut D,
 ) -> Result<Option<NameText>, ShadowFault>
-    ensures met { IfOk result (λ met. IfModelled (D.nodes shade.old) (λ held. met ≡ first_met (map.values tree.now) held)) }
+    ensures met { IfOk result (λ met. IfModelled (D.state shade.old).nodes (λ held. met ≡ first_met (map.values tree.now) held)) }
     ensures distinct { OnOk result (AreDistinct (map.values tree.now)) }
-    ensures same { D.nodes shade.new ≡ D.nodes shade.old }
-    ensures fault { IfErr result (PassFault (map.values tree.now) (D.faults shade.old) (D.faults shade.new)) }
-    ensures later { D.faults shade.old ≤ D.faults shade.new }
+    ensures same { (D.state shade.new).nodes ≡ (D.state shade.old).nodes }
+    ensures fault { IfErr result (PassFault (map.values tree.now) (D.state shade.old).faults (D.state shade.new).faults) }
+    ensures later { (D.state shade.old).faults ≤ (D.state shade.new).faults }
 {
     let mut first = None;
     for entry in tree.iter() {
@@ -79,10 +79,10 @@ fn put_node<D: Shade>(
     shade: &mut D,
 ) -> Result<(), ShadeStop>
     requires name { name.now ≡ spec.name_of entry.now }
-    requires clear { IfModelled (D.nodes shade.old) (λ held. is_clash (Some (node_of entry.now)) (map.get held name.now) ≡ false) }
-    ensures put { OnOk result (D.nodes shade.new ≡ option_map (with_node name.now (node_of entry.now)) (D.nodes shade.old)) }
-    ensures cut { OnErr result (IsCutAt (node_of entry.now) name.now (D.nodes shade.old) (D.nodes shade.new)) }
-    ensures cause { IsCounted (D.faults shade.old) (D.faults shade.new) result }
+    requires clear { IfModelled (D.state shade.old).nodes (λ held. is_clash (Some (node_of entry.now)) (map.get held name.now) ≡ false) }
+    ensures put { OnOk result ((D.state shade.new).nodes ≡ option_map (with_node name.now (node_of entry.now)) (D.state shade.old).nodes) }
+    ensures cut { OnErr result (IsCutAt (node_of entry.now) name.now (D.state shade.old).nodes (D.state shade.new).nodes) }
+    ensures cause { IsCounted (D.state shade.old).faults (D.state shade.new).faults result }
 {
     match entry.kind {
         Kind::Directory => shade.make_dir(name.text()),
@@ -97,11 +97,11 @@ fn put_node<D: Shade>(
 
 /// Puts an entry, at whose name no other kind stands.
 fn put_entry<D: Shade>(alloc: Global, entry: &Entry, shade: &mut D) -> Result<(), ShadowFault>
-    requires clear { IfModelled (D.nodes shade.old) (λ held. is_clash (Some (node_of entry.now)) (map.get held (spec.name_of entry.now)) ≡ false) }
-    ensures put { OnOk result (D.nodes shade.new ≡ option_map (with_node (spec.name_of entry.now) (node_of entry.now)) (D.nodes shade.old)) }
-    ensures cut { OnErr result (IsCutAt (node_of entry.now) (spec.name_of entry.now) (D.nodes shade.old) (D.nodes shade.new)) }
-    ensures fault { IfErr result (EntryFault entry.now (D.faults shade.old) (D.faults shade.new)) }
-    ensures later { D.faults shade.old ≤ D.faults shade.new }
+    requires clear { IfModelled (D.state shade.old).nodes (λ held. is_clash (Some (node_of entry.now)) (map.get held (spec.name_of entry.now)) ≡ false) }
+    ensures put { OnOk result ((D.state shade.new).nodes ≡ option_map (with_node (spec.name_of entry.now) (node_of entry.now)) (D.state shade.old).nodes) }
+    ensures cut { OnErr result (IsCutAt (node_of entry.now) (spec.name_of entry.now) (D.state shade.old).nodes (D.state shade.new).nodes) }
+    ensures fault { IfErr result (EntryFault entry.now (D.state shade.old).faults (D.state shade.new).faults) }
+    ensures later { (D.state shade.old).faults ≤ (D.state shade.new).faults }
 {
     let name = name_of(alloc, entry)?;
     match put_node(alloc, entry, &name, shade) {
@@ -114,11 +114,11 @@ fn put_entry<D: Shade>(alloc: Global, entry: &Entry, shade: &mut D) -> Result<()
 /// Puts all entries of a tree, at whose names no other kind stands.
 fn put_all<D: Shade>(alloc: Global, tree: &Tree, shade: &mut D) -> Result<(), ShadowFault>
     requires distinct { AreDistinct (map.values tree.now) }
-    requires clear { IfModelled (D.nodes shade.old) (λ held. first_met (map.values tree.now) held ≡ None) }
-    ensures put { OnOk result (D.nodes shade.new ≡ option_map (with_entries (map.values tree.now)) (D.nodes shade.old)) }
-    ensures cut { OnErr result (AreCut (map.values tree.now) (D.nodes shade.old) (D.nodes shade.new)) }
-    ensures fault { IfErr result (PassFault (map.values tree.now) (D.faults shade.old) (D.faults shade.new)) }
-    ensures later { D.faults shade.old ≤ D.faults shade.new }
+    requires clear { IfModelled (D.state shade.old).nodes (λ held. first_met (map.values tree.now) held ≡ None) }
+    ensures put { OnOk result ((D.state shade.new).nodes ≡ option_map (with_entries (map.values tree.now)) (D.state shade.old).nodes) }
+    ensures cut { OnErr result (AreCut (map.values tree.now) (D.state shade.old).nodes (D.state shade.new).nodes) }
+    ensures fault { IfErr result (PassFault (map.values tree.now) (D.state shade.old).faults (D.state shade.new).faults) }
+    ensures later { (D.state shade.old).faults ≤ (D.state shade.new).faults }
 {
     for entry in tree.iter() {
         put_entry(alloc, entry, shade)?;
@@ -134,9 +134,9 @@ fn put_all<D: Shade>(alloc: Global, tree: &Tree, shade: &mut D) -> Result<(), Sh
 /// memory was left, each name of the shadow holds what it held, its node, or a prefix of its bytes, and a later run ends
 /// as this one would have. No other name is touched.
 pub fn shadow<D: Shade>(alloc: Global, tree: &Tree, shade: &mut D) -> Result<(), ShadowFault>
-    ensures ends { Becomes (D.nodes shade.old) (D.nodes shade.new) (ShadowEnds tree.now result) }
-    ensures cause { IfErr result (FaultCaused tree.now (D.faults shade.old) (D.faults shade.new)) }
-    ensures later { D.faults shade.old ≤ D.faults shade.new }
+    ensures ends { Becomes (D.state shade.old).nodes (D.state shade.new).nodes (ShadowEnds tree.now result) }
+    ensures cause { IfErr result (FaultCaused tree.now (D.state shade.old).faults (D.state shade.new).faults) }
+    ensures later { (D.state shade.old).faults ≤ (D.state shade.new).faults }
 {
     if let Some(name) = first_clash(alloc, tree, shade)? {
         return Err(ShadowFault::Clash(name));

@@ -1,11 +1,11 @@
 //! A shade: a folder to write into, by names.
 
-ghost use Rattle.std.specs.Prelude.{◌≡◌, ℕ, Option, IfOk, IsErrOf, OnErr, OnOk};
+ghost use Rattle.std.specs.Prelude.{◌≡◌, IfOk, IsErrOf, OnErr, OnOk};
 ghost use Rattle.std.specs.Option.{option_map};
 ghost use Rattle.fam_media.specs.Causes.{HasCause};
 ghost use Rattle.fam_media.specs.Outside.{IfModelled};
 ghost use Rattle.fam_shadow.specs.declared.node.Node.TheVariants as node;
-ghost use Rattle.fam_shadow.specs.Nodes.{IsCounted, IsTornPut, Nodes, look_at, with_node};
+ghost use Rattle.fam_shadow.specs.Nodes.{IsCounted, IsTornPut, ShadeState, look_at, with_node};
 
 use fam_media::Failed;
 
@@ -28,33 +28,30 @@ pub enum ShadeStop {
 
 /// Directories and files by name, of which no call changes any but its own name.
 pub trait Shade {
-    /// What stands at each name, where it is told.
-    ghost nodes: { Self → Option Nodes };
-
-    /// How often a call failed.
-    ghost faults: { Self → ℕ };
+    /// What stands at each name, where it is told, and how often a call failed.
+    ghost state: { Self → ShadeState };
 
     /// Tells what stands at a name, and changes nothing.
     fn look(&mut self, name: &str) -> Result<Look, Failed>
-        ensures value { IfOk result (λ look. IfModelled (nodes self.old) (λ nodes. look ≡ look_at nodes name.now)) }
-        ensures same { nodes self.new ≡ nodes self.old }
-        ensures cause { HasCause (faults self.old) (faults self.new) result };
+        ensures value { IfOk result (λ look. IfModelled (state self.old).nodes (λ nodes. look ≡ look_at nodes name.now)) }
+        ensures same { (state self.new).nodes ≡ (state self.old).nodes }
+        ensures cause { HasCause (state self.old).faults (state self.new).faults result };
 
     /// Makes the name a directory, also where it is one. Where it can't, nothing is changed.
     fn make_dir(&mut self, name: &str) -> Result<(), ShadeStop>
-        requires { IfModelled (nodes self.old) (λ nodes. look_at nodes name.now ≡ Look.File → ⊥) }
+        requires { IfModelled (state self.old).nodes (λ nodes. look_at nodes name.now ≡ Look.File → ⊥) }
 
-        ensures made { OnOk result (nodes self.new ≡ option_map (with_node name.now node.Directory) (nodes self.old)) }
-        ensures err { OnErr result (nodes self.new ≡ nodes self.old) }
-        ensures cause { IsCounted (faults self.old) (faults self.new) result };
+        ensures made { OnOk result ((state self.new).nodes ≡ option_map (with_node name.now node.Directory) (state self.old).nodes) }
+        ensures err { OnErr result ((state self.new).nodes ≡ (state self.old).nodes) }
+        ensures cause { IsCounted (state self.old).faults (state self.new).faults result };
 
     /// Makes the name a file of these bytes, in place of those that it has. Where that fails the name is as before, or
     /// holds a prefix of the bytes.
     fn put(&mut self, name: &str, bytes: &[u8]) -> Result<(), ShadeStop>
-        requires { IfModelled (nodes self.old) (λ nodes. look_at nodes name.now ≡ Look.Directory → ⊥) }
+        requires { IfModelled (state self.old).nodes (λ nodes. look_at nodes name.now ≡ Look.Directory → ⊥) }
 
-        ensures put { OnOk result (nodes self.new ≡ option_map (with_node name.now (node.File bytes.now)) (nodes self.old)) }
-        ensures torn { IsErrOf result ShadeStop.Failed → IsTornPut (nodes self.old) (nodes self.new) name.now bytes.now }
-        ensures memory { IsErrOf result ShadeStop.OutOfMemory → nodes self.new ≡ nodes self.old }
-        ensures cause { IsCounted (faults self.old) (faults self.new) result };
+        ensures put { OnOk result ((state self.new).nodes ≡ option_map (with_node name.now (node.File bytes.now)) (state self.old).nodes) }
+        ensures torn { IsErrOf result ShadeStop.Failed → IsTornPut (state self.old).nodes (state self.new).nodes name.now bytes.now }
+        ensures memory { IsErrOf result ShadeStop.OutOfMemory → (state self.new).nodes ≡ (state self.old).nodes }
+        ensures cause { IsCounted (state self.old).faults (state self.new).faults result };
 }

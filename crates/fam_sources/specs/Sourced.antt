@@ -8,6 +8,7 @@ use Rattle.fam_base.specs.declared.entry.Entry.{Entry}
 use Rattle.fam_base.specs.Commands.{IsListing, IsSoundCmd}
 use Rattle.fam_media.specs.Causes.{Rose}
 use Rattle.fam_media.specs.Outside.{IfModelled}
+use Rattle.fam_media.specs.States.{ShelfChange}
 use Rattle.fam_journal.specs.declared.event.Ask.{Ask}
 use Rattle.fam_journal.specs.declared.refusal.Refusal.{Refusal}
 use Rattle.fam_journal.specs.declared.refusal.Refusal.TheVariants as why
@@ -23,7 +24,6 @@ use Rattle.fam_sources.specs.declared.sourced.SourceEnd.{SourceEnd}
 use Rattle.fam_sources.specs.declared.sourced.SourceEnd.TheVariants.{Faulted, Short}
 use Rattle.fam_sources.specs.declared.sourced.Sourced.{Sourced}
 use Rattle.fam_sources.specs.declared.sourced.Sourced.TheVariants as sourced
-use Rattle.fam_sources.specs.Whole.{ShelfChange}
 
 -- an end, as the journal's definitions speak of it
 abbrev pub end_of : SourceEnd → journal.SourceEnd
@@ -32,26 +32,26 @@ end_of (Short size got) = journal.Short size got
 
 -- the count that tells of an end; a short source gave fewer bytes than it has
 abbrev pub HasEndCause : ShelfChange → SourceEnd → Type 0
-HasEndCause change Faulted = Rose change.faults change.faults_now
-HasEndCause change (Short size got) = Rose change.shorts change.shorts_now × (got < size)
+HasEndCause change Faulted = Rose change.old.faults change.new.faults
+HasEndCause change (Short size got) = Rose change.old.shorts change.new.shorts × (got < size)
 
 -- the command holds the bytes of the source, or the entries of its listing
 pub record HoldsSource (change : ShelfChange) (copied : ℕ) (what : Ask) (now : ℕ) (cmd : Cmd) : Type 0 where
   pub form : AskForm what cmd
   pub sound : IsSoundAsk what → IsSoundCmd cmd
-  pub says : IfModelled change.files (λ files. SourceSays files copied what (Ready cmd now))
+  pub says : IfModelled change.old.files (λ files. SourceSays files copied what (Ready cmd now))
 
 -- there is no such source, or it is too long, or no listing
 pub record IsUnfit (change : ShelfChange) (copied : ℕ) (what : Ask) (now : ℕ) (cause : Refusal) : Type 0 where
   pub form : UnfitForm what cause
-  pub says : IfModelled change.files (λ files. SourceSays files copied what (Unfit cause now))
+  pub says : IfModelled change.old.files (λ files. SourceSays files copied what (Unfit cause now))
 
 -- the shelf failed, or the source was short
 pub record IsEnded (change : ShelfChange) (copied : ℕ) (what : Ask) (end : SourceEnd) : Type 0 where
   pub name : List ℕ
   pub source : source_of what ≡ Some name
   pub cause : HasEndCause change end
-  pub short : IfModelled change.files (λ files. IsShortOf files name copied (end_of end))
+  pub short : IfModelled change.old.files (λ files. IsShortOf files name copied (end_of end))
 
 -- one of them; `now` bytes of sources were read then
 abbrev pub IsSourced : ShelfChange → ℕ → Ask → ℕ → Sourced → Type 0
@@ -63,9 +63,10 @@ IsSourced change copied what now (sourced.Ended end) = IsEnded change copied wha
 abbrev pub IsAbsent : ShelfChange → ℕ → List ℕ → Refusal → Type 0
 IsAbsent change copied name cause = (what : Ask) → source_of what ≡ Some name → IsUnfit change copied what copied cause
 
+-- what an ask with a source comes to, by the shelf's own content
 abbrev pub IsGiven : ShelfChange → ℕ → List ℕ → Given → Type 0
 IsGiven change copied name (given.Bytes bytes) =
-    (copied + length bytes.items ≤ copy_limit) × IfModelled change.files (λ files. map.get files name ≡ Some bytes.items)
+    (copied + length bytes.items ≤ copy_limit) × IfModelled change.old.files (λ files. map.get files name ≡ Some bytes.items)
 IsGiven change copied name (given.Unfit cause) = IsAbsent change copied name cause
 IsGiven change copied name (given.Ended end) = (what : Ask) → source_of what ≡ Some name → IsEnded change copied what end
 

@@ -4,21 +4,9 @@ use Rattle.std.specs.FinMap as map
 use Rattle.fam_media.specs.Causes.{Rose}
 use Rattle.fam_media.specs.Files.{Files, HasNone}
 use Rattle.fam_media.specs.Outside.{IfModelled}
+use Rattle.fam_media.specs.States.{ShelfChange}
 use Rattle.fam_sources.specs.declared.whole.WholeFault.{WholeFault}
 use Rattle.fam_sources.specs.declared.whole.WholeFault.TheVariants.{NoFile, TooLong, Faulted, Short, OutOfMemory}
-
--- a shelf before and after a call: the files where they are modelled, and its two counts
-pub record ShelfChange : Type 0 where
-  pub files : Option Files
-  pub faults : ℕ
-  pub faults_now : ℕ
-  pub shorts : ℕ
-  pub shorts_now : ℕ
-
--- from one state of a shelf to another, by what the shelf tells of each
-abbrev pub changed : {S : Type 0} → (S → Option Files) → (S → ℕ) → (S → ℕ) → S → S → ShelfChange
-changed files faults shorts old now =
-    record { files = files old; faults = faults old; faults_now = faults now; shorts = shorts old; shorts_now = shorts now }
 
 -- a file: its name, the bytes that were read of others before, and the most bytes of all
 pub record Wanted : Type 0 where
@@ -38,27 +26,21 @@ sum_of copied size = min (copied + size) (2 ^ 64 - 1)
 -- others the sum is its size
 abbrev pub WholeSays : ShelfChange → Wanted → Result (List ℕ) WholeFault → Type 0
 WholeSays change w (Ok bytes) =
-    (w.copied + length bytes ≤ w.limit) × IfModelled change.files (λ files. map.get files w.name ≡ Some bytes)
-WholeSays change w (Err NoFile) = IfModelled change.files (λ files. map.get files w.name ≡ None)
+    (w.copied + length bytes ≤ w.limit) × IfModelled change.old.files (λ files. map.get files w.name ≡ Some bytes)
+WholeSays change w (Err NoFile) = IfModelled change.old.files (λ files. map.get files w.name ≡ None)
 WholeSays change w (Err (TooLong sum)) =
-    (w.limit < sum) × HoldsBytes change.files w.name (λ bytes. (sum ≡ sum_of w.copied (length bytes)) × (length bytes < 2 ^ 64))
-WholeSays change w (Err Faulted) = Rose change.faults change.faults_now
+    (w.limit < sum) × HoldsBytes change.old.files w.name (λ bytes. (sum ≡ sum_of w.copied (length bytes)) × (length bytes < 2 ^ 64))
+WholeSays change w (Err Faulted) = Rose change.old.faults change.new.faults
 WholeSays change w (Err (Short size got)) =
-    (got < size) × (w.copied + size ≤ w.limit) × Rose change.shorts change.shorts_now
-    × HoldsBytes change.files w.name (λ bytes. size ≡ length bytes)
+    (got < size) × (w.copied + size ≤ w.limit) × Rose change.old.shorts change.new.shorts
+    × HoldsBytes change.old.files w.name (λ bytes. size ≡ length bytes)
 WholeSays change w (Err OutOfMemory) = ⊤
 
 -- filling a place of so many bytes fails: the shelf does, or a read gave no byte
 abbrev pub FillFails : ShelfChange → List ℕ → ℕ → WholeFault → Type 0
 FillFails change name size NoFile = ⊥
 FillFails change name size (TooLong sum) = ⊥
-FillFails change name size Faulted = Rose change.faults change.faults_now
+FillFails change name size Faulted = Rose change.old.faults change.new.faults
 FillFails change name size (Short of got) =
-    (of ≡ size) × (got < size) × (HasNone change.files name got ⊎ Rose change.shorts change.shorts_now)
+    (of ≡ size) × (got < size) × (HasNone change.old.files name got ⊎ Rose change.old.shorts change.new.shorts)
 FillFails change name size OutOfMemory = ⊥
-
--- no call changes the files, and counts never fall
-pub record IsShelfSteady {S : Type 0} (files : S → Option Files) (faults shorts : S → ℕ) (old now : S) : Type 0 where
-  pub same : files now ≡ files old
-  pub faults_later : faults old ≤ faults now
-  pub shorts_later : shorts old ≤ shorts now

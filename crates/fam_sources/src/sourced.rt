@@ -1,9 +1,10 @@
 //! Asks, and the commands that they come to.
 
 ghost use Rattle.std.specs.Prelude.{◌≡◌, IfOk};
+ghost use Rattle.fam_media.specs.Causes.{IsShelfSteady};
+ghost use Rattle.fam_media.specs.States.{change};
 ghost use Rattle.fam_journal.specs.declared.event.Ask.TheVariants as ask;
 ghost use Rattle.fam_sources.specs.Sourced.{IsGiven, IsListed, IsSourced};
-ghost use Rattle.fam_sources.specs.Whole.{IsShelfSteady, changed};
 
 use crate::whole::{WholeFault, read_whole};
 use fam_base::{
@@ -62,8 +63,8 @@ fn bytes_of<S: Shelf>(
     source: NameText,
     copied: u64,
 ) -> Result<Given, OutOfMemory>
-    ensures says { IfOk result (IsGiven (changed S.files S.faults S.shorts shelf.old shelf.new) copied source) }
-    ensures steady { IsShelfSteady S.files S.faults S.shorts shelf.old shelf.new }
+    ensures says { IfOk result (IsGiven (change S.state shelf.old shelf.new) copied source) }
+    ensures steady { IsShelfSteady (S.state shelf.old) (S.state shelf.new) }
 {
     match read_whole(alloc, shelf, source.text(), copied, COPY_LIMIT) {
         Ok(bytes) => Ok(Given::Bytes(bytes)),
@@ -92,9 +93,9 @@ fn cp<S: Shelf>(
     stripe: Option<Stripe>,
     copied: u64,
 ) -> Result<Resolved, OutOfMemory>
-    ensures says { IfOk result (λ r. IsSourced (changed S.files S.faults S.shorts shelf.old shelf.new)
+    ensures says { IfOk result (λ r. IsSourced (change S.state shelf.old shelf.new)
         copied (ask.Cp source path attr stripe) r.copied r.sourced) }
-    ensures steady { IsShelfSteady S.files S.faults S.shorts shelf.old shelf.new }
+    ensures steady { IsShelfSteady (S.state shelf.old) (S.state shelf.new) }
 {
     match bytes_of(alloc, shelf, source, copied)? {
         Given::Bytes(bytes) => {
@@ -123,9 +124,9 @@ fn verify<S: Shelf>(
     source: NameText,
     copied: u64,
 ) -> Result<Resolved, OutOfMemory>
-    ensures says { IfOk result (λ r. IsSourced (changed S.files S.faults S.shorts shelf.old shelf.new)
+    ensures says { IfOk result (λ r. IsSourced (change S.state shelf.old shelf.new)
         copied (ask.VerifySource path source) r.copied r.sourced) }
-    ensures steady { IsShelfSteady S.files S.faults S.shorts shelf.old shelf.new }
+    ensures steady { IsShelfSteady (S.state shelf.old) (S.state shelf.new) }
 {
     match bytes_of(alloc, shelf, source, copied)? {
         Given::Bytes(bytes) => {
@@ -161,9 +162,9 @@ fn check<S: Shelf>(
     source: NameText,
     copied: u64,
 ) -> Result<Resolved, OutOfMemory>
-    ensures says { IfOk result (λ r. IsSourced (changed S.files S.faults S.shorts shelf.old shelf.new)
+    ensures says { IfOk result (λ r. IsSourced (change S.state shelf.old shelf.new)
         copied (ask.Check source) r.copied r.sourced) }
-    ensures steady { IsShelfSteady S.files S.faults S.shorts shelf.old shelf.new }
+    ensures steady { IsShelfSteady (S.state shelf.old) (S.state shelf.new) }
 {
     match bytes_of(alloc, shelf, source, copied)? {
         Given::Bytes(bytes) => {
@@ -186,9 +187,9 @@ pub fn resolve<S: Shelf>(
     what: Ask,
     copied: u64,
 ) -> Result<Resolved, OutOfMemory>
-    ensures says { IfOk result (λ r. IsSourced (changed S.files S.faults S.shorts shelf.old shelf.new)
+    ensures says { IfOk result (λ r. IsSourced (change S.state shelf.old shelf.new)
         copied what r.copied r.sourced) }
-    ensures steady { IsShelfSteady S.files S.faults S.shorts shelf.old shelf.new }
+    ensures steady { IsShelfSteady (S.state shelf.old) (S.state shelf.new) }
 {
     match what {
         Ask::Plain(cmd) => Ok(without(Sourced::Ready(cmd), copied)),

@@ -3,8 +3,10 @@
 ghost use Rattle.std.specs.Prelude.{◌≡◌, ◌+◌, ◌-◌, ◌^◌, ◌<◌, ◌≤◌, Ok, Err, IfOk, IfErr, OnOk, length, take};
 ghost use Rattle.fam_media.specs.Files.{bytes_of};
 ghost use Rattle.fam_media.specs.Outside.{IfModelled};
+ghost use Rattle.fam_media.specs.Causes.{IsShelfSteady};
+ghost use Rattle.fam_media.specs.States.{change};
 ghost use Rattle.fam_sources.specs.declared.whole.WholeFault.TheVariants.{OutOfMemory};
-ghost use Rattle.fam_sources.specs.Whole.{FillFails, HoldsBytes, IsShelfSteady, WholeSays, changed};
+ghost use Rattle.fam_sources.specs.Whole.{FillFails, HoldsBytes, WholeSays};
 
 use fam_media::Shelf;
 use std::alloc::Global;
@@ -41,10 +43,10 @@ fn size_of<S: Shelf>(shelf: &mut S, name: &str, copied: u64, limit: u64) -> Resu
     requires { limit < 2 ^ 64 - 1 }
     ensures within { IfOk result (λ size. copied + size ≤ limit) }
     ensures size { IfOk result (λ size.
-        HoldsBytes (S.files shelf.old) name.now (λ bytes. size ≡ length bytes)) }
-    ensures fault { IfErr result (λ fault. WholeSays (changed S.files S.faults S.shorts shelf.old shelf.new)
+        HoldsBytes (S.state shelf.old).files name.now (λ bytes. size ≡ length bytes)) }
+    ensures fault { IfErr result (λ fault. WholeSays (change S.state shelf.old shelf.new)
         (record { name = name.now; copied = copied; limit = limit }) (Err fault)) }
-    ensures steady { IsShelfSteady S.files S.faults S.shorts shelf.old shelf.new }
+    ensures steady { IsShelfSteady (S.state shelf.old) (S.state shelf.new) }
 {
     match shelf.size(name) {
         Ok(Some(size)) => {
@@ -61,12 +63,12 @@ fn size_of<S: Shelf>(shelf: &mut S, name: &str, copied: u64, limit: u64) -> Resu
 
 /// Fills a place with the first bytes of a file.
 fn fill<S: Shelf>(shelf: &mut S, name: &str, into: &mut [u8]) -> Result<(), WholeFault>
-    ensures filled { OnOk result (IfModelled (S.files shelf.old) (λ files.
+    ensures filled { OnOk result (IfModelled (S.state shelf.old).files (λ files.
         into.new ≡ take (length into.old) (bytes_of files name.now))) }
-    ensures fault { IfErr result (λ fault. FillFails (changed S.files S.faults S.shorts shelf.old shelf.new)
+    ensures fault { IfErr result (λ fault. FillFails (change S.state shelf.old shelf.new)
         name.now (length into.old) fault) }
     ensures size { length into.new ≡ length into.old }
-    ensures steady { IsShelfSteady S.files S.faults S.shorts shelf.old shelf.new }
+    ensures steady { IsShelfSteady (S.state shelf.old) (S.state shelf.new) }
 {
     let size = into.len();
     let mut got = 0;
@@ -97,11 +99,11 @@ pub fn read_whole<S: Shelf>(
     limit: u64,
 ) -> Result<Vec<u8>, WholeFault>
     requires { limit < 2 ^ 64 - 1 }
-    ensures bytes { IfOk result (λ bytes. WholeSays (changed S.files S.faults S.shorts shelf.old shelf.new)
+    ensures bytes { IfOk result (λ bytes. WholeSays (change S.state shelf.old shelf.new)
         (record { name = name.now; copied = copied; limit = limit }) (Ok bytes.items)) }
-    ensures fault { IfErr result (λ fault. WholeSays (changed S.files S.faults S.shorts shelf.old shelf.new)
+    ensures fault { IfErr result (λ fault. WholeSays (change S.state shelf.old shelf.new)
         (record { name = name.now; copied = copied; limit = limit }) (Err fault)) }
-    ensures steady { IsShelfSteady S.files S.faults S.shorts shelf.old shelf.new }
+    ensures steady { IsShelfSteady (S.state shelf.old) (S.state shelf.new) }
 {
     let size = size_of(shelf, name, copied, limit)?;
     let mut bytes = blank(alloc, size)?;

@@ -31,11 +31,6 @@ turn_put i size s state old new all below put is so_far =
     ∙ ap (λ (l : List ℕ). old ++ l) (sym (text_of-append (turn i s).lines (turns (i + 1) (size - (i + 1)) (turn i s).state)) ∙ ap text_of (sym (turns_more i size s below)))
     ∙ so_far
 
--- no turn is left
-pub turns_done : (i size : ℕ) (s old all : List ℕ) → size ≡ i → old ++ text_of (turns i (size - i) s) ≡ all → old ≡ all
-turns_done i size s old all done so_far =
-    sym (ap (λ (n : ℕ). old ++ text_of (turns i n s)) (let e : size - i ≡ 0 = omega arith in e) ∙ append-nil old) ∙ so_far
-
 -- Turns by their cases.
 
 -- the turns of cases 0 to 4, by two tests

@@ -2,6 +2,7 @@
 use Rattle.std.specs.Prelude.{ℕ, zero, suc, ◌+◌, ◌==◌, nat_lt, if◌then◌else◌, List, [], ◌∷◌, ◌++◌, codes}
 use Rattle.std.specs.Fmt.{decimal}
 use Rattle.std.specs.List.{flat_map, join_with_byte}
+use Rattle.fam_format.specs.Layout.{gate_line}
 use Rattle.fam_rules.specs.Content.{stream_state}
 use Rattle.fam_storm.specs.Draws.{drawn, after}
 
@@ -19,6 +20,7 @@ text_of lines = flat_map (λ words. line_text words ++ 10 ∷ []) lines
 
 -- The front: a master and three clients, and a small file system.
 
+-- two hosts, and a file system
 abbrev pub front_lines : List Words
 front_lines =
     (codes "host" ∷ codes "m" ∷ codes "00000000-0000-0000-0000-000000000001" ∷ [])
@@ -36,46 +38,59 @@ client j = codes "c" ++ decimal j
 
 -- a line of the log's first 64 KiB, from the gate's on
 abbrev pub line_number : ℕ → ℕ
-line_number n = 32769 + n
+line_number n = gate_line + n
 
+-- the seed of a file's bytes
 abbrev pub seed_word : ℕ → List ℕ
 seed_word i = codes "seed=" ++ decimal i
 
 -- Lines.
 
+-- the master makes a directory
 abbrev pub mkdir_words : ℕ → Words
 mkdir_words i = codes "run" ∷ codes "m" ∷ codes "mkdir" ∷ (codes "d" ++ decimal i) ∷ []
 
+-- the master makes a file, whose bytes are those of a seed
 abbrev pub creat_words : ℕ → ℕ → Words
 creat_words i size = codes "run" ∷ codes "m" ∷ codes "creat" ∷ (codes "f" ++ decimal i) ∷ decimal size ∷ seed_word i ∷ []
 
+-- the master begins to make a file
 abbrev pub begun_words : ℕ → ℕ → Words
 begun_words i size = codes "begin" ∷ codes "m" ∷ codes "creat" ∷ (codes "g" ++ decimal i) ∷ decimal size ∷ seed_word i ∷ []
 
+-- the master does so many operations
 abbrev pub step_words : ℕ → Words
 step_words count = codes "step" ∷ codes "m" ∷ decimal count ∷ []
 
+-- a client plays the log
 abbrev pub logplay_words : ℕ → Words
 logplay_words j = codes "run" ∷ client j ∷ codes "logplay" ∷ []
 
+-- a client's cache brings a line, or words of it
 abbrev pub fetch_words : ℕ → ℕ → ℕ → Words
 fetch_words j line mask = codes "fetch" ∷ client j ∷ decimal line ∷ decimal mask ∷ []
 
+-- the master's cache sends words of a line
 abbrev pub leak_words : ℕ → ℕ → Words
 leak_words line mask = codes "leak" ∷ codes "m" ∷ decimal line ∷ decimal mask ∷ []
 
+-- the master's cache sends a line and drops it
 abbrev pub evict_words : ℕ → Words
 evict_words line = codes "evict" ∷ codes "m" ∷ decimal line ∷ []
 
+-- a client begins to play the log
 abbrev pub begin_words : ℕ → Words
 begin_words j = codes "begin" ∷ client j ∷ codes "logplay" ∷ []
 
+-- a client does so many operations
 abbrev pub client_step_words : ℕ → ℕ → Words
 client_step_words j count = codes "step" ∷ client j ∷ decimal count ∷ []
 
+-- a client runs its command to the answer
 abbrev pub finish_words : ℕ → Words
 finish_words j = codes "finish" ∷ client j ∷ []
 
+-- a client compares a file's bytes
 abbrev pub verify_words : ℕ → ℕ → Words
 verify_words j i = codes "run" ∷ client j ∷ codes "verify" ∷ (codes "f" ++ decimal i) ∷ seed_word i ∷ []
 

@@ -9,13 +9,11 @@ use crate::lines::{
     put_leak, put_logplay, put_mkdir, put_step, put_verify,
 };
 use fam_base::OutOfMemory;
+use fam_format::GATE_LINE;
 use rand_xoshiro::Xoshiro256PlusPlus;
 use std::alloc::Global;
 
-/// The line of the gate: the first of those whose numbers are drawn.
-const GATE_LINE: u64 = 32_769;
-
-/// How many lines may be drawn.
+/// How many lines may be drawn, of which the gate's is the first.
 const LINES: u64 = 1_024;
 
 /// An append that is cut off.

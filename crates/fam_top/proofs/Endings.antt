@@ -1,19 +1,19 @@
 -- Calls for which no event is run: the words are no command, or no memory was left for them.
 use Rattle.std.proofs.Common.{◌≡◌, Option, None, inl, refl}
 use Rattle.fam_grammar.specs.Scripts.{script_events}
-use Rattle.fam_journal.specs.declared.status.Status.{Status}
-use Rattle.fam_journal.specs.declared.status.Status.TheVariants as status
-use Rattle.fam_journal.specs.Programs.{Command, EarlyOutOfMemory, NoCommand, TopEnds, memory_line, usage_line}
-use Rattle.fam_journal.specs.Runs.{NoneFalls, Outside}
+use Rattle.fam_outcomes.specs.declared.status.Status.{Status}
+use Rattle.fam_outcomes.specs.declared.status.Status.TheVariants as status
+use Rattle.fam_outcomes.specs.Programs.{Command, EarlyOutOfMemory, NoCommand, TopEnds, memory_line, usage_line}
+use Rattle.fam_outcomes.specs.Runs.{NoneFalls, Outside}
 use Rattle.fam_program.specs.Puts.{Put}
-use Rattle.fam_program.proofs.Tops.{memory_own, put_alone, sink_of}
+use Rattle.fam_program.proofs.Runs.OneText.{memory_own, put_alone}
 use Rattle.fam_storm.specs.Storm.{storm}
 
 usage_own : status.Usage ≡ status.SinkFault → ⊥
 usage_own e = absurd cc
 
-module _ (out : Outside) (given : Status) (same : out.image_now ≡ out.image) (later : NoneFalls out) where
-  pub no_command : (asked : Option Command) → asked ≡ None → Put status.Usage usage_line (sink_of out) given → TopEnds script_events storm asked out given
+module _ (out : Outside) (given : Status) (same : out.media.new.image ≡ out.media.old.image) (later : NoneFalls out) where
+  pub no_command : (asked : Option Command) → asked ≡ None → Put status.Usage usage_line out.sink given → TopEnds script_events storm asked out given
   no_command asked none put = record {
     text = usage_line;
     own = status.Usage;
@@ -22,7 +22,7 @@ module _ (out : Outside) (given : Status) (same : out.image_now ≡ out.image) (
     put = put_alone out usage_line status.Usage given usage_own put;
   }
 
-  pub no_memory : (asked : Option Command) → Put status.OutOfMemory memory_line (sink_of out) given → TopEnds script_events storm asked out given
+  pub no_memory : (asked : Option Command) → Put status.OutOfMemory memory_line out.sink given → TopEnds script_events storm asked out given
   no_memory asked put = record {
     text = memory_line;
     own = status.OutOfMemory;

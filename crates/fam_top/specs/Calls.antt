@@ -1,9 +1,9 @@
 -- What comes of a call: the one clause of the top call.
 use Rattle.std.specs.Prelude.{ℕ, List, Option, Some, None, option_map}
 use Rattle.fam_grammar.specs.Scripts.{script_events}
-use Rattle.fam_journal.specs.declared.status.Status.{Status}
-use Rattle.fam_journal.specs.Programs.{Command, Makes, MakesParents, OneShot, Runs, Script, Single, Storm, TopEnds}
-use Rattle.fam_journal.specs.Runs.{Outside}
+use Rattle.fam_outcomes.specs.declared.status.Status.{Status}
+use Rattle.fam_outcomes.specs.Programs.{Command, Makes, MakesParents, OneShot, Runs, Script, Single, Storm, TopEnds}
+use Rattle.fam_outcomes.specs.Runs.{Outside}
 use Rattle.fam_storm.specs.Storm.{storm}
 use Rattle.fam_words.specs.declared.wanted.Order.{Order}
 use Rattle.fam_words.specs.declared.wanted.Order.TheVariants as order
@@ -27,6 +27,7 @@ shot_of random (shot.Mkfs fs unit log force) = Makes (fs_or random fs) unit log 
 shot_of random (shot.Run what) = Runs what
 shot_of random (shot.Parents path attr) = MakesParents path attr
 
+-- the command that an order is: on the host that it names, or this one
 abbrev pub command_of : List ℕ → List ℕ → Order → Command
 command_of me random (order.Single system what) = Single (host_or me system) (shot_of random what)
 command_of me random (order.Script file) = Script file

@@ -2,15 +2,15 @@
 
 ghost use Rattle.std.specs.Prelude.{◌≡◌, ◌≤◌, IfOk, map, string_bytes};
 ghost use Rattle.fam_media.specs.Causes.{IsSteady};
-ghost use Rattle.fam_program.specs.Puts.{sink_changed};
+ghost use Rattle.fam_media.specs.States.{change};
 ghost use Rattle.fam_program.specs.Runs.{outside_of};
-ghost use Rattle.fam_program.specs.Shadows.{ShadowTop, no_files, shade_changed};
+ghost use Rattle.fam_program.specs.Shadows.{ShadowTop, no_files};
 ghost use Rattle.fam_words.specs.Shadows.{shadow_call};
 ghost use Rattle.fam_top.specs.Words.{shadow_host, shadow_named};
 
 use crate::top::host_or;
 use fam_base::{NameText, OutOfMemory};
-use fam_journal::Status;
+use fam_outcomes::Status;
 use fam_media::{Media, Sink};
 use fam_program::{put_memory, put_usage, write_shadow};
 use fam_shadow::Shade;
@@ -53,12 +53,12 @@ pub fn famfs_shadow<M: Media, D: Shade, K: Sink>(
     shade: &mut D,
     out: &mut K,
 ) -> Status
-    ensures ends { ShadowTop (shadow_host me (map string_bytes words.now.items)) (outside_of M.size M.image M.faults
-        media.old media.new no_files (sink_changed K.bytes K.faults out.old out.new))
-        (shade_changed D.nodes D.faults shade.old shade.new) result }
-    ensures steady { IsSteady M.size M.faults media.old media.new }
-    ensures shade { D.faults shade.old ≤ D.faults shade.new }
-    ensures sink { K.faults out.old ≤ K.faults out.new }
+    ensures ends { ShadowTop (shadow_host me (map string_bytes words.now.items)) (outside_of M.size M.state
+        media.old media.new no_files (change K.state out.old out.new))
+        (change D.state shade.old shade.new) result }
+    ensures steady { IsSteady M.size M.state media.old media.new }
+    ensures shade { (D.state shade.old).faults ≤ (D.state shade.new).faults }
+    ensures sink { (K.state out.old).faults ≤ (K.state out.new).faults }
 {
     match asked(alloc, words) {
         Ok(Some(call)) => write_shadow(alloc, host_or(me, call.system), media, shade, out),

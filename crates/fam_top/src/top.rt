@@ -2,11 +2,10 @@
 
 ghost use Rattle.std.specs.Prelude.{◌≡◌, ◌≤◌, Some, map, string_bytes};
 ghost use Rattle.fam_grammar.specs.Scripts.{script_events};
-ghost use Rattle.fam_journal.specs.Programs.{Single, TopEnds};
-ghost use Rattle.fam_media.specs.Causes.{IsSteady};
-ghost use Rattle.fam_program.specs.Puts.{sink_changed};
+ghost use Rattle.fam_outcomes.specs.Programs.{Single, TopEnds};
+ghost use Rattle.fam_media.specs.Causes.{IsShelfSteady, IsSteady};
+ghost use Rattle.fam_media.specs.States.{change};
 ghost use Rattle.fam_program.specs.Runs.{outside_of};
-ghost use Rattle.fam_sources.specs.Whole.{IsShelfSteady, changed};
 ghost use Rattle.fam_storm.specs.Storm.{storm};
 ghost use Rattle.fam_words.specs.Calls.{IsSoundOrder, IsSoundShot};
 ghost use Rattle.fam_top.specs.Calls as calls;
@@ -16,7 +15,7 @@ ghost use Rattle.fam_top.specs.Words.{order_named};
 use crate::fresh::fs_or;
 use crate::words::order;
 use fam_base::OutOfMemory;
-use fam_journal::Status;
+use fam_outcomes::Status;
 use fam_media::{Media, Shelf, Sink};
 use fam_program::{
     make_file_system, make_parents, put_memory, put_usage, run_command, run_script_file, run_storm,
@@ -46,12 +45,12 @@ fn run_shot<M: Media, S: Shelf, K: Sink>(
     out: &mut K,
 ) -> Status
     requires sound { IsSoundShot shot }
-    ensures ends { TopEnds script_events storm (Some (Single me (shot_of random shot))) (outside_of M.size M.image M.faults
-        media.old media.new (changed S.files S.faults S.shorts shelf.old shelf.new)
-        (sink_changed K.bytes K.faults out.old out.new)) result }
-    ensures steady { IsSteady M.size M.faults media.old media.new }
-    ensures sink { K.faults out.old ≤ K.faults out.new }
-    ensures shelf { IsShelfSteady S.files S.faults S.shorts shelf.old shelf.new }
+    ensures ends { TopEnds script_events storm (Some (Single me (shot_of random shot))) (outside_of M.size M.state
+        media.old media.new (change S.state shelf.old shelf.new)
+        (change K.state out.old out.new)) result }
+    ensures steady { IsSteady M.size M.state media.old media.new }
+    ensures sink { (K.state out.old).faults ≤ (K.state out.new).faults }
+    ensures shelf { IsShelfSteady (S.state shelf.old) (S.state shelf.new) }
 {
     match shot {
         Shot::Run(ask) => run_command(alloc, me, ask, media, shelf, out),
@@ -79,12 +78,12 @@ fn run_order<M: Media, S: Shelf, K: Sink>(
     out: &mut K,
 ) -> Status
     requires sound { IsSoundOrder order }
-    ensures ends { TopEnds script_events storm (Some (command_of me random order)) (outside_of M.size M.image M.faults
-        media.old media.new (changed S.files S.faults S.shorts shelf.old shelf.new)
-        (sink_changed K.bytes K.faults out.old out.new)) result }
-    ensures steady { IsSteady M.size M.faults media.old media.new }
-    ensures sink { K.faults out.old ≤ K.faults out.new }
-    ensures shelf { IsShelfSteady S.files S.faults S.shorts shelf.old shelf.new }
+    ensures ends { TopEnds script_events storm (Some (command_of me random order)) (outside_of M.size M.state
+        media.old media.new (change S.state shelf.old shelf.new)
+        (change K.state out.old out.new)) result }
+    ensures steady { IsSteady M.size M.state media.old media.new }
+    ensures sink { (K.state out.old).faults ≤ (K.state out.new).faults }
+    ensures shelf { IsShelfSteady (S.state shelf.old) (S.state shelf.new) }
 {
     match order {
         Order::Single { system, shot } => {
@@ -115,11 +114,11 @@ pub fn famfs<M: Media, S: Shelf, K: Sink>(
     shelf: &mut S,
     out: &mut K,
 ) -> Status
-    ensures ends { CallEnds (order_named (map string_bytes words.now.items)) me random (outside_of M.size M.image M.faults
-        media.old media.new (changed S.files S.faults S.shorts shelf.old shelf.new) (sink_changed K.bytes K.faults out.old out.new)) result }
-    ensures steady { IsSteady M.size M.faults media.old media.new }
-    ensures sink { K.faults out.old ≤ K.faults out.new }
-    ensures shelf { IsShelfSteady S.files S.faults S.shorts shelf.old shelf.new }
+    ensures ends { CallEnds (order_named (map string_bytes words.now.items)) me random (outside_of M.size M.state
+        media.old media.new (change S.state shelf.old shelf.new) (change K.state out.old out.new)) result }
+    ensures steady { IsSteady M.size M.state media.old media.new }
+    ensures sink { (K.state out.old).faults ≤ (K.state out.new).faults }
+    ensures shelf { IsShelfSteady (S.state shelf.old) (S.state shelf.new) }
 {
     match order(alloc, words) {
         Ok(Some(order)) => run_order(alloc, order, me, random, media, shelf, out),

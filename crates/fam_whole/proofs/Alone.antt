@@ -14,16 +14,16 @@ use Rattle.fam_journal.specs.declared.event.Ask.TheVariants as ask
 use Rattle.fam_journal.specs.declared.event.Event.TheVariants as event
 use Rattle.fam_journal.specs.declared.refusal.Refusal.{Refusal}
 use Rattle.fam_journal.specs.declared.refusal.Refusal.TheVariants as why
-use Rattle.fam_journal.specs.declared.status.Status.{Status}
+use Rattle.fam_outcomes.specs.declared.status.Status.{Status}
 use Rattle.fam_journal.specs.Calls.{Completes, IsOfSource, MayBeRefused, may_begin, refusal_of, when}
 use Rattle.fam_journal.specs.Ends.{IsFaultless}
 use Rattle.fam_journal.specs.Events.{Continues, HasNoSource, MayNot, Ready, Session, SourceSays, Sourced, Unfit}
 use Rattle.fam_journal.specs.Machines.{HostState, Machines}
 use Rattle.fam_journal.specs.Notes.{Answered, Host, Note, Refused, Replied}
-use Rattle.fam_journal.specs.Programs.{Runs, ends_shot}
-use Rattle.fam_journal.specs.Runs.{Outside}
-use Rattle.fam_journal.specs.Statuses.{last_status}
-use Rattle.fam_journal.specs.Texts.{line, refusal_text, shown}
+use Rattle.fam_outcomes.specs.Programs.{Runs, ends_shot}
+use Rattle.fam_outcomes.specs.Runs.{Outside}
+use Rattle.fam_outcomes.specs.Statuses.{last_status}
+use Rattle.fam_outcomes.specs.Texts.{line, refusal_text, shown}
 use Rattle.fam_journal.specs.Laws.{IsImage}
 use Rattle.fam_journal.proofs.Runs.Unique.{clean_rest}
 use Rattle.fam_whole.specs.Alone.{AnswerEnds, AskEnds, CommandEnds, EndsUnless, RefusalEnds, SaidEnds, SourcedEnds, command_refusal}

@@ -16,7 +16,7 @@ use Rattle.fam_rules.specs.Place.{line_bytes}
 use Rattle.fam_journal.specs.declared.event.Event.{Event}
 use Rattle.fam_journal.specs.declared.event.Event.TheVariants as event
 use Rattle.fam_journal.specs.declared.refusal.Refusal.{Refusal}
-use Rattle.fam_journal.specs.declared.status.Status.{Status}
+use Rattle.fam_outcomes.specs.declared.status.Status.{Status}
 use Rattle.fam_journal.specs.Calls as call
 use Rattle.fam_journal.specs.Calls.{Does, begins_refusal, cause_of, makes_refusal, may_begin, number_of, on_host, refusal_of}
 use Rattle.fam_journal.specs.Ends.{IsFaultless}
@@ -25,10 +25,10 @@ use Rattle.fam_journal.specs.Follows.{Follows}
 use Rattle.fam_journal.specs.Laws.{IsImage}
 use Rattle.fam_journal.specs.Machines.{HostState, Machines, unused}
 use Rattle.fam_journal.specs.Notes.{Host, Note}
-use Rattle.fam_journal.specs.Programs.{last_passes}
-use Rattle.fam_journal.specs.Runs.{Outside}
-use Rattle.fam_journal.specs.Statuses.{last_status, note_status}
-use Rattle.fam_journal.specs.Texts.{names_after, names_behind, note_text, shown_last}
+use Rattle.fam_outcomes.specs.Programs.{last_passes}
+use Rattle.fam_outcomes.specs.Runs.{Outside}
+use Rattle.fam_outcomes.specs.Statuses.{last_status, note_status}
+use Rattle.fam_outcomes.specs.Texts.{names_after, names_behind, note_text, shown_last}
 use Rattle.fam_whole.specs.Alone.{command_refusal}
 use Rattle.fam_whole.specs.Whole.{EndsAs}
 use Rattle.fam_whole.proofs.Exact.{Between, at_start, one_more}
@@ -47,7 +47,7 @@ status_end (one ∷ next ∷ front) note = status_end (next ∷ front) note
 
 pub ends_same : {out : Outside} {given own own' : Status} {text text' : List ℕ} {left left' : Image} → EndsAs out given text left own → text ≡ text' → left ≡ left' → own ≡ own' → EndsAs out given text' left' own'
 ends_same {out} {given} {own} {own'} {text} {text'} {left} {left'} ends t l o = record {
-  put = ends.put ∙ ap (λ (z : List ℕ). option_map (Rattle.fam_media.specs.Outside.with_piece z) out.bytes) t;
+  put = ends.put ∙ ap (λ (z : List ℕ). option_map (Rattle.fam_media.specs.Outside.with_piece z) out.sink.old.bytes) t;
   left_is = ends.left_is ∙ ap Some l;
   status_is = ends.status_is ∙ o;
 }

@@ -8,16 +8,16 @@ use Rattle.std.proofs.lemmas.Option.{same_Some}
 use Rattle.fam_base.specs.Image.{Image}
 use Rattle.fam_media.specs.Files.{Files}
 use Rattle.fam_journal.specs.declared.event.Event.{Event}
-use Rattle.fam_journal.specs.declared.status.Status.{Status}
+use Rattle.fam_outcomes.specs.declared.status.Status.{Status}
 use Rattle.fam_journal.specs.Ends.{AllDone, Ending, EndsOutOfMemory, EndsOutOfMemoryBroken, HasCounted, IsFaultless, MkfsFails, ReadsAs, SinkFails, SourceFails, faults_of}
 use Rattle.fam_journal.specs.Events.{DoesEvent, Session, first_session}
 use Rattle.fam_journal.specs.Follows.{Follows}
 use Rattle.fam_journal.specs.Laws.{AreSound, IsImage}
 use Rattle.fam_journal.specs.Notes.{Note}
 use Rattle.fam_journal.specs.Past.{past_of}
-use Rattle.fam_journal.specs.Programs.{CommandRuns, EndsEarly, Grammar, Script, ScriptPuts, ScriptRuns, Storms, TopEnds, script_status}
-use Rattle.fam_journal.specs.Runs.{HasRisen, IsCaused, IsPut, Outside, RunsOn}
-use Rattle.fam_journal.proofs.Runs.Causes.{broken_faults, risen}
+use Rattle.fam_outcomes.specs.Programs.{CommandRuns, EndsEarly, Grammar, Script, ScriptPuts, ScriptRuns, Storms, TopEnds, script_status}
+use Rattle.fam_outcomes.specs.Runs.{HasRisen, IsCaused, IsPut, Outside, RunsOn}
+use Rattle.fam_outcomes.proofs.Causes.{broken_faults, risen}
 use Rattle.fam_journal.proofs.Runs.Unique.{clean_prefix}
 use Rattle.fam_whole.specs.Whole.{AreWhole, EndsFront, EndsNone, IsExact, IsLeft, WholeRun}
 use Rattle.fam_whole.proofs.Exact.{exact}
@@ -43,7 +43,7 @@ follows_next files (x ∷ events) (suc count) e is old mid new first rest follow
   ap (λ (z : List Note). z ++ rest) follows.5 ∙ append_assoc follows.1 follows.2 rest,
 )
 
-module _ (out : Outside) (sound_media : HasRisen out.faults out.faults_now → ⊥) (files : Files) (start : Image) (image : IsImage start) (events : List Event) (sound : AreSound events) (whole : AreWhole events) where
+module _ (out : Outside) (sound_media : HasRisen out.media.old.faults out.media.new.faults → ⊥) (files : Files) (start : Image) (image : IsImage start) (events : List Event) (sound : AreSound events) (whole : AreWhole events) where
   -- what is left of a journal: that of some first events, and a part
   record Left (ending : Ending) (journal : List Note) : Type 0 where
     count : ℕ
@@ -51,7 +51,7 @@ module _ (out : Outside) (sound_media : HasRisen out.faults out.faults_now → �
     exact_is : IsExact run
     part : List Note
     left : Image
-    image_is : out.image_now ≡ Some left
+    image_is : out.media.new.image ≡ Some left
     all_is : ending ≡ AllDone → take count events ≡ events
     is_left : IsLeft ending files events start count run part left
     journal_is : journal ≡ run.journal ++ part
@@ -63,7 +63,7 @@ module _ (out : Outside) (sound_media : HasRisen out.faults out.faults_now → �
   exact_of count run = exact start files (take count events) image (sound_take count events sound) run
 
   -- all that was noted is of those events
-  whole_left : (ending : Ending) (count : ℕ) → (ending ≡ AllDone → take count events ≡ events) → (notes : List Note) (last : Session) → Follows files (take count events) (first_session start) notes last → IsFaultless notes → out.image_now ≡ Some last.machines.memory → Left ending notes
+  whole_left : (ending : Ending) (count : ℕ) → (ending ≡ AllDone → take count events ≡ events) → (notes : List Note) (last : Session) → Follows files (take count events) (first_session start) notes last → IsFaultless notes → out.media.new.image ≡ Some last.machines.memory → Left ending notes
   whole_left ending count all notes last follows clean now =
       let run = run_of count notes last follows clean in
       record { count = count; run = run; exact_is = exact_of count run; part = []; left = last.machines.memory; image_is = now; all_is = all; is_left = inl (refl, (exact_of count run).image); journal_is = sym (append-nil notes) }
@@ -72,7 +72,7 @@ module _ (out : Outside) (sound_media : HasRisen out.faults out.faults_now → �
     broken : (1 ≤ faults_of journal) → ⊥
     broken some = absurd (omega (arith, clean, some))
 
-    left_by : (ending : Ending) → IsCaused ending events journal out → RunsOn ending files events start out.image_now journal → Left ending journal
+    left_by : (ending : Ending) → IsCaused ending events journal out → RunsOn ending files events start out.media.new.image journal → Left ending journal
     left_by AllDone caused on =
         whole_left AllDone (length events) (λ e. take_all events) journal on.last (subst (λ (es : List Event). Follows files es (first_session start) journal on.last) (sym (take_all events)) on.follows) clean on.left
     left_by MkfsFails caused on = absurd (broken (broken_faults events journal caused))
@@ -117,16 +117,16 @@ module _ (out : Outside) (sound_media : HasRisen out.faults out.faults_now → �
     }
 
 -- where the media didn't fail, some first events were run, exactly; or none was
-pub program_front : (out : Outside) → (HasRisen out.faults out.faults_now → ⊥) → (grammar : Grammar) (storms : Storms) (name : List ℕ) (files : Files) (bytes : List ℕ) (events : List Event) → out.files ≡ Some files → finmap.get files name ≡ Some bytes → grammar bytes ≡ Ok events → (start : Image) → out.image ≡ Some start → IsImage start → AreSound events → AreWhole events
+pub program_front : (out : Outside) → (HasRisen out.media.old.faults out.media.new.faults → ⊥) → (grammar : Grammar) (storms : Storms) (name : List ℕ) (files : Files) (bytes : List ℕ) (events : List Event) → out.shelf.old.files ≡ Some files → finmap.get files name ≡ Some bytes → grammar bytes ≡ Ok events → (start : Image) → out.media.old.image ≡ Some start → IsImage start → AreSound events → AreWhole events
     → (given : Status) → TopEnds grammar storms (Some (Script name)) out given → EndsNone grammar storms (Some (Script name)) out given ⊎ EndsFront files events start out given
 program_front out media grammar storms name files bytes events told holds reads start told_start image sound whole given top = by_shows top.shows
   where
-    clean : (journal : List Note) → HasCounted out.faults out.faults_now journal → IsFaultless journal
+    clean : (journal : List Note) → HasCounted out.media.old.faults out.media.new.faults journal → IsFaultless journal
     clean journal counted = go (faults_of journal) refl
       where
         go : (n : ℕ) → faults_of journal ≡ n → IsFaultless journal
         go zero is = is
-        go (suc n) is = absurd (media (risen out.faults out.faults_now journal counted (omega (arith, is))))
+        go (suc n) is = absurd (media (risen out.media.old.faults out.media.new.faults journal counted (omega (arith, is))))
 
     runs : ScriptRuns grammar name out given top.text top.own → EndsFront files events start out given
     runs x = subst (λ (es : List Event). EndsFront files es start out given) same

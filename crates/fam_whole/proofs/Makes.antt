@@ -18,17 +18,17 @@ use Rattle.fam_rules.specs.Written.{formatted}
 use Rattle.fam_journal.specs.declared.event.Event.TheVariants as event
 use Rattle.fam_journal.specs.declared.refusal.Refusal.{Refusal}
 use Rattle.fam_journal.specs.declared.refusal.Refusal.TheVariants as why
-use Rattle.fam_journal.specs.declared.status.Status.{Status}
-use Rattle.fam_journal.specs.declared.status.Status.TheVariants as status
+use Rattle.fam_outcomes.specs.declared.status.Status.{Status}
+use Rattle.fam_outcomes.specs.declared.status.Status.TheVariants as status
 use Rattle.fam_journal.specs.Calls as call
 use Rattle.fam_journal.specs.Calls.{Acts, ActsAt, ByRefusal, Does, MakesFileSystem, Meets, cause_of}
 use Rattle.fam_journal.specs.Laws.{IsImage}
 use Rattle.fam_journal.specs.Machines.{HostState, Machines, machine_of}
 use Rattle.fam_journal.specs.Notes.{Host, Made, Note, Refused}
-use Rattle.fam_journal.specs.Programs.{Makes, ends_shot}
-use Rattle.fam_journal.specs.Runs.{Outside}
-use Rattle.fam_journal.specs.Statuses.{last_status}
-use Rattle.fam_journal.specs.Texts.{line, made_text, refusal_text, shown}
+use Rattle.fam_outcomes.specs.Programs.{Makes, ends_shot}
+use Rattle.fam_outcomes.specs.Runs.{Outside}
+use Rattle.fam_outcomes.specs.Statuses.{last_status}
+use Rattle.fam_outcomes.specs.Texts.{line, made_text, refusal_text, shown}
 use Rattle.fam_journal.proofs.Calls.Cases.{by_host}
 use Rattle.fam_whole.specs.Alone.{EndsUnless, MkfsEnds, mkfs_refusal, standing_refusal}
 use Rattle.fam_whole.specs.Whole.{EndsAs}

@@ -7,28 +7,28 @@ use Rattle.fam_base.specs.Image.{Image}
 use Rattle.fam_media.specs.Files.{Files}
 use Rattle.fam_media.specs.Outside.{IsPartlyPut, with_piece}
 use Rattle.fam_journal.specs.declared.event.Event.{Event}
-use Rattle.fam_journal.specs.declared.status.Status.{Status}
-use Rattle.fam_journal.specs.declared.status.Status.TheVariants as status
+use Rattle.fam_outcomes.specs.declared.status.Status.{Status}
+use Rattle.fam_outcomes.specs.declared.status.Status.TheVariants as status
 use Rattle.fam_journal.specs.Complete.{IsComplete}
 use Rattle.fam_journal.specs.Ends.{AllDone, Ending, EndsOutOfMemory}
 use Rattle.fam_journal.specs.Events.{first_session}
 use Rattle.fam_journal.specs.Follows.{Faulted, Short}
 use Rattle.fam_journal.specs.Laws.{AreSound, IsImage}
-use Rattle.fam_journal.specs.Programs.{BadLine, CommandRuns, Early, EarlyOutOfMemory, EndsEarly, Grammar, IsEarly, LongScript, NoCommand, NoScript, Prints, Script, ScriptFails, ScriptPuts, ScriptRuns, Storms, TopEnds, early_status, script_limit, script_status}
-use Rattle.fam_journal.specs.Runs.{IsPut, NoneRose, Outside, RunsOn}
-use Rattle.fam_journal.proofs.Runs.Faultless.{all_end, run_complete}
+use Rattle.fam_outcomes.specs.Programs.{BadLine, CommandRuns, Early, EarlyOutOfMemory, EndsEarly, Grammar, IsEarly, LongScript, NoCommand, NoScript, Prints, Script, ScriptFails, ScriptPuts, ScriptRuns, Storms, TopEnds, early_status, script_limit, script_status}
+use Rattle.fam_outcomes.specs.Runs.{IsPut, NoneRose, Outside, RunsOn}
+use Rattle.fam_outcomes.proofs.Faultless.{all_end, run_complete}
 use Rattle.fam_whole.specs.Whole.{AreWhole, EndsExact, IsExact, WholeRun}
 use Rattle.fam_whole.proofs.Exact.{exact}
 
 -- where no put failed the text is put whole, and the status is its own
-pub put_whole : (out : Outside) → NoneRose out → (own given : Status) (text : List ℕ) → IsPut own given text out → (given ≡ own) × (out.bytes_now ≡ option_map (with_piece text) out.bytes)
+pub put_whole : (out : Outside) → NoneRose out → (own given : Status) (text : List ℕ) → IsPut own given text out → (given ≡ own) × (out.sink.new.bytes ≡ option_map (with_piece text) out.sink.old.bytes)
 put_whole out none own given text put = go put.outcome
   where
-    go : ((given ≡ own) × (out.bytes_now ≡ option_map (with_piece text) out.bytes)) ⊎ ((given ≡ status.SinkFault) × IsPartlyPut out.bytes out.bytes_now text) → (given ≡ own) × (out.bytes_now ≡ option_map (with_piece text) out.bytes)
+    go : ((given ≡ own) × (out.sink.new.bytes ≡ option_map (with_piece text) out.sink.old.bytes)) ⊎ ((given ≡ status.SinkFault) × IsPartlyPut out.sink.old.bytes out.sink.new.bytes text) → (given ≡ own) × (out.sink.new.bytes ≡ option_map (with_piece text) out.sink.old.bytes)
     go (inl x) = x
     go (inr x) = absurd (none.sink (put.rose x.0))
 
-module _ (out : Outside) (none : NoneRose out) (grammar : Grammar) (storms : Storms) (name : List ℕ) (files : Files) (bytes : List ℕ) (events : List Event) (told : out.files ≡ Some files) (holds : finmap.get files name ≡ Some bytes) (within : length bytes ≤ script_limit) (reads : grammar bytes ≡ Ok events) where
+module _ (out : Outside) (none : NoneRose out) (grammar : Grammar) (storms : Storms) (name : List ℕ) (files : Files) (bytes : List ℕ) (events : List Event) (told : out.shelf.old.files ≡ Some files) (holds : finmap.get files name ≡ Some bytes) (within : length bytes ≤ script_limit) (reads : grammar bytes ≡ Ok events) where
   -- no event is run only for want of memory
   early_memory : (early : Early) → IsEarly grammar storms (Some (Script name)) out early → early_status early ≡ status.OutOfMemory
   early_memory NoCommand x = absurd cc
@@ -47,12 +47,12 @@ module _ (out : Outside) (none : NoneRose out) (grammar : Grammar) (storms : Sto
   early_memory (Prints script) x = absurd x
   early_memory EarlyOutOfMemory x = refl
 
-  module _ (start : Image) (told_start : out.image ≡ Some start) (image : IsImage start) (sound : AreSound events) (whole : AreWhole events) (given : Status) (text : List ℕ) (own : Status) (put : IsPut own given text out) where
+  module _ (start : Image) (told_start : out.media.old.image ≡ Some start) (image : IsImage start) (sound : AreSound events) (whole : AreWhole events) (given : Status) (text : List ℕ) (own : Status) (put : IsPut own given text out) where
     abbrev Comes : List Event → Type 0
     Comes es = (given ≡ status.OutOfMemory) ⊎ EndsExact files es start out given
 
     script_ends : ScriptRuns grammar name out given text own → Comes events
-    script_ends x = subst Comes same (by_ending (run_complete out none x.run.journal x.run.counted x.ending files x.events start out.image_now image sound' x.run.caused on))
+    script_ends x = subst Comes same (by_ending (run_complete out none x.run.journal x.run.counted x.ending files x.events start out.media.new.image image sound' x.run.caused on))
       where
         same : x.events ≡ events
         same =
@@ -62,12 +62,12 @@ module _ (out : Outside) (none : NoneRose out) (grammar : Grammar) (storms : Sto
         sound' : AreSound x.events
         sound' = subst AreSound (sym same) sound
 
-        on : RunsOn x.ending files x.events start out.image_now x.run.journal
+        on : RunsOn x.ending files x.events start out.media.new.image x.run.journal
         on = x.run.told start told_start files told
 
         done : x.ending ≡ AllDone → IsComplete files x.events start x.run.journal → EndsExact files x.events start out given
         done e complete =
-            let all : RunsOn AllDone files x.events start out.image_now x.run.journal = subst (λ (z : Ending). RunsOn z files x.events start out.image_now x.run.journal) e on in
+            let all : RunsOn AllDone files x.events start out.media.new.image x.run.journal = subst (λ (z : Ending). RunsOn z files x.events start out.media.new.image x.run.journal) e on in
             let run : WholeRun files x.events start = record { whole = subst AreWhole (sym same) whole; journal = x.run.journal; last = all.last; follows = all.follows; clean = complete.clean } in
             let is : IsExact run = exact start files x.events image sound' run in
             record {
@@ -75,7 +75,7 @@ module _ (out : Outside) (none : NoneRose out) (grammar : Grammar) (storms : Sto
               exact = is;
               answered = all_end files x.events (first_session start) x.run.journal all.last complete.clean all.follows;
               ends = record {
-                put = (put_whole out none own given text put).1 ∙ ap (λ (t : List ℕ). option_map (with_piece t) out.bytes) (subst (λ (z : Ending). ScriptPuts z x.run.journal text) e x.run.text_is);
+                put = (put_whole out none own given text put).1 ∙ ap (λ (t : List ℕ). option_map (with_piece t) out.sink.old.bytes) (subst (λ (z : Ending). ScriptPuts z x.run.journal text) e x.run.text_is);
                 left_is = all.left ∙ ap Some is.image;
                 status_is = (put_whole out none own given text put).0 ∙ x.run.status_is ∙ ap (λ (z : Ending). script_status z x.run.journal) e;
               };
@@ -90,5 +90,5 @@ module _ (out : Outside) (none : NoneRose out) (grammar : Grammar) (storms : Sto
     shown_ends (inr x) = script_ends x
 
   -- a script whose commands are whole is run to its end, exactly; or there is no memory
-  pub program_exact : (start : Image) → out.image ≡ Some start → IsImage start → AreSound events → AreWhole events → (given : Status) → TopEnds grammar storms (Some (Script name)) out given → (given ≡ status.OutOfMemory) ⊎ EndsExact files events start out given
+  pub program_exact : (start : Image) → out.media.old.image ≡ Some start → IsImage start → AreSound events → AreWhole events → (given : Status) → TopEnds grammar storms (Some (Script name)) out given → (given ≡ status.OutOfMemory) ⊎ EndsExact files events start out given
   program_exact start told_start image sound whole given top = shown_ends start told_start image sound whole given top.text top.own top.put top.shows

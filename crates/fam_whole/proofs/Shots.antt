@@ -11,15 +11,15 @@ use Rattle.fam_media.specs.Outside.{with_piece}
 use Rattle.fam_journal.specs.declared.event.Ask.TheVariants as ask
 use Rattle.fam_journal.specs.declared.event.Event.{Event}
 use Rattle.fam_journal.specs.declared.event.Event.TheVariants as event
-use Rattle.fam_journal.specs.declared.status.Status.{Status}
-use Rattle.fam_journal.specs.declared.status.Status.TheVariants as status
+use Rattle.fam_outcomes.specs.declared.status.Status.{Status}
+use Rattle.fam_outcomes.specs.declared.status.Status.TheVariants as status
 use Rattle.fam_journal.specs.Complete.{IsComplete}
 use Rattle.fam_journal.specs.Ends.{AllDone, Ending, EndsOutOfMemory}
 use Rattle.fam_journal.specs.Laws.{AreSound, IsImage}
-use Rattle.fam_journal.specs.Programs.{BadLine, CommandRuns, Early, EarlyOutOfMemory, EndsEarly, Grammar, IsEarly, IsWholeRun, LongScript, Makes, MakesParents, NoCommand, NoScript, OneShot, Prints, Runs, ScriptFails, ShotRuns, ShotText, Single, Storms, TopEnds, done_status, early_status, ends_shot, last_passes, path_prefixes, shot_events, shot_status}
-use Rattle.fam_journal.specs.Runs.{IsPut, NoneRose, Outside, RunsOn}
-use Rattle.fam_journal.specs.Texts.{shown}
-use Rattle.fam_journal.proofs.Runs.Faultless.{run_complete}
+use Rattle.fam_outcomes.specs.Programs.{BadLine, CommandRuns, Early, EarlyOutOfMemory, EndsEarly, Grammar, IsEarly, IsWholeRun, LongScript, Makes, MakesParents, NoCommand, NoScript, OneShot, Prints, Runs, ScriptFails, ShotRuns, ShotText, Single, Storms, TopEnds, done_status, early_status, ends_shot, last_passes, path_prefixes, shot_events, shot_status}
+use Rattle.fam_outcomes.specs.Runs.{IsPut, NoneRose, Outside, RunsOn}
+use Rattle.fam_outcomes.specs.Texts.{shown}
+use Rattle.fam_outcomes.proofs.Faultless.{run_complete}
 use Rattle.fam_whole.specs.Alone.{ParentsEnd}
 use Rattle.fam_whole.specs.Whole.{AreWhole, EndsAs, IsExact, WholeRun}
 use Rattle.fam_whole.proofs.Exact.{exact}
@@ -72,7 +72,7 @@ pub record ShotRun (files : Files) (start : Image) (me : List ℕ) (shot : OneSh
   pub ended : last_passes (ends_shot shot) run.journal ≡ true
   pub ends : EndsAs out given (shown run.journal) run.last.machines.memory (done_status shot run.journal)
 
-module _ (out : Outside) (none : NoneRose out) (me : List ℕ) (shot : OneShot) (start : Image) (files : Files) (told_start : out.image ≡ Some start) (told : out.files ≡ Some files) (image : IsImage start) (me_sound : IsUuid me) (shot_sound : IsSoundShot shot) where
+module _ (out : Outside) (none : NoneRose out) (me : List ℕ) (shot : OneShot) (start : Image) (files : Files) (told_start : out.media.old.image ≡ Some start) (told : out.shelf.old.files ≡ Some files) (image : IsImage start) (me_sound : IsUuid me) (shot_sound : IsSoundShot shot) where
   module _ (grammar : Grammar) (storms : Storms) (given : Status) where
     early_memory : (early : Early) → IsEarly grammar storms (Some (Single me shot)) out early → early_status early ≡ status.OutOfMemory
     early_memory NoCommand x = absurd cc
@@ -88,7 +88,7 @@ module _ (out : Outside) (none : NoneRose out) (me : List ℕ) (shot : OneShot) 
       Comes = (given ≡ status.OutOfMemory) ⊎ ShotRun files start me shot out given
 
       shot_ends : ShotRuns me shot out text own → Comes
-      shot_ends x = by_ending (run_complete out none x.run.journal x.run.counted x.ending files x.events start out.image_now image sound x.run.caused on)
+      shot_ends x = by_ending (run_complete out none x.run.journal x.run.counted x.ending files x.events start out.media.new.image image sound x.run.caused on)
         where
           steps : IsWholeRun me shot x.events x.run.journal
           steps = x.run.text_is.0
@@ -99,12 +99,12 @@ module _ (out : Outside) (none : NoneRose out) (me : List ℕ) (shot : OneShot) 
           whole : AreWhole x.events
           whole = subst AreWhole (sym steps.events_are) (tt, whole_take steps.count (shot_events steps.name shot) (whole_shot steps.name shot))
 
-          on : RunsOn x.ending files x.events start out.image_now x.run.journal
+          on : RunsOn x.ending files x.events start out.media.new.image x.run.journal
           on = x.run.told start told_start files told
 
           done : x.ending ≡ AllDone → IsComplete files x.events start x.run.journal → ShotRun files start me shot out given
           done e complete =
-              let all : RunsOn AllDone files x.events start out.image_now x.run.journal = subst (λ (z : Ending). RunsOn z files x.events start out.image_now x.run.journal) e on in
+              let all : RunsOn AllDone files x.events start out.media.new.image x.run.journal = subst (λ (z : Ending). RunsOn z files x.events start out.media.new.image x.run.journal) e on in
               let shows : ShotText shot AllDone x.run.journal text = subst (λ (z : Ending). ShotText shot z x.run.journal text) e x.run.text_is.1 in
               record {
                 events = x.events;
@@ -113,7 +113,7 @@ module _ (out : Outside) (none : NoneRose out) (me : List ℕ) (shot : OneShot) 
                 steps = steps;
                 ended = shows.0;
                 ends = record {
-                  put = (put_whole out none own given text put).1 ∙ ap (λ (t : List ℕ). option_map (with_piece t) out.bytes) shows.1;
+                  put = (put_whole out none own given text put).1 ∙ ap (λ (t : List ℕ). option_map (with_piece t) out.sink.old.bytes) shows.1;
                   left_is = all.left;
                   status_is = (put_whole out none own given text put).0 ∙ x.run.status_is ∙ ap (λ (z : Ending). shot_status shot z x.run.journal) e;
                 };

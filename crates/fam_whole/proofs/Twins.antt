@@ -41,7 +41,7 @@ use Rattle.fam_journal.specs.Notes.{Answered, Made, Note, Refused, Replied, Star
 use Rattle.fam_journal.specs.Past.{Past}
 use Rattle.fam_journal.proofs.Calls.Cases.{by_host, by_refusal}
 use Rattle.fam_journal.proofs.Settled.Journals.{past_both}
-use Rattle.fam_journal.proofs.Texts.Printed.{one_listing}
+use Rattle.fam_journal.proofs.Runs.Listings.{one_listing}
 use Rattle.fam_journal.proofs.Calls.Shown.{AreAlike, number_same, refusal_same}
 use Rattle.fam_journal.proofs.Runs.Unique.{met_or_made, not_clean, one_source}
 use Rattle.fam_whole.specs.Whole.{AreRefusals, is_move}

@@ -17,15 +17,15 @@ use Rattle.fam_journal.specs.declared.event.Ask.{Ask}
 use Rattle.fam_journal.specs.declared.event.Event.{Event}
 use Rattle.fam_journal.specs.declared.refusal.Refusal.{Refusal}
 use Rattle.fam_journal.specs.declared.refusal.Refusal.TheVariants as why
-use Rattle.fam_journal.specs.declared.status.Status.{Status}
-use Rattle.fam_journal.specs.declared.status.Status.TheVariants as status
+use Rattle.fam_outcomes.specs.declared.status.Status.{Status}
+use Rattle.fam_outcomes.specs.declared.status.Status.TheVariants as status
 use Rattle.fam_journal.specs.Calls.{cause_of, when}
 use Rattle.fam_journal.specs.Events.{Ready, SourceSays, Sourced, Unfit}
 use Rattle.fam_journal.specs.Past.{first_past}
-use Rattle.fam_journal.specs.Programs.{IsWholeRun, MakesParents}
-use Rattle.fam_journal.specs.Runs.{Outside}
-use Rattle.fam_journal.specs.Statuses.{cause_status, parents_status, reply_status}
-use Rattle.fam_journal.specs.Texts.{line, made_text, refusal_text, reply_text, shown}
+use Rattle.fam_outcomes.specs.Programs.{IsWholeRun, MakesParents}
+use Rattle.fam_outcomes.specs.Runs.{Outside}
+use Rattle.fam_outcomes.specs.Statuses.{cause_status, parents_status, reply_status}
+use Rattle.fam_outcomes.specs.Texts.{line, made_text, refusal_text, reply_text, shown}
 use Rattle.fam_whole.specs.Whole.{EndsAs, IsExact, WholeRun, image_behind}
 
 -- a refusal is put, and the image is as it was

@@ -14,7 +14,7 @@ use Rattle.fam_rules.specs.Reports.{report_of}
 use Rattle.fam_rules.specs.Written.{formatted, written}
 use Rattle.fam_journal.specs.declared.event.Event.{Event}
 use Rattle.fam_journal.specs.declared.event.Event.TheVariants as event
-use Rattle.fam_journal.specs.declared.status.Status.{Status}
+use Rattle.fam_outcomes.specs.declared.status.Status.{Status}
 use Rattle.fam_journal.specs.Complete.{RunsEnd}
 use Rattle.fam_journal.specs.Ends.{AllDone, Ending, EndsOutOfMemory, IsFaultless, ReadsAs}
 use Rattle.fam_journal.specs.Events.{PartOf, Session, first_session}
@@ -22,10 +22,10 @@ use Rattle.fam_journal.specs.Follows.{Follows}
 use Rattle.fam_journal.specs.Legal.{OfHost}
 use Rattle.fam_journal.specs.Notes.{Answer, Replied, MediaFault, Note, Host, Made, Start, Mark, Found, Writes, Answered, Stop, Halt, Refused}
 use Rattle.fam_journal.specs.Past.{HostPast, Past, State, Bad, Sound, count_of, first_past, first_state, past_after, past_of, settled_length}
-use Rattle.fam_journal.specs.Programs.{Command, EndsEarly, Grammar, ScriptPuts, Storms, script_status}
-use Rattle.fam_journal.specs.Runs.{IsPut, Outside}
-use Rattle.fam_journal.specs.Statuses.{good_status, is_good}
-use Rattle.fam_journal.specs.Texts.{render}
+use Rattle.fam_outcomes.specs.Programs.{Command, EndsEarly, Grammar, ScriptPuts, Storms, script_status}
+use Rattle.fam_outcomes.specs.Runs.{IsPut, Outside}
+use Rattle.fam_outcomes.specs.Statuses.{good_status, is_good}
+use Rattle.fam_outcomes.specs.Texts.{render}
 
 -- an event that no other host's step interrupts
 abbrev pub IsWholeEvent : Event → Type 0
@@ -41,17 +41,20 @@ IsWholeEvent (event.Evict name line) = ⊤
 IsWholeEvent (event.Leak name line mask) = ⊤
 IsWholeEvent (event.Fetch name line mask) = ⊤
 
+-- no event leaves a command half done
 abbrev pub AreWhole : List Event → Type 0
 AreWhole [] = ⊤
 AreWhole (e ∷ events) = IsWholeEvent e × AreWhole events
 
 -- The image, as the notes have it: a mkfs formats it, and an acknowledged entry is written.
 
+-- the image behind an append that is acknowledged: the pending entry is written
 abbrev pub acknowledged_image : Image → State → ℕ → Image
 acknowledged_image image (Bad own damage gate) seq = image
 acknowledged_image image (Sound p history None) seq = image
 acknowledged_image image (Sound p history (Some f)) seq = written image p seq f.entry f.bytes
 
+-- the image behind a reply: an append alone writes
 abbrev pub replied_image : Image → State → Reply → Image
 replied_image image state (reply.Appended seq) = acknowledged_image image state seq
 replied_image image state (reply.NotAppended refused) = image
@@ -68,10 +71,12 @@ replied_image image state (reply.NoSuperblock fault) = image
 replied_image image state (reply.BadHeader fault) = image
 replied_image image state (reply.BadSlot seq reason) = image
 
+-- the image behind an answer
 abbrev pub answered_image : Image → State → Answer → Image
 answered_image image state (Replied given) = replied_image image state given
 answered_image image state (MediaFault line) = image
 
+-- the image behind a note
 abbrev pub image_after : Past → Image → Note → Image
 image_after past image (Host name uuid) = image
 image_after past image (Made host p) = formatted image p
@@ -84,6 +89,7 @@ image_after past image (Stop host) = image
 image_after past image (Halt host) = image
 image_after past image (Refused name cause) = image
 
+-- the image behind some notes
 abbrev pub image_behind : Past → Image → List Note → Image
 image_behind past image [] = image
 image_behind past image (note ∷ notes) = image_behind (past_after past note) (image_after past image note) notes
@@ -120,10 +126,12 @@ pub record IsByRules (image : Image) (given : Reply) (host : HostPast) : Type 0 
   pub told : host.cmd ≡ Some cmd
   pub is : given ≡ solo_reply image host.uuid cmd
 
+-- a host's answer fits what is settled, and is by the rules, of the image as it stands
 abbrev pub IsWholeAnswer : Answer → ℕ → Past → Image → Type 0
 IsWholeAnswer (Replied given) host past image = IsWholeReply given past.state image × OfHost (slice_get past.hosts host) (IsByRules image given)
 IsWholeAnswer (MediaFault line) host past image = ⊤
 
+-- so it is of a note that is an answer
 abbrev pub IsWholeNote : Note → Past → Image → Type 0
 IsWholeNote (Host name uuid) past image = ⊤
 IsWholeNote (Made host p) past image = ⊤
@@ -136,6 +144,7 @@ IsWholeNote (Stop host) past image = ⊤
 IsWholeNote (Halt host) past image = ⊤
 IsWholeNote (Refused name cause) past image = ⊤
 
+-- so it is of each note, of the image behind those before it
 abbrev pub AreWholeNotes : Past → Image → List Note → Type 0
 AreWholeNotes past image [] = ⊤
 AreWholeNotes past image (note ∷ notes) =
@@ -159,6 +168,7 @@ pub record IsExact {files : Files} {events : List Event} {start : Image} (run : 
 
 -- Caches' own moves.
 
+-- an event that is a cache's own move
 abbrev pub is_move : Event → Bool
 is_move (event.Host name uuid) = false
 is_move (event.Mkfs name fs unit log force) = false
@@ -182,11 +192,13 @@ abbrev pub notes_unless : Bool → List Note → List Note
 notes_unless true notes = []
 notes_unless false notes = notes
 
+-- the notes of the events that are no moves
 abbrev pub command_notes : (files : Files) (events : List Event) (old : Session) (journal : List Note) (new : Session) → Follows files events old journal new → List Note
 command_notes files [] old journal new follows = []
 command_notes files (e ∷ events) old journal new follows =
     notes_unless (is_move e) follows.1 ++ command_notes files events follows.0 follows.2 new follows.4
 
+-- the notes of a run, but those of moves
 abbrev pub notes_of_commands : {files : Files} {events : List Event} {start : Image} → WholeRun files events start → List Note
 notes_of_commands {files} {events} {start} run = command_notes files events (first_session start) run.journal run.last run.follows
 
@@ -208,6 +220,7 @@ IsRefusal (Stop host) = ⊥
 IsRefusal (Halt host) = ⊥
 IsRefusal (Refused name cause) = ⊤
 
+-- each note is a refusal
 abbrev pub AreRefusals : List Note → Type 0
 AreRefusals [] = ⊤
 AreRefusals (note ∷ notes) = IsRefusal note × AreRefusals notes
@@ -216,8 +229,8 @@ AreRefusals (note ∷ notes) = IsRefusal note × AreRefusals notes
 
 -- how a call ended: this text was put behind the bytes that stood there, this image is left, and this status was given
 pub record EndsAs (out : Outside) (given : Status) (text : List ℕ) (left : Image) (own : Status) : Type 0 where
-  pub put : out.bytes_now ≡ option_map (with_piece text) out.bytes
-  pub left_is : out.image_now ≡ Some left
+  pub put : out.sink.new.bytes ≡ option_map (with_piece text) out.sink.old.bytes
+  pub left_is : out.media.new.image ≡ Some left
   pub status_is : given ≡ own
 
 -- a script's events were all run, each command to its answer or refusal, and the run is exact. Its notes were put; the image
@@ -260,7 +273,7 @@ pub record EndsFront (files : Files) (events : List Event) (start : Image) (out 
   pub ending : Ending
   pub all : ending ≡ AllDone → take count events ≡ events
   pub left : Image
-  pub image : out.image_now ≡ Some left
+  pub image : out.media.new.image ≡ Some left
   pub is_left : IsLeft ending files events start count run part left
   pub text : List ℕ
   pub shows : ScriptPuts ending (run.journal ++ part) text

@@ -19,10 +19,10 @@ ghost use Rattle.fam_journal.specs.Past.{Sound, past_of, with_pending};
 ghost use Rattle.fam_journal.specs.declared.event.Ask.{Ask};
 ghost use Rattle.fam_journal.specs.declared.event.Ask.TheVariants as ask;
 ghost use Rattle.fam_journal.specs.declared.event.Event.{Event};
-ghost use Rattle.fam_journal.specs.declared.status.Status.{Status};
-ghost use Rattle.fam_journal.specs.declared.status.Status.TheVariants.{OutOfMemory};
-ghost use Rattle.fam_journal.specs.Programs.{Grammar, Makes, MakesParents, Runs, Script, Single, Storms, TopEnds, script_limit};
-ghost use Rattle.fam_journal.specs.Runs.{HasRisen, NoneRose, Outside};
+ghost use Rattle.fam_outcomes.specs.declared.status.Status.{Status};
+ghost use Rattle.fam_outcomes.specs.declared.status.Status.TheVariants.{OutOfMemory};
+ghost use Rattle.fam_outcomes.specs.Programs.{Grammar, Makes, MakesParents, Runs, Script, Single, Storms, TopEnds, script_limit};
+ghost use Rattle.fam_outcomes.specs.Runs.{HasRisen, NoneRose, Outside};
 ghost use Rattle.fam_media.specs.Files.{Files};
 ghost use Rattle.fam_whole.specs.Alone.{AskEnds, CommandEnds, MkfsEnds, ParentsEnd};
 ghost use Rattle.fam_whole.specs.Whole.{AreAlike, AreRefusals, AreWhole, EndsExact, EndsFront, EndsNone, IsExact, WholeRun, commands_in, is_move};
@@ -72,12 +72,12 @@ pub fn no_byte_is_in_two_files()
 pub fn a_program_of_whole_commands_is_exact()
     ensures whole { (grammar : Grammar) (storms : Storms) (out : Outside) (given : Status) (name : List ℕ) (files : Files)
         (bytes : List ℕ) (events : List Event) (start : Image) → NoneRose out
-        → TopEnds grammar storms (Some (Script name)) out given → out.image ≡ Some start → out.files ≡ Some files
+        → TopEnds grammar storms (Some (Script name)) out given → out.media.old.image ≡ Some start → out.shelf.old.files ≡ Some files
         → finmap.get files name ≡ Some bytes → length bytes ≤ script_limit → grammar bytes ≡ Ok events → IsImage start
         → AreSound events → AreWhole events → (given ≡ OutOfMemory) ⊎ EndsExact files events start out given }
     ensures front { (grammar : Grammar) (storms : Storms) (out : Outside) (given : Status) (name : List ℕ) (files : Files)
-        (bytes : List ℕ) (events : List Event) (start : Image) → (HasRisen out.faults out.faults_now → ⊥)
-        → TopEnds grammar storms (Some (Script name)) out given → out.image ≡ Some start → out.files ≡ Some files
+        (bytes : List ℕ) (events : List Event) (start : Image) → (HasRisen out.media.old.faults out.media.new.faults → ⊥)
+        → TopEnds grammar storms (Some (Script name)) out given → out.media.old.image ≡ Some start → out.shelf.old.files ≡ Some files
         → finmap.get files name ≡ Some bytes → grammar bytes ≡ Ok events → IsImage start
         → AreSound events → AreWhole events → EndsNone grammar storms (Some (Script name)) out given
         ⊎ EndsFront files events start out given }
@@ -91,22 +91,22 @@ pub fn a_program_of_whole_commands_is_exact()
 pub fn a_command_of_its_own_is_exact()
     ensures command { (grammar : Grammar) (storms : Storms) (out : Outside) (given : Status) (me : List ℕ) (cmd : Cmd)
         (files : Files) (start : Image) → NoneRose out
-        → TopEnds grammar storms (Some (Single me (Runs (ask.Plain cmd)))) out given → out.image ≡ Some start
-        → out.files ≡ Some files → IsImage start → IsUuid me
+        → TopEnds grammar storms (Some (Single me (Runs (ask.Plain cmd)))) out given → out.media.old.image ≡ Some start
+        → out.shelf.old.files ≡ Some files → IsImage start → IsUuid me
         → (given ≡ OutOfMemory) ⊎ CommandEnds start me cmd out given }
     ensures asks { (grammar : Grammar) (storms : Storms) (out : Outside) (given : Status) (me : List ℕ) (what : Ask)
         (files : Files) (start : Image) → NoneRose out
-        → TopEnds grammar storms (Some (Single me (Runs what))) out given → out.image ≡ Some start
-        → out.files ≡ Some files → IsImage start → IsUuid me
+        → TopEnds grammar storms (Some (Single me (Runs what))) out given → out.media.old.image ≡ Some start
+        → out.shelf.old.files ≡ Some files → IsImage start → IsUuid me
         → (given ≡ OutOfMemory) ⊎ AskEnds files start me what out given }
     ensures mkfs { (grammar : Grammar) (storms : Storms) (out : Outside) (given : Status) (me fs : List ℕ) (unit log : ℕ)
         (force : Bool) (files : Files) (start : Image) → NoneRose out
-        → TopEnds grammar storms (Some (Single me (Makes fs unit log force))) out given → out.image ≡ Some start
-        → out.files ≡ Some files → IsImage start → IsUuid me → IsUuid fs
+        → TopEnds grammar storms (Some (Single me (Makes fs unit log force))) out given → out.media.old.image ≡ Some start
+        → out.shelf.old.files ≡ Some files → IsImage start → IsUuid me → IsUuid fs
         → (given ≡ OutOfMemory) ⊎ MkfsEnds start me fs unit log force out given }
     ensures parents { (grammar : Grammar) (storms : Storms) (out : Outside) (given : Status) (me path : List ℕ) (attr : Attr)
         (files : Files) (start : Image) → NoneRose out
-        → TopEnds grammar storms (Some (Single me (MakesParents path attr))) out given → out.image ≡ Some start
-        → out.files ≡ Some files → IsImage start → IsUuid me
+        → TopEnds grammar storms (Some (Single me (MakesParents path attr))) out given → out.media.old.image ≡ Some start
+        → out.shelf.old.files ≡ Some files → IsImage start → IsUuid me
         → (given ≡ OutOfMemory) ⊎ ParentsEnd files start me path attr out given }
 {}

@@ -9,7 +9,7 @@ use Rattle.fam_base.specs.declared.cmd.Cmd.TheVariants as cmd
 use Rattle.fam_base.specs.declared.cmd.Content.TheVariants as content
 use Rattle.fam_base.specs.declared.cmd.Stripe.{Stripe}
 use Rattle.fam_base.specs.Commands.{IsSoundAttr}
-use Rattle.fam_grammar.specs.Lines.{directory_mode, file_mode, fill_of}
+use Rattle.fam_grammar.specs.Lines.{default_log, default_unit, directory_mode, file_mode, fill_of}
 use Rattle.fam_grammar.specs.Numbers.{number_of_text, size_of_text}
 use Rattle.fam_grammar.specs.Spellings.{count_of}
 use Rattle.fam_journal.specs.declared.event.Ask.{Ask}
@@ -26,21 +26,16 @@ use Rattle.fam_words.specs.Apps.{mkfs_app, logplay_app, mkdir_app, creat_app, cp
 use Rattle.fam_words.specs.Simple.{flag_in, rows_given, value_in}
 use Rattle.fam_words.specs.Values.{attr_of_texts, if_given, most_storm, name_of_text, needed, or_default, path_of_text, storm_size_of, stripe_of_texts}
 
--- mkfs takes these where no option says more: units of 2 MiB, and a log of 8 MiB
-abbrev pub default_unit : ℕ
-default_unit = 2097152
-
-abbrev pub default_log : ℕ
-default_log = 8388608
-
 -- What each command makes of its values: None where one of them isn't spelled as it should be.
 
+-- a mkfs with these values, where each is good
 abbrev pub mkfs_with : Option ℕ → Option ℕ → Option (Option (List ℕ)) → Bool → Option Shot
 mkfs_with None log fs force = None
 mkfs_with (Some unit) None fs force = None
 mkfs_with (Some unit) (Some log) None force = None
 mkfs_with (Some unit) (Some log) (Some fs) force = Some (shot.Mkfs fs unit log force)
 
+-- the mkfs that its words ask for
 unfoldable pub mkfs_shot : List Row → Option Shot
 mkfs_shot rows =
     mkfs_with (or_default default_unit size_of_text (value_in (codes "unit") rows))
@@ -67,14 +62,17 @@ abbrev pub mkdir_by : Bool → List ℕ → Attr → Shot
 mkdir_by true path attr = shot.Parents path attr
 mkdir_by false path attr = shot.Run (ask.Plain (cmd.Mkdir path attr))
 
+-- a mkdir with these values, where each is good: along the path, or of its last name alone
 abbrev pub mkdir_with : Bool → Option (List ℕ) → Option Attr → Option Shot
 mkdir_with parents None attr = None
 mkdir_with parents (Some path) None = None
 mkdir_with parents (Some path) (Some attr) = Some (mkdir_by parents path attr)
 
+-- the mkdir that its words ask for
 unfoldable pub mkdir_shot : List Row → Option Shot
 mkdir_shot rows = mkdir_with (flag_in (codes "parents") rows) (path_in rows) (attr_in directory_mode rows)
 
+-- a creat with these values, where each is good
 abbrev pub creat_with : Option (List ℕ) → Option ℕ → Option Attr → Option (Option Stripe) → Option (Option ℕ) → Option Shot
 creat_with None size attr stripe seed = None
 creat_with (Some path) None attr stripe seed = None
@@ -84,11 +82,13 @@ creat_with (Some path) (Some size) (Some attr) (Some stripe) None = None
 creat_with (Some path) (Some size) (Some attr) (Some stripe) (Some seed) =
     Some (shot.Run (ask.Plain (cmd.Creat path size attr stripe (fill_of seed))))
 
+-- the creat that its words ask for
 unfoldable pub creat_shot : List Row → Option Shot
 creat_shot rows =
     creat_with (path_in rows) (needed size_of_text (value_in (codes "size") rows)) (attr_in file_mode rows) (stripe_in rows)
     (if_given number_of_text (value_in (codes "seed") rows))
 
+-- a cp with these values, where each is good
 abbrev pub cp_with : Option (List ℕ) → Option (List ℕ) → Option Attr → Option (Option Stripe) → Option Shot
 cp_with None path attr stripe = None
 cp_with (Some source) None attr stripe = None
@@ -96,6 +96,7 @@ cp_with (Some source) (Some path) None stripe = None
 cp_with (Some source) (Some path) (Some attr) None = None
 cp_with (Some source) (Some path) (Some attr) (Some stripe) = Some (shot.Run (ask.Cp source path attr stripe))
 
+-- the cp that its words ask for
 unfoldable pub cp_shot : List Row → Option Shot
 cp_shot rows =
     cp_with (needed name_of_text (value_in (codes "source") rows)) (path_in rows) (attr_in file_mode rows) (stripe_in rows)
@@ -107,40 +108,48 @@ against_texts path (Some seed) None = option_map (λ n. ask.Plain (cmd.Verify pa
 against_texts path None (Some source) = option_map (λ file. ask.VerifySource path file) (name_of_text source)
 against_texts path (Some seed) (Some source) = None
 
+-- the verify that its words ask for
 unfoldable pub verify_shot : List Row → Option Shot
 verify_shot rows =
     option_and_then
     (λ path. option_map (λ asked. shot.Run asked) (against_texts path (value_in (codes "seed") rows) (value_in (codes "source") rows)))
     (path_in rows)
 
+-- a read with these values, where each is good
 abbrev pub read_with : Option (List ℕ) → Option ℕ → Option ℕ → Option Shot
 read_with None offset count = None
 read_with (Some path) None count = None
 read_with (Some path) (Some offset) None = None
 read_with (Some path) (Some offset) (Some count) = Some (shot.Run (ask.Plain (cmd.Read path offset count)))
 
+-- the read that its words ask for
 unfoldable pub read_shot : List Row → Option Shot
 read_shot rows =
     read_with (path_in rows) (needed number_of_text (value_in (codes "offset") rows)) (needed count_of (value_in (codes "count") rows))
 
+-- the check that its words ask for
 unfoldable pub check_shot : List Row → Option Shot
 check_shot rows = option_map (λ source. shot.Run (ask.Check source)) (needed name_of_text (value_in (codes "listing") rows))
 
+-- a storm with these values, where each is good
 abbrev pub storm_with : Option ℕ → Option ℕ → Bool → Option Order
 storm_with None size prints = None
 storm_with (Some seed) None prints = None
 storm_with (Some seed) (Some size) prints = Some (order.Storm seed size prints)
 
+-- the storm that its words ask for
 unfoldable pub storm_order : List Row → Option Order
 storm_order rows =
     storm_with (needed number_of_text (value_in (codes "seed") rows)) (needed storm_size_of (value_in (codes "size") rows))
     (flag_in (codes "print") rows)
 
+-- the script that its words ask for
 unfoldable pub script_order : List Row → Option Order
 script_order rows = option_map (λ file. order.Script file) (needed name_of_text (value_in (codes "file") rows))
 
 -- Calls.
 
+-- an order for the image of this name
 abbrev pub call_with : Option Text → Option Order → Option Call
 call_with None what = None
 call_with (Some image) None = None
@@ -154,32 +163,47 @@ order_call rows what = call_with (value_in (codes "image") rows) what
 abbrev pub system_of : Option Text → Option (Option (List ℕ))
 system_of text = if_given parsed text
 
+-- a command of its own, where its host and what it does are good
 abbrev pub single_with : Option (Option (List ℕ)) → Option Shot → Option Order
 single_with None what = None
 single_with (Some system) None = None
 single_with (Some system) (Some what) = Some (order.Single system what)
 
 -- a command of its own, on the host of --system
-abbrev pub single_call : List Row → Option Shot → Option Call
-single_call rows what = order_call rows (single_with (system_of (value_in (codes "system") rows)) what)
+abbrev pub single_order : List Row → Option Shot → Option Order
+single_order rows what = single_with (system_of (value_in (codes "system") rows)) what
 
--- what the words mean to a command, if they have no fault
-abbrev pub behind : App → List Text → (List Row → Option Call) → Option Call
-behind app words make = option_and_then make (rows_given app words)
+-- the words of a command, as clap reads them
+abbrev pub app_named : Name → App
+app_named name.Mkfs = mkfs_app
+app_named name.Logplay = logplay_app
+app_named name.Mkdir = mkdir_app
+app_named name.Creat = creat_app
+app_named name.Cp = cp_app
+app_named name.Verify = verify_app
+app_named name.Read = read_app
+app_named name.Check = check_app
+app_named name.Fsck = fsck_app
+app_named name.Script = script_app
+app_named name.Storm = storm_app
 
--- the words behind a command's name
+-- what the values of a command's words ask for
+abbrev pub order_in : Name → List Row → Option Order
+order_in name.Mkfs rows = single_order rows (mkfs_shot rows)
+order_in name.Logplay rows = single_order rows (Some (shot.Run (ask.Plain cmd.Logplay)))
+order_in name.Mkdir rows = single_order rows (mkdir_shot rows)
+order_in name.Creat rows = single_order rows (creat_shot rows)
+order_in name.Cp rows = single_order rows (cp_shot rows)
+order_in name.Verify rows = single_order rows (verify_shot rows)
+order_in name.Read rows = single_order rows (read_shot rows)
+order_in name.Check rows = single_order rows (check_shot rows)
+order_in name.Fsck rows = single_order rows (Some (shot.Run (ask.Plain cmd.Fsck)))
+order_in name.Script rows = script_order rows
+order_in name.Storm rows = storm_order rows
+
+-- the words behind a command's name: none where clap names a fault
 abbrev pub call_behind : Name → List Text → Option Call
-call_behind name.Mkfs words = behind mkfs_app words (λ rows. single_call rows (mkfs_shot rows))
-call_behind name.Logplay words = behind logplay_app words (λ rows. single_call rows (Some (shot.Run (ask.Plain cmd.Logplay))))
-call_behind name.Mkdir words = behind mkdir_app words (λ rows. single_call rows (mkdir_shot rows))
-call_behind name.Creat words = behind creat_app words (λ rows. single_call rows (creat_shot rows))
-call_behind name.Cp words = behind cp_app words (λ rows. single_call rows (cp_shot rows))
-call_behind name.Verify words = behind verify_app words (λ rows. single_call rows (verify_shot rows))
-call_behind name.Read words = behind read_app words (λ rows. single_call rows (read_shot rows))
-call_behind name.Check words = behind check_app words (λ rows. single_call rows (check_shot rows))
-call_behind name.Fsck words = behind fsck_app words (λ rows. single_call rows (Some (shot.Run (ask.Plain cmd.Fsck))))
-call_behind name.Script words = behind script_app words (λ rows. order_call rows (script_order rows))
-call_behind name.Storm words = behind storm_app words (λ rows. order_call rows (storm_order rows))
+call_behind which words = option_and_then (λ rows. order_call rows (order_in which rows)) (rows_given (app_named which) words)
 
 -- the commands' names
 unfoldable pub name_of : Text → Option Name
@@ -204,11 +228,13 @@ call_of (first ∷ words) = option_and_then (λ which. call_behind which words) 
 
 -- What the words give is within its limits.
 
+-- its ask is within its limits
 abbrev pub IsSoundShot : Shot → Type 0
 IsSoundShot (shot.Mkfs fs unit log force) = ⊤
 IsSoundShot (shot.Run what) = IsSoundAsk what
 IsSoundShot (shot.Parents path attr) = IsSoundAttr attr
 
+-- the command on its own that is ordered is within its limits
 abbrev pub IsSoundOrder : Order → Type 0
 IsSoundOrder (order.Single system what) = IsSoundShot what
 IsSoundOrder (order.Script file) = ⊤

@@ -23,6 +23,7 @@ shadow_with (Some image) None system = None
 shadow_with (Some image) (Some folder) None = None
 shadow_with (Some image) (Some folder) (Some system) = Some (record { image = image; folder = folder; system = system })
 
+-- the shadow that the values of clap ask for
 unfoldable pub shadow_in : List Row → Option ShadowCall
 shadow_in rows =
     shadow_with (value_in (codes "image") rows) (needed name_of_text (value_in (codes "shadow") rows))
@@ -32,6 +33,7 @@ shadow_in rows =
 abbrev pub shadow_behind : List Text → Option ShadowCall
 shadow_behind words = option_and_then shadow_in (rows_given shadow_app words)
 
+-- the shadow that words ask for, or none
 unfoldable pub shadow_call : List Text → Option ShadowCall
 shadow_call [] = None
 shadow_call (first ∷ words) = if bytes_eq first (codes "logplay") then shadow_behind words else None

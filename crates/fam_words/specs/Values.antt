@@ -28,6 +28,7 @@ path_of_text text = passing is_path text
 abbrev pub is_not_empty : List ℕ → Bool
 is_not_empty text = not (length text == 0)
 
+-- the name of a source, as the words have it
 abbrev pub name_of_text : List ℕ → Option (List ℕ)
 name_of_text text = passing is_not_empty text
 
@@ -35,6 +36,7 @@ name_of_text text = passing is_not_empty text
 abbrev pub most_storm : ℕ
 most_storm = 100000
 
+-- the size of a storm, within its limit
 abbrev pub storm_size_of : List ℕ → Option ℕ
 storm_size_of text = not_zero (below 100001 (size_of_text text))
 

@@ -1,16 +1,15 @@
 //! Calls: a command's name, and the words that belong to it.
 
 ghost use Rattle.std.specs.Prelude.{◌≡◌, IfOk, IfSome, map, option_map, string_bytes};
-ghost use Rattle.clap.specs.Words.{found_of, rows_of};
+ghost use Rattle.clap.specs.Words.{app_of, found_of, rows_of};
 ghost use Rattle.fam_words.specs.Calls as spec;
 ghost use Rattle.fam_words.specs.Calls.{call_behind, call_of, call_with};
-ghost use Rattle.fam_words.specs.declared.orders.Name.TheVariants as name;
 
 use crate::simple::{matches, value};
 use crate::values::uuid_if_given;
 use crate::wanted::{Call, Order, Shot};
 use crate::{apps, shots};
-use clap::ArgMatches;
+use clap::{ArgMatches, Command};
 use fam_base::{Cmd, NameText, OutOfMemory};
 use fam_journal::Ask;
 use std::alloc::Global;
@@ -82,169 +81,58 @@ fn on_image(
 }
 
 /// A command of its own, on the host that the words name.
-fn on_host(system: Option<&str>, shot: Option<Shot>) -> Option<Order>
+fn on_host(found: &ArgMatches<'_>, shot: Option<Shot>) -> Option<Order>
     ensures sound { IfSome shot spec.IsSoundShot → IfSome result spec.IsSoundOrder }
-    ensures value { result ≡ spec.single_with (spec.system_of (option_map (λ s. s.now) system.entry)) shot }
+    ensures value { result ≡ spec.single_order (rows_of (found_of found.now)) shot }
 {
-    let system = uuid_if_given(system)?;
+    let system = uuid_if_given(value(found, "system"))?;
     Some(Order::Single {
         system,
         shot: shot?,
     })
 }
 
-/// A command of its own.
-fn single(
+/// The command of a name, as clap reads its words.
+fn command_of<'a>(alloc: Global, name: Name) -> Result<Command<'a>, OutOfMemory>
+    ensures { IfOk result (λ c. app_of c ≡ spec.app_named name) }
+{
+    match name {
+        Name::Mkfs => apps::mkfs(alloc),
+        Name::Logplay => apps::logplay(alloc),
+        Name::Mkdir => apps::mkdir(alloc),
+        Name::Creat => apps::creat(alloc),
+        Name::Cp => apps::cp(alloc),
+        Name::Verify => apps::verify(alloc),
+        Name::Read => apps::read(alloc),
+        Name::Check => apps::check(alloc),
+        Name::Fsck => apps::fsck(alloc),
+        Name::Script => apps::script(alloc),
+        Name::Storm => apps::storm(alloc),
+    }
+}
+
+/// The order that the values of a command's words ask for.
+fn order_in(
     alloc: Global,
+    name: Name,
     found: &ArgMatches<'_>,
-    shot: Option<Shot>,
-) -> Result<Option<Call>, OutOfMemory>
-    ensures sound { IfSome shot spec.IsSoundShot → IfOk result (λ call. IfSome call (λ c. spec.IsSoundOrder c.order)) }
-    ensures value { IfOk result (λ call. call ≡ spec.single_call (rows_of (found_of found.now)) shot) }
+) -> Result<Option<Order>, OutOfMemory>
+    ensures sound { IfOk result (λ order. IfSome order spec.IsSoundOrder) }
+    ensures value { IfOk result (λ order. order ≡ spec.order_in name (rows_of (found_of found.now))) }
 {
-    let order = on_host(value(found, "system"), shot);
-    on_image(alloc, value(found, "image"), order)
-}
-
-/// mkfs: makes a file system.
-fn mkfs(alloc: Global, words: &[String]) -> Result<Option<Call>, OutOfMemory>
-    ensures sound { IfOk result (λ call. IfSome call (λ c. spec.IsSoundOrder c.order)) }
-    ensures value { IfOk result (λ call. call ≡ call_behind name.Mkfs (map string_bytes words.now)) }
-{
-    let command = apps::mkfs(alloc)?;
-    let Some(found) = matches(command, words)? else {
-        return Ok(None);
-    };
-    let shot = shots::mkfs(&found);
-    single(alloc, &found, shot)
-}
-
-/// logplay: lists the tree.
-fn logplay(alloc: Global, words: &[String]) -> Result<Option<Call>, OutOfMemory>
-    ensures sound { IfOk result (λ call. IfSome call (λ c. spec.IsSoundOrder c.order)) }
-    ensures value { IfOk result (λ call. call ≡ call_behind name.Logplay (map string_bytes words.now)) }
-{
-    let command = apps::logplay(alloc)?;
-    let Some(found) = matches(command, words)? else {
-        return Ok(None);
-    };
-    single(alloc, &found, Some(Shot::Run(Ask::Plain(Cmd::Logplay))))
-}
-
-/// mkdir: makes a directory.
-fn mkdir(alloc: Global, words: &[String]) -> Result<Option<Call>, OutOfMemory>
-    ensures sound { IfOk result (λ call. IfSome call (λ c. spec.IsSoundOrder c.order)) }
-    ensures value { IfOk result (λ call. call ≡ call_behind name.Mkdir (map string_bytes words.now)) }
-{
-    let command = apps::mkdir(alloc)?;
-    let Some(found) = matches(command, words)? else {
-        return Ok(None);
-    };
-    let shot = shots::mkdir(&found);
-    single(alloc, &found, shot)
-}
-
-/// creat: makes a file.
-fn creat(alloc: Global, words: &[String]) -> Result<Option<Call>, OutOfMemory>
-    ensures sound { IfOk result (λ call. IfSome call (λ c. spec.IsSoundOrder c.order)) }
-    ensures value { IfOk result (λ call. call ≡ call_behind name.Creat (map string_bytes words.now)) }
-{
-    let command = apps::creat(alloc)?;
-    let Some(found) = matches(command, words)? else {
-        return Ok(None);
-    };
-    let shot = shots::creat(&found);
-    single(alloc, &found, shot)
-}
-
-/// cp: copies a file in.
-fn cp(alloc: Global, words: &[String]) -> Result<Option<Call>, OutOfMemory>
-    ensures sound { IfOk result (λ call. IfSome call (λ c. spec.IsSoundOrder c.order)) }
-    ensures value { IfOk result (λ call. call ≡ call_behind name.Cp (map string_bytes words.now)) }
-{
-    let command = apps::cp(alloc)?;
-    let Some(found) = matches(command, words)? else {
-        return Ok(None);
-    };
-    let shot = shots::cp(alloc, &found)?;
-    single(alloc, &found, shot)
-}
-
-/// verify: compares a file.
-fn verify(alloc: Global, words: &[String]) -> Result<Option<Call>, OutOfMemory>
-    ensures sound { IfOk result (λ call. IfSome call (λ c. spec.IsSoundOrder c.order)) }
-    ensures value { IfOk result (λ call. call ≡ call_behind name.Verify (map string_bytes words.now)) }
-{
-    let command = apps::verify(alloc)?;
-    let Some(found) = matches(command, words)? else {
-        return Ok(None);
-    };
-    let shot = shots::verify(alloc, &found)?;
-    single(alloc, &found, shot)
-}
-
-/// read: reads bytes of a file.
-fn read(alloc: Global, words: &[String]) -> Result<Option<Call>, OutOfMemory>
-    ensures sound { IfOk result (λ call. IfSome call (λ c. spec.IsSoundOrder c.order)) }
-    ensures value { IfOk result (λ call. call ≡ call_behind name.Read (map string_bytes words.now)) }
-{
-    let command = apps::read(alloc)?;
-    let Some(found) = matches(command, words)? else {
-        return Ok(None);
-    };
-    let shot = shots::read(&found);
-    single(alloc, &found, shot)
-}
-
-/// check: compares the tree.
-fn check(alloc: Global, words: &[String]) -> Result<Option<Call>, OutOfMemory>
-    ensures sound { IfOk result (λ call. IfSome call (λ c. spec.IsSoundOrder c.order)) }
-    ensures value { IfOk result (λ call. call ≡ call_behind name.Check (map string_bytes words.now)) }
-{
-    let command = apps::check(alloc)?;
-    let Some(found) = matches(command, words)? else {
-        return Ok(None);
-    };
-    let shot = shots::check(alloc, &found)?;
-    single(alloc, &found, shot)
-}
-
-/// fsck: checks the file system.
-fn fsck(alloc: Global, words: &[String]) -> Result<Option<Call>, OutOfMemory>
-    ensures sound { IfOk result (λ call. IfSome call (λ c. spec.IsSoundOrder c.order)) }
-    ensures value { IfOk result (λ call. call ≡ call_behind name.Fsck (map string_bytes words.now)) }
-{
-    let command = apps::fsck(alloc)?;
-    let Some(found) = matches(command, words)? else {
-        return Ok(None);
-    };
-    single(alloc, &found, Some(Shot::Run(Ask::Plain(Cmd::Fsck))))
-}
-
-/// script: runs a script.
-fn script(alloc: Global, words: &[String]) -> Result<Option<Call>, OutOfMemory>
-    ensures sound { IfOk result (λ call. IfSome call (λ c. spec.IsSoundOrder c.order)) }
-    ensures value { IfOk result (λ call. call ≡ call_behind name.Script (map string_bytes words.now)) }
-{
-    let command = apps::script(alloc)?;
-    let Some(found) = matches(command, words)? else {
-        return Ok(None);
-    };
-    let order = shots::script(alloc, &found)?;
-    on_image(alloc, value(&found, "image"), order)
-}
-
-/// storm: runs or prints a storm.
-fn storm(alloc: Global, words: &[String]) -> Result<Option<Call>, OutOfMemory>
-    ensures sound { IfOk result (λ call. IfSome call (λ c. spec.IsSoundOrder c.order)) }
-    ensures value { IfOk result (λ call. call ≡ call_behind name.Storm (map string_bytes words.now)) }
-{
-    let command = apps::storm(alloc)?;
-    let Some(found) = matches(command, words)? else {
-        return Ok(None);
-    };
-    let order = shots::storm(&found);
-    on_image(alloc, value(&found, "image"), order)
+    match name {
+        Name::Mkfs => Ok(on_host(found, shots::mkfs(found))),
+        Name::Logplay => Ok(on_host(found, Some(Shot::Run(Ask::Plain(Cmd::Logplay))))),
+        Name::Mkdir => Ok(on_host(found, shots::mkdir(found))),
+        Name::Creat => Ok(on_host(found, shots::creat(found))),
+        Name::Cp => Ok(on_host(found, shots::cp(alloc, found)?)),
+        Name::Verify => Ok(on_host(found, shots::verify(alloc, found)?)),
+        Name::Read => Ok(on_host(found, shots::read(found))),
+        Name::Check => Ok(on_host(found, shots::check(alloc, found)?)),
+        Name::Fsck => Ok(on_host(found, Some(Shot::Run(Ask::Plain(Cmd::Fsck))))),
+        Name::Script => shots::script(alloc, found),
+        Name::Storm => Ok(shots::storm(found)),
+    }
 }
 
 /// The words behind a command's name.
@@ -252,19 +140,12 @@ fn behind(alloc: Global, name: Name, words: &[String]) -> Result<Option<Call>, O
     ensures sound { IfOk result (λ call. IfSome call (λ c. spec.IsSoundOrder c.order)) }
     ensures value { IfOk result (λ call. call ≡ call_behind name (map string_bytes words.now)) }
 {
-    match name {
-        Name::Mkfs => mkfs(alloc, words),
-        Name::Logplay => logplay(alloc, words),
-        Name::Mkdir => mkdir(alloc, words),
-        Name::Creat => creat(alloc, words),
-        Name::Cp => cp(alloc, words),
-        Name::Verify => verify(alloc, words),
-        Name::Read => read(alloc, words),
-        Name::Check => check(alloc, words),
-        Name::Fsck => fsck(alloc, words),
-        Name::Script => script(alloc, words),
-        Name::Storm => storm(alloc, words),
-    }
+    let command = command_of(alloc, name)?;
+    let Some(found) = matches(command, words)? else {
+        return Ok(None);
+    };
+    let order = order_in(alloc, name, &found)?;
+    on_image(alloc, value(&found, "image"), order)
 }
 
 /// The command that the words after the program's name are, and `None` exactly where they are none.

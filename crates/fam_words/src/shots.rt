@@ -18,20 +18,9 @@ use crate::values::{
 use crate::wanted::{Order, Shot};
 use clap::ArgMatches;
 use fam_base::{Attr, Cmd, Content, NameText, OutOfMemory, Path, Stripe};
+use fam_grammar::{DEFAULT_LOG, DEFAULT_UNIT, DIRECTORY_MODE, FILE_MODE};
 use fam_journal::Ask;
 use std::alloc::Global;
-
-/// The bytes of a unit where no word says more.
-const DEFAULT_UNIT: u64 = 2_097_152;
-
-/// The bytes of the log where no word says more.
-const DEFAULT_LOG: u64 = 8_388_608;
-
-/// The mode of a directory where no word says more.
-const DIRECTORY_MODE: u32 = 0o755;
-
-/// The mode of a file where no word says more.
-const FILE_MODE: u32 = 0o644;
 
 /// Make a file system.
 #[tactic(auto, unfolding(crate::specs::Calls::mkfs_shot))]

@@ -14,7 +14,6 @@ pub mod Finishing
 pub mod Saying
 pub mod TaskSteps
 pub mod Fits
-pub mod KeptNotes
 pub mod Kept
 pub mod UpToOn
 pub mod Counting

@@ -30,12 +30,11 @@ use Rattle.fam_tasks.specs.declared.answer.Turn.TheVariants as turn
 use Rattle.fam_tasks.specs.Answers.{reply_of}
 use Rattle.fam_tasks.specs.Tells.{Tells}
 use Rattle.fam_run.specs.Operation.{GoesOn, HasTurned, KeepsLines}
-use Rattle.fam_notes.specs.Notes.{answer_of}
-use Rattle.fam_journal.specs.declared.refusal.Refusal.TheVariants as why
+use Rattle.fam_notes.specs.Notes.{answer_view}
 use Rattle.fam_journal.specs.CallRecords.{TaskFits, heading}
 use Rattle.fam_journal.specs.Ends.{is_answer_note}
 use Rattle.fam_journal.specs.Machines.{notes_of}
-use Rattle.fam_journal.specs.Notes.{Answered, MediaFault, Note, Refused, Replied}
+use Rattle.fam_journal.specs.Notes.{Answered, MediaFault, Note, Replied}
 use Rattle.fam_journal.specs.Notes as journal
 use Rattle.fam_world.specs.Steps.{Around, IsStep}
 use Rattle.fam_world.specs.Turns.{is_done, kept_by, turn_notes}
@@ -55,7 +54,7 @@ given_again Digest c = refl
 word_is : (op : Op) (m : Machine) → word_of op (operated op m).cache ≡ given op m
 word_is (Load line k) m =
     ap (λ (ws : List ℕ). Some (Rattle.std.specs.Prelude.slice_index ws k))
-    (ap words_of (cell_at-with_cell_same line.0 (brought (line_at m.image line.0) (cell_at m.cache line.0)) m.cache) ∙ brought_words (line_at m.image line.0) (cell_at m.cache line.0))
+    (ap words_of (cell_at-with_cell_same line.0 (brought (line_at (m.state line.0).image) (cell_at m.cache line.0)) m.cache) ∙ brought_words (line_at (m.state line.0).image) (cell_at m.cache line.0))
 word_is (Store line k value) m = refl
 word_is (WriteBack line) m = refl
 word_is Fence m = refl
@@ -90,28 +89,28 @@ lines_held Digest lines told old new within leaves l held = inr (subst (λ (c : 
 
 -- Answers.
 
-pub answer_told : (a : Answer) (reply : Reply) → reply_of a ≡ Some reply → answer_of a ≡ Some (Replied reply)
-answer_told (answer.Ok seq) reply is = ap (option_map Replied) is
-answer_told (answer.Played m tree) reply is = ap (option_map Replied) is
-answer_told (answer.Same m) reply is = ap (option_map Replied) is
-answer_told (answer.Bytes m bytes) reply is = ap (option_map Replied) is
-answer_told (answer.Checked m checked) reply is = ap (option_map Replied) is
-answer_told (answer.Report report) reply is = ap (option_map Replied) is
-answer_told (answer.NoSuper word) reply is = ap (option_map Replied) is
-answer_told (answer.BadSuper field found wanted) reply is = ap (option_map Replied) is
-answer_told (answer.BadLog field found wanted) reply is = ap (option_map Replied) is
-answer_told (answer.BadEntry seq reason) reply is = ap (option_map Replied) is
-answer_told (answer.NotMaster me master) reply is = ap (option_map Replied) is
-answer_told answer.BadStripe reply is = ap (option_map Replied) is
-answer_told (answer.Exists kind) reply is = ap (option_map Replied) is
-answer_told answer.NoParent reply is = ap (option_map Replied) is
-answer_told answer.ParentIsFile reply is = ap (option_map Replied) is
-answer_told (answer.LogFull slots) reply is = ap (option_map Replied) is
-answer_told (answer.NoSpace units) reply is = ap (option_map Replied) is
-answer_told (answer.NotFound m) reply is = ap (option_map Replied) is
-answer_told (answer.IsDirectory m) reply is = ap (option_map Replied) is
-answer_told (answer.Differs m offset found wanted) reply is = ap (option_map Replied) is
-answer_told (answer.Length m size wanted) reply is = ap (option_map Replied) is
+pub answer_told : (a : Answer) (reply : Reply) → reply_of a ≡ Some reply → answer_view a ≡ Replied reply
+answer_told (answer.Ok seq) reply is = cc
+answer_told (answer.Played m tree) reply is = cc
+answer_told (answer.Same m) reply is = cc
+answer_told (answer.Bytes m bytes) reply is = cc
+answer_told (answer.Checked m checked) reply is = cc
+answer_told (answer.Report report) reply is = cc
+answer_told (answer.NoSuper word) reply is = cc
+answer_told (answer.BadSuper field found wanted) reply is = cc
+answer_told (answer.BadLog field found wanted) reply is = cc
+answer_told (answer.BadEntry seq reason) reply is = cc
+answer_told (answer.NotMaster me master) reply is = cc
+answer_told answer.BadStripe reply is = cc
+answer_told (answer.Exists kind) reply is = cc
+answer_told answer.NoParent reply is = cc
+answer_told answer.ParentIsFile reply is = cc
+answer_told (answer.LogFull slots) reply is = cc
+answer_told (answer.NoSpace units) reply is = cc
+answer_told (answer.NotFound m) reply is = cc
+answer_told (answer.IsDirectory m) reply is = cc
+answer_told (answer.Differs m offset found wanted) reply is = cc
+answer_told (answer.Length m size wanted) reply is = cc
 answer_told (answer.MediaFault line) reply is = absurd cc
 
 -- what a turn of the definition tells: its notes, the task behind it, and whether it is over
@@ -131,7 +130,7 @@ told_by at said next (turns.Writes seq e n) tells = plain_told at said next n (t
 told_by at turn.Go next (turns.Ends reply) tells = absurd tells
 told_by at (turn.Note note) next (turns.Ends reply) tells = absurd tells
 told_by at (turn.Done given) next (turns.Ends reply) tells = record {
-  notes = ap (λ (o : Option journal.Answer). unwrap_or (option_map (Answered at) o) (Refused [] why.NoHost) ∷ []) (answer_told given reply tells);
+  notes = ap (λ (a : journal.Answer). Answered at a ∷ []) (answer_told given reply tells);
   task = refl;
   over = refl;
 }

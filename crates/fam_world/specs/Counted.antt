@@ -5,6 +5,7 @@ use Rattle.fam_base.specs.declared.line.OutOfMemory.{OutOfMemory}
 use Rattle.fam_cache.specs.States.{CacheState}
 use Rattle.fam_commands.specs.Task.{Task}
 use Rattle.fam_media.specs.Outside.{IfModelled}
+use Rattle.fam_media.specs.States.{MediaState}
 use Rattle.fam_journal.specs.CallRecords.{StepCall}
 use Rattle.fam_journal.specs.Notes.{Note}
 use Rattle.fam_journal.specs.View.{HostView, WorldView}
@@ -40,8 +41,8 @@ pub record WorldStanding : Type 0 where
   pub faults : ℕ
 
 -- with this media
-abbrev pub standing : {M : Type 0} → (M → Option Image) → (M → ℕ) → M → WorldView → WorldStanding
-standing image faults media world = record { world = world; told = image media; faults = faults media }
+abbrev pub standing : {M : Type 0} → (M → MediaState) → M → WorldView → WorldStanding
+standing state media world = record { world = world; told = (state media).image; faults = (state media).faults }
 
 -- a step of the host of this name, which wasn't refused, on a media of so many lines; and whether its task is over
 pub record WorldStep (name : List ℕ) (lines : ℕ) (over : Bool) (a b : WorldStanding) : Type 0 where
@@ -67,13 +68,13 @@ pub record HostStanding : Type 0 where
   pub faults : ℕ
 
 -- with this media
-abbrev pub host_standing : {M : Type 0} → (M → Option Image) → (M → ℕ) → M → HostView → List Note → HostStanding
-host_standing image faults media host notes = record { host = host; notes = notes; told = image media; faults = faults media }
+abbrev pub host_standing : {M : Type 0} → (M → MediaState) → M → HostView → List Note → HostStanding
+host_standing state media host notes = record { host = host; notes = notes; told = (state media).image; faults = (state media).faults }
 
 -- with this media, of a host that runs this task, if any, on this cache
-abbrev pub task_standing : {M : Type 0} → (M → Option Image) → (M → ℕ) → M → HostView → Option Task → CacheState → List Note → HostStanding
-task_standing image faults media view task cache notes =
-    record { host = record view { task = task; cache = cache.lines }; notes = notes; told = image media; faults = faults media }
+abbrev pub task_standing : {M : Type 0} → (M → MediaState) → M → HostView → Option Task → CacheState → List Note → HostStanding
+task_standing state media view task cache notes =
+    record { host = record view { task = task; cache = cache.lines }; notes = notes; told = (state media).image; faults = (state media).faults }
 
 -- the task that the host has behind operations of this one
 abbrev pub task_left : Result Moved OutOfMemory → Option Task → Option Task

@@ -4,7 +4,7 @@ use Rattle.fam_base.specs.declared.line.OutOfMemory.{OutOfMemory}
 use Rattle.fam_cache.specs.declared.fault.OperationFault.{OperationFault}
 use Rattle.fam_cache.specs.declared.fault.OperationFault.TheVariants as fault
 use Rattle.fam_commands.specs.Task as spec
-use Rattle.fam_notes.specs.declared.note.Note.TheVariants as kept
+use Rattle.fam_notes.specs.Notes.{answer_view}
 use Rattle.fam_tasks.specs.declared.answer.TaskNote.{TaskNote}
 use Rattle.fam_tasks.specs.declared.answer.TaskNote.TheVariants as says
 use Rattle.fam_tasks.specs.declared.answer.Turn.{Turn}
@@ -12,7 +12,6 @@ use Rattle.fam_tasks.specs.declared.answer.Turn.TheVariants as turn
 use Rattle.fam_journal.specs.Notes.{Note, Mark, Found, Writes, Answered, MediaFault}
 use Rattle.fam_world.specs.declared.fault.Moved.{Moved}
 use Rattle.fam_world.specs.declared.fault.Moved.TheVariants.{Going, Answered as Over}
-use Rattle.fam_world.specs.View.{note_view}
 
 -- a note of the task of host h
 abbrev pub task_note : ℕ → TaskNote → Note
@@ -24,7 +23,7 @@ task_note h (says.Writes seq e) = Writes h seq e
 abbrev pub turn_notes : ℕ → Turn → List Note
 turn_notes h turn.Go = []
 turn_notes h (turn.Note note) = task_note h note ∷ []
-turn_notes h (turn.Done answer) = note_view (kept.Answered (record { 0 = h }) answer) ∷ []
+turn_notes h (turn.Done answer) = Answered h (answer_view answer) ∷ []
 
 -- the task behind it, of one that is this now where it goes on
 abbrev pub kept_by : Turn → Option spec.Task → Option spec.Task

@@ -1,13 +1,11 @@
 -- A world's own hosts and notes, as contracts see them. docs/MODEL.md, "The journal".
-use Rattle.std.specs.Prelude.{ℕ, ◌==◌, ◌&&◌, not, nat_lt, Bool, List, [], map, unwrap_or}
+use Rattle.std.specs.Prelude.{ℕ, ◌==◌, ◌&&◌, not, nat_lt, Bool, List, map}
 use Rattle.fam_machine.specs.Caches.{dirty_count}
-use Rattle.fam_journal.specs.declared.refusal.Refusal.TheVariants as why
 use Rattle.fam_journal.specs.ByWorld.{shown_host}
 use Rattle.fam_journal.specs.Machines.{HostState}
-use Rattle.fam_journal.specs.Notes.{Note, Refused}
 use Rattle.fam_journal.specs.View.{HostView, WorldView}
 use Rattle.fam_notes.specs.declared.note.Note.{Note as Kept}
-use Rattle.fam_notes.specs.Notes.{note_of}
+pub use Rattle.fam_notes.specs.Notes.{note_view, notes_view}
 use Rattle.fam_world.specs.declared.hosts.Host.{Host}
 
 -- a host: its task is the one that it runs
@@ -26,14 +24,6 @@ shown hosts = map shown_host (views hosts)
 abbrev pub is_dirty_other : ℕ → ℕ → HostState → Bool
 is_dirty_other maker at host = not (at == maker) && nat_lt 0 (dirty_count host.cache)
 
--- a note that a world keeps. Each stands for one of a journal
-abbrev pub note_view : Kept → Note
-note_view note = unwrap_or (note_of note) (Refused [] why.NoHost)
-
--- all notes
-abbrev pub notes_view : List Kept → List Note
-notes_view notes = map note_view notes
-
--- a world of these hosts and notes
+-- a world: its hosts, and the notes that it keeps as those of a journal
 abbrev pub world_view : List Host → List Kept → WorldView
 world_view hosts journal = record { hosts = views hosts; journal = notes_view journal }

@@ -76,8 +76,8 @@ fn run_most<M: Media>(
     requires fits { task.old.lines ≡ M.size media.old }
     requires cached { CacheFits (M.size media.old) cache.old }
     ensures says { (view : HostView) → HostStepsSay host.0 (M.size media.old) most
-        (task_standing M.image M.faults media.old view (Some task.old) cache.old (notes_view journal.old.items))
-        (task_standing M.image M.faults media.new view (task_left result (Some task.new)) cache.new
+        (task_standing M.state media.old view (Some task.old) cache.old (notes_view journal.old.items))
+        (task_standing M.state media.new view (task_left result (Some task.new)) cache.new
         (notes_view journal.new.items)) result }
     ensures undone { most ≡ 1 → OnErr result (media.new ≡ media.old) }
     ensures size { M.size media.new ≡ M.size media.old }
@@ -111,11 +111,11 @@ fn run_up<M: Media>(
     requires fits { task.old.lines ≡ M.size media.old }
     requires cached { CacheFits (M.size media.old) cache.old }
     ensures runs { (view : HostView) → RunsUp host.0 (M.size media.old)
-        (task_standing M.image M.faults media.old view (Some task.old) cache.old (notes_view journal.old.items))
-        (task_standing M.image M.faults media.new view (task_left (moved_up result) (Some task.new)) cache.new
+        (task_standing M.state media.old view (Some task.old) cache.old (notes_view journal.old.items))
+        (task_standing M.state media.new view (task_left (moved_up result) (Some task.new)) cache.new
         (notes_view journal.new.items)) result }
     ensures same { OnErr result (IsUnstored task.old cache.old.lines
-        → IfModelled (M.image media.old) (λ image. M.image media.new ≡ Some image)) }
+        → IfModelled (M.state media.old).image (λ image. (M.state media.new).image ≡ Some image)) }
     ensures size { M.size media.new ≡ M.size media.old }
 {
     'operations: loop {
@@ -156,8 +156,8 @@ pub(crate) fn steps_of<M: Media>(
     requires cached { CacheFits (M.size media.old) host.old.cache }
     requires few { at < MOST_HOSTS }
     ensures says { HostStepsSay at (M.size media.old) most
-        (host_standing M.image M.faults media.old (host_view host.old) (notes_view journal.old.items))
-        (host_standing M.image M.faults media.new (host_view host.new) (notes_view journal.new.items)) result }
+        (host_standing M.state media.old (host_view host.old) (notes_view journal.old.items))
+        (host_standing M.state media.new (host_view host.new) (notes_view journal.new.items)) result }
     ensures undone { most ≡ 1 → OnErr result (media.new ≡ media.old) }
     ensures size { M.size media.new ≡ M.size media.old }
 {
@@ -188,12 +188,12 @@ pub(crate) fn finish_of<M: Media>(
     requires cached { CacheFits (M.size media.old) host.old.cache }
     requires few { at < MOST_HOSTS }
     ensures runs { RunsUp at (M.size media.old)
-        (host_standing M.image M.faults media.old (host_view host.old) (notes_view journal.old.items))
-        (host_standing M.image M.faults media.new (host_view host.new) (notes_view journal.new.items)) result }
+        (host_standing M.state media.old (host_view host.old) (notes_view journal.old.items))
+        (host_standing M.state media.new (host_view host.new) (notes_view journal.new.items)) result }
     ensures over { OnOk result (host.new.task ≡ None) }
     ensures on { OnErr result (is_some host.new.task ≡ true) }
     ensures same { OnErr result (IfSome host.old.task (λ t. IsUnstored t host.old.cache.lines
-        → IfModelled (M.image media.old) (λ image. M.image media.new ≡ Some image))) }
+        → IfModelled (M.state media.old).image (λ image. (M.state media.new).image ≡ Some image))) }
     ensures size { M.size media.new ≡ M.size media.old }
 {
     let Some(task) = &mut host.task else {

@@ -192,11 +192,9 @@ impl FileMedia {
 }
 
 impl Media for FileMedia {
-    ghost image = { λ _. None };
-
     ghost size = { λ media. media.lines };
 
-    ghost faults = { λ media. media.faults };
+    ghost state = { λ media. record { image = None; faults = media.faults } };
 
     ghost normal = { λ m. tt };
 

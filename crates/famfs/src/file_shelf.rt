@@ -162,11 +162,7 @@ impl<'a> FileShelf<'a> {
 }
 
 impl Shelf for FileShelf<'_> {
-    ghost files = { λ _. None };
-
-    ghost faults = { λ shelf. shelf.faults };
-
-    ghost shorts = { λ shelf. shelf.shorts };
+    ghost state = { λ shelf. record { files = None; faults = shelf.faults; shorts = shelf.shorts } };
 
     fn size(&mut self, name: &str) -> Result<Option<u64>, Failed> {
         self.open = None;

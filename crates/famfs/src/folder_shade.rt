@@ -97,9 +97,7 @@ impl<'a> FolderShade<'a> {
 }
 
 impl Shade for FolderShade<'_> {
-    ghost nodes = { λ _. None };
-
-    ghost faults = { λ shade. shade.faults };
+    ghost state = { λ shade. record { nodes = None; faults = shade.faults } };
 
     fn look(&mut self, name: &str) -> Result<Look, Failed> {
         if let Some(path) = self.path(name)

@@ -8,7 +8,7 @@ mod folder_shade;
 mod std_sink;
 
 use fam_base::{NameText, OutOfMemory};
-use fam_journal::Status;
+use fam_outcomes::Status;
 use fam_top::{famfs, famfs_shadow, image_of, shadow_of};
 use file_media::FileMedia;
 use file_shelf::FileShelf;

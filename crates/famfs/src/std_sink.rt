@@ -20,9 +20,7 @@ impl StdSink {
 }
 
 impl Sink for StdSink {
-    ghost bytes = { λ _. None };
-
-    ghost faults = { λ sink. sink.faults };
+    ghost state = { λ sink. record { bytes = None; faults = sink.faults } };
 
     fn put(&mut self, piece: &[u8]) -> Result<(), Failed> {
         if self.out.write_all(piece).is_ok() && self.out.flush().is_ok() {

@@ -1,6 +1,6 @@
 use Rattle.std.proofs.Common.{inl, inr}
 use Rattle.fam_journal.specs.declared.event.Ask.TheVariants as ask
-use Rattle.fam_journal.specs.Programs.{Makes, MakesParents, Runs}
+use Rattle.fam_outcomes.specs.Programs.{Makes, MakesParents, Runs}
 use Rattle.fam_whole.proofs.Alone.{ask_ends, command_ends}
 use Rattle.fam_whole.proofs.Makes.{mkfs_ends}
 use Rattle.fam_whole.proofs.Shots.{parents_end, shot_run}

@@ -102,13 +102,13 @@ fn make_host<M: Media>(
     requires free { refusals.refusal unit log (line_bytes * M.size media.old) ≡ None }
     ensures host { host.new ≡ record host.old { cache = host.new.cache } }
     ensures ends { IfOk result (MkfsEnds (spec.asked unit log fs host.old.uuid (M.size media.old)) force (M.size media.old)
-        (over (M.image media.old) host.old.cache.lines) (over (M.image media.new) host.new.cache.lines)
-        (M.faults media.old) (M.faults media.new)) }
+        (over (M.state media.old).image host.old.cache.lines) (over (M.state media.new).image host.new.cache.lines)
+        (M.state media.old).faults (M.state media.new).faults) }
     ensures others { (line : ℕ) → IsElsewhere line
         → cell_at host.new.cache.lines line ≡ cell_at host.old.cache.lines line }
     ensures undone { OnErr result (media.new ≡ media.old) }
     ensures kept { OnErr result (host.new ≡ host.old) }
-    ensures steady { IsSteady M.size M.faults media.old media.new }
+    ensures steady { IsSteady M.size M.state media.old media.new }
 {
     mkfs(&mut host.cache, media, unit, log, fs, host.uuid, force)
 }
@@ -160,7 +160,7 @@ impl World {
         force: bool,
     ) -> Result<(), WorldFault>
         ensures answered { IfAnswered result (λ answered. MakeCall (Makes name.now fs unit log force) (M.size media.old)
-            answered (M.image media.old) (M.image media.new) (M.faults media.old) (M.faults media.new) self.old self.new) }
+            answered (M.state media.old).image (M.state media.new).image (M.state media.old).faults (M.state media.new).faults self.old self.new) }
         ensures undone { IsErrOf result WorldFault.OutOfMemory → media.new ≡ media.old }
         ensures err { IsErrOf result WorldFault.OutOfMemory → self.new ≡ self.old }
         ensures size { M.size media.new ≡ M.size media.old }

@@ -55,17 +55,17 @@ fn shift<M: Media>(
 ) -> Result<(), CacheFault>
     requires within { line.0 < M.size media.old }
 
-    ensures moved { OnOk result (IfModelled (M.image media.old) (λ image.
-        IsMachine (moved (move_of what) line.0 (machine image cache.old.lines)) (M.image media.new) cache.new.lines)) }
-    ensures failed { IsErrOf result CacheFault.Failed → IfModelled (M.image media.old) (λ image. FailsTo line.0
+    ensures moved { OnOk result (IfModelled (M.state media.old).image (λ image.
+        IsMachine (moved (move_of what) line.0 (machine image cache.old.lines)) (M.state media.new).image cache.new.lines)) }
+    ensures failed { IsErrOf result CacheFault.Failed → IfModelled (M.state media.old).image (λ image. FailsTo line.0
         (λ through memory. failed_move (move_of what) through memory (cell_at cache.old.lines line.0))
-        image (M.image media.new)) }
+        image (M.state media.new).image) }
     ensures held { (l : ℕ) → IsHeld (cell_at cache.new.lines l) → (l ≡ line.0) ⊎ IsHeld (cell_at cache.old.lines l) }
     ensures err { OnErr result (cache.new.lines ≡ cache.old.lines) }
-    ensures rose { IsErrOf result CacheFault.Failed → Rose (M.faults media.old) (M.faults media.new) }
+    ensures rose { IsErrOf result CacheFault.Failed → Rose (M.state media.old).faults (M.state media.new).faults }
     ensures undone { IsErrOf result CacheFault.OutOfMemory → media.new ≡ media.old }
     ensures unchanged { IsErrOf result CacheFault.OutOfMemory → cache.new ≡ cache.old }
-    ensures steady { IsSteady M.size M.faults media.old media.new }
+    ensures steady { IsSteady M.size M.state media.old media.new }
 {
     match what {
         OwnMove::Evict => sends(cache.evict(media, line)),
@@ -84,7 +84,7 @@ impl World {
         line: LineNo,
     ) -> Result<(), WorldFault>
         ensures answered { IfAnswered result (λ answered. MediaCall (Moves name.now line.0 how.Evict) (M.size media.old)
-            answered (M.image media.old) (M.image media.new) (M.faults media.old) (M.faults media.new) self.old self.new) }
+            answered (M.state media.old).image (M.state media.new).image (M.state media.old).faults (M.state media.new).faults self.old self.new) }
         ensures undone { IsErrOf result WorldFault.OutOfMemory → media.new ≡ media.old }
         ensures err { IsErrOf result WorldFault.OutOfMemory → self.new ≡ self.old }
         ensures size { M.size media.new ≡ M.size media.old }
@@ -101,7 +101,7 @@ impl World {
         mask: Mask,
     ) -> Result<(), WorldFault>
         ensures answered { IfAnswered result (λ answered. MediaCall (Moves name.now line.0 (how.Leak mask.0)) (M.size media.old)
-            answered (M.image media.old) (M.image media.new) (M.faults media.old) (M.faults media.new) self.old self.new) }
+            answered (M.state media.old).image (M.state media.new).image (M.state media.old).faults (M.state media.new).faults self.old self.new) }
         ensures undone { IsErrOf result WorldFault.OutOfMemory → media.new ≡ media.old }
         ensures err { IsErrOf result WorldFault.OutOfMemory → self.new ≡ self.old }
         ensures size { M.size media.new ≡ M.size media.old }
@@ -119,7 +119,7 @@ impl World {
         mask: Mask,
     ) -> Result<(), WorldFault>
         ensures answered { IfAnswered result (λ answered. MediaCall (Moves name.now line.0 (how.Fetch mask.0)) (M.size media.old)
-            answered (M.image media.old) (M.image media.new) (M.faults media.old) (M.faults media.new) self.old self.new) }
+            answered (M.state media.old).image (M.state media.new).image (M.state media.old).faults (M.state media.new).faults self.old self.new) }
         ensures undone { IsErrOf result WorldFault.OutOfMemory → media.new ≡ media.old }
         ensures err { IsErrOf result WorldFault.OutOfMemory → self.new ≡ self.old }
         ensures size { M.size media.new ≡ M.size media.old }
@@ -136,7 +136,7 @@ impl World {
         what: OwnMove,
     ) -> Result<(), WorldFault>
         ensures answered { IfAnswered result (λ answered. MediaCall (Moves name.now line.0 (move_of what)) (M.size media.old)
-            answered (M.image media.old) (M.image media.new) (M.faults media.old) (M.faults media.new) self.old self.new) }
+            answered (M.state media.old).image (M.state media.new).image (M.state media.old).faults (M.state media.new).faults self.old self.new) }
         ensures undone { IsErrOf result WorldFault.OutOfMemory → media.new ≡ media.old }
         ensures err { IsErrOf result WorldFault.OutOfMemory → self.new ≡ self.old }
         ensures size { M.size media.new ≡ M.size media.old }

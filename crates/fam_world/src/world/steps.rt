@@ -23,7 +23,7 @@ impl World {
         requires fits { FitsMedia (M.size media.old) self.old.hosts }
 
         ensures answered { IfStepped result (λ answered over. StepCall name.now (M.size media.old) answered over
-            (M.image media.old) (M.image media.new) (M.faults media.old) (M.faults media.new) self.old self.new) }
+            (M.state media.old).image (M.state media.new).image (M.state media.old).faults (M.state media.new).faults self.old self.new) }
         ensures undone { IsErrOf result WorldFault.OutOfMemory → media.new ≡ media.old }
         ensures err { IsErrOf result WorldFault.OutOfMemory → self.new ≡ self.old }
         ensures size { M.size media.new ≡ M.size media.old }
@@ -44,8 +44,8 @@ impl World {
         requires some { 0 < most }
         requires fits { FitsMedia (M.size media.old) self.old.hosts }
 
-        ensures says { StepsSay name.now (M.size media.old) most (standing M.image M.faults media.old self.old)
-            (standing M.image M.faults media.new self.new) result }
+        ensures says { StepsSay name.now (M.size media.old) most (standing M.state media.old self.old)
+            (standing M.state media.new self.new) result }
         ensures undone { most ≡ 1 → IsErrOf result WorldFault.OutOfMemory → media.new ≡ media.old }
         ensures size { M.size media.new ≡ M.size media.old }
     {
@@ -66,9 +66,9 @@ impl World {
         requires fits { FitsMedia (M.size media.old) self.old.hosts }
 
         ensures answered { IfAnswered result (λ answered. MediaCall (Finishes name.now) (M.size media.old) answered
-            (M.image media.old) (M.image media.new) (M.faults media.old) (M.faults media.new) self.old self.new) }
+            (M.state media.old).image (M.state media.new).image (M.state media.old).faults (M.state media.new).faults self.old self.new) }
         ensures want { IsErrOf result WorldFault.OutOfMemory → FinishOutOfMemory name.now (M.size media.old)
-            (M.image media.old) (M.image media.new) (M.faults media.old) (M.faults media.new) self.old self.new }
+            (M.state media.old).image (M.state media.new).image (M.state media.old).faults (M.state media.new).faults self.old self.new }
         ensures size { M.size media.new ≡ M.size media.old }
     {
         if make_room(&mut self.journal).is_err() {

@@ -8,7 +8,7 @@ use Rattle.fam_cache.proofs.cache.bring_absent.Goals as goal
 
 pub returns-in-Ok-clause-cache : goal.returns-in-Ok-clause-cache
 returns-in-Ok-clause-cache g c =
-    brought_absent (g.M.Media.image c.args.media.now) c.args.line.0 c.in-Ok.words (cache_of c.args.places.now.items) (cache_of c.put_copy.new.places.items) c.requires.absent c.in-Ok.ensures.words
+    brought_absent (g.M.Media.state c.args.media.now).image c.args.line.0 c.in-Ok.words (cache_of c.args.places.now.items) (cache_of c.put_copy.new.places.items) c.requires.absent c.in-Ok.ensures.words
     (c.put_copy.ensures.cache ∙ ap (λ (es : Places). with_cell c.args.line.0 (Clean (eight c.in-Ok.words)) (cache_of es)) c.make_room.ensures.same)
 
 pub returns-in-Ok-clause-held : goal.returns-in-Ok-clause-held

@@ -15,7 +15,7 @@ loop-at-init g c = record {
   none = none_to c.args.places.now.items c.requires.sorted c.args.first c.args.last c.requires.range c.bisect-at.result
       (subst (λ (es : Places). c.bisect-at.result ≤ length es) c.deref.ensures.value c.bisect-at.ensures.within)
       (subst (λ (es : Places). Before es c.bisect-at.result c.args.first) c.deref.ensures.value c.bisect-at.ensures.before);
-  sent = none_sent (over (g.M.Media.image c.args.media.now) (cache_of c.args.places.now.items));
+  sent = none_sent (over (g.M.Media.state c.args.media.now).image (cache_of c.args.places.now.items));
   same = λ none. refl;
   steady = record { size = refl; later = omega arith };
   len = refl;
@@ -67,7 +67,7 @@ loop-at-preserved g c =
           record {
             sorted = e.sorted;
             none = none_then es w.send_place.new.places.items c.loop-at.at y (copy_in_place es c.loop-at.at) (omega arith) v.none e.items;
-            sent = sent_next _ _ v.sent (over (g.M.Media.image w.send_place.new.media) (cache_of w.send_place.new.places.items)) y.0 _ first
+            sent = sent_next _ _ v.sent (over (g.M.Media.state w.send_place.new.media).image (cache_of w.send_place.new.places.items)) y.0 _ first
                 (rest_then es w.send_place.new.places.items c.loop-at.at y (copy_in_place es c.loop-at.at) (omega arith) v.none e.items e.sorted) e.cache e.memory;
             same = λ none. absurd (none y.0 (was_asked _ _ v.sent y.0 _ first));
             steady = record { size = e.size ∙ v.steady.size; later = omega (arith, e.cause.later, v.steady.later) };

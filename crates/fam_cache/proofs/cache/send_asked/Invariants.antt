@@ -14,9 +14,9 @@ abbrev pub invariant-loop-at : goal.invariant-loop-at
 invariant-loop-at g l = record {
   sorted : IsTrue (is_sorted nat_cmp l.places.items);
   none : asked_of (take l.at l.places.items) ≡ [];
-  sent : HasSent (over (g.M.Media.image l.fn.media) (cache_of l.fn.places.items)) (over (g.M.Media.image l.media) (cache_of l.places.items));
+  sent : HasSent (over (g.M.Media.state l.fn.media).image (cache_of l.fn.places.items)) (over (g.M.Media.state l.media).image (cache_of l.places.items));
   same : ((line : ℕ) → IsAsked (cell_at (cache_of l.fn.places.items) line) → ⊥) → l.media ≡ l.fn.media;
-  steady : IsSteady g.M.Media.size g.M.Media.faults l.fn.media l.media;
+  steady : IsSteady g.M.Media.size g.M.Media.state l.fn.media l.media;
   len : vec_len l.places ≡ vec_len l.fn.places;
   capacity : vec_capacity l.places ≡ vec_capacity l.fn.places;
 }

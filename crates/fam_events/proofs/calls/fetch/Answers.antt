@@ -10,7 +10,7 @@ use Rattle.fam_events.proofs.calls.fetch.Goals as goal
 pub returns-clause-says : goal.returns-clause-says
 returns-clause-says g c = λ files copied.
     let call : Call = Moves c.args.name.now c.args.line.0 (how.Fetch c.args.mask.0) in
-    let a : Around = around g.M.Media.image g.M.Media.size g.M.Media.faults c.args.media.now c.fetch.new.media c.args.world.now c.fetch.new.self files copied copied in
+    let a : Around = around g.M.Media.size g.M.Media.state c.args.media.now c.fetch.new.media c.args.world.now c.fetch.new.self files copied copied in
     subst (CallSays call a) (sym c.noted.ensures)
     (media_says call a c.requires.formed c.requires.fits refl tt c.fetch.result c.fetch.ensures.answered
-    (λ e. still_part a (record { world = c.fetch.ensures.err e; media = ap g.M.Media.image (c.fetch.ensures.undone e); count = ap g.M.Media.faults (c.fetch.ensures.undone e) }) call c.requires.formed c.requires.fits))
+    (λ e. still_part a (record { world = c.fetch.ensures.err e; media = ap (λ m. (g.M.Media.state m).image) (c.fetch.ensures.undone e); count = ap (λ m. (g.M.Media.state m).faults) (c.fetch.ensures.undone e) }) call c.requires.formed c.requires.fits))

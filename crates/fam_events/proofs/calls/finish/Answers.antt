@@ -14,7 +14,7 @@ use Rattle.fam_events.proofs.calls.finish.Goals as goal
 pub returns-clause-says : goal.returns-clause-says
 returns-clause-says g c = λ files copied.
     let call : Call = Finishes c.args.name.now in
-    let a : Around = around g.M.Media.image g.M.Media.size g.M.Media.faults c.args.media.now c.finish.new.media c.args.world.now c.finish.new.self files copied copied in
+    let a : Around = around g.M.Media.size g.M.Media.state c.args.media.now c.finish.new.media c.args.world.now c.finish.new.self files copied copied in
     subst (CallSays call a) (sym c.noted.ensures)
     (media_says call a c.requires.formed c.requires.fits refl tt c.finish.result c.finish.ensures.answered
     (λ e. finish_part c.args.name.now a c.requires.formed c.requires.fits refl (c.finish.ensures.want e)))
@@ -22,5 +22,5 @@ returns-clause-says g c = λ files copied.
 pub returns-clause-same : goal.returns-clause-same
 returns-clause-same g c =
     subst (λ (r : Result (Unit {0}) EventFault). OnErr r ((h : ℕ) → number_in c.args.name.now c.args.world.now ≡ Some h → IsUnstoredAt h c.args.world.now
-    → IfModelled (g.M.Media.image c.args.media.now) (λ image. g.M.Media.image c.finish.new.media ≡ Some image))) (sym c.noted.ensures)
+    → IfModelled (g.M.Media.state c.args.media.now).image (λ image. (g.M.Media.state c.finish.new.media).image ≡ Some image))) (sym c.noted.ensures)
     (outcome_same c.finish.result _ (λ e. (c.finish.ensures.want e).same))

@@ -7,7 +7,7 @@ use Rattle.fam_events.proofs.calls.make.Goals as goal
 
 pub returns-clause-says : goal.returns-clause-says
 returns-clause-says g c = λ files copied.
-    let a : Around = around g.M.Media.image g.M.Media.size g.M.Media.faults c.args.media.now c.mkfs.new.media c.args.world.now c.mkfs.new.self files copied copied in
+    let a : Around = around g.M.Media.size g.M.Media.state c.args.media.now c.mkfs.new.media c.args.world.now c.mkfs.new.self files copied copied in
     subst (CallSays (Makes c.args.name.now c.args.fs c.args.unit c.args.log c.args.force) a) (sym c.made.ensures)
     (make_says c.args.name.now c.args.fs c.args.unit c.args.log c.args.force a c.requires.formed c.requires.fits refl c.mkfs.result c.mkfs.ensures.answered
-    (λ e. record { world = c.mkfs.ensures.err e; media = ap g.M.Media.image (c.mkfs.ensures.undone e); count = ap g.M.Media.faults (c.mkfs.ensures.undone e) }))
+    (λ e. record { world = c.mkfs.ensures.err e; media = ap (λ m. (g.M.Media.state m).image) (c.mkfs.ensures.undone e); count = ap (λ m. (g.M.Media.state m).faults) (c.mkfs.ensures.undone e) }))

@@ -9,11 +9,11 @@ use Rattle.fam_mkfs.proofs.lines.read_line.Given as goal
 abbrev pub invariant-loop-word : goal.invariant-loop-word
 invariant-loop-word g l = record {
   wide : length l.words ≡ 8;
-  done : AreDone (load_ops l.line.0 l.word) (over (g.M.Media.image l.fn.media) l.fn.cache.lines) (over (g.M.Media.image l.media) l.cache.lines);
+  done : AreDone (load_ops l.line.0 l.word) (over (g.M.Media.state l.fn.media).image l.fn.cache.lines) (over (g.M.Media.state l.media).image l.cache.lines);
   words : (k : ℕ) → k < l.word → get_or l.words k 0 ≡ get_or (words_of (cell_at l.cache.lines l.line.0)) k 0;
   held : 0 < l.word → IsHeld (cell_at l.cache.lines l.line.0);
   others : (other : ℕ) → other ≢ l.line.0 → cell_at l.cache.lines other ≡ cell_at l.fn.cache.lines other;
   first : l.word ≡ 0 → l.fn.cache.spare ≤ l.cache.spare;
   spare : l.fn.cache.spare ≤ l.cache.spare + 1;
-  steady : IsSteady g.M.Media.size g.M.Media.faults l.fn.media l.media;
+  steady : IsSteady g.M.Media.size g.M.Media.state l.fn.media l.media;
 }

@@ -1,7 +1,7 @@
 use Rattle.std.proofs.Common.{◌≡◌, ◌++◌, codes, subst, sym}
 use Rattle.std.specs.Prelude.{IfOk}
-use Rattle.fam_journal.specs.Programs.{source_line}
-use Rattle.fam_journal.specs.Texts.{number}
+use Rattle.fam_outcomes.specs.Programs.{source_line}
+use Rattle.fam_outcomes.specs.Texts.{number}
 use Rattle.fam_sources.specs.declared.sourced.SourceEnd.{SourceEnd}
 use Rattle.fam_sources.specs.Sourced.{end_of}
 use Rattle.fam_program.proofs.lines.end_line.Goals as goal

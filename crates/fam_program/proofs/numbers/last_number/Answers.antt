@@ -1,4 +1,4 @@
-use Rattle.fam_program.proofs.NumberLines.{last_long, last_text, none_long}
+use Rattle.fam_program.proofs.Texts.NumberLines.{last_long, last_text, none_long}
 use Rattle.fam_program.proofs.numbers.last_number.Goals as goal
 
 pub returns-in-Some-clause-text : goal.returns-in-Some-clause-text

@@ -2,7 +2,7 @@ use Rattle.std.proofs.Common.{rules, ◌≡◌, ℕ, ◌≤◌, ◌++◌, ◌∷
 use Rattle.std.proofs.lemmas.Fmt.{length-decimal-le}
 use Rattle.std.proofs.lemmas.List.{at_drop_all, drop-set, length-drop, length-take-le}
 use borrow.Rule.Slice.PartMut.{put_mid}
-use Rattle.fam_program.proofs.NumberLines.{placed}
+use Rattle.fam_program.proofs.Texts.NumberLines.{placed}
 use Rattle.fam_program.proofs.numbers.write_number.Goals as goal
 
 pub write_digits-digits-requires : goal.write_digits-digits-requires

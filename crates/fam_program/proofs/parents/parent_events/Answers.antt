@@ -2,7 +2,7 @@ use Rattle.std.proofs.Common.{ℕ, List, [], ◌∷◌, ◌++◌, map, arith, ap
 use Rattle.std.proofs.lemmas.List.{append-nil, append_assoc, nil_from_length}
 use Rattle.fam_journal.specs.declared.event.Event.{Event}
 use Rattle.fam_journal.specs.declared.event.Event.TheVariants as event
-use Rattle.fam_program.proofs.Prefixing.{makes}
+use Rattle.fam_program.proofs.Commands.Events.{makes}
 use Rattle.fam_program.proofs.parents.parent_events.Goals as goal
 
 pub paths-init : goal.paths-init

@@ -5,7 +5,7 @@ use Rattle.std.proofs.lemmas.List.{drop_all, length_push}
 use Rattle.fam_journal.specs.declared.event.Event.{Event}
 use Rattle.fam_grammar.specs.Scripts.{is_line_feed}
 use Rattle.fam_program.specs.Far.{AreSoundEvents}
-use Rattle.fam_program.proofs.Reading.{HasRead, lines_few, lines_of, none_read, read_all, read_bad, read_none, read_one, sound_more}
+use Rattle.fam_program.proofs.Scripts.Lines.{HasRead, lines_few, lines_of, none_read, read_all, read_bad, read_none, read_one, sound_more}
 use Rattle.fam_program.proofs.read.read_script.Goals as goal
 
 pub loop-line-init : goal.loop-line-init

@@ -1,6 +1,6 @@
 use Rattle.std.proofs.Common.{◌≡◌, length}
 use Rattle.fam_program.specs.Far.{AreSoundEvents}
-use Rattle.fam_program.proofs.Reading.{HasRead}
+use Rattle.fam_program.proofs.Scripts.Lines.{HasRead}
 use Rattle.fam_program.proofs.read.read_script.Given as goal
 
 abbrev pub invariant-loop-line : goal.invariant-loop-line

@@ -1,7 +1,7 @@
 use Rattle.std.proofs.Common.{◌≡◌, ◌++◌, codes, subst, sym}
 use Rattle.std.specs.Prelude.{IfOk}
-use Rattle.fam_journal.specs.Programs.{early_text}
-use Rattle.fam_journal.specs.Texts.{number}
+use Rattle.fam_outcomes.specs.Programs.{early_text}
+use Rattle.fam_outcomes.specs.Texts.{number}
 use Rattle.fam_program.specs.declared.fault.ScriptFault.{ScriptFault}
 use Rattle.fam_program.specs.Files.{early_of}
 use Rattle.fam_program.proofs.script_file.fault_line.Goals as goal

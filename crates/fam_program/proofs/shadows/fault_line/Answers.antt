@@ -1,7 +1,7 @@
 use Rattle.std.proofs.Common.{◌≡◌, ◌++◌, List, ℕ, codes, subst, sym}
 use Rattle.std.specs.Prelude.{IfOk}
 use Rattle.fam_shadow.specs.declared.fault.ShadowFault.{ShadowFault}
-use Rattle.fam_journal.specs.Texts.{line}
+use Rattle.fam_outcomes.specs.Texts.{line}
 use Rattle.fam_program.specs.Shadows.{fault_text}
 use Rattle.fam_program.proofs.shadows.fault_line.Goals as goal
 

@@ -1,7 +1,7 @@
 use Rattle.std.proofs.Common.{◌≡◌, ◌++◌, Result, codes, subst, sym}
 use Rattle.std.specs.Prelude.{IfOk}
 use Rattle.fam_shadow.specs.declared.fault.ShadowFault.{ShadowFault}
-use Rattle.fam_journal.specs.Texts.{number}
+use Rattle.fam_outcomes.specs.Texts.{number}
 use Rattle.fam_program.specs.Shadows.{shadow_text}
 use Rattle.fam_program.proofs.shadows.shadow_line.Goals as goal
 

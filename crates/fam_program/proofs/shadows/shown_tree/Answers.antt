@@ -1,8 +1,8 @@
 use Rattle.std.proofs.Common.{◌∙◌, List, ap, sym}
 use Rattle.fam_notes.specs.declared.note.Note.{Note}
-use Rattle.fam_world.specs.View.{notes_view}
+use Rattle.fam_notes.specs.Notes.{notes_view}
 use Rattle.fam_program.specs.Shadows as spec
-use Rattle.fam_program.proofs.ShownTrees.{shown_behind}
+use Rattle.fam_program.proofs.Commands.ShownTrees.{shown_behind}
 use Rattle.fam_program.proofs.shadows.shown_tree.Goals as goal
 
 pub returns-in-Some : goal.returns-in-Some

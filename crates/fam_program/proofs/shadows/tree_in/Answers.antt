@@ -1,9 +1,8 @@
 use Rattle.std.proofs.Common.{◌∙◌, ap, sym}
 use Rattle.fam_notes.specs.declared.note.Note.{Note}
-use Rattle.fam_world.specs.View.{note_view}
+use Rattle.fam_notes.specs.Notes.{note_view}
 use Rattle.fam_program.specs.Shadows as spec
-use Rattle.fam_program.proofs.ShownTrees.{kept_tree}
 use Rattle.fam_program.proofs.shadows.tree_in.Goals as goal
 
 pub returns-in-Answered : goal.returns-in-Answered
-returns-in-Answered c = c.answered_tree.ensures ∙ kept_tree c.in-Answered.host c.in-Answered.answer ∙ ap (λ (n : Note). spec.tree_in (note_view n)) (sym c.in-Answered.is)
+returns-in-Answered c = c.answered_tree.ensures ∙ ap (λ (n : Note). spec.tree_in (note_view n)) (sym c.in-Answered.is)

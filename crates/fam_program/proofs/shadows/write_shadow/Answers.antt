@@ -1,26 +1,27 @@
 use Rattle.std.proofs.Common.{◌≡◌, List, None, Some, arith, ap, refl, subst, sym, ◌∙◌}
 use Rattle.std.specs.Prelude.{OnOk}
 use Rattle.fam_base.specs.declared.cmd.Cmd.TheVariants as cmd
+use Rattle.fam_media.specs.States.{change, SinkChange}
 use Rattle.fam_journal.specs.declared.event.Ask.TheVariants as ask
 use Rattle.fam_journal.specs.declared.event.Event.{Event}
-use Rattle.fam_journal.specs.declared.status.Status.{Status}
+use Rattle.fam_outcomes.specs.declared.status.Status.{Status}
 use Rattle.fam_journal.specs.Notes.{Note}
-use Rattle.fam_journal.specs.Runs.{NoneFalls, Outside}
-use Rattle.fam_journal.specs.Statuses.{last_status}
+use Rattle.fam_outcomes.specs.Runs.{NoneFalls, Outside}
+use Rattle.fam_outcomes.specs.Statuses.{last_status}
 use Rattle.fam_program.specs.Far.{AreSoundEvents}
-use Rattle.fam_program.specs.Puts.{SinkChange, sink_changed}
 use Rattle.fam_program.specs.Quiet.{AreShotEvents, ShotEnded}
 use Rattle.fam_program.specs.Runs.{outside_of}
-use Rattle.fam_program.specs.Shadows.{ShadeChange, no_files, shade_changed, shown_tree}
+use Rattle.fam_shadow.specs.Nodes.{ShadeChange}
+use Rattle.fam_program.specs.Shadows.{no_files, shown_tree}
 use Rattle.fam_program.specs.Shots.{ShotSays}
-use Rattle.fam_program.proofs.Alone.{shot_named}
-use Rattle.fam_program.proofs.Shadowing.{logplayed_top, shadow_wants, shadowed_top}
+use Rattle.fam_program.proofs.Commands.TopEnds.{shot_named}
+use Rattle.fam_program.proofs.Commands.Shadows.{logplayed_top, shadow_wants, shadowed_top}
 use Rattle.fam_program.proofs.shadows.write_shadow.Goals as goal
 
 pub returns-in_default-clause-ends : goal.returns-in_default-clause-ends
 returns-in_default-clause-ends g c =
-    let out : Outside = outside_of g.M.Media.size g.M.Media.image g.M.Media.faults c.args.media.now c.args.media.now no_files (sink_changed g.K.Sink.bytes g.K.Sink.faults c.args.out.now c.put_memory.new.out) in
-    let shade : ShadeChange = shade_changed g.D.Shade.nodes g.D.Shade.faults c.args.shade.now c.args.shade.now in
+    let out : Outside = outside_of g.M.Media.size g.M.Media.state c.args.media.now c.args.media.now no_files (change g.K.Sink.state c.args.out.now c.put_memory.new.out) in
+    let shade : ShadeChange = change g.D.Shade.state c.args.shade.now c.args.shade.now in
     let later : NoneFalls out = record { media = omega arith; shelf = omega arith; shorts = omega arith; sink = c.put_memory.ensures.later } in
     shadow_wants out shade c.put_memory.result later (Some c.args.me) refl refl c.put_memory.ensures.put
 
@@ -35,9 +36,9 @@ run_until_stop-ended-requires-clause-shot g c = subst AreShotEvents (sym c.in-Ok
 
 pub returns-in-Some-clause-ends : goal.returns-in-Some-clause-ends
 returns-in-Some-clause-ends g c =
-    let sink : SinkChange = sink_changed g.K.Sink.bytes g.K.Sink.faults c.args.out.now c.put_shadow.new.out in
-    let out : Outside = outside_of g.M.Media.size g.M.Media.image g.M.Media.faults c.args.media.now c.run_until_stop-ended.new.media no_files sink in
-    let shade : ShadeChange = shade_changed g.D.Shade.nodes g.D.Shade.faults c.args.shade.now c.shadow-written.new.shade in
+    let sink : SinkChange = change g.K.Sink.state c.args.out.now c.put_shadow.new.out in
+    let out : Outside = outside_of g.M.Media.size g.M.Media.state c.args.media.now c.run_until_stop-ended.new.media no_files sink in
+    let shade : ShadeChange = change g.D.Shade.state c.args.shade.now c.shadow-written.new.shade in
     let later : NoneFalls out = record { media = c.run_until_stop-ended.ensures.steady.later; shelf = omega arith; shorts = omega arith; sink = c.put_shadow.ensures.later } in
     let journal : List Note = c.run_until_stop-ended.new.world.journal in
     shadowed_top out shade c.put_shadow.result later c.own_name-name.result c.args.me journal c.run_until_stop-ended.result
@@ -47,15 +48,15 @@ returns-in-Some-clause-ends g c =
 
 pub put_end-requires : goal.put_end-requires
 put_end-requires g c =
-    let sink : SinkChange = sink_changed g.K.Sink.bytes g.K.Sink.faults c.args.out.now c.args.out.now in
-    let out : Outside = outside_of g.M.Media.size g.M.Media.image g.M.Media.faults c.args.media.now c.run_until_stop-ended.new.media no_files sink in
+    let sink : SinkChange = change g.K.Sink.state c.args.out.now c.args.out.now in
+    let out : Outside = outside_of g.M.Media.size g.M.Media.state c.args.media.now c.run_until_stop-ended.new.media no_files sink in
     record { named = shot_named c.run_until_stop-ended.result out c.in-Ok.events.items c.run_until_stop-ended.new.world.journal (c.run_until_stop-ended.ensures.ended sink) }
 
 pub returns-clause-ends : goal.returns-clause-ends
 returns-clause-ends g c =
-    let sink : SinkChange = sink_changed g.K.Sink.bytes g.K.Sink.faults c.args.out.now c.put_end.new.out in
-    let out : Outside = outside_of g.M.Media.size g.M.Media.image g.M.Media.faults c.args.media.now c.run_until_stop-ended.new.media no_files sink in
-    let shade : ShadeChange = shade_changed g.D.Shade.nodes g.D.Shade.faults c.args.shade.now c.args.shade.now in
+    let sink : SinkChange = change g.K.Sink.state c.args.out.now c.put_end.new.out in
+    let out : Outside = outside_of g.M.Media.size g.M.Media.state c.args.media.now c.run_until_stop-ended.new.media no_files sink in
+    let shade : ShadeChange = change g.D.Shade.state c.args.shade.now c.args.shade.now in
     let later : NoneFalls out = record { media = c.run_until_stop-ended.ensures.steady.later; shelf = omega arith; shorts = omega arith; sink = c.put_end.ensures.later } in
     let journal : List Note = c.run_until_stop-ended.new.world.journal in
     let done : c.last_status-done.result ≡ last_status journal = c.last_status-done.ensures ∙ ap last_status c.journal-2.ensures in

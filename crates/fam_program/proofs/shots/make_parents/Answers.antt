@@ -1,25 +1,24 @@
 use Rattle.std.proofs.Common.{◌≡◌, List, Some, arith, ap, refl, subst, sym, ◌∙◌}
-use Rattle.fam_sources.specs.Whole.{changed}
+use Rattle.fam_media.specs.States.{change, SinkChange}
 use Rattle.fam_journal.specs.declared.event.Event.{Event}
-use Rattle.fam_journal.specs.declared.status.Status.{Status}
+use Rattle.fam_outcomes.specs.declared.status.Status.{Status}
 use Rattle.fam_journal.specs.Notes.{Note}
-use Rattle.fam_journal.specs.Programs.{MakesParents, OneShot, Single}
-use Rattle.fam_journal.specs.Runs.{NoneFalls, Outside}
-use Rattle.fam_journal.specs.Statuses.{parents_status}
+use Rattle.fam_outcomes.specs.Programs.{MakesParents, OneShot, Single}
+use Rattle.fam_outcomes.specs.Runs.{NoneFalls, Outside}
+use Rattle.fam_outcomes.specs.Statuses.{parents_status}
 use Rattle.fam_program.specs.Far.{AreSoundEvents}
-use Rattle.fam_program.specs.Puts.{SinkChange, sink_changed}
 use Rattle.fam_program.specs.Quiet.{AreShotEvents, ShotEnded}
 use Rattle.fam_program.specs.Runs.{outside_of}
 use Rattle.fam_program.specs.Shots.{ShotSays}
-use Rattle.fam_program.proofs.Alone.{shot_named, shot_top}
-use Rattle.fam_program.proofs.Tops.{early_wants}
-use Rattle.fam_program.proofs.Prefixing.{parents_shot, parents_sound}
+use Rattle.fam_program.proofs.Commands.TopEnds.{shot_named, shot_top}
+use Rattle.fam_program.proofs.Runs.OneText.{early_wants}
+use Rattle.fam_program.proofs.Commands.Events.{parents_shot, parents_sound}
 use Rattle.fam_program.proofs.shots.make_parents.Goals as goal
 
 pub returns-in_default-clause-ends : goal.returns-in_default-clause-ends
 returns-in_default-clause-ends g c =
-    let sink : SinkChange = sink_changed g.K.Sink.bytes g.K.Sink.faults c.args.out.now c.put_memory.new.out in
-    let out : Outside = outside_of g.M.Media.size g.M.Media.image g.M.Media.faults c.args.media.now c.args.media.now (changed g.S.Shelf.files g.S.Shelf.faults g.S.Shelf.shorts c.args.shelf.now c.args.shelf.now) sink in
+    let sink : SinkChange = change g.K.Sink.state c.args.out.now c.put_memory.new.out in
+    let out : Outside = outside_of g.M.Media.size g.M.Media.state c.args.media.now c.args.media.now (change g.S.Shelf.state c.args.shelf.now c.args.shelf.now) sink in
     let later : NoneFalls out = record { media = omega arith; shelf = omega arith; shorts = omega arith; sink = c.put_memory.ensures.later } in
     early_wants (Some (Single c.args.me (MakesParents c.args.path.now c.args.attr))) out c.put_memory.result refl later c.put_memory.ensures.put
 
@@ -34,14 +33,14 @@ run_until_stop-ended-requires-clause-shot g c = subst AreShotEvents (sym c.in-Ok
 
 pub put_end-requires : goal.put_end-requires
 put_end-requires g c =
-    let sink : SinkChange = sink_changed g.K.Sink.bytes g.K.Sink.faults c.args.out.now c.args.out.now in
-    let out : Outside = outside_of g.M.Media.size g.M.Media.image g.M.Media.faults c.args.media.now c.run_until_stop-ended.new.media (changed g.S.Shelf.files g.S.Shelf.faults g.S.Shelf.shorts c.args.shelf.now c.run_until_stop-ended.new.shelf) sink in
+    let sink : SinkChange = change g.K.Sink.state c.args.out.now c.args.out.now in
+    let out : Outside = outside_of g.M.Media.size g.M.Media.state c.args.media.now c.run_until_stop-ended.new.media (change g.S.Shelf.state c.args.shelf.now c.run_until_stop-ended.new.shelf) sink in
     record { named = shot_named c.run_until_stop-ended.result out c.in-Ok.events.items c.run_until_stop-ended.new.world.journal (c.run_until_stop-ended.ensures.ended sink) }
 
 pub returns-clause-ends : goal.returns-clause-ends
 returns-clause-ends g c =
-    let sink : SinkChange = sink_changed g.K.Sink.bytes g.K.Sink.faults c.args.out.now c.put_end.new.out in
-    let out : Outside = outside_of g.M.Media.size g.M.Media.image g.M.Media.faults c.args.media.now c.run_until_stop-ended.new.media (changed g.S.Shelf.files g.S.Shelf.faults g.S.Shelf.shorts c.args.shelf.now c.run_until_stop-ended.new.shelf) sink in
+    let sink : SinkChange = change g.K.Sink.state c.args.out.now c.put_end.new.out in
+    let out : Outside = outside_of g.M.Media.size g.M.Media.state c.args.media.now c.run_until_stop-ended.new.media (change g.S.Shelf.state c.args.shelf.now c.run_until_stop-ended.new.shelf) sink in
     let later : NoneFalls out = record { media = c.run_until_stop-ended.ensures.steady.later; shelf = c.run_until_stop-ended.ensures.shelf.faults_later; shorts = c.run_until_stop-ended.ensures.shelf.shorts_later; sink = c.put_end.ensures.later } in
     let journal : List Note = c.run_until_stop-ended.new.world.journal in
     let shot : OneShot = MakesParents c.args.path.now c.args.attr in

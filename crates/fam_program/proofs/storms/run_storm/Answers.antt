@@ -1,46 +1,46 @@
 use Rattle.std.proofs.Common.{◌≡◌, ℕ, List, length, Some, arith, refl, subst, ◌∙◌}
-use Rattle.fam_sources.specs.Whole.{changed}
+use Rattle.fam_media.specs.States.{change, SinkChange}
 use Rattle.fam_sources.specs.Sourced.{end_of}
 use Rattle.fam_journal.specs.declared.event.Event.{Event}
-use Rattle.fam_journal.specs.declared.status.Status.TheVariants as status
+use Rattle.fam_outcomes.specs.declared.status.Status.TheVariants as status
 use Rattle.fam_journal.specs.Ends.{AllDone}
 use Rattle.fam_journal.specs.Notes.{Note}
-use Rattle.fam_journal.specs.Programs.{Storm}
-use Rattle.fam_journal.specs.Runs.{NoneFalls, Outside}
+use Rattle.fam_outcomes.specs.Programs.{Storm}
+use Rattle.fam_outcomes.specs.Runs.{NoneFalls, Outside}
 use Rattle.fam_events.specs.declared.fault.EventFault.{EventFault}
-use Rattle.fam_program.specs.Puts.{Put, SinkChange, sink_changed}
+use Rattle.fam_program.specs.Puts.{Put}
 use Rattle.fam_program.specs.Runs.{HasEnded, ending_of, outside_of}
-use Rattle.fam_program.proofs.Tops.{early_wants, no_source_ends, not_printed, prints_top, storm_broken, storm_done, storm_wants}
+use Rattle.fam_program.proofs.Runs.OneText.{early_wants, no_source_ends, not_printed, prints_top, storm_broken, storm_done, storm_wants}
 use Rattle.fam_program.proofs.storms.run_storm.Goals as goal
 
 pub returns-in_default-clause-ends : goal.returns-in_default-clause-ends
 returns-in_default-clause-ends g c =
-    let sink : SinkChange = sink_changed g.K.Sink.bytes g.K.Sink.faults c.args.out.now c.put_memory.new.out in
-    let out : Outside = outside_of g.M.Media.size g.M.Media.image g.M.Media.faults c.args.media.now c.args.media.now (changed g.S.Shelf.files g.S.Shelf.faults g.S.Shelf.shorts c.args.shelf.now c.args.shelf.now) sink in
+    let sink : SinkChange = change g.K.Sink.state c.args.out.now c.put_memory.new.out in
+    let out : Outside = outside_of g.M.Media.size g.M.Media.state c.args.media.now c.args.media.now (change g.S.Shelf.state c.args.shelf.now c.args.shelf.now) sink in
     let later : NoneFalls out = record { media = omega arith; shelf = omega arith; shorts = omega arith; sink = c.put_memory.ensures.later } in
     early_wants (Some (Storm c.args.seed c.args.size c.args.prints)) out c.put_memory.result refl later c.put_memory.ensures.put
 
 pub returns-then-prints-clause-ends : goal.returns-then-prints-clause-ends
 returns-then-prints-clause-ends g c =
-    let sink : SinkChange = sink_changed g.K.Sink.bytes g.K.Sink.faults c.args.out.now c.put_line.new.out in
-    let out : Outside = outside_of g.M.Media.size g.M.Media.image g.M.Media.faults c.args.media.now c.args.media.now (changed g.S.Shelf.files g.S.Shelf.faults g.S.Shelf.shorts c.args.shelf.now c.args.shelf.now) sink in
+    let sink : SinkChange = change g.K.Sink.state c.args.out.now c.put_line.new.out in
+    let out : Outside = outside_of g.M.Media.size g.M.Media.state c.args.media.now c.args.media.now (change g.S.Shelf.state c.args.shelf.now c.args.shelf.now) sink in
     let later : NoneFalls out = record { media = omega arith; shelf = omega arith; shorts = omega arith; sink = c.put_line.ensures.later } in
     prints_top c.args.seed c.args.size c.args.prints out c.put_line.result c.if-prints.true refl later (subst (λ (t : List ℕ). Put status.Done t sink c.put_line.result) (c.as_slice.ensures.value ∙ c.in-Ok.ensures) c.put_line.ensures.put)
 
 pub returns-in_default-storm_events-clause-ends : goal.returns-in_default-storm_events-clause-ends
 returns-in_default-storm_events-clause-ends g c =
-    let sink : SinkChange = sink_changed g.K.Sink.bytes g.K.Sink.faults c.args.out.now c.put_memory-in_default-storm_events.new.out in
-    let out : Outside = outside_of g.M.Media.size g.M.Media.image g.M.Media.faults c.args.media.now c.args.media.now (changed g.S.Shelf.files g.S.Shelf.faults g.S.Shelf.shorts c.args.shelf.now c.args.shelf.now) sink in
+    let sink : SinkChange = change g.K.Sink.state c.args.out.now c.put_memory-in_default-storm_events.new.out in
+    let out : Outside = outside_of g.M.Media.size g.M.Media.state c.args.media.now c.args.media.now (change g.S.Shelf.state c.args.shelf.now c.args.shelf.now) sink in
     let later : NoneFalls out = record { media = omega arith; shelf = omega arith; shorts = omega arith; sink = c.put_memory-in_default-storm_events.ensures.later } in
     early_wants (Some (Storm c.args.seed c.args.size c.args.prints)) out c.put_memory-in_default-storm_events.result refl later c.put_memory-in_default-storm_events.ensures.put
 
 pub put_summary-requires : goal.put_summary-requires
-put_summary-requires g c = record { named = (c.in-Ok-run_events.ensures.ended (sink_changed g.K.Sink.bytes g.K.Sink.faults c.args.out.now c.args.out.now)).named }
+put_summary-requires g c = record { named = (c.in-Ok-run_events.ensures.ended (change g.K.Sink.state c.args.out.now c.args.out.now)).named }
 
 pub returns-in-Ok-run_events-clause-ends : goal.returns-in-Ok-run_events-clause-ends
 returns-in-Ok-run_events-clause-ends g c =
-    let sink : SinkChange = sink_changed g.K.Sink.bytes g.K.Sink.faults c.args.out.now c.put_summary.new.out in
-    let out : Outside = outside_of g.M.Media.size g.M.Media.image g.M.Media.faults c.args.media.now c.run_events.new.media (changed g.S.Shelf.files g.S.Shelf.faults g.S.Shelf.shorts c.args.shelf.now c.run_events.new.shelf) sink in
+    let sink : SinkChange = change g.K.Sink.state c.args.out.now c.put_summary.new.out in
+    let out : Outside = outside_of g.M.Media.size g.M.Media.state c.args.media.now c.run_events.new.media (change g.S.Shelf.state c.args.shelf.now c.run_events.new.shelf) sink in
     let later : NoneFalls out = record { media = c.run_events.ensures.steady.later; shelf = c.run_events.ensures.shelf.faults_later; shorts = c.run_events.ensures.shelf.shorts_later; sink = c.put_summary.ensures.later } in
     let events : List Event = c.in-Ok-storm_events.events.items in
     let journal : List Note = c.run_events.new.world.journal in
@@ -49,12 +49,12 @@ returns-in-Ok-run_events-clause-ends g c =
     not_printed c.args.seed c.args.size c.args.prints out c.put_summary.result c.if-prints.false (storm_done c.args.seed c.args.size events c.in-Ok-storm_events.ensures.read out c.put_summary.result later journal ended (c.put_summary.ensures.put events many))
 
 pub put_summary-requires-in-Err-MkfsFailed : goal.put_summary-requires-in-Err-MkfsFailed
-put_summary-requires-in-Err-MkfsFailed g c = record { named = (c.in-Err-MkfsFailed.ensures.ended (sink_changed g.K.Sink.bytes g.K.Sink.faults c.args.out.now c.args.out.now)).named }
+put_summary-requires-in-Err-MkfsFailed g c = record { named = (c.in-Err-MkfsFailed.ensures.ended (change g.K.Sink.state c.args.out.now c.args.out.now)).named }
 
 pub returns-in-Err-MkfsFailed-clause-ends : goal.returns-in-Err-MkfsFailed-clause-ends
 returns-in-Err-MkfsFailed-clause-ends g c =
-    let sink : SinkChange = sink_changed g.K.Sink.bytes g.K.Sink.faults c.args.out.now c.put_summary-in-Err-MkfsFailed.new.out in
-    let out : Outside = outside_of g.M.Media.size g.M.Media.image g.M.Media.faults c.args.media.now c.run_events.new.media (changed g.S.Shelf.files g.S.Shelf.faults g.S.Shelf.shorts c.args.shelf.now c.run_events.new.shelf) sink in
+    let sink : SinkChange = change g.K.Sink.state c.args.out.now c.put_summary-in-Err-MkfsFailed.new.out in
+    let out : Outside = outside_of g.M.Media.size g.M.Media.state c.args.media.now c.run_events.new.media (change g.S.Shelf.state c.args.shelf.now c.run_events.new.shelf) sink in
     let later : NoneFalls out = record { media = c.run_events.ensures.steady.later; shelf = c.run_events.ensures.shelf.faults_later; shorts = c.run_events.ensures.shelf.shorts_later; sink = c.put_summary-in-Err-MkfsFailed.ensures.later } in
     let events : List Event = c.in-Ok-storm_events.events.items in
     let journal : List Note = c.run_events.new.world.journal in
@@ -64,8 +64,8 @@ returns-in-Err-MkfsFailed-clause-ends g c =
 
 pub unreachable-requires : goal.unreachable-requires
 unreachable-requires g c =
-    let sink : SinkChange = sink_changed g.K.Sink.bytes g.K.Sink.faults c.args.out.now c.args.out.now in
-    let out : Outside = outside_of g.M.Media.size g.M.Media.image g.M.Media.faults c.args.media.now c.run_events.new.media (changed g.S.Shelf.files g.S.Shelf.faults g.S.Shelf.shorts c.args.shelf.now c.run_events.new.shelf) sink in
+    let sink : SinkChange = change g.K.Sink.state c.args.out.now c.args.out.now in
+    let out : Outside = outside_of g.M.Media.size g.M.Media.state c.args.media.now c.run_events.new.media (change g.S.Shelf.state c.args.shelf.now c.run_events.new.shelf) sink in
     let events : List Event = c.in-Ok-storm_events.events.items in
     let journal : List Note = c.run_events.new.world.journal in
     let ended = subst (λ (x : EventFault). HasEnded (ending_of x) out events journal) c.in-Err-SourceEnded.field-0-is (c.in-Err-SourceEnded.ensures.ended sink) in
@@ -73,8 +73,8 @@ unreachable-requires g c =
 
 pub returns-clause-ends : goal.returns-clause-ends
 returns-clause-ends g c =
-    let sink : SinkChange = sink_changed g.K.Sink.bytes g.K.Sink.faults c.args.out.now c.put_memory-in-Err-OutOfMemory.new.out in
-    let out : Outside = outside_of g.M.Media.size g.M.Media.image g.M.Media.faults c.args.media.now c.run_events.new.media (changed g.S.Shelf.files g.S.Shelf.faults g.S.Shelf.shorts c.args.shelf.now c.run_events.new.shelf) sink in
+    let sink : SinkChange = change g.K.Sink.state c.args.out.now c.put_memory-in-Err-OutOfMemory.new.out in
+    let out : Outside = outside_of g.M.Media.size g.M.Media.state c.args.media.now c.run_events.new.media (change g.S.Shelf.state c.args.shelf.now c.run_events.new.shelf) sink in
     let later : NoneFalls out = record { media = c.run_events.ensures.steady.later; shelf = c.run_events.ensures.shelf.faults_later; shorts = c.run_events.ensures.shelf.shorts_later; sink = c.put_memory-in-Err-OutOfMemory.ensures.later } in
     let events : List Event = c.in-Ok-storm_events.events.items in
     let journal : List Note = c.run_events.new.world.journal in

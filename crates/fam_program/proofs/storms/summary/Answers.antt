@@ -1,11 +1,11 @@
 use Rattle.std.proofs.Common.{◌≡◌, ◌∙◌, ℕ, List, Result, Ok, Err, ap}
 use Rattle.std.specs.Prelude.{IfOk}
 use Rattle.fam_journal.specs.Notes.{Note}
-use Rattle.fam_journal.specs.Programs.{storm_line}
-use Rattle.fam_journal.specs.Texts.{line}
-use Rattle.fam_outcomes.specs.StormLines.{storm_text}
-use Rattle.fam_outcomes.proofs.StormTexts.{storm_line_is}
-use Rattle.fam_world.specs.View.{notes_view}
+use Rattle.fam_outcomes.specs.Programs.{storm_line}
+use Rattle.fam_outcomes.specs.Texts.{line}
+use Rattle.fam_script.specs.StormLines.{storm_text}
+use Rattle.fam_script.proofs.StormTexts.{storm_line_is}
+use Rattle.fam_notes.specs.Notes.{notes_view}
 use Rattle.fam_program.proofs.storms.summary.Goals as goal
 
 -- what a line is holds of it under another name

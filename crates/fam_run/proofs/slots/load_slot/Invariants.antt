@@ -9,8 +9,8 @@ use Rattle.fam_run.proofs.slots.load_slot.Given as goal
 
 abbrev pub invariant-lines : goal.invariant-lines
 invariant-lines g l = record {
-  done : HasDone (around g.M.Media.image g.M.Media.size g.M.Media.faults l.fn.task l.task l.fn.cache l.cache l.fn.media l.media) Go;
+  done : HasDone (around g.M.Media.size g.M.Media.state l.fn.task l.task l.fn.cache l.cache l.fn.media l.media) Go;
   phase : l.line < 8 → l.task.phase ≡ at.Drop (Slot l.due.slot) l.line;
-  image : g.M.Media.image l.media ≡ g.M.Media.image l.fn.media;
-  steady : IsSteady g.M.Media.size g.M.Media.faults l.fn.media l.media;
+  image : (g.M.Media.state l.media).image ≡ (g.M.Media.state l.fn.media).image;
+  steady : IsSteady g.M.Media.size g.M.Media.state l.fn.media l.media;
 }

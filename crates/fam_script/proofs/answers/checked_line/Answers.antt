@@ -1,7 +1,7 @@
 use Rattle.std.proofs.Common.{codes, ◌++◌, ◌∙◌, List, ℕ, Option, sym, ap}
 use Rattle.std.proofs.lemmas.Result.{IfOk-weaker}
-use Rattle.fam_journal.specs.Texts as text
-use Rattle.fam_script.specs.Prints.{checked_prefix}
+use Rattle.fam_outcomes.specs.Texts as text
+use Rattle.fam_script.specs.Reports.{checked_prefix}
 use Rattle.fam_script.proofs.answers.checked_line.Goals as goal
 
 pub returns-in-None : goal.returns-in-None

@@ -1,6 +1,6 @@
 use Rattle.std.proofs.Common.{codes, ◌∙◌}
 use Rattle.std.proofs.lemmas.Result.{IfOk-weaker}
-use Rattle.fam_journal.specs.Texts as text
+use Rattle.fam_outcomes.specs.Texts as text
 use Rattle.fam_script.proofs.TextLemmas.{assoc9}
 use Rattle.fam_script.proofs.answers.checked_text.Goals as goal
 

@@ -1,6 +1,6 @@
 use Rattle.std.proofs.Common.{codes, ◌++◌, ◌∙◌, List, ℕ, ap}
 use Rattle.std.proofs.lemmas.Result.{IfOk-weaker}
-use Rattle.fam_journal.specs.Texts as text
+use Rattle.fam_outcomes.specs.Texts as text
 use Rattle.fam_script.proofs.TextLemmas.{four_parts}
 use Rattle.fam_script.proofs.commands.creat_line.Goals as goal
 

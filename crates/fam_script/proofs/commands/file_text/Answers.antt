@@ -1,6 +1,6 @@
 use Rattle.std.proofs.Common.{◌∙◌}
 use Rattle.std.proofs.lemmas.Result.{IfOk-weaker}
-use Rattle.fam_journal.specs.Texts as text
+use Rattle.fam_outcomes.specs.Texts as text
 use Rattle.fam_script.proofs.TextLemmas.{file_parts}
 use Rattle.fam_script.proofs.commands.file_text.Goals as goal
 

@@ -1,6 +1,6 @@
 use Rattle.std.proofs.Common.{codes, ◌∙◌}
 use Rattle.std.proofs.lemmas.Result.{IfOk-weaker}
-use Rattle.fam_journal.specs.Texts as text
+use Rattle.fam_outcomes.specs.Texts as text
 use Rattle.fam_script.proofs.TextLemmas.{two_parts}
 use Rattle.fam_script.proofs.commands.read_line.Goals as goal
 

@@ -1,6 +1,6 @@
 use Rattle.std.proofs.Common.{◌≡◌, ◌++◌, take}
 use Rattle.std.specs.List.{flat_map}
-use Rattle.fam_journal.specs.Texts.{byte_text}
+use Rattle.fam_outcomes.specs.Texts.{byte_text}
 use Rattle.fam_script.proofs.digits.put_digits.Given as goal
 
 abbrev pub invariant-loop-byte : goal.invariant-loop-byte

@@ -1,5 +1,5 @@
 use Rattle.std.proofs.Common.{◌≡◌, string_bytes}
-use Rattle.fam_journal.specs.Texts.{reason_text}
+use Rattle.fam_outcomes.specs.Texts.{reason_text}
 use Rattle.fam_script.proofs.faults.entry_line.Goals as goal
 
 pub returns-in-Ok : goal.returns-in-Ok

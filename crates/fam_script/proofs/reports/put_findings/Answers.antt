@@ -1,5 +1,5 @@
 use Rattle.std.proofs.Common.{codes, ◌++◌, ◌∙◌, List, ℕ, ap}
-use Rattle.fam_journal.specs.Texts as text
+use Rattle.fam_outcomes.specs.Texts as text
 use Rattle.fam_script.proofs.TextLemmas.{OnOk-more, two_lines}
 use Rattle.fam_script.proofs.reports.put_findings.Goals as goal
 

@@ -12,7 +12,7 @@ use Rattle.fam_shadow.proofs.passes.first_clash.Goals as goal
 pub loop-entry-preserved : goal.loop-entry-preserved
 loop-entry-preserved g c =
     let entries : List Entry = map.values c.args.tree.now in
-    let held : Option Nodes = g.D.Shade.nodes c.args.shade.now in
+    let held : Option Nodes = (g.D.Shade.state c.args.shade.now).nodes in
     let e : Entry = c.in-Some.entry.now in
     let rest : List Entry = tree_iter_rest c.next.new.self in
     let given : tree_iter_rest c.loop-entry.entry-iterator ≡ e ∷ rest = cc (c.in-Some.ensures.steps) in
@@ -29,5 +29,5 @@ pub returns-clause-distinct : goal.returns-clause-distinct
 returns-clause-distinct g c =
     let entries : List Entry = map.values c.args.tree.now in
     let done : tree_iter_rest c.loop-entry.entry-iterator ≡ [] = c.in-None.ensures.steps.0 in
-    let seen = subst (λ (l : List Entry). AreSeen entries l (g.D.Shade.nodes c.args.shade.now) c.loop-entry.first) done c.loop-entry.invariant.seen in
+    let seen = subst (λ (l : List Entry). AreSeen entries l (g.D.Shade.state c.args.shade.now).nodes c.loop-entry.first) done c.loop-entry.invariant.seen in
     distinct entries (seen.proper tt) c.iter-entry-items.ensures.order

@@ -6,7 +6,7 @@ use Rattle.fam_shadow.proofs.passes.first_clash.Given as goal
 
 abbrev pub invariant-loop-entry : goal.invariant-loop-entry
 invariant-loop-entry g l = record {
-  seen : AreSeen (map.values l.tree) (tree_iter_rest l.entry-iterator) (g.D.Shade.nodes l.initial.shade) l.first;
-  same : g.D.Shade.nodes l.shade ≡ g.D.Shade.nodes l.initial.shade;
-  later : g.D.Shade.faults l.initial.shade ≤ g.D.Shade.faults l.shade;
+  seen : AreSeen (map.values l.tree) (tree_iter_rest l.entry-iterator) (g.D.Shade.state l.initial.shade).nodes l.first;
+  same : (g.D.Shade.state l.shade).nodes ≡ (g.D.Shade.state l.initial.shade).nodes;
+  later : (g.D.Shade.state l.initial.shade).faults ≤ (g.D.Shade.state l.shade).faults;
 }

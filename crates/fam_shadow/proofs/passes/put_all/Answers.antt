@@ -10,8 +10,8 @@ use Rattle.fam_shadow.proofs.passes.put_all.Goals as goal
 pub put_entry-requires : goal.put_entry-requires
 put_entry-requires g c =
     let entries : List Entry = map.values c.args.tree.now in
-    let old : Option Nodes = g.D.Shade.nodes c.args.shade.now in
-    let now : Option Nodes = g.D.Shade.nodes c.loop-entry.shade in
+    let old : Option Nodes = (g.D.Shade.state c.args.shade.now).nodes in
+    let now : Option Nodes = (g.D.Shade.state c.loop-entry.shade).nodes in
     let e : Entry = c.in-Some.entry.now in
     let rest : List Entry = tree_iter_rest c.next.new.self in
     let given : tree_iter_rest c.loop-entry.entry-iterator ≡ e ∷ rest = cc (c.in-Some.ensures.steps) in
@@ -21,13 +21,13 @@ put_entry-requires g c =
 pub loop-entry-preserved : goal.loop-entry-preserved
 loop-entry-preserved g c =
     let entries : List Entry = map.values c.args.tree.now in
-    let old : Option Nodes = g.D.Shade.nodes c.args.shade.now in
-    let now : Option Nodes = g.D.Shade.nodes c.loop-entry.shade in
+    let old : Option Nodes = (g.D.Shade.state c.args.shade.now).nodes in
+    let now : Option Nodes = (g.D.Shade.state c.loop-entry.shade).nodes in
     let e : Entry = c.in-Some.entry.now in
     let rest : List Entry = tree_iter_rest c.next.new.self in
     let given : tree_iter_rest c.loop-entry.entry-iterator ≡ e ∷ rest = cc (c.in-Some.ensures.steps) in
     let before : ArePut entries (e ∷ rest) old now = subst (λ (l : List Entry). ArePut entries l old now) given c.loop-entry.invariant.put in
     record {
-      put = more_put entries old e rest now before (g.D.Shade.nodes c.put_entry.new.shade) c.in_ok-put_entry.ensures.put;
+      put = more_put entries old e rest now before (g.D.Shade.state c.put_entry.new.shade).nodes c.in_ok-put_entry.ensures.put;
       later = omega (arith, c.in_ok-put_entry.ensures.later, c.loop-entry.invariant.later);
     }

@@ -6,16 +6,16 @@ use Rattle.fam_shadow.proofs.passes.shadow.Goals as goal
 pub returns-in_err-name-clause-ends : goal.returns-in_err-name-clause-ends
 returns-in_err-name-clause-ends g c =
     let p = err_from_is_err_and c.from_residual.result c.from_residual.ensures.1 in
-    rw (p.1, p.2) (looks_end c.args.tree.now (g.D.Shade.faults c.args.shade.now) (g.D.Shade.faults c.first_clash.new.shade) (g.D.Shade.nodes c.args.shade.now) (g.D.Shade.nodes c.first_clash.new.shade) c.in_err-name.field-0.0 c.in_err-name.ensures.fault c.in_err-name.ensures.same)
+    rw (p.1, p.2) (looks_end c.args.tree.now (g.D.Shade.state c.args.shade.now).faults (g.D.Shade.state c.first_clash.new.shade).faults (g.D.Shade.state c.args.shade.now).nodes (g.D.Shade.state c.first_clash.new.shade).nodes c.in_err-name.field-0.0 c.in_err-name.ensures.fault c.in_err-name.ensures.same)
 
 pub returns-in-Some-clause-ends : goal.returns-in-Some-clause-ends
 returns-in-Some-clause-ends g c =
-    clash_ends c.args.tree.now 0 0 c.in_ok-name.ensures.distinct (g.D.Shade.nodes c.args.shade.now) (g.D.Shade.nodes c.first_clash.new.shade) c.in-Some.name c.in_ok-name.ensures.same
+    clash_ends c.args.tree.now 0 0 c.in_ok-name.ensures.distinct (g.D.Shade.state c.args.shade.now).nodes (g.D.Shade.state c.first_clash.new.shade).nodes c.in-Some.name c.in_ok-name.ensures.same
     (λ held told. sym c.in-Some.is ∙ c.in_ok-name.ensures.met held told)
 
 pub returns-clause-ends : goal.returns-clause-ends
 returns-clause-ends g c = λ old told.
-    puts_end c.args.tree.now (g.D.Shade.faults c.first_clash.new.shade) (g.D.Shade.faults c.put_all.new.shade) c.in_ok-name.ensures.distinct
-    (g.D.Shade.nodes c.first_clash.new.shade) (g.D.Shade.nodes c.put_all.new.shade)
+    puts_end c.args.tree.now (g.D.Shade.state c.first_clash.new.shade).faults (g.D.Shade.state c.put_all.new.shade).faults c.in_ok-name.ensures.distinct
+    (g.D.Shade.state c.first_clash.new.shade).nodes (g.D.Shade.state c.put_all.new.shade).nodes
     (λ held is. sym (c.in_ok-name.ensures.met held (sym c.in_ok-name.ensures.same ∙ is)) ∙ c.in_default.is)
     c.put_all.result c.put_all.ensures.put c.put_all.ensures.cut c.put_all.ensures.fault old (c.in_ok-name.ensures.same ∙ told)

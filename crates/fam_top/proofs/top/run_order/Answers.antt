@@ -1,10 +1,9 @@
 use Rattle.std.proofs.Common.{List, ℕ, Some, subst, sym}
+use Rattle.fam_media.specs.States.{change}
 use Rattle.fam_grammar.specs.Scripts.{script_events}
-use Rattle.fam_journal.specs.Programs.{Script, Single, TopEnds}
-use Rattle.fam_journal.specs.Runs.{Outside}
-use Rattle.fam_program.specs.Puts.{sink_changed}
+use Rattle.fam_outcomes.specs.Programs.{Script, Single, TopEnds}
+use Rattle.fam_outcomes.specs.Runs.{Outside}
 use Rattle.fam_program.specs.Runs.{outside_of}
-use Rattle.fam_sources.specs.Whole.{changed}
 use Rattle.fam_storm.specs.Storm.{storm}
 use Rattle.fam_words.specs.declared.wanted.Order.{Order}
 use Rattle.fam_top.specs.Calls.{command_of, shot_of}
@@ -13,17 +12,17 @@ use Rattle.fam_top.proofs.top.run_order.Goals as goal
 -- a command of its own, on its host
 pub returns-in-Single-clause-ends : goal.returns-in-Single-clause-ends
 returns-in-Single-clause-ends g c =
-    let out : Outside = outside_of g.M.Media.size g.M.Media.image g.M.Media.faults c.args.media.now c.run_shot.new.media (changed g.S.Shelf.files g.S.Shelf.faults g.S.Shelf.shorts c.args.shelf.now c.run_shot.new.shelf) (sink_changed g.K.Sink.bytes g.K.Sink.faults c.args.out.now c.run_shot.new.out) in
+    let out : Outside = outside_of g.M.Media.size g.M.Media.state c.args.media.now c.run_shot.new.media (change g.S.Shelf.state c.args.shelf.now c.run_shot.new.shelf) (change g.K.Sink.state c.args.out.now c.run_shot.new.out) in
     subst (λ (o : Order). TopEnds script_events storm (Some (command_of c.args.me c.args.random o)) out c.run_shot.result) (sym c.in-Single.is)
     (subst (λ (host : List ℕ). TopEnds script_events storm (Some (Single host (shot_of c.args.random c.in-Single.shot))) out c.run_shot.result) c.host_or.ensures c.run_shot.ensures.ends)
 
 pub returns-in-Script-clause-ends : goal.returns-in-Script-clause-ends
 returns-in-Script-clause-ends g c =
-    let out : Outside = outside_of g.M.Media.size g.M.Media.image g.M.Media.faults c.args.media.now c.run_script_file.new.media (changed g.S.Shelf.files g.S.Shelf.faults g.S.Shelf.shorts c.args.shelf.now c.run_script_file.new.shelf) (sink_changed g.K.Sink.bytes g.K.Sink.faults c.args.out.now c.run_script_file.new.out) in
+    let out : Outside = outside_of g.M.Media.size g.M.Media.state c.args.media.now c.run_script_file.new.media (change g.S.Shelf.state c.args.shelf.now c.run_script_file.new.shelf) (change g.K.Sink.state c.args.out.now c.run_script_file.new.out) in
     subst (λ (o : Order). TopEnds script_events storm (Some (command_of c.args.me c.args.random o)) out c.run_script_file.result) (sym c.in-Script.is)
     (subst (λ (name : List ℕ). TopEnds script_events storm (Some (Script name)) out c.run_script_file.result) c.text.ensures c.run_script_file.ensures.ends)
 
 pub returns-in-Storm-clause-ends : goal.returns-in-Storm-clause-ends
 returns-in-Storm-clause-ends g c =
-    let out : Outside = outside_of g.M.Media.size g.M.Media.image g.M.Media.faults c.args.media.now c.run_storm.new.media (changed g.S.Shelf.files g.S.Shelf.faults g.S.Shelf.shorts c.args.shelf.now c.run_storm.new.shelf) (sink_changed g.K.Sink.bytes g.K.Sink.faults c.args.out.now c.run_storm.new.out) in
+    let out : Outside = outside_of g.M.Media.size g.M.Media.state c.args.media.now c.run_storm.new.media (change g.S.Shelf.state c.args.shelf.now c.run_storm.new.shelf) (change g.K.Sink.state c.args.out.now c.run_storm.new.out) in
     subst (λ (o : Order). TopEnds script_events storm (Some (command_of c.args.me c.args.random o)) out c.run_storm.result) (sym c.in-Storm.is) c.run_storm.ensures.ends

@@ -15,7 +15,7 @@ returns-in_err-run_up-clause-runs g c =
     let new = c.run_up.new in
     let p = err_from_is_err_and c.from_residual.result c.from_residual.ensures.1 in
     rw p.1
-    (subst (λ (o : Option Task). Runs c.args.at size (task_standing g.M.Media.image g.M.Media.faults c.args.media.now view o h.cache notes) (task_standing g.M.Media.image g.M.Media.faults new.media view (Some new.task) new.cache (notes_view new.journal.items))) (sym c.in-Some.is)
+    (subst (λ (o : Option Task). Runs c.args.at size (task_standing g.M.Media.state c.args.media.now view o h.cache notes) (task_standing g.M.Media.state new.media view (Some new.task) new.cache (notes_view new.journal.items))) (sym c.in-Some.is)
     (c.in_err-run_up.ensures.runs view))
 
 pub returns-clause-runs : goal.returns-clause-runs
@@ -25,6 +25,6 @@ returns-clause-runs g c =
     let size = g.M.Media.size c.args.media.now in
     let notes = notes_view c.args.journal.now.items in
     let new = c.run_up.new in
-    subst (λ (o : Option Task). Ends c.args.at size (task_standing g.M.Media.image g.M.Media.faults c.args.media.now view o h.cache notes) (task_standing g.M.Media.image g.M.Media.faults new.media view c.retire.new.task new.cache (notes_view new.journal.items))) (sym c.in-Some.is)
-    (subst (λ (o : Option Task). Ends c.args.at size (task_standing g.M.Media.image g.M.Media.faults c.args.media.now view (Some c.in-Some.task) h.cache notes) (task_standing g.M.Media.image g.M.Media.faults new.media view o new.cache (notes_view new.journal.items))) (sym c.retire.ensures)
+    subst (λ (o : Option Task). Ends c.args.at size (task_standing g.M.Media.state c.args.media.now view o h.cache notes) (task_standing g.M.Media.state new.media view c.retire.new.task new.cache (notes_view new.journal.items))) (sym c.in-Some.is)
+    (subst (λ (o : Option Task). Ends c.args.at size (task_standing g.M.Media.state c.args.media.now view (Some c.in-Some.task) h.cache notes) (task_standing g.M.Media.state new.media view o new.cache (notes_view new.journal.items))) (sym c.retire.ensures)
     (c.in_ok-run_up.ensures.runs view))

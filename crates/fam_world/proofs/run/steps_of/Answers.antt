@@ -13,6 +13,6 @@ returns-clause-says g c =
     let notes = notes_view c.args.journal.now.items in
     let notes_now = notes_view c.run_most-moved.new.journal.items in
     let new = c.run_most-moved.new in
-    subst (λ (o : Option Task). HostStepsSay c.args.at size c.args.most (task_standing g.M.Media.image g.M.Media.faults c.args.media.now view o h.cache notes) (task_standing g.M.Media.image g.M.Media.faults new.media view c.leave.new.task new.cache notes_now) c.run_most-moved.result) (sym c.in-Some.is)
-    (subst (λ (o : Option Task). HostStepsSay c.args.at size c.args.most (task_standing g.M.Media.image g.M.Media.faults c.args.media.now view (Some c.in-Some.task) h.cache notes) (task_standing g.M.Media.image g.M.Media.faults new.media view o new.cache notes_now) c.run_most-moved.result) (sym c.leave.ensures)
+    subst (λ (o : Option Task). HostStepsSay c.args.at size c.args.most (task_standing g.M.Media.state c.args.media.now view o h.cache notes) (task_standing g.M.Media.state new.media view c.leave.new.task new.cache notes_now) c.run_most-moved.result) (sym c.in-Some.is)
+    (subst (λ (o : Option Task). HostStepsSay c.args.at size c.args.most (task_standing g.M.Media.state c.args.media.now view (Some c.in-Some.task) h.cache notes) (task_standing g.M.Media.state new.media view o new.cache notes_now) c.run_most-moved.result) (sym c.leave.ensures)
     (c.run_most-moved.ensures.says view))

@@ -25,7 +25,7 @@ returns-then-is_err-clause-says g c = record {
   count = 0;
   within = c.requires.some;
   goes = subst (λ (w : WorldView). Iterated (WorldStep c.args.name.now (g.M.Media.size c.args.media.now) false)
-      (standing g.M.Media.image g.M.Media.faults c.args.media.now c.args.self.now) (standing g.M.Media.image g.M.Media.faults c.args.media.now w) 0)
+      (standing g.M.Media.state c.args.media.now c.args.self.now) (standing g.M.Media.state c.args.media.now w) 0)
       (sym (ap (λ (j : List Note). record { hosts = views c.self.inside.hosts.items; journal = j }) (ap notes_view c.make_room.ensures.same) ∙ c.self.view_is)) none;
 }
 
@@ -35,10 +35,10 @@ returns-in-Err-clause-says g c =
     let new : WorldView = world_view c.self.inside.hosts.items c.refused.new.journal.items in
     let size = g.M.Media.size c.args.media.now in
     let refused = c.in-Err.ensures.placed size old.journal in
-    subst (λ (w : WorldView). StepsSay c.args.name.now size c.args.most (standing g.M.Media.image g.M.Media.faults c.args.media.now w) (standing g.M.Media.image g.M.Media.faults c.args.media.now new) (Err c.refused.result)) c.self.view_is
-    (subst (λ (f : WorldFault). StepsSay c.args.name.now size c.args.most (standing g.M.Media.image g.M.Media.faults c.args.media.now old) (standing g.M.Media.image g.M.Media.faults c.args.media.now new) (Err f)) (sym c.refused.ensures.given)
-    (step_refused c.args.name.now size old new c.in-Err.cause (g.M.Media.image c.args.media.now) (g.M.Media.faults c.args.media.now) refused.first
-    (media_refused (call.Steps c.args.name.now) tt tt size (g.M.Media.image c.args.media.now) (g.M.Media.faults c.args.media.now) old new c.in-Err.cause (g.met.M.Media.modelled c.args.media.now) refused refl
+    subst (λ (w : WorldView). StepsSay c.args.name.now size c.args.most (standing g.M.Media.state c.args.media.now w) (standing g.M.Media.state c.args.media.now new) (Err c.refused.result)) c.self.view_is
+    (subst (λ (f : WorldFault). StepsSay c.args.name.now size c.args.most (standing g.M.Media.state c.args.media.now old) (standing g.M.Media.state c.args.media.now new) (Err f)) (sym c.refused.ensures.given)
+    (step_refused c.args.name.now size old new c.in-Err.cause (g.M.Media.state c.args.media.now).image (g.M.Media.state c.args.media.now).faults refused.first
+    (media_refused (call.Steps c.args.name.now) tt tt size (g.M.Media.state c.args.media.now).image (g.M.Media.state c.args.media.now).faults old new c.in-Err.cause (g.met.M.Media.modelled c.args.media.now) refused refl
     (c.refused.ensures.noted ∙ ap (λ (xs : List Kept). notes_view xs ++ Refused c.args.name.now c.in-Err.cause ∷ []) c.make_room.ensures.same))))
 
 pub returns-clause-says : goal.returns-clause-says
@@ -52,14 +52,14 @@ returns-clause-says g c =
     let at_is = slice_get_read items (length items) at x refl (omega (arith, c.in-Ok.ensures.within)) c.index_mut.ensures.value in
     let free = c.in-Ok.ensures.placed size old.journal in
     let new : WorldView = world_view (set items at y) c.steps_of.new.journal.items in
-    let said : StepsSay c.args.name.now size c.args.most (standing g.M.Media.image g.M.Media.faults c.args.media.now old) (standing g.M.Media.image g.M.Media.faults c.steps_of.new.media new) (told_of c.steps_of.result) =
+    let said : StepsSay c.args.name.now size c.args.most (standing g.M.Media.state c.args.media.now old) (standing g.M.Media.state c.steps_of.new.media new) (told_of c.steps_of.result) =
     steps_said c.args.name.now at size old (host_view x) free.number (map_at host_view items at x at_is) free.within c.args.most
-    (g.M.Media.image c.args.media.now) (g.M.Media.image c.steps_of.new.media) (g.M.Media.faults c.args.media.now) (g.M.Media.faults c.steps_of.new.media) new (host_view y)
+    (g.M.Media.state c.args.media.now).image (g.M.Media.state c.steps_of.new.media).image (g.M.Media.state c.args.media.now).faults (g.M.Media.state c.steps_of.new.media).faults new (host_view y)
     c.steps_of.result (map_set host_view (λ v. host_view y) items at y x at_is refl)
-    (subst (λ (j : List Note). HostStepsSay at size c.args.most (host_standing g.M.Media.image g.M.Media.faults c.args.media.now (host_view x) j)
-    (host_standing g.M.Media.image g.M.Media.faults c.steps_of.new.media (host_view y) (notes_view c.steps_of.new.journal.items)) c.steps_of.result) (ap notes_view c.make_room.ensures.same) c.steps_of.ensures.says) in
-    let told : StepsSay c.args.name.now size c.args.most (standing g.M.Media.image g.M.Media.faults c.args.media.now old) (standing g.M.Media.image g.M.Media.faults c.steps_of.new.media new) c.or_fault.result = subst (StepsSay c.args.name.now size c.args.most (standing g.M.Media.image g.M.Media.faults c.args.media.now old) (standing g.M.Media.image g.M.Media.faults c.steps_of.new.media new)) (sym c.or_fault.ensures) said in
-    subst (λ (w : WorldView). StepsSay c.args.name.now size c.args.most (standing g.M.Media.image g.M.Media.faults c.args.media.now w) (standing g.M.Media.image g.M.Media.faults c.steps_of.new.media new) c.or_fault.result) c.self.view_is told
+    (subst (λ (j : List Note). HostStepsSay at size c.args.most (host_standing g.M.Media.state c.args.media.now (host_view x) j)
+    (host_standing g.M.Media.state c.steps_of.new.media (host_view y) (notes_view c.steps_of.new.journal.items)) c.steps_of.result) (ap notes_view c.make_room.ensures.same) c.steps_of.ensures.says) in
+    let told : StepsSay c.args.name.now size c.args.most (standing g.M.Media.state c.args.media.now old) (standing g.M.Media.state c.steps_of.new.media new) c.or_fault.result = subst (StepsSay c.args.name.now size c.args.most (standing g.M.Media.state c.args.media.now old) (standing g.M.Media.state c.steps_of.new.media new)) (sym c.or_fault.ensures) said in
+    subst (λ (w : WorldView). StepsSay c.args.name.now size c.args.most (standing g.M.Media.state c.args.media.now w) (standing g.M.Media.state c.steps_of.new.media new) c.or_fault.result) c.self.view_is told
 
 pub returns-clause-undone : goal.returns-clause-undone
 returns-clause-undone g c = λ one full.

@@ -13,7 +13,7 @@ use Rattle.fam_world.proofs.world.moves.shift.Goals as goal
 
 pub returns-in-Evict-clause-failed : goal.returns-in-Evict-clause-failed
 returns-in-Evict-clause-failed g c is =
-    subst (λ (w : OwnMove). IfModelled (g.M.Media.image c.args.media.now) (λ image. FailsTo c.args.line.0 (λ through memory. failed_move (move_of w) through memory (cell_at c.args.cache.now.lines c.args.line.0)) image (g.M.Media.image c.evict.new.media))) (sym c.in-Evict.is)
+    subst (λ (w : OwnMove). IfModelled (g.M.Media.state c.args.media.now).image (λ image. FailsTo c.args.line.0 (λ through memory. failed_move (move_of w) through memory (cell_at c.args.cache.now.lines c.args.line.0)) image (g.M.Media.state c.evict.new.media).image)) (sym c.in-Evict.is)
     (failed_sent c.evict.result _ c.evict.ensures.torn (subst (λ r. IsErrOf r cache_fault.Failed) c.sends.ensures is))
 
 pub returns-in-Evict-clause-held : goal.returns-in-Evict-clause-held
@@ -25,7 +25,7 @@ returns-in-Leak-clause-moved g c =
 
 pub returns-in-Leak-clause-failed : goal.returns-in-Leak-clause-failed
 returns-in-Leak-clause-failed g c is =
-    subst (λ (w : OwnMove). IfModelled (g.M.Media.image c.args.media.now) (λ image. FailsTo c.args.line.0 (λ through memory. failed_move (move_of w) through memory (cell_at c.args.cache.now.lines c.args.line.0)) image (g.M.Media.image c.leak.new.media))) (sym c.in-Leak.is)
+    subst (λ (w : OwnMove). IfModelled (g.M.Media.state c.args.media.now).image (λ image. FailsTo c.args.line.0 (λ through memory. failed_move (move_of w) through memory (cell_at c.args.cache.now.lines c.args.line.0)) image (g.M.Media.state c.leak.new.media).image)) (sym c.in-Leak.is)
     (failed_sent c.leak.result _ c.leak.ensures.torn (subst (λ r. IsErrOf r cache_fault.Failed) c.sends-in-Leak.ensures is))
 
 pub returns-in-Fetch-clause-moved : goal.returns-in-Fetch-clause-moved

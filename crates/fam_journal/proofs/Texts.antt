@@ -1,3 +1,0 @@
--- Texts of journals and listings.
-pub mod Names
-pub mod Printed

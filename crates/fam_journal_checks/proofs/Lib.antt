@@ -1,2 +1,0 @@
-mod Decided
-mod Dropped

@@ -1,2 +1,0 @@
-pub mod Scene
-pub mod Wrong

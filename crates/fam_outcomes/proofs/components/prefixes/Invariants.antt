@@ -1,7 +1,0 @@
-use Rattle.std.proofs.Common.{◌≡◌, ◌++◌, take, drop}
-use Rattle.fam_journal.specs.Programs.{prefixes_behind, path_prefixes}
-use Rattle.fam_outcomes.proofs.components.prefixes.Given as goal
-
-abbrev pub invariant-bytes : goal.invariant-bytes
-invariant-bytes l =
-    l.paths.items ++ prefixes_behind (take l.i l.bytes) (drop l.i l.bytes) ≡ path_prefixes l.bytes

@@ -1,9 +1,0 @@
-use Rattle.std.proofs.Common.{◌∙◌, codes}
-use Rattle.std.proofs.lemmas.Result.{IfOk-weaker}
-use Rattle.fam_journal.specs.Texts.{number}
-use Rattle.fam_outcomes.proofs.StormTexts.{five}
-use Rattle.fam_outcomes.proofs.texts.storm_front.Goals as goal
-
-pub returns : goal.returns
-returns c =
-    IfOk-weaker c.format.result _ _ (λ s e. e ∙ five (codes "storm") (number c.args.seed) (number c.args.size) (codes " events") (number c.args.events)) c.format.ensures.ok

@@ -1,0 +1,4 @@
+-- Scripts: their lines, their files, and what their runs put.
+pub mod Puts
+pub mod Lines
+pub mod Files

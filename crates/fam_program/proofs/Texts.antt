@@ -1,0 +1,4 @@
+-- What is put, piece by piece.
+pub mod Pieces
+pub mod Names
+pub mod NumberLines

@@ -1,0 +1,7 @@
+mod Decided
+mod Dropped
+pub mod Formed
+pub mod Chained
+pub mod Stepping
+pub mod Making
+pub mod Cutting

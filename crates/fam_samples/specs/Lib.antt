@@ -1,0 +1,4 @@
+pub mod Scene
+pub mod Wrong
+pub mod Caller
+pub mod Bodies

@@ -1,0 +1,34 @@
+//! The form of notes, whatever memory holds: notes of a mkdir that go through, and some that don't.
+
+ghost use Rattle.std.specs.Prelude.{ℕ, ⊤, [], ◌∷◌, codes, false};
+ghost use Rattle.fam_base.specs.declared.cmd.Cmd.TheVariants.{Logplay};
+ghost use Rattle.fam_journal.specs.Calls.{Makes};
+ghost use Rattle.fam_journal.specs.EventForms.{StartForm};
+ghost use Rattle.fam_journal.specs.Forms.{ActsForm, CompletesForm, OperationsForm};
+ghost use Rattle.fam_journal.specs.Notes.{Answered, Found, Made, Mark, Replied, Start, Writes};
+ghost use Rattle.fam_journal.specs.declared.event.Ask.TheVariants.{Plain};
+ghost use Rattle.fam_samples.specs.Scene.{folder, form_m, idle_m, mkdir, no_tree, params, running_m, uuid, x, y};
+ghost use Rattle.fam_machine.specs.Mkfs.{asked};
+ghost use Rattle.fam_rules.specs.Reply.{Appended, Played};
+
+/// The notes of a mkdir that is run, and of a mkfs.
+pub fn forms_of_notes()
+    ensures done { (lines : ℕ) → StartForm CompletesForm (codes "m") (Plain (mkdir x)) lines idle_m
+        (Start 0 (mkdir x) ∷ Mark 0 ∷ Found 0 0 ∷ Writes 0 0 (folder x) ∷ Answered 0 (Replied (Appended 0)) ∷ []) }
+    ensures without_start { (lines : ℕ) → StartForm CompletesForm (codes "m") (Plain (mkdir x)) lines idle_m
+        (Mark 0 ∷ Found 0 0 ∷ Writes 0 0 (folder x) ∷ Answered 0 (Replied (Appended 0)) ∷ []) → ⊥ }
+    ensures without_mark { OperationsForm 0 (running_m (mkdir x)) (Found 0 0 ∷ []) → ⊥ }
+    ensures second_answer { OperationsForm 0 (running_m (mkdir x))
+        (Mark 0 ∷ Found 0 0 ∷ Writes 0 0 (folder x) ∷ Answered 0 (Replied (Appended 0)) ∷ Answered 0 (Replied (Appended 0)) ∷ []) → ⊥ }
+    ensures listing { OperationsForm 0 (running_m (mkdir x)) (Mark 0 ∷ Answered 0 (Replied (Played 0 no_tree)) ∷ []) → ⊥ }
+    ensures of_a_logplay { OperationsForm 0 (running_m Logplay) (Mark 0 ∷ Answered 0 (Replied (Played 0 no_tree)) ∷ []) }
+    ensures other_host { OperationsForm 0 (running_m (mkdir x)) (Mark 1 ∷ []) → ⊥ }
+    ensures other_entry { OperationsForm 0 (running_m (mkdir x)) (Mark 0 ∷ Found 0 0 ∷ Writes 0 0 (folder y) ∷ []) → ⊥ }
+    ensures other_number { OperationsForm 0 (running_m (mkdir x)) (Mark 0 ∷ Found 0 0 ∷ Writes 0 1 (folder x) ∷ []) → ⊥ }
+
+    // A mkfs makes just what was asked for.
+    ensures made { (lines : ℕ) → ActsForm (Makes (codes "m") (uuid 255) 4096 65536 false) 0 form_m lines idle_m
+        (Made 0 (asked 4096 65536 (uuid 255) form_m.uuid lines) ∷ []) }
+    ensures made_another { (lines : ℕ) → ActsForm (Makes (codes "m") (uuid 255) 8192 65536 false) 0 form_m lines idle_m
+        (Made 0 params ∷ []) → ⊥ }
+{}

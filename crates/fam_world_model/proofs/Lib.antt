@@ -1,5 +1,0 @@
-pub mod Formed
-pub mod Chained
-pub mod Stepping
-pub mod Making
-pub mod Cutting
