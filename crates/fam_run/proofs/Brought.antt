@@ -11,7 +11,7 @@ use Rattle.fam_machine.specs.Caches.{Cache, cell_at, with_cell}
 use Rattle.fam_machine.specs.OneLine.{brought, current, is_held, words_of}
 use Rattle.fam_machine.specs.Operations.{IsWithin, given, machine, operated}
 use Rattle.fam_machine.proofs.CacheLemmas.{cell_at-with_cell_same}
-use Rattle.fam_cache.specs.Operations.{LeavesCache, word_of}
+use Rattle.fam_cache.specs.Operations.{LeavesCache, LeavesFailed, word_of}
 use Rattle.fam_cache.proofs.Performed.{load_failed}
 use Rattle.fam_commands.specs.Task.{Task, op_of}
 use Rattle.fam_commands.specs.Turns.{Goes, turn_of}
@@ -33,7 +33,7 @@ module _ (line : LineNo) (t : Task) (modelled : Option Image) (old : Cache) (sou
     led = led;
     sound = sound;
     within = first_within;
-    copies = copies;
+    copies = subst (λ (o : Op). LeavesFailed o old new) (sym op) copies;
     failed = load_failed (op_of t) line 0 modelled shown old new op (λ held. absurd (let no : is_held Absent ≡ is_held (cell_at old line.0) = sym (ap is_held absent) in cc)) same copies;
     rose = rose;
     inside = inside;

@@ -1,4 +1,5 @@
 pub mod Operations
+pub mod Operated
 pub mod Left
 pub mod Running
 pub mod Held

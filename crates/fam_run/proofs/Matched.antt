@@ -1,5 +1,5 @@
 -- A line of a file that is compared is dropped and loaded whole: nine operations, by one read.
-use Rattle.std.proofs.Common.{ℕ, ◌≡◌, ◌<◌, List, Option, Some, None, refl, sym, ap, subst, ◌∙◌, arith}
+use Rattle.std.proofs.Common.{ℕ, ◌≡◌, ◌<◌, List, Option, Some, refl, sym, ap, subst, ◌∙◌, arith}
 use Rattle.std.specs.Prelude.{IfSome, slice_index}
 use Rattle.fam_base.specs.Image.{Image, IsNormal, eight, line_at}
 use Rattle.fam_base.specs.declared.line.LineNo.{LineNo}
@@ -15,30 +15,23 @@ use Rattle.fam_cache.specs.Operations.{word_of}
 use Rattle.fam_commands.specs.Task.{Task, op_of}
 use Rattle.fam_commands.specs.Turns.{turn_of}
 use Rattle.fam_media.specs.Outside.{IfModelled}
-use Rattle.fam_tasks.specs.declared.answer.Verified.{Verified}
-use Rattle.fam_tasks.specs.declared.answer.Verified.TheVariants as verified
+use Rattle.fam_tasks.specs.declared.answer.Turn.{Turn}
 use Rattle.fam_tasks.specs.Rest.{ComparesLine}
 use Rattle.fam_tasks.specs.Sound.{IsSound}
-use Rattle.fam_tasks.specs.Tells.{Tells, turn_by}
+use Rattle.fam_tasks.specs.Tells.{Tells}
 use Rattle.fam_run.specs.Held.{IsOfHeld, held_after}
 use Rattle.fam_run.specs.Led.{HasDone, IsQuiet, Led, more}
-use Rattle.fam_run.specs.Operation.{IsNoFault}
 use Rattle.fam_run.proofs.Held.{given_held, held_leaves, loads_held, machine_after}
 use Rattle.fam_run.proofs.Renewed.{led_dropped, renews, without}
+use Rattle.fam_run.proofs.Running.{no_fault}
 use Rattle.fam_run.proofs.Stored.{held_led}
 
 -- what holds of what is there
 pub of_some : (o : Option (List ℕ)) (words : List ℕ) (P : List ℕ → Type 0) → o ≡ Some words → IfSome o P → P words
 of_some o words P is holds = subst (λ (x : Option (List ℕ)). IfSome x P) is holds
 
--- no answer of a comparison is that the media failed
-compared_own : (ending : Option Verified) → IsNoFault (turn_by ending)
-compared_own None = λ line is. absurd cc
-compared_own (Some (verified.Same m)) = λ line is. absurd cc
-compared_own (Some (verified.Differs m offset found wanted)) = λ line is. absurd cc
-
 -- Its words are read.
-module _ (line : LineNo) (words : List ℕ) (t next : Task) (ending : Option Verified) (modelled : Option Image) (old : Cache) (normal : IsNormal modelled) (sound : IsSound t) (compares : ComparesLine line (eight words) t next ending) (clean : ¬ (IsDirty (cell_at old line.0))) (from : IfModelled modelled (λ image. eight words ≡ line_at image line.0)) where
+module _ (line : LineNo) (words : List ℕ) (t next : Task) (said : Turn) (modelled : Option Image) (old : Cache) (normal : IsNormal modelled) (sound : IsSound t) (compares : ComparesLine line (eight words) t next said) (clean : ¬ (IsDirty (cell_at old line.0))) (from : IfModelled modelled (λ image. eight words ≡ line_at image line.0)) where
   -- the copy is there
   abbrev full : Cache
   full = with_cell line.0 (Clean (eight words)) old
@@ -47,7 +40,7 @@ module _ (line : LineNo) (words : List ℕ) (t next : Task) (ending : Option Ver
   full_cell = cell_at-with_cell_same line.0 (Clean (eight words)) old
 
   begins : IsQuiet modelled compares.dropped (without line old) compares.begun full
-  begins = renews line t compares.dropped modelled old normal sound compares.drops clean compares.dropped_sound words compares.begun compares.turn from
+  begins = renews line t compares.dropped modelled old normal sound compares.drops clean compares.dropped_sound words compares.begun compares.begins from
 
   there : IsHeld (cell_at full line.0)
   there = subst IsHeld {x = Clean (eight words)} (sym full_cell) refl
@@ -71,7 +64,7 @@ module _ (line : LineNo) (words : List ℕ) (t next : Task) (ending : Option Ver
   after_last : (image : Image) → modelled ≡ Some image → operated (op_of compares.due) (machine image full) ≡ machine image full
   after_last image modelled_is = ap (λ (o : Op). operated o (machine image full)) compares.last ∙ machine_after (Load line 7) image full (subst IsNormal modelled_is normal) there
 
-  pub line_matched : (size before now : ℕ) (new : Cache) (shown : Option Image) → shown ≡ modelled → new ≡ full → HasDone (record { task = t; next = next; old = old; new = new; modelled = modelled; left = shown; size = size; before = before; now = now }) (turn_by ending)
+  pub line_matched : (size before now : ℕ) (new : Cache) (shown : Option Image) → shown ≡ modelled → new ≡ full → HasDone (record { task = t; next = next; old = old; new = new; modelled = modelled; left = shown; size = size; before = before; now = now }) said
   line_matched size before now new shown same copy = record {
     task = compares.due;
     held = full;
@@ -80,14 +73,14 @@ module _ (line : LineNo) (words : List ℕ) (t next : Task) (ending : Option Ver
     within = due_within;
     leaves = held_leaves (op_of compares.due) modelled full new of_held
         (copy ∙ sym (subst (λ (o : Op). held_after o full ≡ full) (sym compares.last) refl));
-    goes = subst (λ (c : Cache). Tells (turn_of compares.due (word_of (op_of compares.due) c)) (turn_by ending) next) (sym copy)
-        (subst (λ (w : Option ℕ). Tells (turn_of compares.due w) (turn_by ending) next) (sym last_word_is) compares.tells);
+    goes = subst (λ (c : Cache). Tells (turn_of compares.due (word_of (op_of compares.due) c)) said next) (sym copy)
+        (subst (λ (w : Option ℕ). Tells (turn_of compares.due w) said next) (sym last_word_is) compares.tells);
     turned = λ image is. record {
       is = record {
         image = same ∙ is ∙ sym (ap (λ m. Some m.image) (after_last image is));
         cache = copy ∙ sym (ap (λ m. m.cache) (after_last image is));
       };
-      tells = subst (λ (w : Option ℕ). Tells (turn_of compares.due w) (turn_by ending) next) (sym (given_held (op_of compares.due) image full of_held ∙ last_word_is)) compares.tells;
+      tells = subst (λ (w : Option ℕ). Tells (turn_of compares.due w) said next) (sym (given_held (op_of compares.due) image full of_held ∙ last_word_is)) compares.tells;
     };
-    own = compared_own ending;
+    own = no_fault (turn_of compares.due (Some (slice_index (eight words) 7))) said next compares.tells;
   }

@@ -1,13 +1,16 @@
 -- An append that has its places keeps them, and never wants memory.
-use Rattle.std.proofs.Common.{ℕ, ◌≡◌, ◌≢◌, ◌+◌, ◌<◌, ◌≤◌, Bool, true, false, cond, List, Option, None, refl, sym, ap, subst, inl, inr, arith}
+use Rattle.std.proofs.Common.{ℕ, ◌≡◌, ◌≢◌, ◌⊎◌, ◌+◌, ◌<◌, ◌≤◌, Bool, true, false, cond, List, Option, None, Result, Ok, Err, refl, sym, ap, subst, inl, inr, arith}
 use Rattle.std.specs.Prelude.{⊤, IfSome, nat_lt, slice_set, unwrap_or}
 use Rattle.std.proofs.lemmas.Bool.{cases_lt}
 use Rattle.fam_base.specs.Image.{Image}
 use Rattle.fam_cache.specs.Operations.{BringsNone, LeavesCache, word_of}
+use Rattle.fam_cache.specs.declared.fault.OperationFault.{OperationFault}
+use Rattle.fam_cache.specs.declared.fault.OperationFault.TheVariants as fault
 use Rattle.fam_cache.specs.States.{CacheState}
 use Rattle.fam_cache.proofs.Performed.{held_after_store}
 use Rattle.fam_commands.specs.declared.phase.Phase.{Phase}
 use Rattle.fam_commands.specs.declared.phase.Phase.TheVariants as at
+use Rattle.fam_commands.specs.FirstStore.{IsFirstStore}
 use Rattle.fam_commands.specs.Task.{Task, line_of, op_at, op_of}
 use Rattle.fam_commands.specs.Stands.{task_after}
 use Rattle.fam_commands.specs.Turns as turns
@@ -27,7 +30,7 @@ use Rattle.fam_tasks.specs.declared.answer.Turn.TheVariants.{Go}
 use Rattle.fam_tasks.specs.Rest as rest
 use Rattle.fam_tasks.specs.Rest.{IsFileLineDue, Stores, StoresFileLine}
 use Rattle.fam_tasks.specs.Tells.{Tells}
-use Rattle.fam_run.specs.Places.{HasPlaces, HasPlacesAt, IsReadyAt}
+use Rattle.fam_run.specs.Places.{HasPlaces, HasPlacesAt, IsReadyAt, PlacesKept, PlacesMade}
 use Rattle.fam_run.specs.Operation.{ended}
 use Rattle.fam_run.specs.Held as run
 use Rattle.fam_run.specs.Held.{HeldRun, IsOfHeld, held_after}
@@ -389,3 +392,10 @@ says_go (turns.Ends reply) turn next going on tells = absurd (no_reply turn repl
 pub quiet : (t next : Task) (word : Option ℕ) (turn : Turn) (cache : CacheState) → Tells (turn_of t word) turn next → ended turn ≡ None → HasPlaces t cache → turn ≡ Go
 quiet t next word turn cache tells on has =
     says_go (turn_of t word) turn next (going_at t.phase t (unwrap_or word 0) cache has) on tells
+
+-- Places that are made before operations are kept by them.
+
+pub made : (t next : Task) (cache mid after : CacheState) (r : Result Turn OperationFault) → (IsFirstStore t ⊎ HasPlaces t cache → HasPlaces t mid) → PlacesKept t mid next after r → PlacesMade t cache next after r
+made t next cache mid after (Ok turn) ready kept = λ on has. kept on (ready has)
+made t next cache mid after (Err (fault.MediaFault line)) ready kept = tt
+made t next cache mid after (Err fault.OutOfMemory) ready kept = λ has. kept (ready (inr has))

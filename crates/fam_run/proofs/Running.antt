@@ -1,5 +1,5 @@
 -- A task goes on behind an operation.
-use Rattle.std.proofs.Common.{◌≡◌, Some, None, sym, ap}
+use Rattle.std.proofs.Common.{◌≡◌, Some, None, sym, ap, subst}
 use Rattle.std.specs.Prelude.{unwrap_or}
 use Rattle.fam_rules.specs.Reply.{Reply}
 use Rattle.fam_machine.specs.Caches.{Cache}
@@ -12,7 +12,7 @@ use Rattle.fam_tasks.specs.declared.answer.Turn.{Turn}
 use Rattle.fam_tasks.specs.declared.answer.Turn.TheVariants.{Go, Note, Done}
 use Rattle.fam_tasks.specs.Sound.{IsSound}
 use Rattle.fam_tasks.specs.Tells.{Replies, Tells}
-use Rattle.fam_run.specs.Operation.{GoesOn, KeepsLines, ended}
+use Rattle.fam_run.specs.Operation.{GoesOn, IsNoFault, KeepsLines, ended}
 use Rattle.fam_run.proofs.Left.{Kept, kept, left}
 
 pub no_reply : (turn : Turn) (reply : Reply) → ended turn ≡ None → Replies turn reply → ⊥
@@ -27,6 +27,14 @@ goes_on (Marks t) turn new on tells = ap Some (sym tells.1)
 goes_on (Finds n t) turn new on tells = ap Some (sym tells.1)
 goes_on (Writes seq e t) turn new on tells = ap Some (sym tells.1)
 goes_on (Ends reply) turn new on tells = absurd (no_reply turn reply on tells)
+
+-- no task answers that the media failed
+pub no_fault : (wanted : turns.Turn) (turn : Turn) (new : Task) → Tells wanted turn new → IsNoFault turn
+no_fault (Goes t) turn new tells = λ line is. absurd (let on = tells.0 in cc)
+no_fault (Marks t) turn new tells = λ line is. absurd (let on = tells.0 in cc)
+no_fault (Finds n t) turn new tells = λ line is. absurd (let on = tells.0 in cc)
+no_fault (Writes seq e t) turn new tells = λ line is. absurd (let on = tells.0 in cc)
+no_fault (Ends reply) turn new tells = λ line is. absurd (let none = subst (λ (x : Turn). Replies x reply) is tells in cc)
 
 -- a task that goes on comes nearer to its end
 pub kept_on : (held : Cache) (task new : Task) (turn : Turn) → ended turn ≡ None → IsSound task → GoesOn task held turn new → Kept (left task) task new

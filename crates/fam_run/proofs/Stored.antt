@@ -13,7 +13,7 @@ use Rattle.fam_machine.specs.OneLine.{IsHeld, failed_send, sent, stored, words_o
 use Rattle.fam_machine.specs.Operations.{IsWithin, given, machine, operated}
 use Rattle.fam_machine.proofs.CacheLemmas.{cell_at-with_cell_same, with_cell_own, with_cell_twice}
 use Rattle.fam_cache.specs.Effects.{FailsTo, FromMemory}
-use Rattle.fam_cache.specs.Operations.{LeavesCache, rest_stored, word_of}
+use Rattle.fam_cache.specs.Operations.{LeavesCache, LeavesFailed, rest_stored, word_of}
 use Rattle.fam_cache.proofs.MemoryLemmas.{from_any, torn_send}
 use Rattle.fam_cache.proofs.Performed.{invalidate_failed}
 use Rattle.fam_commands.specs.Task.{Task, op_of}
@@ -156,7 +156,7 @@ module _ (line : LineNo) (words : List ℕ) (t u : Task) (modelled : Option Imag
       led = led;
       sound = u_sound;
       within = u_within;
-      copies = same;
+      copies = subst (λ (o : Op). LeavesFailed o full new) (sym stores.sends) same;
       failed =
           invalidate_failed (op_of u) line modelled shown full new stores.sends
           (subst (λ (c : Cell). IfModelled modelled (λ image. FailsTo line.0 (λ through memory. failed_send through memory c) image shown)) (sym full_cell)

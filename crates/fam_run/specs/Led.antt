@@ -1,18 +1,20 @@
 -- Operations of a task that are done as a whole: those that leave memory's image, and one behind them.
-use Rattle.std.specs.Prelude.{◌≡◌, ◌<◌, Option}
+use Rattle.std.specs.Prelude.{◌<◌, Option, Result, Ok, Err}
 use Rattle.fam_base.specs.Image.{Image}
 use Rattle.fam_base.specs.declared.line.LineNo.{LineNo}
 use Rattle.fam_machine.specs.Caches.{Cache}
 use Rattle.fam_machine.specs.Cuts.{HasFailed}
 use Rattle.fam_machine.specs.Operations.{IsWithin, machine}
-use Rattle.fam_cache.specs.Operations.{LeavesCache}
+use Rattle.fam_cache.specs.declared.fault.OperationFault.{OperationFault}
+use Rattle.fam_cache.specs.declared.fault.OperationFault.TheVariants as fault
+use Rattle.fam_cache.specs.Operations.{LeavesCache, LeavesFailed}
 use Rattle.fam_commands.specs.Task.{Task, op_of}
 use Rattle.fam_media.specs.Causes.{Rose}
 use Rattle.fam_media.specs.Outside.{IfModelled}
 use Rattle.fam_tasks.specs.declared.answer.Turn.{Turn}
 use Rattle.fam_tasks.specs.declared.answer.Turn.TheVariants.{Go}
 use Rattle.fam_tasks.specs.Sound.{IsSound}
-use Rattle.fam_run.specs.Operation.{GoesOn, HasTurned, IsNoFault}
+use Rattle.fam_run.specs.Operation.{GoesOn, HasTurned, IsNoFault, IsUndone}
 use Rattle.fam_run.specs.Step.{Around}
 
 -- one operation that leaves memory's image, behind which the task just goes on
@@ -47,7 +49,13 @@ pub record HasBrokenOff (a : Around) (line : LineNo) : Type 0 where
   pub led : Led a.modelled a.task a.old task held
   pub sound : IsSound task
   pub within : IsWithin task.lines (op_of task)
-  pub copies : a.new ≡ held
+  pub copies : LeavesFailed (op_of task) held a.new
   pub failed : IfModelled a.modelled (λ image. HasFailed (op_of task) (machine image held) line a.left a.new)
   pub rose : Rose a.before a.now
   pub inside : line.0 < a.size
+
+-- what came of operations that are done as a whole
+abbrev pub Advanced : Around → Result Turn OperationFault → Type 0
+Advanced a (Ok turn) = HasDone a turn
+Advanced a (Err (fault.MediaFault line)) = HasBrokenOff a line
+Advanced a (Err fault.OutOfMemory) = IsUndone a

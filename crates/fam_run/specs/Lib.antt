@@ -1,8 +1,6 @@
-pub mod Operation
-pub mod Looked
 pub mod Step
+pub mod Operation
 pub mod Held
 pub mod Led
-pub mod Whole
 pub mod Room
 pub mod Places

@@ -1,13 +1,19 @@
 -- How many places of its host's cache an append wants behind its first store: one for a line of its file at a time, eight
 -- for its slot and one for the gate.
-use Rattle.std.specs.Prelude.{ℕ, ⊤, ◌≡◌, ◌+◌, ◌<◌, ◌≤◌}
+use Rattle.std.specs.Prelude.{ℕ, ⊤, ◌≡◌, ◌⊎◌, ◌+◌, ◌<◌, ◌≤◌, Result, Ok, Err, None}
+use Rattle.fam_cache.specs.declared.fault.OperationFault.{OperationFault}
+use Rattle.fam_cache.specs.declared.fault.OperationFault.TheVariants as fault
 use Rattle.fam_cache.specs.States.{CacheState}
+use Rattle.fam_commands.specs.FirstStore.{IsFirstStore}
 use Rattle.fam_commands.specs.declared.phase.Phase.{Phase}
 use Rattle.fam_commands.specs.declared.phase.Phase.TheVariants as at
 use Rattle.fam_commands.specs.Task.{Task, line_of}
 use Rattle.fam_format.specs.Layout.{slot_line}
 use Rattle.fam_machine.specs.Caches.{cell_at}
 use Rattle.fam_machine.specs.OneLine.{IsHeld}
+use Rattle.fam_tasks.specs.declared.answer.Turn.{Turn}
+use Rattle.fam_tasks.specs.declared.answer.Turn.TheVariants.{Go}
+use Rattle.fam_run.specs.Operation.{ended}
 
 -- the cache holds a line, once its first word was stored
 abbrev pub IsHeldFrom : ℕ → ℕ → CacheState → Type 0
@@ -38,6 +44,7 @@ HasPlacesAt at.FenceSlot t cache = 1 ≤ cache.spare
 HasPlacesAt at.SendGate t cache = ⊤
 HasPlacesAt at.FenceGate t cache = ⊤
 
+-- and so of a task
 abbrev pub HasPlaces : Task → CacheState → Type 0
 HasPlaces t cache = HasPlacesAt t.phase t cache
 
@@ -60,9 +67,30 @@ IsReadyAt at.FenceSlot t cache = ⊤
 IsReadyAt at.SendGate t cache = ⊤
 IsReadyAt at.FenceGate t cache = ⊤
 
+-- and so of a task
 abbrev pub IsReady : Task → CacheState → Type 0
 IsReady t cache = IsReadyAt t.phase t cache
 
--- what has places has them behind an operation too
+-- what has places has them behind operations too
 abbrev pub KeepsPlaces : Task → CacheState → Task → CacheState → Type 0
 KeepsPlaces t cache next after = HasPlaces t cache → HasPlaces next after
+
+-- an append that has its places just goes on behind operations, or answers, and has them then too; and it finds memory
+abbrev pub PlacesKept : Task → CacheState → Task → CacheState → Result Turn OperationFault → Type 0
+PlacesKept t cache next after (Ok turn) = ended turn ≡ None → HasPlaces t cache → (turn ≡ Go) × HasPlaces next after
+PlacesKept t cache next after (Err (fault.MediaFault line)) = ⊤
+PlacesKept t cache next after (Err fault.OutOfMemory) = ¬ (HasPlaces t cache)
+
+-- behind one operation it has them where a line of its file that comes next is held
+abbrev pub ReadyPlacesKept : Task → CacheState → Task → CacheState → Result Turn OperationFault → Type 0
+ReadyPlacesKept t cache next after (Ok turn) =
+    ended turn ≡ None → HasPlaces t cache → (turn ≡ Go) × (IsReady t cache → HasPlaces next after)
+ReadyPlacesKept t cache next after (Err (fault.MediaFault line)) = ⊤
+ReadyPlacesKept t cache next after (Err fault.OutOfMemory) = ¬ (HasPlaces t cache)
+
+-- and one that comes to its first store has them behind operations before which they are made
+abbrev pub PlacesMade : Task → CacheState → Task → CacheState → Result Turn OperationFault → Type 0
+PlacesMade t cache next after (Ok turn) =
+    ended turn ≡ None → IsFirstStore t ⊎ HasPlaces t cache → (turn ≡ Go) × HasPlaces next after
+PlacesMade t cache next after (Err (fault.MediaFault line)) = ⊤
+PlacesMade t cache next after (Err fault.OutOfMemory) = ¬ (HasPlaces t cache)

@@ -1,12 +1,13 @@
 -- For which operations memory is wanted.
-use Rattle.std.specs.Prelude.{ℕ, List, ◌≡◌, ◌⊎◌, None}
+use Rattle.std.specs.Prelude.{ℕ, List, ◌≡◌, ◌⊎◌, ◌<◌, None}
 use Rattle.fam_base.specs.declared.line.LineNo.{LineNo}
 use Rattle.fam_cache.specs.States.{CacheState}
 use Rattle.fam_machine.specs.declared.op.Op.{Op}
 use Rattle.fam_machine.specs.declared.op.Op.TheVariants.{Load, Store, WriteBack, Fence, Invalidate, Digest}
 use Rattle.fam_machine.specs.Caches.{cell_at}
 use Rattle.fam_machine.specs.OneLine.{IsHeld}
-use Rattle.fam_commands.specs.Task.{Task}
+use Rattle.fam_commands.specs.FirstStore.{IsFirstStore}
+use Rattle.fam_commands.specs.Task.{Task, op_of}
 use Rattle.fam_commands.specs.Turns.{turn_of}
 use Rattle.fam_tasks.specs.Rest.{IsComparedLine, IsFileLineDue}
 use Rattle.fam_tasks.specs.SlotLines.{IsSlotLine}
@@ -35,3 +36,12 @@ pub record LacksRoomWhole (task : Task) (cache : CacheState) : Type 0 where
   pub words : List ℕ
   pub due : IsWholeDue task line words
   pub full : IsFull line cache
+
+-- for an append that comes to its first store: there are too few places for its lines
+pub record LacksAppendRoom (task : Task) (cache : CacheState) : Type 0 where
+  pub first : IsFirstStore task
+  pub few : cache.spare < 10
+
+-- for what comes next, one operation, or those that are done as a whole
+abbrev pub WantsRoom : Task → CacheState → Type 0
+WantsRoom task cache = LacksRoom (op_of task) task cache ⊎ (LacksRoomWhole task cache ⊎ LacksAppendRoom task cache)

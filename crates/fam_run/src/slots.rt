@@ -6,16 +6,18 @@ ghost use Rattle.fam_commands.specs.declared.phase.Part.TheVariants as part;
 ghost use Rattle.fam_commands.specs.declared.phase.Phase.TheVariants as at;
 ghost use Rattle.fam_media.specs.Causes.{IsSteady};
 ghost use Rattle.fam_cache.specs.Faults.{IfMediaFault};
+ghost use Rattle.fam_cache.specs.Operations.{SendsWithin};
+ghost use Rattle.fam_commands.specs.Task.{op_of};
 ghost use Rattle.fam_tasks.specs.declared.answer.Turn.TheVariants.{Go};
-ghost use Rattle.fam_run.specs.Led.{HasBrokenOff, HasDone};
-ghost use Rattle.fam_run.specs.Places.{HasPlaces};
+ghost use Rattle.fam_run.specs.Led.{Advanced, HasBrokenOff, HasDone};
 ghost use Rattle.fam_run.specs.Step.{around};
-ghost use Rattle.fam_run.specs.Room.{LacksRoomWhole};
+ghost use Rattle.fam_run.specs.Room.{LacksRoomWhole, WantsRoom};
 
+use crate::operation::operate;
 use fam_cache::{CacheFault, HostCache, OperationFault};
 use fam_format::SLOT_LINES;
 use fam_media::Media;
-use fam_tasks::{SlotDue, Task};
+use fam_tasks::{SlotDue, Task, Turn};
 
 /// Drops the line of a slot that the task drops next, and loads all its words, and says whether it did. Where the host's
 /// copy is dirty, nothing is done.
@@ -47,8 +49,6 @@ fn load_line<M: Media>(
     ensures unchanged { IsErrOf result OperationFault.OutOfMemory → cache.new ≡ cache.old }
     ensures unmoved { IsErrOf result OperationFault.OutOfMemory → task.new ≡ task.old }
     ensures want { IsErrOf result OperationFault.OutOfMemory → LacksRoomWhole task.old cache.old }
-    ensures places { IfOk result (λ loaded. loaded ≡ true → ¬ (HasPlaces task.old cache.old)) }
-    ensures enough { IsErrOf result OperationFault.OutOfMemory → ¬ (HasPlaces task.old cache.old) }
     ensures image { (M.state media.new).image ≡ (M.state media.old).image }
     ensures steady { IsSteady M.size M.state media.old media.new }
 {
@@ -69,9 +69,9 @@ fn load_line<M: Media>(
     }
 }
 
-/// Drops and loads the lines of a slot from the one on that the task drops next, up to the slot's last one, and says
-/// whether it loaded any. It stops at a line of which the host's copy is dirty, and behind the first one also where the
-/// cache has no room for the next.
+/// Drops and loads the lines of a slot from the one on that the task drops next, up to the slot's last one. It stops at a
+/// line of which the host's copy is dirty, and behind the first one also where the cache has no room for the next. Where
+/// the host's copy of the first one is dirty, one operation is done.
 ///
 /// `MediaFault` names the line: those before it were loaded, it was dropped, and the task stands before its first word.
 /// `OutOfMemory` comes where the cache has no room for the first of them, and then nothing was done.
@@ -80,31 +80,22 @@ pub(crate) fn load_slot<M: Media>(
     cache: &mut HostCache,
     task: &mut Task,
     media: &mut M,
-) -> Result<bool, OperationFault>
+    due: SlotDue,
+) -> Result<Turn, OperationFault>
     requires lines { task.old.lines ≡ M.size media.old }
+    requires asked { SendsWithin (op_of task.old) (M.size media.old) cache.old.lines }
+    requires due { task.old.phase ≡ at.Drop (part.Slot due.slot) due.line }
+    requires below { due.line < SLOT_LINES }
 
-    ensures loaded { IfOk result (λ loaded. loaded ≡ true → HasDone
-        (around M.size M.state task.old task.new cache.old cache.new media.old media.new) Go) }
-    ensures failed { IfErr result (λ fault. IfMediaFault fault (HasBrokenOff
-        (around M.size M.state task.old task.new cache.old cache.new media.old media.new))) }
-
-    ensures other { IfOk result (λ loaded. loaded ≡ false → media.new ≡ media.old) }
-    ensures other_cache { IfOk result (λ loaded. loaded ≡ false → cache.new ≡ cache.old) }
-    ensures other_task { IfOk result (λ loaded. loaded ≡ false → task.new ≡ task.old) }
-
-    ensures undone { IsErrOf result OperationFault.OutOfMemory → media.new ≡ media.old }
-    ensures unchanged { IsErrOf result OperationFault.OutOfMemory → cache.new ≡ cache.old }
-    ensures unmoved { IsErrOf result OperationFault.OutOfMemory → task.new ≡ task.old }
-    ensures want { IsErrOf result OperationFault.OutOfMemory → LacksRoomWhole task.old cache.old }
-    ensures places { IfOk result (λ loaded. loaded ≡ true → ¬ (HasPlaces task.old cache.old)) }
-    ensures enough { IsErrOf result OperationFault.OutOfMemory → ¬ (HasPlaces task.old cache.old) }
+    ensures advanced { Advanced
+        (around M.size M.state task.old task.new cache.old cache.new media.old media.new) result }
+    ensures want { IsErrOf result OperationFault.OutOfMemory → WantsRoom task.old cache.old }
     ensures steady { IsSteady M.size M.state media.old media.new }
 {
-    let Some(due) = task.slot_due() else {
-        return Ok(false);
-    };
-    if !load_line(cache, task, media, due)? {
-        return Ok(false);
+    match load_line(cache, task, media, due) {
+        Ok(true) => {}
+        Ok(false) => return operate(cache, task, media),
+        Err(fault) => return Err(fault),
     }
     'lines: for line in due.line + 1..SLOT_LINES {
         let next = SlotDue {
@@ -113,11 +104,12 @@ pub(crate) fn load_slot<M: Media>(
         };
         match load_line(cache, task, media, next) {
             Ok(true) => {}
-            Ok(false) | Err(OperationFault::OutOfMemory) => return Ok(true),
+            Ok(false) => return Ok(Turn::Go),
+            Err(OperationFault::OutOfMemory) => return Ok(Turn::Go),
             Err(OperationFault::MediaFault(failed)) => return Err(OperationFault::MediaFault(
                 failed,
             )),
         }
     }
-    Ok(true)
+    Ok(Turn::Go)
 }

@@ -1,62 +1,53 @@
 //! A line of the new file that is stored whole: its eight stores and its sending by one write, with no read before it. Of
 //! a creat and a copy nearly all operations are such.
 
-ghost use Rattle.std.specs.Prelude.{◌≡◌, IfErr, IfOk, IsErrOf, false, true};
+ghost use Rattle.std.specs.Prelude.{◌≡◌, IsErrOf};
 ghost use Rattle.fam_media.specs.Causes.{IsSteady};
-ghost use Rattle.fam_cache.specs.Faults.{IfMediaFault};
-ghost use Rattle.fam_tasks.specs.declared.answer.Turn.TheVariants.{Go};
-ghost use Rattle.fam_run.specs.Led.{HasBrokenOff, HasDone};
-ghost use Rattle.fam_run.specs.Places.{HasPlaces, IsReady, KeepsPlaces};
+ghost use Rattle.fam_cache.specs.Operations.{SendsWithin};
+ghost use Rattle.fam_commands.specs.declared.phase.Phase.TheVariants as at;
+ghost use Rattle.fam_commands.specs.Task.{op_of};
+ghost use Rattle.fam_run.specs.Led.{Advanced};
+ghost use Rattle.fam_run.specs.Places.{PlacesKept};
+ghost use Rattle.fam_run.specs.Room.{WantsRoom};
 ghost use Rattle.fam_run.specs.Step.{around};
-ghost use Rattle.fam_run.specs.Room.{LacksRoomWhole};
 
+use crate::operation::operate;
 use fam_cache::{CacheFault, HostCache, OperationFault};
 use fam_media::Media;
-use fam_tasks::Task;
+use fam_tasks::{Task, Turn};
 
-/// Stores all words of the line of the new file that the task stores next, and sends the line, and says whether it did.
-/// Where no line begins with the next operation, or the cache holds the line, nothing is done.
+/// Stores all words of a line of the new file, of which the task stores word 0 next, and sends the line. Where the cache
+/// holds the line, one operation is done.
 ///
 /// `MediaFault` names the line: its words are stored and not sent, and the task stands before the sending. `OutOfMemory`
 /// comes where the cache has no room for one more line, and then nothing was done.
 #[inline(always)]
-pub(crate) fn store_next<M: Media>(
+pub(crate) fn store_line<M: Media>(
     cache: &mut HostCache,
     task: &mut Task,
     media: &mut M,
-) -> Result<bool, OperationFault>
+    number: u64,
+) -> Result<Turn, OperationFault>
     requires lines { task.old.lines ≡ M.size media.old }
+    requires asked { SendsWithin (op_of task.old) (M.size media.old) cache.old.lines }
+    requires due { task.old.phase ≡ at.StoreData number 0 }
 
-    ensures stored { IfOk result (λ stored. stored ≡ true → HasDone
-        (around M.size M.state task.old task.new cache.old cache.new media.old media.new) Go) }
-    ensures failed { IfErr result (λ fault. IfMediaFault fault (HasBrokenOff
-        (around M.size M.state task.old task.new cache.old cache.new media.old media.new))) }
-
-    ensures other { IfOk result (λ stored. stored ≡ false → media.new ≡ media.old) }
-    ensures other_cache { IfOk result (λ stored. stored ≡ false → cache.new ≡ cache.old) }
-    ensures other_task { IfOk result (λ stored. stored ≡ false → task.new ≡ task.old) }
-
-    ensures undone { IsErrOf result OperationFault.OutOfMemory → media.new ≡ media.old }
-    ensures unchanged { IsErrOf result OperationFault.OutOfMemory → cache.new ≡ cache.old }
-    ensures want { IsErrOf result OperationFault.OutOfMemory → LacksRoomWhole task.old cache.old }
-    ensures places { IfOk result (λ stored. stored ≡ true → KeepsPlaces task.old cache.old task.new cache.new) }
-    ensures ready { IfOk result (λ stored. stored ≡ false → IsReady task.old cache.old) }
-    ensures enough { IsErrOf result OperationFault.OutOfMemory → ¬ (HasPlaces task.old cache.old) }
-    ensures unmoved { IsErrOf result OperationFault.OutOfMemory → task.new ≡ task.old }
+    ensures advanced { Advanced
+        (around M.size M.state task.old task.new cache.old cache.new media.old media.new) result }
+    ensures want { IsErrOf result OperationFault.OutOfMemory → WantsRoom task.old cache.old }
+    ensures places { PlacesKept task.old cache.old task.new cache.new result }
     ensures steady { IsSteady M.size M.state media.old media.new }
 {
     task.is_sound();
-    let Some(due) = task.line_stored() else {
-        return Ok(false);
-    };
+    let due = task.line_due(number);
     match cache.put_line(media, due.0, &due.1) {
         Ok(true) => {
             task.store_line(due.0, &due.1);
             task.is_sound();
             task.read_on(None);
-            Ok(true)
+            Ok(Turn::Go)
         }
-        Ok(false) => Ok(false),
+        Ok(false) => operate(cache, task, media),
         Err(CacheFault::Failed) => {
             task.store_line(due.0, &due.1);
             task.is_sound();

@@ -10,10 +10,10 @@ use Rattle.fam_commands.specs.declared.phase.Phase.{Phase}
 use Rattle.fam_commands.specs.declared.phase.Phase.TheVariants as at
 use Rattle.fam_commands.specs.Task.{Task, op_at, part_line}
 use Rattle.fam_commands.specs.Turns.{Goes, file_turn, turn_of, with_word}
-use Rattle.fam_tasks.specs.declared.answer.Verified.{Verified}
+use Rattle.fam_tasks.specs.declared.answer.Turn.{Turn}
 use Rattle.fam_tasks.specs.Rest.{ComparesLine, DropsLine, IsComparedLine, Taken}
 use Rattle.fam_tasks.specs.Sound.{IsSound, IsSoundAt, IsWantedLine}
-use Rattle.fam_tasks.specs.Tells.{Tells, turn_by}
+use Rattle.fam_tasks.specs.Tells.{Tells}
 use Rattle.fam_tasks.proofs.FileLines.{same_proper, verify_kept}
 use Rattle.fam_tasks.proofs.FileTurns.{no_words}
 use Rattle.fam_tasks.proofs.Phases.{same_gate}
@@ -130,17 +130,17 @@ module _ (line : LineNo) (words : List ℕ) (j : ℕ) (t : Task) (sound : IsSoun
   }
 
   -- and all loads
-  pub line_compared : (found : List ℕ) (next : Task) (ending : Option Verified) → found ≡ eight words → ((p : Phase) → Tells (file_turn t.cmd (record t { phase = p; words = found }) j) (turn_by ending) next) → ComparesLine line words t next ending
-  line_compared found next ending same tells = record {
+  pub line_compared : (found : List ℕ) (next : Task) (said : Turn) → found ≡ eight words → ((p : Phase) → Tells (file_turn t.cmd (record t { phase = p; words = found }) j) said next) → ComparesLine line words t next said
+  line_compared found next said same tells = record {
     dropped = dropped j t;
     drops = line_dropped;
     dropped_sound = drop_sound t j phase sound;
     begun = first;
-    turn = word_turn_goes (dropped j t) j 0 words (omega arith) refl;
+    begins = word_turn_goes (dropped j t) j 0 words (omega arith) refl;
     due = due;
     loads = six_taken line words File j first due reads.taken;
     due_sound = reads.sound;
     due_lines = refl;
     last = ap (λ (l : ℕ). Load (line_no l) 7) (sym is);
-    tells = subst (λ (u : Task). Tells (file_turn t.cmd u j) (turn_by ending) next) (sym (all_read found same)) (tells (at.Word File j 7));
+    tells = subst (λ (u : Task). Tells (file_turn t.cmd u j) said next) (sym (all_read found same)) (tells (at.Word File j 7));
   }

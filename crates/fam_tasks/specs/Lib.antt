@@ -4,8 +4,8 @@ pub mod Contents
 pub mod ContentsHeld
 pub mod Survey
 pub mod Tells
-pub mod Begins
 pub mod Rest
+pub mod Due
 pub mod Sound
 pub mod Model
 pub mod Held

@@ -14,8 +14,8 @@ use Rattle.fam_commands.specs.Task.{Task, data_words, line_of, op_of, part_line}
 use Rattle.fam_commands.specs.Turns.{Goes, turn_of}
 use Rattle.fam_commands.specs.Classes.{IsVerify}
 use Rattle.fam_tasks.specs.Sound.{IsSound}
-use Rattle.fam_tasks.specs.declared.answer.Verified.{Verified}
-use Rattle.fam_tasks.specs.Tells.{Tells, is_reading, turn_by}
+use Rattle.fam_tasks.specs.declared.answer.Turn.{Turn}
+use Rattle.fam_tasks.specs.Tells.{Tells, is_reading}
 
 -- word 1 of this line of a part is loaded next
 pub record IsRest (line : LineNo) (t : Task) : Type 0 where
@@ -106,22 +106,22 @@ pub record DropsLine (line : LineNo) (t next : Task) : Type 0 where
   pub loads : op_of next ≡ Load line 0
   pub lines : next.lines ≡ t.lines
 
--- the first task drops the line and loads its words, which are these: the last task is what the last one leaves, and
--- ends with this answer, if with any
-pub record ComparesLine (line : LineNo) (words : List ℕ) (t next : Task) (ending : Option Verified) : Type 0 where
+-- the first task drops the line and loads its words, which are these: the last task is what the last one leaves, with
+-- this turn
+pub record ComparesLine (line : LineNo) (words : List ℕ) (t next : Task) (turn : Turn) : Type 0 where
   pub dropped : Task
   pub drops : DropsLine line t dropped
   pub dropped_sound : IsSound dropped
   -- behind the first word
   pub begun : Task
-  pub turn : turn_of dropped (Some (slice_index words 0)) ≡ Goes begun
+  pub begins : turn_of dropped (Some (slice_index words 0)) ≡ Goes begun
   -- before the last one
   pub due : Task
   pub loads : Loads line words begun due 6
   pub due_sound : IsSound due
   pub due_lines : due.lines ≡ t.lines
   pub last : op_of due ≡ Load line last_word
-  pub tells : Tells (turn_of due (Some (slice_index words last_word))) (turn_by ending) next
+  pub tells : Tells (turn_of due (Some (slice_index words last_word))) turn next
 
 -- so many words were stored, and the next one comes next, in this phase
 pub record Stored (line : LineNo) (words : List ℕ) (phase_at : ℕ → Phase) (t now : Task) (n : ℕ) : Type 0 where

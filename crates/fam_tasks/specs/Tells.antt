@@ -16,8 +16,6 @@ use Rattle.fam_commands.specs.Turns as turns
 use Rattle.fam_commands.specs.Classes.{IsVerify}
 use Rattle.fam_tasks.specs.declared.answer.Answer.{Answer}
 use Rattle.fam_tasks.specs.declared.answer.Answer.TheVariants as answer
-use Rattle.fam_tasks.specs.declared.answer.Verified.{Verified}
-use Rattle.fam_tasks.specs.declared.answer.Verified.TheVariants as verified
 use Rattle.fam_tasks.specs.declared.answer.Turn.{Turn}
 use Rattle.fam_tasks.specs.declared.answer.Turn.TheVariants.{Go, Note, Done}
 use Rattle.fam_tasks.specs.declared.answer.TaskNote.TheVariants.{Mark, Found, Writes}
@@ -85,22 +83,6 @@ is_reading at.StoreGate = true
 is_reading at.FenceSlot = false
 is_reading at.SendGate = false
 is_reading at.FenceGate = false
-
--- the answer of a file that was compared to its end
-abbrev pub answer_by : Verified → Answer
-answer_by (verified.Same m) = answer.Same m
-answer_by (verified.Differs m offset found wanted) = answer.Differs m offset found wanted
-
--- the turn of a task that ends with this answer, or just goes on
-abbrev pub turn_by : Option Verified → Turn
-turn_by None = Go
-turn_by (Some ended) = Done (answer_by ended)
-
--- the next operation loads the last word of a line of a file that is compared
-pub record IsCompared (t : Task) : Type 0 where
-  pub j : ℕ
-  pub phase : t.phase ≡ at.Word part.File j last_word
-  pub verify : IsVerify t.cmd
 
 -- the turn of a task that ends with slot i for this reason, or just goes on
 abbrev pub slot_turn_by : ℕ → Option Reason → Turn

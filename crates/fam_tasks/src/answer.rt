@@ -1,8 +1,5 @@
 //! What a task says: notes on its way, and its answer.
 
-ghost use Rattle.std.specs.Prelude.{◌≡◌};
-ghost use Rattle.fam_tasks.specs.Tells.{answer_by};
-
 use crate::byte_text::ByteText;
 use fam_base::{Entry, Kind, LineNo};
 use fam_format::{LogField, Reason, SuperField};
@@ -119,43 +116,4 @@ pub enum Answer {
     },
     /// The media failed at this line. A task doesn't know of it, and never answers so itself.
     MediaFault(LineNo),
-}
-
-/// How a file ends that is compared line by line. It takes far less room than an answer.
-#[derive(Clone, Copy)]
-pub enum Verified {
-    /// The file has the bytes that it is compared with.
-    Same {
-        m: u64,
-    },
-    /// At this offset, the first that differs, the file has the byte `found`, and what it is compared with has
-    /// `wanted`.
-    Differs {
-        m: u64,
-        offset: u64,
-        found: u8,
-        wanted: u8,
-    },
-}
-
-impl Verified {
-    /// The answer that says so.
-    pub fn answer(self) -> Answer
-        ensures { result ≡ answer_by self }
-    {
-        match self {
-            Verified::Same { m } => Answer::Same { m },
-            Verified::Differs {
-                m,
-                offset,
-                found,
-                wanted,
-            } => Answer::Differs {
-                m,
-                offset,
-                found,
-                wanted,
-            },
-        }
-    }
 }

@@ -16,8 +16,8 @@ mod survey;
 mod task;
 mod wanted;
 
-pub use answer::{Answer, TaskNote, Turn, Verified};
+pub use answer::{Answer, TaskNote, Turn};
 pub use byte_text::ByteText;
 pub use fam_machine::Op;
 pub use fam_replay::Replica;
-pub use task::{SlotDue, Task};
+pub use task::{Due, SlotDue, Task};

@@ -1,6 +1,6 @@
 //! A task: a command, its phase, and what it has read. Its turns stand in the files of `task/`.
 
-ghost use Rattle.std.specs.Prelude.{ℕ, ◌≡◌, ◌≢◌, ◌≤◌, ◌<◌, nat_lt, if◌then◌else◌, true, false, None, IfOk, IfSome, OnErr};
+ghost use Rattle.std.specs.Prelude.{ℕ, ◌≡◌, ◌≢◌, ◌≤◌, ◌<◌, nat_lt, if◌then◌else◌, true, false, None, IfOk, OnErr};
 ghost use Rattle.fam_base.specs.Commands.{IsSoundCmd};
 ghost use Rattle.fam_base.specs.declared.line.LineNo.{LineNo};
 ghost use Rattle.fam_format.specs.Layout.{least_lines};
@@ -17,9 +17,9 @@ ghost use Rattle.fam_tasks.specs.Survey.{ShowWants};
 ghost use Rattle.fam_tasks.specs.Sound.{most_lines, HasSuper, IsFileLine, IsLine, IsSound, IsWantedLine};
 ghost use Rattle.fam_tasks.specs.Tells.{Tells, WantsMemory, is_digest, is_reading};
 
-mod begins;
 mod decide;
 mod digests;
+mod due;
 mod file_loads;
 mod loads;
 mod rest;
@@ -30,6 +30,7 @@ use crate::answer::{Answer, Turn};
 use crate::buffer::Buffer;
 use crate::contents::Contents;
 use crate::wanted::first_line;
+pub use due::Due;
 use fam_base::{Cmd, Content, Entry, LineNo, OutOfMemory, Params};
 use fam_commands::{Part, Phase};
 use fam_content::file_line;
@@ -188,11 +189,14 @@ impl Task {
         ensures turn { Tells (turn_of self.old word) result self.new }
         ensures own { (line : LineNo) → result ≢ Done (MediaFault line) }
     {
+        if self.reads_on() {
+            self.read_on(word);
+            return Turn::Go;
+        }
         let word = word.unwrap_or(0);
         match self.phase {
             Phase::DropMagic => self.drop_magic(),
             Phase::Magic => self.load_magic(word),
-            Phase::Drop { part, line } => self.drop_line(part, line),
             Phase::Word {
                 part,
                 line,
@@ -200,22 +204,24 @@ impl Task {
             } => self.load_word(part, line, k, word),
             Phase::DropGate => self.mark(),
             Phase::Gate => self.load_gate(word),
-            Phase::Check { .. } | Phase::Decide => unreachable!(),
-            Phase::StoreData { line, word: k } => self.store_data(line, k),
-            Phase::SendData { line } => self.send_data(line),
-            Phase::StoreSlot { line, word: k } => self.store_slot(line, k),
-            Phase::SendSlot { line } => self.send_slot(line),
             Phase::FenceSlot => self.fence_slot(),
-            Phase::StoreGate => self.store_gate(),
             Phase::SendGate => self.send_gate(),
             Phase::FenceGate => Turn::Done(Answer::Ok(self.gate)),
+            Phase::Drop { .. }
+            | Phase::Check { .. }
+            | Phase::Decide
+            | Phase::StoreData { .. }
+            | Phase::SendData { .. }
+            | Phase::StoreSlot { .. }
+            | Phase::SendSlot { .. }
+            | Phase::StoreGate => unreachable!(),
         }
     }
 
     /// Whether the task just goes on once the next operation is done, among the lines that it reads or writes, whatever
     /// the operation gives.
     #[inline(always)]
-    pub fn reads_on(&self) -> bool
+    fn reads_on(&self) -> bool
         ensures { result ≡ is_reading self.now.phase }
     {
         match self.phase {
@@ -282,17 +288,6 @@ impl Task {
             | Phase::StoreGate
             | Phase::SendGate
             | Phase::FenceGate => unreachable!(),
-        }
-    }
-
-    /// The slot whose words the next operation looks at, if it does.
-    #[inline(always)]
-    pub fn checked(&self) -> Option<u64>
-        ensures { IfSome result (λ slot. self.now.phase ≡ at.Check slot) }
-    {
-        match self.phase {
-            Phase::Check { slot } => Some(slot),
-            _ => None,
         }
     }
 

@@ -1,6 +1,6 @@
 -- So many operations of a host's task, one behind another, are steps of the world.
 use Rattle.std.proofs.Common.{◌≡◌, ℕ, suc, ◌+◌, ◌<◌, List, length, map, Bool, true, false, Option, Some, None, Result, Ok, Err, refl, ap, ap₂, sym, subst, ◌∙◌, arith, append-nil}
-use Rattle.std.specs.Prelude.{is_some, not, slice_get}
+use Rattle.std.specs.Prelude.{IsErrOf, is_some, not, slice_get}
 use Rattle.fam_base.specs.Image.{Image, IsNormal}
 use Rattle.fam_base.specs.declared.line.OutOfMemory.{OutOfMemory}
 use Rattle.fam_machine.specs.Caches.{Cache}
@@ -10,43 +10,29 @@ use Rattle.fam_tasks.specs.declared.answer.Turn.TheVariants.{Go}
 use Rattle.fam_run.specs.Held as run
 use Rattle.fam_run.specs.Held.{HeldRun}
 use Rattle.fam_run.proofs.Held.{held_goes, held_leaves, held_lines, held_turned}
-use Rattle.fam_run.proofs.Running.{kept_on}
+use Rattle.fam_run.specs.Step.{Around as Passed}
+use Rattle.fam_run.proofs.Running.{lines_kept}
 use Rattle.fam_journal.specs.declared.refusal.Refusal.TheVariants as why
 use Rattle.fam_journal.specs.ByWorld.{number_in, refusal_in, shown_host, shown_task}
 use Rattle.fam_journal.specs.Calls as call
 use Rattle.fam_journal.specs.Calls.{is_busy_host, when}
-use Rattle.fam_journal.specs.CallRecords.{TaskFits, heading}
+use Rattle.fam_journal.specs.CallRecords.{StepCall, heading}
 use Rattle.fam_journal.specs.Members.{changed_at}
 use Rattle.fam_journal.specs.Notes.{Note}
 use Rattle.fam_journal.specs.View.{HostView, WorldView}
 use Rattle.fam_journal.proofs.Calls.Members.{changed_alike, changed_at_member}
-use Rattle.fam_world.specs.Counted.{HostStanding, HostStep, HostStepsSay, Iterated, StepsSay, WorldStanding, WorldStep, none, more}
-use Rattle.fam_world.specs.Steps.{IsStep}
-use Rattle.fam_world.specs.View.{host_view}
-use Rattle.fam_world.specs.declared.hosts.Host.{Host}
+use Rattle.fam_world.specs.Answers.{IfStepped}
+use Rattle.fam_world.specs.Counted.{Ends, HostStanding, HostStep, HostStepsSay, Iterated, Runs, StepsSay, WorldStanding, WorldStep, none, more, told_of}
+use Rattle.fam_world.specs.Finishes.{SoFar}
 use Rattle.fam_world.specs.declared.fault.Moved.{Moved}
 use Rattle.fam_world.specs.declared.fault.Moved.TheVariants as moved
 use Rattle.fam_world.specs.declared.fault.WorldFault.{WorldFault}
 use Rattle.fam_world.specs.declared.fault.WorldFault.TheVariants as fault
 use Rattle.fam_world.proofs.Deciding.{steps_first}
-use Rattle.fam_world.proofs.Finishing.{number_same}
-use Rattle.fam_world.proofs.HeldOn.{HeldHost}
-use Rattle.fam_world.proofs.LedOn.{host_held, put_own, put_twice}
-use Rattle.fam_world.proofs.Members.{length_kept, map_at, map_kept}
-use Rattle.fam_world.proofs.Saying.{step_done}
+use Rattle.fam_world.proofs.Finishing.{far_on, first_so_far, number_same}
+use Rattle.fam_world.proofs.Members.{length_kept, map_at, map_kept, put_own, put_twice}
 use Rattle.fam_world.proofs.Stepping.{step_call}
-
--- an operation of a host, as a call has it
-pub host_step : (at lines : ℕ) (a b : HostStanding) (t : Task) (over wanted : Bool) → over ≡ wanted → a.host.task ≡ Some t → IfModelled a.told (λ image. length image ≡ lines) → (j : List Note) → j ≡ a.notes → (n : ℕ) → n ≡ lines
-    → IsStep at t (record { old = a.host; new = b.host; before = j; after = b.notes; told = a.told; now = b.told; size = n; faults = a.faults; faults_now = b.faults }) over → HostStep at lines wanted a b
-host_step at lines a b t over wanted is runs modelled j j_is n n_is step = record {
-  task = t;
-  runs = runs;
-  modelled = modelled;
-  step = subst (λ (w : Bool). IsStep at t (record { old = a.host; new = b.host; before = a.notes; after = b.notes; told = a.told; now = b.told; size = lines; faults = a.faults; faults_now = b.faults }) w) is
-      (subst (λ (k : List Note). IsStep at t (record { old = a.host; new = b.host; before = k; after = b.notes; told = a.told; now = b.told; size = lines; faults = a.faults; faults_now = b.faults }) over) j_is
-      (subst (λ (m : ℕ). IsStep at t (record { old = a.host; new = b.host; before = j; after = b.notes; told = a.told; now = b.told; size = m; faults = a.faults; faults_now = b.faults }) over) n_is step));
-}
+use Rattle.fam_world.proofs.TaskSteps.{Reached, done_step, standing_at}
 
 -- some behind others
 pub iterated_both : {S : Type 0} (R : S → S → Type 0) (a b c : S) (n k : ℕ) → Iterated R a b n → Iterated R b c k → Iterated R a c (n + k)
@@ -57,48 +43,36 @@ iterated_both R a b c n _ first (more {b = mid} {n = k} before last) =
 
 -- Operations on copies of the host alone.
 
--- a host that runs this task on this cache
-abbrev pub held_standing : HostView → List Note → Option Image → ℕ → Task → Cache → HostStanding
-held_standing view notes told faults t held = record { host = host_held view t held; notes = notes; told = told; faults = faults }
-
 pub held_steps : (at lines : ℕ) (view : HostView) (notes : List Note) (told : Option Image) (faults : ℕ) → IsNormal told → IfModelled told (λ image. length image ≡ lines) → (t next : Task) (held after : Cache) {n : ℕ} → HeldRun t held next after n → t.lines ≡ lines
-    → Iterated (HostStep at lines false) (held_standing view notes told faults t held) (held_standing view notes told faults next after) n
+    → Iterated (HostStep at lines false) (standing_at view (Some t) held notes told faults) (standing_at view (Some next) after notes told faults) n
 held_steps at lines view notes told faults normal modelled t _ held _ run.none fits = none
 held_steps at lines view notes told faults normal modelled t next held after (run.more {mid = mid} {now = now} before sound within of is turn) fits =
     let goes = held_goes mid next now after of is turn in
-    more (held_steps at lines view notes told faults normal modelled t mid held now before fits) record {
-      task = mid;
-      runs = refl;
-      modelled = modelled;
-      step = step_done at Go (record { old = host_held view mid now; new = host_held view next after; before = notes; after = notes; told = told; now = told; size = lines; faults = faults; faults_now = faults }) false
-          mid (Some next) refl refl refl (sym (append-nil notes)) refl (omega arith) refl
-          (record {
-            within = within;
-            turned = held_turned mid next now after of is turn told normal;
-            cache = held_leaves (op_of mid) told now after of is;
-            goes = goes;
-            keeps = λ on. (kept_on after mid next Go refl sound goes).lines;
-          })
-          (held_lines t mid held now before ∙ fits);
-    }
+    let b : Passed = record { task = mid; next = next; old = now; new = after; modelled = told; left = told; size = lines; before = faults; now = faults } in
+    more (held_steps at lines view notes told faults normal modelled t mid held now before fits)
+    (done_step at lines view b Go notes notes
+    (record {
+      sound = sound;
+      within = within;
+      leaves = held_leaves (op_of mid) told now after of is;
+      goes = goes;
+      keeps = lines_kept after mid next Go sound goes;
+      turned = held_turned mid next now after of is turn told normal;
+      own = λ line is. absurd cc;
+    }) modelled (held_lines t mid held now before ∙ fits) (omega arith) (sym (append-nil notes)))
 
--- a host that a call leaves so
-pub held_on_steps : (at lines : ℕ) (x z : Host) (n : ℕ) (notes : List Note) (told : Option Image) (faults : ℕ) → IsNormal told → IfModelled told (λ image. length image ≡ lines) → HeldHost x z n → heading (host_view z) ≡ heading (host_view x) → TaskFits lines x.task
-    → Iterated (HostStep at lines false) (record { host = host_view x; notes = notes; told = told; faults = faults }) (record { host = host_view z; notes = notes; told = told; faults = faults }) n
-held_on_steps at lines x z n notes told faults normal modelled h same fits =
-    let was : host_held (host_view x) h.old x.cache.lines ≡ host_view x = ap (λ (o : Option Task). record (host_view x) { task = o }) (sym h.old_is) in
-    let now : host_view z ≡ host_held (host_view x) h.new z.cache.lines =
-    ap₂ (λ (p : List ℕ × List ℕ) (o : Option Task). record { name = p.0; uuid = p.1; cache = z.cache.lines; task = o }) same h.new_is in
-    subst (λ (v : HostView). Iterated (HostStep at lines false) (record { host = v; notes = notes; told = told; faults = faults }) (record { host = host_view z; notes = notes; told = told; faults = faults }) n) was
-    (subst (λ (v : HostView). Iterated (HostStep at lines false) (held_standing (host_view x) notes told faults h.old x.cache.lines) (record { host = v; notes = notes; told = told; faults = faults }) n) (sym now)
-    (held_steps at lines (host_view x) notes told faults normal modelled h.old h.new x.cache.lines z.cache.lines h.run (subst (TaskFits lines) h.old_is fits)))
+-- some behind others
+pub runs_both : (at lines : ℕ) (a b c : HostStanding) {n : ℕ} → Runs at lines a b → Iterated (HostStep at lines false) b c n → Runs at lines a c
+runs_both at lines a b c {n} first rest = record { count = first.count + n; goes = iterated_both (HostStep at lines false) a b c first.count n first.goes rest }
+
+pub runs_all : (at lines : ℕ) (a b c : HostStanding) → Runs at lines a b → Runs at lines b c → Runs at lines a c
+runs_all at lines a b c first rest = runs_both at lines a b c first rest.goes
+
+pub ends_behind : (at lines : ℕ) (view : HostView) (a b c : HostStanding) → Runs at lines a b → Reached at lines view b true c → Ends at lines a c
+ends_behind at lines view a b c first reached =
+    record { before = reached.before; runs = runs_both at lines a b reached.before first reached.runs.goes; last = reached.last }
 
 -- The host in its world.
-
--- what the world answers
-abbrev pub told_of : Result Moved OutOfMemory → Result Moved WorldFault
-told_of (Ok moved) = Ok moved
-told_of (Err full) = Err fault.OutOfMemory
 
 heading_kept : (at lines : ℕ) (a b : HostStanding) {n : ℕ} → Iterated (HostStep at lines false) a b n → heading b.host ≡ heading a.host
 heading_kept at lines a _ none = refl
@@ -154,3 +128,68 @@ module _ (name : List ℕ) (at lines : ℕ) (world : WorldView) (view : HostView
       subst (λ (hs : List HostView). StepsSay name lines most (record { world = record { hosts = hs; journal = world.journal }; told = told; faults = faults }) (record { world = new; told = told_now; faults = faults_now }) (told_of r)) (put_own at view world.hosts view_is)
       (subst (λ (hs : List HostView). StepsSay name lines most (with_host start) (record { world = record { hosts = hs; journal = new.journal }; told = told_now; faults = faults_now }) (told_of r)) (sym hosts)
       (said most start end r refl x))
+
+  -- Operations up to an answer.
+
+  far_step : (told : Option Image) (faults : ℕ) (over : Bool) (a b : HostStanding) → SoFar at lines world told faults (with_host a).world a.told a.faults → HostStep at lines over a b → SoFar at lines world told faults (with_host b).world b.told b.faults
+  far_step told faults over a b far x =
+      far_on name at lines world told faults (with_host a).world a.told a.faults far number a.host x.task (changed_at_member at (λ v. a.host) world.hosts view view_is) x.runs
+      (subst (λ (n : ℕ). at < n) (sym (length_kept (λ v. a.host) at world.hosts)) within) x.modelled
+      (with_host b).world b.host b.told b.faults (sym (put_twice at a.host b.host world.hosts)) over x.step
+
+  far_steps : (told : Option Image) (faults : ℕ) (a b : HostStanding) {n : ℕ} → SoFar at lines world told faults (with_host a).world a.told a.faults → Iterated (HostStep at lines false) a b n → SoFar at lines world told faults (with_host b).world b.told b.faults
+  far_steps told faults a _ far none = far
+  far_steps told faults a b far (more {b = mid} before last) = far_step told faults false mid b (far_steps told faults a mid far before) last
+
+  module _ (told told_now : Option Image) (faults faults_now : ℕ) (new : WorldView) (next : HostView) (hosts : new.hosts ≡ changed_at at (λ v. next) world.hosts) where
+    abbrev start : HostStanding
+    start = record { host = view; notes = world.journal; told = told; faults = faults }
+
+    abbrev end : HostStanding
+    end = record { host = next; notes = new.journal; told = told_now; faults = faults_now }
+
+    begun : SoFar at lines world told faults (with_host start).world told faults
+    begun =
+        subst (λ (hs : List HostView). SoFar at lines world told faults (record { hosts = hs; journal = world.journal }) told faults) (sym (put_own at view world.hosts view_is))
+        (first_so_far at lines world told faults)
+
+    here : SoFar at lines world told faults (with_host end).world told_now faults_now → SoFar at lines world told faults new told_now faults_now
+    here far = subst (λ (hs : List HostView). SoFar at lines world told faults (record { hosts = hs; journal = new.journal }) told_now faults_now) (sym hosts) far
+
+    pub far_runs : Runs at lines start end → SoFar at lines world told faults new told_now faults_now
+    far_runs x = here (far_steps told faults start end begun x.goes)
+
+    pub far_ends : Ends at lines start end → SoFar at lines world told faults new told_now faults_now
+    far_ends x = here (far_step told faults true x.before end (far_steps told faults start x.before begun x.runs.goes) x.last)
+
+-- One operation.
+
+none_done : {S : Type 0} (R : S → S → Type 0) (a b : S) {n : ℕ} → Iterated R a b n → n ≡ 0 → a ≡ b
+none_done R a _ none is = refl
+none_done R a b (more before last) is = absurd cc
+
+one_done : {S : Type 0} (R : S → S → Type 0) (a b : S) {n : ℕ} → Iterated R a b n → n ≡ 1 → R a b
+one_done R a _ none is = absurd cc
+one_done R a b (more {b = mid} {n = n} before last) is = subst (λ z. R z b) (sym (none_done R a mid before (omega (arith, is)))) last
+
+-- what is said of one step
+pub one_said : (name : List ℕ) (lines : ℕ) (a b : WorldStanding) (r : Result Moved WorldFault) → StepsSay name lines 1 a b r → IfStepped r (λ answered over. StepCall name lines answered over a.told b.told a.faults b.faults a.world b.world)
+one_said name lines a b (Ok moved.Going) x = (one_done (WorldStep name lines false) a b x refl).step
+one_said name lines a b (Ok moved.Answered) x =
+    let within = x.within in
+    (subst (λ (z : WorldStanding). WorldStep name lines true z b) (sym (none_done (WorldStep name lines false) a x.before x.goes (omega (arith, within)))) x.ends).step
+one_said name lines a b (Err (fault.Refused cause)) x = x
+one_said name lines a b (Err fault.OutOfMemory) x = tt
+
+pub none_said : (name : List ℕ) (lines : ℕ) (a b : WorldStanding) (r : Result Moved WorldFault) → StepsSay name lines 1 a b r → IsErrOf r fault.OutOfMemory → b ≡ a
+none_said name lines a b (Ok done) x is = absurd (let ok = is in cc)
+none_said name lines a b (Err (fault.Refused cause)) x is = absurd (let refused = is in cc)
+none_said name lines a b (Err fault.OutOfMemory) x is =
+    let within = x.within in
+    sym (none_done (WorldStep name lines false) a b x.goes (omega (arith, within)))
+
+-- want of memory, as the world answers it
+
+pub told_full : {T : Type 0} (r : Result T OutOfMemory) → IsErrOf (told_of r) fault.OutOfMemory → r ≡ Err record {}
+told_full (Ok done) is = absurd (let bad = is in cc)
+told_full (Err full) is = refl

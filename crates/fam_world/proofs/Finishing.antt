@@ -1,8 +1,7 @@
 -- Operations of a host's task one behind another, up to its answer, meet what the call promises.
 use Prim.Native.Nat.{zero, suc}
 use Rattle.std.proofs.Common.{◌≡◌, ◌⊎◌, ℕ, ◌<◌, ◌+◌, inl, inr, set, Bool, true, false, List, [], ◌∷◌, ◌++◌, length, map, Option, Some, None, refl, ap, ap₂, sym, ◌∙◌, subst, arith}
-use Rattle.std.specs.Prelude.{IfSome, slice_get, is_some, not, drop, unwrap_or, if◌then◌else◌}
-use Rattle.std.specs.List.{list_any}
+use Rattle.std.specs.Prelude.{slice_get, is_some, not, drop, if◌then◌else◌}
 use Rattle.std.proofs.lemmas.Option.{same_Some}
 use Rattle.std.proofs.lemmas.List.{append-nil, append_assoc, length-map}
 use Rattle.fam_base.specs.Image.{Image}
@@ -13,7 +12,7 @@ use Rattle.fam_journal.specs.declared.refusal.Refusal.{Refusal}
 use Rattle.fam_journal.specs.declared.refusal.Refusal.TheVariants as why
 use Rattle.fam_journal.specs.Calls as call
 use Rattle.fam_journal.specs.Calls.{Acts, ByRefusal, Does, DoesOperations, busy_at, has_name, is_busy_host, number_of, on_host, refusal_of, when}
-use Rattle.fam_journal.specs.CallRecords.{CallForm, CallKeeps, FinishOutOfMemory, MediaCall, IsUnstoredAt, StepCall, TaskFits, heading, refusal_noted}
+use Rattle.fam_journal.specs.CallRecords.{CallForm, CallKeeps, FinishOutOfMemory, MediaCall, IsUnstoredAt, StepCall, heading, refusal_noted}
 use Rattle.fam_journal.specs.Forms.{ActsForm, AtForm, FormByRefusal, FreeForm, HostForm, HostFormed, IsFormed, OfHostForm, OperationsForm, TaskForm, TaskFormed, forms_after, forms_behind, forms_of, runs_form}
 use Rattle.fam_journal.specs.Kept.{Held}
 use Rattle.fam_journal.specs.Machines.{HostState, Machines, Operation, TaskState}
@@ -28,15 +27,8 @@ use Rattle.fam_journal.proofs.Forms.Operations.{forms_both}
 use Rattle.fam_journal.proofs.Forms.Pairs.{pairs_at}
 use Rattle.fam_journal.proofs.Forms.Views.{number_formed, refusal_formed}
 use Rattle.fam_journal.proofs.Runs.Unique.{faults_both}
-use Rattle.fam_commands.specs.Stands.{note_of, task_after, turn_given}
+use Rattle.fam_commands.specs.Stands.{note_of, turn_given}
 use Rattle.fam_commands.specs.Table as row
-use Rattle.fam_commands.specs.Task.{op_of}
-use Rattle.fam_commands.specs.Turns.{Turn, Goes, Marks, Finds, Writes, Ends}
-use Rattle.fam_machine.specs.Cuts.{IsMachine}
-use Rattle.fam_machine.specs.Operations.{given_by, machine, operated}
-use Rattle.fam_tasks.specs.Sound.{IsSound}
-use Rattle.fam_run.proofs.Left.{kept, left}
-use Rattle.fam_journal.specs.Ends.{is_answer_note}
 use Rattle.fam_journal.specs.Machines.{notes_of}
 use Rattle.fam_journal.specs.Members.{changed_at}
 use Rattle.fam_journal.specs.ByWorld.{shown_task}
@@ -325,44 +317,6 @@ far_on name at lines old told_old faults_old cur told faults far number_old view
     more_so_far name at lines old told_old faults_old cur told faults far number free modelled over new told_new faults_new
     (step_call name at lines cur view t number free within view_is runs new next told told_new faults faults_new modelled hosts over step) step.notes step.joined (step_own at t _ over step)
 
--- it comes nearer to its end
-going : (z : Turn) (h : ℕ) → false ≡ list_any is_answer_note (notes_of h (note_of z)) → (n : Task) × (task_after z ≡ Some n)
-going (Goes n) h e = (n, refl)
-going (Marks n) h e = (n, refl)
-going (Finds k n) h e = (n, refl)
-going (Writes seq x n) h e = (n, refl)
-going (Ends reply) h e = absurd cc
-
-pub left_task : Option Task → ℕ
-left_task None = 0
-left_task (Some t) = left t
-
-pub left_host : Option HostView → ℕ
-left_host None = 0
-left_host (Some view) = left_task view.task
-
--- of a host that is there
-pub left_of : (view : HostView) → left_host (Some view) ≡ left_task view.task
-unfolding left_host
-left_of view = refl
-
--- of a host that runs this task
-pub left_running : (view : HostView) (t : Task) → view.task ≡ Some t → left_host (Some view) ≡ left t
-unfolding left_host left_task
-left_running view t is = ap left_task is
-
-pub step_falls : (at : ℕ) (t : Task) (a : Around) → IsStep at t a false → IfSome (Some t) IsSound → IfSome a.new.task IsSound → left_task a.new.task < left t
-unfolding left_task
-step_falls at t a x sound sound_on = by x.how
-  where
-    by : IsServed at t a x.notes false ⊎ IsCut at t a x.notes false → left_task a.new.task < left t
-    by (inr cut) = absurd (let bad = cut.over_is in cc)
-    by (inl served) =
-        let n = going (turn_given t served.word) at (served.over_is ∙ ap (λ (k : List Note). list_any is_answer_note k) served.notes_are) in
-        let task_is : a.new.task ≡ Some n.0 = served.task ∙ n.1 in
-        let falls = kept t n.0 (unwrap_or (given_by (op_of t) served.word) 0) sound.stands n.1 in
-        subst (λ (o : Option Task). left_task o < left t) (sym task_is) (falls.falls (subst (λ (o : Option Task). IfSome o IsSound) task_is sound_on).stands)
-
 -- Ends, from what the call knows.
 
 pub member_of : {A : Type 0} (xs : List A) (at : ℕ) → at < length xs → (x : A) × (slice_get xs at ≡ Some x)
@@ -390,88 +344,8 @@ module _ (name : List ℕ) (at lines : ℕ) (old : WorldView) (told_old : Option
       let before : busy_in at old ≡ true = busy_of (busy_in at old) (sym (steps_first old.hosts old.journal name lines (Some at) number) ∙ free) in
       finish_wants name at lines old told_old faults_old cur told faults far view.0 number view.1 (finishes_as_steps name old lines None free) modelled last.0 last.1 (runs last.0 last.1) before same
 
--- One turn of the loop.
-
-pub far_next : (name : List ℕ) (at lines : ℕ) (old : WorldView) (told_old : Option Image) (faults_old : ℕ) (cur : WorldView) (told : Option Image) (faults : ℕ) → SoFar at lines old told_old faults_old cur told faults → number_in name old ≡ Some at
-    → (view : HostView) (t : Task) → slice_get cur.hosts at ≡ Some view → view.task ≡ Some t → at < length cur.hosts → IfModelled told (λ image. length image ≡ lines)
-    → (new : WorldView) (next : HostView) (told_new : Option Image) (faults_new : ℕ) → new.hosts ≡ changed_at at (λ v. next) cur.hosts → (over : Bool) (j : List Note) → j ≡ cur.journal → (n : ℕ) → n ≡ lines
-    → IsStep at t (record { old = view; new = next; before = j; after = new.journal; told = told; now = told_new; size = n; faults = faults; faults_now = faults_new }) over
-    → SoFar at lines old told_old faults_old new told_new faults_new
-far_next name at lines old told_old faults_old cur told faults far number view t view_is runs within modelled new next told_new faults_new hosts over j j_is n n_is step =
-    far_on name at lines old told_old faults_old cur told faults far number view t view_is runs within modelled new next told_new faults_new hosts over
-    (subst (λ (k : List Note). IsStep at t (record { old = view; new = next; before = k; after = new.journal; told = told; now = told_new; size = lines; faults = faults; faults_now = faults_new }) over) j_is
-    (subst (λ (m : ℕ). IsStep at t (record { old = view; new = next; before = j; after = new.journal; told = told; now = told_new; size = m; faults = faults; faults_now = faults_new }) over) n_is step))
-
 -- a host that was written
 pub view_set : (items : List Host) (at : ℕ) (x y : Host) → slice_get items at ≡ Some x → slice_get (views (set items at y)) at ≡ Some (host_view y)
 view_set items at x y is =
     ap (λ (vs : List HostView). slice_get vs at) (map_set host_view (λ v. host_view y) items at y x is refl)
     ∙ changed_at_member at (λ v. host_view y) (views items) (host_view x) (map_at host_view items at x is)
-
-pub loop_falls : (items : List Host) (at : ℕ) (x y : Host) (t : Task) (a : Around) (over : Bool) → slice_get items at ≡ Some x → x.task ≡ Some t → a.new.task ≡ y.task → over ≡ false → IsStep at t a over → IfSome x.task IsSound → IfSome y.task IsSound
-    → left_host (slice_get (views (set items at y)) at) < left_host (slice_get (views items) at)
-unfolding left_host left_task
-loop_falls items at x y t a over is e same going step sound sound_on =
-    let fell : left_task a.new.task < left t = step_falls at t a (subst (λ (b : Bool). IsStep at t a b) going step) (subst (λ (o : Option Task). IfSome o IsSound) e sound) (subst (λ (o : Option Task). IfSome o IsSound) (sym same) sound_on) in
-    subst (λ (n : ℕ). n < left_host (slice_get (views items) at)) (ap left_task same ∙ ap left_host (sym (view_set items at x y is)))
-    (subst (λ (n : ℕ). left_task a.new.task < n) (sym (ap left_host (map_at host_view items at x is) ∙ ap left_task e)) fell)
-
--- behind an operation that isn't the last one the host has a task, on as many lines; behind the last one it has none
-going_task : (at : ℕ) (t : Task) (a : Around) → IsStep at t a false → (n : Task) × (a.new.task ≡ Some n) × (n.lines ≡ t.lines)
-going_task at t a x = by x.how
-  where
-    by : IsServed at t a x.notes false ⊎ IsCut at t a x.notes false → (n : Task) × (a.new.task ≡ Some n) × (n.lines ≡ t.lines)
-    by (inr cut) = absurd (let bad = cut.over_is in cc)
-    by (inl served) =
-        let n = going (turn_given t served.word) at (served.over_is ∙ ap (λ (k : List Note). list_any is_answer_note k) served.notes_are) in
-        let task_is : a.new.task ≡ Some n.0 = served.task ∙ n.1 in
-        (n.0, task_is, subst (TaskFits t.lines) task_is served.fits)
-
--- its task is the one that the turn goes on with
-pub going_after : (at : ℕ) (t : Task) (a : Around) (over : Bool) → over ≡ false → IsStep at t a over → (word : ℕ) × (n : Task) × (a.new.task ≡ Some n) × (task_after (turn_given t word) ≡ Some n)
-going_after at t a over is step = by x.how
-  where
-    x : IsStep at t a false
-    x = subst (λ (b : Bool). IsStep at t a b) is step
-
-    by : IsServed at t a x.notes false ⊎ IsCut at t a x.notes false → (word : ℕ) × (n : Task) × (a.new.task ≡ Some n) × (task_after (turn_given t word) ≡ Some n)
-    by (inr cut) = absurd (let bad = cut.over_is in cc)
-    by (inl served) =
-        let n = going (turn_given t served.word) at (served.over_is ∙ ap (λ (k : List Note). list_any is_answer_note k) served.notes_are) in
-        (served.word, n.0, served.task ∙ n.1, n.1)
-
--- where an image is modelled, memory and cache are the machine's
-pub step_machine : (at : ℕ) (t : Task) (a : Around) (over : Bool) → over ≡ false → IsStep at t a over → (image : Image) → a.told ≡ Some image → IsMachine (operated (op_of t) (machine image a.old.cache)) a.now a.new.cache
-step_machine at t a over is step image told_is = by x.how
-  where
-    x : IsStep at t a false
-    x = subst (λ (b : Bool). IsStep at t a b) is step
-
-    by : IsServed at t a x.notes false ⊎ IsCut at t a x.notes false → IsMachine (operated (op_of t) (machine image a.old.cache)) a.now a.new.cache
-    by (inr cut) = absurd (let bad = cut.over_is in cc)
-    by (inl served) = served.done image told_is
-
-pub going_runs : (at : ℕ) (t : Task) (a : Around) (over : Bool) → over ≡ false → IsStep at t a over → is_some a.new.task ≡ true
-going_runs at t a over going step = ap is_some (going_task at t a (subst (λ (b : Bool). IsStep at t a b) going step)).1
-
-pub going_fits : (at : ℕ) (t : Task) (a : Around) (over : Bool) (lines : ℕ) → over ≡ false → IsStep at t a over → t.lines ≡ lines → TaskFits lines a.new.task
-going_fits at t a over lines going step e =
-    let n = going_task at t a (subst (λ (b : Bool). IsStep at t a b) going step) in
-    subst (TaskFits lines) (sym n.1) (n.2 ∙ e)
-
-ends : (z : Turn) (h : ℕ) → true ≡ list_any is_answer_note (notes_of h (note_of z)) → task_after z ≡ None
-ends (Goes n) h e = absurd cc
-ends (Marks n) h e = absurd cc
-ends (Finds k n) h e = absurd cc
-ends (Writes seq x n) h e = absurd cc
-ends (Ends reply) h e = refl
-
-pub over_none : (at : ℕ) (t : Task) (a : Around) (over : Bool) → over ≡ true → IsStep at t a over → a.new.task ≡ None
-over_none at t a over is step = by x.how
-  where
-    x : IsStep at t a true
-    x = subst (λ (b : Bool). IsStep at t a b) is step
-
-    by : IsServed at t a x.notes true ⊎ IsCut at t a x.notes true → a.new.task ≡ None
-    by (inr cut) = cut.task
-    by (inl served) = served.task ∙ ends (turn_given t served.word) at (served.over_is ∙ ap (λ (k : List Note). list_any is_answer_note k) served.notes_are)

@@ -11,10 +11,8 @@ pub mod Making
 pub mod StepForms
 pub mod Stepping
 pub mod Finishing
-pub mod LedOn
-pub mod HeldOn
 pub mod Saying
-pub mod WholeSteps
+pub mod TaskSteps
 pub mod Fits
 pub mod Kept
 pub mod UpToOn

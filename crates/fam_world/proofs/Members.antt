@@ -60,3 +60,15 @@ fits_kept lines at g xs view is here all k v v_is =
           subst (HostFits lines) (same_Some (g view) v (sym (changed_at_member at g xs view is) ∙ ap (λ (n : ℕ). slice_get (changed_at at g xs) n) (sym e) ∙ v_is)) (here (all at view is))
       | inr ne ↦ all k v (sym (changed_other at k g xs ne) ∙ v_is)
     ]
+
+-- a member that is put where it stands
+pub put_own : {A : Type 0} (at : ℕ) (x : A) (xs : List A) → slice_get xs at ≡ Some x → changed_at at (λ v. x) xs ≡ xs
+put_own at x [] is = refl
+put_own {A = A} zero x (y ∷ xs) is = ap (λ (z : A). z ∷ xs) (sym (same_Some y x is))
+put_own {A = A} (suc at) x (y ∷ xs) is = ap (λ (zs : List A). y ∷ zs) (put_own at x xs is)
+
+-- of two that are put behind each other the second stays
+pub put_twice : {A : Type 0} (at : ℕ) (x y : A) (xs : List A) → changed_at at (λ v. y) (changed_at at (λ v. x) xs) ≡ changed_at at (λ v. y) xs
+put_twice at x y [] = refl
+put_twice zero x y (z ∷ xs) = refl
+put_twice {A = A} (suc at) x y (z ∷ xs) = ap (λ (zs : List A). z ∷ zs) (put_twice at x y xs)

@@ -1,6 +1,6 @@
 -- What a task says of an operation, as notes and as its turn.
-use Rattle.std.proofs.Common.{◌≡◌, ◌≢◌, ◌⊎◌, ℕ, ◌<◌, ◌≤◌, ◌++◌, ◌∷◌, [], inl, inr, Bool, true, List, Option, Some, None, Result, Ok, Err, refl, ap, sym, ◌∙◌, subst}
-use Rattle.std.specs.Prelude.{IfErr, IfSome, OnErr, is_some, unwrap_or, option_map}
+use Rattle.std.proofs.Common.{◌≡◌, ◌≢◌, ◌⊎◌, ℕ, ◌<◌, ◌≤◌, ◌++◌, ◌∷◌, [], inl, inr, Bool, true, List, Option, Some, None, refl, ap, sym, ◌∙◌, subst}
+use Rattle.std.specs.Prelude.{unwrap_or, option_map}
 use Rattle.std.specs.List.{list_any}
 use Rattle.std.proofs.lemmas.Bool.{cases_eq}
 use Rattle.fam_base.specs.declared.line.LineNo.{LineNo}
@@ -14,11 +14,8 @@ use Rattle.fam_machine.specs.Cuts.{HasFailed, IsMachine}
 use Rattle.fam_machine.specs.OneLine.{IsHeld, brought, words_of}
 use Rattle.fam_machine.specs.Operations.{IsWithin, Machine, given, given_by, machine, operated}
 use Rattle.fam_machine.proofs.CacheLemmas.{cell_at-with_cell_same}
-use Rattle.fam_cache.specs.declared.fault.OperationFault.{OperationFault}
-use Rattle.fam_cache.specs.declared.fault.OperationFault.TheVariants as operation_fault
-use Rattle.fam_cache.specs.Faults.{IfMediaFault}
-use Rattle.fam_cache.specs.Operations.{LeavesCache, LeavesFailed, word_of}
-use Rattle.fam_cache.proofs.Performed.{cleaned_held, left_held, others_left}
+use Rattle.fam_cache.specs.Operations.{LeavesCache, word_of}
+use Rattle.fam_cache.proofs.Performed.{cleaned_held, others_left}
 use Rattle.fam_cache.proofs.StoreLemmas.{brought_words}
 use Rattle.fam_commands.specs.Stands.{note_of, task_after, turn_given}
 use Rattle.fam_commands.specs.Task.{Task, op_of}
@@ -32,10 +29,6 @@ use Rattle.fam_tasks.specs.declared.answer.Turn.{Turn}
 use Rattle.fam_tasks.specs.declared.answer.Turn.TheVariants as turn
 use Rattle.fam_tasks.specs.Answers.{reply_of}
 use Rattle.fam_tasks.specs.Tells.{Tells}
-use Rattle.fam_run.specs.declared.looking.Ending.{Ending}
-use Rattle.fam_run.specs.declared.looking.Looked.{Looked}
-use Rattle.fam_run.specs.declared.looking.Looked.TheVariants as looked
-use Rattle.fam_run.specs.Looked.{IfDone, ending_answer}
 use Rattle.fam_run.specs.Operation.{GoesOn, HasTurned, KeepsLines}
 use Rattle.fam_notes.specs.Notes.{answer_view}
 use Rattle.fam_journal.specs.CallRecords.{TaskFits, heading}
@@ -43,10 +36,8 @@ use Rattle.fam_journal.specs.Ends.{is_answer_note}
 use Rattle.fam_journal.specs.Machines.{notes_of}
 use Rattle.fam_journal.specs.Notes.{Answered, MediaFault, Note, Replied}
 use Rattle.fam_journal.specs.Notes as journal
-use Rattle.fam_world.specs.OnTask.{CacheFits, IsBroken, IsTurned, OnTask}
-use Rattle.fam_world.specs.Steps.{Around, IsCut, IsServed, IsStep}
+use Rattle.fam_world.specs.Steps.{Around, IsStep}
 use Rattle.fam_world.specs.Turns.{is_done, kept_by, turn_notes}
-use Rattle.fam_world.specs.declared.hosts.Host.{Host}
 
 -- Words.
 
@@ -63,7 +54,7 @@ given_again Digest c = refl
 word_is : (op : Op) (m : Machine) → word_of op (operated op m).cache ≡ given op m
 word_is (Load line k) m =
     ap (λ (ws : List ℕ). Some (Rattle.std.specs.Prelude.slice_index ws k))
-    (ap words_of (cell_at-with_cell_same line.0 (brought (line_at m.image line.0) (cell_at m.cache line.0)) m.cache) ∙ brought_words (line_at m.image line.0) (cell_at m.cache line.0))
+    (ap words_of (cell_at-with_cell_same line.0 (brought (line_at (m.state line.0).image) (cell_at m.cache line.0)) m.cache) ∙ brought_words (line_at (m.state line.0).image) (cell_at m.cache line.0))
 word_is (Store line k value) m = refl
 word_is (WriteBack line) m = refl
 word_is Fence m = refl
@@ -196,77 +187,3 @@ step_cut at t a line joined host later task kept failed rose = record {
   later = later;
   how = inr record { line = line; notes_are = refl; task = task; held = kept; failed = failed; rose = rose; over_is = refl };
 }
-
--- the host's lines are still those of the media
-pub step_cached : (at : ℕ) (t : Task) (x y : Host) (lines : ℕ) (a : Around) {over : Bool} → a.size ≡ lines → (a.old.cache ≡ x.cache.lines) × (a.new.cache ≡ y.cache.lines) → IsStep at t a over → CacheFits lines x.cache → CacheFits lines y.cache
-step_cached at t x y lines a {over} size same step was = record { below = λ l is. by step.how l (subst (λ (c : Cache). IsHeld (cell_at c l)) (sym same.1) is) }
-  where
-    below : (l : ℕ) → IsHeld (cell_at a.old.cache l) → l < lines
-    below l is = was.below l (subst (λ (c : Cache). IsHeld (cell_at c l)) same.0 is)
-
-    or_below : (l : ℕ) → (l < a.size) ⊎ IsHeld (cell_at a.old.cache l) → l < lines
-    or_below l (inl less) = subst (λ (n : ℕ). l < n) size less
-    or_below l (inr is) = below l is
-
-    by : IsServed at t a step.notes over ⊎ IsCut at t a step.notes over → (l : ℕ) → IsHeld (cell_at a.new.cache l) → l < lines
-    by (inl served) l is = or_below l (served.held l is)
-    by (inr cut) l is = below l (cut.held l is)
-
--- a fault of the media names its line
-fault_at : (f : OperationFault) (line : LineNo) (P : LineNo → Type 0) → f ≡ operation_fault.MediaFault line → IfMediaFault f P → P line
-fault_at f line P is p = subst (λ (z : OperationFault). IfMediaFault z P) is p
-
--- an operation of a host's task, from its task, its cache and what the media tells
-abbrev task_in : Around → Option Task → OnTask
-task_in a mid = record { task = a.old.task; next = mid; old = a.old.cache; new = a.new.cache; told = a.told; now = a.now; faults = a.faults; faults_now = a.faults_now }
-
-pub step_lost : (at : ℕ) (t : Task) (a : Around) (line : LineNo) (f : OperationFault) (mid : Option Task) → f ≡ operation_fault.MediaFault line → a.old.task ≡ Some t → a.after ≡ a.before ++ Answered at (MediaFault line.0) ∷ [] → heading a.new ≡ heading a.old → a.faults ≤ a.faults_now → a.new.task ≡ None
-    → IfMediaFault f (IsBroken (task_in a mid)) → IsStep at t a true
-step_lost at t a line f mid is e joined host later task broken =
-    let b : IsBroken (task_in a mid) line = fault_at f line (IsBroken (task_in a mid)) is broken in
-    step_cut at t a line joined host later task b.held
-    (subst (λ (o : Option Task). IfSome o (λ t. IfModelled a.told (λ image. HasFailed (op_of t) (machine image a.old.cache) line a.now a.new.cache))) e b.failed)
-    b.rose
-
--- the media failed in an operation of a task
-pub broken_by : (a : OnTask) (t next : Task) (r : Result Turn OperationFault) → a.task ≡ Some t → a.next ≡ Some next → OnErr r (next ≡ t) → OnErr r (LeavesFailed (op_of t) a.old a.new)
-    → IfErr r (λ f. IfMediaFault f (λ line. IfModelled a.told (λ image. HasFailed (op_of t) (machine image a.old) line a.now a.new))) → IfErr r (λ f. IfMediaFault f (λ line. Rose a.faults a.faults_now)) → IfErr r (λ f. IfMediaFault f (IsBroken a))
-broken_by a t next (Ok turn) is next_is same left fails rose = tt
-broken_by a t next (Err operation_fault.OutOfMemory) is next_is same left fails rose = tt
-broken_by a t next (Err (operation_fault.MediaFault line)) is next_is same left fails rose = record {
-  task = next_is ∙ ap Some same ∙ sym is;
-  held = left_held (op_of t) a.old a.new left;
-  failed = subst (λ (o : Option Task). IfSome o (λ t. IfModelled a.told (λ image. HasFailed (op_of t) (machine image a.old) line a.now a.new))) (sym is) fails;
-  rose = rose;
-}
-
--- What came of an operation that looks at what was read.
-
--- of one behind which the task goes on
-pub going_turn : (l : Looked) (P : Turn → Type 0) → l ≡ looked.Going → IfDone l P → P turn.Go
-going_turn l P is done = subst (λ (x : Looked). IfDone x P) is done
-
--- of one with which it ends
-pub ended_turn : (l : Looked) (ending : Ending) (given : Answer) (P : Turn → Type 0) → l ≡ looked.Ended ending → given ≡ ending_answer ending → IfDone l P → P (turn.Done given)
-ended_turn l ending given P is said done = subst (λ (a : Answer). P (turn.Done a)) (sym said) (subst (λ (x : Looked). IfDone x P) is done)
-
--- What a host's task is.
-
-pub some_of : {A : Type 0} (o : Option A) → is_some o ≡ true → (x : A) × (o ≡ Some x)
-some_of None e = absurd cc
-some_of (Some x) e = (x, refl)
-
--- of a host that has one
-pub step_done : (at : ℕ) (said : Turn) (a : Around) (over : Bool) (t : Task) (mid : Option Task) → a.old.task ≡ Some t → is_some mid ≡ true → a.new.task ≡ kept_by said mid → a.after ≡ a.before ++ turn_notes at said
-    → heading a.new ≡ heading a.old → a.faults ≤ a.faults_now → over ≡ is_done said → IsTurned (task_in a mid) said → TaskFits a.size a.old.task → IsStep at t a over
-step_done at said a over t mid e some task joined host later over_is x lines =
-    let next = some_of mid some in
-    step_served at t next.0 said a over
-    (subst (λ (o : Option Task). IfSome o (GoesOn t a.new.cache said)) next.1 (subst (λ (o : Option Task). IfSome o (λ t. IfSome mid (GoesOn t a.new.cache said))) e x.goes))
-    mid next.1 task joined host later over_is
-    (subst (λ (o : Option Task). IfSome o (λ n. IfModelled a.told (λ image. HasTurned t (machine image a.old.cache) said n a.now a.new.cache))) next.1
-    (subst (λ (o : Option Task). IfSome o (λ t. IfSome mid (λ n. IfModelled a.told (λ image. HasTurned t (machine image a.old.cache) said n a.now a.new.cache)))) e x.turned))
-    (subst (λ (o : Option Task). IfSome o (KeepsLines said t)) next.1 (subst (λ (o : Option Task). IfSome o (λ t. IfSome mid (KeepsLines said t))) e x.keeps))
-    (subst (λ (o : Option Task). IfSome o (λ t. LeavesCache (op_of t) a.told a.old.cache a.new.cache)) e x.cache)
-    (subst (λ (o : Option Task). IfSome o (λ t. IsWithin t.lines (op_of t))) e x.within)
-    (subst (TaskFits a.size) e lines)

@@ -18,8 +18,8 @@ use Rattle.fam_media.specs.Outside.{IfModelled}
 use Rattle.fam_cache.specs.declared.fault.CacheFault.{CacheFault}
 use Rattle.fam_cache.specs.declared.fault.CacheFault.TheVariants as cache_fault
 use Rattle.fam_cache.specs.Effects.{FailsTo, FromMemory}
-use Rattle.fam_world.specs.declared.moves.OwnMove.{OwnMove}
-use Rattle.fam_world.specs.declared.moves.OwnMove.TheVariants as own
+use Rattle.fam_world.specs.declared.world.moves.OwnMove.{OwnMove}
+use Rattle.fam_world.specs.declared.world.moves.OwnMove.TheVariants as own
 use Rattle.fam_world.specs.Moves.{fault_of, move_of}
 
 abbrev Sent : Type 0

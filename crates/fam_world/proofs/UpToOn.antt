@@ -1,7 +1,6 @@
 -- Operations of a task of which nothing was stored lead no further than to its first store, and leave memory.
-use Rattle.std.proofs.Common.{◌≡◌, ◌⊎◌, ℕ, ◌<◌, ◌≤◌, Bool, false, true, List, [], ◌∷◌, Option, Some, None, Result, Ok, Err, inl, inr, set, refl, sym, ap, subst, ◌∙◌, arith}
-use Prim.Native.Nat.{zero, suc}
-use Rattle.std.specs.Prelude.{IfOk, IfSome, OnErr, is_some, map, slice_get, unwrap_or}
+use Rattle.std.proofs.Common.{◌≡◌, ◌⊎◌, ℕ, ◌<◌, ◌≤◌, List, Option, Some, None, Result, Ok, Err, inl, inr, refl, sym, ap, subst, ◌∙◌, arith}
+use Rattle.std.specs.Prelude.{OnErr, map, unwrap_or}
 use Rattle.fam_base.specs.Image.{Image, IsNormal, eight, line_at, with_line}
 use Rattle.fam_base.proofs.ImageLemmas.{with_line-line_at}
 use Rattle.fam_cache.specs.States.{CacheState}
@@ -9,37 +8,30 @@ use Rattle.fam_cache.specs.Operations.{word_of}
 use Rattle.fam_machine.specs.declared.cell.Cell.TheVariants.{Absent}
 use Rattle.fam_machine.specs.Caches.{Cache, IsClean, cell_at, line_changed, with_cell}
 use Rattle.fam_machine.specs.OneLine.{brought, sent}
-use Rattle.fam_machine.specs.Operations.{given_by, machine, operated}
+use Rattle.fam_machine.specs.Operations.{machine, operated}
 use Rattle.fam_machine.proofs.CleanCaches.{clean_brought, clean_sent, clean_with}
 use Rattle.fam_media.specs.Outside.{IfModelled}
 use Rattle.fam_commands.specs.Appends.{IsBeforeWrites}
-use Rattle.fam_commands.specs.FirstStore.{IsFirstStore, IsUnstored, IsUpToStore}
+use Rattle.fam_commands.specs.FirstStore.{IsFirstStore, IsUpToStore}
 use Rattle.fam_commands.specs.declared.phase.Phase.{Phase}
 use Rattle.fam_commands.specs.declared.phase.Phase.TheVariants as at
 use Rattle.fam_commands.specs.Task.{Task, op_at, op_of}
 use Rattle.fam_commands.specs.Turns as turns
 use Rattle.fam_commands.specs.Turns.{turn_of}
 use Rattle.fam_commands.proofs.UpToStores.{before_next, up_to_next}
-use Rattle.fam_journal.specs.CallRecords.{IsUnstoredAt}
-use Rattle.fam_journal.specs.Notes.{Note}
+use Rattle.fam_tasks.specs.declared.answer.Turn.{Turn}
 use Rattle.fam_tasks.specs.declared.answer.Turn.TheVariants.{Go}
 use Rattle.fam_tasks.specs.Tells.{Tells}
 use Rattle.fam_run.specs.Held as run
 use Rattle.fam_run.specs.Held.{HeldRun, IsOfHeld, held_after}
 use Rattle.fam_run.specs.Led as led
-use Rattle.fam_run.specs.Led.{Led}
+use Rattle.fam_run.specs.Led.{HasDone, Led}
+use Rattle.fam_run.specs.Operation.{ended}
 use Rattle.fam_run.specs.Places.{HasPlaces}
+use Rattle.fam_run.specs.Step.{Around as Passed}
 use Rattle.fam_run.proofs.FirstStores.{first_phase}
-use Rattle.fam_base.specs.declared.line.OutOfMemory.{OutOfMemory}
-use Rattle.fam_world.specs.declared.fault.Moved.{Moved}
-use Rattle.fam_world.specs.Answers.{is_over}
-use Rattle.fam_world.specs.Places.{AreUnstored, IsCalm, IsSafe, KeepsTaskPlaces, TaskHasPlaces}
-use Rattle.fam_world.specs.Steps.{Around}
-use Rattle.fam_world.specs.View.{host_view, views}
-use Rattle.fam_world.specs.Whole.{IsLedStep}
-use Rattle.fam_world.specs.declared.hosts.Host.{Host}
-use Rattle.fam_world.proofs.Finishing.{going_after, step_machine}
-use Rattle.fam_world.proofs.Members.{map_at}
+use Rattle.fam_run.proofs.Running.{goes_on}
+use Rattle.fam_world.specs.Places.{IsSafe}
 
 -- a turn that just goes on is told so
 tells_goes : (wanted : turns.Turn) (next : Task) → Tells wanted Go next → wanted ≡ turns.Goes next
@@ -148,7 +140,7 @@ first_behind t first before = elim (first_phase t first) [
 ]
 
 pub held_safe : (t next : Task) (cache after : CacheState) (told now : Option Image) (notes room : ℕ) {n : ℕ} → HeldRun t cache.lines next after.lines n → (HasPlaces t cache → HasPlaces next after) → (IsFirstStore t → next ≡ t)
-    → (IsUpToStore t × IsCalm told now t cache.lines) ⊎ (HasPlaces t cache × (notes < room)) → (IsUpToStore next × IsCalm told now next after.lines) ⊎ (HasPlaces next after × (notes < room))
+    → IsSafe told now t cache notes room → IsSafe told now next after notes room
 held_safe t next cache after told now notes room ran places idle (inl (inl before, calm)) =
     inl (
       inl (held_before t next cache.lines after.lines ran before),
@@ -162,80 +154,51 @@ held_safe t next cache after told now notes room ran places idle (inr has) = inr
 -- A turn of the loop.
 
 -- of a task that reads
-module _ (at : ℕ) (t : Task) (a : Around) (over : Bool) (going : over ≡ false) (come : IsLedStep at t a over) (before : IsBeforeWrites t.phase) where
-  come_up_to : IfSome a.new.task IsUpToStore
-  come_up_to =
-      let after = going_after at come.mid _ over going come.step in
-      let word = unwrap_or (given_by (op_of come.mid) after.0) 0 in
-      subst (λ (o : Option Task). IfSome o IsUpToStore) (sym after.2)
-      (up_to_next come.mid after.1 word (led_before a.told t come.mid a.old.cache come.held come.led before) after.3)
+module _ (b : Passed) (said : Turn) (on : ended said ≡ None) (x : HasDone b said) (before : IsBeforeWrites b.task.phase) where
+  mid_before : IsBeforeWrites x.task.phase
+  mid_before = led_before b.modelled b.task x.task b.old x.held x.led before
 
-  come_calm : (image : Image) → map eight image ≡ image → a.told ≡ Some image → IsClean a.old.cache → (a.now ≡ Some image) × IsClean a.new.cache
-  come_calm image normal told_is clean =
-      let ran : Led (Some image) t a.old.cache come.mid come.held = subst (λ (o : Option Image). Led o t a.old.cache come.mid come.held) told_is come.led in
-      let before_mid = led_before (Some image) t come.mid a.old.cache come.held ran before in
-      let clean_mid = led_clean image normal t come.mid a.old.cache come.held ran before clean in
-      let is = step_machine at come.mid _ over going come.step image told_is in (
-        is.image ∙ ap Some (reads_leave image normal come.held clean_mid come.mid.phase come.mid before_mid),
-        subst IsClean (sym is.cache) (reads_clean image normal come.held clean_mid come.mid.phase come.mid before_mid),
+  next_up_to : IsUpToStore b.next
+  next_up_to =
+      up_to_next x.task b.next (unwrap_or (word_of (op_of x.task) b.new) 0) mid_before (goes_on (turn_of x.task (word_of (op_of x.task) b.new)) said b.next on x.goes)
+
+  next_calm : (image : Image) → map eight image ≡ image → b.modelled ≡ Some image → IsClean b.old → (b.left ≡ Some image) × IsClean b.new
+  next_calm image normal told_is clean =
+      let ran : Led (Some image) b.task b.old x.task x.held = subst (λ (o : Option Image). Led o b.task b.old x.task x.held) told_is x.led in
+      let clean_mid = led_clean image normal b.task x.task b.old x.held ran before clean in
+      let is = (x.turned image told_is).is in (
+        is.image ∙ ap Some (reads_leave image normal x.held clean_mid x.task.phase x.task mid_before),
+        subst IsClean (sym is.cache) (reads_clean image normal x.held clean_mid x.task.phase x.task mid_before),
       )
 
-calm_safe : (told now : Option Image) (o : Option Task) (cache : CacheState) (notes room : ℕ) → IfSome o IsUpToStore → IfModelled told (λ image. (now ≡ Some image) × IsClean cache.lines) → IsSafe told now o cache notes room
-calm_safe told now None cache notes room up calm = tt
-calm_safe told now (Some t) cache notes room up calm = inl (up, λ image told_is. (let was = calm image told_is in (was.0, λ _. was.1)))
-
-placed_safe : (told now : Option Image) (o : Option Task) (cache : CacheState) (notes room : ℕ) → TaskHasPlaces o cache → notes < room → IsSafe told now o cache notes room
-placed_safe told now None cache notes room has some = tt
-placed_safe told now (Some t) cache notes room has some = inr (has, some)
-
-pub turn_safe : (at : ℕ) (t : Task) (a : Around) (over : Bool) (told : Option Image) (cache after : CacheState) (notes_old room_old notes room : ℕ) (Q : Type 0) → (Q → notes < room) → over ≡ false → IsLedStep at t a over → IsNormal a.told → cache.lines ≡ a.old.cache → after.lines ≡ a.new.cache
-    → (IsFirstStore t ⊎ HasPlaces t cache → TaskHasPlaces a.new.task after) → (IsFirstStore t ⊎ HasPlaces t cache → Q)
-    → (IsUpToStore t × IsCalm told a.told t cache.lines) ⊎ (HasPlaces t cache × (notes_old < room_old)) → IsSafe told a.now a.new.task after notes room
-turn_safe at t a over told cache after notes_old room_old notes room Q kept_room going come normal old_is new_is places quiet (inl (inl before, calm)) =
-    calm_safe told a.now a.new.task after notes room (come_up_to at t a over going come before)
-    (λ image is.
-    let was = calm image is in
-    let now = come_calm at t a over going come before image (subst IsNormal was.0 normal) was.0 (subst IsClean old_is (was.1 before)) in
-    (now.0, subst IsClean (sym new_is) now.1))
-turn_safe at t a over told cache after notes_old room_old notes room Q kept_room going come normal old_is new_is places quiet (inl (inr first, calm)) =
-    placed_safe told a.now a.new.task after notes room (places (inl first)) (kept_room (quiet (inl first)))
-turn_safe at t a over told cache after notes_old room_old notes room Q kept_room going come normal old_is new_is places quiet (inr has) =
-    placed_safe told a.now a.new.task after notes room (places (inr has.0)) (kept_room (quiet (inr has.0)))
+pub safe_on : (b : Passed) (said : Turn) (told : Option Image) (cache after : CacheState) (notes_old room_old notes room : ℕ) → ended said ≡ None → HasDone b said → IsNormal b.modelled → cache.lines ≡ b.old → after.lines ≡ b.new
+    → (IsFirstStore b.task ⊎ HasPlaces b.task cache → (said ≡ Go) × HasPlaces b.next after) → (said ≡ Go → notes < room)
+    → IsSafe told b.modelled b.task cache notes_old room_old → IsSafe told b.left b.next after notes room
+safe_on b said told cache after notes_old room_old notes room on x normal old_is new_is places kept (inl (inl before, calm)) =
+    inl (
+      next_up_to b said on x before,
+      λ image is. (
+          let was = calm image is in
+          let now = next_calm b said on x before image (subst IsNormal was.0 normal) was.0 (subst IsClean old_is (was.1 before)) in
+          (now.0, λ _. subst IsClean (sym new_is) now.1)
+          ),
+    )
+safe_on b said told cache after notes_old room_old notes room on x normal old_is new_is places kept (inl (inr first, calm)) =
+    let has = places (inl first) in inr (has.1, kept has.0)
+safe_on b said told cache after notes_old room_old notes room on x normal old_is new_is places kept (inr was) =
+    let has = places (inr was.0) in inr (has.1, kept has.0)
 
 -- Ends.
 
-pub unstored_safe : (told : Option Image) (o : Option Task) (cache : CacheState) (notes room : ℕ) → IfSome o (λ t. IsUnstored t cache.lines) → IsSafe told told o cache notes room
-unstored_safe told None cache notes room is = tt
-unstored_safe told (Some t) cache notes room is = inl (is.0, λ image told_is. (told_is, is.1))
-
 -- where no room is left for a note, or the task hasn't its places, memory is as it was
-pub full_same : (told now : Option Image) (o : Option Task) (cache : CacheState) (notes room : ℕ) → is_some o ≡ true → room ≤ notes → IsSafe told now o cache notes room → IfModelled told (λ image. now ≡ Some image)
-full_same told now None cache notes room runs full safe = absurd cc
-full_same told now (Some t) cache notes room runs full (inl calm) = λ image is. (calm.1 image is).0
-full_same told now (Some t) cache notes room runs full (inr has) = absurd (let some = has.1 in omega (arith, some, full))
+pub full_same : (told now : Option Image) (t : Task) (cache : CacheState) (notes room : ℕ) → room ≤ notes → IsSafe told now t cache notes room → IfModelled told (λ image. now ≡ Some image)
+full_same told now t cache notes room full (inl calm) = λ image is. (calm.1 image is).0
+full_same told now t cache notes room full (inr has) = absurd (let some = has.1 in omega (arith, some, full))
 
-pub lacks_same : (told now : Option Image) (o : Option Task) (cache : CacheState) (notes room : ℕ) → is_some o ≡ true → IfSome o (λ t. ¬ (HasPlaces t cache)) → IsSafe told now o cache notes room → IfModelled told (λ image. now ≡ Some image)
-lacks_same told now None cache notes room runs lacks safe = absurd cc
-lacks_same told now (Some t) cache notes room runs lacks (inl calm) = λ image is. (calm.1 image is).0
-lacks_same told now (Some t) cache notes room runs lacks (inr has) = absurd (lacks has.0)
-
--- hosts as they are told of
-pub unstored_views : (at : ℕ) (hosts : List Host) (journal : List Note) → IsUnstoredAt at (record { hosts = views hosts; journal = journal }) → AreUnstored at hosts
-unstored_views at hosts journal is = λ h there. is (host_view h) (map_at host_view hosts at h there)
-
--- a member that is written
-pub set_member : {A : Type 0} (xs : List A) (at : ℕ) (x y : A) → slice_get xs at ≡ Some x → slice_get (set xs at y) at ≡ Some y
-set_member [] at x y is = absurd cc
-set_member (a ∷ xs) zero x y is = refl
-set_member (a ∷ xs) (suc at) x y is = set_member xs at x y is
+pub lacks_same : (told now : Option Image) (t : Task) (cache : CacheState) (notes room : ℕ) → ¬ (HasPlaces t cache) → IsSafe told now t cache notes room → IfModelled told (λ image. now ≡ Some image)
+lacks_same told now t cache notes room lacks (inl calm) = λ image is. (calm.1 image is).0
+lacks_same told now t cache notes room lacks (inr has) = absurd (lacks has.0)
 
 pub on_err_of : {T E : Type 0} (r : Result T E) {P : Type 0} → P → OnErr r P
 on_err_of (Ok x) p = tt
 on_err_of (Err e) p = p
-
--- places that are made before an operation are kept by it
-pub go_places : (r : Result Moved OutOfMemory) (o : Option Task) (cache mid after : CacheState) (new : Option Task) → IfSome o (λ t. IsFirstStore t ⊎ HasPlaces t cache → HasPlaces t mid) → IfOk r (λ moved. is_over moved ≡ false → KeepsTaskPlaces o mid new after)
-    → IfOk r (λ moved. is_over moved ≡ false → IfSome o (λ t. IsFirstStore t ⊎ HasPlaces t cache → TaskHasPlaces new after))
-go_places (Err full) o cache mid after new ready places = tt
-go_places (Ok moved) None cache mid after new ready places = λ going. tt
-go_places (Ok moved) (Some t) cache mid after new ready places = λ going. λ has. places going (ready has)

@@ -18,11 +18,12 @@ IfAnswered (Ok x) P = P None
 IfAnswered (Err (fault.Refused cause)) P = P (Some cause)
 IfAnswered (Err fault.OutOfMemory) P = ⊤
 
--- of a step: and whether the task is over
+-- whether the task is over behind a step
 abbrev pub is_over : Moved → Bool
 is_over moved.Going = false
 is_over moved.Answered = true
 
+-- where a step found memory, P holds of the refusal that it gave, if any, and of whether the task is over
 abbrev pub IfStepped : Result Moved WorldFault → (Option Refusal → Bool → Type 0) → Type 0
 IfStepped (Ok moved) P = P None (is_over moved)
 IfStepped (Err (fault.Refused cause)) P = P (Some cause) false

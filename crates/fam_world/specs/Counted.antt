@@ -2,6 +2,7 @@
 use Rattle.std.specs.Prelude.{ℕ, suc, ◌≡◌, ◌<◌, Bool, true, false, List, length, Option, Some, None, Result, Ok, Err}
 use Rattle.fam_base.specs.Image.{Image}
 use Rattle.fam_base.specs.declared.line.OutOfMemory.{OutOfMemory}
+use Rattle.fam_cache.specs.States.{CacheState}
 use Rattle.fam_commands.specs.Task.{Task}
 use Rattle.fam_media.specs.Outside.{IfModelled}
 use Rattle.fam_media.specs.States.{MediaState}
@@ -70,6 +71,17 @@ pub record HostStanding : Type 0 where
 abbrev pub host_standing : {M : Type 0} → (M → MediaState) → M → HostView → List Note → HostStanding
 host_standing state media host notes = record { host = host; notes = notes; told = (state media).image; faults = (state media).faults }
 
+-- with this media, of a host that runs this task, if any, on this cache
+abbrev pub task_standing : {M : Type 0} → (M → MediaState) → M → HostView → Option Task → CacheState → List Note → HostStanding
+task_standing state media view task cache notes =
+    record { host = record view { task = task; cache = cache.lines }; notes = notes; told = (state media).image; faults = (state media).faults }
+
+-- the task that the host has behind operations of this one
+abbrev pub task_left : Result Moved OutOfMemory → Option Task → Option Task
+task_left (Ok moved.Going) task = task
+task_left (Ok moved.Answered) task = None
+task_left (Err full) task = task
+
 -- an operation of the task of host `at`
 pub record HostStep (at lines : ℕ) (over : Bool) (a b : HostStanding) : Type 0 where
   pub task : Task
@@ -83,3 +95,29 @@ abbrev pub HostStepsSay : ℕ → ℕ → ℕ → HostStanding → HostStanding 
 HostStepsSay at lines most a b (Ok moved.Going) = Iterated (HostStep at lines false) a b most
 HostStepsSay at lines most a b (Ok moved.Answered) = EndsWithin (HostStep at lines false) (HostStep at lines true) most a b
 HostStepsSay at lines most a b (Err full) = StopsWithin (HostStep at lines false) most a b
+
+-- some operations of its task, behind which it goes on
+pub record Runs (at lines : ℕ) (a b : HostStanding) : Type 0 where
+  pub count : ℕ
+  pub goes : Iterated (HostStep at lines false) a b count
+
+-- some, and one with which it answers
+pub record Ends (at lines : ℕ) (a b : HostStanding) : Type 0 where
+  pub before : HostStanding
+  pub runs : Runs at lines a before
+  pub last : HostStep at lines true before b
+
+-- what is said of operations up to its answer: it answered, or no memory was left behind some of them
+abbrev pub RunsUp : ℕ → ℕ → HostStanding → HostStanding → Result (Unit {0}) OutOfMemory → Type 0
+RunsUp at lines a b (Ok done) = Ends at lines a b
+RunsUp at lines a b (Err full) = Runs at lines a b
+
+-- the same, as of a count of them
+abbrev pub moved_up : Result (Unit {0}) OutOfMemory → Result Moved OutOfMemory
+moved_up (Ok done) = Ok moved.Answered
+moved_up (Err full) = Err full
+
+-- what the world answers: want of memory is a fault of its own
+abbrev pub told_of : {T : Type 0} → Result T OutOfMemory → Result T WorldFault
+told_of (Ok done) = Ok done
+told_of (Err full) = Err fault.OutOfMemory

@@ -3,9 +3,7 @@ pub mod Answers
 pub mod Moves
 pub mod Steps
 pub mod Turns
-pub mod OnTask
 pub mod Makes
 pub mod Finishes
 pub mod Counted
-pub mod Whole
 pub mod Places

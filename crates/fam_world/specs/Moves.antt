@@ -4,8 +4,8 @@ use Rattle.fam_cache.specs.declared.fault.CacheFault.{CacheFault}
 use Rattle.fam_cache.specs.declared.fault.CacheFault.TheVariants as cache_fault
 use Rattle.fam_machine.specs.HostMoves.{Move, Evict, Leak, Fetch}
 use Rattle.fam_media.specs.declared.media.Failed.{Failed}
-use Rattle.fam_world.specs.declared.moves.OwnMove.{OwnMove}
-use Rattle.fam_world.specs.declared.moves.OwnMove.TheVariants as own
+use Rattle.fam_world.specs.declared.world.moves.OwnMove.{OwnMove}
+use Rattle.fam_world.specs.declared.world.moves.OwnMove.TheVariants as own
 
 -- the move that it is
 abbrev pub move_of : OwnMove → Move

@@ -5,7 +5,7 @@ use Rattle.fam_base.specs.declared.line.LineNo.{LineNo}
 use Rattle.fam_base.specs.Image.{Image}
 use Rattle.fam_media.specs.Causes.{Rose}
 use Rattle.fam_media.specs.Outside.{IfModelled}
-use Rattle.fam_media.specs.States.{MediaState}
+use Rattle.fam_cache.specs.States.{CacheState}
 use Rattle.fam_machine.specs.Caches.{cell_at}
 use Rattle.fam_machine.specs.Cuts.{HasFailed, IsMachine}
 use Rattle.fam_machine.specs.OneLine.{IsHeld}
@@ -17,9 +17,10 @@ use Rattle.fam_journal.specs.Ends.{is_answer_note}
 use Rattle.fam_journal.specs.Machines.{notes_of}
 use Rattle.fam_journal.specs.Notes.{Note, Answered, MediaFault}
 use Rattle.fam_journal.specs.View.{HostView}
-use Rattle.fam_notes.specs.declared.note.Note.{Note as Kept}
-use Rattle.fam_world.specs.View.{host_view, notes_view}
-use Rattle.fam_world.specs.declared.hosts.Host.{Host}
+
+-- every line that a cache holds is one of a media of so many lines
+pub record CacheFits (lines : ℕ) (cache : CacheState) : Type 0 where
+  pub below : (l : ℕ) → IsHeld (cell_at cache.lines l) → l < lines
 
 -- what is around an operation: the host, the journal, the media's image where it is modelled, and its count of faults
 pub record Around : Type 0 where
@@ -32,20 +33,6 @@ pub record Around : Type 0 where
   pub size : ℕ
   pub faults : ℕ
   pub faults_now : ℕ
-
--- around a call for a host, on a media, of which these tell the image, the size and the count of faults
-abbrev pub around_step : {M : Type 0} → (M → ℕ) → (M → MediaState) → Host → Host → List Kept → List Kept → M → M → Around
-around_step size state host host_now journal journal_now media media_now = record {
-  old = host_view host;
-  new = host_view host_now;
-  before = notes_view journal;
-  after = notes_view journal_now;
-  told = (state media).image;
-  now = (state media_now).image;
-  size = size media;
-  faults = (state media).faults;
-  faults_now = (state media_now).faults;
-}
 
 -- the media served it: the task goes on, or ends, by a word; that which the machine gives, where an image is modelled
 pub record IsServed (at : ℕ) (t : Task) (a : Around) (notes : List Note) (over : Bool) : Type 0 where

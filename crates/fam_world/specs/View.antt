@@ -12,6 +12,7 @@ use Rattle.fam_world.specs.declared.hosts.Host.{Host}
 abbrev pub host_view : Host → HostView
 host_view h = record { name = h.name; uuid = h.uuid; cache = h.cache.lines; task = h.task }
 
+-- all hosts
 abbrev pub views : List Host → List HostView
 views hosts = map host_view hosts
 

@@ -1,5 +1,9 @@
 //! Why a call did nothing, and what came of a step.
 
+ghost use Rattle.std.specs.Prelude.{◌≡◌};
+ghost use Rattle.fam_world.specs.Counted.{told_of};
+
+use fam_base::OutOfMemory;
 use fam_journal::Refusal;
 
 /// Why a call did nothing.
@@ -18,4 +22,14 @@ pub enum Moved {
     Going,
     /// The task has answered, or the media failed in the operation: the host has no task now.
     Answered,
+}
+
+/// What was done, or that there was no memory for it.
+pub(crate) fn or_fault<T>(done: Result<T, OutOfMemory>) -> Result<T, WorldFault>
+    ensures { result ≡ told_of done }
+{
+    match done {
+        Ok(done) => Ok(done),
+        Err(_) => Err(WorldFault::OutOfMemory),
+    }
 }

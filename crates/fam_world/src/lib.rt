@@ -5,16 +5,11 @@
 //! `steps` that of each of its steps (`specs/Counted.antt`).
 #![tactic(auto)]
 
-mod counted;
 mod fault;
 mod find;
 mod hosts;
-mod make;
-mod moves;
 mod notes;
-mod quiet;
-mod steps;
-mod whole;
+mod run;
 mod world;
 
 pub use fam_journal::{HostId, Refusal};

@@ -1,18 +1,17 @@
 //! Turns of a task that read the lines of a file.
 
-ghost use Rattle.std.specs.Prelude.{◌≡◌, true};
+ghost use Rattle.std.specs.Prelude.{◌≡◌};
 ghost use Rattle.fam_format.specs.Line.{last_word};
 ghost use Rattle.fam_commands.specs.declared.phase.Part.TheVariants as part;
 ghost use Rattle.fam_commands.specs.declared.phase.Phase.{Phase};
 ghost use Rattle.fam_commands.specs.declared.phase.Phase.TheVariants as at;
 ghost use Rattle.fam_commands.specs.Task as spec;
 ghost use Rattle.fam_commands.specs.Turns as turns;
-ghost use Rattle.fam_commands.specs.Turns.{turn_of};
 ghost use Rattle.fam_commands.specs.Classes.{IsRead, IsVerify};
-ghost use Rattle.fam_tasks.specs.Tells.{IsCompared, Tells, turn_by};
+ghost use Rattle.fam_tasks.specs.Tells.{Tells};
 
 use super::{Task, done};
-use crate::answer::{Answer, Turn, Verified};
+use crate::answer::{Answer, Turn};
 use crate::byte_text::ByteText;
 use crate::wanted::{wanted_lines, wanted_start};
 use fam_base::{Cmd, Line};
@@ -21,44 +20,7 @@ use fam_content::compare;
 use fam_format::{LAST_WORD, LINE_BYTES};
 use std::mem::replace;
 
-/// The turn of a task that ends with this answer, or just goes on.
-fn turn_with(ended: Option<Verified>) -> Turn
-    ensures { result ≡ turn_by ended }
-{
-    match ended {
-        Some(ended) => Turn::Done(ended.answer()),
-        None => Turn::Go,
-    }
-}
-
 impl Task {
-    /// Whether the next operation loads the last word of a line of a file that is compared.
-    #[inline(always)]
-    pub fn compares(&self) -> bool
-        ensures { result ≡ true → IsCompared self.now }
-    {
-        match self.phase {
-            Phase::Word {
-                part: Part::File,
-                word: LAST_WORD,
-                ..
-            } => matches!(self.cmd, Cmd::Verify { .. }),
-            _ => false,
-        }
-    }
-
-    /// Does what `feed` does with that word: the task ends with the answer, if there is one, and else it goes on.
-    #[inline(always)]
-    pub fn compare(&mut self, word: Option<u64>) -> Option<Verified>
-        requires { IsCompared self.old }
-        ensures { Tells (turn_of self.old word) (turn_by result) self.new }
-    {
-        match self.phase {
-            Phase::Word { line, .. } => self.compare_line(line, word.unwrap_or(0)),
-            _ => unreachable!(),
-        }
-    }
-
     /// The bytes of the file of the entry, none where there is no entry.
     pub(super) fn file_size(&self) -> u64
         ensures { result ≡ spec.size_of self.now.entry }
@@ -77,18 +39,18 @@ impl Task {
     {
         self.is_sound();
         match self.cmd {
-            Cmd::Verify { .. } => turn_with(self.compare_line(line, word)),
+            Cmd::Verify { .. } => self.compare_line(line, word),
             Cmd::Read { .. } => self.read_line(line, word),
             _ => unreachable!(),
         }
     }
 
-    /// A line of a file that is compared was loaded: the answer, where the task ends with it.
-    pub(super) fn compare_line(&mut self, line: u64, word: u64) -> Option<Verified>
+    /// The last word of a line of a file that is compared was loaded.
+    fn compare_line(&mut self, line: u64, word: u64) -> Turn
         requires phase { self.old.phase ≡ at.Word part.File line last_word }
         requires verify { IsVerify self.old.cmd }
         ensures { Tells (turns.file_turn self.old.cmd (turns.with_word self.old word) line)
-            (turn_by result) self.new }
+            result self.new }
     {
         self.buffer.push(word);
         let found = self.buffer.line(0);
@@ -100,13 +62,13 @@ impl Task {
         self.compare_found(line, &found)
     }
 
-    /// Compares these words of a line, of which none is held: the answer, where the task ends with it.
+    /// Compares these words of a line, of which none is held.
     #[inline(always)]
-    pub(super) fn compare_found(&mut self, line: u64, found: &Line) -> Option<Verified>
+    pub(super) fn compare_found(&mut self, line: u64, found: &Line) -> Turn
         requires phase { self.old.phase ≡ at.Drop part.File line }
         requires verify { IsVerify self.old.cmd }
         ensures { (phase : Phase) → Tells (turns.file_turn self.old.cmd
-            (record self.old { phase = phase; words = found.now }) line) (turn_by result) self.new }
+            (record self.old { phase = phase; words = found.now }) line) result self.new }
     {
         let size = self.file_size();
         let lines = wanted_lines(&self.cmd, size);
@@ -114,13 +76,13 @@ impl Task {
         self.contents.take(size);
         match compare(found, self.contents.line(), LINE_BYTES * line, size) {
             Some((offset, found, wanted)) => {
-                self.phase = Phase::FenceGate;
-                Some(Verified::Differs {
+                let answer = Answer::Differs {
                     m,
                     offset,
                     found,
                     wanted,
-                })
+                };
+                done(&mut self.phase, answer)
             }
             None => {
                 if line + 1 < lines {
@@ -128,10 +90,9 @@ impl Task {
                         part: Part::File,
                         line: line + 1,
                     };
-                    None
+                    Turn::Go
                 } else {
-                    self.phase = Phase::FenceGate;
-                    Some(Verified::Same { m })
+                    done(&mut self.phase, Answer::Same { m })
                 }
             }
         }

@@ -75,16 +75,6 @@ impl Task {
         };
     }
 
-    /// A line of a part was dropped.
-    pub(super) fn drop_line(&mut self, part: Part, line: u64) -> Turn
-        requires { self.old.phase ≡ at.Drop part line }
-        ensures turn { result ≡ Go }
-        ensures new { self.new ≡ record self.old { phase = at.Word part line 0 } }
-    {
-        self.begin_line(part, line);
-        Turn::Go
-    }
-
     /// Word `k` of a line of a part was loaded.
     pub(super) fn load_word(&mut self, part: Part, line: u64, k: u8, word: u64) -> Turn
         requires { self.old.phase ≡ at.Word part line k }

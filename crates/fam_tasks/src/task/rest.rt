@@ -1,17 +1,16 @@
 //! The rest of a line of which a task has loaded or stored the first word: the operations on its other words as a whole.
 //! And lines of a file of which none was: all operations on one that is stored, or compared.
 
-ghost use Rattle.std.specs.Prelude.{ℕ, suc, ◌≡◌, ◌≢◌, ◌+◌, ◌<◌, IfSome, None, length};
+ghost use Rattle.std.specs.Prelude.{ℕ, suc, ◌≡◌, ◌+◌, ◌<◌, IfSome, length};
 ghost use Rattle.fam_base.specs.Image.{eight};
 ghost use Rattle.fam_base.specs.declared.line.LineNo.{LineNo};
-ghost use Rattle.fam_commands.specs.declared.phase.Part.TheVariants as part;
 ghost use Rattle.fam_commands.specs.declared.phase.Phase.TheVariants as at;
 ghost use Rattle.fam_commands.specs.Task as spec;
 ghost use Rattle.fam_tasks.specs.Rest.{ComparesLine, DropsLine, IsComparedLine, IsFileLineDue, IsFileRest, IsRest, IsSlotRest, IsStoreRest, Loads, Stored, Stores, StoresFileLine, StoresFileRest, Taken};
 
 use super::Task;
-use crate::answer::Verified;
-use fam_base::{Cmd, Line, LineNo};
+use crate::answer::Turn;
+use fam_base::{Line, LineNo};
 use fam_commands::{Part, Phase};
 use fam_format::{LAST_WORD, LINE_WORDS};
 use fam_replay::line_of_slot;
@@ -99,33 +98,6 @@ impl Task {
         self.load_behind(part, number, k, count, words[k as usize]);
     }
 
-    /// The line of a file that is compared which the task drops next, if it does.
-    #[inline(always)]
-    pub fn line_compared(&self) -> Option<LineNo>
-        ensures { IfSome result (λ line. IsComparedLine line self.now) }
-    {
-        match self.phase {
-            Phase::Drop {
-                part: Part::File,
-                line,
-            } => self.compared(line),
-            _ => None,
-        }
-    }
-
-    /// A line of a file that is dropped next, where the file is compared.
-    #[inline(always)]
-    fn compared(&self, line: u64) -> Option<LineNo>
-        requires { self.now.phase ≡ at.Drop part.File line }
-        ensures { IfSome result (λ line. IsComparedLine line self.now) }
-    {
-        self.is_sound();
-        match self.cmd {
-            Cmd::Verify { .. } => Some(self.wanted_line(line)),
-            _ => None,
-        }
-    }
-
     /// The line that is dropped next was dropped: its first word is loaded next.
     pub fn drop_compared(&mut self, line: LineNo)
         requires compared { IsComparedLine line self.old }
@@ -138,9 +110,9 @@ impl Task {
         }
     }
 
-    /// The line that is dropped next was dropped, and all its words were loaded: the answer, where the task ends with it.
+    /// The line that is dropped next was dropped, and all its words were loaded.
     #[inline(always)]
-    pub fn compare_whole(&mut self, line: LineNo, words: &Line) -> Option<Verified>
+    pub fn compare_whole(&mut self, line: LineNo, words: &Line) -> Turn
         requires compared { IsComparedLine line self.old }
         ensures { ComparesLine line (eight words.now) self.old self.new result }
     {
@@ -216,21 +188,9 @@ impl Task {
         self.data_stored(number, LAST_WORD);
     }
 
-    /// The line of the new file of which the task stores word 0 next, if it does, and all words of that line.
-    #[inline(always)]
-    pub fn line_stored(&self) -> Option<(LineNo, Line)>
-        ensures due { IfSome result (λ due. IsFileLineDue due.0 due.1 self.now) }
-        ensures none { result ≡ None → (j : ℕ) → self.now.phase ≢ at.StoreData j 0 }
-    {
-        match self.phase {
-            Phase::StoreData { line, word: 0 } => Some(self.line_due(line)),
-            _ => None,
-        }
-    }
-
     /// A line of the new file, of which word 0 is stored next, and its words.
     #[inline(always)]
-    fn line_due(&self, line: u64) -> (LineNo, Line)
+    pub fn line_due(&self, line: u64) -> (LineNo, Line)
         requires { self.now.phase ≡ at.StoreData line 0 }
         ensures { IsFileLineDue result.0 result.1 self.now }
     {

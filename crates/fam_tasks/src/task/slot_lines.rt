@@ -1,6 +1,6 @@
 //! A line of a slot, which is dropped and whose words are all taken at once: of a long log nearly all operations are such.
 
-ghost use Rattle.std.specs.Prelude.{◌≡◌, ◌+◌, ◌<◌, ◌++◌, nat_lt, if◌then◌else◌, IfSome};
+ghost use Rattle.std.specs.Prelude.{◌≡◌, ◌+◌, ◌<◌, ◌++◌, nat_lt, if◌then◌else◌};
 ghost use Rattle.fam_base.specs.Image.{eight};
 ghost use Rattle.fam_format.specs.Layout.{geometry};
 ghost use Rattle.fam_commands.specs.declared.phase.Part.TheVariants as part;
@@ -37,23 +37,7 @@ fn move_on(phase: &mut Phase, part: Part, number: u64)
 }
 
 impl Task {
-    /// The line of a slot that the task drops next, before it loads its words, if it does.
-    #[inline(always)]
-    pub fn slot_due(&self) -> Option<SlotDue>
-        ensures due { IfSome result (λ due. self.now.phase ≡ at.Drop (part.Slot due.slot) due.line) }
-        ensures within { IfSome result (λ due. due.line < SLOT_LINES) }
-    {
-        self.is_sound();
-        match self.phase {
-            Phase::Drop {
-                part: Part::Slot(slot),
-                line,
-            } => Some(SlotDue { slot, line }),
-            _ => None,
-        }
-    }
-
-    /// The number of that line in the image.
+    /// The number in the image of the line of a slot that the task drops next.
     #[inline(always)]
     pub fn line_of_slot_due(&self, due: SlotDue) -> LineNo
         requires due { self.now.phase ≡ at.Drop (part.Slot due.slot) due.line }

@@ -67,15 +67,6 @@ impl Task {
         };
     }
 
-    /// A word of a line of the new file was stored.
-    pub(super) fn store_data(&mut self, line: u64, k: u8) -> Turn
-        requires { self.old.phase ≡ at.StoreData line k }
-        ensures { Tells (turn_of self.old None) result self.new }
-    {
-        self.data_stored(line, k);
-        Turn::Go
-    }
-
     /// A line of the new file was sent: the next one is stored, or the slot.
     #[inline(always)]
     pub(super) fn data_sent(&mut self, line: u64)
@@ -92,15 +83,6 @@ impl Task {
         } else {
             self.phase = Phase::StoreSlot { line: 0, word: 0 };
         }
-    }
-
-    /// A line of the new file was sent: the next one is stored, or the slot.
-    pub(super) fn send_data(&mut self, line: u64) -> Turn
-        requires { self.old.phase ≡ at.SendData line }
-        ensures { Tells (turn_of self.old None) result self.new }
-    {
-        self.data_sent(line);
-        Turn::Go
     }
 
     /// The store of a word of the new slot.
@@ -126,15 +108,6 @@ impl Task {
         };
     }
 
-    /// A word of the new slot was stored.
-    pub(super) fn store_slot(&mut self, line: u64, k: u8) -> Turn
-        requires { self.old.phase ≡ at.StoreSlot line k }
-        ensures { Tells (turn_of self.old None) result self.new }
-    {
-        self.slot_stored(line, k);
-        Turn::Go
-    }
-
     /// It was asked for a line of the new slot to be sent.
     #[inline(always)]
     pub(super) fn slot_sent(&mut self, line: u64)
@@ -149,15 +122,6 @@ impl Task {
         } else {
             Phase::FenceSlot
         };
-    }
-
-    /// It was asked for a line of the new slot to be sent.
-    pub(super) fn send_slot(&mut self, line: u64) -> Turn
-        requires { self.old.phase ≡ at.SendSlot line }
-        ensures { Tells (turn_of self.old None) result self.new }
-    {
-        self.slot_sent(line);
-        Turn::Go
     }
 
     /// The new slot was sent.
@@ -185,14 +149,5 @@ impl Task {
         ensures { Tells (turn_of self.old None) Go self.new }
     {
         self.phase = Phase::SendGate;
-    }
-
-    /// The gate was stored.
-    pub(super) fn store_gate(&mut self) -> Turn
-        requires { self.old.phase ≡ at.StoreGate }
-        ensures { Tells (turn_of self.old None) result self.new }
-    {
-        self.gate_stored();
-        Turn::Go
     }
 }

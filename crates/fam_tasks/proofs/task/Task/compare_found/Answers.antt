@@ -10,7 +10,6 @@ use Rattle.fam_commands.specs.Turns.{Ends, file_turn, line_or}
 use Rattle.fam_commands.specs.Classes.{IsVerify}
 use Rattle.fam_content.specs.Difference.{DiffersAt, IsFirst}
 use Rattle.fam_tasks.specs.declared.answer.Answer.TheVariants as answer
-use Rattle.fam_tasks.specs.declared.answer.Turn.TheVariants.{Done}
 use Rattle.fam_tasks.specs.Commands.{content_used}
 use Rattle.fam_tasks.specs.Contents.{ContentsState}
 use Rattle.fam_tasks.specs.Held.{IsHeldAt}
@@ -64,7 +63,7 @@ returns-in-Some c phase =
     let loaded : Task = record c.args.self.now { phase = phase; words = c.args.found.now } in
     let first : IsFirst c.args.found.now c.line.result.now (64 * c.args.line) c.file_size-size.result c.in-Some.offset c.in-Some.found c.in-Some.wanted = c.in-Some.ensures in
     differs_told loaded c.args.self.now.cmd c.args.line c.file_size-size.result c.args.found.now c.line.result.now c.requires.verify refl size wanted bytes
-    c.in-Some.offset c.in-Some.found c.in-Some.wanted c.count-m.result (Done (answer.Differs c.count-m.result c.in-Some.offset c.in-Some.found c.in-Some.wanted)) _ first count refl
+    c.in-Some.offset c.in-Some.found c.in-Some.wanted c.count-m.result c.done.result _ first count c.done.ensures.turn
 
 pub returns-then-line-lines : goal.returns-then-line-lines
 returns-then-line-lines c phase =
@@ -110,6 +109,6 @@ returns-else-line-lines c phase =
     let none : (o : ℕ) → DiffersAt c.args.found.now c.line.result.now (64 * c.args.line) c.file_size-size.result o → ⊥ = c.in-None.ensures in
     let told : file_turn c.args.self.now.cmd loaded c.args.line ≡ line_or (record loaded { words = [] }) File c.args.line (Ends (Same (length c.args.self.now.entries))) =
     same_told loaded c.args.self.now.cmd c.args.line c.file_size-size.result c.args.found.now c.line.result.now c.requires.verify refl size wanted bytes none in
-    replies _ (Done (answer.Same c.count-m.result)) _ (Same (length c.args.self.now.entries)) (answer.Same c.count-m.result)
+    replies _ c.done-else-line-lines.result _ (Same (length c.args.self.now.entries)) (answer.Same c.count-m.result)
     (told ∙ last_line (record loaded { words = [] }) c.args.line c.wanted_lines-lines.result _ lines c.if-line-lines.false)
-    refl (ap (λ (n : ℕ). Some (Same n)) count)
+    c.done-else-line-lines.ensures.turn (ap (λ (n : ℕ). Some (Same n)) count)

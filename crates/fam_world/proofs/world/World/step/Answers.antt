@@ -1,7 +1,10 @@
-use Rattle.std.proofs.Common.{subst, sym}
-use Rattle.fam_journal.specs.CallRecords.{FitsMedia}
-use Rattle.fam_journal.specs.View.{WorldView}
+use Rattle.std.proofs.Common.{ap}
+use Rattle.fam_world.specs.Counted.{WorldStanding}
+use Rattle.fam_world.proofs.Counting.{none_said, one_said}
 use Rattle.fam_world.proofs.world.World.step.Goals as goal
 
-pub step_in-requires-clause-fits : goal.step_in-requires-clause-fits
-step_in-requires-clause-fits g c = subst (λ (w : WorldView). FitsMedia (g.M.Media.size c.args.media.now) w.hosts) (sym c.self.view_is) c.requires.fits
+pub returns-clause-answered : goal.returns-clause-answered
+returns-clause-answered g c = one_said c.args.name.now _ _ _ c.steps.result c.steps.ensures.says
+
+pub returns-clause-err : goal.returns-clause-err
+returns-clause-err g c = λ full. ap (λ (s : WorldStanding). s.world) (none_said c.args.name.now _ _ _ c.steps.result c.steps.ensures.says full)

@@ -1,0 +1,95 @@
+//! What comes next of a task, as a whole: the lines of a slot, a line of a file, or one operation.
+
+ghost use Rattle.std.specs.Prelude.{◌≡◌, ◌⊎◌, ◌<◌, IsErrOf, OnErr, OnOk};
+ghost use Rattle.fam_media.specs.Causes.{IsSteady};
+ghost use Rattle.fam_cache.specs.Operations.{SendsWithin};
+ghost use Rattle.fam_commands.specs.FirstStore.{IsFirstStore};
+ghost use Rattle.fam_commands.specs.Task.{op_of};
+ghost use Rattle.fam_run.specs.Led.{Advanced};
+ghost use Rattle.fam_run.specs.Places.{HasPlaces, PlacesKept, PlacesMade};
+ghost use Rattle.fam_run.specs.Room.{WantsRoom};
+ghost use Rattle.fam_run.specs.Step.{around};
+
+use crate::comparing::compare_line;
+use crate::operation::operate;
+use crate::slots::load_slot;
+use crate::storing::store_line;
+use fam_base::OutOfMemory;
+use fam_cache::{HostCache, OperationFault};
+use fam_media::Media;
+use fam_tasks::{Due, Task, Turn};
+
+/// The places that the lines of an append want of its host's cache: one for the line of its file at hand, eight for its
+/// slot, and one for the gate.
+const APPEND_PLACES: u64 = 10;
+
+/// Makes places in a host's cache for all lines of an append, where its first store comes next.
+#[inline(always)]
+fn make_places(cache: &mut HostCache, task: &Task) -> Result<(), OutOfMemory>
+    ensures lines { cache.new.lines ≡ cache.old.lines }
+    ensures err { OnErr result (cache.new ≡ cache.old) }
+    ensures first { OnErr result (IsFirstStore task.now) }
+    ensures few { OnErr result (cache.old.spare < APPEND_PLACES) }
+    ensures other { (IsFirstStore task.now → ⊥) → cache.new ≡ cache.old }
+    ensures ready { OnOk result (IsFirstStore task.now ⊎ HasPlaces task.now cache.old → HasPlaces task.now cache.new) }
+{
+    if !task.stores_first() {
+        return Ok(());
+    }
+    cache.reserve(APPEND_PLACES)
+}
+
+/// As `advance`, of a task for which places are made.
+#[inline(always)]
+fn go_on<M: Media>(
+    cache: &mut HostCache,
+    task: &mut Task,
+    media: &mut M,
+) -> Result<Turn, OperationFault>
+    requires lines { task.old.lines ≡ M.size media.old }
+    requires asked { SendsWithin (op_of task.old) (M.size media.old) cache.old.lines }
+
+    ensures advanced { Advanced
+        (around M.size M.state task.old task.new cache.old cache.new media.old media.new) result }
+    ensures want { IsErrOf result OperationFault.OutOfMemory → WantsRoom task.old cache.old }
+    ensures places { PlacesKept task.old cache.old task.new cache.new result }
+    ensures steady { IsSteady M.size M.state media.old media.new }
+{
+    match task.due() {
+        Due::Slot(due) => load_slot(cache, task, media, due),
+        Due::Stored(number) => store_line(cache, task, media, number),
+        Due::Compared(line) => compare_line(cache, task, media, line),
+        Due::Other => operate(cache, task, media),
+    }
+}
+
+/// Goes on with a task that has not answered, and says what it says of the last operation: it does all operations on the
+/// lines of a slot that come next, or on a line of a file, by one call of the media a line, and else the next operation, as
+/// `operate` does. So it does where the host's copy is dirty, or holds any copy of a line that is to be stored.
+///
+/// Before the first store of an append it makes places in the cache for all lines that the append stores.
+///
+/// `MediaFault` names the line: the operations before the one that failed were done. `OutOfMemory` comes where the cache
+/// has no room for one more line, or for an append's, or where a Digest finds no memory. Then nothing was done.
+#[inline(always)]
+pub fn advance<M: Media>(
+    cache: &mut HostCache,
+    task: &mut Task,
+    media: &mut M,
+) -> Result<Turn, OperationFault>
+    requires lines { task.old.lines ≡ M.size media.old }
+    requires asked { SendsWithin (op_of task.old) (M.size media.old) cache.old.lines }
+
+    ensures advanced { Advanced
+        (around M.size M.state task.old task.new cache.old cache.new media.old media.new) result }
+    ensures want { IsErrOf result OperationFault.OutOfMemory → WantsRoom task.old cache.old }
+
+    // An append has its places from its first store on, and finds memory.
+    ensures places { PlacesMade task.old cache.old task.new cache.new result }
+    ensures steady { IsSteady M.size M.state media.old media.new }
+{
+    match make_places(cache, task) {
+        Ok(()) => go_on(cache, task, media),
+        Err(_) => Err(OperationFault::OutOfMemory),
+    }
+}

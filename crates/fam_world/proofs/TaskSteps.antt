@@ -1,0 +1,240 @@
+-- Operations of a task, as its cache and its media tell them, are steps of the host that runs it.
+use Rattle.std.proofs.Common.{◌≡◌, ℕ, suc, ◌<◌, ◌≤◌, inl, inr, List, [], ◌∷◌, ◌++◌, length, Bool, true, false, Option, Some, None, Result, Ok, Err, refl, ap, ap₂, sym, subst, ◌∙◌, arith, append-nil}
+use Rattle.fam_base.specs.Image.{Image}
+use Rattle.fam_base.specs.declared.line.LineNo.{LineNo}
+use Rattle.fam_base.specs.declared.line.OutOfMemory.{OutOfMemory}
+use Rattle.fam_cache.specs.declared.fault.OperationFault.{OperationFault}
+use Rattle.fam_cache.specs.declared.fault.OperationFault.TheVariants as fault
+use Rattle.fam_cache.proofs.Performed.{left_held}
+use Rattle.fam_commands.specs.Task.{Task, op_of}
+use Rattle.fam_machine.specs.Caches.{Cache, cell_at}
+use Rattle.fam_machine.specs.OneLine.{IsHeld}
+use Rattle.fam_media.specs.Outside.{IfModelled}
+use Rattle.fam_tasks.specs.declared.answer.Turn.{Turn}
+use Rattle.fam_tasks.specs.declared.answer.Turn.TheVariants.{Go, Note as Notes, Done}
+use Rattle.fam_run.specs.Led as led
+use Rattle.fam_run.specs.Led.{Advanced, HasBrokenOff, HasDone, Led}
+use Rattle.fam_run.specs.Operation.{IsBroken, IsDone, IsUndone, Operated, ended}
+use Rattle.fam_run.specs.Step.{Around as Passed}
+use Rattle.fam_run.proofs.Led.{led_lines}
+use Rattle.fam_run.proofs.Running.{lines_kept}
+use Rattle.fam_journal.specs.Notes.{Answered, MediaFault, Note}
+use Rattle.fam_journal.specs.View.{HostView}
+use Rattle.fam_world.specs.Counted.{HostStanding, HostStep, Iterated, Runs, more, none}
+use Rattle.fam_world.specs.Steps.{Around}
+use Rattle.fam_world.specs.Turns.{IsNoted, is_done, kept_by, turn_notes}
+use Rattle.fam_world.specs.declared.fault.Moved.{Moved}
+use Rattle.fam_world.specs.declared.fault.Moved.TheVariants as moved
+use Rattle.fam_world.proofs.Saying.{step_cut, step_served}
+
+-- a host that runs this task, if any, on this cache, with these notes, and what the media tells
+abbrev pub standing_at : HostView → Option Task → Cache → List Note → Option Image → ℕ → HostStanding
+standing_at view task held notes told faults = record { host = record view { task = task; cache = held }; notes = notes; told = told; faults = faults }
+
+-- What a result of operations tells, once it is noted.
+
+-- the task goes on
+pub record Went (at : ℕ) (r : Result Turn OperationFault) (old new : List Note) : Type 0 where
+  pub said : Turn
+  pub is : r ≡ Ok said
+  pub on : ended said ≡ None
+  pub noted : new ≡ old ++ turn_notes at said
+  pub over : is_done said ≡ false
+  pub kept : (next : Task) → kept_by said (Some next) ≡ Some next
+
+pub went : (at : ℕ) (r : Result Turn OperationFault) (old new : List Note) (res : Result Moved OutOfMemory) → IsNoted at r old new res → res ≡ Ok moved.Going → Went at r old new
+went at (Ok Go) old new res x is = record { said = Go; is = refl; on = refl; noted = x.0; over = refl; kept = λ next. refl }
+went at (Ok (Notes note)) old new res x is = record { said = Notes note; is = refl; on = refl; noted = x.0; over = refl; kept = λ next. refl }
+went at (Ok (Done answer)) old new res x is = absurd (let over : Ok moved.Answered ≡ Ok moved.Going = sym x.1 ∙ is in cc)
+went at (Err (fault.MediaFault line)) old new res x is = absurd (let over : Ok moved.Answered ≡ Ok moved.Going = sym x.1 ∙ is in cc)
+went at (Err fault.OutOfMemory) old new res x is = absurd (let full : Err record {} ≡ Ok moved.Going = sym x.1 ∙ is in cc)
+
+-- no memory was found
+pub lacked : (at : ℕ) (r : Result Turn OperationFault) (old new : List Note) (res : Result Moved OutOfMemory) (full : OutOfMemory) → IsNoted at r old new res → res ≡ Err full → (r ≡ Err fault.OutOfMemory) × (new ≡ old)
+lacked at (Ok said) old new res full x is = absurd (let over = sym x.1 ∙ is in cc)
+lacked at (Err (fault.MediaFault line)) old new res full x is = absurd (let over = sym x.1 ∙ is in cc)
+lacked at (Err fault.OutOfMemory) old new res full x is = (refl, x.0)
+
+-- where nothing was done a host stands as before
+pub stands_still : (view : HostView) (b : Passed) (notes notes_now : List Note) → IsUndone b → notes_now ≡ notes → standing_at view (Some b.next) b.new notes_now b.left b.now ≡ standing_at view (Some b.task) b.old notes b.modelled b.before
+stands_still view b notes notes_now undone same =
+    ap₂ (λ (t : Task) (k : Cache). standing_at view (Some t) k notes_now b.left b.now) undone.task undone.cache
+    ∙ ap₂ (λ (n : List Note) (o : Option Image). standing_at view (Some b.task) b.old n o b.now) same undone.image
+    ∙ ap (λ (f : ℕ). standing_at view (Some b.task) b.old notes b.modelled f) undone.faults
+
+module _ (at lines : ℕ) (view : HostView) where
+  -- an operation that was done
+  pub done_step : (b : Passed) (said : Turn) (notes notes_now : List Note) → IsDone b said → IfModelled b.modelled (λ image. length image ≡ lines) → b.task.lines ≡ lines → b.before ≤ b.now → notes_now ≡ notes ++ turn_notes at said
+      → HostStep at lines (is_done said) (standing_at view (Some b.task) b.old notes b.modelled b.before) (standing_at view (kept_by said (Some b.next)) b.new notes_now b.left b.now)
+  done_step b said notes notes_now x modelled fits later noted =
+      let a : Around = record {
+        old = record view { task = Some b.task; cache = b.old };
+        new = record view { task = kept_by said (Some b.next); cache = b.new };
+        before = notes;
+        after = notes_now;
+        told = b.modelled;
+        now = b.left;
+        size = lines;
+        faults = b.before;
+        faults_now = b.now;
+      } in
+      record {
+        task = b.task;
+        runs = refl;
+        modelled = modelled;
+        step = step_served at b.task b.next said a (is_done said) x.goes (Some b.next) refl refl noted refl later refl x.turned x.keeps x.leaves x.within fits;
+      }
+
+  -- the media failed in it
+  pub broken_step : (b : Passed) (line : LineNo) (notes notes_now : List Note) → IsBroken b line → IfModelled b.modelled (λ image. length image ≡ lines) → b.before ≤ b.now → notes_now ≡ notes ++ Answered at (MediaFault line.0) ∷ []
+      → HostStep at lines true (standing_at view (Some b.task) b.old notes b.modelled b.before) (standing_at view None b.new notes_now b.left b.now)
+  broken_step b line notes notes_now x modelled later noted =
+      let a : Around = record {
+        old = record view { task = Some b.task; cache = b.old };
+        new = record view { task = None; cache = b.new };
+        before = notes;
+        after = notes_now;
+        told = b.modelled;
+        now = b.left;
+        size = lines;
+        faults = b.before;
+        faults_now = b.now;
+      } in
+      record {
+        task = b.task;
+        runs = refl;
+        modelled = modelled;
+        step = step_cut at b.task a line noted refl later refl (left_held (op_of b.task) b.old b.new x.copies) x.failed x.rose;
+      }
+
+  -- operations that leave memory's image
+  pub led_runs : (told : Option Image) (faults : ℕ) (notes : List Note) → IfModelled told (λ image. length image ≡ lines) → (t next : Task) (held after : Cache) → Led told t held next after → t.lines ≡ lines
+      → Runs at lines (standing_at view (Some t) held notes told faults) (standing_at view (Some next) after notes told faults)
+  led_runs told faults notes modelled t _ held _ led.none fits = record { count = 0; goes = none }
+  led_runs told faults notes modelled t next held after (led.more {mid = mid} {now = now} before quiet) fits =
+      let first = led_runs told faults notes modelled t mid held now before fits in
+      let b : Passed = record { task = mid; next = next; old = now; new = after; modelled = told; left = told; size = lines; before = faults; now = faults } in
+      let one : IsDone b Go = record {
+        sound = quiet.sound;
+        within = quiet.within;
+        leaves = quiet.leaves;
+        goes = quiet.goes;
+        keeps = lines_kept after mid next Go quiet.sound quiet.goes;
+        turned = quiet.turned;
+        own = λ line is. absurd cc;
+      } in
+      record {
+        count = suc first.count;
+        goes = more first.goes (done_step b Go notes notes one modelled (led_lines told t mid held now before ∙ fits) (omega arith) (sym (append-nil notes)));
+      }
+
+  -- some, and one more that was done
+  pub record Reached (a : HostStanding) (over : Bool) (c : HostStanding) : Type 0 where
+    pub before : HostStanding
+    pub runs : Runs at lines a before
+    pub last : HostStep at lines over before c
+
+  pub done_reached : (b : Passed) (said : Turn) (notes notes_now : List Note) → HasDone b said → IfModelled b.modelled (λ image. length image ≡ lines) → b.task.lines ≡ lines → b.before ≤ b.now → notes_now ≡ notes ++ turn_notes at said
+      → Reached (standing_at view (Some b.task) b.old notes b.modelled b.before) (is_done said) (standing_at view (kept_by said (Some b.next)) b.new notes_now b.left b.now)
+  done_reached b said notes notes_now x modelled fits later noted =
+      let last : IsDone (record b { task = x.task; old = x.held }) said = record {
+        sound = x.sound;
+        within = x.within;
+        leaves = x.leaves;
+        goes = x.goes;
+        keeps = lines_kept b.new x.task b.next said x.sound x.goes;
+        turned = x.turned;
+        own = x.own;
+      } in
+      record {
+        before = standing_at view (Some x.task) x.held notes b.modelled b.before;
+        runs = led_runs b.modelled b.before notes modelled b.task x.task b.old x.held x.led fits;
+        last = done_step (record b { task = x.task; old = x.held }) said notes notes_now last modelled (led_lines b.modelled b.task x.task b.old x.held x.led ∙ fits) later noted;
+      }
+
+  pub broken_reached : (b : Passed) (line : LineNo) (notes notes_now : List Note) → HasBrokenOff b line → IfModelled b.modelled (λ image. length image ≡ lines) → b.task.lines ≡ lines → b.before ≤ b.now → notes_now ≡ notes ++ Answered at (MediaFault line.0) ∷ []
+      → Reached (standing_at view (Some b.task) b.old notes b.modelled b.before) true (standing_at view None b.new notes_now b.left b.now)
+  broken_reached b line notes notes_now x modelled fits later noted =
+      let a : Around = record {
+        old = record view { task = Some x.task; cache = x.held };
+        new = record view { task = None; cache = b.new };
+        before = notes;
+        after = notes_now;
+        told = b.modelled;
+        now = b.left;
+        size = lines;
+        faults = b.before;
+        faults_now = b.now;
+      } in
+      record {
+        before = standing_at view (Some x.task) x.held notes b.modelled b.before;
+        runs = led_runs b.modelled b.before notes modelled b.task x.task b.old x.held x.led fits;
+        last = record {
+          task = x.task;
+          runs = refl;
+          modelled = modelled;
+          step = step_cut at x.task a line noted refl later refl (left_held (op_of x.task) x.held b.new x.copies) x.failed x.rose;
+        };
+      }
+
+  module _ (b : Passed) (r : Result Turn OperationFault) (notes notes_now : List Note) (res : Result Moved OutOfMemory) (noted : IsNoted at r notes notes_now res) (modelled : IfModelled b.modelled (λ image. length image ≡ lines)) (fits : b.task.lines ≡ lines) (later : b.before ≤ b.now) where
+    -- what stands before and behind
+    abbrev pub start : HostStanding
+    start = standing_at view (Some b.task) b.old notes b.modelled b.before
+
+    abbrev pub end : Option Task → HostStanding
+    end task = standing_at view task b.new notes_now b.left b.now
+
+    -- of one operation
+
+    pub one_goes : Operated b r → res ≡ Ok moved.Going → HostStep at lines false start (end (Some b.next))
+    one_goes x is =
+        let w = went at r notes notes_now res noted is in
+        let done : IsDone b w.said = subst (Operated b) w.is x in
+        subst (λ (over : Bool). HostStep at lines over start (end (Some b.next))) w.over
+        (subst (λ (o : Option Task). HostStep at lines (is_done w.said) start (end o)) (w.kept b.next)
+        (done_step b w.said notes notes_now done modelled fits later w.noted))
+
+    -- of several
+
+    pub all_go : Advanced b r → res ≡ Ok moved.Going → Runs at lines start (end (Some b.next))
+    all_go x is =
+        let w = went at r notes notes_now res noted is in
+        let reached = done_reached b w.said notes notes_now (subst (Advanced b) w.is x) modelled fits later w.noted in
+        let last : HostStep at lines false reached.before (end (Some b.next)) =
+        subst (λ (over : Bool). HostStep at lines over reached.before (end (Some b.next))) w.over
+        (subst (λ (o : Option Task). HostStep at lines (is_done w.said) reached.before (end o)) (w.kept b.next) reached.last) in
+        record { count = suc reached.runs.count; goes = more reached.runs.goes last }
+
+  -- the task is over
+  pub one_ends : (b : Passed) (r : Result Turn OperationFault) (notes notes_now : List Note) (res : Result Moved OutOfMemory) → IsNoted at r notes notes_now res → IfModelled b.modelled (λ image. length image ≡ lines) → b.task.lines ≡ lines → b.before ≤ b.now → Operated b r → res ≡ Ok moved.Answered
+      → HostStep at lines true (standing_at view (Some b.task) b.old notes b.modelled b.before) (standing_at view None b.new notes_now b.left b.now)
+  one_ends b (Ok Go) notes notes_now res noted modelled fits later x is = absurd (let on : Ok moved.Going ≡ Ok moved.Answered = sym noted.1 ∙ is in cc)
+  one_ends b (Ok (Notes note)) notes notes_now res noted modelled fits later x is = absurd (let on : Ok moved.Going ≡ Ok moved.Answered = sym noted.1 ∙ is in cc)
+  one_ends b (Ok (Done answer)) notes notes_now res noted modelled fits later x is = done_step b (Done answer) notes notes_now x modelled fits later noted.0
+  one_ends b (Err (fault.MediaFault line)) notes notes_now res noted modelled fits later x is = broken_step b line notes notes_now x modelled later noted.0
+  one_ends b (Err fault.OutOfMemory) notes notes_now res noted modelled fits later x is = absurd (let full : Err record {} ≡ Ok moved.Answered = sym noted.1 ∙ is in cc)
+
+  pub all_end : (b : Passed) (r : Result Turn OperationFault) (notes notes_now : List Note) (res : Result Moved OutOfMemory) → IsNoted at r notes notes_now res → IfModelled b.modelled (λ image. length image ≡ lines) → b.task.lines ≡ lines → b.before ≤ b.now → Advanced b r → res ≡ Ok moved.Answered
+      → Reached (standing_at view (Some b.task) b.old notes b.modelled b.before) true (standing_at view None b.new notes_now b.left b.now)
+  all_end b (Ok Go) notes notes_now res noted modelled fits later x is = absurd (let on : Ok moved.Going ≡ Ok moved.Answered = sym noted.1 ∙ is in cc)
+  all_end b (Ok (Notes note)) notes notes_now res noted modelled fits later x is = absurd (let on : Ok moved.Going ≡ Ok moved.Answered = sym noted.1 ∙ is in cc)
+  all_end b (Ok (Done answer)) notes notes_now res noted modelled fits later x is = done_reached b (Done answer) notes notes_now x modelled fits later noted.0
+  all_end b (Err (fault.MediaFault line)) notes notes_now res noted modelled fits later x is = broken_reached b line notes notes_now x modelled fits later noted.0
+  all_end b (Err fault.OutOfMemory) notes notes_now res noted modelled fits later x is = absurd (let full : Err record {} ≡ Ok moved.Answered = sym noted.1 ∙ is in cc)
+
+-- The lines that a host holds are still those of the media.
+
+step_below : (at lines : ℕ) (a b : HostStanding) → HostStep at lines false a b → ((l : ℕ) → IsHeld (cell_at a.host.cache l) → l < lines) → (l : ℕ) → IsHeld (cell_at b.host.cache l) → l < lines
+step_below at lines a b x below l is =
+    elim x.step.how [
+      | inl served ↦ elim (served.held l is) [ inl less ↦ less | inr was ↦ below l was ]
+      | inr cut ↦ below l (cut.held l is)
+    ]
+
+pub steps_below : (at lines : ℕ) (a b : HostStanding) {n : ℕ} → Iterated (HostStep at lines false) a b n → ((l : ℕ) → IsHeld (cell_at a.host.cache l) → l < lines) → (l : ℕ) → IsHeld (cell_at b.host.cache l) → l < lines
+steps_below at lines a _ none below = below
+steps_below at lines a b (more {b = mid} before last) below = step_below at lines mid b last (steps_below at lines a mid before below)
+
+pub runs_below : (at lines : ℕ) (a b : HostStanding) → Runs at lines a b → ((l : ℕ) → IsHeld (cell_at a.host.cache l) → l < lines) → (l : ℕ) → IsHeld (cell_at b.host.cache l) → l < lines
+runs_below at lines a b runs below = steps_below at lines a b runs.goes below

@@ -1,0 +1,18 @@
+use Rattle.std.proofs.Common.{Option, Some, sym, subst}
+use Rattle.fam_commands.specs.Task.{Task}
+use Rattle.fam_journal.specs.View.{HostView}
+use Rattle.fam_world.specs.Counted.{HostStepsSay, task_standing}
+use Rattle.fam_world.specs.View.{host_view, notes_view}
+use Rattle.fam_world.proofs.run.steps_of.Goals as goal
+
+pub returns-clause-says : goal.returns-clause-says
+returns-clause-says g c =
+    let h = c.args.host.now in
+    let view : HostView = host_view h in
+    let size = g.M.Media.size c.args.media.now in
+    let notes = notes_view c.args.journal.now.items in
+    let notes_now = notes_view c.run_most-moved.new.journal.items in
+    let new = c.run_most-moved.new in
+    subst (λ (o : Option Task). HostStepsSay c.args.at size c.args.most (task_standing g.M.Media.state c.args.media.now view o h.cache notes) (task_standing g.M.Media.state new.media view c.leave.new.task new.cache notes_now) c.run_most-moved.result) (sym c.in-Some.is)
+    (subst (λ (o : Option Task). HostStepsSay c.args.at size c.args.most (task_standing g.M.Media.state c.args.media.now view (Some c.in-Some.task) h.cache notes) (task_standing g.M.Media.state new.media view o new.cache notes_now) c.run_most-moved.result) (sym c.leave.ensures)
+    (c.run_most-moved.ensures.says view))

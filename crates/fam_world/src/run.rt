@@ -1,0 +1,205 @@
+//! Operations of a host's task: so many of them, or all up to its answer.
+
+ghost use Rattle.std.specs.Prelude.{◌≡◌, ◌<◌, IfSome, None, Ok, OnErr, OnOk, Some, is_some, true, vec_capacity, vec_len};
+ghost use Rattle.fam_commands.specs.FirstStore.{IsUnstored};
+ghost use Rattle.fam_media.specs.Outside.{IfModelled};
+ghost use Rattle.fam_tasks.specs.declared.answer.Turn.TheVariants.{Go};
+ghost use Rattle.fam_journal.specs.CallRecords.{TaskFits};
+ghost use Rattle.fam_journal.specs.View.{HostView};
+ghost use Rattle.fam_world.specs.Counted.{HostStepsSay, RunsUp, host_standing, moved_up, task_left, task_standing};
+ghost use Rattle.fam_world.specs.Steps.{CacheFits};
+ghost use Rattle.fam_world.specs.Turns.{IsNoted, task_note};
+ghost use Rattle.fam_world.specs.View.{host_view, note_view, notes_view};
+
+use crate::fault::Moved;
+use crate::hosts::{Host, MOST_HOSTS, retire};
+use crate::notes::{add, make_room};
+use fam_base::OutOfMemory;
+use fam_cache::{HostCache, OperationFault};
+use fam_journal::HostId;
+use fam_media::Media;
+use fam_notes::Note;
+use fam_run::{advance, operate, operate_held};
+use fam_tasks::{Answer, Replica, Task, TaskNote, Turn};
+
+/// A note of a host's task.
+fn note_of(host: HostId, note: TaskNote) -> Note
+    ensures { note_view result ≡ task_note host.0 note }
+{
+    match note {
+        TaskNote::Mark => Note::Mark { host },
+        TaskNote::Found(n) => Note::Found { host, n },
+        TaskNote::Writes(seq, entry) => Note::Writes { host, seq, entry },
+    }
+}
+
+/// Notes what came of operations of a host's task, for which there is room, and says whether the task is over.
+#[inline(always)]
+fn note_turn(
+    journal: &mut Vec<Note>,
+    host: HostId,
+    turned: Result<Turn, OperationFault>,
+) -> Result<Moved, OutOfMemory>
+    requires room { vec_len journal.old < vec_capacity journal.old }
+    ensures noted { IsNoted host.0 turned (notes_view journal.old.items) (notes_view journal.new.items) result }
+    ensures quiet { turned ≡ Ok Go → journal.new ≡ journal.old }
+{
+    match turned {
+        Ok(Turn::Go) => Ok(Moved::Going),
+        Ok(Turn::Note(note)) => {
+            add(journal, note_of(host, note));
+            Ok(Moved::Going)
+        }
+        Ok(Turn::Done(answer)) => {
+            add(journal, Note::Answered { host, answer });
+            Ok(Moved::Answered)
+        }
+        Err(OperationFault::MediaFault(line)) => {
+            let answer = Answer::MediaFault(line);
+            add(journal, Note::Answered { host, answer });
+            Ok(Moved::Answered)
+        }
+        Err(OperationFault::OutOfMemory) => Err(OutOfMemory),
+    }
+}
+
+/// Does so many operations of a host's task, or fewer where it answers. Those on a line that the host holds come in a row.
+/// Where no memory was found those before stand.
+fn run_most<M: Media>(
+    cache: &mut HostCache,
+    task: &mut Task,
+    journal: &mut Vec<Note>,
+    media: &mut M,
+    host: HostId,
+    most: u64,
+) -> Result<Moved, OutOfMemory>
+    requires fits { task.old.lines ≡ M.size media.old }
+    requires cached { CacheFits (M.size media.old) cache.old }
+    ensures says { (view : HostView) → HostStepsSay host.0 (M.size media.old) most
+        (task_standing M.state media.old view (Some task.old) cache.old (notes_view journal.old.items))
+        (task_standing M.state media.new view (task_left result (Some task.new)) cache.new
+        (notes_view journal.new.items)) result }
+    ensures undone { most ≡ 1 → OnErr result (media.new ≡ media.old) }
+    ensures size { M.size media.new ≡ M.size media.old }
+{
+    let mut done = 0;
+    'operations: while done < most {
+        if make_room(journal).is_err() {
+            return Err(OutOfMemory);
+        }
+        match note_turn(journal, host, operate(cache, task, media)) {
+            Ok(Moved::Going) => {
+                done += 1;
+                done += operate_held(cache, task, most - done);
+            }
+            Ok(Moved::Answered) => return Ok(Moved::Answered),
+            Err(_) => return Err(OutOfMemory),
+        }
+    }
+    Ok(Moved::Going)
+}
+
+/// Does operations of a host's task up to its answer. Where no memory was found those before stand; but where nothing of
+/// the task was stored at first, and its host's cache had nothing to send, memory is as it was then.
+fn run_up<M: Media>(
+    cache: &mut HostCache,
+    task: &mut Task,
+    journal: &mut Vec<Note>,
+    media: &mut M,
+    host: HostId,
+) -> Result<(), OutOfMemory>
+    requires fits { task.old.lines ≡ M.size media.old }
+    requires cached { CacheFits (M.size media.old) cache.old }
+    ensures runs { (view : HostView) → RunsUp host.0 (M.size media.old)
+        (task_standing M.state media.old view (Some task.old) cache.old (notes_view journal.old.items))
+        (task_standing M.state media.new view (task_left (moved_up result) (Some task.new)) cache.new
+        (notes_view journal.new.items)) result }
+    ensures same { OnErr result (IsUnstored task.old cache.old.lines
+        → IfModelled (M.state media.old).image (λ image. (M.state media.new).image ≡ Some image)) }
+    ensures size { M.size media.new ≡ M.size media.old }
+{
+    'operations: loop {
+        if make_room(journal).is_err() {
+            return Err(OutOfMemory);
+        }
+        match note_turn(journal, host, advance(cache, task, media)) {
+            Ok(Moved::Going) => {
+                task.is_sound();
+                let _ = operate_held(cache, task, u64::MAX);
+                task.is_sound();
+            }
+            Ok(Moved::Answered) => return Ok(()),
+            Err(_) => return Err(OutOfMemory),
+        }
+    }
+}
+
+/// Ends a host's task that has answered.
+fn leave(task: &mut Option<Task>, replica: &mut Option<Replica>, moved: &Result<Moved, OutOfMemory>)
+    ensures { task.new ≡ task_left moved.now task.old }
+{
+    if let Ok(Moved::Answered) = moved {
+        retire(task, replica);
+    }
+}
+
+/// As `run_most`, of the task that a host runs, which there is. Behind its answer the host has no task.
+pub(crate) fn steps_of<M: Media>(
+    host: &mut Host,
+    journal: &mut Vec<Note>,
+    media: &mut M,
+    at: usize,
+    most: u64,
+) -> Result<Moved, OutOfMemory>
+    requires runs { is_some host.old.task ≡ true }
+    requires fits { TaskFits (M.size media.old) host.old.task }
+    requires cached { CacheFits (M.size media.old) host.old.cache }
+    requires few { at < MOST_HOSTS }
+    ensures says { HostStepsSay at (M.size media.old) most
+        (host_standing M.state media.old (host_view host.old) (notes_view journal.old.items))
+        (host_standing M.state media.new (host_view host.new) (notes_view journal.new.items)) result }
+    ensures undone { most ≡ 1 → OnErr result (media.new ≡ media.old) }
+    ensures size { M.size media.new ≡ M.size media.old }
+{
+    let Some(task) = &mut host.task else {
+        unreachable!();
+    };
+    let moved = run_most(
+        &mut host.cache,
+        task,
+        journal,
+        media,
+        HostId(at as u32),
+        most,
+    );
+    leave(&mut host.task, &mut host.replica, &moved);
+    moved
+}
+
+/// As `run_up`, of the task that a host runs, which there is. Behind its answer the host has no task.
+pub(crate) fn finish_of<M: Media>(
+    host: &mut Host,
+    journal: &mut Vec<Note>,
+    media: &mut M,
+    at: usize,
+) -> Result<(), OutOfMemory>
+    requires runs { is_some host.old.task ≡ true }
+    requires fits { TaskFits (M.size media.old) host.old.task }
+    requires cached { CacheFits (M.size media.old) host.old.cache }
+    requires few { at < MOST_HOSTS }
+    ensures runs { RunsUp at (M.size media.old)
+        (host_standing M.state media.old (host_view host.old) (notes_view journal.old.items))
+        (host_standing M.state media.new (host_view host.new) (notes_view journal.new.items)) result }
+    ensures over { OnOk result (host.new.task ≡ None) }
+    ensures on { OnErr result (is_some host.new.task ≡ true) }
+    ensures same { OnErr result (IfSome host.old.task (λ t. IsUnstored t host.old.cache.lines
+        → IfModelled (M.state media.old).image (λ image. (M.state media.new).image ≡ Some image))) }
+    ensures size { M.size media.new ≡ M.size media.old }
+{
+    let Some(task) = &mut host.task else {
+        unreachable!();
+    };
+    run_up(&mut host.cache, task, journal, media, HostId(at as u32))?;
+    retire(&mut host.task, &mut host.replica);
+    Ok(())
+}

@@ -1,0 +1,185 @@
+//! Making a file system.
+
+ghost use Rattle.std.specs.Prelude.{◌≡◌, ◌*◌, ◌<◌, ◌≤◌, ◌++◌, ◌∷◌, [], OnErr, vec_capacity, Bool, None, ℕ, List, IfErr, IfOk, IfSome, IsErrOf, OnOk, option_map, vec_len};
+ghost use Rattle.fam_format.specs.Params.{IsUuid};
+ghost use Rattle.fam_rules.specs.Place.{line_bytes};
+ghost use Rattle.fam_machine.specs.Mkfs.{early_refusal};
+ghost use Rattle.fam_machine.specs.Mkfs as spec;
+ghost use Rattle.fam_machine.specs.MkfsRequest.{mkfs_request};
+ghost use Rattle.fam_machine.specs.Caches.{cell_at};
+ghost use Rattle.fam_media.specs.Causes.{IsSteady};
+ghost use Rattle.fam_cache.specs.Runs.{over};
+ghost use Rattle.fam_mkfs.specs.Ends.{MkfsEnds};
+ghost use Rattle.fam_mkfs.specs.Parts.{IsElsewhere};
+ghost use Rattle.fam_mkfs.specs.Refusals as refusals;
+ghost use Rattle.fam_world.specs.Makes.{IsLateEnd, end_note, end_result};
+ghost use Rattle.fam_journal.specs.Calls.{Makes, cause_of};
+ghost use Rattle.fam_journal.specs.CallRecords.{MakeCall};
+ghost use Rattle.fam_journal.specs.Notes as notes;
+ghost use Rattle.fam_world.specs.Answers.{IfAnswered, IsPlaced, IsPlain};
+ghost use Rattle.fam_world.specs.View.{notes_view, views};
+
+use super::World;
+use crate::fault::WorldFault;
+use crate::find::{busy_host, dirty_host, number};
+use crate::hosts::{Host, MOST_HOSTS};
+use crate::notes::{add, make_room, refused};
+use fam_base::{HostName, OutOfMemory};
+use fam_format::LINE_BYTES;
+use fam_journal::{HostId, Refusal};
+use fam_machine::MkfsRequest;
+use fam_media::{MOST_LINES, Media};
+use fam_mkfs::{MkfsEnd, mkfs, refusal};
+use fam_notes::Note;
+use uuid::Uuid;
+
+/// What is refused of the numbers alone, on a device of so many bytes.
+fn early_cause(unit: u64, log: u64, have: u64) -> Option<Refusal>
+    ensures cause { result ≡ option_map cause_of (early_refusal unit log have) }
+    ensures free { result ≡ None → refusals.refusal unit log have ≡ None }
+    ensures plain { IfSome result IsPlain }
+{
+    match refusal(unit, log, have) {
+        Some(MkfsEnd::BadGeometry { unit, log }) => Some(Refusal::BadGeometry { unit, log }),
+        Some(MkfsEnd::TooSmall { need, have }) => Some(Refusal::TooSmall { need, have }),
+        Some(_) => unreachable!(),
+        None => None,
+    }
+}
+
+/// The host of this name, which may make a file system, on a media of so many lines; or why not.
+fn maker(
+    hosts: &Vec<Host>,
+    name: &HostName,
+    request: &MkfsRequest,
+    lines: u64,
+) -> Result<usize, Refusal>
+    requires few { vec_len hosts.now ≤ MOST_HOSTS }
+    requires most { lines ≤ MOST_LINES }
+    ensures within { IfOk result (λ at. at < vec_len hosts.now) }
+    ensures plain { IfErr result IsPlain }
+    ensures placed { (journal : List notes.Note)
+        → IsPlaced (Makes name.now request.now) lines (record { hosts = views hosts.now.items; journal = journal }) result }
+    ensures free { OnOk result (refusals.refusal request.now.unit request.now.log (line_bytes * lines) ≡ None) }
+{
+    let Some(at) = number(hosts, name) else {
+        return Err(Refusal::NoHost);
+    };
+    if let Some(cause) = early_cause(request.unit, request.log, LINE_BYTES * lines) {
+        return Err(cause);
+    }
+    if let Some(busy) = busy_host(hosts) {
+        return Err(Refusal::Busy(HostId(busy as u32)));
+    }
+    if let Some(dirty) = dirty_host(hosts, at) {
+        return Err(Refusal::Dirty(HostId(dirty as u32)));
+    }
+    Ok(at)
+}
+
+/// Sixteen bytes may be those of a UUID.
+fn are_bytes(bytes: [u8; 16])
+    ensures { IsUuid bytes }
+{
+    let _ = bytes[0];
+}
+
+/// A UUID has sixteen bytes.
+fn is_uuid(id: Uuid)
+    ensures { IsUuid id }
+{
+    are_bytes(id.into_bytes());
+}
+
+/// Makes a file system through the cache of a host, of which the numbers are no hindrance.
+fn make_host<M: Media>(
+    host: &mut Host,
+    media: &mut M,
+    request: &MkfsRequest,
+) -> Result<MkfsEnd, OutOfMemory>
+    requires free { refusals.refusal request.now.unit request.now.log (line_bytes * M.size media.old) ≡ None }
+    ensures host { host.new ≡ record host.old { cache = host.new.cache } }
+    ensures ends { IfOk result (MkfsEnds (spec.asked request.now host.old.uuid (M.size media.old)) request.now.force (M.size media.old)
+        (over (M.state media.old).image host.old.cache.lines) (over (M.state media.new).image host.new.cache.lines)
+        (M.state media.old).faults (M.state media.new).faults) }
+    ensures others { (line : ℕ) → IsElsewhere line
+        → cell_at host.new.cache.lines line ≡ cell_at host.old.cache.lines line }
+    ensures undone { OnErr result (media.new ≡ media.old) }
+    ensures kept { OnErr result (host.new ≡ host.old) }
+    ensures steady { IsSteady M.size M.state media.old media.new }
+{
+    mkfs(&mut host.cache, media, request, host.uuid)
+}
+
+/// Notes how making a file system ended, for which there is room, and gives the refusal that it is, if any.
+fn note_end(
+    journal: &mut Vec<Note>,
+    name: &HostName,
+    at: usize,
+    end: MkfsEnd,
+) -> Result<(), WorldFault>
+    requires few { at < MOST_HOSTS }
+    requires late { IsLateEnd end }
+    requires room { vec_len journal.old < vec_capacity journal.old }
+    ensures noted { notes_view journal.new.items ≡ notes_view journal.old.items ++ end_note at name.now end ∷ [] }
+    ensures given { result ≡ end_result end }
+{
+    match end {
+        MkfsEnd::Made(params) => {
+            add(
+                journal,
+                Note::Made {
+                    host: HostId(at as u32),
+                    params,
+                },
+            );
+            Ok(())
+        }
+        MkfsEnd::HasSuper(id) => Err(refused(journal, name, Refusal::HasSuper(id))),
+        MkfsEnd::Failed(line) => Err(refused(journal, name, Refusal::MediaFault(line))),
+        MkfsEnd::BadGeometry { .. } => unreachable!(),
+        MkfsEnd::TooSmall { .. } => unreachable!(),
+    }
+}
+
+impl World {
+    /// A host makes a file system with the UUID `fs`, units of so many bytes and a log of so many bytes, on the whole
+    /// media. The first of these refuses it: `NoHost`; `BadGeometry` and `TooSmall`, by the numbers; `Busy`, the first
+    /// host that has a task; `Dirty`, the first other host with a line that memory may lack; `HasSuper`, where a
+    /// superblock reads in lines 0, 1 and 2 and `force` is false. `MediaFault` comes where the media failed, and the
+    /// operations before it were done. All room is taken first.
+    pub fn mkfs<M: Media>(
+        &mut self,
+        media: &mut M,
+        name: &HostName,
+        fs: Uuid,
+        unit: u64,
+        log: u64,
+        force: bool,
+    ) -> Result<(), WorldFault>
+        ensures answered { IfAnswered result (λ answered. MakeCall (Makes name.now (mkfs_request fs unit log force)) (M.size media.old)
+            answered (M.state media.old).image (M.state media.new).image (M.state media.old).faults (M.state media.new).faults self.old self.new) }
+        ensures undone { IsErrOf result WorldFault.OutOfMemory → media.new ≡ media.old }
+        ensures err { IsErrOf result WorldFault.OutOfMemory → self.new ≡ self.old }
+        ensures size { M.size media.new ≡ M.size media.old }
+    {
+        let request = MkfsRequest {
+            fs,
+            unit,
+            log,
+            force,
+        };
+        is_uuid(fs);
+        if make_room(&mut self.journal).is_err() {
+            return Err(WorldFault::OutOfMemory);
+        }
+        let at = match maker(&self.hosts, name, &request, media.lines()) {
+            Ok(at) => at,
+            Err(cause) => return Err(refused(&mut self.journal, name, cause)),
+        };
+        match make_host(&mut self.hosts[at], media, &request) {
+            Ok(end) => note_end(&mut self.journal, name, at, end),
+            Err(_) => Err(WorldFault::OutOfMemory),
+        }
+    }
+}

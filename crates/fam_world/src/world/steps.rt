@@ -1,0 +1,83 @@
+//! Calls that do operations of a host's task: one, so many, or all up to its answer.
+
+ghost use Rattle.std.specs.Prelude.{◌≡◌, ◌<◌, IsErrOf};
+ghost use Rattle.fam_journal.specs.Calls.{Finishes};
+ghost use Rattle.fam_journal.specs.CallRecords.{FinishOutOfMemory, FitsMedia, MediaCall, StepCall};
+ghost use Rattle.fam_world.specs.Answers.{IfAnswered, IfStepped};
+ghost use Rattle.fam_world.specs.Counted.{StepsSay, standing};
+
+use super::World;
+use crate::fault::{Moved, WorldFault, or_fault};
+use crate::find::running;
+use crate::notes::{make_room, refused};
+use crate::run::{finish_of, steps_of};
+use fam_base::HostName;
+use fam_media::Media;
+
+impl World {
+    /// Does one operation of a host's task, on the host's cache and the one memory, and notes what comes of it. `NoHost`,
+    /// or else `Idle` where it has no task. Where the media fails the task answers so, and is gone.
+    ///
+    /// On `OutOfMemory` nothing was done, and the step may be tried again.
+    pub fn step<M: Media>(&mut self, media: &mut M, name: &HostName) -> Result<Moved, WorldFault>
+        requires fits { FitsMedia (M.size media.old) self.old.hosts }
+
+        ensures answered { IfStepped result (λ answered over. StepCall name.now (M.size media.old) answered over
+            (M.state media.old).image (M.state media.new).image (M.state media.old).faults (M.state media.new).faults self.old self.new) }
+        ensures undone { IsErrOf result WorldFault.OutOfMemory → media.new ≡ media.old }
+        ensures err { IsErrOf result WorldFault.OutOfMemory → self.new ≡ self.old }
+        ensures size { M.size media.new ≡ M.size media.old }
+    {
+        self.steps(media, name, 1)
+    }
+
+    /// Does so many operations of a host's task, one behind another, as `step` does each, or fewer where it answers. Refused
+    /// as `step`.
+    ///
+    /// On `OutOfMemory` fewer were done, and the task may be gone on with.
+    pub fn steps<M: Media>(
+        &mut self,
+        media: &mut M,
+        name: &HostName,
+        most: u64,
+    ) -> Result<Moved, WorldFault>
+        requires some { 0 < most }
+        requires fits { FitsMedia (M.size media.old) self.old.hosts }
+
+        ensures says { StepsSay name.now (M.size media.old) most (standing M.state media.old self.old)
+            (standing M.state media.new self.new) result }
+        ensures undone { most ≡ 1 → IsErrOf result WorldFault.OutOfMemory → media.new ≡ media.old }
+        ensures size { M.size media.new ≡ M.size media.old }
+    {
+        if make_room(&mut self.journal).is_err() {
+            return Err(WorldFault::OutOfMemory);
+        }
+        let at = match running(&self.hosts, name) {
+            Ok(at) => at,
+            Err(cause) => return Err(refused(&mut self.journal, name, cause)),
+        };
+        or_fault(steps_of(&mut self.hosts[at], &mut self.journal, media, at, most))
+    }
+
+    /// Does operations of a host's task up to its answer. Refused as `step`.
+    ///
+    /// On `OutOfMemory` the operations before were done, and the task, which has not answered, may be gone on with.
+    pub fn finish<M: Media>(&mut self, media: &mut M, name: &HostName) -> Result<(), WorldFault>
+        requires fits { FitsMedia (M.size media.old) self.old.hosts }
+
+        ensures answered { IfAnswered result (λ answered. MediaCall (Finishes name.now) (M.size media.old) answered
+            (M.state media.old).image (M.state media.new).image (M.state media.old).faults (M.state media.new).faults self.old self.new) }
+        ensures want { IsErrOf result WorldFault.OutOfMemory → FinishOutOfMemory name.now (M.size media.old)
+            (M.state media.old).image (M.state media.new).image (M.state media.old).faults (M.state media.new).faults self.old self.new }
+        ensures size { M.size media.new ≡ M.size media.old }
+    {
+        if make_room(&mut self.journal).is_err() {
+            return Err(WorldFault::OutOfMemory);
+        }
+        let at = match running(&self.hosts, name) {
+            Ok(at) => at,
+            Err(cause) => return Err(refused(&mut self.journal, name, cause)),
+        };
+        or_fault(finish_of(&mut self.hosts[at], &mut self.journal, media, at))
+    }
+}
