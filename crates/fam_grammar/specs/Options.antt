@@ -39,6 +39,14 @@ file_option_of word =
     (keyed (value_behind (codes "seed=") word) (λ v. option_map file.Seed (number_of_text v))
     (keyed (value_behind (codes "stripe=") word) (λ v. option_map file.Stripe (stripe_of v)) None))))
 
+-- the options of a file that are given, as crates above name them
+abbrev pub GivenOptions : Type 0
+GivenOptions = FileOptions
+
+-- which options a command takes, as crates above name it
+abbrev pub TakenOptions : Type 0
+TakenOptions = Takes
+
 -- one more option, of a line that takes these
 abbrev pub with_file_option : Takes → FileOptions → FileOption → Option FileOptions
 with_file_option takes given (file.Mode mode) = once given.mode (record given { mode = Some mode })

@@ -13,11 +13,9 @@ use Rattle.fam_base.specs.Paths.{is_path}
 use Rattle.fam_tree.specs.Lines.{mode_text}
 use Rattle.fam_journal.specs.declared.event.Ask.TheVariants as ask
 use Rattle.fam_outcomes.specs.Texts.{attr_text, cmd_text, number, name_text, seed_text, stripe_text}
-use Rattle.fam_grammar.specs.declared.options.FileOptions.{FileOptions}
-use Rattle.fam_grammar.specs.declared.options.Takes.{Takes}
 use Rattle.fam_grammar.specs.Keywords.{command_word}
 use Rattle.fam_grammar.specs.Lines.{ask_line, fill_of, mkdir_takes, creat_takes}
-use Rattle.fam_grammar.specs.Options.{file_option_of, file_options, no_file_options, with_file_word}
+use Rattle.fam_grammar.specs.Options.{GivenOptions, TakenOptions, file_option_of, file_options, no_file_options, with_file_word}
 use Rattle.fam_script.specs.Spelled.{HasSpelling, IsSpelledAttr, IsSpelledContent, IsSpelledStripe}
 use Rattle.fam_grammar.specs.Reading.{Reading, Reads, Misfit}
 use Rattle.fam_grammar.specs.Spellings.{id_of}
@@ -72,19 +70,19 @@ gid_is_word attr is = (refl, (refl, (refl, (refl, id_no_blank attr.gid is.gid)))
 
 -- Options, one by one.
 
-option_step : (takes : Takes) (given more : FileOptions) (column : ℕ) (text : List ℕ) (rest : List Word) → with_file_word takes given text ≡ Some more
+option_step : (takes : TakenOptions) (given more : GivenOptions) (column : ℕ) (text : List ℕ) (rest : List Word) → with_file_word takes given text ≡ Some more
     → file_options takes given (record { column = column; text = text } ∷ rest) ≡ file_options takes more rest
 option_step takes given more column text rest is =
-    ap (λ (o : Option FileOptions). elim o as (λ _. Reading FileOptions) [ None ↦ Misfit column | Some next ↦ file_options takes next rest ]) is
+    ap (λ (o : Option GivenOptions). elim o as (λ _. Reading GivenOptions) [ None ↦ Misfit column | Some next ↦ file_options takes next rest ]) is
 
-module _ (takes : Takes) (attr : Attr) (is : IsSpelledAttr attr) where
-  abbrev with_mode : FileOptions
+module _ (takes : TakenOptions) (attr : Attr) (is : IsSpelledAttr attr) where
+  abbrev with_mode : GivenOptions
   with_mode = record no_file_options { mode = Some attr.mode }
 
-  abbrev with_uid : FileOptions
+  abbrev with_uid : GivenOptions
   with_uid = record with_mode { uid = Some attr.uid }
 
-  abbrev with_attr : FileOptions
+  abbrev with_attr : GivenOptions
   with_attr = record with_uid { gid = Some attr.gid }
 
   mode_taken : with_file_word takes no_file_options (mode_word attr) ≡ Some with_mode
@@ -214,14 +212,14 @@ seed_of (content.Seed seed) = Some seed
 seed_of (content.Bytes bytes) = None
 
 module _ (attr : Attr) (spelled : IsSpelledAttr attr) where
-  abbrev attr_given : FileOptions
+  abbrev attr_given : GivenOptions
   attr_given = record { mode = Some attr.mode; uid = Some attr.uid; gid = Some attr.gid; seed = None; stripe = None }
 
   seed_taken : (seed : ℕ) → seed < 2 ^ 64 → with_file_word creat_takes attr_given (seed_word seed) ≡ Some (record attr_given { seed = Some seed })
   unfolding file_option_of
   seed_taken seed small = rw (number-decimal seed small) refl
 
-  seed_read : (fill : Content) → IsSpelledContent fill → (more : List (List ℕ)) (R : Reading FileOptions)
+  seed_read : (fill : Content) → IsSpelledContent fill → (more : List (List ℕ)) (R : Reading GivenOptions)
       → ((column : ℕ) → file_options creat_takes (record attr_given { seed = seed_of fill }) (placed column more) ≡ R)
       → (column : ℕ) → file_options creat_takes attr_given (placed column (seed_words fill ++ more)) ≡ R
   seed_read content.Zero is more R next column = next column
