@@ -33,7 +33,7 @@ use Rattle.fam_run.proofs.FirstStores.{first_phase}
 use Rattle.fam_base.specs.declared.line.OutOfMemory.{OutOfMemory}
 use Rattle.fam_world.specs.declared.fault.Moved.{Moved}
 use Rattle.fam_world.specs.Answers.{is_over}
-use Rattle.fam_world.specs.Places.{AreUnstored, IsCalm, IsSafe, KeepsTaskPlaces, TaskHasPlaces}
+use Rattle.fam_world.specs.Places.{AreUnstored, IfPlaced, IsCalm, IsSafe, KeepsTaskPlaces, TaskHasPlaces}
 use Rattle.fam_world.specs.Steps.{Around}
 use Rattle.fam_world.specs.View.{host_view, views}
 use Rattle.fam_world.specs.Whole.{IsLedStep}
@@ -239,3 +239,10 @@ pub go_places : (r : Result Moved OutOfMemory) (o : Option Task) (cache mid afte
 go_places (Err full) o cache mid after new ready places = tt
 go_places (Ok moved) None cache mid after new ready places = λ going. tt
 go_places (Ok moved) (Some t) cache mid after new ready places = λ going. λ has. places going (ready has)
+
+-- and what holds where there are such places holds behind it
+pub go_placed : (r : Result Moved OutOfMemory) (o : Option Task) (cache mid : CacheState) (P : Type 0) → IfSome o (λ t. IsFirstStore t ⊎ HasPlaces t cache → HasPlaces t mid) → IfOk r (λ moved. is_over moved ≡ false → IfPlaced o mid P)
+    → IfOk r (λ moved. is_over moved ≡ false → IfSome o (λ t. IsFirstStore t ⊎ HasPlaces t cache → P))
+go_placed (Err full) o cache mid P ready holds = tt
+go_placed (Ok moved) None cache mid P ready holds = λ going. tt
+go_placed (Ok moved) (Some t) cache mid P ready holds = λ going. λ has. holds going (ready has)
