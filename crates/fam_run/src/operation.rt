@@ -1,6 +1,7 @@
 //! One operation of a task, on its host's cache and the one memory.
 
 ghost use Rattle.std.specs.Prelude.{◌≡◌, IsErrOf};
+ghost use Rattle.fam_machine.specs.Operations.{IsWithin};
 ghost use Rattle.fam_media.specs.Causes.{IsSteady};
 ghost use Rattle.fam_cache.specs.Operations.{SendsWithin};
 ghost use Rattle.fam_commands.specs.Task.{op_of};
@@ -30,6 +31,7 @@ pub fn operate<M: Media>(
 
     ensures operated { Operated
         (around M.size M.state task.old task.new cache.old cache.new media.old media.new) result }
+    ensures within { IsWithin task.old.lines (op_of task.old) }
     ensures undone { IsErrOf result OperationFault.OutOfMemory → media.new ≡ media.old }
     ensures unchanged { IsErrOf result OperationFault.OutOfMemory → cache.new ≡ cache.old }
     ensures want { IsErrOf result OperationFault.OutOfMemory → LacksRoom (op_of task.old) task.old cache.old }

@@ -54,7 +54,7 @@ given_again Digest c = refl
 word_is : (op : Op) (m : Machine) → word_of op (operated op m).cache ≡ given op m
 word_is (Load line k) m =
     ap (λ (ws : List ℕ). Some (Rattle.std.specs.Prelude.slice_index ws k))
-    (ap words_of (cell_at-with_cell_same line.0 (brought (line_at (m.state line.0).image) (cell_at m.cache line.0)) m.cache) ∙ brought_words (line_at (m.state line.0).image) (cell_at m.cache line.0))
+    (ap words_of (cell_at-with_cell_same line.0 (brought (line_at m.image line.0) (cell_at m.cache line.0)) m.cache) ∙ brought_words (line_at m.image line.0) (cell_at m.cache line.0))
 word_is (Store line k value) m = refl
 word_is (WriteBack line) m = refl
 word_is Fence m = refl

@@ -2,10 +2,9 @@ use Rattle.std.proofs.Common.{◌≡◌, Some, Err, refl, ap, sym, subst, ◌∙
 use Rattle.std.proofs.lemmas.Result.{err_from_is_err_and}
 use Rattle.fam_commands.specs.Task.{op_of}
 use Rattle.fam_machine.specs.declared.op.Op.TheVariants.{Digest}
-use Rattle.fam_machine.specs.Operations.{IsWithin}
 use Rattle.fam_run.specs.Step.{Around, around}
 use Rattle.fam_run.proofs.Operated.{done, failed}
-use Rattle.fam_run.proofs.PlacesKept.{digest_none, kept, lacks_places, quiet}
+use Rattle.fam_run.proofs.PlacesKept.{digest_none, kept, quiet}
 use Rattle.fam_run.proofs.operation.operate.Goals as goal
 
 pub returns-in_ok-word-in_default-clause-operated : goal.returns-in_ok-word-in_default-clause-operated
