@@ -28,10 +28,7 @@ pub fn line(alloc: Global, words: &str) -> Result<Vec<u8>, OutOfMemory>
 }
 
 /// The line of a text that may have found no memory.
-pub fn line_of(
-    alloc: Global,
-    made: Result<String, AllocError>,
-) -> Result<Vec<u8>, OutOfMemory>
+pub fn line_of(alloc: Global, made: Result<String, AllocError>) -> Result<Vec<u8>, OutOfMemory>
     ensures { (want : List ℕ) → IfOk made (λ s. string_bytes s ≡ want) →
         IfOk result (λ bytes. bytes.items ≡ text.line want) }
 {
@@ -70,11 +67,7 @@ pub(crate) fn line_with_name(
 }
 
 /// The line of a text with a name at its end, behind a space.
-pub fn line_with_last_name(
-    alloc: Global,
-    prefix: &str,
-    name: &[u8],
-) -> Result<Vec<u8>, OutOfMemory>
+pub fn line_with_last_name(alloc: Global, prefix: &str, name: &[u8]) -> Result<Vec<u8>, OutOfMemory>
     ensures { IfOk result (λ made. made.items ≡ text.line (prefix.now ++ text.name_text name.now)) }
 {
     let mut text = Vec::new(alloc);

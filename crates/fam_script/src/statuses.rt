@@ -7,8 +7,8 @@ ghost use Rattle.fam_notes.specs.Notes.{answer_view, note_view, notes_view};
 use crate::reports::is_sound;
 use fam_base::Kind;
 use fam_journal::Refusal;
-use fam_outcomes::Status;
 use fam_notes::Note;
+use fam_outcomes::Status;
 use fam_rules::Checked;
 use fam_tasks::Answer;
 

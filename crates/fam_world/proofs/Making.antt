@@ -54,7 +54,7 @@ use Rattle.fam_world.proofs.Rows.{first_refusal, found, refused_keeps, row_kept}
 
 -- a line of a mkfs, or another one
 elsewhere : (l : ℕ) (P : Type 0) → ((IsElsewhere l) → P) → ((l ≡ 0) → P) → ((l ≡ 1) → P) → ((l ≡ 2) → P) → ((l ≡ log_line) → P) → ((l ≡ gate_line) → P) → P
-elsewhere l P other magic prefix rest request.log gate =
+elsewhere l P other magic prefix rest log gate =
     elim (cases_eq l 0) [
       | inl e ↦ magic e
       | inr n0 ↦
@@ -65,7 +65,7 @@ elsewhere l P other magic prefix rest request.log gate =
                   | inl e ↦ rest e
                   | inr n2 ↦
                       elim (cases_eq l log_line) [
-                        | inl e ↦ request.log e
+                        | inl e ↦ log e
                         | inr n3 ↦
                             elim (cases_eq l gate_line) [
                               | inl e ↦ gate e

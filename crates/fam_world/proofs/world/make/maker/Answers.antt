@@ -20,8 +20,8 @@ returns-in_default-clause-placed c = λ journal.
 pub returns-in-Some-early_cause-clause-placed : goal.returns-in-Some-early_cause-clause-placed
 returns-in-Some-early_cause-clause-placed c = λ journal.
     let items = c.args.hosts.now.items in
-    let early : option_map cause_of (early_refusal c.args.unit c.args.log (line_bytes * c.args.lines)) ≡ Some c.in-Some-early_cause.cause = sym c.early_cause.ensures.cause ∙ c.in-Some-early_cause.is in
-    let known = early_known (length (views items)) (early_refusal c.args.unit c.args.log (line_bytes * c.args.lines)) c.in-Some-early_cause.cause early in
+    let early : option_map cause_of (early_refusal c.args.request.now.unit c.args.request.now.log (line_bytes * c.args.lines)) ≡ Some c.in-Some-early_cause.cause = sym c.early_cause.ensures.cause ∙ c.in-Some-early_cause.is in
+    let known = early_known (length (views items)) (early_refusal c.args.request.now.unit c.args.request.now.log (line_bytes * c.args.lines)) c.in-Some-early_cause.cause early in
     record {
       first = makes_first (views items) journal c.args.name.now c.args.lines _ (sym c.number.ensures.is ∙ c.in-Some.is) c.args.request.now
           ∙ ap (λ (e : Option Refusal). or_else e (or_else (busy_refusal (index_of is_busy (shown items))) (dirty_refusal (dirty_from c.in-Some.at 0 (shown items))))) early;
@@ -33,7 +33,7 @@ returns-in-Some-early_cause-clause-placed c = λ journal.
 pub returns-in-Some-busy_host-clause-placed : goal.returns-in-Some-busy_host-clause-placed
 returns-in-Some-busy_host-clause-placed c = λ journal.
     let items = c.args.hosts.now.items in
-    let early : option_map cause_of (early_refusal c.args.unit c.args.log (line_bytes * c.args.lines)) ≡ None = sym c.early_cause.ensures.cause ∙ c.in_default-early_cause.is in
+    let early : option_map cause_of (early_refusal c.args.request.now.unit c.args.request.now.log (line_bytes * c.args.lines)) ≡ None = sym c.early_cause.ensures.cause ∙ c.in_default-early_cause.is in
     let busy = sym c.busy_host.ensures.is ∙ c.in-Some-busy_host.is in
     record {
       first = makes_first (views items) journal c.args.name.now c.args.lines _ (sym c.number.ensures.is ∙ c.in-Some.is) c.args.request.now
@@ -46,7 +46,7 @@ returns-in-Some-busy_host-clause-placed c = λ journal.
 pub returns-in-Some-dirty_host-clause-placed : goal.returns-in-Some-dirty_host-clause-placed
 returns-in-Some-dirty_host-clause-placed c = λ journal.
     let items = c.args.hosts.now.items in
-    let early : option_map cause_of (early_refusal c.args.unit c.args.log (line_bytes * c.args.lines)) ≡ None = sym c.early_cause.ensures.cause ∙ c.in_default-early_cause.is in
+    let early : option_map cause_of (early_refusal c.args.request.now.unit c.args.request.now.log (line_bytes * c.args.lines)) ≡ None = sym c.early_cause.ensures.cause ∙ c.in_default-early_cause.is in
     let busy = sym c.busy_host.ensures.is ∙ c.in_default-busy_host.is in
     let dirty = sym c.dirty_host.ensures.is ∙ c.in-Some-dirty_host.is in
     record {
@@ -61,7 +61,7 @@ returns-in-Some-dirty_host-clause-placed c = λ journal.
 pub returns-clause-placed : goal.returns-clause-placed
 returns-clause-placed c = λ journal.
     let items = c.args.hosts.now.items in
-    let early : option_map cause_of (early_refusal c.args.unit c.args.log (line_bytes * c.args.lines)) ≡ None = sym c.early_cause.ensures.cause ∙ c.in_default-early_cause.is in
+    let early : option_map cause_of (early_refusal c.args.request.now.unit c.args.request.now.log (line_bytes * c.args.lines)) ≡ None = sym c.early_cause.ensures.cause ∙ c.in_default-early_cause.is in
     let busy = sym c.busy_host.ensures.is ∙ c.in_default-busy_host.is in
     let dirty = sym c.dirty_host.ensures.is ∙ c.in_default-dirty_host.is in
     let number = sym c.number.ensures.is ∙ c.in-Some.is in
