@@ -14,7 +14,7 @@ use Rattle.fam_outcomes.proofs.Names.{render_more}
 use Rattle.fam_notes.specs.declared.note.Note.{Note as Kept}
 use Rattle.fam_notes.specs.Notes.{notes_view}
 use Rattle.fam_events.specs.declared.fault.EventFault.{EventFault}
-use Rattle.fam_program.specs.Far.{Base, Now, base_of, now_of}
+use Rattle.fam_program.specs.Far.{Now, base_of, now_of}
 use Rattle.fam_program.specs.Puts.{PutPart, PutShort, StopSays}
 use Rattle.fam_program.specs.Runs.{outside_of}
 use Rattle.fam_program.specs.Scripts.{ScriptRan}
@@ -26,27 +26,21 @@ use Rattle.fam_program.proofs.Scripts.Puts.{all_script, sink_script, stop_script
 use Rattle.fam_program.proofs.Texts.Pieces.{pieces}
 
 module _ {M S K : Type 0} {size : M → ℕ} {state : M → MediaState} {shelf_state : S → ShelfState} (sink_state : K → SinkState) {events : List Event} {media : M} {shelf : S} (out : K) where
-  abbrev base : Base
-  base = base_of events (size media) (state media) (shelf_state shelf)
-
   -- all events are done, and their text was put
   pub all_put : {here : M} {shelf_here : S} {world : WorldView} {copied : ℕ} {passed left : List Event} → Turns size state shelf_state events media here shelf shelf_here world copied passed left → take (length passed) events ≡ events
       → (last : K) → (sink_state last).bytes ≡ option_map (with_piece (render world.journal)) (sink_state out).bytes
       → ScriptRan events (outside_of size state media here (change shelf_state shelf shelf_here) (change sink_state out last)) (good_status (is_good world.journal))
   all_put {here} {shelf_here} {world} {copied} {passed} t all last put =
-      all_script base (change shelf_state shelf shelf_here) (change sink_state out last) (now_of world (state here) copied) (length passed) t.far all put
+      all_script (base_of events (size media) (state media) (shelf_state shelf)) (change shelf_state shelf shelf_here) (change sink_state out last) (now_of world (state here) copied) (length passed) t.far all put
 
   module _ {next : M} {shelf_next : S} {here : Now} {world : WorldView} {copied : ℕ} {passed : List Event} {e : Event} where
-    abbrev now : Now
-    now = now_of world (state next) copied
-
     module _ {said : Result (Unit {0}) EventFault} (t : Turned size state shelf_state events media next shelf shelf_next here world copied passed e said) where
-      abbrev adds : Noted (next_of base here now)
-      adds = noted e (change shelf_state shelf shelf_next) (next_of base here now) said t.says
+      abbrev adds : Noted (next_of (base_of events (size media) (state media) (shelf_state shelf)) here (now_of world (state next) copied))
+      adds = noted e (change shelf_state shelf shelf_next) (next_of (base_of events (size media) (state media) (shelf_state shelf)) here (now_of world (state next) copied)) said t.says
 
       -- all notes name hosts that are declared before them
       pub all_named : NameDeclared 0 world.journal
-      all_named = named_more base (length passed) here now t.far adds.notes adds.named adds.joined
+      all_named = named_more (base_of events (size media) (state media) (shelf_state shelf)) (length passed) here (now_of world (state next) copied) t.far adds.notes adds.named adds.joined
 
       module _ (kept : List Kept) (kept_is : notes_view kept ≡ here.world.journal) where
         pub from_within : length kept ≤ length world.journal
@@ -73,7 +67,7 @@ module _ {M S K : Type 0} {size : M → ℕ} {state : M → MediaState} {shelf_s
           → StopSays x names (drop (length kept) world.journal) (change sink_state mid last) given
           → ScriptRan events (outside_of size state media next (change shelf_state shelf shelf_next) (change sink_state out last)) given
       stop_put {x} {given} t says =
-          stop_script base (change shelf_state shelf shelf_next) (change sink_state out last) (change sink_state mid last) refl refl later here put given (length passed) t.far e t.is now x t.says
+          stop_script (base_of events (size media) (state media) (shelf_state shelf)) (change shelf_state shelf shelf_next) (change sink_state out last) (change sink_state mid last) refl refl later here put given (length passed) t.far e t.is (now_of world (state next) copied) x t.says
           names names_are (drop (length kept) world.journal) (λ notes joined. rest kept here.world.journal world.journal kept_is notes joined) says
 
       -- the sink failed at the notes of the event
@@ -81,7 +75,7 @@ module _ {M S K : Type 0} {size : M → ℕ} {state : M → MediaState} {shelf_s
           → PutPart (render_behind names (drop (length kept) world.journal)) (change sink_state mid last)
           → ScriptRan events (outside_of size state media next (change shelf_state shelf shelf_next) (change sink_state out last)) status.SinkFault
       failed_put t part =
-          sink_script base (change shelf_state shelf shelf_next) (change sink_state out last) (change sink_state mid last) refl refl later here now put (length passed) t.far e t.is t.says
+          sink_script (base_of events (size media) (state media) (shelf_state shelf)) (change shelf_state shelf shelf_next) (change sink_state out last) (change sink_state mid last) refl refl later here (now_of world (state next) copied) put (length passed) t.far e t.is t.says
           (render_behind names (drop (length kept) world.journal)) (text_is kept here.world.journal world.journal kept_is t.says.adds.notes t.says.adds.joined names names_are) part
 
       -- no memory was left for them
@@ -89,6 +83,6 @@ module _ {M S K : Type 0} {size : M → ℕ} {state : M → MediaState} {shelf_s
           → PutShort names (drop (length kept) world.journal) (change sink_state mid last) given
           → ScriptRan events (outside_of size state media next (change shelf_state shelf shelf_next) (change sink_state out last)) given
       short_put {given} t short =
-          want_script base (change shelf_state shelf shelf_next) (change sink_state out last) (change sink_state mid last) refl refl later here put given (length passed) t.far e t.is now t.says (done_far t)
+          want_script (base_of events (size media) (state media) (shelf_state shelf)) (change shelf_state shelf shelf_next) (change sink_state out last) (change sink_state mid last) refl refl later here put given (length passed) t.far e t.is (now_of world (state next) copied) t.says (done_far t)
           (subst (λ (ns : List Note). PutShort (names_behind [] here.world.journal) ns (change sink_state mid last) given) (rest kept here.world.journal world.journal kept_is t.says.adds.notes t.says.adds.joined)
           (subst (λ (ns : List (List ℕ)). PutShort ns (drop (length kept) world.journal) (change sink_state mid last) given) names_are short))
