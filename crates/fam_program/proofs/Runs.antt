@@ -7,3 +7,5 @@ pub mod EventTold
 pub mod NothingPut
 pub mod OneText
 pub mod Stops
+pub mod Turns
+pub mod TurnedEnds

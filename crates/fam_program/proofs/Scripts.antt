@@ -2,3 +2,4 @@
 pub mod Puts
 pub mod Lines
 pub mod Files
+pub mod Turned

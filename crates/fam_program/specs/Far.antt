@@ -3,7 +3,7 @@ use Rattle.std.specs.Prelude.{ℕ, ⊤, ◌≡◌, ◌≤◌, List, [], ◌∷�
 use Rattle.fam_base.specs.Image.{Image}
 use Rattle.fam_media.specs.Files.{Files}
 use Rattle.fam_media.specs.Outside.{IfModelled}
-use Rattle.fam_media.specs.States.{MediaState}
+use Rattle.fam_media.specs.States.{MediaState, ShelfState}
 use Rattle.fam_journal.specs.declared.event.Event.{Event}
 use Rattle.fam_journal.specs.CallRecords.{FitsMedia}
 use Rattle.fam_journal.specs.Ends.{HasCounted}
@@ -28,11 +28,19 @@ pub record Base : Type 0 where
   pub media : MediaState
   pub files : Option Files
 
+-- a run of these events, by what media and shelf tell before it
+abbrev pub base_of : List Event → ℕ → MediaState → ShelfState → Base
+base_of events lines media shelf = record { events = events; lines = lines; media = media; files = shelf.files }
+
 -- what it has come to: the world, and what the media tells by now; so many bytes of sources were read
 pub record Now : Type 0 where
   pub world : WorldView
   pub media : MediaState
   pub copied : ℕ
+
+-- what it has come to, by what the media tells then
+abbrev pub now_of : WorldView → MediaState → ℕ → Now
+now_of world media copied = record { world = world; media = media; copied = copied }
 
 -- where image and files are modelled: from the first session the journal's rules lead to one with this image, at which the
 -- world is held

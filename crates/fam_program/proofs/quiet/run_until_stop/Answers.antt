@@ -1,192 +1,83 @@
-use Rattle.std.proofs.Common.{◌≡◌, ℕ, true, suc, length, Ok, Err, arith, refl, ap, subst, sym, ◌∙◌}
+use Rattle.std.proofs.Common.{◌≡◌, true, suc, length, Ok, Err, arith, ap, subst, sym, ◌∙◌}
 use Rattle.std.specs.List.{list_any}
 use Rattle.std.proofs.lemmas.Bool.{false≢true}
 use Rattle.std.proofs.lemmas.List.{nil_from_length}
-use Rattle.fam_media.specs.States.{change, ShelfChange}
-use Rattle.fam_journal.specs.declared.event.Event.{Event}
-use Rattle.fam_journal.specs.CallRecords.{FitsMedia}
-use Rattle.fam_outcomes.specs.Statuses.{last_stops, note_stops}
 use Rattle.fam_journal.specs.View.{WorldView}
-use Rattle.fam_events.specs.Around.{around}
-use Rattle.fam_events.specs.Happens.{EventSays}
-use Rattle.fam_program.specs.Far.{AreSoundEvents, Base, Far, Now}
-use Rattle.fam_program.specs.Quiet.{AreShotEvents, GoesOn}
-use Rattle.fam_program.proofs.Runs.GoesOn.{first_far, more_far, next_of}
-use Rattle.fam_program.proofs.Commands.NoFaultHidden.{fault_hides}
-use Rattle.fam_program.proofs.Commands.ImageLeft.{done_spares, fault_spares}
-use Rattle.fam_program.proofs.Runs.Passed.{all_taken, next_is, one_more, rest_is}
-use Rattle.fam_program.proofs.Runs.NothingPut.{fault_ended, fault_goes, taken_ended}
-use Rattle.fam_program.proofs.Runs.Stops.{all_go, go_behind, none_stops, step_goes}
-use Rattle.fam_program.proofs.Runs.EventTold.{noted, says_from}
+use Rattle.fam_outcomes.specs.Statuses.{last_stops, note_stops}
+use Rattle.fam_program.specs.Far.{base_of, now_of}
+use Rattle.fam_program.specs.Quiet.{AreShotEvents}
+use Rattle.fam_program.proofs.Commands.ImageLeft.{done_spares}
+use Rattle.fam_program.proofs.Runs.Stops.{all_go, none_stops}
+use Rattle.fam_program.proofs.Runs.Turns.{all_passed, first_turns, fits_here, goes_on, next_sound, steady_here, turned}
+use Rattle.fam_program.proofs.Runs.TurnedEnds.{done_ends, done_far, done_goes_on, fault_ends, fault_goes_on, fault_is_told, fault_leaves, passed_end}
 use Rattle.fam_program.proofs.quiet.run_until_stop.Goals as goal
 
 pub events-init : goal.events-init
-events-init g c =
-    let b : Base = record { events = c.args.events.items; lines = (g.M.Media.size c.args.media.now); media = g.M.Media.state c.args.media.now; files = (g.S.Shelf.state c.args.shelf.now).files } in
-    record {
-      rest = sym c.into_iter-event-iterator.ensures.into_iter_gives.0;
-      sound = subst AreSoundEvents (sym c.into_iter-event-iterator.ensures.into_iter_gives.0) c.requires.sound;
-      shot = subst AreShotEvents (sym c.into_iter-event-iterator.ensures.into_iter_gives.0) c.requires.shot;
-      goes = ap (λ (w : WorldView). list_any note_stops w.journal) c.requires.fresh;
-      size = refl;
-      shelf = record { same = refl; faults_later = omega arith; shorts_later = omega arith };
-      far = subst (λ (w : WorldView). Far b 0 (record { world = w; media = b.media; copied = 0 })) (sym c.requires.fresh) (first_far b c.is_image.ensures);
-    }
+events-init g c = record {
+  turns = first_turns c.args.media.now c.args.shelf.now c.into_iter-event-iterator.ensures.into_iter_gives.0 c.requires.sound c.requires.fresh c.is_image.ensures;
+  shot = subst AreShotEvents (sym c.into_iter-event-iterator.ensures.into_iter_gives.0) c.requires.shot;
+  goes = ap (λ (w : WorldView). list_any note_stops w.journal) c.requires.fresh;
+}
 
-pub happen-requires-clause-sound : goal.happen-requires-clause-sound
-happen-requires-clause-sound g c = (subst AreSoundEvents c.in-Some.ensures.steps.0 c.events.invariant.sound).0
-
-pub happen-requires-clause-formed : goal.happen-requires-clause-formed
-happen-requires-clause-formed g c = c.events.invariant.far.formed
-
-pub happen-requires-clause-fits : goal.happen-requires-clause-fits
-happen-requires-clause-fits g c = subst (λ (n : ℕ). FitsMedia n c.events.world.hosts) (sym c.events.invariant.size) c.events.invariant.far.fits
+pub happen-requires : goal.happen-requires
+happen-requires g c = record {
+  sound = next_sound c.events.invariant.turns c.in-Some.ensures.steps.0;
+  formed = c.events.invariant.turns.far.formed;
+  fits = fits_here c.events.invariant.turns;
+}
 
 pub events-preserved : goal.events-preserved
 events-preserved g c =
-    let b : Base = record { events = c.args.events.items; lines = (g.M.Media.size c.args.media.now); media = g.M.Media.state c.args.media.now; files = (g.S.Shelf.state c.args.shelf.now).files } in
-    let n : Now = record { world = c.events.world; media = g.M.Media.state c.events.media; copied = c.events.copied } in
-    let m : Now = record { world = c.happen.new.world; media = g.M.Media.state c.happen.new.media; copied = c.happen.new.copied } in
-    let inv = c.events.invariant in
-    let count : ℕ = length c.events.yielded in
-    let shelf : ShelfChange = change g.S.Shelf.state c.args.shelf.now c.happen.new.shelf in
-    let e : Event = c.in-Some.event in
-    let is = next_is c.args.events.items c.events.yielded c.events.event-iterator.rest.items c.next.new.self.rest.items e inv.rest c.in-Some.ensures.steps.0 in
-    let says : EventSays e shelf (next_of b n m) (Ok tt) = says_from e (change g.S.Shelf.state c.events.shelf c.happen.new.shelf) shelf (around g.M.Media.size g.M.Media.state c.events.media c.happen.new.media c.events.world c.happen.new.world (g.S.Shelf.state c.events.shelf).files c.events.copied c.happen.new.copied) b.lines b.files (Ok tt) inv.size inv.shelf.same (record { faults = inv.shelf.faults_later; faults_now = refl; shorts = inv.shelf.shorts_later; shorts_now = refl }) c.in-Ok.ensures.says in
-    let goes_now : GoesOn m.world.journal = subst GoesOn (sym says.adds.joined) (go_behind n.world.journal says.adds.notes inv.goes (step_goes e (subst AreShotEvents c.in-Some.ensures.steps.0 inv.shot).0 b.lines _ says.adds.notes says.adds.form)) in
+    let t = turned c.events.invariant.turns c.in-Some.ensures.steps.0 c.happen.new.media c.happen.new.shelf c.happen.new.world c.happen.new.copied (Ok tt) c.happen.ensures.size c.happen.ensures.steady c.in-Ok.ensures.says in
+    let shot = subst AreShotEvents c.in-Some.ensures.steps.0 c.events.invariant.shot in
     record {
-      rest = rest_is c.args.events.items c.events.yielded c.events.event-iterator.rest.items c.next.new.self.rest.items e inv.rest c.in-Some.ensures.steps.0;
-      sound = (subst AreSoundEvents c.in-Some.ensures.steps.0 inv.sound).1;
-      shot = (subst AreShotEvents c.in-Some.ensures.steps.0 inv.shot).1;
-      goes = none_stops m.world.journal goes_now (sym (c.last_stops.ensures ∙ ap last_stops c.journal.ensures) ∙ c.if-last_stops.false);
-      size = c.happen.ensures.size ∙ inv.size;
-      shelf = record { same = c.happen.ensures.steady.same ∙ inv.shelf.same; faults_later = let x = inv.shelf.faults_later in let y = c.happen.ensures.steady.faults_later in omega (arith, x, y); shorts_later = let x = inv.shelf.shorts_later in let y = c.happen.ensures.steady.shorts_later in omega (arith, x, y) };
-      far = subst (λ (k : ℕ). Far b k m) (sym (one_more c.events.yielded e)) (more_far b count n m inv.far e is says);
+      turns = goes_on c.events.invariant.turns c.in-Some.ensures.steps.0 t;
+      shot = shot.1;
+      goes = none_stops c.happen.new.world.journal (done_goes_on t shot.0 c.events.invariant.goes) (sym (c.last_stops.ensures ∙ ap last_stops c.journal.ensures) ∙ c.if-last_stops.false);
     }
 
-pub returns-then-last_stops-clause-ended : goal.returns-then-last_stops-clause-ended
-returns-then-last_stops-clause-ended g c =
-    let b : Base = record { events = c.args.events.items; lines = (g.M.Media.size c.args.media.now); media = g.M.Media.state c.args.media.now; files = (g.S.Shelf.state c.args.shelf.now).files } in
-    let n : Now = record { world = c.events.world; media = g.M.Media.state c.events.media; copied = c.events.copied } in
-    let m : Now = record { world = c.happen.new.world; media = g.M.Media.state c.happen.new.media; copied = c.happen.new.copied } in
-    let inv = c.events.invariant in
-    let count : ℕ = length c.events.yielded in
-    let shelf : ShelfChange = change g.S.Shelf.state c.args.shelf.now c.happen.new.shelf in
-    let e : Event = c.in-Some.event in
-    let is = next_is c.args.events.items c.events.yielded c.events.event-iterator.rest.items c.next.new.self.rest.items e inv.rest c.in-Some.ensures.steps.0 in
-    let says : EventSays e shelf (next_of b n m) (Ok tt) = says_from e (change g.S.Shelf.state c.events.shelf c.happen.new.shelf) shelf (around g.M.Media.size g.M.Media.state c.events.media c.happen.new.media c.events.world c.happen.new.world (g.S.Shelf.state c.events.shelf).files c.events.copied c.happen.new.copied) b.lines b.files (Ok tt) inv.size inv.shelf.same (record { faults = inv.shelf.faults_later; faults_now = refl; shorts = inv.shelf.shorts_later; shorts_now = refl }) c.in-Ok.ensures.says in
-    let goes_now : GoesOn m.world.journal = subst GoesOn (sym says.adds.joined) (go_behind n.world.journal says.adds.notes inv.goes (step_goes e (subst AreShotEvents c.in-Some.ensures.steps.0 inv.shot).0 b.lines _ says.adds.notes says.adds.form)) in
-    let stops : last_stops m.world.journal ≡ true = sym (c.last_stops.ensures ∙ ap last_stops c.journal.ensures) ∙ c.if-last_stops.true in
-    λ sink. record {
-      count = suc count;
-      ended = taken_ended b (suc count) m (more_far b count n m inv.far e is says) shelf sink;
-      goes_on = goes_now;
-      all = λ h. absurd (false≢true (sym h ∙ stops));
+pub returns-then-last_stops : goal.returns-then-last_stops
+returns-then-last_stops g c =
+    let t = turned c.events.invariant.turns c.in-Some.ensures.steps.0 c.happen.new.media c.happen.new.shelf c.happen.new.world c.happen.new.copied (Ok tt) c.happen.ensures.size c.happen.ensures.steady c.in-Ok.ensures.says in
+    let shot = subst AreShotEvents c.in-Some.ensures.steps.0 c.events.invariant.shot in
+    let stops : last_stops c.happen.new.world.journal ≡ true = sym (c.last_stops.ensures ∙ ap last_stops c.journal.ensures) ∙ c.if-last_stops.true in
+    record {
+      ended = λ sink. record {
+        count = suc (length c.events.yielded);
+        ended = done_ends t sink;
+        goes_on = done_goes_on t shot.0 c.events.invariant.goes;
+        all = λ h. absurd (false≢true (sym h ∙ stops));
+      };
+      same = λ one lacks. done_spares (base_of c.args.events.items (g.M.Media.size c.args.media.now) (g.M.Media.state c.args.media.now) (g.S.Shelf.state c.args.shelf.now)) one (suc (length c.events.yielded))
+          (now_of c.happen.new.world (g.M.Media.state c.happen.new.media) c.happen.new.copied) (done_far t) lacks;
+      steady = t.steady;
+      shelf = t.shelf_steady;
     }
 
-pub returns-then-last_stops-clause-steady : goal.returns-then-last_stops-clause-steady
-returns-then-last_stops-clause-steady g c =
-    let b : Base = record { events = c.args.events.items; lines = (g.M.Media.size c.args.media.now); media = g.M.Media.state c.args.media.now; files = (g.S.Shelf.state c.args.shelf.now).files } in
-    let n : Now = record { world = c.events.world; media = g.M.Media.state c.events.media; copied = c.events.copied } in
-    let m : Now = record { world = c.happen.new.world; media = g.M.Media.state c.happen.new.media; copied = c.happen.new.copied } in
-    let inv = c.events.invariant in
-    let count : ℕ = length c.events.yielded in
-    let shelf : ShelfChange = change g.S.Shelf.state c.args.shelf.now c.happen.new.shelf in
-    let e : Event = c.in-Some.event in
-    let is = next_is c.args.events.items c.events.yielded c.events.event-iterator.rest.items c.next.new.self.rest.items e inv.rest c.in-Some.ensures.steps.0 in
-    let says : EventSays e shelf (next_of b n m) (Ok tt) = says_from e (change g.S.Shelf.state c.events.shelf c.happen.new.shelf) shelf (around g.M.Media.size g.M.Media.state c.events.media c.happen.new.media c.events.world c.happen.new.world (g.S.Shelf.state c.events.shelf).files c.events.copied c.happen.new.copied) b.lines b.files (Ok tt) inv.size inv.shelf.same (record { faults = inv.shelf.faults_later; faults_now = refl; shorts = inv.shelf.shorts_later; shorts_now = refl }) c.in-Ok.ensures.says in
-    let noted_is = noted e shelf (next_of b n m) (Ok tt) says in
-    record { size = c.happen.ensures.size ∙ inv.size; later = let x = inv.far.later in let y = noted_is.later in omega (arith, x, y) }
-
-pub returns-then-last_stops-clause-shelf : goal.returns-then-last_stops-clause-shelf
-returns-then-last_stops-clause-shelf g c =
-    let inv = c.events.invariant in
-    record { same = c.happen.ensures.steady.same ∙ inv.shelf.same; faults_later = let x = inv.shelf.faults_later in let y = c.happen.ensures.steady.faults_later in omega (arith, x, y); shorts_later = let x = inv.shelf.shorts_later in let y = c.happen.ensures.steady.shorts_later in omega (arith, x, y) }
-
-pub returns-in-Err-clause-ended : goal.returns-in-Err-clause-ended
-returns-in-Err-clause-ended g c =
-    let b : Base = record { events = c.args.events.items; lines = (g.M.Media.size c.args.media.now); media = g.M.Media.state c.args.media.now; files = (g.S.Shelf.state c.args.shelf.now).files } in
-    let n : Now = record { world = c.events.world; media = g.M.Media.state c.events.media; copied = c.events.copied } in
-    let m : Now = record { world = c.happen.new.world; media = g.M.Media.state c.happen.new.media; copied = c.happen.new.copied } in
-    let inv = c.events.invariant in
-    let count : ℕ = length c.events.yielded in
-    let shelf : ShelfChange = change g.S.Shelf.state c.args.shelf.now c.happen.new.shelf in
-    let e : Event = c.in-Some.event in
-    let is = next_is c.args.events.items c.events.yielded c.events.event-iterator.rest.items c.next.new.self.rest.items e inv.rest c.in-Some.ensures.steps.0 in
-    let says : EventSays e shelf (next_of b n m) (Err c.in-Err.fault) = says_from e (change g.S.Shelf.state c.events.shelf c.happen.new.shelf) shelf (around g.M.Media.size g.M.Media.state c.events.media c.happen.new.media c.events.world c.happen.new.world (g.S.Shelf.state c.events.shelf).files c.events.copied c.happen.new.copied) b.lines b.files (Err c.in-Err.fault) inv.size inv.shelf.same (record { faults = inv.shelf.faults_later; faults_now = refl; shorts = inv.shelf.shorts_later; shorts_now = refl }) c.in-Err.ensures.says in
-    λ sink. (
-      fault_ended b count n m inv.far e is shelf sink c.in-Err.fault says,
-      fault_goes b n m e (subst AreShotEvents c.in-Some.ensures.steps.0 inv.shot).0 shelf c.in-Err.fault inv.goes says,
-      fault_hides b n m e (subst AreShotEvents c.in-Some.ensures.steps.0 inv.shot).0 shelf c.in-Err.fault inv.goes says,
-    )
-
-pub returns-in-Err-clause-steady : goal.returns-in-Err-clause-steady
-returns-in-Err-clause-steady g c =
-    let b : Base = record { events = c.args.events.items; lines = (g.M.Media.size c.args.media.now); media = g.M.Media.state c.args.media.now; files = (g.S.Shelf.state c.args.shelf.now).files } in
-    let n : Now = record { world = c.events.world; media = g.M.Media.state c.events.media; copied = c.events.copied } in
-    let m : Now = record { world = c.happen.new.world; media = g.M.Media.state c.happen.new.media; copied = c.happen.new.copied } in
-    let inv = c.events.invariant in
-    let count : ℕ = length c.events.yielded in
-    let shelf : ShelfChange = change g.S.Shelf.state c.args.shelf.now c.happen.new.shelf in
-    let e : Event = c.in-Some.event in
-    let is = next_is c.args.events.items c.events.yielded c.events.event-iterator.rest.items c.next.new.self.rest.items e inv.rest c.in-Some.ensures.steps.0 in
-    let says : EventSays e shelf (next_of b n m) (Err c.in-Err.fault) = says_from e (change g.S.Shelf.state c.events.shelf c.happen.new.shelf) shelf (around g.M.Media.size g.M.Media.state c.events.media c.happen.new.media c.events.world c.happen.new.world (g.S.Shelf.state c.events.shelf).files c.events.copied c.happen.new.copied) b.lines b.files (Err c.in-Err.fault) inv.size inv.shelf.same (record { faults = inv.shelf.faults_later; faults_now = refl; shorts = inv.shelf.shorts_later; shorts_now = refl }) c.in-Err.ensures.says in
-    let noted_is = noted e shelf (next_of b n m) (Err c.in-Err.fault) says in
-    record { size = c.happen.ensures.size ∙ inv.size; later = let x = inv.far.later in let y = noted_is.later in omega (arith, x, y) }
-
-pub returns-in-Err-clause-shelf : goal.returns-in-Err-clause-shelf
-returns-in-Err-clause-shelf g c =
-    let inv = c.events.invariant in
-    record { same = c.happen.ensures.steady.same ∙ inv.shelf.same; faults_later = let x = inv.shelf.faults_later in let y = c.happen.ensures.steady.faults_later in omega (arith, x, y); shorts_later = let x = inv.shelf.shorts_later in let y = c.happen.ensures.steady.shorts_later in omega (arith, x, y) }
-
-pub returns-clause-ended : goal.returns-clause-ended
-returns-clause-ended g c =
-    let b : Base = record { events = c.args.events.items; lines = (g.M.Media.size c.args.media.now); media = g.M.Media.state c.args.media.now; files = (g.S.Shelf.state c.args.shelf.now).files } in
-    let n : Now = record { world = c.events.world; media = g.M.Media.state c.events.media; copied = c.events.copied } in
-    let inv = c.events.invariant in
-    let shelf : ShelfChange = change g.S.Shelf.state c.args.shelf.now c.events.shelf in
-    let whole = all_taken c.args.events.items c.events.yielded c.events.event-iterator.rest.items inv.rest (nil_from_length c.events.event-iterator.rest.items (let ok = c.events.event-iterator.rest.ok in let none = c.in-None.ensures.steps.0 in omega (arith, ok, none))) in
-    λ sink. record {
-      count = length c.events.yielded;
-      ended = taken_ended b (length c.events.yielded) n inv.far shelf sink;
-      goes_on = all_go n.world.journal inv.goes;
-      all = λ h. whole;
+pub returns-in-Err : goal.returns-in-Err
+returns-in-Err g c =
+    let t = turned c.events.invariant.turns c.in-Some.ensures.steps.0 c.happen.new.media c.happen.new.shelf c.happen.new.world c.happen.new.copied (Err c.in-Err.fault) c.happen.ensures.size c.happen.ensures.steady c.in-Err.ensures.says in
+    let shot = subst AreShotEvents c.in-Some.ensures.steps.0 c.events.invariant.shot in
+    record {
+      ended = λ sink. (fault_ends t sink, fault_goes_on t shot.0 c.events.invariant.goes, fault_is_told t shot.0 c.events.invariant.goes);
+      same = λ one lacks. fault_leaves t one c.in-Err.ensures.same;
+      steady = t.steady;
+      shelf = t.shelf_steady;
     }
 
-pub returns-clause-steady : goal.returns-clause-steady
-returns-clause-steady g c = record { size = c.events.invariant.size; later = c.events.invariant.far.later }
-
-pub returns-clause-shelf : goal.returns-clause-shelf
-returns-clause-shelf g c = c.events.invariant.shelf
-
-pub returns-in-Err-clause-same : goal.returns-in-Err-clause-same
-returns-in-Err-clause-same g c = λ one lacks.
-    let b : Base = record { events = c.args.events.items; lines = (g.M.Media.size c.args.media.now); media = g.M.Media.state c.args.media.now; files = (g.S.Shelf.state c.args.shelf.now).files } in
-    let n : Now = record { world = c.events.world; media = g.M.Media.state c.events.media; copied = c.events.copied } in
-    let m : Now = record { world = c.happen.new.world; media = g.M.Media.state c.happen.new.media; copied = c.happen.new.copied } in
-    let inv = c.events.invariant in
-    let count : ℕ = length c.events.yielded in
-    let shelf : ShelfChange = change g.S.Shelf.state c.args.shelf.now c.happen.new.shelf in
-    let e : Event = c.in-Some.event in
-    let is = next_is c.args.events.items c.events.yielded c.events.event-iterator.rest.items c.next.new.self.rest.items e inv.rest c.in-Some.ensures.steps.0 in
-    let says : EventSays e shelf (next_of b n m) (Err c.in-Err.fault) = says_from e (change g.S.Shelf.state c.events.shelf c.happen.new.shelf) shelf (around g.M.Media.size g.M.Media.state c.events.media c.happen.new.media c.events.world c.happen.new.world (g.S.Shelf.state c.events.shelf).files c.events.copied c.happen.new.copied) b.lines b.files (Err c.in-Err.fault) inv.size inv.shelf.same (record { faults = inv.shelf.faults_later; faults_now = refl; shorts = inv.shelf.shorts_later; shorts_now = refl }) c.in-Err.ensures.says in
-    fault_spares b one n m shelf c.in-Err.fault count inv.far e is says c.in-Err.ensures.same
-
-pub returns-then-last_stops-clause-same : goal.returns-then-last_stops-clause-same
-returns-then-last_stops-clause-same g c = λ one lacks.
-    let b : Base = record { events = c.args.events.items; lines = (g.M.Media.size c.args.media.now); media = g.M.Media.state c.args.media.now; files = (g.S.Shelf.state c.args.shelf.now).files } in
-    let n : Now = record { world = c.events.world; media = g.M.Media.state c.events.media; copied = c.events.copied } in
-    let m : Now = record { world = c.happen.new.world; media = g.M.Media.state c.happen.new.media; copied = c.happen.new.copied } in
-    let inv = c.events.invariant in
-    let count : ℕ = length c.events.yielded in
-    let shelf : ShelfChange = change g.S.Shelf.state c.args.shelf.now c.happen.new.shelf in
-    let e : Event = c.in-Some.event in
-    let is = next_is c.args.events.items c.events.yielded c.events.event-iterator.rest.items c.next.new.self.rest.items e inv.rest c.in-Some.ensures.steps.0 in
-    let says : EventSays e shelf (next_of b n m) (Ok tt) = says_from e (change g.S.Shelf.state c.events.shelf c.happen.new.shelf) shelf (around g.M.Media.size g.M.Media.state c.events.media c.happen.new.media c.events.world c.happen.new.world (g.S.Shelf.state c.events.shelf).files c.events.copied c.happen.new.copied) b.lines b.files (Ok tt) inv.size inv.shelf.same (record { faults = inv.shelf.faults_later; faults_now = refl; shorts = inv.shelf.shorts_later; shorts_now = refl }) c.in-Ok.ensures.says in
-    done_spares b one (suc count) m (more_far b count n m inv.far e is says) lacks
-
-pub returns-clause-same : goal.returns-clause-same
-returns-clause-same g c = λ one lacks.
-    let b : Base = record { events = c.args.events.items; lines = (g.M.Media.size c.args.media.now); media = g.M.Media.state c.args.media.now; files = (g.S.Shelf.state c.args.shelf.now).files } in
-    let n : Now = record { world = c.events.world; media = g.M.Media.state c.events.media; copied = c.events.copied } in
-    done_spares b one (length c.events.yielded) n c.events.invariant.far lacks
+pub returns : goal.returns
+returns g c =
+    let t = c.events.invariant.turns in
+    let all = all_passed t (nil_from_length c.events.event-iterator.rest.items (let ok = c.events.event-iterator.rest.ok in let none = c.in-None.ensures.steps.0 in omega (arith, ok, none))) in
+    record {
+      ended = λ sink. record {
+        count = length c.events.yielded;
+        ended = passed_end t sink;
+        goes_on = all_go c.events.world.journal c.events.invariant.goes;
+        all = λ h. all;
+      };
+      same = λ one lacks. done_spares (base_of c.args.events.items (g.M.Media.size c.args.media.now) (g.M.Media.state c.args.media.now) (g.S.Shelf.state c.args.shelf.now)) one (length c.events.yielded)
+          (now_of c.events.world (g.M.Media.state c.events.media) c.events.copied) t.far lacks;
+      steady = steady_here t;
+      shelf = t.shelf_steady;
+    }

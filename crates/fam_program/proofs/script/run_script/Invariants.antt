@@ -1,19 +1,13 @@
-use Rattle.std.proofs.Common.{◌≡◌, ◌≤◌, [], ◌++◌, length, option_map}
+use Rattle.std.proofs.Common.{◌≡◌, ◌≤◌, [], option_map}
 use Rattle.fam_media.specs.Outside.{with_piece}
-use Rattle.fam_media.specs.Causes.{IsShelfSteady}
 use Rattle.fam_outcomes.specs.Texts.{names_behind, render}
-use Rattle.fam_program.specs.Far.{AreSoundEvents, Far}
+use Rattle.fam_program.proofs.Runs.Turns.{Turns}
 use Rattle.fam_program.proofs.script.run_script.Given as goal
 
 abbrev pub invariant-events : goal.invariant-events
 invariant-events g l = record {
-  rest : l.fn.events.items ≡ l.yielded ++ l.event-iterator.rest.items;
-  sound : AreSoundEvents l.event-iterator.rest.items;
-  size : (g.M.Media.size l.media) ≡ g.M.Media.size l.fn.media;
-  shelf : IsShelfSteady (g.S.Shelf.state l.fn.shelf) (g.S.Shelf.state l.shelf);
-  far : Far (record { events = l.fn.events.items; lines = (g.M.Media.size l.fn.media); media = g.M.Media.state l.fn.media; files = (g.S.Shelf.state l.fn.shelf).files }) (length l.yielded)
-      (record { world = l.world; media = g.M.Media.state l.media; copied = l.copied });
+  turns : Turns g.M.Media.size g.M.Media.state g.S.Shelf.state l.fn.events.items l.fn.media l.media l.fn.shelf l.shelf l.world l.copied l.yielded l.event-iterator.rest.items;
   names : l.names.items ≡ names_behind [] l.world.journal;
   put : (g.K.Sink.state l.out).bytes ≡ option_map (with_piece (render l.world.journal)) (g.K.Sink.state l.fn.out).bytes;
-  later : (g.K.Sink.state l.fn.out).faults ≤ (g.K.Sink.state l.out).faults;
+  later : (g.K.Sink.state l.fn.out).faults ≤ (g.K.Sink.state l.out;).faults
 }
