@@ -37,11 +37,6 @@ run_counted f unit units start end count had first second =
     ∙ run_passes f start (end - start) (λ u low high. second.before u low (omega (arith, second.low))) in
     omega (arith, gap, run, had)
 
--- a step goes on
-pub run_goes_on : (f : ℕ → Bool) (unit units start end : ℕ) → unit < units → IsNext f true unit units start → IsNext f false start units end → unit < end
-run_goes_on f unit units start end below first second =
-    grind (arith, first.low, first.high, first.here, second.low, second.high, second.here)
-
 -- the count of the list
 pub counted_units : (words : List ℕ) (units count : ℕ) → count ≡ passing (is_bit_set words) units → count ≡ taken_units (units_of_words words units)
 unfolding units_of_words

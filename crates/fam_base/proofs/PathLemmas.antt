@@ -1,3 +1,4 @@
+-- Pieces of a path between its slashes.
 use Rattle.std.proofs.Common.{◌≡◌, ℕ, ◌+◌, ◌-◌, ◌<◌, ◌≤◌, Bool, true, false, not, cond, ◌&&◌, nat_lt, List, [], ◌∷◌, ◌++◌, length, get_or, take, drop, replicate, Some, None, ◌⊎◌, inl, inr, refl, sym, ap, ◌∙◌, arith, subst, zero, suc, length-take, length-append}
 use Rattle.std.specs.List.{slice_split, onto_first, list_all, list_any}
 use Rattle.std.specs.List.{suffix_len}

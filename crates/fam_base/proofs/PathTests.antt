@@ -5,7 +5,7 @@ use Rattle.std.proofs.Math.Bool.{and-true}
 use Rattle.std.proofs.lemmas.Bool.Decides.{nat_tests}
 use Rattle.std.proofs.lemmas.List.{take-append-drop, drop-drop, take_more, take_all, drop_more, get_or-drop, length-drop}
 use Rattle.std.proofs.lemmas.List.Elements.{All-nil, All-push}
-use Rattle.std.proofs.lemmas.List.Folds.{list_all_at, list_all_more}
+use Rattle.std.proofs.lemmas.List.Folds.{list_all_more}
 use Rattle.std.proofs.lemmas.List.Splits.{slice_split_at, slice_split_none}
 use Rattle.fam_base.specs.Paths.{is_name, is_slash, names, has_no_nul}
 
@@ -19,10 +19,6 @@ pub record Passed (bytes : List ℕ) (start i : ℕ) : Type 0 where
   pub no_nul : has_no_nul (take i bytes) ≡ true
   pub name : All (λ b. is_slash b ≡ false) (part bytes start i)
   pub names : list_all is_name (names bytes) ≡ list_all is_name (names (drop start bytes))
-
--- at first
-pub none_passed : (bytes : List ℕ) → Passed bytes 0 0
-none_passed bytes = record { within = omega arith; no_nul = refl; name = All-nil _; names = refl }
 
 not_slash : (b : ℕ) → (b ≡ 47 → ⊥) → is_slash b ≡ false
 not_slash b h = grind (arith, nat_tests)
@@ -83,12 +79,6 @@ pub bad_name : (bytes : List ℕ) (start i : ℕ) → Passed bytes start i → i
 bad_name bytes start i p below slash bad =
     let none : list_all is_name (names bytes) ≡ false = names_at bytes start i p below slash ∙ ap (λ (t : Bool). t && list_all is_name (names (drop (i + 1) bytes))) bad in
     grind (arith, nat_tests)
-
--- a 0
-pub nul_found : (bytes : List ℕ) (i : ℕ) → i < length bytes → get_or bytes i 0 ≡ 0 → (has_no_nul bytes && list_all is_name (names bytes)) ≡ false
-nul_found bytes i below zero =
-    let none : has_no_nul bytes ≡ false = list_all_at (λ b. nat_lt 0 b && nat_lt b 256) bytes i 0 below (ap (λ (b : ℕ). nat_lt 0 b && nat_lt b 256) zero) in
-    ap (λ (t : Bool). t && list_all is_name (names bytes)) none
 
 -- the last name
 pub all_passed : (bytes : List ℕ) (start i : ℕ) → Passed bytes start i → i ≡ length bytes → is_name (part bytes start (length bytes)) ≡ (has_no_nul bytes && list_all is_name (names bytes))

@@ -1,8 +1,8 @@
 //! The types that all layers of the famfs tools speak of: lines of the shared memory, paths, extents,
 //! entries of the log, what the superblock says, and the commands of hosts.
 //!
-//! A contract sees a `Path`, a `HostName`, a `NameText` and a `SharedBytes` as a list of bytes, an `Extents` as
-//! a list of at most 16 extents, and a `SharedEntries` as a list of entries. `specs/` has the definitions.
+//! A contract sees a `Path`, a `HostName`, a `NameText`, a `ByteText` and a `SharedBytes` as a list of bytes, an
+//! `Extents` as a list of at most 16 extents, and a `SharedEntries` as a list of entries. `specs/` has the definitions.
 #![tactic(auto)]
 
 mod cmd;
@@ -10,6 +10,7 @@ mod entry;
 mod escapes;
 mod extents;
 mod field_order;
+mod byte_text;
 mod host_name;
 mod image;
 mod line;
@@ -24,6 +25,7 @@ pub use cmd::{Attr, Cmd, Content, Stripe};
 pub use entry::{Entry, Kind, MapKind, Params};
 pub use escapes::{escape, names_differ_in_print, print_is_visible};
 pub use extents::{EXTENT_LIMIT, Extent, Extents};
+pub use byte_text::ByteText;
 pub use host_name::{BadName, HostName, NAME_LIMIT};
 pub use image::{line_is_written, mask_of_none_or_all, writes_keep_the_form};
 pub use line::{Line, LineNo, Mask, OutOfMemory};

@@ -117,14 +117,6 @@ sends_one Fence lines cache one = absurd one
 sends_one (Invalidate line) lines cache one = tt
 sends_one Digest lines cache one = tt
 
-pub left_one : (op : Op) (old new : Cache) → IsOneLine op → LeavesFailed op old new → new ≡ old
-left_one (Load line k) old new one left = left
-left_one (Store line k value) old new one left = left
-left_one (WriteBack line) old new one left = left
-left_one Fence old new one left = absurd one
-left_one (Invalidate line) old new one left = left
-left_one Digest old new one left = left
-
 -- A line that is cleaned is held as before.
 
 held_cleaned : (cell : Cell) → IsHeld (cleaned cell) → IsHeld cell
@@ -152,17 +144,3 @@ left_held (WriteBack line) old new left = same_held old new left
 left_held Fence old new left = λ l held. cleaned_held (take left.count (asked_lines old)) old l (subst (λ (cache : Cache). IsHeld (cell_at cache l)) left.is held)
 left_held (Invalidate line) old new left = same_held old new left
 left_held Digest old new left = same_held old new left
-
-asked_held : (cell : Cell) → IsAsked cell → IsHeld cell
-asked_held Absent asked = asked
-asked_held (Clean words) asked = refl
-asked_held (Dirty a words) asked = refl
-
--- a fence sends lines of the media, where the cache holds no other
-pub held_sends : (op : Op) (lines : ℕ) (cache : Cache) → ((l : ℕ) → IsHeld (cell_at cache l) → l < lines) → SendsWithin op lines cache
-held_sends (Load line k) lines cache below = tt
-held_sends (Store line k value) lines cache below = tt
-held_sends (WriteBack line) lines cache below = tt
-held_sends Fence lines cache below = λ line asked. below line (asked_held (cell_at cache line) asked)
-held_sends (Invalidate line) lines cache below = tt
-held_sends Digest lines cache below = tt

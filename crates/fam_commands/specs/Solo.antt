@@ -1,6 +1,5 @@
 -- A command that runs alone: one host, with its cache, and one memory, that nobody else touches meanwhile.
 use Rattle.std.specs.Prelude.{ℕ, zero, suc, ◌≡◌, ◌+◌, List, [], ◌∷◌, ◌++◌, length, slice_index, Option, Some, None, option_map}
-use Rattle.std.specs.FinMap as map
 use Rattle.fam_base.specs.declared.cmd.Cmd.{Cmd}
 use Rattle.fam_base.specs.Image.{Image, line_at}
 use Rattle.fam_machine.specs.declared.op.Op.{Op}
@@ -15,10 +14,6 @@ use Rattle.fam_commands.specs.Turns.{Turn, turn_of}
 -- what comes of a task's operation on this machine
 abbrev pub turn_on : Task → Machine → Turn
 turn_on t m = turn_of t (given (op_of t) m)
-
--- the machine before the first operation, on an empty cache
-abbrev pub with_empty_cache : Image → Machine
-with_empty_cache image = record { image = image; cache = map.empty }
 
 -- from an image and a cache, after so many operations the task stands here, its loads gave these words, and this is
 -- left of memory and cache

@@ -28,24 +28,6 @@ fn is_file_wish(path: &Path, size: u64, attr: Attr, stripe: Option<Stripe>)
     let _ = stripe;
 }
 
-/// Bytes are below 256. A call does nothing.
-fn are_bytes(bytes: &[u8])
-    ensures { (i : ℕ) → slice_index bytes.now i < 256 }
-{
-    let _ = bytes;
-}
-
-/// So are those of a content. A call does nothing.
-fn holds_bytes(content: &Content)
-    ensures { HoldsBytes content.now }
-{
-    match content {
-        Content::Bytes(bytes) => are_bytes(bytes.as_slice()),
-        Content::Seed(_) => {}
-        Content::Zero => {}
-    }
-}
-
 /// A sound command is within its limits: its path is one, its numbers fit their words, and its bytes are bytes. A call
 /// does nothing.
 pub(crate) fn is_command(cmd: &Cmd)

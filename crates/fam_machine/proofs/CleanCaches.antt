@@ -6,7 +6,7 @@ use Rattle.fam_base.proofs.ImageLemmas.{length-masked}
 use Rattle.fam_machine.specs.declared.cell.Cell.{Cell}
 use Rattle.fam_machine.specs.declared.cell.Cell.TheVariants.{Absent, Clean, Dirty}
 use Rattle.fam_machine.specs.Caches.{Cache, IsClean, IsCleanCell, cell_at, with_cell}
-use Rattle.fam_machine.specs.OneLine.{IsDirty, asked_for, brought, cleaned, current, fetched, leaked, sent}
+use Rattle.fam_machine.specs.OneLine.{IsDirty, brought, current, fetched, leaked, sent}
 use Rattle.fam_machine.proofs.CacheLemmas.{cell_at-empty, cell_at-with_cell_same, cell_at-with_cell_other}
 
 -- One copy.
@@ -30,16 +30,6 @@ pub clean_fetched : (mask : ℕ) (w : List ℕ) (c : Cell) → length w ≡ 8 �
 clean_fetched mask w Absent wide clean = wide
 clean_fetched mask w (Clean words) wide clean = length-masked mask w words
 clean_fetched mask w (Dirty a words) wide clean = absurd clean
-
-pub clean_cleaned : (c : Cell) → IsCleanCell c → IsCleanCell (cleaned c)
-clean_cleaned Absent clean = tt
-clean_cleaned (Clean words) clean = clean
-clean_cleaned (Dirty a words) clean = absurd clean
-
-pub clean_asked_for : (c : Cell) → IsCleanCell c → IsCleanCell (asked_for c)
-clean_asked_for Absent clean = tt
-clean_asked_for (Clean words) clean = clean
-clean_asked_for (Dirty a words) clean = absurd clean
 
 -- what the host reads there has eight words
 pub clean_wide : (w : List ℕ) (c : Cell) → length w ≡ 8 → IsCleanCell c → length (current w c) ≡ 8

@@ -1,10 +1,10 @@
 -- Operations on a host's machine, of which one fails, and what a media shows of the machine that is left.
-use Rattle.std.specs.Prelude.{ℕ, ◌≡◌, ◌<◌, List, ◌∷◌, ◌++◌, Option, Some}
+use Rattle.std.specs.Prelude.{◌≡◌, ◌<◌, List, ◌∷◌, ◌++◌, Option, Some}
 use Rattle.fam_base.specs.Image.{Image}
 use Rattle.fam_base.specs.declared.line.LineNo.{LineNo}
 use Rattle.fam_machine.specs.declared.op.Op.{Op}
 use Rattle.fam_machine.specs.Caches.{Cache}
-use Rattle.fam_machine.specs.Operations.{Breaking, Machine, failed, operated_all, line_no}
+use Rattle.fam_machine.specs.Operations.{Breaking, Machine, failed, operated_all}
 
 -- a modelled image and a cache are this machine's
 pub record IsMachine (m : Machine) (shown : Option Image) (held : Cache) : Type 0 where

@@ -19,5 +19,6 @@ pub use media::{Failed, MOST_LINES, Media};
 pub use memory_media::MemMedia;
 pub use memory_shelf::MemShelf;
 pub use memory_sink::MemSink;
+pub use plan::find_planned;
 pub use shelf::Shelf;
 pub use sink::Sink;

@@ -62,9 +62,6 @@ load_cut line k at s t u below p q = fails_at (Invalidate (line_no line) ∷ [])
 pub drop_cut : (line : ℕ) (at : LineNo) (s t : CacheOver) → AreCut (Invalidate (line_no line) ∷ []) at s t → AreCut (load_ops line 8) at s t
 drop_cut line at s t cut = cut_first (Invalidate (line_no line) ∷ []) (map (λ k. Load (line_no line) k) (range_with_len 0 8)) at s t cut
 
-pub all_loaded : (line k : ℕ) (s t : CacheOver) → k ≡ 8 → AreDone (load_ops line k) s t → AreDone (load_ops line 8) s t
-all_loaded line k s t is p = subst (λ (k : ℕ). AreDone (load_ops line k) s t) is p
-
 -- A line is stored, sent and dropped.
 
 -- the stores of its first so many words

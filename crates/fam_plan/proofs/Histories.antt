@@ -118,18 +118,6 @@ fault_by_units s held map e plan proper fits =
 
 -- No entries.
 
-pub plan_of_none : (p : Params) (map : List Bool) → SoundParams p → length map ≡ device_units p → ((u : ℕ) → is_taken map u ≡ nat_lt u (head_units p)) → IsPlan (record { params = p; entries = [] }) finmap.empty map
-plan_of_none p map sound count taken = record {
-  history = record {
-    params = sound;
-    few = omega arith;
-    added = λ i e at. absurd (omega (arith, slice_get_within [] i e at));
-  };
-  tree = refl;
-  units = count;
-  used = λ u below. taken u ∙ or_false (nat_lt u (head_units p));
-}
-
 -- What `add` says, of the state that its caller sees.
 module _ (s now : PlanState) (held : Tree) (map : List Bool) (e : Entry) (plan : IsPlan s held map) (view : s ≡ now) (proper : Proper now.params e) where
   proper_here : Proper s.params e

@@ -16,6 +16,6 @@ mod shade;
 pub use fault::ShadowFault;
 pub use laws::a_later_run_ends_alike;
 pub use memory_shade::MemShade;
-pub use node::{FileBytes, Node};
+pub use node::Node;
 pub use passes::shadow;
 pub use shade::{Look, Shade, ShadeStop};

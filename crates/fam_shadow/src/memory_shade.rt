@@ -8,17 +8,16 @@ ghost use Rattle.std.specs.FinMap as map;
 ghost use Rattle.fam_media.specs.Causes.{HasCause, Rose};
 ghost use Rattle.fam_media.specs.Files.{name_cmp};
 ghost use Rattle.fam_media.specs.Outside.{IfModelled};
-ghost use Rattle.fam_media.specs.Plans.{planned};
 ghost use Rattle.fam_shadow.specs.declared.node.Node.TheVariants as node;
 ghost use Rattle.fam_shadow.specs.MemoryShade as spec;
 ghost use Rattle.fam_shadow.specs.MemoryShade.{after_call, after_make_dir, after_put, bytes_in, empty_shade};
 ghost use Rattle.fam_shadow.specs.Nodes as nodes;
 ghost use Rattle.fam_shadow.specs.Nodes.{IsCounted, IsTornPut, look_at, with_node};
 
-use crate::node::{FileBytes, Node};
+use crate::node::Node;
 use crate::shade::{Look, Shade, ShadeStop};
-use fam_base::OutOfMemory;
-use fam_media::Failed;
+use fam_base::{ByteText, OutOfMemory};
+use fam_media::{Failed, find_planned};
 use std::alloc::Global;
 use std::marker::Model;
 
@@ -55,18 +54,6 @@ impl Model for MemShade {
     } };
 }
 
-/// What was planned last for the call with that number.
-fn find_planned(plan: &[(u64, u64)], call: u64) -> Option<u64>
-    ensures { result ≡ planned plan.now call }
-{
-    for p in plan {
-        if p.0 == call {
-            return Some(p.1);
-        }
-    }
-    None
-}
-
 /// The first node of that name.
 fn find_node<'a>(nodes: &'a [(String, Node)], name: &str) -> Option<&'a Node>
     ensures { option_map (λ node. node.now) result ≡ map.find name_cmp name.now (list_map (λ n. (string_bytes n.0, n.1)) nodes.now) }
@@ -90,11 +77,11 @@ fn owned_name(alloc: Global, name: &str) -> Result<String, OutOfMemory>
 }
 
 /// A copy of a file's bytes.
-fn owned_bytes(alloc: Global, bytes: &[u8]) -> Result<FileBytes, OutOfMemory>
+fn owned_bytes(alloc: Global, bytes: &[u8]) -> Result<ByteText, OutOfMemory>
     ensures { IfOk result (λ owned. owned ≡ bytes.now) }
 {
     match Vec::from_slice(alloc, bytes) {
-        Ok(owned) => Ok(FileBytes::new(owned)),
+        Ok(owned) => Ok(ByteText::new(owned)),
         Err(_) => Err(OutOfMemory),
     }
 }
@@ -150,7 +137,7 @@ impl MemShade {
         ensures { option_map (λ bytes. bytes.now) result ≡ bytes_in (map.get self.now.nodes name.now) }
     {
         match self.node(name) {
-            Some(Node::File(bytes)) => Some(bytes.as_slice()),
+            Some(Node::File(bytes)) => Some(bytes.bytes()),
             Some(Node::Directory) => None,
             None => None,
         }

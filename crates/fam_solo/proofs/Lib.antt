@@ -6,7 +6,5 @@ pub mod Damaged
 pub mod Written
 pub mod Writes
 pub mod Sound
-pub mod Slots
 pub mod Fsck
-pub mod SlotReads
 pub mod SoloLaws

@@ -66,9 +66,6 @@ module _ (cmd : Cmd) (me : List ℕ) (image : Image) (cache : Cache) where
   pub ran_me : (t : Task) (words : List ℕ) (made : ℕ) (m : Machine) → SoloRun cmd me image cache t words made m → t.me ≡ me
   ran_me t words made m ran = (standing_tied None cmd me (length image) t words made tt (ran_stands t words made m ran)).me_is
 
-  pub ran_kept : (t : Task) (words : List ℕ) (made : ℕ) (m : Machine) → SoloRun cmd me image cache t words made m → t.kept ≡ None
-  ran_kept t words made m ran = (standing_tied None cmd me (length image) t words made tt (ran_stands t words made m ran)).kept_is
-
 -- The form of the image.
 
 module _ (cmd : Cmd) (me : List ℕ) (image : Image) (cache : Cache) where

@@ -264,9 +264,6 @@ module _ (cmd : Cmd) (me : List ℕ) (image : Image) (cache : Cache) (enough : l
           (looks_on cmd me image cache normal clean t next words made m ran on.0.before (ran_looks cmd me image cache normal clean t words made m ran on.0.before) is) on.1
       by_stage (inr on) = writes_step t cmd_is me_is m next before on.0 on.1 inside is
 
-  pub on_invariant : (t : Task) (words : List ℕ) (made : ℕ) (m : Machine) → SoloRun cmd me image cache t words made m → OnSound t m ⊎ OnWrites t m
-  on_invariant t words made m ran = elim (staged t words made m ran) [ inl on ↦ inl on.0 | inr on ↦ inr on.0 ]
-
   -- The answers.
 
   module _ (t : Task) (cmd_is : t.cmd ≡ cmd) (me_is : t.me ≡ me) (uuid : ℕ → Option (List ℕ)) (master : Option ℕ) (floor : Option ℕ) (marked : IsMarkOf (length entries) floor) where

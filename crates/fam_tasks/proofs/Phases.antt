@@ -42,23 +42,11 @@ told_within false gate slots below = below
 pub slots_within : (cmd : Cmd) (p : Params) (gate : ℕ) → gate ≤ p.slots → slots_told cmd p gate ≤ p.slots
 slots_within cmd p gate below = told_within (is_fsck cmd) gate p.slots below
 
--- what is known there
-sound_by : (u : Task) (i n : ℕ) (b : Bool) → n ≡ slots_told u.cmd u.params u.gate → nat_lt i n ≡ b → HasValidGate u → length u.words ≡ 0 → IsSoundAt (cond b (at.Drop (Slot i) 0) at.Decide) u
-sound_by u i n true slots less gate none =
-    (record { line = (gate, omega (arith, slots, ltb-true i n less), omega arith); few = omega arith }, omega arith)
-sound_by u i n false slots less gate none = gate
-
-pub next_sound : (u : Task) (i n : ℕ) (r : Phase) → n ≡ slots_told u.cmd u.params u.gate → r ≡ next_phase i n → HasValidGate u → length u.words ≡ 0 → IsSoundAt r u
-next_sound u i n r slots is gate none = subst (λ (p : Phase). IsSoundAt p u) (sym is) (sound_by u i n (nat_lt i n) slots refl gate none)
-
 held_by : (t : Inside) (i n : ℕ) (b : Bool) → n ≡ slots_told t.cmd t.params t.gate → nat_lt i n ≡ b → i ≤ n → HasLooked i t → IsHeldAt (cond b (at.Drop (Slot i) 0) at.Decide) t
 held_by t i n true slots less within looked = looked
 held_by t i n false slots less within looked =
     let all : i ≡ slots_told t.cmd t.params t.gate = omega (arith, slots, within, ltb-false i n less) in
     subst (λ (k : ℕ). HasLooked k t) all looked
-
-pub next_held : (t : Inside) (i n : ℕ) (r : Phase) → n ≡ slots_told t.cmd t.params t.gate → r ≡ next_phase i n → i ≤ n → HasLooked i t → IsHeldAt r t
-next_held t i n r slots is within looked = subst (λ (p : Phase). IsHeldAt p t) (sym is) (held_by t i n (nat_lt i n) slots refl within looked)
 
 -- the same file system and gate on the same image
 pub same_super : (t u : Task) → u.params ≡ t.params → u.lines ≡ t.lines → HasSuper t → HasSuper u

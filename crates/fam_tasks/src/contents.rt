@@ -1,11 +1,12 @@
 //! The lines of a content, which a task writes or compares with.
 
-ghost use Rattle.std.specs.Prelude.{◌≡◌, ◌*◌, ◌<◌, ℕ, slice_index};
+ghost use Rattle.std.specs.Prelude.{◌≡◌, ◌*◌, ◌<◌};
 ghost use Rattle.fam_rules.specs.Content.{HoldsBytes};
 ghost use Rattle.fam_tasks.specs.Contents.{next_of};
 
 use fam_base::{Content, Line};
 use fam_content::ContentStream;
+use fam_rules::holds_bytes;
 use std::marker::Model;
 
 /// The lines of a content from the front: how many were taken, and the last of them.
@@ -27,24 +28,6 @@ impl Model for Contents {
     ghost view = { λ c. record { content = c.content; taken = c.taken; line = c.line } };
 
     ghost invariant = { IsContents };
-}
-
-/// Bytes are below 256. A call does nothing.
-fn are_bytes(bytes: &[u8])
-    ensures { (i : ℕ) → slice_index bytes.now i < 256 }
-{
-    let _ = bytes;
-}
-
-/// So are those of a content. A call does nothing.
-fn holds_bytes(content: &Content)
-    ensures { HoldsBytes content.now }
-{
-    match content {
-        Content::Bytes(bytes) => are_bytes(bytes.as_slice()),
-        Content::Seed(_) => {}
-        Content::Zero => {}
-    }
 }
 
 impl Contents {

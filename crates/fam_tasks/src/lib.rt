@@ -8,7 +8,6 @@
 
 mod answer;
 mod buffer;
-mod byte_text;
 mod commands;
 mod contents;
 mod replies;
@@ -17,7 +16,7 @@ mod task;
 mod wanted;
 
 pub use answer::{Answer, TaskNote, Turn};
-pub use byte_text::ByteText;
+pub use fam_base::ByteText;
 pub use fam_machine::Op;
 pub use fam_replay::Replica;
 pub use task::{Due, SlotDue, Task};

@@ -80,20 +80,6 @@ module _ (c : ℕ) (bytes : List ℕ) (i : ℕ) where
         back = cut.back ∙ ap (back c) at ∙ ap (λ (t : Bool). cond t rest (back c rest)) no;
       }
 
-  -- the byte is the one
-  pub front_here : CutFrom c bytes i → i < length bytes → get_or bytes i 0 ≡ c → front c bytes ≡ take i bytes
-  front_here cut within same =
-      let b = get_or bytes i 0 in
-      let rest = drop (i + 1) bytes in
-      cut.front ∙ ap (λ (l : List ℕ). take i bytes ++ front c l) (drop_more bytes i 0 within)
-      ∙ ap (λ (t : Bool). take i bytes ++ cond t [] (b ∷ front c rest)) (eq-eqb b c same) ∙ append-nil (take i bytes)
-
-  pub back_here : CutFrom c bytes i → i < length bytes → get_or bytes i 0 ≡ c → back c bytes ≡ drop (i + 1) bytes
-  back_here cut within same =
-      let b = get_or bytes i 0 in
-      let rest = drop (i + 1) bytes in
-      cut.back ∙ ap (back c) (drop_more bytes i 0 within) ∙ ap (λ (t : Bool). cond t rest (back c rest)) (eq-eqb b c same)
-
 -- The lines of a text.
 
 abbrev parts : List ℕ → List (List ℕ)

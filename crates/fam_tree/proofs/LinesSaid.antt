@@ -40,17 +40,10 @@ pub onto_more : (entries : List Entry) (e : Entry) (said : Result (List Entry) �
 onto_more entries e (Ok more) = ap Ok (sym (append_assoc entries (e ∷ []) more))
 onto_more entries e (Err bad) = refl
 
-pub onto_none : (said : Result (List Entry) ℕ) → onto [] said ≡ said
-onto_none (Ok more) = refl
-onto_none (Err bad) = refl
-
 -- what the lines that are left say tells what all say
 abbrev pub Tells : ℕ → List ℕ → List Entry → ℕ → Option (List ℕ) → List ℕ → Type 0
 Tells first bytes entries n before rest =
     (said : Result (List Entry) ℕ) → LinesSay n before (text_lines rest) said → LinesSay first None (text_lines bytes) (onto entries said)
-
-pub tells_first : (first : ℕ) (bytes : List ℕ) → Tells first bytes [] first None bytes
-tells_first first bytes said h = subst (LinesSay first None (text_lines bytes)) (sym (onto_none said)) h
 
 module _ (first : ℕ) (bytes : List ℕ) (entries : List Entry) (n : ℕ) (before : Option (List ℕ)) (rest line : List ℕ) (tells : Tells first bytes entries n before rest) where
   pub tells_more : 0 < length rest → line ≡ front line_feed rest → (e : Entry) (more : List ℕ) (longer : List Entry) → more ≡ back line_feed rest → longer ≡ entries ++ e ∷ [] → IsListingLine before line e → Tells first bytes longer (n + 1) (Some e.path) more

@@ -38,12 +38,6 @@ whole_set [] k r within = absurd (omega arith)
 whole_set (x ∷ runs) zero r within = refl
 whole_set (x ∷ runs) (suc k) r within = front x (entries_in (take k runs)) r (entries_in (drop (suc k) runs)) (entries_in (set runs k r)) (whole_set runs k r (omega arith))
 
--- with nothing in its place
-pub whole_remove : (runs : Runs) (k : ℕ) → k < length runs → entries_in (remove runs k) ≡ entries_in (take k runs) ++ entries_in (drop (suc k) runs)
-whole_remove [] k within = absurd (omega arith)
-whole_remove (x ∷ runs) zero within = refl
-whole_remove (x ∷ runs) (suc k) within = ap (λ (l : List Entry). x ++ l) (whole_remove runs k (omega arith)) ∙ sym (append_assoc x (entries_in (take k runs)) (entries_in (drop (suc k) runs)))
-
 regrouped : (a b c d : List Entry) → a ++ ((b ++ c) ++ d) ≡ (a ++ b) ++ (c ++ d)
 regrouped a b c d = ap (λ (l : List Entry). a ++ l) (append_assoc b c d) ∙ sym (append_assoc a b (c ++ d))
 

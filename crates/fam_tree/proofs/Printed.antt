@@ -26,11 +26,6 @@ unfoldable pub No : ℕ → List ℕ → Type 0
 No c [] = ⊤
 No c (b ∷ x) = (b ≢ c) × No c x
 
-no_all : (c : ℕ) (x : List ℕ) → All (λ b. b ≢ c) x → No c x
-unfolding No
-no_all c [] all = tt
-no_all c (b ∷ x) all = (All-head (λ b. b ≢ c) b x all, no_all c x (All-tail (λ b. b ≢ c) b x all))
-
 pub no_both : (c : ℕ) (x y : List ℕ) → No c x → No c y → No c (x ++ y)
 unfolding No
 no_both c [] y nx ny = ny

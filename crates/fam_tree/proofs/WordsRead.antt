@@ -29,10 +29,6 @@ use Rattle.fam_tree.proofs.Printed.{No, Fit, Words, decimal_first, decimal_no, e
 pub decimal_is_text : (word : List ℕ) (n : ℕ) → IsWord n → word ≡ decimal n → IsUtf8 word
 decimal_is_text word n fits is = subst IsUtf8 (sym is) (IsUtf8-from_ascii (decimal n) (IsAscii-decimal n fits))
 
--- a mode of four octal digits
-pub mode_read : (m a b c d : ℕ) → m ≤ 4095 → a ≡ octal_digit (m / 512) → b ≡ octal_digit (m / 64) → c ≡ octal_digit (m / 8) → d ≡ octal_digit m → a % 8 * 512 + b % 8 * 64 + c % 8 * 8 + d % 8 ≡ m
-mode_read m a b c d few p q r s = omega (arith, p, q, r, s)
-
 -- Extents.
 
 pub fit_of : (xs : List Extent) → AreWordExtents xs → Fit xs
@@ -73,9 +69,6 @@ pub record Next (xs done : List Extent) (rest : List ℕ) : Type 0 where
   pub later : AreWordExtents tail
   pub first : front comma rest ≡ extent_text x
   pub left : back comma rest ≡ extents_text tail
-
-pub so_far_none : (xs : List Extent) (word : List ℕ) → AreWordExtents xs → word ≡ extents_text xs → SoFar xs [] word
-so_far_none xs word fits is = record { more = xs; all = refl; fits = fits; left = is }
 
 module _ (xs done : List Extent) (rest : List ℕ) (so_far : SoFar xs done rest) where
   next_of : (more : List Extent) → xs ≡ done ++ more → AreWordExtents more → rest ≡ extents_text more → 0 < length rest → Next xs done rest
@@ -204,9 +197,6 @@ pub record NextByte (path done : List ℕ) (rest : List ℕ) : Type 0 where
   pub all : path ≡ done ++ byte ∷ tail
   pub small : byte < 256
   pub first : rest ≡ escaped_byte byte ++ escaped tail
-
-pub bytes_none : (path word : List ℕ) → word ≡ escaped path → BytesSoFar path [] word
-bytes_none path word is = record { more = path; all = refl; left = is }
 
 byte_inside : (done : List ℕ) (b : ℕ) (tail path : List ℕ) → AreBytes path → path ≡ done ++ b ∷ tail → b < 256
 byte_inside done b tail path all is =

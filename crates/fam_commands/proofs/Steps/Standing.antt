@@ -9,11 +9,7 @@ use Rattle.fam_commands.specs.declared.phase.Part.TheVariants.{Superblock, Heade
 use Rattle.fam_commands.specs.declared.phase.Phase.{Phase}
 use Rattle.fam_commands.specs.declared.phase.Phase.TheVariants as at
 use Rattle.fam_rules.specs.Reply.{Reply}
-use Rattle.fam_commands.specs.Counts.{steps_of, told_entries, used_told}
-use Rattle.fam_commands.specs.Table.{fed_super, params_or}
-use Rattle.fam_commands.specs.Task.{no_params}
-use Rattle.fam_commands.proofs.Rows.Slots.{ReadsLog, below_gate}
-use Rattle.fam_commands.proofs.Counted.Files.{told_are}
+use Rattle.fam_commands.specs.Counts.{steps_of}
 use Rattle.fam_commands.specs.Kept.{Kept, IsKept}
 use Rattle.fam_commands.specs.Task.{Task, op_at, op_of}
 use Rattle.fam_commands.specs.Turns.{Turn, Goes, Marks, Finds, Writes, Ends, line_turn, with_word, turn_at}
@@ -28,7 +24,7 @@ use Rattle.fam_commands.proofs.Steps.Slots.{slot_line_step, check_step}
 use Rattle.fam_commands.proofs.Steps.Decide.{decide_step}
 use Rattle.fam_commands.proofs.Steps.Append.{store_data_step, send_data_step, store_slot_step, send_slot_step, fence_slot_step, store_gate_step, send_gate_step, fence_gate_step}
 use Rattle.fam_commands.proofs.Steps.FileLines.{file_line_step}
-use Rattle.fam_commands.proofs.Steps.Ties.{InPart, TaskSlots, TieAt, Tied, TurnTied, line_end, note_at}
+use Rattle.fam_commands.proofs.Steps.Ties.{InPart, TieAt, Tied, TurnTied, line_end, note_at}
 
 -- One operation.
 
@@ -124,18 +120,6 @@ steps_at_end kept cmd me lines t words made joined stands word reply ends =
     let now : List ℕ = with_given words (given_by (op_of t) word) in
     let count : made + 1 ≡ steps_of t.kept t.cmd t.lines now reply = subst (λ (turn : Turn). TurnTied t.cmd t.me t.lines t.kept turn now (made + 1)) ends (step t.phase t words word made tied.tie).tied in
     count ∙ ap (λ (c : Cmd). steps_of t.kept c t.lines now reply) tied.cmd_is ∙ ap (λ (l : ℕ). steps_of t.kept cmd l now reply) tied.lines_is ∙ ap (λ (k : Option Kept). steps_of k cmd lines now reply) tied.kept_is
-
--- a task that decides has what its words tell
-pub decided_told : (kept : Option Kept) (cmd : Cmd) (me : List ℕ) (lines : ℕ) (t : Task) (words : List ℕ) (made : ℕ) → IsKept kept → StandsFor kept cmd me lines t words made → t.phase ≡ at.Decide → ReadsLog t.cmd → (t.params ≡ params_or no_params (fed_super words lines)) × (t.entries ≡ told_entries (used_told kept cmd words lines) words lines)
-decided_told kept cmd me lines t words made joined stands is reads =
-    let tied = standing_tied kept cmd me lines t words made joined stands in
-    let here : TieAt at.Decide t words made = subst (λ (p : Phase). TieAt p t words made) is tied.tie in
-    let slots : TaskSlots t words t.gate = subst (λ (n : ℕ). TaskSlots t words n) (below_gate t reads) here.0 in
-    let params : params_or no_params (fed_super words t.lines) ≡ t.params = ap (params_or no_params) here.0.gated.log.head.super in
-    let entries : told_entries (used_told t.kept t.cmd words t.lines) words t.lines ≡ t.entries = told_are t.kept t.cmd t.me t.lines t.params t.gate t.entries t.survey words reads slots in (
-      sym params ∙ ap (λ (l : ℕ). params_or no_params (fed_super words l)) tied.lines_is,
-      sym entries ∙ ap (λ (k : Option Kept). told_entries (used_told k t.cmd words t.lines) words t.lines) tied.kept_is ∙ ap (λ (c : Cmd). told_entries (used_told kept c words t.lines) words t.lines) tied.cmd_is ∙ ap (λ (l : ℕ). told_entries (used_told kept cmd words l) words l) tied.lines_is,
-    )
 
 -- On a host that keeps nothing.
 

@@ -22,13 +22,12 @@ ghost use Rattle.fam_tasks.specs.Tells.{Tells, WantsMemory};
 
 use super::{Task, done};
 use crate::answer::{Answer, TaskNote, Turn};
-use crate::byte_text::ByteText;
 use crate::commands::content_used;
 use crate::contents::Contents;
 use crate::replies::refusal_answer;
 use crate::survey::report_of;
 use crate::wanted::{wanted_end, wanted_start};
-use fam_base::{Cmd, Content, Entry, Kind, OutOfMemory};
+use fam_base::{Cmd, Content, Entry, ByteText, Kind, OutOfMemory};
 use fam_commands::{Part, Phase};
 use fam_entry::spell;
 use fam_fsck::check;

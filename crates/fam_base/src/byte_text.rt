@@ -1,4 +1,4 @@
-//! Bytes of a file, as an answer has them. A contract sees the list.
+//! The bytes of a file, all of them or some. A contract sees the list.
 
 ghost use Rattle.std.specs.Prelude.{◌≡◌};
 
@@ -15,7 +15,7 @@ impl Model for ByteText {
 
     ghost Value = { List ℕ };
 
-    ghost view = { λ text. text.bytes.items };
+    ghost view = { λ f. f.bytes.items };
 }
 
 impl ByteText {
