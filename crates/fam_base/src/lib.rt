@@ -5,12 +5,12 @@
 //! `Extents` as a list of at most 16 extents, and a `SharedEntries` as a list of entries. `specs/` has the definitions.
 #![tactic(auto)]
 
+mod byte_text;
 mod cmd;
 mod entry;
 mod escapes;
 mod extents;
 mod field_order;
-mod byte_text;
 mod host_name;
 mod image;
 mod line;
@@ -21,11 +21,11 @@ mod path_order;
 mod shared;
 mod units;
 
+pub use byte_text::ByteText;
 pub use cmd::{Attr, Cmd, Content, Stripe};
 pub use entry::{Entry, Kind, MapKind, Params};
 pub use escapes::{escape, names_differ_in_print, print_is_visible};
 pub use extents::{EXTENT_LIMIT, Extent, Extents};
-pub use byte_text::ByteText;
 pub use host_name::{BadName, HostName, NAME_LIMIT};
 pub use image::{line_is_written, mask_of_none_or_all, writes_keep_the_form};
 pub use line::{Line, LineNo, Mask, OutOfMemory};

@@ -10,9 +10,9 @@ ghost use Rattle.fam_program.specs.Shots.{is_short, is_short_answer, is_short_ca
 
 use crate::puts::put_line;
 use fam_journal::Refusal;
-use fam_outcomes::Status;
 use fam_media::Sink;
 use fam_notes::Note;
+use fam_outcomes::Status;
 use fam_tasks::Answer;
 use itoa::write_digits;
 

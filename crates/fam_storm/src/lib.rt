@@ -6,8 +6,8 @@
 mod draw;
 mod laws;
 mod lines;
-mod script;
 mod rounds;
+mod script;
 
 pub use laws::{
     a_storm_is_an_event_for_each_line, a_storm_reads_no_source, each_line_of_a_storm_is_an_event,

@@ -1,6 +1,6 @@
 //! What a task says: notes on its way, and its answer.
 
-use fam_base::{Entry, ByteText, Kind, LineNo};
+use fam_base::{ByteText, Entry, Kind, LineNo};
 use fam_format::{LogField, Reason, SuperField};
 use fam_rules::{Checked, Report};
 use fam_tree::Tree;

@@ -10,8 +10,8 @@ ghost use Rattle.fam_top.specs.Words.{shadow_host, shadow_named};
 
 use crate::top::host_or;
 use fam_base::{NameText, OutOfMemory};
-use fam_outcomes::Status;
 use fam_media::{Media, Sink};
+use fam_outcomes::Status;
 use fam_program::{put_memory, put_usage, write_shadow};
 use fam_shadow::Shade;
 use fam_words::{ShadowCall, read_shadow_words};

@@ -16,8 +16,8 @@ use crate::fresh::fs_or;
 use crate::words::invocation;
 use fam_base::OutOfMemory;
 use fam_machine::MkfsRequest;
-use fam_outcomes::Status;
 use fam_media::{Media, Shelf, Sink};
+use fam_outcomes::Status;
 use fam_program::{
     make_file_system, make_parents, put_memory, put_usage, run_command, run_script_file, run_storm,
 };

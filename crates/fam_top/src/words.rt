@@ -10,7 +10,10 @@ use std::alloc::Global;
 
 /// What the words after the program's name ask for, and `None` exactly where they are no command.
 #[tactic(auto, unfolding(crate::specs::Words::invocation_named))]
-pub(crate) fn invocation(alloc: Global, words: &Vec<String>) -> Result<Option<Invocation>, OutOfMemory>
+pub(crate) fn invocation(
+    alloc: Global,
+    words: &Vec<String>,
+) -> Result<Option<Invocation>, OutOfMemory>
     ensures value { IfOk result (λ invocation. invocation ≡ invocation_named (map string_bytes words.now.items)) }
     ensures sound { IfOk result (λ invocation. IfSome invocation IsSoundInvocation) }
 {

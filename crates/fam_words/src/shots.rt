@@ -245,7 +245,10 @@ pub(crate) fn storm(found: &ArgMatches<'_>) -> Option<Invocation>
 
 /// Run a script.
 #[tactic(auto, unfolding(crate::specs::Calls::script_invocation))]
-pub(crate) fn script(alloc: Global, found: &ArgMatches<'_>) -> Result<Option<Invocation>, OutOfMemory>
+pub(crate) fn script(
+    alloc: Global,
+    found: &ArgMatches<'_>,
+) -> Result<Option<Invocation>, OutOfMemory>
     ensures sound { IfOk result (λ invocation. IfSome invocation spec.IsSoundInvocation) }
     ensures value { IfOk result (λ invocation. invocation ≡ spec.script_invocation (rows_of (found_of found.now))) }
 {

@@ -49,7 +49,7 @@ module _ {M S : Type 0} {size : M → ℕ} {state : M → MediaState} {shelf_sta
       }
 
   module _ {events : List Event} {media here : M} {shelf shelf_here : S} {world : WorldView} {copied : ℕ} {passed left : List Event}
-    (t : Turns size state shelf_state events media here shelf shelf_here world copied passed left) where
+      (t : Turns size state shelf_state events media here shelf shelf_here world copied passed left) where
     -- the world fits the media as it is
     pub fits_here : FitsMedia (size here) world.hosts
     fits_here = subst (λ (n : ℕ). FitsMedia n world.hosts) (sym t.size_is) t.far.fits

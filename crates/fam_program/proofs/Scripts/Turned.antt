@@ -61,7 +61,7 @@ module _ {M S K : Type 0} {size : M → ℕ} {state : M → MediaState} {shelf_s
             ∙ ap (λ (t : List ℕ). option_map (with_piece t) (sink_state out).bytes) (sym (ap render adds.joined ∙ render_more here.world.journal adds.notes))
 
     module _ (kept : List Kept) (kept_is : notes_view kept ≡ here.world.journal) (names : List (List ℕ)) (names_are : names ≡ names_behind [] here.world.journal) (mid last : K) (later : (sink_state out).faults ≤ (sink_state mid).faults)
-      (put : (sink_state mid).bytes ≡ option_map (with_piece (render here.world.journal)) (sink_state out).bytes) where
+        (put : (sink_state mid).bytes ≡ option_map (with_piece (render here.world.journal)) (sink_state out).bytes) where
       -- the event ended the run, which was said behind what came of it
       pub stop_put : {x : EventFault} {given : Status} → Turned size state shelf_state events media next shelf shelf_next here world copied passed e (Err x)
           → StopSays x names (drop (length kept) world.journal) (change sink_state mid last) given

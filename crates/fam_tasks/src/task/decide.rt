@@ -27,7 +27,7 @@ use crate::contents::Contents;
 use crate::replies::refusal_answer;
 use crate::survey::report_of;
 use crate::wanted::{wanted_end, wanted_start};
-use fam_base::{Cmd, Content, Entry, ByteText, Kind, OutOfMemory};
+use fam_base::{ByteText, Cmd, Content, Entry, Kind, OutOfMemory};
 use fam_commands::{Part, Phase};
 use fam_entry::spell;
 use fam_fsck::check;

@@ -13,7 +13,7 @@ ghost use Rattle.fam_tasks.specs.Tells.{Tells};
 use super::{Task, done};
 use crate::answer::{Answer, Turn};
 use crate::wanted::{wanted_lines, wanted_start};
-use fam_base::{Cmd, ByteText, Line};
+use fam_base::{ByteText, Cmd, Line};
 use fam_commands::{Part, Phase};
 use fam_content::compare;
 use fam_format::{LAST_WORD, LINE_BYTES};
