@@ -8,6 +8,7 @@
 //! told by `place` of fam_rules, which also has the laws on two files' bytes.
 #![tactic(auto)]
 
+mod bytes;
 mod difference;
 mod file_lines;
 mod given;
@@ -15,6 +16,7 @@ mod places;
 mod prefix;
 mod stream;
 
+pub use bytes::{are_bytes, holds_bytes};
 pub use difference::compare;
 pub use file_lines::{file_line, lines_of};
 pub use places::place;

@@ -6,7 +6,8 @@ ghost use Rattle.fam_base.specs.Commands.{IsSoundCmd, mode_limit};
 ghost use Rattle.fam_protocol.specs.Tasks.{IsCommand};
 ghost use Rattle.fam_rules.specs.DecideLaws.{IsSoundWish};
 
-use fam_base::{Attr, Cmd, Content, Kind, Path, Stripe};
+use fam_base::{Attr, Cmd, Kind, Path, Stripe};
+use fam_content::{are_bytes, holds_bytes};
 
 /// A directory may be wished for, where its mode is within its limit. A call does nothing.
 fn is_directory_wish(path: &Path, attr: Attr)

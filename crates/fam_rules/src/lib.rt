@@ -10,7 +10,6 @@
 
 mod answers;
 mod ask;
-mod bytes;
 mod content;
 mod decide;
 mod place;
@@ -20,7 +19,6 @@ mod written;
 
 pub use answers::{Checked, LogState, Refused, Report, SuperState};
 pub use ask::a_question_finds_the_entry_of_the_tree;
-pub use bytes::{are_bytes, holds_bytes};
 pub use content::{contents_fill_the_size, lines_hold_the_bytes, seeded_lines_are_the_stream};
 pub use decide::{a_decided_entry_joins, the_first_cause_refuses};
 pub use place::{

@@ -5,8 +5,7 @@ ghost use Rattle.fam_rules.specs.Content.{HoldsBytes};
 ghost use Rattle.fam_tasks.specs.Contents.{next_of};
 
 use fam_base::{Content, Line};
-use fam_content::ContentStream;
-use fam_rules::holds_bytes;
+use fam_content::{ContentStream, holds_bytes};
 use std::marker::Model;
 
 /// The lines of a content from the front: how many were taken, and the last of them.
