@@ -174,7 +174,7 @@ pub fn write_shadow<M: Media, D: Shade, K: Sink>(
     ensures ends { ShadowTop (Some me) (outside_of M.size M.state media.old media.new no_files
         (change K.state out.old out.new)) (change D.state shade.old shade.new) result }
     ensures steady { IsSteady M.size M.state media.old media.new }
-    ensures shade { D.faults shade.old ≤ D.faults shade.new }
+    ensures shade { (D.state shade.old).faults ≤ (D.state shade.new).faults }
     ensures later { (K.state out.old).faults ≤ (K.state out.new).faults }
 {
     let name = own_name();

@@ -36,7 +36,12 @@ risen before now (inr full) = omega (arith, full)
 
 -- what the run's outside is
 abbrev pub out_of : Base → Now → ShelfChange → SinkChange → Outside
-out_of b n shelf sink = record { lines = b.lines; media = record { old = b.media; new = n.media }; shelf = shelf; sink = sink }
+out_of b n shelf sink = record {
+  lines = b.lines;
+  media = record { old = b.media; new = n.media };
+  shelf = record { old = record shelf.old { files = b.files }; new = shelf.new };
+  sink = sink;
+}
 
 -- where a world is held its journal is legal, and the image reads as it settles
 module _ (b : Base) (count : ℕ) (n : Now) (far : Far b count n) (shelf : ShelfChange) (all : SinkChange) where
