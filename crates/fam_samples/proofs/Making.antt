@@ -172,8 +172,8 @@ module _ (me fs : List ℕ) (is_uuid : IsUuid fs) (image : Image) (enough : need
     abbrev call : Call
     call = Makes (codes "m") (mkfs_request fs 4096 65536 true)
 
-    params_are : asked 4096 65536 fs host.uuid (length state.memory) ≡ p
-    params_are = ap₂ (λ (id : List ℕ) (n : ℕ). asked 4096 65536 fs id n) mine.uuid (sym (ap (λ (x : Image). length x) same))
+    params_are : asked (mkfs_request fs 4096 65536 true) host.uuid (length state.memory) ≡ p
+    params_are = ap₂ (λ (id : List ℕ) (n : ℕ). asked (mkfs_request fs 4096 65536 true) id n) mine.uuid (sym (ap (λ (x : Image). length x) same))
 
     machine_is : machine_of state host ≡ record { image = image; cache = finmap.empty }
     machine_is = ap₂ (λ (x : Image) (c : Cache). record { image = x; cache = c }) (sym same) mine.cache
@@ -190,7 +190,7 @@ module _ (me fs : List ℕ) (is_uuid : IsUuid fs) (image : Image) (enough : need
     none : refusal_of call state ≡ None
     none = refusal_shown (length state.memory) state old call stands ∙ ap (refusal_in call old) (sym (ap (λ (x : Image). length x) same)) ∙ free
 
-    made : MakesFileSystem 0 (asked 4096 65536 fs host.uuid (length state.memory)) true host state (Made 0 p ∷ []) left
+    made : MakesFileSystem 0 (asked (mkfs_request fs 4096 65536 true) host.uuid (length state.memory)) true host state (Made 0 p ∷ []) left
     made = subst (λ (q : Params). MakesFileSystem 0 q true host state (Made 0 p ∷ []) left) (sym params_are) record { free = refl; notes_are = refl; left = refl }
 
     acts : Acts call state (Made 0 p ∷ []) left

@@ -3,6 +3,7 @@
 use Rattle.std.specs.Prelude.{ℕ, ◌++◌, List, [], ◌∷◌, codes, length, Option, Some, None}
 use Rattle.std.specs.FinMap as map_of_lines
 use Rattle.fam_base.specs.declared.cmd.Cmd.TheVariants.{Logplay}
+use Rattle.fam_machine.specs.MkfsRequest.{mkfs_request}
 use Rattle.fam_machine.specs.declared.cell.Cell.TheVariants.{Absent}
 use Rattle.fam_commands.specs.declared.phase.Phase.TheVariants as at
 use Rattle.fam_machine.specs.Caches.{Cache, with_cell}
@@ -34,7 +35,7 @@ after_step me lines journal =
 
 -- the file system that host m makes, over whatever stands there, and the machine behind it
 abbrev pub params_m : List ℕ → List ℕ → Image → Params
-params_m me fs image = asked 4096 65536 fs me (length image)
+params_m me fs image = asked (mkfs_request fs 4096 65536 true) me (length image)
 
 -- memory and cache behind a mkfs that was forced, with no cache before
 abbrev pub made_machine : List ℕ → List ℕ → Image → Machine
