@@ -1,6 +1,6 @@
 -- Worlds before and after calls, such as a body makes them: host m steps a logplay that has just begun; and makes a file
 -- system.
-use Rattle.std.specs.Prelude.{ℕ, ◌++◌, List, [], ◌∷◌, codes, length, Option, Some, None}
+use Rattle.std.specs.Prelude.{true, ℕ, ◌++◌, List, [], ◌∷◌, codes, length, Option, Some, None}
 use Rattle.std.specs.FinMap as map_of_lines
 use Rattle.fam_base.specs.declared.cmd.Cmd.TheVariants.{Logplay}
 use Rattle.fam_machine.specs.MkfsRequest.{mkfs_request}

@@ -29,7 +29,7 @@ pub fn forms_of_notes()
 
     // A mkfs makes just what was asked for.
     ensures made { (lines : ℕ) → ActsForm (Makes (codes "m") (mkfs_request (uuid 255) 4096 65536 false)) 0 form_m lines idle_m
-        (Made 0 (asked (mkfs_request (uuid 255) 4096 65536 true) form_m.uuid lines) ∷ []) }
+        (Made 0 (asked (mkfs_request (uuid 255) 4096 65536 false) form_m.uuid lines) ∷ []) }
     ensures made_another { (lines : ℕ) → ActsForm (Makes (codes "m") (mkfs_request (uuid 255) 8192 65536 false)) 0 form_m lines idle_m
         (Made 0 params ∷ []) → ⊥ }
 {}
