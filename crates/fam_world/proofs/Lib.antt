@@ -12,6 +12,7 @@ pub mod StepForms
 pub mod Stepping
 pub mod Finishing
 pub mod Saying
+pub mod Sends
 pub mod TaskSteps
 pub mod Fits
 pub mod Kept

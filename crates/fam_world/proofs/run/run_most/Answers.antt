@@ -1,6 +1,6 @@
 use Rattle.std.proofs.Common.{◌≡◌, ◌+◌, ◌<◌, false, suc, ℕ, [], List, length, Some, None, Ok, refl, ap, sym, subst, ◌∙◌, arith}
 use Rattle.std.proofs.lemmas.Bool.Decides.{nat_tests}
-use Rattle.fam_cache.proofs.Performed.{held_sends}
+use Rattle.fam_world.proofs.Sends.{held_sends}
 use Rattle.fam_commands.specs.Task.{op_of}
 use Rattle.fam_media.specs.Outside.{IfModelled}
 use Rattle.fam_run.specs.Operation.{IsDone, IsUndone, Operated}

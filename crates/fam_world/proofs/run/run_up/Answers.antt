@@ -1,7 +1,7 @@
 use Rattle.std.proofs.Common.{◌≡◌, ◌<◌, false, true, Result, ℕ, [], List, length, Some, None, Ok, Err, inl, refl, ap, sym, subst, ◌∙◌, arith, vec_len}
 use Rattle.std.specs.Prelude.{OnErr, OnOk, vec_capacity}
 use Rattle.std.specs.Result.{is_err}
-use Rattle.fam_cache.proofs.Performed.{held_sends}
+use Rattle.fam_world.proofs.Sends.{held_sends}
 use Rattle.fam_commands.specs.Task.{op_of}
 use Rattle.fam_media.specs.Outside.{IfModelled}
 use Rattle.fam_run.specs.Led.{Advanced, HasDone}
