@@ -24,7 +24,7 @@ returns-in-Ok-clause-ends g c =
       sink = c.run_script.ensures.later;
     } in
     script_ends shelf c.args.name.now out c.in-Ok.events.items c.run_script.result refl c.in-Ok.ensures.read falls
-    (subst (λ (f : Option Files). ScriptRan c.in-Ok.events.items (record out { files = f }) c.run_script.result) read.same
+    (subst (λ (f : Option Files). ScriptRan c.in-Ok.events.items (record out { shelf = record { old = record all.old { files = f }; new = all.new } }) c.run_script.result) read.same
     (ran_before behind shelf.old.faults shelf.old.shorts read.faults_later read.shorts_later c.in-Ok.events.items c.run_script.result c.run_script.ensures.ran))
 
 pub returns-in-Err-clause-ends : goal.returns-in-Err-clause-ends
