@@ -14,11 +14,23 @@ fn is_plain(byte: u8) -> bool
     (0x21..=0x7e).contains(&byte) && byte != b'\\'
 }
 
-fn hex_digit(n: u8) -> u8
+/// The digit of a number below 16 in hexadecimal, in small letters.
+pub fn hex_digit(n: u8) -> u8
     requires { n < 16 }
     ensures { result ≡ hex_digit n }
 {
     if n < 10 { b'0' + n } else { b'a' + (n - 10) }
+}
+
+/// Adds bytes to a text.
+pub fn put_bytes(bytes: &[u8], into: &mut Vec<u8>) -> Result<(), OutOfMemory>
+    ensures added { OnOk result (into.new.items ≡ into.old.items ++ bytes.now) }
+    ensures same { OnErr result (into.new.items ≡ into.old.items) }
+{
+    match into.extend_from_slice(bytes) {
+        Ok(()) => Ok(()),
+        Err(_) => Err(OutOfMemory),
+    }
 }
 
 fn escape_byte(byte: u8, into: &mut Vec<u8>) -> Result<(), OutOfMemory>
@@ -32,10 +44,7 @@ fn escape_byte(byte: u8, into: &mut Vec<u8>) -> Result<(), OutOfMemory>
         }
     } else {
         let escape = [b'\\', b'x', hex_digit(byte / 16), hex_digit(byte % 16)];
-        match into.extend_from_slice(&escape) {
-            Ok(()) => Ok(()),
-            Err(_) => Err(OutOfMemory),
-        }
+        put_bytes(&escape, into)
     }
 }
 

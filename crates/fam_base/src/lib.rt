@@ -24,7 +24,7 @@ mod units;
 pub use byte_text::ByteText;
 pub use cmd::{Attr, Cmd, Content, Stripe};
 pub use entry::{Entry, Kind, MapKind, Params};
-pub use escapes::{escape, names_differ_in_print, print_is_visible};
+pub use escapes::{escape, hex_digit, names_differ_in_print, print_is_visible, put_bytes};
 pub use extents::{EXTENT_LIMIT, Extent, Extents};
 pub use host_name::{BadName, HostName, NAME_LIMIT};
 pub use image::{line_is_written, mask_of_none_or_all, writes_keep_the_form};

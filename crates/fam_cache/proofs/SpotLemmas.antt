@@ -41,8 +41,3 @@ brought_held : (memory : List ℕ) (cell : Cell) → IsHeld (brought memory cell
 brought_held memory Absent = refl
 brought_held memory (Clean words) = refl
 brought_held memory (Dirty a words) = refl
-
--- a line that was brought is held
-pub held_after : (modelled : Option Image) (line : ℕ) (old new : Cell) (before after : Cache) → FromMemory modelled line (λ memory. new ≡ brought memory old) → after ≡ with_cell line new before → IsHeld (cell_at after line)
-held_after modelled line old new before after from after_is =
-    ap is_held (ap (λ (cache : Cache). cell_at cache line) after_is ∙ cell_at-with_cell_same line new before ∙ from.is) ∙ brought_held from.memory old

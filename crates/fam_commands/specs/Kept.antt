@@ -41,7 +41,7 @@ class_used kept Appends p gate = used_by kept p gate
 class_used kept (Compares path against) p gate = used_by kept p gate
 class_used kept (Reads path offset count) p gate = used_by kept p gate
 
--- of a command
+-- so of a command, by its class
 abbrev pub used : Option Kept → Cmd → Params → ℕ → List Entry
 used kept cmd p gate = class_used kept (class_of cmd) p gate
 

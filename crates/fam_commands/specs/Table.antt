@@ -141,7 +141,7 @@ fault_reply_in Appends words lines other = other
 fault_reply_in (Compares path against) words lines other = other
 fault_reply_in (Reads path offset count) words lines other = other
 
--- of a command
+-- so of a command, by its class
 abbrev pub fault_reply : Cmd → List ℕ → ℕ → Reply → Reply
 fault_reply cmd words lines other = fault_reply_in (class_of cmd) words lines other
 
@@ -194,7 +194,7 @@ slot_note_in Appends words p used i = reading_note (fed_slots words p used (i + 
 slot_note_in (Compares path against) words p used i = reading_note (fed_slots words p used (i + 1))
 slot_note_in (Reads path offset count) words p used i = reading_note (fed_slots words p used (i + 1))
 
--- of a command
+-- so of a command, by its class
 abbrev pub slot_note : Cmd → List ℕ → Params → List Entry → ℕ → RowNote
 slot_note cmd words p used i = slot_note_in (class_of cmd) words p used i
 
@@ -223,7 +223,7 @@ fits_content_in Appends size = true
 fits_content_in (Reads path offset count) size = true
 fits_content_in Surveys size = true
 
--- of a command
+-- so of a command, by its class
 abbrev pub fits_content : Cmd → ℕ → Bool
 fits_content cmd size = fits_content_in (class_of cmd) size
 
@@ -245,7 +245,7 @@ wanted_file_in Replays files = None
 wanted_file_in Appends files = None
 wanted_file_in Surveys files = None
 
--- of a command
+-- so of a command, by its class
 abbrev pub wanted_file : Cmd → List File → Option File
 wanted_file cmd files = wanted_file_in (class_of cmd) files
 

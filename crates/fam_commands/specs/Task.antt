@@ -93,7 +93,7 @@ wanted_end_in Appends size = size
 wanted_end_in (Compares path against) size = size
 wanted_end_in Surveys size = size
 
--- of a command
+-- so of a command, by its class
 abbrev pub wanted_end : Cmd → ℕ → ℕ
 wanted_end cmd size = wanted_end_in (class_of cmd) size
 
@@ -105,7 +105,7 @@ wanted_start_in Appends = 0
 wanted_start_in (Compares path against) = 0
 wanted_start_in Surveys = 0
 
--- of a command
+-- so of a command, by its class
 abbrev pub wanted_start : Cmd → ℕ
 wanted_start cmd = wanted_start_in (class_of cmd)
 

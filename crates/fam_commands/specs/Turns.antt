@@ -57,7 +57,7 @@ super_fault_reply_in Appends fault = NoSuperblock fault
 super_fault_reply_in (Compares path against) fault = NoSuperblock fault
 super_fault_reply_in (Reads path offset count) fault = NoSuperblock fault
 
--- of a command
+-- so of a command, by its class
 abbrev pub super_fault_reply : Cmd → SuperFault → Reply
 super_fault_reply cmd fault = super_fault_reply_in (class_of cmd) fault
 
@@ -69,7 +69,7 @@ log_fault_reply_in Appends fault = BadHeader fault
 log_fault_reply_in (Compares path against) fault = BadHeader fault
 log_fault_reply_in (Reads path offset count) fault = BadHeader fault
 
--- of a command
+-- so of a command, by its class
 abbrev pub log_fault_reply : Cmd → LogFault → Reply
 log_fault_reply cmd fault = log_fault_reply_in (class_of cmd) fault
 
@@ -147,7 +147,7 @@ check_turn_in Appends t i = slot_turn t i (entry_of t.params t.words i)
 check_turn_in (Compares path against) t i = slot_turn t i (entry_of t.params t.words i)
 check_turn_in (Reads path offset count) t i = slot_turn t i (entry_of t.params t.words i)
 
--- of a command
+-- so of a command, by its class
 abbrev pub check_turn : Cmd → Task → ℕ → Turn
 check_turn cmd t i = check_turn_in (class_of cmd) t i
 
@@ -236,7 +236,7 @@ file_turn_in Replays t j = Goes t
 file_turn_in Appends t j = Goes t
 file_turn_in Surveys t j = Goes t
 
--- of a command
+-- so of a command, by its class
 abbrev pub file_turn : Cmd → Task → ℕ → Turn
 file_turn cmd t j = file_turn_in (class_of cmd) t j
 

@@ -34,14 +34,14 @@ use Rattle.fam_journal.proofs.Forms.Views.{number_formed, refusal_formed}
 use Rattle.fam_world.proofs.Finishing.{number_same}
 use Rattle.fam_world.proofs.Members.{map_kept}
 use Rattle.fam_world.proofs.Rows.{first_refusal}
-use Rattle.fam_events.specs.Around.{AddsForm, Around, asking, session}
+use Rattle.fam_events.specs.WorldChange.{AddsForm, WorldChange, asking, session}
 use Rattle.fam_events.specs.declared.asks.Asked.{Asked}
 use Rattle.fam_events.specs.declared.fault.EventFault.{EventFault}
 use Rattle.fam_events.specs.declared.fault.EventFault.TheVariants as fault
 use Rattle.fam_events.specs.Begins.{AskBegun, AskRefused, AskSays, AskUndone, Nothing, RefusedForm}
 use Rattle.fam_events.specs.Happens.{EventEnded, IsToSource, SourceForm}
 use Rattle.fam_events.proofs.OverMedia.{count_kept}
-use Rattle.fam_events.proofs.Quiet.{quiet_adds, quiet_row, still_adds, still_keeps}
+use Rattle.fam_events.proofs.WithoutMedia.{quiet_adds, quiet_row, still_adds, still_keeps}
 use Rattle.fam_events.proofs.Running.{finish_as_step, runs_free}
 
 -- a cause of a source
@@ -196,7 +196,7 @@ module _ (name : List ℕ) (what : Ask) (lines : ℕ) (old : WorldView) (formed 
 
     -- the command begins
     module _ (cmd : Cmd) (fits_words : IsCommand cmd) (new : WorldView) (change : ShelfChange) (now : ℕ) (same : change.old.files ≡ files) (ready : HoldsSource change copied what now cmd) (w : WorldCall (call.Begins name cmd) lines None old new) where
-      abbrev a : Around
+      abbrev a : WorldChange
       a = asking lines old new told faults files copied now
 
       record Placed (notes : List Note) : Type 0 where
@@ -293,7 +293,7 @@ module _ (name : List ℕ) (what : Ask) (lines : ℕ) (old : WorldView) (formed 
       }
 
 -- a call that refuses or begins, or finds no memory
-pub asked_as : (name : List ℕ) (what : Ask) (shelf : ShelfChange) (a : Around) (r : Result Asked EventFault) (W X : Type 0) (want : Asked) → IfOk r (λ asked. (asked ≡ want) × W) → IfErr r (λ f. f ≡ fault.OutOfMemory) → OnErr r X
+pub asked_as : (name : List ℕ) (what : Ask) (shelf : ShelfChange) (a : WorldChange) (r : Result Asked EventFault) (W X : Type 0) (want : Asked) → IfOk r (λ asked. (asked ≡ want) × W) → IfErr r (λ f. f ≡ fault.OutOfMemory) → OnErr r X
     → (W → AskSays name what shelf a (Ok want)) → (X → AskUndone a) → AskSays name what shelf a r
 asked_as name what shelf b (Ok asked) W X want done err undone if_done if_not = subst (λ (z : Asked). AskSays name what shelf b (Ok z)) (sym done.0) (if_done done.1)
 asked_as name what shelf b (Err f) W X want done err undone if_done if_not = subst (λ (z : EventFault). AskSays name what shelf b (Err z)) (sym err) (if_not undone)

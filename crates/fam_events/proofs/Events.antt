@@ -36,7 +36,7 @@ use Rattle.fam_journal.proofs.Runs.Unique.{faults_both}
 use Rattle.fam_world.proofs.Rows.{first_refusal}
 use Rattle.fam_events.specs.declared.fault.EventFault.{EventFault}
 use Rattle.fam_events.specs.declared.fault.EventFault.TheVariants as fault
-use Rattle.fam_events.specs.Around.{AddsForm, Around, Breaks, Keeps, Told, asking, session}
+use Rattle.fam_events.specs.WorldChange.{AddsForm, WorldChange, Breaks, Keeps, Told, asking, session}
 use Rattle.fam_events.specs.declared.asks.Asked.{Asked}
 use Rattle.fam_events.specs.declared.asks.Asked.TheVariants as asked
 use Rattle.fam_events.specs.Begins.{AskBegun, AskRefused, AskSays, AskUndone, BegunForm, Nothing, Refuses, RefusedForm, Starts}
@@ -46,10 +46,10 @@ use Rattle.fam_events.proofs.Running.{busy_is, finish_as_step, free_runs}
 use Rattle.fam_events.specs.Happens.{EventDone, EventEnded, EventPart, EventSays, FormOfPart, IsDoneBy, IsPart, IsToSource, SourceForm}
 
 -- a form of notes that is as strong
-pub adds_as : (P Q : ℕ → List HostForm → List Note → Type 0) (a : Around) → ((lines : ℕ) (hosts : List HostForm) (notes : List Note) → P lines hosts notes → Q lines hosts notes) → AddsForm P a → AddsForm Q a
+pub adds_as : (P Q : ℕ → List HostForm → List Note → Type 0) (a : WorldChange) → ((lines : ℕ) (hosts : List HostForm) (notes : List Note) → P lines hosts notes → Q lines hosts notes) → AddsForm P a → AddsForm Q a
 adds_as P Q a weaker x = record { notes = x.notes; joined = x.joined; named = x.named; counted = x.counted; later = x.later; fits = x.fits; formed = x.formed; form = weaker a.lines (forms_of a.old.journal) x.notes x.form }
 
-pub keeps_as : (P Q : Files → Session → List Note → Session → Type 0) (a : Around) → ((files : Files) (old : Session) (notes : List Note) (new : Session) → old.copied ≡ a.copied → P files old notes new → Q files old notes new) → Told (λ files start. Keeps (P files) start) a → Told (λ files start. Keeps (Q files) start) a
+pub keeps_as : (P Q : Files → Session → List Note → Session → Type 0) (a : WorldChange) → ((files : Files) (old : Session) (notes : List Note) (new : Session) → old.copied ≡ a.copied → P files old notes new → Q files old notes new) → Told (λ files start. Keeps (P files) start) a → Told (λ files start. Keeps (Q files) start) a
 keeps_as P Q a weaker x start files state files_are told_is held =
     let k = x start files state files_are told_is held in
     record {
@@ -57,7 +57,7 @@ keeps_as P Q a weaker x start files state files_are told_is held =
       held = k.held;
     }
 
-breaks_as : (P Q : Session → List Note → Session → Type 0) (a : Around) → ((old : Session) (notes : List Note) (new : Session) → P old notes new → Q old notes new) → Told (λ files start. Breaks P start) a → Told (λ files start. Breaks Q start) a
+breaks_as : (P Q : Session → List Note → Session → Type 0) (a : WorldChange) → ((old : Session) (notes : List Note) (new : Session) → P old notes new → Q old notes new) → Told (λ files start. Breaks P start) a → Told (λ files start. Breaks Q start) a
 breaks_as P Q a weaker x start files state files_are told_is held =
     let k = x start files state files_are told_is held in
     record {
@@ -74,7 +74,7 @@ pub record IsCallOf (e : Event) (c : Call) : Type 0 where
   pub part : (files : Files) (old : Session) (notes : List Note) (new : Session) → CallsPart c old notes new → IsPart e files old notes new
   pub partly : (lines : ℕ) (hosts : List HostForm) (notes : List Note) → PartForm c lines hosts notes → FormOfPart e lines hosts notes
 
-pub event_says : (e : Event) (c : Call) (shelf : ShelfChange) (a : Around) → IsCallOf e c → a.copied_now ≡ a.copied → (r : Result (Unit {0}) EventFault) → CallSays c a r → EventSays e shelf a r
+pub event_says : (e : Event) (c : Call) (shelf : ShelfChange) (a : WorldChange) → IsCallOf e c → a.copied_now ≡ a.copied → (r : Result (Unit {0}) EventFault) → CallSays c a r → EventSays e shelf a r
 event_says e c shelf a of same (Ok x) says = record {
   adds = adds_as (DoesForm c) (EventForm e) a of.form says.adds;
   keeps = keeps_as (λ files. Calls c) (IsDoneBy e a.copied_now) a (λ files old notes new first does. (of.does files old notes new does, does.1 ∙ first ∙ sym same)) says.keeps;
@@ -220,49 +220,49 @@ started_as : (Q : ℕ → List HostForm → List Note → Type 0) (name : List �
 started_as Q name what lines hosts notes free starts =
     subst (λ (o : Option Refusal). FormByRefusal name o notes (UnfitNotes name what notes ⊎ StartForm Q name what lines hosts notes)) (sym free) (inr starts)
 
-pub begin_refused : (name : List ℕ) (what : Ask) (a : Around) → AskRefused name what a → EventDone (event.Begin name what) a
+pub begin_refused : (name : List ℕ) (what : Ask) (a : WorldChange) → AskRefused name what a → EventDone (event.Begin name what) a
 begin_refused name what a x = record {
   adds = adds_as (RefusedForm name what) (EventForm (event.Begin name what)) a (refused_as NoMore name what) x.adds;
   keeps = keeps_as (Refuses name what a.copied_now) (IsDoneBy (event.Begin name what) a.copied_now) a (λ files old notes new first does. (inr does.0, does.1)) x.keeps;
 }
 
-pub run_refused : (name : List ℕ) (what : Ask) (a : Around) → AskRefused name what a → EventDone (event.Run name what) a
+pub run_refused : (name : List ℕ) (what : Ask) (a : WorldChange) → AskRefused name what a → EventDone (event.Run name what) a
 run_refused name what a x = record {
   adds = adds_as (RefusedForm name what) (EventForm (event.Run name what)) a (refused_as CompletesForm name what) x.adds;
   keeps = keeps_as (Refuses name what a.copied_now) (IsDoneBy (event.Run name what) a.copied_now) a (λ files old notes new first does. (inr does.0, does.1)) x.keeps;
 }
 
-pub begin_begun : (name : List ℕ) (what : Ask) (a : Around) → AskBegun name what a → EventDone (event.Begin name what) a
+pub begin_begun : (name : List ℕ) (what : Ask) (a : WorldChange) → AskBegun name what a → EventDone (event.Begin name what) a
 begin_begun name what a x = record {
   adds = adds_as (BegunForm name what) (EventForm (event.Begin name what)) a (λ lines hosts notes form. started_as NoMore name what lines hosts notes form.free form.starts) x.adds;
   keeps = keeps_as (Starts name what a.copied_now) (IsDoneBy (event.Begin name what) a.copied_now) a (λ files old notes new first does. (inl does.0, does.1)) x.keeps;
 }
 
 -- nothing was done
-pub begin_undone : (e : Event) (a : Around) → AskUndone a → EventPart e a
+pub begin_undone : (e : Event) (a : WorldChange) → AskUndone a → EventPart e a
 begin_undone e a x = record {
   adds = adds_as (λ lines hosts notes. notes ≡ []) (FormOfPart e) a (λ lines hosts notes none. inl none) x.adds;
   keeps = keeps_as (λ files. Nothing) (IsPart e) a (λ files old notes new first does. inl does) x.keeps;
 }
 
 -- a source of a begin is one of a run
-pub run_ended : (name : List ℕ) (what : Ask) (end : SourceEnd) (a : Around) → EventEnded (event.Begin name what) end a → EventEnded (event.Run name what) end a
+pub run_ended : (name : List ℕ) (what : Ask) (end : SourceEnd) (a : WorldChange) → EventEnded (event.Begin name what) end a → EventEnded (event.Run name what) end a
 run_ended name what end a x = record {
   adds = adds_as (SourceForm (event.Begin name what)) (SourceForm (event.Run name what)) a (λ lines hosts notes form. record { none = form.none; host = form.host; source = form.source; reads = form.reads; free = form.free }) x.adds;
   keeps = keeps_as (IsToSource (event.Begin name what) end) (IsToSource (event.Run name what) end) a
       (λ files old notes new first does. (record { host = does.0.host; source = does.0.source; reads = does.0.reads; free = does.0.free; ends = does.0.ends }, does.1, does.2)) x.keeps;
 }
 
-pub begin_asked : (name : List ℕ) (what : Ask) (shelf : ShelfChange) (a : Around) (x : Asked) → AskSays name what shelf a (Ok x) → EventDone (event.Begin name what) a
+pub begin_asked : (name : List ℕ) (what : Ask) (shelf : ShelfChange) (a : WorldChange) (x : Asked) → AskSays name what shelf a (Ok x) → EventDone (event.Begin name what) a
 begin_asked name what shelf a asked.Refused says = begin_refused name what a says
 begin_asked name what shelf a asked.Begun says = begin_begun name what a says
 
-pub begin_fault : (name : List ℕ) (what : Ask) (shelf : ShelfChange) (a : Around) (f : EventFault) → AskSays name what shelf a (Err f) → EventSays (event.Begin name what) shelf a (Err f)
+pub begin_fault : (name : List ℕ) (what : Ask) (shelf : ShelfChange) (a : WorldChange) (f : EventFault) → AskSays name what shelf a (Err f) → EventSays (event.Begin name what) shelf a (Err f)
 begin_fault name what shelf a fault.MkfsFailed says = absurd says
 begin_fault name what shelf a (fault.SourceEnded end) says = says
 begin_fault name what shelf a fault.OutOfMemory says = begin_undone (event.Begin name what) a says
 
-pub run_fault : (name : List ℕ) (what : Ask) (shelf : ShelfChange) (a : Around) (f : EventFault) → AskSays name what shelf a (Err f) → EventSays (event.Run name what) shelf a (Err f)
+pub run_fault : (name : List ℕ) (what : Ask) (shelf : ShelfChange) (a : WorldChange) (f : EventFault) → AskSays name what shelf a (Err f) → EventSays (event.Run name what) shelf a (Err f)
 run_fault name what shelf a fault.MkfsFailed says = absurd says
 run_fault name what shelf a (fault.SourceEnded end) says = (run_ended name what end a says.0, says.1)
 run_fault name what shelf a fault.OutOfMemory says = begin_undone (event.Run name what) a says
@@ -281,10 +281,10 @@ module _ (name : List ℕ) (what : Ask) (lines : ℕ) (old mid new : WorldView) 
   over = record { old = record { image = told; faults = faults }; new = record { image = told_now; faults = faults_now } }
 
   -- from the mid on, and all of it
-  abbrev b : Around
+  abbrev b : WorldChange
   b = record { lines = lines; old = mid; new = new; media = over; files = files; copied = now; copied_now = now }
 
-  abbrev a : Around
+  abbrev a : WorldChange
   a = record { lines = lines; old = old; new = new; media = over; files = files; copied = copied; copied_now = now }
 
   abbrev forms : List HostForm

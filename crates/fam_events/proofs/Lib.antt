@@ -1,6 +1,6 @@
 pub mod Lists
 pub mod Refusals
-pub mod Quiet
+pub mod WithoutMedia
 pub mod OverMedia
 pub mod Running
 pub mod Asking

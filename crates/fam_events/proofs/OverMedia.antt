@@ -25,10 +25,10 @@ use Rattle.fam_journal.proofs.Forms.Pairs.{IsNoMake}
 use Rattle.fam_world.specs.Answers.{IfAnswered}
 use Rattle.fam_world.specs.declared.fault.WorldFault.{WorldFault}
 use Rattle.fam_world.specs.declared.fault.WorldFault.TheVariants as fault
-use Rattle.fam_events.specs.Around.{AddsForm, Around, Breaks, Keeps, Told, session}
+use Rattle.fam_events.specs.WorldChange.{AddsForm, WorldChange, Breaks, Keeps, Told, session}
 use Rattle.fam_events.specs.Calls.{CallDone, CallPart, CallSays, CallsBreak, CallsPart, broken_by, make_outcome, outcome}
 use Rattle.fam_events.specs.Steps.{IsStill}
-use Rattle.fam_events.proofs.Quiet.{still_part}
+use Rattle.fam_events.proofs.WithoutMedia.{still_part}
 
 -- as many hosts
 pub count_kept : (a b : List HostView) → map heading a ≡ map heading b → length a ≡ length b
@@ -46,7 +46,7 @@ no_break (call.Halts name) lines hosts notes other is = absurd is
 no_break (call.Moves name line move) lines hosts notes other is = absurd is
 no_break (call.Refuses name cause) lines hosts notes other is = absurd is
 
-module _ (c : Call) (a : Around) (formed : IsFormed a.old) (fits : FitsMedia a.lines a.old.hosts) where
+module _ (c : Call) (a : WorldChange) (formed : IsFormed a.old) (fits : FitsMedia a.lines a.old.hosts) where
   -- notes that are added, of a form
   pub added : (form : ℕ → List HostForm → List Note → Type 0) (adds : Adds a.lines a.media.old.faults a.media.new.faults a.old a.new) → form a.lines (forms_of a.old.journal) adds.notes → AddsForm form a
   added form adds is = record {
@@ -94,17 +94,17 @@ module _ (c : Call) (a : Around) (formed : IsFormed a.old) (fits : FitsMedia a.l
           legal = d.legal;
         }
 
-    pub call_done : IsNoMake c → (answered : Option Refusal) → MediaCall c a.lines answered a.media.old.image a.media.new.image a.media.old.faults a.media.new.faults a.old a.new → CallDone c a
+    pub call_done : IsNoMake c → (answered : Option Refusal) → MediaCall c a.lines answered a.media a.old a.new → CallDone c a
     call_done whole answered x = record { adds = answers_form whole answered x.answers; keeps = row_kept x.keeps }
 
-    pub media_says : IsNoMake c → (called : Result (Unit {0}) WorldFault) → IfAnswered called (λ answered. MediaCall c a.lines answered a.media.old.image a.media.new.image a.media.old.faults a.media.new.faults a.old a.new)
+    pub media_says : IsNoMake c → (called : Result (Unit {0}) WorldFault) → IfAnswered called (λ answered. MediaCall c a.lines answered a.media a.old a.new)
         → (IsErrOf called fault.OutOfMemory → CallPart c a) → CallSays c a (outcome called)
     media_says whole (Ok x) w part = call_done whole None w
     media_says whole (Err (fault.Refused cause)) w part = call_done whole (Some cause) w
     media_says whole (Err fault.OutOfMemory) w part = part refl
 
 -- a finish that found no memory
-pub finish_part : (name : List ℕ) (a : Around) → IsFormed a.old → FitsMedia a.lines a.old.hosts → a.copied_now ≡ a.copied → FinishOutOfMemory name a.lines a.media.old.image a.media.new.image a.media.old.faults a.media.new.faults a.old a.new → CallPart (call.Finishes name) a
+pub finish_part : (name : List ℕ) (a : WorldChange) → IsFormed a.old → FitsMedia a.lines a.old.hosts → a.copied_now ≡ a.copied → FinishOutOfMemory name a.lines a.media a.old a.new → CallPart (call.Finishes name) a
 finish_part name a formed fits same x = record {
   adds = added (call.Finishes name) a formed fits (PartForm (call.Finishes name)) x.adds (x.form formed);
   keeps = part_kept (call.Finishes name) a formed fits same x.parts;
@@ -138,7 +138,7 @@ no_fault : (o : Option Refusal) (at : LineNo) → IfFaultless o → o ≡ Some (
 no_fault None at clean is = absurd cc
 no_fault (Some cause) at clean is = absurd (let same : cause ≡ why.MediaFault at = same_Some cause (why.MediaFault at) is in let one : 1 ≡ 0 = ap cause_faults (sym same) ∙ clean in cc)
 
-module _ (name : List ℕ) (request : MkfsRequest) (a : Around) (formed : IsFormed a.old) (fits : FitsMedia a.lines a.old.hosts) (same : a.copied_now ≡ a.copied) where
+module _ (name : List ℕ) (request : MkfsRequest) (a : WorldChange) (formed : IsFormed a.old) (fits : FitsMedia a.lines a.old.hosts) (same : a.copied_now ≡ a.copied) where
   abbrev c : Call
   c = call.Makes name request
 
@@ -190,7 +190,7 @@ module _ (name : List ℕ) (request : MkfsRequest) (a : Around) (formed : IsForm
   }
 
   abbrev Made : Option Refusal → Type 0
-  Made answered = MakeCall c a.lines answered a.media.old.image a.media.new.image a.media.old.faults a.media.new.faults a.old a.new
+  Made answered = MakeCall c a.lines answered a.media a.old a.new
 
   refused_says : (cause : Refusal) → Made (Some cause) → CallSays c a (broken_by cause)
   refused_says why.NoHost w = make_done (Some why.NoHost) refl w.answers w.leaves

@@ -57,16 +57,16 @@ own_of n None cause own is = absurd cc
 own_of n (Some own) cause is e = subst (IsOwn n) (same_Some own cause e) is
 
 -- calls that look at hosts alone
-abbrev pub IsQuiet : Call → Type 0
-IsQuiet (call.Declares name uuid) = ⊤
-IsQuiet (call.Makes name request) = ⊥
-IsQuiet (call.Begins name cmd) = ⊤
-IsQuiet (call.Steps name) = ⊤
-IsQuiet (call.Finishes name) = ⊥
-IsQuiet (call.Stops name) = ⊤
-IsQuiet (call.Halts name) = ⊤
-IsQuiet (call.Moves name line move) = ⊥
-IsQuiet (call.Refuses name cause) = ⊤
+abbrev pub TakesHostsAlone : Call → Type 0
+TakesHostsAlone (call.Declares name uuid) = ⊤
+TakesHostsAlone (call.Makes name request) = ⊥
+TakesHostsAlone (call.Begins name cmd) = ⊤
+TakesHostsAlone (call.Steps name) = ⊤
+TakesHostsAlone (call.Finishes name) = ⊥
+TakesHostsAlone (call.Stops name) = ⊤
+TakesHostsAlone (call.Halts name) = ⊤
+TakesHostsAlone (call.Moves name line move) = ⊥
+TakesHostsAlone (call.Refuses name cause) = ⊤
 
 module _ (m : Machines) where
   abbrev count : ℕ
@@ -78,7 +78,7 @@ module _ (m : Machines) where
   idle_own : (name : List ℕ) → IfCause count (on_host (number_of name m) (λ h. idle_refusal h m))
   idle_own name = own_on count (number_of name m) (λ h. idle_refusal h m) (λ h is. own_when count (not (busy_at h m)) why.Idle record { named = tt; faultless = refl })
 
-  first_own : (c : Call) → IsQuiet c → IfCause count (refusal_of c m)
+  first_own : (c : Call) → TakesHostsAlone c → IfCause count (refusal_of c m)
   unfolding refusal_of
   first_own (call.Declares name uuid) quiet =
       own_or count (same_refusal (index_of (is_same name uuid) m.hosts)) (when (nat_le host_limit count) why.TooManyHosts)
@@ -103,7 +103,7 @@ module _ (m : Machines) where
       none : IfCause count None
       none = tt
 
-  own_first : (c : Call) → IsQuiet c → (cause : Refusal) → refusal_of c m ≡ Some cause → IsOwn count cause
+  own_first : (c : Call) → TakesHostsAlone c → (cause : Refusal) → refusal_of c m ≡ Some cause → IsOwn count cause
   own_first c quiet cause is = own_of count (refusal_of c m) cause (first_own c quiet) is
 
 module _ (lines : ℕ) (old : WorldView) where
@@ -111,7 +111,7 @@ module _ (lines : ℕ) (old : WorldView) where
   count_shown = length-map old.hosts shown_host
 
   -- the first refusal of a world is its own
-  pub world_own : (c : Call) → IsQuiet c → (cause : Refusal) → refusal_in c old lines ≡ Some cause → IsOwn (length old.hosts) cause
+  pub world_own : (c : Call) → TakesHostsAlone c → (cause : Refusal) → refusal_in c old lines ≡ Some cause → IsOwn (length old.hosts) cause
   world_own c quiet cause is = subst (λ (n : ℕ). IsOwn n cause) count_shown (own_first (shown_state old lines) c quiet cause is)
 
   pub number_below : (name : List ℕ) (h : ℕ) → number_in name old ≡ Some h → h < length old.hosts
@@ -135,21 +135,21 @@ module _ (lines : ℕ) (old : WorldView) where
   source_own (why.MediaFault at) is = absurd is
 
   -- notes of a call that takes no media
-  pub record QuietNotes (c : Call) (new : WorldView) : Type 0 where
+  pub record HostsNotes (c : Call) (new : WorldView) : Type 0 where
     pub notes : List Note
     pub joined : new.journal ≡ old.journal ++ notes
     pub named : AreNamed (length old.hosts) notes
     pub faultless : faults_of notes ≡ 0
 
-  one_refused : (c : Call) (name : List ℕ) (cause : Refusal) (new : WorldView) → IsOwn (length old.hosts) cause → new.journal ≡ old.journal ++ Refused name cause ∷ [] → QuietNotes c new
+  one_refused : (c : Call) (name : List ℕ) (cause : Refusal) (new : WorldView) → IsOwn (length old.hosts) cause → new.journal ≡ old.journal ++ Refused name cause ∷ [] → HostsNotes c new
   one_refused c name cause new own joined =
       record { notes = Refused name cause ∷ []; joined = joined; named = (own.named, tt); faultless = let none = own.faultless in omega (arith, none) }
 
-  at_host : (c : Call) (o : Option ℕ) (change : HostView → HostView) (note : ℕ → Note) → ((h : ℕ) → o ≡ Some h → AreNamed (length old.hosts) (note h ∷ [])) → ((h : ℕ) → faults_of (note h ∷ []) ≡ 0) → QuietNotes c (with_host o change note old)
+  at_host : (c : Call) (o : Option ℕ) (change : HostView → HostView) (note : ℕ → Note) → ((h : ℕ) → o ≡ Some h → AreNamed (length old.hosts) (note h ∷ [])) → ((h : ℕ) → faults_of (note h ∷ []) ≡ 0) → HostsNotes c (with_host o change note old)
   at_host c None change note named clean = record { notes = []; joined = sym (append-nil old.journal); named = tt; faultless = refl }
   at_host c (Some h) change note named clean = record { notes = note h ∷ []; joined = refl; named = named h refl; faultless = clean h }
 
-  acted_notes : (c : Call) → TakesNoMedia c lines old → QuietNotes c (acted c lines old)
+  acted_notes : (c : Call) → TakesNoMedia c lines old → HostsNotes c (acted c lines old)
   acted_notes (call.Declares name uuid) takes = record { notes = Host name uuid ∷ []; joined = refl; named = (tt, tt); faultless = refl }
   acted_notes (call.Makes name request) takes = absurd takes
   acted_notes (call.Begins name cmd) takes = at_host (call.Begins name cmd) (number_in name old) _ (λ h. Start h cmd) (λ h is. (number_below name h is, tt)) (λ h. refl)
@@ -164,7 +164,7 @@ module _ (lines : ℕ) (old : WorldView) where
       by_takes (inl x) = source_own cause x
       by_takes (inr x) = world_own (call.Begins name Logplay) tt cause x
 
-  is_quiet : (c : Call) → TakesNoMedia c lines old → IsQuiet c
+  is_quiet : (c : Call) → TakesNoMedia c lines old → TakesHostsAlone c
   is_quiet (call.Declares name uuid) takes = tt
   is_quiet (call.Makes name request) takes = takes
   is_quiet (call.Begins name cmd) takes = tt
@@ -175,9 +175,9 @@ module _ (lines : ℕ) (old : WorldView) where
   is_quiet (call.Moves name line move) takes = takes
   is_quiet (call.Refuses name cause) takes = tt
 
-  pub quiet_notes : (c : Call) → TakesNoMedia c lines old → QuietNotes c (world_after c lines old)
-  quiet_notes c takes = by_refusal (refusal_in c old lines) refl
+  pub hosts_notes : (c : Call) → TakesNoMedia c lines old → HostsNotes c (world_after c lines old)
+  hosts_notes c takes = by_refusal (refusal_in c old lines) refl
     where
-      by_refusal : (o : Option Refusal) → refusal_in c old lines ≡ o → QuietNotes c (acted_by o c lines old)
+      by_refusal : (o : Option Refusal) → refusal_in c old lines ≡ o → HostsNotes c (acted_by o c lines old)
       by_refusal (Some cause) is = one_refused c (name_of c) cause _ (world_own c (is_quiet c takes) cause is) refl
       by_refusal None is = acted_notes c takes

@@ -7,6 +7,7 @@ use Rattle.std.proofs.lemmas.Option.{same_Some}
 use Rattle.fam_base.specs.Image.{Image}
 use Rattle.fam_media.specs.Files.{Files}
 use Rattle.fam_media.specs.Outside.{IfModelled}
+use Rattle.fam_media.specs.States.{media_change}
 use Rattle.fam_journal.specs.declared.event.Event.TheVariants.{Step}
 use Rattle.fam_journal.specs.declared.refusal.Refusal.{Refusal}
 use Rattle.fam_journal.specs.Calls as call
@@ -27,12 +28,12 @@ use Rattle.fam_journal.proofs.Forms.Views.{number_formed, refusal_formed}
 use Rattle.fam_journal.proofs.Runs.Unique.{faults_both}
 use Rattle.fam_world.proofs.Finishing.{number_same, operations_more}
 use Rattle.fam_world.proofs.Rows.{first_refusal}
-use Rattle.fam_events.specs.Around.{Around, Keeps, Told, session}
+use Rattle.fam_events.specs.WorldChange.{WorldChange, Keeps, Told, session}
 use Rattle.fam_events.specs.Happens.{EventDone, EventPart, FormOfPart, IsPart}
 use Rattle.fam_events.specs.Steps.{DoesCount, IsStill, Stepped, StepsOn, StepsSoFar}
 use Rattle.fam_events.proofs.Lists.{forms_more, named_more}
 use Rattle.fam_events.proofs.OverMedia.{count_kept}
-use Rattle.fam_events.proofs.Quiet.{still_adds, still_keeps}
+use Rattle.fam_events.proofs.WithoutMedia.{still_adds, still_keeps}
 use Rattle.fam_events.proofs.Running.{busy_is, free_runs, runs_free, step_runs}
 
 -- operations of an idle host are none
@@ -53,10 +54,10 @@ free_of c lines before now old new a = go (refusal_in c old lines) refl
         absurd (let said : None ≡ refusal_noted (Refused (call.name_of c) cause ∷ []) = a.said ∙ ap refusal_noted (a.refused cause is).0 in cc)
 
 -- a step from a world to the next
-abbrev pub next_of : Around → WorldView → Option Image → ℕ → Around
+abbrev pub next_of : WorldChange → WorldView → Option Image → ℕ → WorldChange
 next_of a new told faults = record a { new = new; media = record { old = a.media.old; new = record { image = told; faults = faults } } }
 
-module _ (name : List ℕ) (a : Around) (formed : IsFormed a.old) (fits : FitsMedia a.lines a.old.hosts) where
+module _ (name : List ℕ) (a : WorldChange) (formed : IsFormed a.old) (fits : FitsMedia a.lines a.old.hosts) where
   abbrev forms : List HostForm
   forms = forms_of a.old.journal
 
@@ -105,7 +106,7 @@ module _ (name : List ℕ) (a : Around) (formed : IsFormed a.old) (fits : FitsMe
         by_host (call.Steps name) state left notes (subst (λ (o : Option Refusal). ByRefusal name o notes state left (Acts (call.Steps name) state notes left)) free row)
         (λ h host h_is host_is op. subst (λ (k : ℕ). Operation k state notes left) (same_Some h at (sym h_is ∙ number)) op)
 
-    module _ (modelled : IfModelled a.media.new.image (λ image. length image ≡ a.lines)) (over : Bool) (new : WorldView) (told : Option Image) (faults : ℕ) (w : StepCall name a.lines None over a.media.new.image told a.media.new.faults faults a.new new) where
+    module _ (modelled : IfModelled a.media.new.image (λ image. length image ≡ a.lines)) (over : Bool) (new : WorldView) (told : Option Image) (faults : ℕ) (w : StepCall name a.lines None over (media_change a.media.new.image a.media.new.faults told faults) a.new new) where
       abbrev more : List Note
       more = w.answers.answers.adds.notes
 
@@ -166,7 +167,7 @@ module _ (name : List ℕ) (a : Around) (formed : IsFormed a.old) (fits : FitsMe
   -- Steps, one behind another.
 
   -- one more step of what was done so far
-  pub next_so_far : (count : ℕ) → StepsSoFar name count a → IfModelled a.media.new.image (λ image. length image ≡ a.lines) → (over : Bool) (new : WorldView) (told : Option Image) (faults : ℕ) → StepCall name a.lines None over a.media.new.image told a.media.new.faults faults a.new new
+  pub next_so_far : (count : ℕ) → StepsSoFar name count a → IfModelled a.media.new.image (λ image. length image ≡ a.lines) → (over : Bool) (new : WorldView) (told : Option Image) (faults : ℕ) → StepCall name a.lines None over (media_change a.media.new.image a.media.new.faults told faults) a.new new
       → (at : ℕ) × Stepped name at (suc count) (not over) (next_of a new told faults)
   next_so_far count (inr x) modelled over new told faults w = (x.0, more_stepped x.0 count x.1 modelled over new told faults w)
   next_so_far count (inl x) modelled over new told faults w =
@@ -285,7 +286,7 @@ module _ (name : List ℕ) (a : Around) (formed : IsFormed a.old) (fits : FitsMe
   }
 
   -- it was refused at once
-  module _ (cause : Refusal) (new : WorldView) (told : Option Image) (faults : ℕ) (still : IsStill a) (w : StepCall name a.lines (Some cause) false a.media.new.image told a.media.new.faults faults a.new new) (modelled : IfModelled a.media.old.image (λ image. length image ≡ a.lines)) (limit : ℕ) where
+  module _ (cause : Refusal) (new : WorldView) (told : Option Image) (faults : ℕ) (still : IsStill a) (w : StepCall name a.lines (Some cause) false (media_change a.media.new.image a.media.new.faults told faults) a.new new) (modelled : IfModelled a.media.old.image (λ image. length image ≡ a.lines)) (limit : ℕ) where
     first_cause : (own : Refusal) × (refusal_in (call.Steps name) a.new a.lines ≡ Some own)
     first_cause = go (refusal_in (call.Steps name) a.new a.lines) refl
       where
@@ -303,7 +304,7 @@ module _ (name : List ℕ) (a : Around) (formed : IsFormed a.old) (fits : FitsMe
     unfolding refusal_of
     told_first = sym (refusal_formed a.lines a.old formed (call.Steps name) tt) ∙ old_first
 
-    abbrev b : Around
+    abbrev b : WorldChange
     b = next_of a new told faults
 
     refused_row : (state : Machines) (notes : List Note) (left : Machines) → refusal_of (call.Steps name) state ≡ Some own → Does (call.Steps name) state notes left → (notes ≡ Refused name own ∷ []) × (left ≡ state)

@@ -16,7 +16,7 @@ use Rattle.fam_events.specs.declared.asks.Asked.{Asked}
 use Rattle.fam_events.specs.declared.asks.Asked.TheVariants.{Begun, Refused}
 use Rattle.fam_events.specs.declared.fault.EventFault.{EventFault}
 use Rattle.fam_events.specs.declared.fault.EventFault.TheVariants as fault
-use Rattle.fam_events.specs.Around.{AddsForm, Around, Keeps, Told}
+use Rattle.fam_events.specs.WorldChange.{AddsForm, WorldChange, Keeps, Told}
 use Rattle.fam_events.specs.Happens.{EventEnded}
 
 -- nothing may begin there, or the source is none
@@ -28,7 +28,7 @@ abbrev pub Refuses : List ℕ → Ask → ℕ → Files → Session → List Not
 Refuses name what copied files old notes new = RefusesEvent files name what old notes new × (new.copied ≡ copied)
 
 -- an ask was refused: its note, and what stays
-pub record AskRefused (name : List ℕ) (what : Ask) (a : Around) : Type 0 where
+pub record AskRefused (name : List ℕ) (what : Ask) (a : WorldChange) : Type 0 where
   pub adds : AddsForm (RefusedForm name what) a
   pub keeps : Told (λ files start. Keeps (Refuses name what a.copied_now files) start) a
 
@@ -42,7 +42,7 @@ abbrev pub Starts : List ℕ → Ask → ℕ → Files → Session → List Note
 Starts name what copied files old notes new = IsBegun files name what old notes new × (new.copied ≡ copied)
 
 -- a host began what it is asked for: its note, and what stays
-pub record AskBegun (name : List ℕ) (what : Ask) (a : Around) : Type 0 where
+pub record AskBegun (name : List ℕ) (what : Ask) (a : WorldChange) : Type 0 where
   pub adds : AddsForm (BegunForm name what) a
   pub keeps : Told (λ files start. Keeps (Starts name what a.copied_now files) start) a
   pub number : number_in name a.new ≡ number_in name a.old
@@ -54,12 +54,12 @@ abbrev pub Nothing : Session → List Note → Session → Type 0
 Nothing old notes new = (notes ≡ []) × (new ≡ old)
 
 -- no memory was found: all is as it was
-pub record AskUndone (a : Around) : Type 0 where
+pub record AskUndone (a : WorldChange) : Type 0 where
   pub adds : AddsForm (λ lines hosts notes. notes ≡ []) a
   pub keeps : Told (λ files start. Keeps Nothing start) a
 
 -- what is promised of an ask, by how it came out
-abbrev pub AskSays : List ℕ → Ask → ShelfChange → Around → Result Asked EventFault → Type 0
+abbrev pub AskSays : List ℕ → Ask → ShelfChange → WorldChange → Result Asked EventFault → Type 0
 AskSays name what shelf a (Ok Begun) = AskBegun name what a
 AskSays name what shelf a (Ok Refused) = AskRefused name what a
 AskSays name what shelf a (Err fault.MkfsFailed) = ⊥

@@ -7,7 +7,7 @@ use Rattle.fam_journal.specs.CallRecords.{DoesPart}
 use Rattle.fam_journal.specs.Events.{Calls, Session}
 use Rattle.fam_journal.specs.Forms.{BreaksForm, DoesForm, PartForm}
 use Rattle.fam_journal.specs.Notes.{Note}
-use Rattle.fam_events.specs.Around.{Around, AddsForm, Breaks, Keeps, Told}
+use Rattle.fam_events.specs.WorldChange.{WorldChange, AddsForm, Breaks, Keeps, Told}
 use Rattle.fam_events.specs.declared.fault.EventFault.{EventFault}
 use Rattle.fam_events.specs.declared.fault.EventFault.TheVariants as fault
 use Rattle.fam_world.specs.declared.fault.WorldFault.{WorldFault}
@@ -28,7 +28,7 @@ broken_by_in ByImage = Ok tt
 broken_by_in BySource = Ok tt
 broken_by_in (ByFault at) = Err fault.MkfsFailed
 
--- of a refusal
+-- so of a refusal, by its class
 abbrev pub broken_by : Refusal → Result (Unit {0}) EventFault
 broken_by cause = broken_by_in (refusal_class cause)
 
@@ -47,22 +47,22 @@ abbrev pub CallsBreak : Call → Session → List Note → Session → Type 0
 CallsBreak c old notes new = BreaksOff c old.machines notes new.machines × (new.copied ≡ old.copied)
 
 -- the call did its row
-pub record CallDone (c : Call) (a : Around) : Type 0 where
+pub record CallDone (c : Call) (a : WorldChange) : Type 0 where
   pub adds : AddsForm (DoesForm c) a
   pub keeps : Told (λ files start. Keeps (Calls c) start) a
 
 -- a mkfs was cut
-pub record CallBroken (c : Call) (a : Around) : Type 0 where
+pub record CallBroken (c : Call) (a : WorldChange) : Type 0 where
   pub adds : AddsForm (BreaksForm c) a
   pub keeps : Told (λ files start. Breaks (CallsBreak c) start) a
 
 -- no memory was left
-pub record CallPart (c : Call) (a : Around) : Type 0 where
+pub record CallPart (c : Call) (a : WorldChange) : Type 0 where
   pub adds : AddsForm (PartForm c) a
   pub keeps : Told (λ files start. Keeps (CallsPart c) start) a
 
 -- by how it went
-abbrev pub CallSays : Call → Around → Result (Unit {0}) EventFault → Type 0
+abbrev pub CallSays : Call → WorldChange → Result (Unit {0}) EventFault → Type 0
 CallSays c a (Ok x) = CallDone c a
 CallSays c a (Err fault.MkfsFailed) = CallBroken c a
 CallSays c a (Err (fault.SourceEnded end)) = ⊥

@@ -11,7 +11,7 @@ use Rattle.fam_journal.specs.Events.{BreaksEvent, DoesEvent, PartOf, Session, ev
 use Rattle.fam_journal.specs.Follows.{ReadsSource}
 use Rattle.fam_journal.specs.Forms.{HostForm, shown_forms}
 use Rattle.fam_journal.specs.Notes.{Note}
-use Rattle.fam_events.specs.Around.{Around, AddsForm, Breaks, Keeps, Told}
+use Rattle.fam_events.specs.WorldChange.{WorldChange, AddsForm, Breaks, Keeps, Told}
 use Rattle.fam_events.specs.declared.fault.EventFault.{EventFault}
 use Rattle.fam_events.specs.declared.fault.EventFault.TheVariants as fault
 
@@ -20,12 +20,12 @@ abbrev pub IsDoneBy : Event → ℕ → Files → Session → List Note → Sess
 IsDoneBy e copied files old notes new = DoesEvent files e old notes new × (new.copied ≡ copied)
 
 -- an event is done, and the run may go on
-pub record EventDone (e : Event) (a : Around) : Type 0 where
+pub record EventDone (e : Event) (a : WorldChange) : Type 0 where
   pub adds : AddsForm (EventForm e) a
   pub keeps : Told (λ files start. Keeps (IsDoneBy e a.copied_now files) start) a
 
 -- it was a mkfs in which the media failed
-pub record EventBroken (e : Event) (a : Around) : Type 0 where
+pub record EventBroken (e : Event) (a : WorldChange) : Type 0 where
   pub adds : AddsForm (EventBreaksForm e) a
   pub keeps : Told (λ files start. Breaks (BreaksEvent e) start) a
 
@@ -42,7 +42,7 @@ abbrev pub IsToSource : Event → SourceEnd → Files → Session → List Note 
 IsToSource e end files old notes new = ReadsSource files e (end_of end) old × (notes ≡ []) × (new ≡ old)
 
 -- an event ended at its source: nothing was done
-pub record EventEnded (e : Event) (end : SourceEnd) (a : Around) : Type 0 where
+pub record EventEnded (e : Event) (end : SourceEnd) (a : WorldChange) : Type 0 where
   pub adds : AddsForm (SourceForm e) a
   pub keeps : Told (λ files start. Keeps (IsToSource e end files) start) a
 
@@ -55,12 +55,12 @@ abbrev pub IsPart : Event → Files → Session → List Note → Session → Ty
 IsPart e files old notes new = ((notes ≡ []) × (new ≡ old)) ⊎ PartOf files e old notes new
 
 -- no memory was left in an event: some of its operations may be done
-pub record EventPart (e : Event) (a : Around) : Type 0 where
+pub record EventPart (e : Event) (a : WorldChange) : Type 0 where
   pub adds : AddsForm (FormOfPart e) a
   pub keeps : Told (λ files start. Keeps (IsPart e files) start) a
 
 -- an end of a source has its cause: a count of the shelf that rose
-abbrev pub EventSays : Event → ShelfChange → Around → Result (Unit {0}) EventFault → Type 0
+abbrev pub EventSays : Event → ShelfChange → WorldChange → Result (Unit {0}) EventFault → Type 0
 EventSays e shelf a (Ok x) = EventDone e a
 EventSays e shelf a (Err fault.MkfsFailed) = EventBroken e a
 EventSays e shelf a (Err (fault.SourceEnded end)) = EventEnded e end a × HasEndCause shelf end

@@ -1,4 +1,4 @@
-pub mod Around
+pub mod WorldChange
 pub mod Calls
 pub mod Happens
 pub mod Begins

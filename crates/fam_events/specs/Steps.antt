@@ -5,7 +5,7 @@ use Rattle.fam_journal.specs.Forms.{HostForm, OperationsForm, forms_behind, runs
 use Rattle.fam_journal.specs.Notes.{Note}
 use Rattle.fam_journal.specs.ByWorld.{number_in, refusal_in}
 use Rattle.fam_journal.specs.Events.{Session}
-use Rattle.fam_events.specs.Around.{AddsForm, Around, Keeps, Told}
+use Rattle.fam_events.specs.WorldChange.{AddsForm, WorldChange, Keeps, Told}
 
 -- notes of operations, at most one of each; and whether its task runs on
 pub record StepsOn (at count : ℕ) (runs : Bool) (lines : ℕ) (hosts : List HostForm) (notes : List Note) : Type 0 where
@@ -18,7 +18,7 @@ abbrev pub DoesCount : ℕ → ℕ → Session → List Note → Session → Typ
 DoesCount at count old notes new = DoesOperations at count old.machines notes new.machines × (new.copied ≡ old.copied)
 
 -- host `at`, which had a task, did so many operations; it is still the one of this name
-pub record Stepped (name : List ℕ) (at count : ℕ) (runs : Bool) (a : Around) : Type 0 where
+pub record Stepped (name : List ℕ) (at count : ℕ) (runs : Bool) (a : WorldChange) : Type 0 where
   pub first : number_in name a.old ≡ Some at
   pub free : refusal_in (Steps name) a.old a.lines ≡ None
   pub adds : AddsForm (StepsOn at count runs) a
@@ -27,11 +27,11 @@ pub record Stepped (name : List ℕ) (at count : ℕ) (runs : Bool) (a : Around)
   pub count_is : length a.new.hosts ≡ length a.old.hosts
 
 -- world and media are as they were
-pub record IsStill (a : Around) : Type 0 where
+pub record IsStill (a : WorldChange) : Type 0 where
   pub world : a.new ≡ a.old
   pub media : a.media.new.image ≡ a.media.old.image
   pub count : a.media.new.faults ≡ a.media.old.faults
 
 -- nothing is done yet, or so many operations, behind which the task runs on
-abbrev pub StepsSoFar : List ℕ → ℕ → Around → Type 0
+abbrev pub StepsSoFar : List ℕ → ℕ → WorldChange → Type 0
 StepsSoFar name count a = ((count ≡ 0) × IsStill a) ⊎ ((at : ℕ) × Stepped name at count true a)

@@ -15,7 +15,7 @@ ghost use Rattle.fam_tasks.specs.Sound.{most_lines};
 ghost use Rattle.fam_media.specs.Causes.{IsShelfSteady};
 ghost use Rattle.fam_media.specs.Outside.{IfModelled};
 ghost use Rattle.fam_media.specs.States.{change};
-ghost use Rattle.fam_events.specs.Around.{asking};
+ghost use Rattle.fam_events.specs.WorldChange.{asking};
 ghost use Rattle.fam_events.specs.Begins.{AskSays};
 ghost use Rattle.fam_events.specs.Rested.{IsRested, IsUnstoredOf};
 ghost use Rattle.fam_events.specs.declared.asks.Asked.TheVariants.{Begun, Refused};

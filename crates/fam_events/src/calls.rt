@@ -2,7 +2,6 @@
 
 ghost use Rattle.std.specs.Prelude.{◌≡◌, length, ℕ, OnErr, Option, Some};
 ghost use Rattle.fam_base.specs.Image.{Image};
-ghost use Rattle.fam_format.specs.Params.{IsUuid};
 ghost use Rattle.fam_journal.specs.Calls.{Declares, Finishes, Halts, Makes, Moves, Stops};
 ghost use Rattle.fam_journal.specs.ByWorld.{number_in};
 ghost use Rattle.fam_journal.specs.CallRecords.{FitsMedia, IsUnstoredAt};
@@ -10,13 +9,13 @@ ghost use Rattle.fam_journal.specs.Forms.{IsFormed};
 ghost use Rattle.fam_machine.specs.HostMoves as how;
 ghost use Rattle.fam_media.specs.Files.{Files};
 ghost use Rattle.fam_media.specs.Outside.{IfModelled};
-ghost use Rattle.fam_events.specs.Around.{around, still};
+ghost use Rattle.fam_events.specs.WorldChange.{world_change, still};
 ghost use Rattle.fam_events.specs.Calls.{CallSays, make_outcome, outcome};
 
 use crate::fault::EventFault;
 use fam_base::{HostName, LineNo, Mask};
 use fam_journal::Refusal;
-use fam_machine::MkfsRequest;
+use fam_machine::{MkfsRequest, is_uuid};
 use fam_media::Media;
 use fam_world::{World, WorldFault};
 use uuid::Uuid;
@@ -42,20 +41,6 @@ fn made(called: Result<(), WorldFault>) -> Result<(), EventFault>
         Err(WorldFault::Refused(_)) => Ok(()),
         Err(WorldFault::OutOfMemory) => Err(EventFault::OutOfMemory),
     }
-}
-
-/// Sixteen bytes may be those of a UUID.
-fn are_bytes(bytes: [u8; 16])
-    ensures { IsUuid bytes }
-{
-    let _ = bytes[0];
-}
-
-/// A UUID has sixteen bytes.
-fn is_uuid(id: Uuid)
-    ensures { IsUuid id }
-{
-    are_bytes(id.into_bytes());
 }
 
 /// Declares a host.
@@ -98,7 +83,7 @@ pub(crate) fn make<M: Media>(
 ) -> Result<(), EventFault>
     requires formed { IsFormed world.old }
     requires fits { FitsMedia (M.size media.old) world.old.hosts }
-    ensures says { (files : Option Files) (copied : ℕ) → CallSays (Makes name.now request) (around M.size M.state
+    ensures says { (files : Option Files) (copied : ℕ) → CallSays (Makes name.now request) (world_change M.size M.state
         media.old media.new world.old world.new files copied copied) result }
     ensures size { M.size media.new ≡ M.size media.old }
 {
@@ -121,7 +106,7 @@ pub(crate) fn finish<M: Media>(
 ) -> Result<(), EventFault>
     requires formed { IsFormed world.old }
     requires fits { FitsMedia (M.size media.old) world.old.hosts }
-    ensures says { (files : Option Files) (copied : ℕ) → CallSays (Finishes name.now) (around M.size M.state
+    ensures says { (files : Option Files) (copied : ℕ) → CallSays (Finishes name.now) (world_change M.size M.state
         media.old media.new world.old world.new files copied copied) result }
     ensures same { OnErr result ((h : ℕ) → number_in name.now world.old ≡ Some h → IsUnstoredAt h world.old
         → IfModelled (M.state media.old).image (λ image. (M.state media.new).image ≡ Some image)) }
@@ -139,7 +124,7 @@ pub(crate) fn evict<M: Media>(
 ) -> Result<(), EventFault>
     requires formed { IsFormed world.old }
     requires fits { FitsMedia (M.size media.old) world.old.hosts }
-    ensures says { (files : Option Files) (copied : ℕ) → CallSays (Moves name.now line.0 how.Evict) (around M.size M.state
+    ensures says { (files : Option Files) (copied : ℕ) → CallSays (Moves name.now line.0 how.Evict) (world_change M.size M.state
         media.old media.new world.old world.new files copied copied) result }
     ensures size { M.size media.new ≡ M.size media.old }
 {
@@ -156,7 +141,7 @@ pub(crate) fn leak<M: Media>(
 ) -> Result<(), EventFault>
     requires formed { IsFormed world.old }
     requires fits { FitsMedia (M.size media.old) world.old.hosts }
-    ensures says { (files : Option Files) (copied : ℕ) → CallSays (Moves name.now line.0 (how.Leak mask.0)) (around M.size M.state
+    ensures says { (files : Option Files) (copied : ℕ) → CallSays (Moves name.now line.0 (how.Leak mask.0)) (world_change M.size M.state
         media.old media.new world.old world.new files copied copied) result }
     ensures size { M.size media.new ≡ M.size media.old }
 {
@@ -173,7 +158,7 @@ pub(crate) fn fetch<M: Media>(
 ) -> Result<(), EventFault>
     requires formed { IsFormed world.old }
     requires fits { FitsMedia (M.size media.old) world.old.hosts }
-    ensures says { (files : Option Files) (copied : ℕ) → CallSays (Moves name.now line.0 (how.Fetch mask.0)) (around M.size M.state
+    ensures says { (files : Option Files) (copied : ℕ) → CallSays (Moves name.now line.0 (how.Fetch mask.0)) (world_change M.size M.state
         media.old media.new world.old world.new files copied copied) result }
     ensures size { M.size media.new ≡ M.size media.old }
 {

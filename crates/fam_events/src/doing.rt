@@ -9,7 +9,7 @@ ghost use Rattle.fam_journal.specs.Forms.{IsFormed};
 ghost use Rattle.fam_media.specs.Causes.{IsShelfSteady};
 ghost use Rattle.fam_media.specs.Outside.{IfModelled};
 ghost use Rattle.fam_media.specs.States.{change};
-ghost use Rattle.fam_events.specs.Around.{around};
+ghost use Rattle.fam_events.specs.WorldChange.{world_change};
 ghost use Rattle.fam_events.specs.Happens.{EventSays};
 ghost use Rattle.fam_events.specs.Rested.{IsRested, IsRun};
 
@@ -38,7 +38,7 @@ fn begin<M: Media, S: Shelf>(
     requires formed { IsFormed world.old }
     requires fits { FitsMedia (M.size media.old) world.old.hosts }
     ensures says { EventSays (event.Begin name what) (change S.state shelf.old shelf.new)
-        (around M.size M.state media.old media.new world.old world.new (S.state shelf.old).files copied.old copied.new) result }
+        (world_change M.size M.state media.old media.new world.old world.new (S.state shelf.old).files copied.old copied.new) result }
     ensures same { media.new ≡ media.old }
     ensures steady { IsShelfSteady (S.state shelf.old) (S.state shelf.new) }
 {
@@ -62,7 +62,7 @@ fn run<M: Media, S: Shelf>(
     requires formed { IsFormed world.old }
     requires fits { FitsMedia (M.size media.old) world.old.hosts }
     ensures says { EventSays (event.Run name what) (change S.state shelf.old shelf.new)
-        (around M.size M.state media.old media.new world.old world.new (S.state shelf.old).files copied.old copied.new) result }
+        (world_change M.size M.state media.old media.new world.old world.new (S.state shelf.old).files copied.old copied.new) result }
     ensures same { OnErr result (IsRested world.old
         → IfModelled (M.state media.old).image (λ image. (M.state media.new).image ≡ Some image)) }
     ensures size { M.size media.new ≡ M.size media.old }
@@ -93,7 +93,7 @@ pub fn happen<M: Media, S: Shelf>(
     requires formed { IsFormed world.old }
     requires fits { FitsMedia (M.size media.old) world.old.hosts }
     ensures says { EventSays event (change S.state shelf.old shelf.new)
-        (around M.size M.state media.old media.new world.old world.new (S.state shelf.old).files copied.old copied.new) result }
+        (world_change M.size M.state media.old media.new world.old world.new (S.state shelf.old).files copied.old copied.new) result }
 
     // A run that ends early leaves the image as it was, where no cache had anything to send.
     ensures same { IsRun event → OnErr result (IsRested world.old

@@ -7,7 +7,7 @@ ghost use Rattle.fam_journal.specs.CallRecords.{FitsMedia};
 ghost use Rattle.fam_journal.specs.Forms.{IsFormed};
 ghost use Rattle.fam_media.specs.Files.{Files};
 ghost use Rattle.fam_media.specs.States.{ShelfChange};
-ghost use Rattle.fam_events.specs.Around.{around};
+ghost use Rattle.fam_events.specs.WorldChange.{world_change};
 ghost use Rattle.fam_events.specs.Happens.{EventSays};
 
 use crate::fault::EventFault;
@@ -26,7 +26,7 @@ pub(crate) fn step<M: Media>(
     requires formed { IsFormed world.old }
     requires fits { FitsMedia (M.size media.old) world.old.hosts }
     ensures says { (shelf : ShelfChange) (files : Option Files) (copied : ℕ) → EventSays (Step name.now count) shelf
-        (around M.size M.state media.old media.new world.old world.new files copied copied) result }
+        (world_change M.size M.state media.old media.new world.old world.new files copied copied) result }
     ensures size { M.size media.new ≡ M.size media.old }
 {
     match world.steps(media, name, count) {

@@ -1,13 +1,16 @@
 -- When an entry joins a list.
-use Rattle.std.proofs.Common.{◌≡◌, ℕ, ◌<◌, inl, inr, length, get_or, Bool, List, [], ◌∷◌, ◌++◌, Option, Some, None, refl, sym, ap, ◌∙◌}
+use Rattle.std.proofs.Common.{◌≡◌, ℕ, ◌<◌, inl, inr, length, get_or, Bool, cond, List, [], ◌∷◌, ◌++◌, Option, Some, None, refl, sym, ap, ◌∙◌}
 use Rattle.std.specs.Prelude.{MatchOption}
 use Rattle.std.specs.FinMap as map
+use Rattle.std.specs.Cmp.{eq_by_cmp_equiv}
+use Rattle.std.specs.Cmp.Lexicographic.{nat_list_cmp_total, texts_ties}
 use Rattle.std.proofs.lemmas.Bool.{false≢true}
 use Rattle.std.proofs.lemmas.List.Sums.{fold-append}
 use Rattle.fam_base.specs.declared.entry.Params.{Params}
 use Rattle.fam_base.specs.declared.entry.Entry.{Entry}
 use Rattle.fam_base.specs.declared.entry.Kind.{Kind}
 use Rattle.fam_base.specs.declared.entry.Kind.TheVariants.{File, Directory}
+use Rattle.fam_base.specs.PathOrder.{path_eq}
 use Rattle.fam_base.specs.Paths.{parent_of}
 use Rattle.fam_format.specs.declared.faults.Reason.{Reason}
 use Rattle.fam_format.specs.Stop.{or_else}
@@ -82,3 +85,11 @@ joins_back p list e j =
 -- the tree of one entry more
 pub replay_more : (list : List Entry) (e : Entry) → replay (list ++ e ∷ []) ≡ with_entry (replay list) e
 replay_more list e = fold-append with_entry map.empty list (e ∷ [])
+
+-- what the tree has at a path after one entry more
+pub tree_more : (list : List Entry) (e : Entry) (path : List ℕ) → map.get (replay (list ++ e ∷ [])) path ≡ cond (path_eq e.path path) (Some e) (map.get (replay list) path)
+tree_more list e path =
+    ap (λ (tree : Tree). map.get tree path) (replay_more list e)
+    ∙ map.get-insert nat_list_cmp_total (replay list) e.path e path
+    ∙ ap (λ (b : Bool). cond b (Some e) (map.get (replay list) path))
+    ((eq_by_cmp_equiv nat_list_cmp_total).symm path e.path ∙ sym (texts_ties e.path path))

@@ -9,5 +9,6 @@ mod fsck;
 mod joining;
 mod merge;
 
+pub use fam_rules::{Checked, LogState, Report, SuperState};
 pub use fsck::Fsck;
 pub use merge::check;

@@ -5,3 +5,4 @@ pub mod Joined
 pub mod Respelled
 pub mod StripeWords
 pub mod SoundLaw
+pub mod UuidLaw

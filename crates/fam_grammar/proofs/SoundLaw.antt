@@ -29,7 +29,7 @@ abbrev pub Holds : {A : Type 0} → (A → Type 0) → Reading A → Type 0
 Holds P (Reads value rest) = P value
 Holds P (Misfit column) = ⊤
 
-then_holds : {A B : Type 0} (Q : A → Type 0) (P : B → Type 0) (r : Reading A) (next : A → List Word → Reading B) → Holds Q r → ((x : A) (rest : List Word) → Q x → Holds P (next x rest)) → Holds P (then_reads r next)
+pub then_holds : {A B : Type 0} (Q : A → Type 0) (P : B → Type 0) (r : Reading A) (next : A → List Word → Reading B) → Holds Q r → ((x : A) (rest : List Word) → Q x → Holds P (next x rest)) → Holds P (then_reads r next)
 then_holds Q P (Reads value rest) next holds each = each value rest holds
 then_holds Q P (Misfit column) next holds each = tt
 
@@ -41,18 +41,18 @@ any_holds (Reads value rest) = tt
 any_holds (Misfit column) = tt
 
 -- whatever stands before
-behind : {A B : Type 0} (P : B → Type 0) (r : Reading A) (next : A → List Word → Reading B) → ((x : A) (rest : List Word) → Holds P (next x rest)) → Holds P (then_reads r next)
+pub behind : {A B : Type 0} (P : B → Type 0) (r : Reading A) (next : A → List Word → Reading B) → ((x : A) (rest : List Word) → Holds P (next x rest)) → Holds P (then_reads r next)
 behind P r next each = then_holds any P r next (any_holds r) (λ x rest q. each x rest)
 
 fitting_holds : {A : Type 0} (Q : A → Type 0) (o : Option A) (column : ℕ) (rest : List Word) → ((x : A) → o ≡ Some x → Q x) → Holds Q (fitting_word o column rest)
 fitting_holds Q None column rest each = tt
 fitting_holds Q (Some x) column rest each = each x refl
 
-word_holds : {A : Type 0} (Q : A → Type 0) (spelling : List ℕ → Option A) (end : ℕ) (words : List Word) → ((text : List ℕ) (x : A) → spelling text ≡ Some x → Q x) → Holds Q (word_of spelling end words)
+pub word_holds : {A : Type 0} (Q : A → Type 0) (spelling : List ℕ → Option A) (end : ℕ) (words : List Word) → ((text : List ℕ) (x : A) → spelling text ≡ Some x → Q x) → Holds Q (word_of spelling end words)
 word_holds Q spelling end [] each = tt
 word_holds Q spelling end (w ∷ words) each = fitting_holds Q (spelling w.text) w.column words (each w.text)
 
-ends_holds : {A : Type 0} (P : A → Type 0) (value : A) (words : List Word) → P value → Holds P (ends_with value words)
+pub ends_holds : {A : Type 0} (P : A → Type 0) (value : A) (words : List Word) → P value → Holds P (ends_with value words)
 ends_holds P value [] is = is
 ends_holds P value (w ∷ words) is = tt
 

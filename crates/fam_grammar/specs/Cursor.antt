@@ -3,7 +3,7 @@ use Rattle.std.specs.Prelude.{ℕ, ◌≡◌, ⊤, ◌+◌, ◌^◌, ◌<◌, fa
 use Rattle.fam_grammar.specs.declared.fault.LineFault.{LineFault}
 use Rattle.fam_grammar.specs.declared.fault.LineFault.TheVariants.{BadLine, OutOfMemory}
 use Rattle.fam_grammar.specs.declared.words.Line.{Line}
-use Rattle.fam_grammar.specs.declared.words.Word.{Word as Held}
+use Rattle.fam_grammar.specs.declared.words.Word.{Word as CursorWord}
 use Rattle.fam_grammar.specs.declared.words.Words.{Words}
 use Rattle.fam_grammar.specs.Reading.{Reading, Reads, Misfit}
 use Rattle.fam_grammar.specs.Words.{Word, is_blank, words_from}
@@ -17,16 +17,16 @@ abbrev pub IsShort : Words → Type 0
 IsShort w = w.column + length w.bytes.now < 2 ^ 64
 
 -- a word as the grammar has it
-abbrev pub seen : Held → Word
+abbrev pub seen : CursorWord → Word
 seen w = record { column = w.column; text = w.text.now }
 
 -- the word that was taken, or that there is none
-abbrev pub IsNext : List Word → List Word → Option Held → Type 0
+abbrev pub IsNext : List Word → List Word → Option CursorWord → Type 0
 IsNext old new None = (old ≡ []) × (new ≡ [])
 IsNext old new (Some word) = old ≡ seen word ∷ new
 
 -- the same where one has to be there
-abbrev pub IsExpected : Line → List Word → List Word → Result Held LineFault → Type 0
+abbrev pub IsExpected : Line → List Word → List Word → Result CursorWord LineFault → Type 0
 IsExpected line old new (Ok word) = old ≡ seen word ∷ new
 IsExpected line old new (Err (BadLine number column)) = (number ≡ line.number) × (column ≡ line.end) × (old ≡ [])
 IsExpected line old new (Err OutOfMemory) = ⊤

@@ -18,7 +18,7 @@ mod words;
 
 pub use defaults::{DEFAULT_LOG, DEFAULT_UNIT, DIRECTORY_MODE, FILE_MODE};
 pub use fault::LineFault;
-pub use laws::what_reads_is_sound;
+pub use laws::{uuids_of_a_script_are_uuids, what_reads_is_sound};
 pub use numbers::{number, size};
 pub use script::read_line;
 pub use spellings::{count_of, id_of, mode_of};

@@ -12,6 +12,7 @@ use Rattle.fam_commands.specs.Turns.{Turn}
 use Rattle.fam_journal.specs.Members.{changed_at}
 use Rattle.fam_format.specs.Params.{IsUuid}
 use Rattle.fam_media.specs.Outside.{IfModelled}
+use Rattle.fam_media.specs.States.{MediaChange}
 use Rattle.fam_protocol.specs.Tasks.{IsCommand}
 use Rattle.fam_journal.specs.Calls as call
 use Rattle.fam_journal.specs.declared.refusal.Refusal.{Refusal}
@@ -153,7 +154,7 @@ cause_noted_in (Going host) = None
 cause_noted_in (Answering host answer) = None
 cause_noted_in (Refusing name cause) = Some cause
 
--- of a note
+-- so of a note, by its class
 abbrev pub cause_noted : Note → Option Refusal
 cause_noted note = cause_noted_in (note_class note)
 
@@ -171,7 +172,7 @@ IsLateMakeIn ByImage = ⊤
 IsLateMakeIn BySource = ⊥
 IsLateMakeIn (ByFault at) = ⊤
 
--- of a refusal
+-- so of a refusal, by its class
 abbrev pub IsLateMake : Refusal → Type 0
 IsLateMake cause = IsLateMakeIn (refusal_class cause)
 
@@ -183,7 +184,7 @@ IsLateMoveIn ByImage = ⊥
 IsLateMoveIn BySource = ⊥
 IsLateMoveIn (ByFault at) = ⊤
 
--- of a refusal
+-- so of a refusal, by its class
 abbrev pub IsLateMove : Refusal → Type 0
 IsLateMove cause = IsLateMoveIn (refusal_class cause)
 
@@ -222,14 +223,14 @@ pub record WorldCall (c : Call) (lines : ℕ) (answered : Option Refusal) (old n
   pub said : answered ≡ refusal_in c old lines
 
 -- finish, evict, leak, fetch: what holds on every media; and where the image is modelled, the call's row
-pub record MediaCall (c : Call) (lines : ℕ) (answered : Option Refusal) (told told_now : Option Image) (faults faults_now : ℕ) (old new : WorldView) : Type 0 where
-  pub answers : Answers c lines answered faults faults_now old new
-  pub keeps : (start : Image) → CallKeeps c start told told_now old new
+pub record MediaCall (c : Call) (lines : ℕ) (answered : Option Refusal) (media : MediaChange) (old new : WorldView) : Type 0 where
+  pub answers : Answers c lines answered media.old.faults media.new.faults old new
+  pub keeps : (start : Image) → CallKeeps c start media.old.image media.new.image old new
 
 -- step: so too, and whether the task is over
-pub record StepCall (name : List ℕ) (lines : ℕ) (answered : Option Refusal) (over : Bool) (told told_now : Option Image) (faults faults_now : ℕ) (old new : WorldView) : Type 0 where
-  pub answers : AnswersStep name lines answered over faults faults_now old new
-  pub keeps : (start : Image) → CallKeeps (call.Steps name) start told told_now old new
+pub record StepCall (name : List ℕ) (lines : ℕ) (answered : Option Refusal) (over : Bool) (media : MediaChange) (old new : WorldView) : Type 0 where
+  pub answers : AnswersStep name lines answered over media.old.faults media.new.faults old new
+  pub keeps : (start : Image) → CallKeeps (call.Steps name) start media.old.image media.new.image old new
 
 -- a mkfs is cut by a media fault where it answers that, and else does its row; by the class of the refusal
 abbrev pub KeepsOrBreaksIn : RefusalClass → Call → Image → Option Image → Option Image → WorldView → WorldView → Type 0
@@ -239,7 +240,7 @@ KeepsOrBreaksIn ByImage c start told told_now old new = CallKeeps c start told t
 KeepsOrBreaksIn BySource c start told told_now old new = CallKeeps c start told told_now old new
 KeepsOrBreaksIn (ByFault at) c start told told_now old new = CallBreaks c start told told_now old new
 
--- of a refusal
+-- so of a refusal, by its class
 abbrev pub KeepsOrBreaks : Refusal → Call → Image → Option Image → Option Image → WorldView → WorldView → Type 0
 KeepsOrBreaks cause c start told told_now old new = KeepsOrBreaksIn (refusal_class cause) c start told told_now old new
 
@@ -249,9 +250,9 @@ MakeLeaves None c start told told_now old new = CallKeeps c start told told_now 
 MakeLeaves (Some cause) c start told told_now old new = KeepsOrBreaks cause c start told told_now old new
 
 -- mkfs
-pub record MakeCall (c : Call) (lines : ℕ) (answered : Option Refusal) (told told_now : Option Image) (faults faults_now : ℕ) (old new : WorldView) : Type 0 where
-  pub answers : Answers c lines answered faults faults_now old new
-  pub leaves : (start : Image) → MakeLeaves answered c start told told_now old new
+pub record MakeCall (c : Call) (lines : ℕ) (answered : Option Refusal) (media : MediaChange) (old new : WorldView) : Type 0 where
+  pub answers : Answers c lines answered media.old.faults media.new.faults old new
+  pub leaves : (start : Image) → MakeLeaves answered c start media.old.image media.new.image old new
 
 -- a host's task has come no further than to the first store of an append, if it has any, and reads on a cache with nothing
 -- to send
@@ -260,14 +261,14 @@ IsUnstoredAt h world =
     (view : HostView) → slice_get world.hosts h ≡ Some view → IfSome view.task (λ t. IsUnstored t view.cache)
 
 -- a finish that found no memory: what it did until then stands
-pub record FinishOutOfMemory (name : List ℕ) (lines : ℕ) (told told_now : Option Image) (faults faults_now : ℕ) (old new : WorldView) : Type 0 where
-  pub adds : Adds lines faults faults_now old new
+pub record FinishOutOfMemory (name : List ℕ) (lines : ℕ) (media : MediaChange) (old new : WorldView) : Type 0 where
+  pub adds : Adds lines media.old.faults media.new.faults old new
   pub form : IsFormed old → PartForm (call.Finishes name) lines (forms_of old.journal) adds.notes
-  pub parts : (start : Image) → CallParts (call.Finishes name) start told told_now old new
+  pub parts : (start : Image) → CallParts (call.Finishes name) start media.old.image media.new.image old new
   -- the host has a task just where it had one: neither an answer nor a media fault hides behind the want of memory
   pub runs : (h : ℕ) → number_in name old ≡ Some h → busy_in h new ≡ busy_in h old
   -- where nothing of the host's task was stored at first, and its cache had nothing to send, memory is as it was
-  pub same : (h : ℕ) → number_in name old ≡ Some h → IsUnstoredAt h old → IfModelled told (λ image. told_now ≡ Some image)
+  pub same : (h : ℕ) → number_in name old ≡ Some h → IsUnstoredAt h old → IfModelled media.old.image (λ image. media.new.image ≡ Some image)
 
 -- The world after an operation that the media served, as the world's own task has it.
 

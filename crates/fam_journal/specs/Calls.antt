@@ -160,7 +160,7 @@ IsOfSourceIn ByImage = ⊥
 IsOfSourceIn BySource = ⊤
 IsOfSourceIn (ByFault at) = ⊥
 
--- of a refusal
+-- so of a refusal, by its class
 abbrev pub IsOfSource : Refusal → Type 0
 IsOfSource cause = IsOfSourceIn (refusal_class cause)
 

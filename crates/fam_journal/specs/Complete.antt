@@ -46,7 +46,7 @@ IsAppendAnswerIn p history pending host cmd (Showing m) = ⊥
 IsAppendAnswerIn p history pending host cmd (Reporting report) = ⊥
 IsAppendAnswerIn p history pending host cmd Faulty = ⊥
 
--- of a reply
+-- so of a reply, by its class
 abbrev pub IsAppendAnswer : Params → List File → Option File → HostPast → Cmd → Reply → Type 0
 IsAppendAnswer p history pending host cmd given = IsAppendAnswerIn p history pending host cmd (reply_class given)
 
@@ -107,7 +107,7 @@ IsDamagedAnswerIn image damage host Appends given = IsDamagedAppend image damage
 IsDamagedAnswerIn image damage host (Compares path against) given = IsFaultAnswer damage given
 IsDamagedAnswerIn image damage host (Reads path offset count) given = IsFaultAnswer damage given
 
--- of a command
+-- so of a command, by its class
 abbrev pub IsDamagedAnswer : Image → Damage → HostPast → Cmd → Reply → Type 0
 IsDamagedAnswer image damage host cmd given = IsDamagedAnswerIn image damage host (class_of cmd) given
 
@@ -137,7 +137,7 @@ IsRuledNoteIn (Going host) past = ⊤
 IsRuledNoteIn (Answering host answer) past = IsRuledAnswer answer host past
 IsRuledNoteIn (Refusing name cause) past = ⊤
 
--- of a note
+-- so of a note, by its class
 abbrev pub IsRuledNote : Note → Past → Type 0
 IsRuledNote note past = IsRuledNoteIn (note_class note) past
 

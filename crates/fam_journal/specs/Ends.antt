@@ -32,7 +32,7 @@ cause_faults_in ByImage = 0
 cause_faults_in BySource = 0
 cause_faults_in (ByFault at) = 1
 
--- of a refusal
+-- so of a refusal, by its class
 abbrev pub cause_faults : Refusal → ℕ
 cause_faults cause = cause_faults_in (refusal_class cause)
 
@@ -44,7 +44,7 @@ note_faults_in (Going host) = 0
 note_faults_in (Answering host answer) = answer_faults answer
 note_faults_in (Refusing name cause) = cause_faults cause
 
--- of a note
+-- so of a note, by its class
 abbrev pub note_faults : Note → ℕ
 note_faults note = note_faults_in (note_class note)
 
@@ -113,7 +113,7 @@ is_answer_note_in (Going host) = false
 is_answer_note_in (Answering host answer) = true
 is_answer_note_in (Refusing name cause) = false
 
--- of a note
+-- so of a note, by its class
 abbrev pub is_answer_note : Note → Bool
 is_answer_note note = is_answer_note_in (note_class note)
 
@@ -125,7 +125,7 @@ is_refused_note_in (Going host) = false
 is_refused_note_in (Answering host answer) = false
 is_refused_note_in (Refusing name cause) = true
 
--- of a note
+-- so of a note, by its class
 abbrev pub is_refused_note : Note → Bool
 is_refused_note note = is_refused_note_in (note_class note)
 
@@ -137,7 +137,7 @@ is_made_note_in (Going host) = false
 is_made_note_in (Answering host answer) = false
 is_made_note_in (Refusing name cause) = false
 
--- of a note
+-- so of a note, by its class
 abbrev pub is_made_note : Note → Bool
 is_made_note note = is_made_note_in (note_class note)
 

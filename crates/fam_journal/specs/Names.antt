@@ -14,7 +14,7 @@ NamesCauseIn n ByImage = ⊤
 NamesCauseIn n BySource = ⊤
 NamesCauseIn n (ByFault at) = ⊤
 
--- of a refusal
+-- so of a refusal, by its class
 abbrev pub NamesCause : ℕ → Refusal → Type 0
 NamesCause n cause = NamesCauseIn n (refusal_class cause)
 
@@ -26,7 +26,7 @@ IsNamedIn n (Going host) = host < n
 IsNamedIn n (Answering host answer) = host < n
 IsNamedIn n (Refusing name cause) = NamesCause n cause
 
--- of a note
+-- so of a note, by its class
 abbrev pub IsNamed : ℕ → Note → Type 0
 IsNamed n note = IsNamedIn n (note_class note)
 
@@ -43,7 +43,7 @@ declared_after_in n (Going host) = n
 declared_after_in n (Answering host answer) = n
 declared_after_in n (Refusing name cause) = n
 
--- of a note
+-- so of a note, by its class
 abbrev pub declared_after : ℕ → Note → ℕ
 declared_after n note = declared_after_in n (note_class note)
 

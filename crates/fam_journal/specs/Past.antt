@@ -95,7 +95,7 @@ count_of_in (Showing m) = Some m
 count_of_in (Reporting report) = reported_count report.log
 count_of_in Faulty = None
 
--- of a reply
+-- so of a reply, by its class
 abbrev pub count_of : Reply → Option ℕ
 count_of given = count_of_in (reply_class given)
 
@@ -112,7 +112,7 @@ replied_in (Showing m) state = shows m state
 replied_in (Reporting report) state = shows_count (reported_count report.log) state
 replied_in Faulty state = state
 
--- of a reply
+-- so of a reply, by its class
 abbrev pub replied : Reply → State → State
 replied given state = replied_in (reply_class given) state
 

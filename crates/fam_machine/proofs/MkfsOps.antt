@@ -21,12 +21,12 @@ use Rattle.fam_machine.specs.Operations.{Machine, machine, operated, operated_al
 use Rattle.fam_machine.proofs.CacheLemmas.{cell_at-with_cell_same, cell_at-with_cell_other}
 use Rattle.fam_machine.proofs.LinePuts.{line_loaded, line_put, operated_all-append}
 use Rattle.fam_machine.specs.Mkfs.{BadGeometry, TooSmall, drop_line, drop_lines, early_refusal, is_geometry, put_ops, read_ops, write_ops, mkfs_ops}
-use Rattle.fam_machine.specs.Whole.{IsWhole}
+use Rattle.fam_machine.specs.EightWords.{HasEightWords}
 use Rattle.fam_machine.proofs.CleanCaches.{clean_sent, clean_wide, clean_with}
 use Rattle.fam_machine.proofs.WideLines.{eight_whole}
 
 -- one line of memory and of the cache changes, to eight words
-whole_with : (line : ℕ) (words : List ℕ) (cell : Cell) (m : Machine) → ((memory : List ℕ) → eight (current (eight memory) cell) ≡ current (eight memory) cell) → IsWhole m → IsWhole (machine (with_line line words m.image) (with_cell line cell m.cache))
+whole_with : (line : ℕ) (words : List ℕ) (cell : Cell) (m : Machine) → ((memory : List ℕ) → eight (current (eight memory) cell) ≡ current (eight memory) cell) → HasEightWords m → HasEightWords (machine (with_line line words m.image) (with_cell line cell m.cache))
 whole_with line words cell m new old q =
     elim (cases_eq q line) [
       | inl same ↦
@@ -39,30 +39,30 @@ whole_with line words cell m new old q =
     ]
 
 -- one put
-put_one : (put : Put) (m : Machine) → IsWhole m → operated_all (put_ops put) m ≡ machine (put_line m.image put) (drop_line m.cache put)
+put_one : (put : Put) (m : Machine) → HasEightWords m → operated_all (put_ops put) m ≡ machine (put_line m.image put) (drop_line m.cache put)
 unfolding put_ops
 put_one put m whole = line_put put.0 put.1 m (whole put.0)
 
-whole_put : (put : Put) (m : Machine) → IsWhole m → IsWhole (machine (put_line m.image put) (drop_line m.cache put))
+whole_put : (put : Put) (m : Machine) → HasEightWords m → HasEightWords (machine (put_line m.image put) (drop_line m.cache put))
 whole_put put m whole = whole_with put.0 put.1 Absent m (λ memory. refl) whole
 
 -- puts, one after another
-pub put_all : (puts : List Put) (m : Machine) → IsWhole m → operated_all (flat_map put_ops puts) m ≡ machine (put_lines puts m.image) (drop_lines puts m.cache)
+pub put_all : (puts : List Put) (m : Machine) → HasEightWords m → operated_all (flat_map put_ops puts) m ≡ machine (put_lines puts m.image) (drop_lines puts m.cache)
 put_all [] m whole = refl
 put_all (put ∷ more) m whole =
     operated_all-append (put_ops put) (flat_map put_ops more) m
     ∙ ap (operated_all (flat_map put_ops more)) (put_one put m whole)
     ∙ put_all more (machine (put_line m.image put) (drop_line m.cache put)) (whole_put put m whole)
 
-pub whole_all : (puts : List Put) (m : Machine) → IsWhole m → IsWhole (machine (put_lines puts m.image) (drop_lines puts m.cache))
+pub whole_all : (puts : List Put) (m : Machine) → HasEightWords m → HasEightWords (machine (put_lines puts m.image) (drop_lines puts m.cache))
 whole_all [] m whole = whole
 whole_all (put ∷ more) m whole = whole_all more (machine (put_line m.image put) (drop_line m.cache put)) (whole_put put m whole)
 
 -- a loaded line has eight words
-whole_loaded : (line : ℕ) (m : Machine) → IsWhole m → IsWhole (operated_all (load_ops line 8) m)
+whole_loaded : (line : ℕ) (m : Machine) → HasEightWords m → HasEightWords (operated_all (load_ops line 8) m)
 whole_loaded line m whole =
     let words = sent (line_at m.image line) (cell_at m.cache line) in
-    subst IsWhole (sym (line_loaded line m)) (whole_with line words (Clean (line_at (with_line line words m.image) line)) m (λ memory. refl) whole)
+    subst HasEightWords (sym (line_loaded line m)) (whole_with line words (Clean (line_at (with_line line words m.image) line)) m (λ memory. refl) whole)
 
 pub read_in_turn : (m : Machine) → operated_all read_ops m ≡ operated_all (load_ops 2 8) (operated_all (load_ops 1 8) (operated_all (load_ops 0 8) m))
 unfolding read_ops
@@ -70,8 +70,8 @@ read_in_turn m =
     operated_all-append (load_ops 0 8) (load_ops 1 8 ++ load_ops 2 8) m
     ∙ operated_all-append (load_ops 1 8) (load_ops 2 8) (operated_all (load_ops 0 8) m)
 
-pub whole_read : (m : Machine) → IsWhole m → IsWhole (operated_all read_ops m)
-whole_read m whole = subst IsWhole (sym (read_in_turn m)) (whole_loaded 2 _ (whole_loaded 1 _ (whole_loaded 0 m whole)))
+pub whole_read : (m : Machine) → HasEightWords m → HasEightWords (operated_all read_ops m)
+whole_read m whole = subst HasEightWords (sym (read_in_turn m)) (whole_loaded 2 _ (whole_loaded 1 _ (whole_loaded 0 m whole)))
 
 -- the size and the form of memory
 loaded_length : (line : ℕ) (m : Machine) → length (operated_all (load_ops line 8) m).image ≡ length m.image
@@ -92,11 +92,11 @@ puts_normal [] image normal = normal
 puts_normal (put ∷ more) image normal = puts_normal more (put_line image put) (normal-with_line image normal put.0 put.1)
 
 -- what all 81 operations leave
-pub all_left : (p : Params) (m : Machine) → IsWhole m → operated_all (mkfs_ops p) m ≡ machine (formatted (operated_all read_ops m).image p) (drop_lines (format_puts p) (operated_all read_ops m).cache)
+pub all_left : (p : Params) (m : Machine) → HasEightWords m → operated_all (mkfs_ops p) m ≡ machine (formatted (operated_all read_ops m).image p) (drop_lines (format_puts p) (operated_all read_ops m).cache)
 unfolding write_ops formatted
 all_left p m whole = operated_all-append read_ops (write_ops p) m ∙ put_all (format_puts p) (operated_all read_ops m) (whole_read m whole)
 
-pub whole_left : (p : Params) (m : Machine) → IsWhole m → IsWhole (machine (formatted (operated_all read_ops m).image p) (drop_lines (format_puts p) (operated_all read_ops m).cache))
+pub whole_left : (p : Params) (m : Machine) → HasEightWords m → HasEightWords (machine (formatted (operated_all read_ops m).image p) (drop_lines (format_puts p) (operated_all read_ops m).cache))
 unfolding formatted
 whole_left p m whole = whole_all (format_puts p) (operated_all read_ops m) (whole_read m whole)
 
@@ -154,7 +154,7 @@ magic_dropped p cache = stays_dropped (from_gate p) (with_cell 0 Absent cache) 0
 
 -- Caches that have nothing to send.
 
-whole_clean : (m : Machine) → IsClean m.cache → IsWhole m
+whole_clean : (m : Machine) → IsClean m.cache → HasEightWords m
 whole_clean m clean line = eight_whole (current (line_at m.image line) (cell_at m.cache line)) (clean_wide (line_at m.image line) (cell_at m.cache line) refl (clean line))
 
 -- a line is read: memory stays, and the copy isn't stale

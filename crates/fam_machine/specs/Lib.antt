@@ -6,6 +6,6 @@ pub mod Cuts
 pub mod HostMoves
 pub mod TearsLine
 pub mod Fences
-pub mod Whole
+pub mod EightWords
 pub mod Mkfs
 pub mod MkfsRequest

@@ -15,6 +15,7 @@ mod mkfs;
 mod op;
 mod request;
 mod transfers;
+mod uuids;
 
 pub use caches::{copies_by_line, no_dirty_line};
 pub use cell::Cell;
@@ -27,3 +28,4 @@ pub use transfers::{
     bring_transfers, failures_tear_line, fetch_transfers, leak_transfers, own_moves_transfer,
     send_transfers,
 };
+pub use uuids::is_uuid;

@@ -6,7 +6,7 @@ ghost use Rattle.fam_base.specs.Image.{Image, eight};
 ghost use Rattle.fam_machine.specs.Caches.{Cache, IsClean};
 ghost use Rattle.fam_machine.specs.Mkfs.{drop_lines, mkfs_ops, read_ops};
 ghost use Rattle.fam_machine.specs.Operations.{Machine, machine, operated_all};
-ghost use Rattle.fam_machine.specs.Whole.{IsWhole};
+ghost use Rattle.fam_machine.specs.EightWords.{HasEightWords};
 ghost use Rattle.fam_rules.specs.Written.{format_puts, formatted};
 
 /// A new file system is made by 81 operations, of which the first 27 read. They leave a new file system in memory,
@@ -17,7 +17,7 @@ ghost use Rattle.fam_rules.specs.Written.{format_puts, formatted};
 pub fn a_file_system_is_made()
     ensures read_count { length read_ops ≡ 27 }
     ensures count { (p : Params) → length (mkfs_ops p) ≡ 81 }
-    ensures leaves { (p : Params) (m : Machine) → IsWhole m
+    ensures leaves { (p : Params) (m : Machine) → HasEightWords m
         → operated_all (mkfs_ops p) m ≡ machine (formatted (operated_all read_ops m).image p)
         (drop_lines (format_puts p) (operated_all read_ops m).cache) }
     ensures reads { (image : Image) (cache : Cache) → map_list eight image ≡ image → IsClean cache

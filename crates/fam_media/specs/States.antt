@@ -33,6 +33,10 @@ change state before behind = record { old = state before; new = state behind }
 abbrev pub MediaChange : Type 0
 MediaChange = Change MediaState
 
+-- by the image and the count of faults before and behind
+abbrev pub media_change : Option Image → ℕ → Option Image → ℕ → MediaChange
+media_change before faults behind faults_now = record { old = record { image = before; faults = faults }; new = record { image = behind; faults = faults_now } }
+
 -- of what a shelf tells
 abbrev pub ShelfChange : Type 0
 ShelfChange = Change ShelfState

@@ -94,14 +94,14 @@ pub line_differs : (line : LineNo) (other : ℕ) → other ≢ line.0 → Some l
 line_differs line other differs same = differs (let one : line ≡ line_no other = same_Some line (line_no other) same in sym (ap (λ (l : LineNo). l.0) one))
 
 -- only the first word takes a place
-pub spare_kept : (word first old new : ℕ) (Held : Type 0) → (0 < word → Held) → (Held → old ≤ new) → old ≤ new + 1 → (word ≡ 0 → first ≤ old) → first ≤ old + 1 → first ≤ new + 1
-spare_kept zero first old new Held held held_spare spare begun before = omega (arith, begun refl)
-spare_kept (suc word) first old new Held held held_spare spare begun before = omega (arith, held_spare (held (omega arith)))
+pub spare_kept : (word first old new : ℕ) (IsThere : Type 0) → (0 < word → IsThere) → (IsThere → old ≤ new) → old ≤ new + 1 → (word ≡ 0 → first ≤ old) → first ≤ old + 1 → first ≤ new + 1
+spare_kept zero first old new IsThere held held_spare spare begun before = omega (arith, begun refl)
+spare_kept (suc word) first old new IsThere held held_spare spare begun before = omega (arith, held_spare (held (omega arith)))
 
 -- and none where the line was held before
-pub held_spare_kept : (word first old new : ℕ) (Held : Type 0) → (0 < word → Held) → (word ≡ 0 → Held) → (Held → old ≤ new) → first ≤ old → first ≤ new
-held_spare_kept zero first old new Held held begun held_spare before = omega (arith, held_spare (begun refl))
-held_spare_kept (suc word) first old new Held held begun held_spare before = omega (arith, held_spare (held (omega arith)))
+pub held_spare_kept : (word first old new : ℕ) (IsThere : Type 0) → (0 < word → IsThere) → (word ≡ 0 → IsThere) → (IsThere → old ≤ new) → first ≤ old → first ≤ new
+held_spare_kept zero first old new IsThere held begun held_spare before = omega (arith, held_spare (begun refl))
+held_spare_kept (suc word) first old new IsThere held begun held_spare before = omega (arith, held_spare (held (omega arith)))
 
 same_copy : (word : ℕ) (modelled : Option Image) (line : ℕ) (old new : Cache) → 0 < word → (0 < word → IsHeld (cell_at old line)) → FromMemory modelled line (λ memory. new ≡ cell_changed line (brought memory) old) → cell_at new line ≡ cell_at old line
 same_copy word modelled line old new some held from = ap (λ (cache : Cache). cell_at cache line) (held_loaded modelled line old new (held some) from)

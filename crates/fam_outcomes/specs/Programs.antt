@@ -107,7 +107,7 @@ ends_mkfs_in (Going host) = false
 ends_mkfs_in (Answering host answer) = false
 ends_mkfs_in (Refusing name cause) = true
 
--- of a note
+-- so of a note, by its class
 abbrev pub ends_mkfs : Note → Bool
 ends_mkfs note = ends_mkfs_in (note_class note)
 
@@ -119,7 +119,7 @@ ends_command_in (Going host) = false
 ends_command_in (Answering host answer) = true
 ends_command_in (Refusing name cause) = true
 
--- of a note
+-- so of a note, by its class
 abbrev pub ends_command : Note → Bool
 ends_command note = ends_command_in (note_class note)
 

@@ -99,7 +99,7 @@ note_status_in (Going host) = status.Done
 note_status_in (Answering host answer) = answer_status answer
 note_status_in (Refusing name cause) = cause_status cause
 
--- of a note
+-- so of a note, by its class
 abbrev pub note_status : Note → Status
 note_status note = note_status_in (note_class note)
 
@@ -144,7 +144,7 @@ reply_stops_in (Showing m) = true
 reply_stops_in (Reporting report) = true
 reply_stops_in Faulty = true
 
--- of a reply
+-- so of a reply, by its class
 abbrev pub reply_stops : Reply → Bool
 reply_stops given = reply_stops_in (reply_class given)
 
@@ -161,7 +161,7 @@ note_stops_in (Going host) = false
 note_stops_in (Answering host answer) = answer_stops answer
 note_stops_in (Refusing name cause) = true
 
--- of a note
+-- so of a note, by its class
 abbrev pub note_stops : Note → Bool
 note_stops note = note_stops_in (note_class note)
 

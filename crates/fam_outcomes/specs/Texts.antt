@@ -302,7 +302,7 @@ name_of_note_in names (Going host) = host_name names host
 name_of_note_in names (Answering host answer) = host_name names host
 name_of_note_in names (Refusing name cause) = name
 
--- of a note
+-- so of a note, by its class
 abbrev pub name_of_note : List (List ℕ) → Note → List ℕ
 name_of_note names note = name_of_note_in names (note_class note)
 
@@ -314,7 +314,7 @@ names_after_in names (Going host) = names
 names_after_in names (Answering host answer) = names
 names_after_in names (Refusing name cause) = names
 
--- of a note
+-- so of a note, by its class
 abbrev pub names_after : List (List ℕ) → Note → List (List ℕ)
 names_after names note = names_after_in names (note_class note)
 

@@ -15,6 +15,7 @@ mod plan;
 mod room;
 mod wish;
 
+pub use fam_rules::Refused;
 pub use fault::AddFault;
 pub use first::{first_entry_fault, first_entry_refusal};
 pub use laws::{a_decided_entry_may_be_added, no_unit_stands_twice};

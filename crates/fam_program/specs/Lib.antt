@@ -4,6 +4,6 @@ pub mod Puts
 pub mod Reading
 pub mod Scripts
 pub mod Files
-pub mod Quiet
+pub mod Unprinted
 pub mod Shots
 pub mod Shadows

@@ -70,7 +70,7 @@ tree_in_in (Going host) = None
 tree_in_in (Answering host answer) = answered_tree answer
 tree_in_in (Refusing name cause) = None
 
--- of a note
+-- so of a note, by its class
 abbrev pub tree_in : Note → Option (ℕ × Tree)
 tree_in note = tree_in_in (note_class note)
 

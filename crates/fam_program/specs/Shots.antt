@@ -37,7 +37,7 @@ is_short_in (Going host) = false
 is_short_in (Answering host answer) = is_short_answer answer
 is_short_in (Refusing name cause) = is_short_cause cause
 
--- of a note
+-- so of a note, by its class
 abbrev pub is_short : Note → Bool
 is_short note = is_short_in (note_class note)
 

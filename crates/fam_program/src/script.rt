@@ -32,7 +32,7 @@ fn end_status(world: &World) -> Status
 }
 
 /// An image has at most 1 TiB, and lines of eight words. A call does nothing.
-pub(crate) fn is_image<M: Media>(media: &M)
+pub fn is_image<M: Media>(media: &M)
     ensures { IfModelled (M.state media.now).image IsImage }
 {
     let _ = media.lines();

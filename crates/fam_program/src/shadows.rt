@@ -13,8 +13,8 @@ ghost use Rattle.fam_program.specs.Shadows.{ShadowTop, fault_text, no_files, sha
 
 use crate::no_files::NoFiles;
 use crate::puts::{put_line, put_memory};
-use crate::quiet::run_until_stop;
 use crate::shots::{own_name, put_end, two_events};
+use crate::unprinted::run_until_stop;
 use fam_base::{Cmd, OutOfMemory};
 use fam_events::EventFault;
 use fam_journal::{Ask, Event};

@@ -16,7 +16,7 @@ ghost use Rattle.fam_storm.specs.Storm.{storm};
 use crate::numbers::{last_number, put_number};
 use crate::parents::parent_events;
 use crate::puts::{put_line, put_memory, put_source_end};
-use crate::quiet::run_until_stop;
+use crate::unprinted::run_until_stop;
 use fam_base::{Attr, HostName, OutOfMemory, Path};
 use fam_events::EventFault;
 use fam_journal::{Ask, Event};

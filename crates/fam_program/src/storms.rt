@@ -16,8 +16,8 @@ ghost use Rattle.fam_storm.specs.Events.{ReadNoSource};
 ghost use Rattle.fam_storm.specs.Storm.{storm as storm_text};
 
 use crate::puts::{put_line, put_memory};
-use crate::quiet::run_events;
 use crate::read::read_script;
+use crate::unprinted::run_events;
 use fam_base::OutOfMemory;
 use fam_events::EventFault;
 use fam_grammar::LineFault;

@@ -1,6 +1,6 @@
 -- What every move of a cache, and every store of the master, keeps of memory and caches, line by line.
 pub mod Moves
-pub mod Quiet
+pub mod Clean
 pub mod Floors
 pub mod Free
 pub mod Keeping

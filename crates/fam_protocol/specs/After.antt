@@ -122,7 +122,7 @@ shown_by_in (Showing m) = m
 shown_by_in (Reporting report) = read_by_log report.log
 shown_by_in Faulty = 0
 
--- of a reply
+-- so of a reply, by its class
 abbrev pub shown_by : Reply → ℕ
 shown_by given = shown_by_in (reply_class given)
 

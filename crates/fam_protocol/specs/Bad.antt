@@ -67,7 +67,7 @@ RemainsIn Appends image have i t = read_slots image t.params i (t.gate - i) t.en
 RemainsIn (Compares path against) image have i t = read_slots image t.params i (t.gate - i) t.entries ≡ reading_of image have
 RemainsIn (Reads path offset count) image have i t = read_slots image t.params i (t.gate - i) t.entries ≡ reading_of image have
 
--- of a command
+-- so of a command, by its class
 abbrev pub Remains : Cmd → Lines → ℕ → ℕ → Task → Type 0
 Remains cmd image have i t = RemainsIn (class_of cmd) image have i t
 

@@ -121,7 +121,7 @@ IsOfEntriesIn (Declining refused) = ⊥
 IsOfEntriesIn (Reporting report) = ⊥
 IsOfEntriesIn Faulty = ⊥
 
--- of a reply
+-- so of a reply, by its class
 abbrev pub IsOfEntries : Reply → Type 0
 IsOfEntries given = IsOfEntriesIn (reply_class given)
 
@@ -133,7 +133,7 @@ IsOfFaultIn (Declining refused) = ⊥
 IsOfFaultIn (Showing m) = ⊥
 IsOfFaultIn (Reporting report) = ⊥
 
--- of a reply
+-- so of a reply, by its class
 abbrev pub IsOfFault : Reply → Type 0
 IsOfFault given = IsOfFaultIn (reply_class given)
 

@@ -71,7 +71,7 @@ kept_from_in (Compares path against) part j = compared_from part j
 kept_from_in (Reads path offset count) part j = 0
 kept_from_in Surveys part j = 0
 
--- of a command
+-- so of a command, by its class
 abbrev pub kept_from : Cmd → Part → ℕ → ℕ
 kept_from cmd part j = kept_from_in (class_of cmd) part j
 
@@ -124,7 +124,7 @@ HasReadIn Appends i t all = t.entries ≡ entries_of (take i all)
 HasReadIn (Compares path against) i t all = t.entries ≡ entries_of (take i all)
 HasReadIn (Reads path offset count) i t all = t.entries ≡ entries_of (take i all)
 
--- of a command
+-- so of a command, by its class
 abbrev pub HasRead : Cmd → ℕ → Task → List File → Type 0
 HasRead cmd i t all = HasReadIn (class_of cmd) i t all
 
@@ -136,7 +136,7 @@ wanted_path_in Replays = None
 wanted_path_in Appends = None
 wanted_path_in Surveys = None
 
--- of a command
+-- so of a command, by its class
 abbrev pub wanted_path : Cmd → Option (List ℕ)
 wanted_path cmd = wanted_path_in (class_of cmd)
 
@@ -154,7 +154,7 @@ IsOfSizeIn Appends size = ⊤
 IsOfSizeIn (Reads path offset count) size = ⊤
 IsOfSizeIn Surveys size = ⊤
 
--- of a command
+-- so of a command, by its class
 abbrev pub IsOfSize : Cmd → ℕ → Type 0
 IsOfSize cmd size = IsOfSizeIn (class_of cmd) size
 
@@ -166,7 +166,7 @@ IsSameBelowIn Appends f end = ⊤
 IsSameBelowIn (Reads path offset count) f end = ⊤
 IsSameBelowIn Surveys f end = ⊤
 
--- of a command
+-- so of a command, by its class
 abbrev pub IsSameBelow : Cmd → File → ℕ → Type 0
 IsSameBelow cmd f end = IsSameBelowIn (class_of cmd) f end
 

@@ -2,25 +2,15 @@
 use Rattle.std.proofs.Common.{◌≡◌, ℕ, zero, suc, ◌≤◌, ◌⊎◌, Bool, true, false, cond, Option, Some, None, List, [], ◌∷◌, ◌++◌, length, take, sym, ap, ◌∙◌, inl, inr, arith}
 use Rattle.std.specs.Prelude.{slice_get, IfSome}
 use Rattle.std.specs.FinMap as finmap
-use Rattle.std.specs.Cmp.{eq_by_cmp_equiv}
-use Rattle.std.specs.Cmp.Lexicographic.{nat_list_cmp_total, texts_ties}
 use Rattle.std.proofs.Math.Seq.{take-suc}
 use Rattle.std.proofs.lemmas.List.{take_all}
 use Rattle.std.proofs.lemmas.Option.{slice_get_cases}
 use Rattle.fam_base.specs.declared.entry.Entry.{Entry}
 use Rattle.fam_base.specs.PathOrder.{path_cmp, path_eq}
 use Rattle.fam_format.specs.Slot.{Proper}
-use Rattle.fam_format.specs.Tree.{Tree, replay}
-use Rattle.fam_format.proofs.JoinLaws.{replay_more}
+use Rattle.fam_format.specs.Tree.{replay}
+use Rattle.fam_format.proofs.JoinLaws.{tree_more}
 use Rattle.fam_plan.specs.State.{PlanState, IsHistory}
-
--- what the tree has at a path after one entry more
-tree_more : (list : List Entry) (e : Entry) (path : List ℕ) → finmap.get (replay (list ++ e ∷ [])) path ≡ cond (path_eq e.path path) (Some e) (finmap.get (replay list) path)
-tree_more list e path =
-    ap (λ (tree : Tree). finmap.get tree path) (replay_more list e)
-    ∙ finmap.get-insert nat_list_cmp_total (replay list) e.path e path
-    ∙ ap (λ (b : Bool). cond b (Some e) (finmap.get (replay list) path))
-    ((eq_by_cmp_equiv nat_list_cmp_total).symm path e.path ∙ sym (texts_ties e.path path))
 
 -- it is the last entry, or it stood there before
 last_or_before : (b : Bool) (x e : Entry) (before : Option Entry) → cond b (Some x) before ≡ Some e → (x ≡ e) ⊎ (before ≡ Some e)

@@ -5,7 +5,7 @@ use Rattle.fam_base.specs.declared.entry.Params.{Params}
 use Rattle.fam_format.specs.declared.faults.Reason.{Reason}
 use Rattle.fam_format.specs.Slot.{Proper, entry_of}
 use Rattle.fam_format.specs.Tree.{join_fault}
-use Rattle.fam_replay.specs.Replica.{FindsNext, IsWhole, ReplicaState}
+use Rattle.fam_replay.specs.Replica.{FindsNext, AreAllFound, ReplicaState}
 
 -- the entries that were found, none before the first slot
 abbrev pub entries_in : Option ReplicaState → List Entry
@@ -20,7 +20,7 @@ IsReplayOf p gate (Some s) = (s.params ≡ p) × (length s.entries ≤ gate)
 -- nothing is kept that wasn't found
 abbrev pub HasFoundAll : Option ReplicaState → Type 0
 HasFoundAll None = ⊤
-HasFoundAll (Some s) = IsWhole s
+HasFoundAll (Some s) = AreAllFound s
 
 -- a slot is left for an entry behind these, and it is one that the log may hold
 pub record IsRoomFor (p : Params) (list : List Entry) (e : Entry) : Type 0 where

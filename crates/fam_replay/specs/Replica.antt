@@ -25,8 +25,8 @@ abbrev pub found_in : ReplicaState → List Entry
 found_in s = take s.found s.entries
 
 -- all entries that are kept were found
-abbrev pub IsWhole : ReplicaState → Type 0
-IsWhole s = length s.entries ≤ s.found
+abbrev pub AreAllFound : ReplicaState → Type 0
+AreAllFound s = length s.entries ≤ s.found
 
 -- the words of slots 0, 1, .. tell the entries at these places
 pub record AreRead (p : Params) (slots : List (List ℕ)) (entries : List Entry) : Type 0 where

@@ -9,7 +9,7 @@ ghost use Rattle.fam_format.specs.Slot.{entry_of, Proper};
 ghost use Rattle.fam_format.specs.Tree.{join_fault, replay};
 ghost use Rattle.fam_rules.specs.Decide.{decide, wish_of};
 ghost use Rattle.fam_plan.specs.Faults.{reason_of};
-ghost use Rattle.fam_replay.specs.Replica.{AreRead, FindsNext, IsWhole, KeepsWords, found_in};
+ghost use Rattle.fam_replay.specs.Replica.{AreRead, FindsNext, AreAllFound, KeepsWords, found_in};
 ghost use Rattle.fam_replay.specs.Replay.{IsReplayOf, IsRoomFor, Joins};
 
 use crate::same::same_slot;
@@ -205,7 +205,7 @@ impl Replica {
     /// What a command appends behind the entries that were found, or why nothing.
     pub(crate) fn decide(&self, cmd: &Cmd, me: Uuid) -> Result<Entry, Refused>
         requires wish { IsSome (wish_of cmd.now) }
-        requires whole { IsWhole self.now }
+        requires whole { AreAllFound self.now }
         ensures value { decide self.now.params me (found_in self.now) cmd.now ≡ Some result }
         ensures may { IsSoundCmd cmd.now
             → IfOk result (λ entry. IsRoomFor self.now.params (found_in self.now) entry) }
@@ -224,7 +224,7 @@ impl Replica {
 
     /// What stands at each path, by the entries that were found.
     pub(crate) fn tree(&self) -> &Tree
-        requires { IsWhole self.now }
+        requires { AreAllFound self.now }
         ensures { result.now ≡ replay (found_in self.now) }
     {
         self.plan.tree()
@@ -232,7 +232,7 @@ impl Replica {
 
     /// The tree, which the caller takes over.
     pub(crate) fn into_tree(self) -> Tree
-        requires { IsWhole self }
+        requires { AreAllFound self }
         ensures { result ≡ replay (found_in self) }
     {
         self.plan.into_tree()
@@ -240,7 +240,7 @@ impl Replica {
 
     /// What stands at a path, by the entries that were found.
     pub(crate) fn at(&self, path: &Path) -> Option<Entry>
-        requires { IsWhole self.now }
+        requires { AreAllFound self.now }
         ensures value { result ≡ map.get (replay (found_in self.now)) path.now }
         ensures proper { IfSome result (Proper self.now.params) }
     {

@@ -18,15 +18,15 @@ use Rattle.fam_commands.specs.Turns.{Goes, turn_of}
 use Rattle.fam_media.specs.Causes.{Rose}
 use Rattle.fam_media.specs.Outside.{IfModelled}
 use Rattle.fam_tasks.specs.Sound.{IsSound}
-use Rattle.fam_run.specs.Led.{HasBrokenOff, IsQuiet, Led}
-use Rattle.fam_run.proofs.Held.{tells_go}
+use Rattle.fam_run.specs.Led.{HasBrokenOff, LeavesMemory, Led}
+use Rattle.fam_run.proofs.Cached.{tells_go}
 
 module _ (line : LineNo) (t : Task) (modelled : Option Image) (old : Cache) (sound : IsSound t) (op : op_of t ≡ Load line 0) (small : line.0 < t.lines) (absent : cell_at old line.0 ≡ Absent) where
   first_within : IsWithin t.lines (op_of t)
   first_within = subst (IsWithin t.lines) (sym op) (small, omega arith)
 
   -- the media failed in it, behind other operations
-  pub not_brought : (first : Task) (start : Cache) → Led modelled first start t old → (size before now : ℕ) (new : Cache) (shown : Option Image) → shown ≡ modelled → new ≡ old → Rose before now → line.0 < size → HasBrokenOff (record { task = first; next = t; old = start; new = new; modelled = modelled; left = shown; size = size; before = before; now = now }) line
+  pub not_brought : (first : Task) (start : Cache) → Led modelled first start t old → (size before now : ℕ) (new : Cache) (shown : Option Image) → shown ≡ modelled → new ≡ old → Rose before now → line.0 < size → HasBrokenOff (record { task = first; next = t; old = start; new = new; lines = size; media = record { old = record { image = modelled; faults = before }; new = record { image = shown; faults = now } } }) line
   not_brought first start led size before now new shown same copies rose inside = record {
     task = t;
     held = old;
@@ -40,7 +40,7 @@ module _ (line : LineNo) (t : Task) (modelled : Option Image) (old : Cache) (sou
   }
 
   -- the copy is there, with these words
-  pub brings : (words : List ℕ) (begun : Task) → turn_of t (Some (slice_index words 0)) ≡ Goes begun → IfModelled modelled (λ image. eight words ≡ line_at image line.0) → IsQuiet modelled t old begun (with_cell line.0 (Clean (eight words)) old)
+  pub brings : (words : List ℕ) (begun : Task) → turn_of t (Some (slice_index words 0)) ≡ Goes begun → IfModelled modelled (λ image. eight words ≡ line_at image line.0) → LeavesMemory modelled t old begun (with_cell line.0 (Clean (eight words)) old)
   brings words begun turn from =
       let full : Cache = with_cell line.0 (Clean (eight words)) old in
       let full_cell : cell_at full line.0 ≡ Clean (eight words) = cell_at-with_cell_same line.0 (Clean (eight words)) old in

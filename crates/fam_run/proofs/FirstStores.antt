@@ -34,32 +34,3 @@ module _ (t : Task) (first : IsFirstStore t) where
   pub no_store : (line : LineNo) (words : List ℕ) → IsStoreRest line words t → ⊥
   no_store line words (inl file) = no_data file.j file.phase
   no_store line words (inr slot) = no_slot slot.j slot.phase
-
--- ten places are enough for all that comes from there on
-places_at : (t : Task) (cache : CacheState) → 10 ≤ cache.spare → (t.phase ≡ at.StoreSlot 0 0) ⊎ (t.phase ≡ at.StoreData 0 0) → HasPlaces t cache
-places_at t cache room (inl slot) =
-    let has : HasPlacesAt (at.StoreSlot 0 0) t cache = record {
-      begun = omega (arith, room);
-      first = λ _. omega (arith, room);
-      held = λ some. absurd (omega (arith, some));
-    } in
-    subst (λ (p : Phase). HasPlacesAt p t cache) (sym slot) has
-places_at t cache room (inr file) =
-    let has : HasPlacesAt (at.StoreData 0 0) t cache = (room, λ some. absurd (omega (arith, some))) in
-    subst (λ (p : Phase). HasPlacesAt p t cache) (sym file) has
-
-pub first_places : (t : Task) (cache : CacheState) → IsFirstStore t → 10 ≤ cache.spare → HasPlaces t cache
-first_places t cache first room = places_at t cache room (first_phase t first)
-
--- it has them just where there are ten
-full_at : (t : Task) (cache : CacheState) → cache.spare < 10 → HasPlaces t cache → (t.phase ≡ at.StoreSlot 0 0) ⊎ (t.phase ≡ at.StoreData 0 0) → ⊥
-full_at t cache full has (inl slot) =
-    let here : HasPlacesAt (at.StoreSlot 0 0) t cache = subst (λ (p : Phase). HasPlacesAt p t cache) slot has in
-    let room : 10 ≤ cache.spare + 0 = here.first refl in
-    omega (arith, room, full)
-full_at t cache full has (inr file) =
-    let here : HasPlacesAt (at.StoreData 0 0) t cache = subst (λ (p : Phase). HasPlacesAt p t cache) file has in
-    omega (arith, here.0, full)
-
-pub first_full : (t : Task) (cache : CacheState) → IsFirstStore t → cache.spare < 10 → ¬ (HasPlaces t cache)
-first_full t cache first full has = full_at t cache full has (first_phase t first)

@@ -8,9 +8,9 @@ use Rattle.fam_commands.specs.Task.{Task}
 use Rattle.fam_media.specs.Causes.{Rose}
 use Rattle.fam_media.specs.Outside.{IfModelled}
 use Rattle.fam_tasks.specs.declared.answer.Turn.TheVariants.{Go}
-use Rattle.fam_run.specs.Led.{HasBrokenOff, HasDone, IsQuiet, Led, none, more}
+use Rattle.fam_run.specs.Led.{HasBrokenOff, HasDone, LeavesMemory, Led, none, more}
 use Rattle.fam_run.specs.Operation.{HasTurned}
-use Rattle.fam_run.specs.Step.{Around}
+use Rattle.fam_run.specs.TaskChange.{TaskChange}
 
 -- some behind others
 pub led_both : (modelled : Option Image) (t mid next : Task) (held now after : Cache) → Led modelled t held mid now → Led modelled mid now next after → Led modelled t held next after
@@ -18,16 +18,16 @@ led_both modelled t mid _ held now _ first none = first
 led_both modelled t mid next held now after first (more {mid = u} {now = v} before quiet) = more (led_both modelled t mid u held now v first before) quiet
 
 -- one that was done, behind which the task just goes on, is one of them
-done_quiet : (a : Around) → a.left ≡ a.modelled → (done : HasDone a Go) → IsQuiet a.modelled done.task done.held a.next a.new
+done_quiet : (a : TaskChange) → a.media.new.image ≡ a.media.old.image → (done : HasDone a Go) → LeavesMemory a.media.old.image done.task done.held a.next a.new
 done_quiet a same done = record {
   sound = done.sound;
   within = done.within;
   leaves = done.leaves;
   goes = done.goes;
-  turned = subst (λ (left : Option Image). IfModelled a.modelled (λ image. HasTurned done.task (machine image done.held) Go a.next left a.new)) same done.turned;
+  turned = subst (λ (left : Option Image). IfModelled a.media.old.image (λ image. HasTurned done.task (machine image done.held) Go a.next left a.new)) same done.turned;
 }
 
-quiet_done : (a : Around) → a.left ≡ a.modelled → (task : Task) (held : Cache) → Led a.modelled a.task a.old task held → IsQuiet a.modelled task held a.next a.new → HasDone a Go
+quiet_done : (a : TaskChange) → a.media.new.image ≡ a.media.old.image → (task : Task) (held : Cache) → Led a.media.old.image a.task a.old task held → LeavesMemory a.media.old.image task held a.next a.new → HasDone a Go
 quiet_done a same task held led quiet = record {
   task = task;
   held = held;
@@ -36,20 +36,20 @@ quiet_done a same task held led quiet = record {
   within = quiet.within;
   leaves = quiet.leaves;
   goes = quiet.goes;
-  turned = subst (λ (left : Option Image). IfModelled a.modelled (λ image. HasTurned task (machine image held) Go a.next left a.new)) (sym same) quiet.turned;
+  turned = subst (λ (left : Option Image). IfModelled a.media.old.image (λ image. HasTurned task (machine image held) Go a.next left a.new)) (sym same) quiet.turned;
   own = λ line is. absurd cc;
 }
 
-pub done_led : (a : Around) → a.left ≡ a.modelled → HasDone a Go → Led a.modelled a.task a.old a.next a.new
+pub done_led : (a : TaskChange) → a.media.new.image ≡ a.media.old.image → HasDone a Go → Led a.media.old.image a.task a.old a.next a.new
 done_led a same done = more done.led (done_quiet a same done)
 
 module _ (modelled shown : Option Image) (same : shown ≡ modelled) (size before now : ℕ) where
   -- of one and those behind it the last one was done
-  pub led_done : (t task mid next : Task) (old held here new : Cache) → Led modelled t old task held → IsQuiet modelled task held mid here → Led modelled mid here next new → HasDone (record { task = t; next = next; old = old; new = new; modelled = modelled; left = shown; size = size; before = before; now = now }) Go
+  pub led_done : (t task mid next : Task) (old held here new : Cache) → Led modelled t old task held → LeavesMemory modelled task held mid here → Led modelled mid here next new → HasDone (record { task = t; next = next; old = old; new = new; lines = size; media = record { old = record { image = modelled; faults = before }; new = record { image = shown; faults = now } } }) Go
   led_done t task mid _ old held here _ led quiet none =
-      quiet_done (record { task = t; next = mid; old = old; new = here; modelled = modelled; left = shown; size = size; before = before; now = now }) same task held led quiet
+      quiet_done (record { task = t; next = mid; old = old; new = here; lines = size; media = record { old = record { image = modelled; faults = before }; new = record { image = shown; faults = now } } }) same task held led quiet
   led_done t task mid next old held here new led quiet (more {mid = u} {now = v} others last) =
-      quiet_done (record { task = t; next = next; old = old; new = new; modelled = modelled; left = shown; size = size; before = before; now = now }) same u v
+      quiet_done (record { task = t; next = next; old = old; new = new; lines = size; media = record { old = record { image = modelled; faults = before }; new = record { image = shown; faults = now } } }) same u v
       (led_both modelled t mid u old here v (more led quiet) others) last
 
 -- a count of faults that rose later
@@ -58,33 +58,37 @@ rose_since before mid now later (inl less) = inl (omega (arith, later, less))
 rose_since before mid now later (inr most) = inr most
 
 -- Behind what was done up to a task and its cache, memory's image is what it was.
-module _ (a : Around) (same : a.left ≡ a.modelled) (done : HasDone a Go) (next : Task) (new : Cache) (left : Option Image) (now size before : ℕ) where
-  -- what is around both
-  abbrev both : Around
-  both = record a { next = next; new = new; left = left; now = now }
+module _ (a : TaskChange) (same : a.media.new.image ≡ a.media.old.image) (done : HasDone a Go) (next : Task) (new : Cache) (left : Option Image) (now size before : ℕ) where
+  -- both
+  abbrev both : TaskChange
+  both = record a { next = next; new = new; media = record { old = a.media.old; new = record { image = left; faults = now } } }
 
-  abbrev behind : Around
-  behind = record { task = a.next; next = next; old = a.new; new = new; modelled = a.left; left = left; size = size; before = before; now = now }
+  -- what comes behind, from what the media tells of its image then
+  abbrev behind_on : Option Image → TaskChange
+  behind_on image = record { task = a.next; next = next; old = a.new; new = new; lines = size; media = record { old = record { image = image; faults = before }; new = record { image = left; faults = now } } }
+
+  abbrev behind : TaskChange
+  behind = behind_on a.media.new.image
 
   -- more was done
-  pub done_both : left ≡ a.modelled → HasDone behind Go → HasDone both Go
+  pub done_both : left ≡ a.media.old.image → HasDone behind Go → HasDone both Go
   done_both still more_done =
-      let then : HasDone (record behind { modelled = a.modelled }) Go = subst (λ (m : Option Image). HasDone (record behind { modelled = m }) Go) same more_done in
-      led_done a.modelled left still a.size a.before now a.task done.task a.next next a.old done.held a.new new done.led (done_quiet a same done)
-      (done_led (record behind { modelled = a.modelled }) still then)
+      let then : HasDone (behind_on a.media.old.image) Go = subst (λ (m : Option Image). HasDone (behind_on m) Go) same more_done in
+      led_done a.media.old.image left still a.lines a.media.old.faults now a.task done.task a.next next a.old done.held a.new new done.led (done_quiet a same done)
+      (done_led (behind_on a.media.old.image) still then)
 
   -- the media failed behind it
-  pub broken_behind : (line : LineNo) → a.before ≤ before → size ≡ a.size → HasBrokenOff behind line → HasBrokenOff both line
+  pub broken_behind : (line : LineNo) → a.media.old.faults ≤ before → size ≡ a.lines → HasBrokenOff behind line → HasBrokenOff both line
   broken_behind line later sizes broken =
-      let then : HasBrokenOff (record behind { modelled = a.modelled }) line = subst (λ (m : Option Image). HasBrokenOff (record behind { modelled = m }) line) same broken in
+      let then : HasBrokenOff (behind_on a.media.old.image) line = subst (λ (m : Option Image). HasBrokenOff (behind_on m) line) same broken in
       record {
         task = then.task;
         held = then.held;
-        led = led_both a.modelled a.task a.next then.task a.old a.new then.held (done_led a same done) then.led;
+        led = led_both a.media.old.image a.task a.next then.task a.old a.new then.held (done_led a same done) then.led;
         sound = then.sound;
         within = then.within;
         copies = then.copies;
         failed = then.failed;
-        rose = rose_since a.before before now later then.rose;
+        rose = rose_since a.media.old.faults before now later then.rose;
         inside = subst (λ (n : ℕ). line.0 < n) sizes then.inside;
       }

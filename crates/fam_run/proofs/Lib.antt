@@ -2,7 +2,7 @@ pub mod Operations
 pub mod Operated
 pub mod Left
 pub mod Running
-pub mod Held
+pub mod Cached
 pub mod Led
 pub mod Come
 pub mod Stored

@@ -19,12 +19,12 @@ use Rattle.fam_tasks.specs.declared.answer.Turn.{Turn}
 use Rattle.fam_tasks.specs.Rest.{ComparesLine}
 use Rattle.fam_tasks.specs.Sound.{IsSound}
 use Rattle.fam_tasks.specs.Tells.{Tells}
-use Rattle.fam_run.specs.Held.{IsOfHeld, held_after}
-use Rattle.fam_run.specs.Led.{HasDone, IsQuiet, Led, more}
-use Rattle.fam_run.proofs.Held.{given_held, held_leaves, loads_held, machine_after}
+use Rattle.fam_run.specs.Cached.{IsCached, cached_after}
+use Rattle.fam_run.specs.Led.{HasDone, LeavesMemory, Led, more}
+use Rattle.fam_run.proofs.Cached.{given_held, cached_leaves, loads_held, machine_after}
 use Rattle.fam_run.proofs.Renewed.{led_dropped, renews, without}
 use Rattle.fam_run.proofs.Running.{no_fault}
-use Rattle.fam_run.proofs.Stored.{held_led}
+use Rattle.fam_run.proofs.Stored.{cached_led}
 
 -- what holds of what is there
 pub of_some : (o : Option (List ℕ)) (words : List ℕ) (P : List ℕ → Type 0) → o ≡ Some words → IfSome o P → P words
@@ -39,7 +39,7 @@ module _ (line : LineNo) (words : List ℕ) (t next : Task) (said : Turn) (model
   full_cell : cell_at full line.0 ≡ Clean (eight words)
   full_cell = cell_at-with_cell_same line.0 (Clean (eight words)) old
 
-  begins : IsQuiet modelled compares.dropped (without line old) compares.begun full
+  begins : LeavesMemory modelled compares.dropped (without line old) compares.begun full
   begins = renews line t compares.dropped modelled old normal sound compares.drops clean compares.dropped_sound words compares.begun compares.begins from
 
   there : IsHeld (cell_at full line.0)
@@ -47,12 +47,12 @@ module _ (line : LineNo) (words : List ℕ) (t next : Task) (said : Turn) (model
 
   led : Led modelled t old compares.due full
   led =
-      held_led modelled normal compares.begun compares.due full full t old
+      cached_led modelled normal compares.begun compares.due full full t old
       (more (led_dropped line t compares.dropped modelled old normal sound compares.drops clean) begins)
       (loads_held line (eight words) compares.begun compares.due full there (sym (ap words_of full_cell)) compares.loads)
 
-  of_held : IsOfHeld (op_of compares.due) full
-  of_held = subst (λ (o : Op). IsOfHeld o full) (sym compares.last) there
+  of_held : IsCached (op_of compares.due) full
+  of_held = subst (λ (o : Op). IsCached o full) (sym compares.last) there
 
   due_within : IsWithin compares.due.lines (op_of compares.due)
   due_within = subst (IsWithin compares.due.lines) (sym compares.last) (subst (λ (n : ℕ). line.0 < n) (sym compares.due_lines) compares.drops.within, omega arith)
@@ -64,15 +64,15 @@ module _ (line : LineNo) (words : List ℕ) (t next : Task) (said : Turn) (model
   after_last : (image : Image) → modelled ≡ Some image → operated (op_of compares.due) (machine image full) ≡ machine image full
   after_last image modelled_is = ap (λ (o : Op). operated o (machine image full)) compares.last ∙ machine_after (Load line 7) image full (subst IsNormal modelled_is normal) there
 
-  pub line_matched : (size before now : ℕ) (new : Cache) (shown : Option Image) → shown ≡ modelled → new ≡ full → HasDone (record { task = t; next = next; old = old; new = new; modelled = modelled; left = shown; size = size; before = before; now = now }) said
+  pub line_matched : (size before now : ℕ) (new : Cache) (shown : Option Image) → shown ≡ modelled → new ≡ full → HasDone (record { task = t; next = next; old = old; new = new; lines = size; media = record { old = record { image = modelled; faults = before }; new = record { image = shown; faults = now } } }) said
   line_matched size before now new shown same copy = record {
     task = compares.due;
     held = full;
     led = led;
     sound = compares.due_sound;
     within = due_within;
-    leaves = held_leaves (op_of compares.due) modelled full new of_held
-        (copy ∙ sym (subst (λ (o : Op). held_after o full ≡ full) (sym compares.last) refl));
+    leaves = cached_leaves (op_of compares.due) modelled full new of_held
+        (copy ∙ sym (subst (λ (o : Op). cached_after o full ≡ full) (sym compares.last) refl));
     goes = subst (λ (c : Cache). Tells (turn_of compares.due (word_of (op_of compares.due) c)) said next) (sym copy)
         (subst (λ (w : Option ℕ). Tells (turn_of compares.due w) said next) (sym last_word_is) compares.tells);
     turned = λ image is. record {

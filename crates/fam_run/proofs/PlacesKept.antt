@@ -32,8 +32,8 @@ use Rattle.fam_tasks.specs.Rest.{IsFileLineDue, Stores, StoresFileLine}
 use Rattle.fam_tasks.specs.Tells.{Tells}
 use Rattle.fam_run.specs.Places.{HasPlaces, HasPlacesAt, IsReadyAt, PlacesKept, PlacesMade}
 use Rattle.fam_run.specs.Operation.{ended}
-use Rattle.fam_run.specs.Held as run
-use Rattle.fam_run.specs.Held.{HeldRun, IsOfHeld, held_after}
+use Rattle.fam_run.specs.Cached as run
+use Rattle.fam_run.specs.Cached.{CachedRun, IsCached, cached_after}
 use Rattle.fam_run.specs.Room.{LacksRoom}
 use Rattle.fam_run.proofs.Running.{goes_on, no_reply}
 
@@ -141,25 +141,6 @@ module _ (t : Task) (cache after : CacheState) where
   kept_at at.SendGate word sound place ready has = tt
   kept_at at.FenceGate word sound place ready has = tt
 
--- and no operation of it finds no place
-room_at : (p : Phase) (t : Task) (cache : CacheState) → IsSoundAt p t → HasPlacesAt p t cache → LacksRoom (op_at t p) t cache → ⊥
-room_at at.DropMagic t cache sound has wants = has
-room_at at.Magic t cache sound has wants = has
-room_at (at.Drop part j) t cache sound has wants = has
-room_at (at.Word part j k) t cache sound has wants = has
-room_at at.DropGate t cache sound has wants = has
-room_at at.Gate t cache sound has wants = has
-room_at (at.Check i) t cache sound has wants = has
-room_at at.Decide t cache sound has wants = has
-room_at (at.StoreData j k) t cache sound has wants = omega (arith, has.0, wants.0)
-room_at (at.SendData j) t cache sound has wants = wants
-room_at (at.StoreSlot i k) t cache sound has wants = omega (arith, has.begun, wants.0, sound.1)
-room_at (at.SendSlot i) t cache sound has wants = wants
-room_at at.StoreGate t cache sound has wants = omega (arith, has, wants.0)
-room_at at.FenceSlot t cache sound has wants = wants
-room_at at.SendGate t cache sound has wants = wants
-room_at at.FenceGate t cache sound has wants = wants
-
 -- Of the operation that comes next.
 
 pub kept : (t next : Task) (op : Op) (word : Option ℕ) (turn : Turn) (modelled : Option Image) (cache after : CacheState) → op ≡ op_of t → IsSound t → cache.spare ≤ after.spare + 1 → (BringsNone op cache.lines → cache.spare ≤ after.spare) → LeavesCache op modelled cache.lines after.lines → Tells (turn_of t word) turn next → ended turn ≡ None → IsReadyAt t.phase t cache → HasPlaces t cache → HasPlaces next after
@@ -167,9 +148,6 @@ kept t next op word turn modelled cache after is sound one none leaves tells on 
     let place : Takes (op_of t) cache after = subst (λ (o : Op). Takes o cache after) is (takes op modelled cache after one none leaves) in
     subst (λ (o : Option Task). IfSome o (λ next. HasPlaces next after)) (goes_on (turn_of t word) turn next on tells)
     (kept_at t cache after t.phase (unwrap_or word 0) sound.stands place ready has)
-
-pub lacks_places : (t : Task) (cache : CacheState) → IsSound t → LacksRoom (op_of t) t cache → ¬ (HasPlaces t cache)
-lacks_places t cache sound wants has = room_at t.phase t cache sound.stands has wants
 
 -- one that looks at what was read is none of an append behind its first store
 digest_at : (p : Phase) (t : Task) (cache : CacheState) → op_at t p ≡ Digest → HasPlacesAt p t cache → ⊥
@@ -199,7 +177,7 @@ none_in p t cache is none has = none (subst (λ (q : Phase). HasPlacesAt q t cac
 
 -- Operations on copies alone.
 
-held_of : (op : Op) (now after : Cache) → IsOfHeld op now → after ≡ held_after op now → IsHeldBy op after
+held_of : (op : Op) (now after : Cache) → IsCached op now → after ≡ cached_after op now → IsHeldBy op after
 held_of (Load line k) now after of is = tt
 held_of (Store line k value) now after of is =
     let cell : Cell = Dirty false (slice_set (words_of (cell_at now line.0)) k value) in
@@ -209,7 +187,7 @@ held_of Fence now after of is = tt
 held_of (Invalidate line) now after of is = tt
 held_of Digest now after of is = tt
 
-ready_of : (p : Phase) (t : Task) (cache : CacheState) → IsOfHeld (op_at t p) cache.lines → IsReadyAt p t cache
+ready_of : (p : Phase) (t : Task) (cache : CacheState) → IsCached (op_at t p) cache.lines → IsReadyAt p t cache
 ready_of at.DropMagic t cache of = tt
 ready_of at.Magic t cache of = tt
 ready_of (at.Drop part j) t cache of = tt
@@ -232,7 +210,7 @@ abbrev pub with_places : Cache → ℕ → CacheState
 with_places lines spare = record { lines = lines; spare = spare }
 
 -- one operation that takes no place
-held_step : (t next : Task) (now after : Cache) (spare : ℕ) (word : Option ℕ) → IsSound t → IsOfHeld (op_of t) now → IsHeldBy (op_of t) after → turn_of t word ≡ turns.Goes next → HasPlaces t (with_places now spare) → HasPlaces next (with_places after spare)
+held_step : (t next : Task) (now after : Cache) (spare : ℕ) (word : Option ℕ) → IsSound t → IsCached (op_of t) now → IsHeldBy (op_of t) after → turn_of t word ≡ turns.Goes next → HasPlaces t (with_places now spare) → HasPlaces next (with_places after spare)
 held_step t next now after spare word sound of held turn has =
     let place : Takes (op_of t) (with_places now spare) (with_places after spare) = record {
       one = omega arith;
@@ -242,7 +220,7 @@ held_step t next now after spare word sound of held turn has =
     subst (λ (w : turns.Turn). KeptBy w (with_places after spare)) turn
     (kept_at t (with_places now spare) (with_places after spare) t.phase (unwrap_or word 0) sound.stands place (ready_of t.phase t (with_places now spare) of) has)
 
-run_kept : (t next : Task) (held after : Cache) (spare : ℕ) {n : ℕ} → HeldRun t held next after n → HasPlaces t (with_places held spare) → HasPlaces next (with_places after spare)
+run_kept : (t next : Task) (held after : Cache) (spare : ℕ) {n : ℕ} → CachedRun t held next after n → HasPlaces t (with_places held spare) → HasPlaces next (with_places after spare)
 run_kept t _ held _ spare run.none has = has
 run_kept t next held after spare (run.more {mid = mid} {now = now} before sound within of is turn) has =
     held_step mid next now after spare (word_of (op_of mid) now) sound of (held_of (op_of mid) now after of is) turn (run_kept t mid held now spare before has)
@@ -270,11 +248,7 @@ more_places at.FenceSlot t lines spare now le has = omega (arith, has)
 more_places at.SendGate t lines spare now le has = tt
 more_places at.FenceGate t lines spare now le has = tt
 
-pub more_has : (t : Task) (cache after : CacheState) → after.lines ≡ cache.lines → cache.spare ≤ after.spare → HasPlaces t cache → HasPlaces t after
-more_has t cache after same le has =
-    more_places t.phase t after.lines cache.spare after.spare le (subst (λ (lines : Cache). HasPlaces t (with_places lines cache.spare)) (sym same) has)
-
-pub held_kept : (t next : Task) (cache after : CacheState) {n : ℕ} → HeldRun t cache.lines next after.lines n → cache.spare ≤ after.spare → HasPlaces t cache → HasPlaces next after
+pub held_kept : (t next : Task) (cache after : CacheState) {n : ℕ} → CachedRun t cache.lines next after.lines n → cache.spare ≤ after.spare → HasPlaces t cache → HasPlaces next after
 held_kept t next cache after run le has =
     more_places next.phase next after.lines cache.spare after.spare le (run_kept t next cache.lines after.lines cache.spare run has)
 
@@ -301,20 +275,12 @@ sent_ready at.FenceGate t cache is = tt
 stores_kept : (line : LineNo) (words : List ℕ) (t next : Task) (n : ℕ) (lines : Cache) (spare : ℕ) → IsHeld (cell_at lines line.0) → Stores line words t next n → HasPlaces t (with_places lines spare) → HasPlaces next (with_places lines spare)
 stores_kept line words t _ _ lines spare held rest.begins has = has
 stores_kept line words t next _ lines spare held (rest.stores {mid = mid} {n = n} before sound op within turn) has =
-    held_step mid next lines lines spare None sound (subst (λ (o : Op). IsOfHeld o lines) (sym op) held) (subst (λ (o : Op). IsHeldBy o lines) (sym op) held) turn
+    held_step mid next lines lines spare None sound (subst (λ (o : Op). IsCached o lines) (sym op) held) (subst (λ (o : Op). IsHeldBy o lines) (sym op) held) turn
     (stores_kept line words t mid n lines spare held before has)
 
 module _ (line : LineNo) (words : List ℕ) (t : Task) (cache : CacheState) (due : IsFileLineDue line words t) where
   ten : HasPlaces t cache → 10 ≤ cache.spare
   ten has = (let at_line : HasPlacesAt (at.StoreData due.j 0) t cache = subst (λ (p : Phase). HasPlacesAt p t cache) due.phase has in at_line.0)
-
-  pub due_full : cache.spare ≡ 0 → ¬ (HasPlaces t cache)
-  due_full full has = (let some = ten has in omega (arith, some, full))
-
-  pub due_held : IsHeld (cell_at cache.lines line.0) → IsReadyAt t.phase t cache
-  due_held held =
-      let ready : IsReadyAt (at.StoreData due.j 0) t cache = λ _. subst (λ (l : ℕ). IsHeld (cell_at cache.lines l)) due.is held in
-      subst (λ (p : Phase). IsReadyAt p t cache) (sym due.phase) ready
 
   pub put_kept : (sent next : Task) (after : CacheState) → IsSound t → IsSound sent → StoresFileLine line words t sent → cache.spare ≤ after.spare → Tells (turn_of sent None) Go next → HasPlaces t cache → HasPlaces next after
   put_kept sent next after sound sound_sent stores le tells has =
@@ -323,7 +289,7 @@ module _ (line : LineNo) (words : List ℕ) (t : Task) (cache : CacheState) (due
       let held : IsHeld (cell_at lines line.0) = subst IsHeld {x = cell} (sym (cell_at-with_cell_same line.0 cell cache.lines)) refl in
       let first : HasPlacesAt (at.StoreData due.j 0) t (with_places lines cache.spare) = (ten has, λ some. absurd (omega (arith, some))) in
       let begun : HasPlaces stores.begun (with_places lines cache.spare) =
-      held_step t stores.begun lines lines cache.spare None sound (subst (λ (o : Op). IsOfHeld o lines) (sym stores.op) held) (subst (λ (o : Op). IsHeldBy o lines) (sym stores.op) held) stores.turn
+      held_step t stores.begun lines lines cache.spare None sound (subst (λ (o : Op). IsCached o lines) (sym stores.op) held) (subst (λ (o : Op). IsHeldBy o lines) (sym stores.op) held) stores.turn
       (subst (λ (p : Phase). HasPlacesAt p t (with_places lines cache.spare)) (sym due.phase) first) in
       let stored : HasPlaces sent (with_places lines cache.spare) = stores_kept line words stores.begun sent 7 lines cache.spare held stores.rest begun in
       let place : Takes (op_of sent) (with_places lines cache.spare) after = subst (λ (o : Op). Takes o (with_places lines cache.spare) after) (sym stores.sends) (record {
@@ -333,27 +299,6 @@ module _ (line : LineNo) (words : List ℕ) (t : Task) (cache : CacheState) (due
       }) in
       subst (λ (o : Option Task). IfSome o (λ next. HasPlaces next after)) (goes_on (turn_of sent None) Go next refl tells)
       (kept_at sent (with_places lines cache.spare) after sent.phase 0 sound_sent.stands place (sent_ready sent.phase sent (with_places lines cache.spare) stores.sends) stored)
-
-not_due : (p : Phase) (t : Task) (cache : CacheState) → ((j : ℕ) → p ≢ at.StoreData j 0) → IsReadyAt p t cache
-not_due at.DropMagic t cache none = tt
-not_due at.Magic t cache none = tt
-not_due (at.Drop part j) t cache none = tt
-not_due (at.Word part j k) t cache none = tt
-not_due at.DropGate t cache none = tt
-not_due at.Gate t cache none = tt
-not_due (at.Check i) t cache none = tt
-not_due at.Decide t cache none = tt
-not_due (at.StoreData j k) t cache none = λ zero. absurd (none j (ap (at.StoreData j) zero))
-not_due (at.SendData j) t cache none = tt
-not_due (at.StoreSlot i k) t cache none = tt
-not_due (at.SendSlot i) t cache none = tt
-not_due at.StoreGate t cache none = tt
-not_due at.FenceSlot t cache none = tt
-not_due at.SendGate t cache none = tt
-not_due at.FenceGate t cache none = tt
-
-pub none_due : (t : Task) (cache : CacheState) → ((j : ℕ) → t.phase ≢ at.StoreData j 0) → IsReadyAt t.phase t cache
-none_due t cache none = not_due t.phase t cache none
 
 -- What it says: it just goes on, or answers.
 

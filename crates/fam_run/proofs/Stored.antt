@@ -24,22 +24,22 @@ use Rattle.fam_tasks.specs.declared.answer.Turn.TheVariants.{Go}
 use Rattle.fam_tasks.specs.Rest.{StoresFileLine}
 use Rattle.fam_tasks.specs.Sound.{IsSound}
 use Rattle.fam_tasks.specs.Tells.{Tells}
-use Rattle.fam_run.specs.Held.{HeldRun}
-use Rattle.fam_run.specs.Held as held
-use Rattle.fam_run.specs.Led.{HasBrokenOff, HasDone, IsQuiet, Led, none, more}
-use Rattle.fam_run.specs.Step.{Around}
-use Rattle.fam_run.proofs.Held.{held_goes, held_leaves, held_turned, stores_held, tells_go}
+use Rattle.fam_run.specs.Cached.{CachedRun}
+use Rattle.fam_run.specs.Cached as held
+use Rattle.fam_run.specs.Led.{HasBrokenOff, HasDone, LeavesMemory, Led, none, more}
+use Rattle.fam_run.specs.TaskChange.{TaskChange}
+use Rattle.fam_run.proofs.Cached.{cached_goes, cached_leaves, cached_turned, stores_held, tells_go}
 
 -- operations on a line that is held leave memory
-pub held_led : (modelled : Option Image) → IsNormal modelled → (t next : Task) (now after : Cache) (u : Task) (before : Cache) {n : ℕ} → Led modelled u before t now → HeldRun t now next after n → Led modelled u before next after
-held_led modelled normal t _ now _ u before led held.none = led
-held_led modelled normal t next now after u before led (held.more {mid = mid} {now = mid_held} run sound within of is turn) =
-    more (held_led modelled normal t mid now mid_held u before led run) (record {
+pub cached_led : (modelled : Option Image) → IsNormal modelled → (t next : Task) (now after : Cache) (u : Task) (before : Cache) {n : ℕ} → Led modelled u before t now → CachedRun t now next after n → Led modelled u before next after
+cached_led modelled normal t _ now _ u before led held.none = led
+cached_led modelled normal t next now after u before led (held.more {mid = mid} {now = mid_held} run sound within of is turn) =
+    more (cached_led modelled normal t mid now mid_held u before led run) (record {
       sound = sound;
       within = within;
-      leaves = held_leaves (op_of mid) modelled mid_held after of is;
-      goes = held_goes mid next mid_held after of is turn;
-      turned = held_turned mid next mid_held after of is turn modelled normal;
+      leaves = cached_leaves (op_of mid) modelled mid_held after of is;
+      goes = cached_goes mid next mid_held after of is turn;
+      turned = cached_turned mid next mid_held after of is turn modelled normal;
     })
 
 -- a line has its own words, once they were stored into it one by one
@@ -59,7 +59,7 @@ module _ (line : LineNo) (words : List ℕ) (t u : Task) (modelled : Option Imag
   full = with_cell line.0 (Dirty false (eight words)) old
 
   -- the first word is stored
-  begins : IsQuiet modelled t old stores.begun first
+  begins : LeavesMemory modelled t old stores.begun first
   unfolding first
   begins =
       let op = stores.op in
@@ -97,7 +97,7 @@ module _ (line : LineNo) (words : List ℕ) (t u : Task) (modelled : Option Imag
 
   led : Led modelled t old u full
   led =
-      held_led modelled normal stores.begun u first full t old (more none begins)
+      cached_led modelled normal stores.begun u first full t old (more none begins)
       (stores_held line words stores.begun u first full
       (subst IsHeld {x = Dirty false (slice_set (eight from.memory) 0 (slice_index words 0))} (sym first_cell) refl)
       (ap (λ (c : Cell). length (words_of c)) first_cell)
@@ -121,8 +121,8 @@ module _ (line : LineNo) (words : List ℕ) (t u : Task) (modelled : Option Imag
   u_within = subst (IsWithin u.lines) (sym stores.sends) (subst (λ (n : ℕ). line.0 < n) (sym stores.lines) stores.within)
 
   module _ (u_sound : IsSound u) (size before now : ℕ) (after : Task) (new : Cache) (shown : Option Image) where
-    abbrev around : Around
-    around = record { task = t; next = after; old = old; new = new; modelled = modelled; left = shown; size = size; before = before; now = now }
+    abbrev around : TaskChange
+    around = record { task = t; next = after; old = old; new = new; lines = size; media = record { old = record { image = modelled; faults = before }; new = record { image = shown; faults = now } } }
 
     -- the line was sent
     pub line_sent : new ≡ old → shown ≡ option_map (with_line line.0 words) modelled → Tells (turn_of u None) Go after → HasDone around Go

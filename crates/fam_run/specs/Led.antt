@@ -15,10 +15,10 @@ use Rattle.fam_tasks.specs.declared.answer.Turn.{Turn}
 use Rattle.fam_tasks.specs.declared.answer.Turn.TheVariants.{Go}
 use Rattle.fam_tasks.specs.Sound.{IsSound}
 use Rattle.fam_run.specs.Operation.{GoesOn, HasTurned, IsNoFault, IsUndone}
-use Rattle.fam_run.specs.Step.{Around}
+use Rattle.fam_run.specs.TaskChange.{TaskChange}
 
 -- one operation that leaves memory's image, behind which the task just goes on
-pub record IsQuiet (modelled : Option Image) (task : Task) (held : Cache) (next : Task) (after : Cache) : Type 0 where
+pub record LeavesMemory (modelled : Option Image) (task : Task) (held : Cache) (next : Task) (after : Cache) : Type 0 where
   pub sound : IsSound task
   pub within : IsWithin task.lines (op_of task)
   pub leaves : LeavesCache (op_of task) modelled held after
@@ -28,34 +28,34 @@ pub record IsQuiet (modelled : Option Image) (task : Task) (held : Cache) (next 
 -- the task and its host's cache, and what such operations leave of both
 pub data Led (modelled : Option Image) : Task → Cache → Task → Cache → Type 0 where
   none : {task : Task} {held : Cache} → Led modelled task held task held
-  more : {task mid next : Task} {held now after : Cache} → Led modelled task held mid now → IsQuiet modelled mid now next after → Led modelled task held next after
+  more : {task mid next : Task} {held now after : Cache} → Led modelled task held mid now → LeavesMemory modelled mid now next after → Led modelled task held next after
 
 -- behind such operations one more was done, and with it the task takes this turn
-pub record HasDone (a : Around) (turn : Turn) : Type 0 where
+pub record HasDone (a : TaskChange) (turn : Turn) : Type 0 where
   pub task : Task
   pub held : Cache
-  pub led : Led a.modelled a.task a.old task held
+  pub led : Led a.media.old.image a.task a.old task held
   pub sound : IsSound task
   pub within : IsWithin task.lines (op_of task)
-  pub leaves : LeavesCache (op_of task) a.modelled held a.new
+  pub leaves : LeavesCache (op_of task) a.media.old.image held a.new
   pub goes : GoesOn task a.new turn a.next
-  pub turned : IfModelled a.modelled (λ image. HasTurned task (machine image held) turn a.next a.left a.new)
+  pub turned : IfModelled a.media.old.image (λ image. HasTurned task (machine image held) turn a.next a.media.new.image a.new)
   pub own : IsNoFault turn
 
 -- behind such operations the media failed in one more, at this line
-pub record HasBrokenOff (a : Around) (line : LineNo) : Type 0 where
+pub record HasBrokenOff (a : TaskChange) (line : LineNo) : Type 0 where
   pub task : Task
   pub held : Cache
-  pub led : Led a.modelled a.task a.old task held
+  pub led : Led a.media.old.image a.task a.old task held
   pub sound : IsSound task
   pub within : IsWithin task.lines (op_of task)
   pub copies : LeavesFailed (op_of task) held a.new
-  pub failed : IfModelled a.modelled (λ image. HasFailed (op_of task) (machine image held) line a.left a.new)
-  pub rose : Rose a.before a.now
-  pub inside : line.0 < a.size
+  pub failed : IfModelled a.media.old.image (λ image. HasFailed (op_of task) (machine image held) line a.media.new.image a.new)
+  pub rose : Rose a.media.old.faults a.media.new.faults
+  pub inside : line.0 < a.lines
 
 -- what came of operations that are done as a whole
-abbrev pub Advanced : Around → Result Turn OperationFault → Type 0
+abbrev pub Advanced : TaskChange → Result Turn OperationFault → Type 0
 Advanced a (Ok turn) = HasDone a turn
 Advanced a (Err (fault.MediaFault line)) = HasBrokenOff a line
 Advanced a (Err fault.OutOfMemory) = IsUndone a

@@ -1,6 +1,6 @@
-pub mod Step
+pub mod TaskChange
 pub mod Operation
-pub mod Held
+pub mod Cached
 pub mod Led
 pub mod Room
 pub mod Places

@@ -18,7 +18,7 @@ use Rattle.fam_tasks.specs.declared.answer.Turn.{Turn}
 use Rattle.fam_tasks.specs.declared.answer.Turn.TheVariants.{Go, Note, Done}
 use Rattle.fam_tasks.specs.Sound.{IsSound}
 use Rattle.fam_tasks.specs.Tells.{Tells}
-use Rattle.fam_run.specs.Step.{Around}
+use Rattle.fam_run.specs.TaskChange.{TaskChange}
 
 -- the operation was done on this machine: memory and cache are what it leaves, and the task went on to `new`, saying `turn`
 pub record HasTurned (task : Task) (m : Machine) (turn : Turn) (new : Task) (shown : Option Image) (held : Cache) : Type 0 where
@@ -46,35 +46,39 @@ KeepsLines turn task new = ended turn ≡ None → new.lines ≡ task.lines
 -- the operation that comes next was done, and with it the task takes this turn. Where an image is modelled, memory, cache
 -- and task are what the machine makes of them (`turned`). On any media the cache is what the machine's table makes of the
 -- operation's line (`leaves`), and the task goes on by the word of the copy (`goes`)
-pub record IsDone (a : Around) (turn : Turn) : Type 0 where
+pub record IsDone (a : TaskChange) (turn : Turn) : Type 0 where
   pub sound : IsSound a.task
   pub within : IsWithin a.task.lines (op_of a.task)
-  pub leaves : LeavesCache (op_of a.task) a.modelled a.old a.new
+  pub leaves : LeavesCache (op_of a.task) a.media.old.image a.old a.new
   pub goes : GoesOn a.task a.new turn a.next
   pub keeps : KeepsLines turn a.task a.next
-  pub turned : IfModelled a.modelled (λ image. HasTurned a.task (machine image a.old) turn a.next a.left a.new)
+  pub turned : IfModelled a.media.old.image (λ image. HasTurned a.task (machine image a.old) turn a.next a.media.new.image a.new)
   pub own : IsNoFault turn
 
 -- the media failed in it, at this line: the operation's, or one that a fence sends. The task still stands before it
-pub record IsBroken (a : Around) (line : LineNo) : Type 0 where
+pub record IsBroken (a : TaskChange) (line : LineNo) : Type 0 where
   pub sound : IsSound a.task
   pub within : IsWithin a.task.lines (op_of a.task)
   pub task : a.next ≡ a.task
   pub copies : LeavesFailed (op_of a.task) a.old a.new
-  pub failed : IfModelled a.modelled (λ image. HasFailed (op_of a.task) (machine image a.old) line a.left a.new)
+  pub failed : IfModelled a.media.old.image (λ image. HasFailed (op_of a.task) (machine image a.old) line a.media.new.image a.new)
   pub at : IsAtLine (op_of a.task) line a.old
-  pub inside : line.0 < a.size
-  pub rose : Rose a.before a.now
+  pub inside : line.0 < a.lines
+  pub rose : Rose a.media.old.faults a.media.new.faults
 
 -- nothing was done
-pub record IsUndone (a : Around) : Type 0 where
+pub record IsUndone (a : TaskChange) : Type 0 where
   pub task : a.next ≡ a.task
   pub cache : a.new ≡ a.old
-  pub image : a.left ≡ a.modelled
-  pub faults : a.now ≡ a.before
+  pub media : a.media.new ≡ a.media.old
+
+-- what is said of operations: the turn that the task takes, or the fault
+abbrev pub said_of : Result (Unit {0}) OperationFault → Turn → Result Turn OperationFault
+said_of (Ok done) turn = Ok turn
+said_of (Err fault) turn = Err fault
 
 -- what came of one operation
-abbrev pub Operated : Around → Result Turn OperationFault → Type 0
+abbrev pub Operated : TaskChange → Result Turn OperationFault → Type 0
 Operated a (Ok turn) = IsDone a turn
 Operated a (Err (fault.MediaFault line)) = IsBroken a line
 Operated a (Err fault.OutOfMemory) = IsUndone a

@@ -8,7 +8,8 @@ use Rattle.fam_commands.specs.FirstStore.{IsFirstStore}
 use Rattle.fam_commands.specs.declared.phase.Phase.{Phase}
 use Rattle.fam_commands.specs.declared.phase.Phase.TheVariants as at
 use Rattle.fam_commands.specs.Task.{Task, line_of}
-use Rattle.fam_format.specs.Layout.{slot_line}
+use Rattle.fam_base.specs.declared.entry.Params.{Params}
+use Rattle.fam_format.specs.Layout.{geometry, slot_line}
 use Rattle.fam_machine.specs.Caches.{cell_at}
 use Rattle.fam_machine.specs.OneLine.{IsHeld}
 use Rattle.fam_tasks.specs.declared.answer.Turn.{Turn}
@@ -19,10 +20,18 @@ use Rattle.fam_run.specs.Operation.{ended}
 abbrev pub IsHeldFrom : ℕ → ℕ → CacheState → Type 0
 IsHeldFrom k line cache = 0 < k → IsHeld (cell_at cache.lines line)
 
+-- the places of a slot's lines and the gate's
+abbrev pub slot_places : Params → ℕ
+slot_places p = (geometry p).lines + 1
+
+-- those, and one for a line of the file
+abbrev pub append_places : Params → ℕ
+append_places p = slot_places p + 1
+
 -- places for the lines of the slot from line i on, and the gate's; the one for a line of the file is left
-pub record HasSlotPlaces (i k : ℕ) (line : ℕ) (cache : CacheState) : Type 0 where
-  pub begun : 9 ≤ cache.spare + i
-  pub first : k ≡ 0 → 10 ≤ cache.spare + i
+pub record HasSlotPlaces (p : Params) (i k : ℕ) (line : ℕ) (cache : CacheState) : Type 0 where
+  pub begun : slot_places p ≤ cache.spare + i
+  pub first : k ≡ 0 → append_places p ≤ cache.spare + i
   pub held : IsHeldFrom k line cache
 
 -- in a phase. A task that has not come to its first store has none
@@ -35,10 +44,10 @@ HasPlacesAt at.DropGate t cache = ⊥
 HasPlacesAt at.Gate t cache = ⊥
 HasPlacesAt (at.Check i) t cache = ⊥
 HasPlacesAt at.Decide t cache = ⊥
-HasPlacesAt (at.StoreData j k) t cache = (10 ≤ cache.spare) × IsHeldFrom k (line_of t.entry j) cache
-HasPlacesAt (at.SendData j) t cache = 10 ≤ cache.spare
-HasPlacesAt (at.StoreSlot i k) t cache = HasSlotPlaces i k (slot_line t.params t.gate i) cache
-HasPlacesAt (at.SendSlot i) t cache = 9 ≤ cache.spare + i
+HasPlacesAt (at.StoreData j k) t cache = (append_places t.params ≤ cache.spare) × IsHeldFrom k (line_of t.entry j) cache
+HasPlacesAt (at.SendData j) t cache = append_places t.params ≤ cache.spare
+HasPlacesAt (at.StoreSlot i k) t cache = HasSlotPlaces t.params i k (slot_line t.params t.gate i) cache
+HasPlacesAt (at.SendSlot i) t cache = slot_places t.params ≤ cache.spare + i
 HasPlacesAt at.StoreGate t cache = 1 ≤ cache.spare
 HasPlacesAt at.FenceSlot t cache = 1 ≤ cache.spare
 HasPlacesAt at.SendGate t cache = ⊤

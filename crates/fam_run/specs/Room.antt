@@ -12,6 +12,7 @@ use Rattle.fam_commands.specs.Turns.{turn_of}
 use Rattle.fam_tasks.specs.Rest.{IsComparedLine, IsFileLineDue}
 use Rattle.fam_tasks.specs.SlotLines.{IsSlotLine}
 use Rattle.fam_tasks.specs.Tells.{WantsMemory}
+use Rattle.fam_run.specs.Places.{append_places}
 
 -- the cache has no place for a line that is to be brought
 abbrev pub IsFull : LineNo → CacheState → Type 0
@@ -40,7 +41,7 @@ pub record LacksRoomWhole (task : Task) (cache : CacheState) : Type 0 where
 -- for an append that comes to its first store: there are too few places for its lines
 pub record LacksAppendRoom (task : Task) (cache : CacheState) : Type 0 where
   pub first : IsFirstStore task
-  pub few : cache.spare < 10
+  pub few : cache.spare < append_places task.params
 
 -- for what comes next, one operation, or those that are done as a whole
 abbrev pub WantsRoom : Task → CacheState → Type 0

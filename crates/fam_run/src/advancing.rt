@@ -5,14 +5,16 @@ ghost use Rattle.fam_media.specs.Causes.{IsSteady};
 ghost use Rattle.fam_cache.specs.Operations.{SendsWithin};
 ghost use Rattle.fam_commands.specs.FirstStore.{IsFirstStore};
 ghost use Rattle.fam_commands.specs.Task.{op_of};
+ghost use Rattle.fam_tasks.specs.declared.answer.Turn.TheVariants.{Go};
 ghost use Rattle.fam_run.specs.Led.{Advanced};
-ghost use Rattle.fam_run.specs.Places.{HasPlaces, PlacesKept, PlacesMade};
+ghost use Rattle.fam_run.specs.Operation.{said_of};
+ghost use Rattle.fam_run.specs.Places.{HasPlaces, PlacesKept, PlacesMade, append_places};
 ghost use Rattle.fam_run.specs.Room.{WantsRoom};
-ghost use Rattle.fam_run.specs.Step.{around};
+ghost use Rattle.fam_run.specs.TaskChange.{task_change};
 
 use crate::comparing::compare_line;
 use crate::operation::operate;
-use crate::slots::load_slot;
+use crate::slots::{check_slot, load_slot};
 use crate::storing::store_line;
 use fam_base::OutOfMemory;
 use fam_cache::{HostCache, OperationFault};
@@ -29,7 +31,7 @@ fn make_places(cache: &mut HostCache, task: &Task) -> Result<(), OutOfMemory>
     ensures lines { cache.new.lines ≡ cache.old.lines }
     ensures err { OnErr result (cache.new ≡ cache.old) }
     ensures first { OnErr result (IsFirstStore task.now) }
-    ensures few { OnErr result (cache.old.spare < APPEND_PLACES) }
+    ensures few { OnErr result (cache.old.spare < append_places task.now.params) }
     ensures other { (IsFirstStore task.now → ⊥) → cache.new ≡ cache.old }
     ensures ready { OnOk result (IsFirstStore task.now ⊎ HasPlaces task.now cache.old → HasPlaces task.now cache.new) }
 {
@@ -45,21 +47,24 @@ fn go_on<M: Media>(
     cache: &mut HostCache,
     task: &mut Task,
     media: &mut M,
-) -> Result<Turn, OperationFault>
+    turn: &mut Turn,
+) -> Result<(), OperationFault>
+    requires go { turn.old ≡ Go }
     requires lines { task.old.lines ≡ M.size media.old }
     requires asked { SendsWithin (op_of task.old) (M.size media.old) cache.old.lines }
 
     ensures advanced { Advanced
-        (around M.size M.state task.old task.new cache.old cache.new media.old media.new) result }
+        (task_change M.size M.state task.old task.new cache.old cache.new media.old media.new) (said_of result turn.new) }
     ensures want { IsErrOf result OperationFault.OutOfMemory → WantsRoom task.old cache.old }
-    ensures places { PlacesKept task.old cache.old task.new cache.new result }
+    ensures places { PlacesKept task.old cache.old task.new cache.new (said_of result turn.new) }
     ensures steady { IsSteady M.size M.state media.old media.new }
 {
     match task.due() {
-        Due::Slot(due) => load_slot(cache, task, media, due),
-        Due::Stored(number) => store_line(cache, task, media, number),
-        Due::Compared(line) => compare_line(cache, task, media, line),
-        Due::Other => operate(cache, task, media),
+        Due::Slot(due) => load_slot(cache, task, media, turn, due),
+        Due::Checked(slot) => check_slot(task, turn, slot),
+        Due::Stored(number) => store_line(cache, task, media, turn, number),
+        Due::Compared(line) => compare_line(cache, task, media, turn, line),
+        Due::Other => operate(cache, task, media, turn),
     }
 }
 
@@ -69,6 +74,9 @@ fn go_on<M: Media>(
 ///
 /// Before the first store of an append it makes places in the cache for all lines that the append stores.
 ///
+/// `turn` is `Go` before, and behind them what the task says with the last one. It is lent, since what a task says may be large
+/// and it mostly says nothing.
+///
 /// `MediaFault` names the line: the operations before the one that failed were done. `OutOfMemory` comes where the cache
 /// has no room for one more line, or for an append's, or where a Digest finds no memory. Then nothing was done.
 #[inline(always)]
@@ -76,20 +84,22 @@ pub fn advance<M: Media>(
     cache: &mut HostCache,
     task: &mut Task,
     media: &mut M,
-) -> Result<Turn, OperationFault>
+    turn: &mut Turn,
+) -> Result<(), OperationFault>
+    requires go { turn.old ≡ Go }
     requires lines { task.old.lines ≡ M.size media.old }
     requires asked { SendsWithin (op_of task.old) (M.size media.old) cache.old.lines }
 
     ensures advanced { Advanced
-        (around M.size M.state task.old task.new cache.old cache.new media.old media.new) result }
+        (task_change M.size M.state task.old task.new cache.old cache.new media.old media.new) (said_of result turn.new) }
     ensures want { IsErrOf result OperationFault.OutOfMemory → WantsRoom task.old cache.old }
 
     // An append has its places from its first store on, and finds memory.
-    ensures places { PlacesMade task.old cache.old task.new cache.new result }
+    ensures places { PlacesMade task.old cache.old task.new cache.new (said_of result turn.new) }
     ensures steady { IsSteady M.size M.state media.old media.new }
 {
     match make_places(cache, task) {
-        Ok(()) => go_on(cache, task, media),
+        Ok(()) => go_on(cache, task, media, turn),
         Err(_) => Err(OperationFault::OutOfMemory),
     }
 }

@@ -6,9 +6,11 @@ ghost use Rattle.fam_media.specs.Causes.{IsSteady};
 ghost use Rattle.fam_cache.specs.Operations.{SendsWithin};
 ghost use Rattle.fam_commands.specs.Task.{op_of};
 ghost use Rattle.fam_tasks.specs.Rest.{IsComparedLine};
+ghost use Rattle.fam_tasks.specs.declared.answer.Turn.TheVariants.{Go};
 ghost use Rattle.fam_run.specs.Led.{Advanced};
+ghost use Rattle.fam_run.specs.Operation.{said_of};
 ghost use Rattle.fam_run.specs.Room.{WantsRoom};
-ghost use Rattle.fam_run.specs.Step.{around};
+ghost use Rattle.fam_run.specs.TaskChange.{task_change};
 
 use crate::operation::operate;
 use fam_base::LineNo;
@@ -26,21 +28,26 @@ pub(crate) fn compare_line<M: Media>(
     cache: &mut HostCache,
     task: &mut Task,
     media: &mut M,
+    turn: &mut Turn,
     line: LineNo,
-) -> Result<Turn, OperationFault>
+) -> Result<(), OperationFault>
+    requires go { turn.old ≡ Go }
     requires lines { task.old.lines ≡ M.size media.old }
     requires asked { SendsWithin (op_of task.old) (M.size media.old) cache.old.lines }
     requires due { IsComparedLine line task.old }
 
     ensures advanced { Advanced
-        (around M.size M.state task.old task.new cache.old cache.new media.old media.new) result }
+        (task_change M.size M.state task.old task.new cache.old cache.new media.old media.new) (said_of result turn.new) }
     ensures want { IsErrOf result OperationFault.OutOfMemory → WantsRoom task.old cache.old }
     ensures steady { IsSteady M.size M.state media.old media.new }
 {
     task.is_sound();
     match cache.renew_line(media, line) {
-        Ok(None) => operate(cache, task, media),
-        Ok(Some(words)) => Ok(task.compare_whole(line, &words)),
+        Ok(None) => operate(cache, task, media, turn),
+        Ok(Some(words)) => {
+            task.compare_whole(line, &words, turn);
+            Ok(())
+        }
         Err(CacheFault::Failed) => {
             task.drop_compared(line);
             task.is_sound();

@@ -5,10 +5,11 @@ ghost use Rattle.fam_machine.specs.Operations.{IsWithin};
 ghost use Rattle.fam_media.specs.Causes.{IsSteady};
 ghost use Rattle.fam_cache.specs.Operations.{SendsWithin};
 ghost use Rattle.fam_commands.specs.Task.{op_of};
-ghost use Rattle.fam_run.specs.Operation.{Operated};
+ghost use Rattle.fam_tasks.specs.declared.answer.Turn.TheVariants.{Go};
+ghost use Rattle.fam_run.specs.Operation.{Operated, said_of};
 ghost use Rattle.fam_run.specs.Places.{ReadyPlacesKept};
 ghost use Rattle.fam_run.specs.Room.{LacksRoom};
-ghost use Rattle.fam_run.specs.Step.{around};
+ghost use Rattle.fam_run.specs.TaskChange.{task_change};
 
 use fam_cache::{HostCache, OperationFault};
 use fam_machine::Op;
@@ -16,6 +17,8 @@ use fam_media::Media;
 use fam_tasks::{Task, Turn};
 
 /// Does the next operation of a task that has not answered, and says what the task says of it.
+///
+/// `turn` is `Go` before, and behind it what the task says, where it says more than that it goes on.
 ///
 /// `MediaFault` names the operation's line, and of a fence the one that it couldn't send: the operation was not done, and
 /// the task still stands before it.
@@ -25,30 +28,36 @@ pub fn operate<M: Media>(
     cache: &mut HostCache,
     task: &mut Task,
     media: &mut M,
-) -> Result<Turn, OperationFault>
+    turn: &mut Turn,
+) -> Result<(), OperationFault>
+    requires go { turn.old ≡ Go }
     requires lines { task.old.lines ≡ M.size media.old }
     requires asked { SendsWithin (op_of task.old) (M.size media.old) cache.old.lines }
 
     ensures operated { Operated
-        (around M.size M.state task.old task.new cache.old cache.new media.old media.new) result }
+        (task_change M.size M.state task.old task.new cache.old cache.new media.old media.new) (said_of result turn.new) }
     ensures within { IsWithin task.old.lines (op_of task.old) }
     ensures undone { IsErrOf result OperationFault.OutOfMemory → media.new ≡ media.old }
     ensures unchanged { IsErrOf result OperationFault.OutOfMemory → cache.new ≡ cache.old }
     ensures want { IsErrOf result OperationFault.OutOfMemory → LacksRoom (op_of task.old) task.old cache.old }
 
     // An append that has its places keeps them, and finds memory.
-    ensures places { ReadyPlacesKept task.old cache.old task.new cache.new result }
+    ensures places { ReadyPlacesKept task.old cache.old task.new cache.new (said_of result turn.new) }
     ensures steady { IsSteady M.size M.state media.old media.new }
 {
     task.is_sound();
     match task.next() {
         Op::Digest => match task.digest() {
-            Ok(turn) => Ok(turn),
+            Ok(said) => {
+                *turn = said;
+                Ok(())
+            }
             Err(_) => Err(OperationFault::OutOfMemory),
         },
         op => {
             let word = cache.perform(media, op)?;
-            Ok(task.feed(word))
+            *turn = task.feed(word);
+            Ok(())
         }
     }
 }

@@ -3,7 +3,7 @@
 
 ghost use Rattle.std.specs.Prelude.{◌≡◌, ◌<◌, ◌≤◌, IfSome, None};
 ghost use Rattle.fam_commands.specs.FirstStore.{IsFirstStore};
-ghost use Rattle.fam_run.specs.Held.{HeldRun};
+ghost use Rattle.fam_run.specs.Cached.{CachedRun};
 ghost use Rattle.fam_run.specs.Places.{KeepsPlaces};
 
 use fam_cache::HostCache;
@@ -18,8 +18,8 @@ const REST_OPERATIONS: u64 = 7;
 /// load of another, behind which a task may end. They ask nothing of the media and can't fail. It says how many were done:
 /// none where none of them comes next, nor where the rest of a line may be more than `most`.
 #[inline(always)]
-pub fn operate_held(cache: &mut HostCache, task: &mut Task, most: u64) -> u64
-    ensures run { HeldRun task.old cache.old.lines task.new cache.new.lines result }
+pub fn operate_cached(cache: &mut HostCache, task: &mut Task, most: u64) -> u64
+    ensures run { CachedRun task.old cache.old.lines task.new cache.new.lines result }
     ensures most { result ≤ most }
     ensures places { KeepsPlaces task.old cache.old task.new cache.new }
     ensures idle { IsFirstStore task.old → task.new ≡ task.old }
@@ -27,16 +27,16 @@ pub fn operate_held(cache: &mut HostCache, task: &mut Task, most: u64) -> u64
     if most < REST_OPERATIONS {
         return 0;
     }
-    match load_held(cache, task) {
+    match load_cached(cache, task) {
         Some(count) => count,
-        None => store_held(cache, task),
+        None => store_cached(cache, task),
     }
 }
 
 /// Does those that are loads, and says how many these were, if there were any.
 #[inline(always)]
-fn load_held(cache: &HostCache, task: &mut Task) -> Option<u64>
-    ensures run { IfSome result (HeldRun task.old cache.now.lines task.new cache.now.lines) }
+fn load_cached(cache: &HostCache, task: &mut Task) -> Option<u64>
+    ensures run { IfSome result (CachedRun task.old cache.now.lines task.new cache.now.lines) }
     ensures most { IfSome result (λ count. count < LINE_WORDS) }
     ensures other { result ≡ None → task.new ≡ task.old }
     ensures idle { IsFirstStore task.old → task.new ≡ task.old }
@@ -51,8 +51,8 @@ fn load_held(cache: &HostCache, task: &mut Task) -> Option<u64>
 
 /// Does those that are stores, and says how many these were.
 #[inline(always)]
-fn store_held(cache: &mut HostCache, task: &mut Task) -> u64
-    ensures run { HeldRun task.old cache.old.lines task.new cache.new.lines result }
+fn store_cached(cache: &mut HostCache, task: &mut Task) -> u64
+    ensures run { CachedRun task.old cache.old.lines task.new cache.new.lines result }
     ensures most { result < LINE_WORDS }
     ensures spare { cache.old.spare ≤ cache.new.spare }
     ensures idle { IsFirstStore task.old → task.new ≡ task.old }

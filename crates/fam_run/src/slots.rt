@@ -1,23 +1,27 @@
 //! Lines of a slot that are loaded whole: of each line its drop and its eight loads by one read. Of a long log nearly all
 //! operations are such.
 
-ghost use Rattle.std.specs.Prelude.{◌≡◌, ◌+◌, ◌<◌, IfErr, IfOk, IsErrOf, false, true};
+ghost use Rattle.std.specs.Prelude.{◌≡◌, ◌+◌, ◌<◌, ℕ, IfErr, IfOk, IsErrOf, OnErr, false, true};
 ghost use Rattle.fam_commands.specs.declared.phase.Part.TheVariants as part;
 ghost use Rattle.fam_commands.specs.declared.phase.Phase.TheVariants as at;
+ghost use Rattle.fam_machine.specs.Caches.{Cache};
 ghost use Rattle.fam_media.specs.Causes.{IsSteady};
+ghost use Rattle.fam_media.specs.States.{MediaState};
 ghost use Rattle.fam_cache.specs.Faults.{IfMediaFault};
 ghost use Rattle.fam_cache.specs.Operations.{SendsWithin};
+ghost use Rattle.fam_cache.specs.States.{CacheState};
 ghost use Rattle.fam_commands.specs.Task.{op_of};
 ghost use Rattle.fam_tasks.specs.declared.answer.Turn.TheVariants.{Go};
 ghost use Rattle.fam_run.specs.Led.{Advanced, HasBrokenOff, HasDone};
-ghost use Rattle.fam_run.specs.Step.{around};
+ghost use Rattle.fam_run.specs.Operation.{Operated, said_of};
+ghost use Rattle.fam_run.specs.TaskChange.{task_change};
 ghost use Rattle.fam_run.specs.Room.{LacksRoomWhole, WantsRoom};
 
 use crate::operation::operate;
 use fam_cache::{CacheFault, HostCache, OperationFault};
 use fam_format::SLOT_LINES;
 use fam_media::Media;
-use fam_tasks::{SlotDue, Task, Turn};
+use fam_tasks::{Answer, SlotDue, Task, Turn};
 
 /// Drops the line of a slot that the task drops next, and loads all its words, and says whether it did. Where the host's
 /// copy is dirty, nothing is done.
@@ -35,11 +39,11 @@ fn load_line<M: Media>(
     requires due { task.old.phase ≡ at.Drop (part.Slot due.slot) due.line }
 
     ensures loaded { IfOk result (λ loaded. loaded ≡ true → HasDone
-        (around M.size M.state task.old task.new cache.old cache.new media.old media.new) Go) }
+        (task_change M.size M.state task.old task.new cache.old cache.new media.old media.new) Go) }
     ensures next { IfOk result (λ loaded. loaded ≡ true → due.line + 1 < SLOT_LINES
         → task.new.phase ≡ at.Drop (part.Slot due.slot) (due.line + 1)) }
     ensures failed { IfErr result (λ fault. IfMediaFault fault (HasBrokenOff
-        (around M.size M.state task.old task.new cache.old cache.new media.old media.new))) }
+        (task_change M.size M.state task.old task.new cache.old cache.new media.old media.new))) }
 
     ensures other { IfOk result (λ loaded. loaded ≡ false → media.new ≡ media.old) }
     ensures other_cache { IfOk result (λ loaded. loaded ≡ false → cache.new ≡ cache.old) }
@@ -80,21 +84,23 @@ pub(crate) fn load_slot<M: Media>(
     cache: &mut HostCache,
     task: &mut Task,
     media: &mut M,
+    turn: &mut Turn,
     due: SlotDue,
-) -> Result<Turn, OperationFault>
+) -> Result<(), OperationFault>
+    requires go { turn.old ≡ Go }
     requires lines { task.old.lines ≡ M.size media.old }
     requires asked { SendsWithin (op_of task.old) (M.size media.old) cache.old.lines }
     requires due { task.old.phase ≡ at.Drop (part.Slot due.slot) due.line }
     requires below { due.line < SLOT_LINES }
 
     ensures advanced { Advanced
-        (around M.size M.state task.old task.new cache.old cache.new media.old media.new) result }
+        (task_change M.size M.state task.old task.new cache.old cache.new media.old media.new) (said_of result turn.new) }
     ensures want { IsErrOf result OperationFault.OutOfMemory → WantsRoom task.old cache.old }
     ensures steady { IsSteady M.size M.state media.old media.new }
 {
     match load_line(cache, task, media, due) {
         Ok(true) => {}
-        Ok(false) => return operate(cache, task, media),
+        Ok(false) => return operate(cache, task, media, turn),
         Err(fault) => return Err(fault),
     }
     'lines: for line in due.line + 1..SLOT_LINES {
@@ -104,12 +110,41 @@ pub(crate) fn load_slot<M: Media>(
         };
         match load_line(cache, task, media, next) {
             Ok(true) => {}
-            Ok(false) => return Ok(Turn::Go),
-            Err(OperationFault::OutOfMemory) => return Ok(Turn::Go),
+            Ok(false) => return Ok(()),
+            Err(OperationFault::OutOfMemory) => return Ok(()),
             Err(OperationFault::MediaFault(failed)) => return Err(OperationFault::MediaFault(
                 failed,
             )),
         }
     }
-    Ok(Turn::Go)
+    Ok(())
+}
+
+/// Looks at the words of a slot, which is the Digest that comes next, and takes the turn with it. `OutOfMemory` comes where it
+/// finds none, and then nothing was done.
+#[inline(always)]
+pub(crate) fn check_slot(task: &mut Task, turn: &mut Turn, slot: u64) -> Result<(), OperationFault>
+    requires go { turn.old ≡ Go }
+    requires due { task.old.phase ≡ at.Check slot }
+
+    // Cache and media stay, whatever they are.
+    ensures operated { (cache : Cache) (lines : ℕ) (media : MediaState) → Operated (record {
+      task = task.old;
+      next = task.new;
+      old = cache;
+      new = cache;
+      lines = lines;
+      media = record { old = media; new = media };
+    }) (said_of result turn.new) }
+    ensures want { (cache : CacheState) → OnErr result (WantsRoom task.old cache) }
+{
+    task.is_sound();
+    match task.check_slot(slot) {
+        Ok(None) => Ok(()),
+        Ok(Some(reason)) => {
+            *turn = Turn::Done(Answer::BadEntry { seq: slot, reason });
+            Ok(())
+        }
+        Err(_) => Err(OperationFault::OutOfMemory),
+    }
 }

@@ -6,10 +6,12 @@ ghost use Rattle.fam_media.specs.Causes.{IsSteady};
 ghost use Rattle.fam_cache.specs.Operations.{SendsWithin};
 ghost use Rattle.fam_commands.specs.declared.phase.Phase.TheVariants as at;
 ghost use Rattle.fam_commands.specs.Task.{op_of};
+ghost use Rattle.fam_tasks.specs.declared.answer.Turn.TheVariants.{Go};
 ghost use Rattle.fam_run.specs.Led.{Advanced};
+ghost use Rattle.fam_run.specs.Operation.{said_of};
 ghost use Rattle.fam_run.specs.Places.{PlacesKept};
 ghost use Rattle.fam_run.specs.Room.{WantsRoom};
-ghost use Rattle.fam_run.specs.Step.{around};
+ghost use Rattle.fam_run.specs.TaskChange.{task_change};
 
 use crate::operation::operate;
 use fam_cache::{CacheFault, HostCache, OperationFault};
@@ -26,16 +28,18 @@ pub(crate) fn store_line<M: Media>(
     cache: &mut HostCache,
     task: &mut Task,
     media: &mut M,
+    turn: &mut Turn,
     number: u64,
-) -> Result<Turn, OperationFault>
+) -> Result<(), OperationFault>
+    requires go { turn.old ≡ Go }
     requires lines { task.old.lines ≡ M.size media.old }
     requires asked { SendsWithin (op_of task.old) (M.size media.old) cache.old.lines }
     requires due { task.old.phase ≡ at.StoreData number 0 }
 
     ensures advanced { Advanced
-        (around M.size M.state task.old task.new cache.old cache.new media.old media.new) result }
+        (task_change M.size M.state task.old task.new cache.old cache.new media.old media.new) (said_of result turn.new) }
     ensures want { IsErrOf result OperationFault.OutOfMemory → WantsRoom task.old cache.old }
-    ensures places { PlacesKept task.old cache.old task.new cache.new result }
+    ensures places { PlacesKept task.old cache.old task.new cache.new (said_of result turn.new) }
     ensures steady { IsSteady M.size M.state media.old media.new }
 {
     task.is_sound();
@@ -45,9 +49,9 @@ pub(crate) fn store_line<M: Media>(
             task.store_line(due.0, &due.1);
             task.is_sound();
             task.read_on(None);
-            Ok(Turn::Go)
+            Ok(())
         }
-        Ok(false) => operate(cache, task, media),
+        Ok(false) => operate(cache, task, media, turn),
         Err(CacheFault::Failed) => {
             task.store_line(due.0, &due.1);
             task.is_sound();

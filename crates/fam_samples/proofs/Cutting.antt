@@ -1,5 +1,6 @@
 -- A body of mkfs in which the media fails at the first load meets what the call promises.
 use Rattle.std.proofs.Common.{◌≡◌, ℕ, ◌+◌, ◌*◌, ◌≤◌, true, List, [], ◌∷◌, ◌++◌, length, map, Option, Some, None, refl, ap, ap₂, sym, ◌∙◌, subst, arith}
+use Rattle.fam_media.specs.States.{media_change}
 use Prim.Native.Nat.{zero, suc}
 use Rattle.std.specs.Prelude.{codes, drop, slice_get}
 use Rattle.std.specs.FinMap as finmap
@@ -152,5 +153,5 @@ module _ (me fs : List ℕ) (is_uuid : IsUuid fs) (image : Image) (enough : need
       let found = find_host (length state.memory) (host_m me finmap.empty None) (slice_get state.hosts 0) (stands 0) in
       breaks start state held (same_Some image state.memory told) lines_are stands found.0 found.1 found.2
 
-  pub meets_cut : MakeCall call lines (Some (why.MediaFault line_0)) (Some image) (Some image) faults (faults + 1) old new
+  pub meets_cut : MakeCall call lines (Some (why.MediaFault line_0)) (media_change (Some image) faults (Some image) (faults + 1)) old new
   meets_cut = record { answers = answers; leaves = leaves }

@@ -1,5 +1,6 @@
 -- A body that does mkfs's operations meets what the call promises.
 use Rattle.std.proofs.Common.{◌≡◌, inl, inr, ℕ, ◌*◌, ◌≤◌, ◌<◌, Bool, true, false, List, [], ◌∷◌, ◌++◌, length, Option, Some, None, refl, ap, ap₂, sym, ◌∙◌, subst, arith}
+use Rattle.fam_media.specs.States.{media_change}
 use Prim.Native.Nat.{zero, suc}
 use Rattle.std.specs.Prelude.{⊤, codes, slice_get, nat_lt, if◌then◌else◌, option_map}
 use Rattle.std.specs.FinMap as finmap
@@ -224,5 +225,5 @@ module _ (me fs : List ℕ) (is_uuid : IsUuid fs) (image : Image) (enough : need
       let found = find_host (length state.memory) (host_m me finmap.empty None) (slice_get state.hosts 0) (stands 0) in
       moves start state held (same_Some image state.memory told) lines_are stands found.0 found.1 found.2
 
-  pub meets_mkfs : MakeCall (Makes (codes "m") (mkfs_request fs 4096 65536 true)) lines None (Some image) (Some done.image) faults faults old new
+  pub meets_mkfs : MakeCall (Makes (codes "m") (mkfs_request fs 4096 65536 true)) lines None (media_change (Some image) faults (Some done.image) faults) old new
   meets_mkfs = record { answers = answers; leaves = keeps }

@@ -1,5 +1,6 @@
 -- A body that drops line 0, of which the cache has no copy, meets what a step promises.
 use Rattle.std.proofs.Common.{◌≡◌, inl, inr, ℕ, false, List, [], length, Some, None, refl, ap, sym, ◌∙◌, subst, arith}
+use Rattle.fam_media.specs.States.{media_change}
 use Prim.Native.Nat.{zero, suc}
 use Rattle.std.specs.Prelude.{codes}
 use Rattle.std.specs.FinMap as finmap
@@ -91,9 +92,9 @@ module _ (me : List ℕ) (lines : ℕ) (journal : List Note) where
         held = kept_on start state x.left old new (Steps (codes "m")) [] held tt x.row stands (sym (append-nil journal));
       }
 
-  pub meets : (image : Image) (faults : ℕ) → StepCall (codes "m") lines None false (Some image) (Some image) faults faults old new
+  pub meets : (image : Image) (faults : ℕ) → StepCall (codes "m") lines None false (media_change (Some image) faults (Some image) faults) old new
   meets image faults = record { answers = answers faults; keeps = keeps image }
 
   -- so it is on a media whose content isn't modelled
-  pub meets_untold : (faults : ℕ) → StepCall (codes "m") lines None false None None faults faults old new
+  pub meets_untold : (faults : ℕ) → StepCall (codes "m") lines None false (media_change None faults None faults) old new
   meets_untold faults = record { answers = answers faults; keeps = λ start state told held. absurd cc }

@@ -7,6 +7,7 @@ use Rattle.fam_base.specs.Image.{Image}
 use Rattle.fam_machine.specs.MkfsRequest.{mkfs_request}
 use Rattle.fam_format.specs.Params.{IsUuid}
 use Rattle.fam_media.specs.Files.{Files}
+use Rattle.fam_media.specs.States.{media_change}
 use Rattle.fam_protocol.specs.Tasks.{IsCommand}
 use Rattle.fam_journal.specs.declared.event.Ask.TheVariants as ask
 use Rattle.fam_journal.specs.declared.event.Event.{Event}
@@ -49,11 +50,11 @@ pub record Trace (start : Image) (w : Wishes) : Type 0 where
   pub evicted : Moment
   pub halted : WorldView
   pub host : WorldCall (Declares w.name w.uuid) (length start) None empty_world declared
-  pub mkfs : MakeCall (Makes w.name (mkfs_request w.fs 4096 65536 false)) (length start) None (Some start) made.told first made.faults declared made.world
+  pub mkfs : MakeCall (Makes w.name (mkfs_request w.fs 4096 65536 false)) (length start) None (media_change (Some start) first made.told made.faults) declared made.world
   pub begin : WorldCall (Begins w.name w.cmd) (length start) None made.world begun
-  pub step : StepCall w.name (length start) None false made.told stepped.told made.faults stepped.faults begun stepped.world
-  pub finish : MediaCall (Finishes w.name) (length start) None stepped.told finished.told stepped.faults finished.faults stepped.world finished.world
-  pub evict : MediaCall (Moves w.name w.line.0 Evict) (length start) None finished.told evicted.told finished.faults evicted.faults finished.world evicted.world
+  pub step : StepCall w.name (length start) None false (media_change made.told made.faults stepped.told stepped.faults) begun stepped.world
+  pub finish : MediaCall (Finishes w.name) (length start) None (media_change stepped.told stepped.faults finished.told finished.faults) stepped.world finished.world
+  pub evict : MediaCall (Moves w.name w.line.0 Evict) (length start) None (media_change finished.told finished.faults evicted.told evicted.faults) finished.world evicted.world
   pub halt : WorldCall (Halts w.name) (length start) None evicted.world halted
 
 -- the events of a script that these calls run
@@ -75,7 +76,7 @@ pub record CutTrace (start : Image) (w : Wishes) : Type 0 where
   pub cut : Moment
   pub line : LineNo
   pub host : WorldCall (Declares w.name w.uuid) (length start) None empty_world declared
-  pub mkfs : MakeCall (Makes w.name (mkfs_request w.fs 4096 65536 false)) (length start) (Some (why.MediaFault line)) (Some start) cut.told first cut.faults declared cut.world
+  pub mkfs : MakeCall (Makes w.name (mkfs_request w.fs 4096 65536 false)) (length start) (Some (why.MediaFault line)) (media_change (Some start) first cut.told cut.faults) declared cut.world
 
 -- the journal is legal and follows, up to the mkfs
 pub record ComesToCut (start : Image) (ending : Ending) (files : Files) (events : List Event) (world : WorldView) (told : Option Image) : Type 0 where
@@ -90,4 +91,4 @@ pub record OutOfMemoryTrace (start : Image) (w : Wishes) : Type 0 where
   pub declared : WorldView
   pub wanting : Moment
   pub host : WorldCall (Declares w.name w.uuid) (length start) None empty_world declared
-  pub finish : FinishOutOfMemory w.name (length start) (Some start) wanting.told first wanting.faults declared wanting.world
+  pub finish : FinishOutOfMemory w.name (length start) (media_change (Some start) first wanting.told wanting.faults) declared wanting.world

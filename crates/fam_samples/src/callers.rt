@@ -11,6 +11,7 @@ ghost use Rattle.fam_journal.specs.declared.refusal.Refusal.TheVariants.{MediaFa
 ghost use Rattle.fam_journal.specs.Ends.{AllDone, MkfsFails, EndsOutOfMemory};
 ghost use Rattle.fam_journal.specs.Laws.{IsImage};
 ghost use Rattle.fam_media.specs.Files.{Files};
+ghost use Rattle.fam_media.specs.States.{media_change};
 ghost use Rattle.fam_journal.specs.CallRecords.{MakeCall, StepCall};
 ghost use Rattle.fam_journal.specs.Notes.{Note};
 ghost use Rattle.fam_samples.specs.Bodies.{after_cut, after_mkfs, after_step, before_mkfs, before_step, made_machine};
@@ -35,15 +36,13 @@ pub fn a_caller_chains_what_calls_promise()
 /// first load (`cut`).
 pub fn a_body_meets_what_calls_promise()
     ensures step { (me : List ℕ) (lines : ℕ) (journal : List Note) (image : Image) (faults : ℕ)
-        → StepCall (codes "m") lines None false (Some image) (Some image) faults faults (before_step me lines journal) (after_step me lines journal) }
+        → StepCall (codes "m") lines None false (media_change (Some image) faults (Some image) faults) (before_step me lines journal) (after_step me lines journal) }
     ensures untold { (me : List ℕ) (lines : ℕ) (journal : List Note) (faults : ℕ)
-        → StepCall (codes "m") lines None false None None faults faults (before_step me lines journal) (after_step me lines journal) }
+        → StepCall (codes "m") lines None false (media_change None faults None faults) (before_step me lines journal) (after_step me lines journal) }
     ensures mkfs { (me fs : List ℕ) (image : Image) (journal : List Note) (faults : ℕ) → IsUuid fs
         → need 65536 4096 ≤ line_bytes * length image
-        → MakeCall (Makes (codes "m") (mkfs_request fs 4096 65536 true)) (length image) None (Some image) (Some (made_machine me fs image).image)
-        faults faults (before_mkfs me journal) (after_mkfs me fs image journal) }
+        → MakeCall (Makes (codes "m") (mkfs_request fs 4096 65536 true)) (length image) None (media_change (Some image) faults (Some (made_machine me fs image).image) faults) (before_mkfs me journal) (after_mkfs me fs image journal) }
     ensures cut { (me fs : List ℕ) (image : Image) (journal : List Note) (faults : ℕ) → IsUuid fs
         → need 65536 4096 ≤ line_bytes * length image
-        → MakeCall (Makes (codes "m") (mkfs_request fs 4096 65536 true)) (length image) (Some (MediaFault (record { 0 = 0 }))) (Some image)
-        (Some image) faults (faults + 1) (before_mkfs me journal) (after_cut me journal) }
+        → MakeCall (Makes (codes "m") (mkfs_request fs 4096 65536 true)) (length image) (Some (MediaFault (record { 0 = 0 }))) (media_change (Some image) faults (Some image) (faults + 1)) (before_mkfs me journal) (after_cut me journal) }
 {}

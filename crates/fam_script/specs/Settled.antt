@@ -43,7 +43,7 @@ replied_in (Showing m) s = shows m s
 replied_in (Reporting report) s = reports report.log s
 replied_in Faulty s = s
 
--- of a reply
+-- so of a reply, by its class
 abbrev pub replied : Reply → Settled → Settled
 replied given s = replied_in (reply_class given) s
 
@@ -73,7 +73,7 @@ begun_in (Going h) = None
 begun_in (Answering h answer) = None
 begun_in (Refusing name cause) = None
 
--- of a note
+-- so of a note, by its class
 abbrev pub begun : Note → Option Settled
 begun note = begun_in (note_class note)
 

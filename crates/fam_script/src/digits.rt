@@ -2,19 +2,10 @@
 
 ghost use Rattle.std.specs.Prelude.{◌≡◌, ◌<◌, ◌/◌, ◌%◌, ◌++◌, [], ◌∷◌, IfOk, OnOk};
 ghost use Rattle.std.specs.List.{flat_map};
-ghost use Rattle.fam_base.specs.Escapes.{hex_digit};
 ghost use Rattle.fam_outcomes.specs.Texts.{byte_text, bytes_text};
 
-use crate::lines::put;
-use fam_base::OutOfMemory;
+use fam_base::{OutOfMemory, hex_digit, put_bytes};
 use std::alloc::Global;
-
-fn hex_digit(n: u8) -> u8
-    requires { n < 16 }
-    ensures { result ≡ hex_digit n }
-{
-    if n < 10 { b'0' + n } else { b'a' + (n - 10) }
-}
 
 /// The two digits of a byte.
 pub(crate) fn byte_digits(byte: u8) -> [u8; 2]
@@ -28,7 +19,7 @@ fn put_digits(bytes: &[u8], into: &mut Vec<u8>) -> Result<(), OutOfMemory>
     ensures { OnOk result (into.new.items ≡ into.old.items ++ flat_map byte_text bytes.now) }
 {
     for byte in bytes {
-        put(&byte_digits(*byte), into)?;
+        put_bytes(&byte_digits(*byte), into)?;
     }
     Ok(())
 }
@@ -39,7 +30,7 @@ pub(crate) fn bytes_text(alloc: Global, bytes: &[u8]) -> Result<Vec<u8>, OutOfMe
 {
     let mut text = Vec::new(alloc);
     if bytes.is_empty() {
-        put(b"-", &mut text)?;
+        put_bytes(b"-", &mut text)?;
     } else {
         put_digits(bytes, &mut text)?;
     }

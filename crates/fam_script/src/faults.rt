@@ -4,8 +4,8 @@ ghost use Rattle.std.specs.Prelude.{◌≡◌, IfOk, string_bytes};
 ghost use Rattle.fam_outcomes.specs.Texts as text;
 ghost use Rattle.fam_rules.specs.Reply as reply;
 
-use crate::lines::{line, line_of, put};
-use fam_base::{Kind, OutOfMemory};
+use crate::lines::{line, line_of};
+use fam_base::{Kind, OutOfMemory, put_bytes};
 use fam_format::{LogFault, LogField, Reason, SuperFault, SuperField};
 use fam_tree::{Tree, print_listing};
 use std::alloc::{AllocError, Global};
@@ -133,6 +133,6 @@ pub(crate) fn played_lines(alloc: Global, m: u64, tree: &Tree) -> Result<Vec<u8>
     };
     let mut bytes = line(alloc, head.as_str())?;
     let listing = print_listing(alloc, tree)?;
-    put(listing.as_slice(), &mut bytes)?;
+    put_bytes(listing.as_slice(), &mut bytes)?;
     Ok(bytes)
 }

@@ -23,6 +23,7 @@ pub use answers::answer_text;
 pub use components::prefixes;
 pub use counts::{Counts, count_notes};
 pub use fam_grammar::{LineFault, read_line};
+pub use fam_journal::{Ask, Event};
 pub use laws::a_printed_command_reads_as_itself;
 pub use lines::{line, line_of, line_with_last_name};
 pub use notes::{note_text, print_note};

@@ -4,26 +4,16 @@ ghost use Rattle.std.specs.Prelude.{◌≡◌, ◌++◌, [], ◌∷◌, ℕ, Lis
 ghost use Rattle.fam_base.specs.Escapes.{escaped};
 ghost use Rattle.fam_outcomes.specs.Texts as text;
 
-use fam_base::{OutOfMemory, escape};
+use fam_base::{OutOfMemory, escape, put_bytes};
 use std::alloc::{AllocError, Global};
-
-/// Adds bytes to a text.
-pub(crate) fn put(bytes: &[u8], into: &mut Vec<u8>) -> Result<(), OutOfMemory>
-    ensures { OnOk result (into.new.items ≡ into.old.items ++ bytes.now) }
-{
-    match into.extend_from_slice(bytes) {
-        Ok(()) => Ok(()),
-        Err(_) => Err(OutOfMemory),
-    }
-}
 
 /// A text as a line.
 pub fn line(alloc: Global, words: &str) -> Result<Vec<u8>, OutOfMemory>
     ensures { IfOk result (λ bytes. bytes.items ≡ text.line words.now) }
 {
     let mut bytes = Vec::new(alloc);
-    put(words.as_bytes(), &mut bytes)?;
-    put(b"\n", &mut bytes)?;
+    put_bytes(words.as_bytes(), &mut bytes)?;
+    put_bytes(b"\n", &mut bytes)?;
     Ok(bytes)
 }
 
@@ -43,9 +33,9 @@ pub(crate) fn line_with(alloc: Global, prefix: &str, bytes: &[u8]) -> Result<Vec
     ensures { IfOk result (λ made. made.items ≡ text.line (prefix.now ++ bytes.now)) }
 {
     let mut text = Vec::new(alloc);
-    put(prefix.as_bytes(), &mut text)?;
-    put(bytes, &mut text)?;
-    put(b"\n", &mut text)?;
+    put_bytes(prefix.as_bytes(), &mut text)?;
+    put_bytes(bytes, &mut text)?;
+    put_bytes(b"\n", &mut text)?;
     Ok(text)
 }
 
@@ -59,10 +49,10 @@ pub(crate) fn line_with_name(
     ensures { IfOk result (λ made. made.items ≡ text.line (prefix.now ++ escaped name.now ++ back.now)) }
 {
     let mut text = Vec::new(alloc);
-    put(prefix.as_bytes(), &mut text)?;
+    put_bytes(prefix.as_bytes(), &mut text)?;
     escape(name, &mut text)?;
-    put(back.as_bytes(), &mut text)?;
-    put(b"\n", &mut text)?;
+    put_bytes(back.as_bytes(), &mut text)?;
+    put_bytes(b"\n", &mut text)?;
     Ok(text)
 }
 
@@ -71,9 +61,9 @@ pub fn line_with_last_name(alloc: Global, prefix: &str, name: &[u8]) -> Result<V
     ensures { IfOk result (λ made. made.items ≡ text.line (prefix.now ++ text.name_text name.now)) }
 {
     let mut text = Vec::new(alloc);
-    put(prefix.as_bytes(), &mut text)?;
-    put(b" ", &mut text)?;
+    put_bytes(prefix.as_bytes(), &mut text)?;
+    put_bytes(b" ", &mut text)?;
     escape(name, &mut text)?;
-    put(b"\n", &mut text)?;
+    put_bytes(b"\n", &mut text)?;
     Ok(text)
 }

@@ -8,9 +8,9 @@ ghost use Rattle.fam_notes.specs.Notes.{note_view};
 
 use crate::answers::answer_text;
 use crate::commands::start_line;
-use crate::lines::{line, line_of, line_with, put};
+use crate::lines::{line, line_of, line_with};
 use crate::refusals::{host_name, refusal_line};
-use fam_base::{Entry, HostName, OutOfMemory, Params};
+use fam_base::{Entry, HostName, OutOfMemory, Params, put_bytes};
 use fam_notes::Note;
 use fam_tree::print_entry;
 use std::alloc::{AllocError, Global};
@@ -84,8 +84,8 @@ pub fn print_note(alloc: Global, note: &Note, names: &[HostName]) -> Result<Vec<
 {
     let rest = note_text(alloc, note, names)?;
     let mut text = Vec::new(alloc);
-    put(note_name(note, names), &mut text)?;
-    put(b" ", &mut text)?;
-    put(rest.as_slice(), &mut text)?;
+    put_bytes(note_name(note, names), &mut text)?;
+    put_bytes(b" ", &mut text)?;
+    put_bytes(rest.as_slice(), &mut text)?;
     Ok(text)
 }

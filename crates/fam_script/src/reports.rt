@@ -5,8 +5,7 @@ ghost use Rattle.fam_outcomes.specs.Texts as text;
 ghost use Rattle.fam_script.specs.Reports.{verdict_text, files_text, units_text, states_text, counts_text, findings_text};
 
 use crate::faults::{log_text, reason_text, super_text};
-use crate::lines::put;
-use fam_base::OutOfMemory;
+use fam_base::{OutOfMemory, put_bytes};
 use fam_format::{LogFault, Reason, SuperFault};
 use fam_rules::{LogState, Report, SuperState};
 use std::alloc::{AllocError, Global};
@@ -127,16 +126,16 @@ fn put_line(made: Result<String, AllocError>, into: &mut Vec<u8>) -> Result<(), 
     let Ok(words) = made else {
         return Err(OutOfMemory);
     };
-    put(words.as_bytes(), into)?;
-    put(b"\n", into)
+    put_bytes(words.as_bytes(), into)?;
+    put_bytes(b"\n", into)
 }
 
 /// Adds the verdict, and what superblock and log are.
 fn put_states(alloc: Global, report: &Report, into: &mut Vec<u8>) -> Result<(), OutOfMemory>
     ensures { OnOk result (into.new.items ≡ states_text into.old.items report.now) }
 {
-    put(verdict(report).as_bytes(), into)?;
-    put(b"\n", into)?;
+    put_bytes(verdict(report).as_bytes(), into)?;
+    put_bytes(b"\n", into)?;
     put_line(super_state_text(alloc, report.superblock), into)?;
     put_line(log_state_text(alloc, report.log), into)
 }

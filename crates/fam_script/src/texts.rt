@@ -8,9 +8,8 @@ ghost use Rattle.fam_script.specs.StormLines.{counts_text, front_text, storm_tex
 ghost use Rattle.fam_notes.specs.Notes.{note_view, notes_view};
 
 use crate::counts::Counts;
-use crate::lines::put;
 use crate::notes::{note_text, print_note};
-use fam_base::{HostName, OutOfMemory};
+use fam_base::{HostName, OutOfMemory, put_bytes};
 use fam_crc::crc_more;
 use fam_notes::Note;
 use std::alloc::{AllocError, Global};
@@ -135,8 +134,8 @@ pub fn storm_line(
         return Err(OutOfMemory);
     };
     let mut made = Vec::new(alloc);
-    put(front.as_bytes(), &mut made)?;
-    put(back.as_bytes(), &mut made)?;
-    put(b"\n", &mut made)?;
+    put_bytes(front.as_bytes(), &mut made)?;
+    put_bytes(back.as_bytes(), &mut made)?;
+    put_bytes(b"\n", &mut made)?;
     Ok(made)
 }

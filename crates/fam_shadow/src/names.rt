@@ -4,7 +4,7 @@ ghost use Rattle.std.specs.Prelude.{◌≡◌, ◌++◌, ◌∷◌, IfOk, OnOk, 
 ghost use Rattle.fam_base.specs.Paths.{is_path};
 ghost use Rattle.fam_shadow.specs.Shadows as spec;
 
-use fam_base::{Entry, NameText, OutOfMemory, escape};
+use fam_base::{Entry, NameText, OutOfMemory, escape, put_bytes};
 use fam_tree::print_entry;
 use std::alloc::Global;
 use std::str::from_utf8;
@@ -24,16 +24,6 @@ pub(crate) fn name_of(alloc: Global, entry: &Entry) -> Result<NameText, OutOfMem
         unreachable!()
     };
     NameText::new(alloc, name)
-}
-
-/// Adds bytes to a text.
-fn put_bytes(bytes: &[u8], into: &mut Vec<u8>) -> Result<(), OutOfMemory>
-    ensures { OnOk result (into.new.items ≡ into.old.items ++ bytes.now) }
-{
-    match into.extend_from_slice(bytes) {
-        Ok(()) => Ok(()),
-        Err(_) => Err(OutOfMemory),
-    }
 }
 
 /// A file's description: the line `famfs shadow 1`, and the file's line of a listing.

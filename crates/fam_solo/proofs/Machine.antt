@@ -80,15 +80,15 @@ module _ (cmd : Cmd) (me : List ℕ) (image : Image) (cache : Cache) where
 -- Copies that memory needn't get.
 
 -- the operation is one of a reading
-abbrev pub IsQuiet : Op → Type 0
-IsQuiet (Load l k) = ⊤
-IsQuiet (Store l k value) = ⊥
-IsQuiet (WriteBack l) = ⊥
-IsQuiet Fence = ⊥
-IsQuiet (Invalidate l) = ⊤
-IsQuiet Digest = ⊤
+abbrev pub IsReadingOp : Op → Type 0
+IsReadingOp (Load l k) = ⊤
+IsReadingOp (Store l k value) = ⊥
+IsReadingOp (WriteBack l) = ⊥
+IsReadingOp Fence = ⊥
+IsReadingOp (Invalidate l) = ⊤
+IsReadingOp Digest = ⊤
 
-pub quiet_before : (t : Task) (p : Phase) → IsBeforeWrites p → IsQuiet (op_at t p)
+pub quiet_before : (t : Task) (p : Phase) → IsBeforeWrites p → IsReadingOp (op_at t p)
 quiet_before t at.DropMagic before = tt
 quiet_before t at.Magic before = tt
 quiet_before t (at.Drop part j) before = tt
@@ -137,7 +137,7 @@ module _ (m : Machine) (normal : map eight m.image ≡ m.image) (clean : IsClean
   sent_same : (l : ℕ) → with_line l (sent (line_at m.image l) (cell_at m.cache l)) m.image ≡ m.image
   sent_same l = ap (λ (w : List ℕ). with_line l w m.image) (clean_sent (line_at m.image l) (cell_at m.cache l) (clean l)) ∙ with_line-line_at m.image normal l
 
-  pub quiet_image : (op : Op) → IsQuiet op → (operated op m).image ≡ m.image
+  pub quiet_image : (op : Op) → IsReadingOp op → (operated op m).image ≡ m.image
   quiet_image (Load l k) quiet = refl
   quiet_image (Store l k value) quiet = absurd quiet
   quiet_image (WriteBack l) quiet = absurd quiet
@@ -145,7 +145,7 @@ module _ (m : Machine) (normal : map eight m.image ≡ m.image) (clean : IsClean
   quiet_image (Invalidate l) quiet = sent_same l.0
   quiet_image Digest quiet = refl
 
-  pub quiet_clean : (op : Op) → IsQuiet op → IsClean (operated op m).cache
+  pub quiet_clean : (op : Op) → IsReadingOp op → IsClean (operated op m).cache
   quiet_clean (Load a k) quiet = clean_with a.0 _ m.cache clean (clean_brought (line_at m.image a.0) (cell_at m.cache a.0) refl (clean a.0))
   quiet_clean (Store a k value) quiet = absurd quiet
   quiet_clean (WriteBack a) quiet = absurd quiet
@@ -163,7 +163,7 @@ module _ (m : Machine) (normal : map eight m.image ≡ m.image) (clean : IsClean
         | inr other ↦ subst (Fresh (line_at m.image l)) (sym (cell_at-with_cell_other line cell m.cache l other)) f
       ]
 
-  fresh_cell : (op : Op) → IsQuiet op → (l : ℕ) → Fresh (line_at m.image l) (cell_at m.cache l) → Fresh (line_at m.image l) (cell_at (operated op m).cache l)
+  fresh_cell : (op : Op) → IsReadingOp op → (l : ℕ) → Fresh (line_at m.image l) (cell_at m.cache l) → Fresh (line_at m.image l) (cell_at (operated op m).cache l)
   fresh_cell (Load a k) quiet = still_fresh a.0 _ (fresh_brought (line_at m.image a.0) (cell_at m.cache a.0))
   fresh_cell (Store a k value) quiet = absurd quiet
   fresh_cell (WriteBack a) quiet = absurd quiet
@@ -171,7 +171,7 @@ module _ (m : Machine) (normal : map eight m.image ≡ m.image) (clean : IsClean
   fresh_cell (Invalidate a) quiet = still_fresh a.0 Absent (λ f. tt)
   fresh_cell Digest quiet = λ l f. f
 
-  pub quiet_fresh : (op : Op) → IsQuiet op → (l : ℕ) → Fresh (line_at m.image l) (cell_at m.cache l) → Fresh (line_at (operated op m).image l) (cell_at (operated op m).cache l)
+  pub quiet_fresh : (op : Op) → IsReadingOp op → (l : ℕ) → Fresh (line_at m.image l) (cell_at m.cache l) → Fresh (line_at (operated op m).image l) (cell_at (operated op m).cache l)
   quiet_fresh op quiet l f = subst (λ (image : Image). Fresh (line_at image l) (cell_at (operated op m).cache l)) (sym (quiet_image op quiet)) (fresh_cell op quiet l f)
 
   not_sent_same : (through : ℕ) (l : LineNo) (w : List ℕ) (c : Cell) (failure : Failure) → IsCleanCell c → option_map (torn_at l m) (failed_send through w c) ≡ Some failure → failure.left.image ≡ m.image
@@ -179,7 +179,7 @@ module _ (m : Machine) (normal : map eight m.image ≡ m.image) (clean : IsClean
   not_sent_same through l w (Clean words) failure f is = absurd (cc)
   not_sent_same through l w (Dirty a words) failure f is = absurd f
 
-  pub quiet_failed : (op : Op) (through : Breaking) (failure : Failure) → failed through op m ≡ Some failure → IsQuiet op → failure.left.image ≡ m.image
+  pub quiet_failed : (op : Op) (through : Breaking) (failure : Failure) → failed through op m ≡ Some failure → IsReadingOp op → failure.left.image ≡ m.image
   quiet_failed (Load l k) through failure is quiet = ap (λ (f : Failure). f.left.image) (brought_fails l m (cell_at m.cache l.0) failure is)
   quiet_failed (Store l k value) through failure is quiet = absurd quiet
   quiet_failed (WriteBack l) through failure is quiet = absurd quiet
@@ -244,7 +244,7 @@ module _ (cmd : Cmd) (me : List ℕ) (image : Image) (cache : Cache) where
     pub looks_on : (t next : Task) (words : List ℕ) (made : ℕ) (m : Machine) → SoloRun cmd me image cache t words made m → IsBeforeWrites t.phase → Looks image t.phase m → task_after (turn_on t m) ≡ Some next → Looks image next.phase (operated (op_of t) m)
     looks_on t next words made m ran before looks is =
         let formed : map eight m.image ≡ m.image = ran_normal cmd me image cache normal t words made m ran in
-        let quiet : IsQuiet (op_of t) = quiet_before t t.phase before in
+        let quiet : IsReadingOp (op_of t) = quiet_before t t.phase before in
         record {
           image_is = quiet_image m formed looks.clean (op_of t) quiet ∙ looks.image_is;
           clean = quiet_clean m formed looks.clean (op_of t) quiet;
@@ -265,7 +265,7 @@ module _ (cmd : Cmd) (me : List ℕ) (image : Image) (cache : Cache) where
     looks_end t words made m ran before =
         let looks : Looks image t.phase m = ran_looks t words made m ran before in
         let formed : map eight m.image ≡ m.image = ran_normal cmd me image cache normal t words made m ran in
-        let quiet : IsQuiet (op_of t) = quiet_before t t.phase before in
+        let quiet : IsReadingOp (op_of t) = quiet_before t t.phase before in
         (quiet_image m formed looks.clean (op_of t) quiet ∙ looks.image_is, quiet_clean m formed looks.clean (op_of t) quiet)
 
     -- nor does a fault of memory change the image

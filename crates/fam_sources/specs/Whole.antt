@@ -22,7 +22,8 @@ HoldsBytes files name P = IfModelled files (λ files. (bytes : List ℕ) × (map
 abbrev pub sum_of : ℕ → ℕ → ℕ
 sum_of copied size = min (copied + size) (2 ^ 64 - 1)
 
--- the bytes are the file's, and within the limit; or each fault has its cause. A file has fewer than 2 ^ 64 bytes, so with none of
+-- the bytes are the file's, and within the limit; or each fault has its cause: memory is wanted only for a file that is there and
+-- within the limit. A file has fewer than 2 ^ 64 bytes, so with none of
 -- others the sum is its size
 abbrev pub WholeSays : ShelfChange → Wanted → Result (List ℕ) WholeFault → Type 0
 WholeSays change w (Ok bytes) =
@@ -34,7 +35,7 @@ WholeSays change w (Err Faulted) = Rose change.old.faults change.new.faults
 WholeSays change w (Err (Short size got)) =
     (got < size) × (w.copied + size ≤ w.limit) × Rose change.old.shorts change.new.shorts
     × HoldsBytes change.old.files w.name (λ bytes. size ≡ length bytes)
-WholeSays change w (Err OutOfMemory) = ⊤
+WholeSays change w (Err OutOfMemory) = HoldsBytes change.old.files w.name (λ bytes. w.copied + length bytes ≤ w.limit)
 
 -- filling a place of so many bytes fails: the shelf does, or a read gave no byte
 abbrev pub FillFails : ShelfChange → List ℕ → ℕ → WholeFault → Type 0

@@ -3,18 +3,8 @@
 ghost use Rattle.std.specs.Prelude.{◌≡◌, [], ◌∷◌, ◌++◌, ℕ, List, IfOk, OnOk, string_bytes};
 ghost use Rattle.fam_storm.specs.Storm.{mkdir_words, creat_words, begun_words, step_words, logplay_words, fetch_words, leak_words, evict_words, begin_words, client_step_words, finish_words, verify_words, end_lines, front_lines, text_of};
 
-use fam_base::OutOfMemory;
+use fam_base::{OutOfMemory, put_bytes};
 use std::alloc::{AllocError, Global};
-
-/// Adds bytes to a text.
-fn put(bytes: &[u8], into: &mut Vec<u8>) -> Result<(), OutOfMemory>
-    ensures { OnOk result (into.new.items ≡ into.old.items ++ bytes.now) }
-{
-    match into.extend_from_slice(bytes) {
-        Ok(()) => Ok(()),
-        Err(_) => Err(OutOfMemory),
-    }
-}
 
 /// Adds a line that may have found no memory, and a line feed.
 fn put_line(made: Result<String, AllocError>, into: &mut Vec<u8>) -> Result<(), OutOfMemory>
@@ -24,15 +14,15 @@ fn put_line(made: Result<String, AllocError>, into: &mut Vec<u8>) -> Result<(), 
     let Ok(line) = made else {
         return Err(OutOfMemory);
     };
-    put(line.as_bytes(), into)?;
-    put(b"\n", into)
+    put_bytes(line.as_bytes(), into)?;
+    put_bytes(b"\n", into)
 }
 
 /// The hosts and the file system, before the first round.
 pub(crate) fn put_front(into: &mut Vec<u8>) -> Result<(), OutOfMemory>
     ensures { OnOk result (into.new.items ≡ into.old.items ++ text_of front_lines) }
 {
-    put(
+    put_bytes(
         b"host m 00000000-0000-0000-0000-000000000001\n\
 host c0 00000000-0000-0000-0000-000000000002\n\
 host c1 00000000-0000-0000-0000-000000000003\n\
@@ -47,12 +37,12 @@ pub(crate) fn put_end(end: u64, into: &mut Vec<u8>) -> Result<(), OutOfMemory>
     ensures { OnOk result (into.new.items ≡ into.old.items ++ text_of (end_lines end)) }
 {
     if end == 0 {
-        return put(b"stop m\n", into);
+        return put_bytes(b"stop m\n", into);
     }
     if end == 1 {
-        return put(b"halt m\n", into);
+        return put_bytes(b"halt m\n", into);
     }
-    put(b"evict m 32769\nhalt m\n", into)
+    put_bytes(b"evict m 32769\nhalt m\n", into)
 }
 
 /// A directory of the root.

@@ -6,10 +6,10 @@ use Rattle.fam_replay.specs.Replay.{HasFoundAll}
 use Rattle.fam_replay.proofs.Replicas.{all_found}
 use Rattle.fam_tasks.specs.declared.task.Task.TheInside.{Inside}
 use Rattle.fam_commands.specs.Classes.{is_fsck}
-use Rattle.fam_tasks.specs.Held.{IsHeldAt, IsTask}
+use Rattle.fam_tasks.specs.Invariant.{IsInvariantAt, IsTask}
 
 -- as many as the gate counts, and no more are kept
 pub all_found_at : (t : Inside) → IsTask t → t.phase ≡ at.Decide → is_fsck t.cmd ≡ false → HasFoundAll t.replay
 all_found_at t is phase other =
-    let held : IsHeldAt at.Decide t = subst (λ (p : Phase). IsHeldAt p t) phase is.held in
+    let held : IsInvariantAt at.Decide t = subst (λ (p : Phase). IsInvariantAt p t) phase is.held in
     all_found t.params t.gate t.replay held.replay (held.entries other ∙ ap (λ (b : Bool). cond b t.params.slots t.gate) other)

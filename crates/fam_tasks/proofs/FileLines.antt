@@ -18,7 +18,7 @@ use Rattle.fam_commands.specs.Turns.{Ends, compare_turn, file_turn, line_differe
 use Rattle.fam_commands.specs.Classes.{IsRead, IsVerify, LooksAtFile}
 use Rattle.fam_tasks.specs.declared.task.Task.TheInside.{Inside}
 use Rattle.fam_tasks.specs.Commands.{content_used, kept_of_file}
-use Rattle.fam_tasks.specs.Held.{HoldsFile}
+use Rattle.fam_tasks.specs.Invariant.{HoldsFile}
 use Rattle.fam_tasks.specs.Sound.{HasValidGate, IsAtLine, IsProperFor}
 
 -- the wanted bytes end where the file ends, or before

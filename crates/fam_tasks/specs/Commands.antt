@@ -30,6 +30,6 @@ kept_of_file_in Replays j = 0
 kept_of_file_in Appends j = 0
 kept_of_file_in Surveys j = 0
 
--- of a command
+-- so of a command, by its class
 abbrev pub kept_of_file : Cmd → ℕ → ℕ
 kept_of_file cmd j = kept_of_file_in (class_of cmd) j

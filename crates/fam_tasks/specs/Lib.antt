@@ -1,12 +1,12 @@
 pub mod Answers
 pub mod Commands
 pub mod Contents
-pub mod ContentsHeld
+pub mod ContentsInvariant
 pub mod Survey
 pub mod Tells
 pub mod Rest
 pub mod Due
 pub mod Sound
 pub mod Model
-pub mod Held
+pub mod Invariant
 pub mod SlotLines

@@ -22,7 +22,7 @@ impl Model for Contents {
 
     ghost Value = { ContentsState };
 
-    ghost use Rattle.fam_tasks.specs.ContentsHeld.{IsContents};
+    ghost use Rattle.fam_tasks.specs.ContentsInvariant.{IsContents};
 
     ghost view = { λ c. record { content = c.content; taken = c.taken; line = c.line } };
 

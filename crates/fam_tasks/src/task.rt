@@ -74,7 +74,7 @@ impl Model for Task {
     ghost Value = { spec.Task };
 
     ghost use Rattle.fam_tasks.specs.Model.{task_of};
-    ghost use Rattle.fam_tasks.specs.Held.{IsTask};
+    ghost use Rattle.fam_tasks.specs.Invariant.{IsTask};
 
     ghost view = { task_of };
 

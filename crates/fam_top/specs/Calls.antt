@@ -1,7 +1,10 @@
 -- What comes of a call: the one clause of the top call.
-use Rattle.std.specs.Prelude.{ℕ, List, Option, Some, None, option_map}
+use Rattle.std.specs.Prelude.{ℕ, ⊤, List, Option, Some, None, option_map, IfSome}
+use Rattle.fam_format.specs.Params.{IsUuid}
 use Rattle.fam_machine.specs.MkfsRequest.{mkfs_request}
 use Rattle.fam_grammar.specs.Scripts.{script_events}
+use Rattle.fam_journal.specs.Laws.{IsImage}
+use Rattle.fam_media.specs.Outside.{IfModelled}
 use Rattle.fam_outcomes.specs.declared.status.Status.{Status}
 use Rattle.fam_outcomes.specs.Programs.{Command, Makes, MakesParents, OneShot, Runs, Script, Single, Storm, TopEnds}
 use Rattle.fam_outcomes.specs.Runs.{Outside}
@@ -34,8 +37,23 @@ command_of me random (invocation.Single system what) = Single (host_or me system
 command_of me random (invocation.Script file) = Script file
 command_of me random (invocation.Storm seed size prints) = Storm seed size prints
 
+-- the UUIDs of a command of its own are UUIDs: the host's, and that of a new file system
+abbrev pub HasShotUuids : OneShot → Type 0
+HasShotUuids (Makes request) = IsUuid request.fs
+HasShotUuids (Runs what) = ⊤
+HasShotUuids (MakesParents path attr) = ⊤
+
+-- so of a command. Those of a script and of a storm stand in its lines
+abbrev pub HasUuids : Command → Type 0
+HasUuids (Single me shot) = IsUuid me × HasShotUuids shot
+HasUuids (Script file) = ⊤
+HasUuids (Storm seed size prints) = ⊤
+
 -- what the words ask for is done, for a host of the UUID `me` where they name no other, and with these random bytes; or they are no
 -- command. Each command runs on hosts with caches and keeps a journal: the text is that of one journal, and the image that is
 -- left is where that journal leads
-abbrev pub CallEnds : Option Invocation → List ℕ → List ℕ → Outside → Status → Type 0
-CallEnds asked me random out status = TopEnds script_events storm (option_map (command_of me random) asked) out status
+pub record CallEnds (asked : Option Invocation) (me random : List ℕ) (out : Outside) (status : Status) : Type 0 where
+  pub ends : TopEnds script_events storm (option_map (command_of me random) asked) out status
+  -- what the laws of runs ask for: an image that is modelled is one, and the command's UUIDs are UUIDs
+  pub image : IfModelled out.media.old.image IsImage
+  pub uuids : IfSome (option_map (command_of me random) asked) HasUuids

@@ -12,14 +12,15 @@ ghost use Rattle.fam_top.specs.Calls as calls;
 ghost use Rattle.fam_top.specs.Calls.{CallEnds, command_of, shot_of};
 ghost use Rattle.fam_top.specs.Words.{invocation_named};
 
-use crate::fresh::fs_or;
+use crate::fresh::{fs_or, has_uuid};
 use crate::words::invocation;
 use fam_base::OutOfMemory;
-use fam_machine::MkfsRequest;
+use fam_machine::{MkfsRequest, is_uuid};
 use fam_media::{Media, Shelf, Sink};
 use fam_outcomes::Status;
 use fam_program::{
-    make_file_system, make_parents, put_memory, put_usage, run_command, run_script_file, run_storm,
+    is_image, make_file_system, make_parents, put_memory, put_usage, run_command, run_script_file,
+    run_storm,
 };
 use fam_words::{Invocation, Shot};
 use std::alloc::Global;
@@ -126,6 +127,9 @@ pub fn famfs<M: Media, S: Shelf, K: Sink>(
     ensures sink { (K.state out.old).faults ≤ (K.state out.new).faults }
     ensures shelf { IsShelfSteady (S.state shelf.old) (S.state shelf.new) }
 {
+    is_image(media);
+    is_uuid(me);
+    has_uuid(random);
     match invocation(alloc, words) {
         Ok(Some(invocation)) => run_invocation(alloc, invocation, me, random, media, shelf, out),
         Ok(None) => put_usage(out),

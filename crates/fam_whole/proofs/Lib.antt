@@ -14,3 +14,4 @@ pub mod Shots
 pub mod Alone
 pub mod Makes
 pub mod Fronts
+pub mod Called

@@ -16,6 +16,7 @@ use Rattle.fam_outcomes.specs.declared.status.Status.TheVariants as status
 use Rattle.fam_journal.specs.Complete.{IsComplete}
 use Rattle.fam_journal.specs.Ends.{AllDone, Ending, EndsOutOfMemory}
 use Rattle.fam_journal.specs.Laws.{AreSound, IsImage}
+use Rattle.fam_journal.specs.Notes.{Note}
 use Rattle.fam_outcomes.specs.Programs.{BadLine, CommandRuns, Early, EarlyOutOfMemory, EndsEarly, Grammar, IsEarly, IsWholeRun, LongScript, Makes, MakesParents, NoCommand, NoScript, OneShot, Prints, Runs, ScriptFails, ShotRuns, ShotText, Single, Storms, TopEnds, done_status, early_status, ends_shot, last_passes, path_prefixes, shot_events, shot_status}
 use Rattle.fam_outcomes.specs.Runs.{IsPut, NoneRose, Outside, RunsOn}
 use Rattle.fam_outcomes.specs.Texts.{shown}
@@ -62,6 +63,15 @@ whole_take zero events whole = tt
 whole_take (suc count) [] whole = tt
 whole_take (suc count) (e ∷ events) whole = (whole.0, whole_take count events whole.1)
 
+-- the events of its run
+pub shot_events_sound : (me : List ℕ) (shot : OneShot) → IsUuid me → IsSoundShot shot → (events : List Event) (journal : List Note) → IsWholeRun me shot events journal → AreSound events
+shot_events_sound me shot me_sound shot_is events journal steps =
+    subst AreSound (sym steps.events_are) (me_sound, sound_take steps.count (shot_events steps.name shot) (sound_shot steps.name shot shot_is))
+
+pub shot_events_whole : (me : List ℕ) (shot : OneShot) (events : List Event) (journal : List Note) → IsWholeRun me shot events journal → AreWhole events
+shot_events_whole me shot events journal steps =
+    subst AreWhole (sym steps.events_are) (tt, whole_take steps.count (shot_events steps.name shot) (whole_shot steps.name shot))
+
 -- Its run.
 
 pub record ShotRun (files : Files) (start : Image) (me : List ℕ) (shot : OneShot) (out : Outside) (given : Status) : Type 0 where
@@ -94,10 +104,10 @@ module _ (out : Outside) (none : NoneRose out) (me : List ℕ) (shot : OneShot) 
           steps = x.run.text_is.0
 
           sound : AreSound x.events
-          sound = subst AreSound (sym steps.events_are) (me_sound, sound_take steps.count (shot_events steps.name shot) (sound_shot steps.name shot shot_sound))
+          sound = shot_events_sound me shot me_sound shot_sound x.events x.run.journal steps
 
           whole : AreWhole x.events
-          whole = subst AreWhole (sym steps.events_are) (tt, whole_take steps.count (shot_events steps.name shot) (whole_shot steps.name shot))
+          whole = shot_events_whole me shot x.events x.run.journal steps
 
           on : RunsOn x.ending files x.events start out.media.new.image x.run.journal
           on = x.run.told start told_start files told

@@ -21,13 +21,15 @@ use Rattle.fam_journal.specs.declared.refusal.Refusal.TheVariants as why
 use Rattle.fam_outcomes.specs.declared.status.Status.{Status}
 use Rattle.fam_outcomes.specs.declared.status.Status.TheVariants as status
 use Rattle.fam_journal.specs.Calls.{cause_of, when}
+use Rattle.fam_journal.specs.Ends.{Ending}
+use Rattle.fam_journal.specs.Notes.{Note}
 use Rattle.fam_journal.specs.Events.{Ready, SourceSays, Sourced, Unfit}
 use Rattle.fam_journal.specs.Past.{first_past}
-use Rattle.fam_outcomes.specs.Programs.{IsWholeRun, MakesParents}
-use Rattle.fam_outcomes.specs.Runs.{Outside}
+use Rattle.fam_outcomes.specs.Programs.{IsWholeRun, MakesParents, OneShot, ShotText, shot_status}
+use Rattle.fam_outcomes.specs.Runs.{IsPut, Outside}
 use Rattle.fam_outcomes.specs.Statuses.{cause_status, parents_status, reply_status}
 use Rattle.fam_outcomes.specs.Texts.{line, made_text, refusal_text, reply_text, shown}
-use Rattle.fam_whole.specs.Whole.{EndsAs, IsExact, WholeRun, image_behind}
+use Rattle.fam_whole.specs.Whole.{EndsAs, FrontRun, IsExact, WholeRun, image_behind}
 
 -- a refusal is put, and the image is as it was
 abbrev pub RefusalEnds : Refusal → Image → Outside → Status → Type 0
@@ -84,6 +86,20 @@ mkfs_refusal start unit log force =
 abbrev pub MkfsEnds : Image → List ℕ → MkfsRequest → Outside → Status → Type 0
 MkfsEnds start me request out given =
     EndsUnless (mkfs_refusal start request.unit request.log request.force) start out given (EndsAs out given (line (made_text (asked request me (length start)))) (formatted start (asked request me (length start))) status.Done)
+
+-- Where sink or source failed, or memory ran out.
+
+-- the events of a command of its own were run as far as that let them, exactly. What is to be put is the text of their notes, or
+-- the line that ends them early; and it is put, or a front of it where the sink failed
+pub record ShotFront (files : Files) (start : Image) (me : List ℕ) (shot : OneShot) (out : Outside) (given : Status) : Type 0 where
+  pub ending : Ending
+  pub events : List Event
+  pub journal : List Note
+  pub steps : IsWholeRun me shot events journal
+  pub front : FrontRun files events start out ending journal
+  pub text : List ℕ
+  pub shows : ShotText shot ending journal text
+  pub put : IsPut (shot_status shot ending journal) given text out
 
 -- Directories along a path.
 

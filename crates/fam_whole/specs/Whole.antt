@@ -1,7 +1,7 @@
 -- Scripts of whole commands: hosts are declared, make file systems and run commands, one event after another, and caches
 -- move by themselves between them. While the media doesn't fail nothing interrupts a command. What then holds of the machine
 -- of all hosts and of its journal.
-use Rattle.std.specs.Prelude.{ℕ, ⊤, ◌≡◌, ◌⊎◌, ◌*◌, if◌then◌else◌, Bool, true, false, List, [], ◌∷◌, ◌++◌, length, slice_get, take, Option, Some, None, option_map}
+use Rattle.std.specs.Prelude.{ℕ, ⊤, ◌≡◌, ◌⊎◌, ◌*◌, ◌≤◌, if◌then◌else◌, Bool, true, false, List, [], ◌∷◌, ◌++◌, length, slice_get, take, Option, Some, None, option_map}
 use Rattle.fam_base.specs.declared.cmd.Cmd.{Cmd}
 use Rattle.fam_base.specs.Image.{Image, line_at}
 use Rattle.fam_media.specs.Files.{Files}
@@ -16,8 +16,8 @@ use Rattle.fam_journal.specs.declared.event.Event.{Event}
 use Rattle.fam_journal.specs.declared.event.Event.TheVariants as event
 use Rattle.fam_outcomes.specs.declared.status.Status.{Status}
 use Rattle.fam_journal.specs.Complete.{RunsEnd}
-use Rattle.fam_journal.specs.Ends.{AllDone, Ending, EndsOutOfMemory, IsFaultless, ReadsAs}
-use Rattle.fam_journal.specs.Events.{PartOf, Session, first_session}
+use Rattle.fam_journal.specs.Ends.{AllDone, Ending, EndsOutOfMemory, IsFaultless, ReadsAs, faults_of}
+use Rattle.fam_journal.specs.Events.{DoesEvent, PartOf, Session, first_session}
 use Rattle.fam_journal.specs.Follows.{Follows}
 use Rattle.fam_journal.specs.Legal.{OfHost}
 use Rattle.fam_journal.specs.Notes.{Answer, Replied, MediaFault, Note, Host, Made, Start, Mark, Found, Writes, Answered, Stop, Halt, Refused}
@@ -64,7 +64,7 @@ replied_image_in image state (Showing m) = image
 replied_image_in image state (Reporting report) = image
 replied_image_in image state Faulty = image
 
--- of a reply
+-- so of a reply, by its class
 abbrev pub replied_image : Image → State → Reply → Image
 replied_image image state given = replied_image_in image state (reply_class given)
 
@@ -81,7 +81,7 @@ image_after_in past image (Going host) = image
 image_after_in past image (Answering host answer) = answered_image image past.state answer
 image_after_in past image (Refusing name cause) = image
 
--- of a note
+-- so of a note, by its class
 abbrev pub image_after : Past → Image → Note → Image
 image_after past image note = image_after_in past image (note_class note)
 
@@ -135,7 +135,7 @@ IsWholeNoteIn (Going host) past image = ⊤
 IsWholeNoteIn (Answering host answer) past image = IsWholeAnswer answer host past image
 IsWholeNoteIn (Refusing name cause) past image = ⊤
 
--- of a note
+-- so of a note, by its class
 abbrev pub IsWholeNote : Note → Past → Image → Type 0
 IsWholeNote note past image = IsWholeNoteIn (note_class note) past image
 
@@ -210,7 +210,7 @@ IsRefusalIn (Going host) = ⊥
 IsRefusalIn (Answering host answer) = ⊥
 IsRefusalIn (Refusing name cause) = ⊤
 
--- of a note
+-- so of a note, by its class
 abbrev pub IsRefusal : Note → Type 0
 IsRefusal note = IsRefusalIn (note_class note)
 
@@ -257,18 +257,46 @@ abbrev pub IsLeft : Ending → (files : Files) (events : List Event) (start : Im
 IsLeft ending files events start count run part left =
     ((part ≡ []) × (left ≡ image_behind (first_past start) start run.journal)) ⊎ ((ending ≡ EndsOutOfMemory) × (event : Event) × (slice_get events count ≡ Some event) × IsCut files event start run.journal part run.last left)
 
--- the first events were run, all of them where nothing ended it early, and the run is exact. What was put is the text of its
--- notes, and of that part, and the line that ends it early; or a front of this where the sink failed
-pub record EndsFront (files : Files) (events : List Event) (start : Image) (out : Outside) (given : Status) : Type 0 where
+-- the first events were run, all of them where nothing ended it early, and the run is exact; the journal is that run's, and a
+-- part of the next event's
+pub record FrontRun (files : Files) (events : List Event) (start : Image) (out : Outside) (ending : Ending) (journal : List Note) : Type 0 where
   pub count : ℕ
   pub run : WholeRun files (take count events) start
   pub exact : IsExact run
   pub part : List Note
-  pub ending : Ending
-  pub all : ending ≡ AllDone → take count events ≡ events
   pub left : Image
   pub image : out.media.new.image ≡ Some left
+  pub all : ending ≡ AllDone → take count events ≡ events
   pub is_left : IsLeft ending files events start count run part left
+  pub journal_is : journal ≡ run.journal ++ part
+
+-- what was put is the text of a script's notes, and the line that ends it early; or a front of this where the sink failed
+pub record EndsFront (files : Files) (events : List Event) (start : Image) (out : Outside) (given : Status) : Type 0 where
+  pub ending : Ending
+  pub journal : List Note
+  pub front : FrontRun files events start out ending journal
   pub text : List ℕ
-  pub shows : ScriptPuts ending (run.journal ++ part) text
-  pub put : IsPut (script_status ending (run.journal ++ part)) given text out
+  pub shows : ScriptPuts ending journal text
+  pub put : IsPut (script_status ending journal) given text out
+
+-- Up to the first fault of the media.
+
+-- the event behind the first ones, which told a fault of the media
+pub record FaultsNext (files : Files) (events : List Event) (count : ℕ) (before : Session) (rest : List Note) : Type 0 where
+  pub event : Event
+  pub is : slice_get events count ≡ Some event
+  pub notes : List Note
+  pub more : List Note
+  pub joined : rest ≡ notes ++ more
+  pub behind : Session
+  pub does : DoesEvent files event before notes behind
+  pub faults : 1 ≤ faults_of notes
+
+-- the first events of a run, all of them or up to the first one that tells a fault of the media, are an exact run
+pub record UpToFault (files : Files) (events : List Event) (start : Image) (journal : List Note) : Type 0 where
+  pub count : ℕ
+  pub run : WholeRun files (take count events) start
+  pub exact : IsExact run
+  pub rest : List Note
+  pub journal_is : journal ≡ run.journal ++ rest
+  pub next : ((rest ≡ []) × (take count events ≡ events)) ⊎ FaultsNext files events count run.last rest

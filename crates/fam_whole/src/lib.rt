@@ -7,8 +7,7 @@ ghost use Rattle.fam_base.specs.declared.cmd.Attr.{Attr};
 ghost use Rattle.fam_base.specs.declared.cmd.Cmd.{Cmd};
 ghost use Rattle.fam_base.specs.declared.entry.Params.{Params};
 ghost use Rattle.fam_base.specs.Image.{Image, line_at};
-ghost use Rattle.fam_machine.specs.declared.request.MkfsRequest.{MkfsRequest};
-ghost use Rattle.fam_format.specs.Params.{IsUuid};
+ghost use Rattle.fam_machine.specs.MkfsRequest.{mkfs_request};
 ghost use Rattle.fam_rules.specs.Asks.{File, entries_of};
 ghost use Rattle.fam_rules.specs.Place.{StandsAt};
 ghost use Rattle.fam_rules.specs.Solo.{held_file};
@@ -22,11 +21,17 @@ ghost use Rattle.fam_journal.specs.declared.event.Ask.TheVariants as ask;
 ghost use Rattle.fam_journal.specs.declared.event.Event.{Event};
 ghost use Rattle.fam_outcomes.specs.declared.status.Status.{Status};
 ghost use Rattle.fam_outcomes.specs.declared.status.Status.TheVariants.{OutOfMemory};
-ghost use Rattle.fam_outcomes.specs.Programs.{Grammar, Makes, MakesParents, Runs, Script, Single, Storms, TopEnds, script_limit};
+ghost use Rattle.fam_outcomes.specs.Programs.{Script, Single, script_limit};
 ghost use Rattle.fam_outcomes.specs.Runs.{HasRisen, NoneRose, Outside};
 ghost use Rattle.fam_media.specs.Files.{Files};
-ghost use Rattle.fam_whole.specs.Alone.{AskEnds, CommandEnds, MkfsEnds, ParentsEnd};
-ghost use Rattle.fam_whole.specs.Whole.{AreAlike, AreRefusals, AreWhole, EndsExact, EndsFront, EndsNone, IsExact, WholeRun, commands_in, is_move};
+ghost use Rattle.fam_grammar.specs.Scripts.{script_events};
+ghost use Rattle.fam_storm.specs.Storm.{storm};
+ghost use Rattle.fam_words.specs.declared.wanted.Invocation.TheVariants as invocation;
+ghost use Rattle.fam_words.specs.declared.wanted.Shot.{Shot};
+ghost use Rattle.fam_words.specs.declared.wanted.Shot.TheVariants as shot;
+ghost use Rattle.fam_top.specs.Calls.{CallEnds, fs_or, host_or, shot_of};
+ghost use Rattle.fam_whole.specs.Alone.{AskEnds, CommandEnds, MkfsEnds, ParentsEnd, ShotFront};
+ghost use Rattle.fam_whole.specs.Whole.{AreAlike, AreRefusals, AreWhole, EndsExact, EndsFront, EndsNone, IsExact, UpToFault, WholeRun, commands_in, is_move};
 
 /// Where each command ends before the next one begins, and the media doesn't fail, the image after the events is the
 /// fold of new file systems and acknowledged entries. Nothing is pending, and what the notes settle is what the image
@@ -65,22 +70,31 @@ pub fn no_byte_is_in_two_files()
         → (i : ℕ) (f : File) → slice_get history i ≡ Some f → f ≡ held_file (line_at run.last.machines.memory) f.entry }
 {}
 
+/// Whatever the media does, the first events of a run, all of them or up to the first one that tells a fault of the media, are
+/// run exactly.
+pub fn a_run_is_exact_up_to_a_fault()
+    ensures { (files : Files) (events : List Event) (start : Image) → IsImage start → AreSound events → AreWhole events
+        → (journal : List Note) (last : Session) → Follows files events (first_session start) journal last
+        → UpToFault files events start journal }
+{}
+
 /// What the program's top call leaves of a script of whole commands, where no count rose, of media, shelf and sink, and
 /// the shelf holds the script. Each event was run; the notes of the run were put, and it is exact: the image that is left
 /// is the fold of new file systems and acknowledged entries, and each answer is the rules' answer on the image that its
 /// command began with. Or there was no memory (`whole`). Where the media alone didn't fail, so it is of some first events,
 /// and no others were run (`front`); but that memory may have run out in one more command.
 pub fn a_program_of_whole_commands_is_exact()
-    ensures whole { (grammar : Grammar) (storms : Storms) (out : Outside) (given : Status) (name : List ℕ) (files : Files)
+    ensures whole { (me random : List ℕ) (out : Outside) (given : Status) (name : List ℕ) (files : Files)
         (bytes : List ℕ) (events : List Event) (start : Image) → NoneRose out
-        → TopEnds grammar storms (Some (Script name)) out given → out.media.old.image ≡ Some start → out.shelf.old.files ≡ Some files
-        → finmap.get files name ≡ Some bytes → length bytes ≤ script_limit → grammar bytes ≡ Ok events → IsImage start
-        → AreSound events → AreWhole events → (given ≡ OutOfMemory) ⊎ EndsExact files events start out given }
-    ensures front { (grammar : Grammar) (storms : Storms) (out : Outside) (given : Status) (name : List ℕ) (files : Files)
+        → CallEnds (Some (invocation.Script name)) me random out given → out.media.old.image ≡ Some start
+        → out.shelf.old.files ≡ Some files → finmap.get files name ≡ Some bytes → length bytes ≤ script_limit
+        → script_events bytes ≡ Ok events → AreWhole events
+        → (given ≡ OutOfMemory) ⊎ EndsExact files events start out given }
+    ensures front { (me random : List ℕ) (out : Outside) (given : Status) (name : List ℕ) (files : Files)
         (bytes : List ℕ) (events : List Event) (start : Image) → (HasRisen out.media.old.faults out.media.new.faults → ⊥)
-        → TopEnds grammar storms (Some (Script name)) out given → out.media.old.image ≡ Some start → out.shelf.old.files ≡ Some files
-        → finmap.get files name ≡ Some bytes → grammar bytes ≡ Ok events → IsImage start
-        → AreSound events → AreWhole events → EndsNone grammar storms (Some (Script name)) out given
+        → CallEnds (Some (invocation.Script name)) me random out given → out.media.old.image ≡ Some start
+        → out.shelf.old.files ≡ Some files → finmap.get files name ≡ Some bytes → script_events bytes ≡ Ok events
+        → AreWhole events → EndsNone script_events storm (Some (Script name)) out given
         ⊎ EndsFront files events start out given }
 {}
 
@@ -88,26 +102,34 @@ pub fn a_program_of_whole_commands_is_exact()
 /// answer on the image is put, and the image that they leave is left (`command`); so all that the protocol and the caches
 /// do comes to the rules alone. So it is with a source, once the shelf says what it comes to (`asks`). A new file system
 /// is made as it was asked for, or refused by its numbers or by the superblock that stands there (`mkfs`). Directories
-/// along a path are made one after another, each exactly (`parents`).
+/// along a path are made one after another, each exactly (`parents`). Where the media alone didn't fail, some first events
+/// of the command were run, exactly, and the text of what came of them was put, or a front of it (`front`).
 pub fn a_command_of_its_own_is_exact()
-    ensures command { (grammar : Grammar) (storms : Storms) (out : Outside) (given : Status) (me : List ℕ) (cmd : Cmd)
+    ensures command { (me random : List ℕ) (out : Outside) (given : Status) (system : Option (List ℕ)) (cmd : Cmd)
         (files : Files) (start : Image) → NoneRose out
-        → TopEnds grammar storms (Some (Single me (Runs (ask.Plain cmd)))) out given → out.media.old.image ≡ Some start
-        → out.shelf.old.files ≡ Some files → IsImage start → IsUuid me
-        → (given ≡ OutOfMemory) ⊎ CommandEnds start me cmd out given }
-    ensures asks { (grammar : Grammar) (storms : Storms) (out : Outside) (given : Status) (me : List ℕ) (what : Ask)
+        → CallEnds (Some (invocation.Single system (shot.Run (ask.Plain cmd)))) me random out given
+        → out.media.old.image ≡ Some start → out.shelf.old.files ≡ Some files
+        → (given ≡ OutOfMemory) ⊎ CommandEnds start (host_or me system) cmd out given }
+    ensures asks { (me random : List ℕ) (out : Outside) (given : Status) (system : Option (List ℕ)) (what : Ask)
         (files : Files) (start : Image) → NoneRose out
-        → TopEnds grammar storms (Some (Single me (Runs what))) out given → out.media.old.image ≡ Some start
-        → out.shelf.old.files ≡ Some files → IsImage start → IsUuid me
-        → (given ≡ OutOfMemory) ⊎ AskEnds files start me what out given }
-    ensures mkfs { (grammar : Grammar) (storms : Storms) (out : Outside) (given : Status) (me : List ℕ) (request : MkfsRequest)
-        (files : Files) (start : Image) → NoneRose out
-        → TopEnds grammar storms (Some (Single me (Makes request))) out given → out.media.old.image ≡ Some start
-        → out.shelf.old.files ≡ Some files → IsImage start → IsUuid me → IsUuid request.fs
-        → (given ≡ OutOfMemory) ⊎ MkfsEnds start me request out given }
-    ensures parents { (grammar : Grammar) (storms : Storms) (out : Outside) (given : Status) (me path : List ℕ) (attr : Attr)
-        (files : Files) (start : Image) → NoneRose out
-        → TopEnds grammar storms (Some (Single me (MakesParents path attr))) out given → out.media.old.image ≡ Some start
-        → out.shelf.old.files ≡ Some files → IsImage start → IsUuid me
-        → (given ≡ OutOfMemory) ⊎ ParentsEnd files start me path attr out given }
+        → CallEnds (Some (invocation.Single system (shot.Run what))) me random out given
+        → out.media.old.image ≡ Some start → out.shelf.old.files ≡ Some files
+        → (given ≡ OutOfMemory) ⊎ AskEnds files start (host_or me system) what out given }
+    ensures mkfs { (me random : List ℕ) (out : Outside) (given : Status) (system fs : Option (List ℕ)) (unit log : ℕ)
+        (force : Bool) (files : Files) (start : Image) → NoneRose out
+        → CallEnds (Some (invocation.Single system (shot.Mkfs fs unit log force))) me random out given
+        → out.media.old.image ≡ Some start → out.shelf.old.files ≡ Some files
+        → (given ≡ OutOfMemory)
+        ⊎ MkfsEnds start (host_or me system) (mkfs_request (fs_or random fs) unit log force) out given }
+    ensures parents { (me random : List ℕ) (out : Outside) (given : Status) (system : Option (List ℕ)) (path : List ℕ)
+        (attr : Attr) (files : Files) (start : Image) → NoneRose out
+        → CallEnds (Some (invocation.Single system (shot.Parents path attr))) me random out given
+        → out.media.old.image ≡ Some start → out.shelf.old.files ≡ Some files
+        → (given ≡ OutOfMemory) ⊎ ParentsEnd files start (host_or me system) path attr out given }
+    ensures front { (me random : List ℕ) (out : Outside) (given : Status) (system : Option (List ℕ)) (what : Shot)
+        (files : Files) (start : Image) → (HasRisen out.media.old.faults out.media.new.faults → ⊥)
+        → CallEnds (Some (invocation.Single system what)) me random out given
+        → out.media.old.image ≡ Some start → out.shelf.old.files ≡ Some files
+        → EndsNone script_events storm (Some (Single (host_or me system) (shot_of random what))) out given
+        ⊎ ShotFront files start (host_or me system) (shot_of random what) out given }
 {}

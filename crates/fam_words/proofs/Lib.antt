@@ -1,2 +1,3 @@
 pub mod SimpleApps
 pub mod Given
+pub mod UuidWords

@@ -1,5 +1,5 @@
 -- Which words are a command, and which one. docs/MANUAL.md.
-use Rattle.std.specs.Prelude.{ℕ, ◌≤◌, ⊤, Bool, true, false, if◌then◌else◌, List, [], ◌∷◌, codes, Option, Some, None, option_map, option_and_then}
+use Rattle.std.specs.Prelude.{ℕ, ◌≤◌, ⊤, Bool, true, false, if◌then◌else◌, List, [], ◌∷◌, codes, Option, Some, None, option_map, option_and_then, IfSome}
 use Rattle.std.specs.Str.{bytes_eq}
 use Rattle.clap.specs.Simple.{App}
 use Rattle.clap.specs.Walk.{Row, Text}
@@ -9,6 +9,7 @@ use Rattle.fam_base.specs.declared.cmd.Cmd.TheVariants as cmd
 use Rattle.fam_base.specs.declared.cmd.Content.TheVariants as content
 use Rattle.fam_base.specs.declared.cmd.Stripe.{Stripe}
 use Rattle.fam_base.specs.Commands.{IsSoundAttr}
+use Rattle.fam_format.specs.Params.{IsUuid}
 use Rattle.fam_grammar.specs.Lines.{default_log, default_unit, directory_mode, file_mode, fill_of}
 use Rattle.fam_grammar.specs.Numbers.{number_of_text, size_of_text}
 use Rattle.fam_grammar.specs.Spellings.{count_of}
@@ -239,3 +240,17 @@ abbrev pub IsSoundInvocation : Invocation → Type 0
 IsSoundInvocation (invocation.Single system what) = IsSoundShot what
 IsSoundInvocation (invocation.Script file) = ⊤
 IsSoundInvocation (invocation.Storm seed size prints) = (1 ≤ size) × (size ≤ most_storm)
+
+-- The UUIDs that the words give are UUIDs.
+
+-- the one of a new file system, where one is given
+abbrev pub HasShotUuids : Shot → Type 0
+HasShotUuids (shot.Mkfs fs unit log force) = IfSome fs IsUuid
+HasShotUuids (shot.Run what) = ⊤
+HasShotUuids (shot.Parents path attr) = ⊤
+
+-- and the host's, where one is given
+abbrev pub HasUuids : Invocation → Type 0
+HasUuids (invocation.Single system what) = IfSome system IsUuid × HasShotUuids what
+HasUuids (invocation.Script file) = ⊤
+HasUuids (invocation.Storm seed size prints) = ⊤

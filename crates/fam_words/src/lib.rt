@@ -7,6 +7,7 @@
 
 mod apps;
 mod invocations;
+mod laws;
 mod shadows;
 mod shots;
 mod simple;
@@ -14,5 +15,6 @@ mod values;
 mod wanted;
 
 pub use invocations::read_words;
+pub use laws::uuids_of_words_are_uuids;
 pub use shadows::read_shadow_words;
 pub use wanted::{Call, Invocation, ShadowCall, Shot};

@@ -6,11 +6,12 @@ use Rattle.fam_base.specs.declared.line.OutOfMemory.{OutOfMemory}
 use Rattle.fam_machine.specs.Caches.{Cache}
 use Rattle.fam_commands.specs.Task.{Task, op_of}
 use Rattle.fam_media.specs.Outside.{IfModelled}
+use Rattle.fam_media.specs.States.{MediaChange, MediaState}
 use Rattle.fam_tasks.specs.declared.answer.Turn.TheVariants.{Go}
-use Rattle.fam_run.specs.Held as run
-use Rattle.fam_run.specs.Held.{HeldRun}
-use Rattle.fam_run.proofs.Held.{held_goes, held_leaves, held_lines, held_turned}
-use Rattle.fam_run.specs.Step.{Around as Passed}
+use Rattle.fam_run.specs.Cached as run
+use Rattle.fam_run.specs.Cached.{CachedRun}
+use Rattle.fam_run.proofs.Cached.{cached_goes, cached_leaves, cached_lines, cached_turned}
+use Rattle.fam_run.specs.TaskChange.{TaskChange}
 use Rattle.fam_run.proofs.Running.{lines_kept}
 use Rattle.fam_journal.specs.declared.refusal.Refusal.TheVariants as why
 use Rattle.fam_journal.specs.ByWorld.{number_in, refusal_in, shown_host, shown_task}
@@ -43,23 +44,23 @@ iterated_both R a b c n _ first (more {b = mid} {n = k} before last) =
 
 -- Operations on copies of the host alone.
 
-pub held_steps : (at lines : ℕ) (view : HostView) (notes : List Note) (told : Option Image) (faults : ℕ) → IsNormal told → IfModelled told (λ image. length image ≡ lines) → (t next : Task) (held after : Cache) {n : ℕ} → HeldRun t held next after n → t.lines ≡ lines
-    → Iterated (HostStep at lines false) (standing_at view (Some t) held notes told faults) (standing_at view (Some next) after notes told faults) n
-held_steps at lines view notes told faults normal modelled t _ held _ run.none fits = none
-held_steps at lines view notes told faults normal modelled t next held after (run.more {mid = mid} {now = now} before sound within of is turn) fits =
-    let goes = held_goes mid next now after of is turn in
-    let b : Passed = record { task = mid; next = next; old = now; new = after; modelled = told; left = told; size = lines; before = faults; now = faults } in
-    more (held_steps at lines view notes told faults normal modelled t mid held now before fits)
+pub held_steps : (at lines : ℕ) (view : HostView) (notes : List Note) (media : MediaState) → IsNormal media.image → IfModelled media.image (λ image. length image ≡ lines) → (t next : Task) (held after : Cache) {n : ℕ} → CachedRun t held next after n → t.lines ≡ lines
+    → Iterated (HostStep at lines false) (standing_at view (Some t) held notes media) (standing_at view (Some next) after notes media) n
+held_steps at lines view notes media normal modelled t _ held _ run.none fits = none
+held_steps at lines view notes media normal modelled t next held after (run.more {mid = mid} {now = now} before sound within of is turn) fits =
+    let goes = cached_goes mid next now after of is turn in
+    let b : TaskChange = record { task = mid; next = next; old = now; new = after; lines = lines; media = record { old = media; new = media } } in
+    more (held_steps at lines view notes media normal modelled t mid held now before fits)
     (done_step at lines view b Go notes notes
     (record {
       sound = sound;
       within = within;
-      leaves = held_leaves (op_of mid) told now after of is;
+      leaves = cached_leaves (op_of mid) media.image now after of is;
       goes = goes;
       keeps = lines_kept after mid next Go sound goes;
-      turned = held_turned mid next now after of is turn told normal;
+      turned = cached_turned mid next now after of is turn media.image normal;
       own = λ line is. absurd cc;
-    }) modelled (held_lines t mid held now before ∙ fits) (omega arith) (sym (append-nil notes)))
+    }) modelled (cached_lines t mid held now before ∙ fits) (omega arith) (sym (append-nil notes)))
 
 -- some behind others
 pub runs_both : (at lines : ℕ) (a b c : HostStanding) {n : ℕ} → Runs at lines a b → Iterated (HostStep at lines false) b c n → Runs at lines a c
@@ -81,7 +82,7 @@ heading_kept at lines a b (more {b = mid} before last) = last.step.host ∙ head
 module _ (name : List ℕ) (at lines : ℕ) (world : WorldView) (view : HostView) (number : number_in name world ≡ Some at) (view_is : slice_get world.hosts at ≡ Some view) (within : at < length world.hosts) where
   -- the world with the host that is told of
   abbrev pub with_host : HostStanding → WorldStanding
-  with_host s = record { world = record { hosts = changed_at at (λ v. s.host) world.hosts; journal = s.notes }; told = s.told; faults = s.faults }
+  with_host s = record { world = record { hosts = changed_at at (λ v. s.host) world.hosts; journal = s.notes }; media = s.media }
 
   headings : (s : HostStanding) → heading s.host ≡ heading view → map heading (changed_at at (λ v. s.host) world.hosts) ≡ map heading world.hosts
   headings s same =
@@ -99,7 +100,7 @@ module _ (name : List ℕ) (at lines : ℕ) (world : WorldView) (view : HostView
       record {
         modelled = x.modelled;
         step = step_call name at lines w a.host x.task number_is free (subst (λ (n : ℕ). at < n) (sym (length_kept (λ v. a.host) at world.hosts)) within) here x.runs
-            (with_host b).world b.host a.told b.told a.faults b.faults x.modelled (sym (put_twice at a.host b.host world.hosts)) over x.step;
+            (with_host b).world b.host a.media.image b.media.image a.media.faults b.media.faults x.modelled (sym (put_twice at a.host b.host world.hosts)) over x.step;
       }
 
   all_steps : (a b : HostStanding) {n : ℕ} → heading a.host ≡ heading view → Iterated (HostStep at lines false) a b n → Iterated (WorldStep name lines false) (with_host a) (with_host b) n
@@ -119,34 +120,34 @@ module _ (name : List ℕ) (at lines : ℕ) (world : WorldView) (view : HostView
   }
   said most a b (Err full) same x = record { count = x.count; within = x.within; goes = all_steps a b same x.goes }
 
-  pub steps_said : (most : ℕ) (told told_now : Option Image) (faults faults_now : ℕ) (new : WorldView) (next : HostView) (r : Result Moved OutOfMemory) → new.hosts ≡ changed_at at (λ v. next) world.hosts
-      → HostStepsSay at lines most (record { host = view; notes = world.journal; told = told; faults = faults }) (record { host = next; notes = new.journal; told = told_now; faults = faults_now }) r
-      → StepsSay name lines most (record { world = world; told = told; faults = faults }) (record { world = new; told = told_now; faults = faults_now }) (told_of r)
-  steps_said most told told_now faults faults_now new next r hosts x =
-      let start : HostStanding = record { host = view; notes = world.journal; told = told; faults = faults } in
-      let end : HostStanding = record { host = next; notes = new.journal; told = told_now; faults = faults_now } in
-      subst (λ (hs : List HostView). StepsSay name lines most (record { world = record { hosts = hs; journal = world.journal }; told = told; faults = faults }) (record { world = new; told = told_now; faults = faults_now }) (told_of r)) (put_own at view world.hosts view_is)
-      (subst (λ (hs : List HostView). StepsSay name lines most (with_host start) (record { world = record { hosts = hs; journal = new.journal }; told = told_now; faults = faults_now }) (told_of r)) (sym hosts)
+  pub steps_said : (most : ℕ) (media : MediaChange) (new : WorldView) (next : HostView) (r : Result Moved OutOfMemory) → new.hosts ≡ changed_at at (λ v. next) world.hosts
+      → HostStepsSay at lines most (record { host = view; notes = world.journal; media = media.old }) (record { host = next; notes = new.journal; media = media.new }) r
+      → StepsSay name lines most (record { world = world; media = media.old }) (record { world = new; media = media.new }) (told_of r)
+  steps_said most media new next r hosts x =
+      let start : HostStanding = record { host = view; notes = world.journal; media = media.old } in
+      let end : HostStanding = record { host = next; notes = new.journal; media = media.new } in
+      subst (λ (hs : List HostView). StepsSay name lines most (record { world = record { hosts = hs; journal = world.journal }; media = media.old }) (record { world = new; media = media.new }) (told_of r)) (put_own at view world.hosts view_is)
+      (subst (λ (hs : List HostView). StepsSay name lines most (with_host start) (record { world = record { hosts = hs; journal = new.journal }; media = media.new }) (told_of r)) (sym hosts)
       (said most start end r refl x))
 
   -- Operations up to an answer.
 
-  far_step : (told : Option Image) (faults : ℕ) (over : Bool) (a b : HostStanding) → SoFar at lines world told faults (with_host a).world a.told a.faults → HostStep at lines over a b → SoFar at lines world told faults (with_host b).world b.told b.faults
+  far_step : (told : Option Image) (faults : ℕ) (over : Bool) (a b : HostStanding) → SoFar at lines world told faults (with_host a).world a.media.image a.media.faults → HostStep at lines over a b → SoFar at lines world told faults (with_host b).world b.media.image b.media.faults
   far_step told faults over a b far x =
-      far_on name at lines world told faults (with_host a).world a.told a.faults far number a.host x.task (changed_at_member at (λ v. a.host) world.hosts view view_is) x.runs
+      far_on name at lines world told faults (with_host a).world a.media.image a.media.faults far number a.host x.task (changed_at_member at (λ v. a.host) world.hosts view view_is) x.runs
       (subst (λ (n : ℕ). at < n) (sym (length_kept (λ v. a.host) at world.hosts)) within) x.modelled
-      (with_host b).world b.host b.told b.faults (sym (put_twice at a.host b.host world.hosts)) over x.step
+      (with_host b).world b.host b.media.image b.media.faults (sym (put_twice at a.host b.host world.hosts)) over x.step
 
-  far_steps : (told : Option Image) (faults : ℕ) (a b : HostStanding) {n : ℕ} → SoFar at lines world told faults (with_host a).world a.told a.faults → Iterated (HostStep at lines false) a b n → SoFar at lines world told faults (with_host b).world b.told b.faults
+  far_steps : (told : Option Image) (faults : ℕ) (a b : HostStanding) {n : ℕ} → SoFar at lines world told faults (with_host a).world a.media.image a.media.faults → Iterated (HostStep at lines false) a b n → SoFar at lines world told faults (with_host b).world b.media.image b.media.faults
   far_steps told faults a _ far none = far
   far_steps told faults a b far (more {b = mid} before last) = far_step told faults false mid b (far_steps told faults a mid far before) last
 
   module _ (told told_now : Option Image) (faults faults_now : ℕ) (new : WorldView) (next : HostView) (hosts : new.hosts ≡ changed_at at (λ v. next) world.hosts) where
     abbrev start : HostStanding
-    start = record { host = view; notes = world.journal; told = told; faults = faults }
+    start = record { host = view; notes = world.journal; media = record { image = told; faults = faults } }
 
     abbrev end : HostStanding
-    end = record { host = next; notes = new.journal; told = told_now; faults = faults_now }
+    end = record { host = next; notes = new.journal; media = record { image = told_now; faults = faults_now } }
 
     begun : SoFar at lines world told faults (with_host start).world told faults
     begun =
@@ -173,7 +174,7 @@ one_done R a _ none is = absurd cc
 one_done R a b (more {b = mid} {n = n} before last) is = subst (λ z. R z b) (sym (none_done R a mid before (omega (arith, is)))) last
 
 -- what is said of one step
-pub one_said : (name : List ℕ) (lines : ℕ) (a b : WorldStanding) (r : Result Moved WorldFault) → StepsSay name lines 1 a b r → IfStepped r (λ answered over. StepCall name lines answered over a.told b.told a.faults b.faults a.world b.world)
+pub one_said : (name : List ℕ) (lines : ℕ) (a b : WorldStanding) (r : Result Moved WorldFault) → StepsSay name lines 1 a b r → IfStepped r (λ answered over. StepCall name lines answered over (record { old = a.media; new = b.media }) a.world b.world)
 one_said name lines a b (Ok moved.Going) x = (one_done (WorldStep name lines false) a b x refl).step
 one_said name lines a b (Ok moved.Answered) x =
     let within = x.within in

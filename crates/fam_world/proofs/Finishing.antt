@@ -7,6 +7,7 @@ use Rattle.std.proofs.lemmas.List.{append-nil, append_assoc, length-map}
 use Rattle.fam_base.specs.Image.{Image}
 use Rattle.fam_base.specs.PathOrder.{path_eq}
 use Rattle.fam_media.specs.Outside.{IfModelled}
+use Rattle.fam_media.specs.States.{media_change}
 use Rattle.fam_commands.specs.Task.{Task}
 use Rattle.fam_journal.specs.declared.refusal.Refusal.{Refusal}
 use Rattle.fam_journal.specs.declared.refusal.Refusal.TheVariants as why
@@ -32,7 +33,7 @@ use Rattle.fam_commands.specs.Table as row
 use Rattle.fam_journal.specs.Machines.{notes_of}
 use Rattle.fam_journal.specs.Members.{changed_at}
 use Rattle.fam_journal.specs.ByWorld.{shown_task}
-use Rattle.fam_world.specs.Steps.{Around, IsCut, IsServed, IsStep}
+use Rattle.fam_world.specs.Steps.{HostChange, IsCut, IsServed, IsStep}
 use Rattle.fam_world.specs.Finishes.{AreOwn, SoFar}
 use Rattle.fam_world.proofs.Answering.{free_answers, hosted_form}
 use Rattle.fam_world.proofs.Deciding.{steps_first}
@@ -161,7 +162,7 @@ module _ (name : List ℕ) (at lines : ℕ) (old : WorldView) (told_old : Option
           (λ h host h_is host_is op. subst (λ (k : ℕ). Operation k state more new) (same_Some h at (sym h_is ∙ number_is)) op)
 
     -- one more
-    pub more_so_far : (over : Bool) (new : WorldView) (told_new : Option Image) (faults_new : ℕ) → StepCall name lines None over told told_new faults faults_new cur new
+    pub more_so_far : (over : Bool) (new : WorldView) (told_new : Option Image) (faults_new : ℕ) → StepCall name lines None over (media_change told faults told_new faults_new) cur new
         → (more : List Note) → new.journal ≡ cur.journal ++ more → AreOwn more → SoFar at lines old told_old faults_old new told_new faults_new
     more_so_far over new told_new faults_new x more journal own =
         let adds = x.answers.answers.adds in
@@ -224,7 +225,7 @@ module _ (name : List ℕ) (at lines : ℕ) (old : WorldView) (told_old : Option
           let done : busy_at at r.left ≡ false = idle_now (length start) (slice_get r.left.hosts at) (subst (λ (o : Option HostView). HostStandsAt (length start) (slice_get r.left.hosts at) o) last_is (r.held.stands at)) in
           row_kept start state old held c lines (modelled state.memory told_is) at view number free view_is cur told far.notes r.left (λ x. x) (record { count = r.count; does = r.does; done = done }) tt r.told_is far.joined r.held.stands
 
-      pub finish_call : MediaCall c lines None told_old told faults_old faults old cur
+      pub finish_call : MediaCall c lines None (media_change told_old faults_old told faults) old cur
       finish_call = record {
         answers = free_answers c lines faults_old faults None old cur far.notes far.joined far.counted far.later (subst (λ (n : ℕ). AreNamed n far.notes) (sym count_now) far.named) far.headings far.fits far.formed
             (own_noted far.notes far.own) free (λ cause e. absurd cc)
@@ -260,7 +261,7 @@ module _ (name : List ℕ) (at lines : ℕ) (old : WorldView) (told_old : Option
           shown_busy None = refl
           shown_busy (Some t) = refl
 
-      pub finish_wants : busy_in at old ≡ true → (IsUnstoredAt at old → IfModelled told_old (λ image. told ≡ Some image)) → FinishOutOfMemory name lines told_old told faults_old faults old cur
+      pub finish_wants : busy_in at old ≡ true → (IsUnstoredAt at old → IfModelled told_old (λ image. told ≡ Some image)) → FinishOutOfMemory name lines (media_change told_old faults_old told faults) old cur
       finish_wants before same = record {
         adds = record { notes = far.notes; joined = far.joined; counted = far.counted; later = far.later; named = subst (λ (n : ℕ). AreNamed n far.notes) (sym count_now) far.named; hosts = far.headings; fits = far.fits; formed = far.formed };
         form = λ is. inr record { host = at; number = sym (number_formed lines old is name) ∙ number; part = record { operations = far.form is; runs = form_runs is } };
@@ -280,7 +281,7 @@ module _ (name : List ℕ) (at lines : ℕ) (old : WorldView) (told_old : Option
       }
 
 -- not even for the note of a refusal
-pub finish_nothing : (name : List ℕ) (lines : ℕ) (told : Option Image) (faults : ℕ) (old : WorldView) → FinishOutOfMemory name lines told told faults faults old old
+pub finish_nothing : (name : List ℕ) (lines : ℕ) (told : Option Image) (faults : ℕ) (old : WorldView) → FinishOutOfMemory name lines (media_change told faults told faults) old old
 finish_nothing name lines told faults old = record {
   adds = record { notes = []; joined = sym (append-nil old.journal); counted = omega arith; later = omega arith; named = tt; hosts = refl; fits = λ was. was; formed = λ is. is };
   form = λ is. inl refl;
@@ -298,7 +299,7 @@ own_turn_notes h (row.Found k) = (refl, tt)
 own_turn_notes h (row.Writing seq e) = (refl, tt)
 own_turn_notes h (row.Answer reply) = (refl, tt)
 
-step_own : (at : ℕ) (t : Task) (a : Around) (over : Bool) → (x : IsStep at t a over) → AreOwn x.notes
+step_own : (at : ℕ) (t : Task) (a : HostChange) (over : Bool) → (x : IsStep at t a over) → AreOwn x.notes
 step_own at t a over x = by x.how
   where
     by : IsServed at t a x.notes over ⊎ IsCut at t a x.notes over → AreOwn x.notes
@@ -308,7 +309,7 @@ step_own at t a over x = by x.how
 pub far_on : (name : List ℕ) (at lines : ℕ) (old : WorldView) (told_old : Option Image) (faults_old : ℕ) (cur : WorldView) (told : Option Image) (faults : ℕ) → SoFar at lines old told_old faults_old cur told faults → number_in name old ≡ Some at
     → (view : HostView) (t : Task) → slice_get cur.hosts at ≡ Some view → view.task ≡ Some t → at < length cur.hosts → IfModelled told (λ image. length image ≡ lines)
     → (new : WorldView) (next : HostView) (told_new : Option Image) (faults_new : ℕ) → new.hosts ≡ changed_at at (λ v. next) cur.hosts → (over : Bool)
-    → IsStep at t (record { old = view; new = next; before = cur.journal; after = new.journal; told = told; now = told_new; size = lines; faults = faults; faults_now = faults_new }) over
+    → IsStep at t (record { old = view; new = next; before = cur.journal; after = new.journal; lines = lines; media = record { old = record { image = told; faults = faults }; new = record { image = told_new; faults = faults_new } } }) over
     → SoFar at lines old told_old faults_old new told_new faults_new
 far_on name at lines old told_old faults_old cur told faults far number_old view t view_is runs within modelled new next told_new faults_new hosts over step =
     let number : number_in name cur ≡ Some at = number_same name cur old far.headings ∙ number_old in
@@ -331,13 +332,13 @@ finishes_as_steps name world lines o is = is
 
 module _ (name : List ℕ) (at lines : ℕ) (old : WorldView) (told_old : Option Image) (faults_old : ℕ) (cur : WorldView) (told : Option Image) (faults : ℕ) (far : SoFar at lines old told_old faults_old cur told faults)
     (number : number_in name old ≡ Some at) (free : refusal_in (call.Steps name) old lines ≡ None) (within : at < length old.hosts) (modelled : IfModelled told_old (λ image. length image ≡ lines)) where
-  pub finish_done : ((view : HostView) → slice_get cur.hosts at ≡ Some view → view.task ≡ None) → MediaCall (call.Finishes name) lines None told_old told faults_old faults old cur
+  pub finish_done : ((view : HostView) → slice_get cur.hosts at ≡ Some view → view.task ≡ None) → MediaCall (call.Finishes name) lines None (media_change told_old faults_old told faults) old cur
   finish_done over =
       let view = member_of old.hosts at within in
       let last = member_of cur.hosts at (subst (λ (n : ℕ). at < n) (sym (count_same cur.hosts old.hosts far.headings)) within) in
       finish_call name at lines old told_old faults_old cur told faults far view.0 number view.1 (finishes_as_steps name old lines None free) modelled last.0 last.1 (over last.0 last.1)
 
-  pub finish_lacks : ((view : HostView) → slice_get cur.hosts at ≡ Some view → is_some view.task ≡ true) → (IsUnstoredAt at old → IfModelled told_old (λ image. told ≡ Some image)) → FinishOutOfMemory name lines told_old told faults_old faults old cur
+  pub finish_lacks : ((view : HostView) → slice_get cur.hosts at ≡ Some view → is_some view.task ≡ true) → (IsUnstoredAt at old → IfModelled told_old (λ image. told ≡ Some image)) → FinishOutOfMemory name lines (media_change told_old faults_old told faults) old cur
   finish_lacks runs same =
       let view = member_of old.hosts at within in
       let last = member_of cur.hosts at (subst (λ (n : ℕ). at < n) (sym (count_same cur.hosts old.hosts far.headings)) within) in

@@ -3,6 +3,7 @@ pub mod Members
 pub mod Answering
 pub mod Deciding
 pub mod WithoutMedia
+pub mod Untouched
 pub mod Rows
 pub mod Moving
 pub mod Shifting
@@ -15,6 +16,5 @@ pub mod Saying
 pub mod Sends
 pub mod TaskSteps
 pub mod Fits
-pub mod Kept
 pub mod UpToOn
 pub mod Counting

@@ -12,6 +12,7 @@ use Rattle.fam_format.proofs.UnitPowers.{unit_told}
 use Rattle.fam_format.specs.Params.{IsUuid, is_log_length, is_unit}
 use Rattle.fam_media.specs.Causes.{Rose}
 use Rattle.fam_media.specs.Outside.{IfModelled}
+use Rattle.fam_media.specs.States.{media_change}
 use Rattle.fam_machine.specs.Caches.{Cache, cell_at}
 use Rattle.fam_machine.specs.Cuts.{HasCut, IsMachine}
 use Rattle.fam_machine.specs.Mkfs.{EarlyRefusal, asked, early_refusal, expected_ops, goes_on, mkfs_ops, read_ops, superblock_found}
@@ -110,7 +111,7 @@ module _ (name : List ℕ) (request : MkfsRequest) (is_uuid : IsUuid request.fs)
 
   -- it is refused at once
   pub make_refused : (told : Option Image) (faults : ℕ) (new : WorldView) (cause : Refusal) → IfModelled told (λ image. length image ≡ lines) → IsRefused c lines old cause → new.hosts ≡ old.hosts → new.journal ≡ old.journal ++ Refused name cause ∷ []
-      → MakeCall c lines (Some cause) told told faults faults old new
+      → MakeCall c lines (Some cause) (media_change told faults told faults) old new
   make_refused told faults new cause modelled refused hosts journal = record {
     answers = refused_answers c lines faults old new cause refused hosts journal (λ is. refused_make name request lines old is cause refused.first);
     leaves = λ start. leaves_refused cause c start told told old new refused.faultless (refused_keeps c lines start told old new cause is_uuid modelled refused.first hosts journal);
@@ -180,7 +181,7 @@ module _ (name : List ℕ) (request : MkfsRequest) (is_uuid : IsUuid request.fs)
           (inl (subst (λ (q : Params). MakesFileSystem at q request.force h.0 state (Made at p ∷ []) left) (sym ps) acts)) is_uuid
           (m.image ∙ ap (λ (x : Machine). Some x.image) (sym zm)) journal (stands start state told_is held z (m.cache ∙ ap (λ (x : Machine). x.cache) (sym zm)))
 
-      pub made_call : MakeCall c lines None told now faults faults_now old new
+      pub made_call : MakeCall c lines None (media_change told faults now faults_now) old new
       made_call = record {
         answers = answers None (Made at p ∷ []) journal (omega (arith, later)) (subst (λ (n : ℕ). at < n) (sym count_is) within, tt) refl refl (λ cause e. absurd cc)
             (λ is. maker_form name request lines old is at view number view_is free (Made at p ∷ []) (λ f e. inl (ap (λ (id : List ℕ). Made at (asked request id lines) ∷ []) (sym e))));
@@ -206,7 +207,7 @@ module _ (name : List ℕ) (request : MkfsRequest) (is_uuid : IsUuid request.fs)
           (inr (subst (λ (q : Params). Meets at q request.force name h.0 state notes left) (sym ps) acts)) is_uuid
           (m.image ∙ ap (λ (x : Machine). Some x.image) (sym zm)) journal (stands start state told_is held z (m.cache ∙ ap (λ (x : Machine). x.cache) (sym zm)))
 
-      pub found_call : MakeCall c lines (Some (why.HasSuper id)) told now faults faults_now old new
+      pub found_call : MakeCall c lines (Some (why.HasSuper id)) (media_change told faults now faults_now) old new
       found_call = record {
         answers = answers (Some (why.HasSuper id)) (Refused name (why.HasSuper id) ∷ []) journal (omega (arith, later)) (tt, tt) refl refl (λ cause e. subst IsLateMake (same_Some (why.HasSuper id) cause e) tt)
             (λ is. maker_form name request lines old is at view number view_is free (Refused name (why.HasSuper id) ∷ []) (λ f e. inr (record { unforced = found_is.unforced; fs = id; notes_are = refl })));
@@ -244,7 +245,7 @@ module _ (name : List ℕ) (request : MkfsRequest) (is_uuid : IsUuid request.fs)
             legal = subst (λ (j : List Note). Rattle.fam_journal.specs.Legal.Legal start j) (sym journal) (cut_legal start state left old c notes held row);
           }
 
-      pub cut_call : MakeCall c lines (Some (why.MediaFault line)) told now faults faults_now old new
+      pub cut_call : MakeCall c lines (Some (why.MediaFault line)) (media_change told faults now faults_now) old new
       cut_call = record {
         answers = answers (Some (why.MediaFault line)) notes journal (counted cut_is.rose) (tt, tt) refl refl (λ cause e. subst IsLateMake (same_Some (why.MediaFault line) cause e) tt) (λ is. fault_form name request lines old is free line.0);
         leaves = cut_breaks;
@@ -256,13 +257,13 @@ module _ (name : List ℕ) (request : MkfsRequest) (is_uuid : IsUuid request.fs)
 
     -- however it ended
     pub make_ended : (end : MkfsEnd) (given : Result (Unit {0}) WorldFault) → given ≡ end_result end → new.journal ≡ old.journal ++ end_note at name end ∷ []
-        → MkfsEnds p request.force lines (over told view.cache) (over now cache) faults faults_now end → IfAnswered given (λ answered. MakeCall c lines answered told now faults faults_now old new)
+        → MkfsEnds p request.force lines (over told view.cache) (over now cache) faults faults_now end → IfAnswered given (λ answered. MakeCall c lines answered (media_change told faults now faults_now) old new)
     make_ended (ended.Made made) given is journal ends =
-        subst (λ (r : Result (Unit {0}) WorldFault). IfAnswered r (λ answered. MakeCall c lines answered told now faults faults_now old new)) (sym is)
+        subst (λ (r : Result (Unit {0}) WorldFault). IfAnswered r (λ answered. MakeCall c lines answered (media_change told faults now faults_now) old new)) (sym is)
         (made_call (journal ∙ ap (λ (q : Params). old.journal ++ Made at q ∷ []) ends.0) ends.1)
     make_ended (ended.HasSuper id) given is journal ends =
-        subst (λ (r : Result (Unit {0}) WorldFault). IfAnswered r (λ answered. MakeCall c lines answered told now faults faults_now old new)) (sym is) (found_call id journal ends)
+        subst (λ (r : Result (Unit {0}) WorldFault). IfAnswered r (λ answered. MakeCall c lines answered (media_change told faults now faults_now) old new)) (sym is) (found_call id journal ends)
     make_ended (ended.Failed line) given is journal ends =
-        subst (λ (r : Result (Unit {0}) WorldFault). IfAnswered r (λ answered. MakeCall c lines answered told now faults faults_now old new)) (sym is) (cut_call line journal ends)
+        subst (λ (r : Result (Unit {0}) WorldFault). IfAnswered r (λ answered. MakeCall c lines answered (media_change told faults now faults_now) old new)) (sym is) (cut_call line journal ends)
     make_ended (ended.BadGeometry u l) given is journal ends = absurd ends
     make_ended (ended.TooSmall need have) given is journal ends = absurd ends

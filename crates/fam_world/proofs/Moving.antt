@@ -5,6 +5,7 @@ use Rattle.std.proofs.lemmas.List.{append-nil}
 use Rattle.fam_base.specs.Image.{Image, line_at, with_line}
 use Rattle.fam_media.specs.Causes.{Rose}
 use Rattle.fam_media.specs.Outside.{IfModelled}
+use Rattle.fam_media.specs.States.{media_change}
 use Rattle.fam_machine.specs.Caches.{Cache, cell_at}
 use Rattle.fam_machine.specs.Cuts.{IsMachine}
 use Rattle.fam_machine.specs.HostMoves.{Move, failed_move, move_failed, moved}
@@ -42,7 +43,7 @@ cache_fits lines line cache view below held was = record { task = was.task; cach
 
 -- a call that is refused at once
 pub media_refused : (c : call.Call) → IsNoMake c → IsSoundCall c → (lines : ℕ) (told : Option Image) (faults : ℕ) (old new : WorldView) (cause : Refusal) → IfModelled told (λ image. length image ≡ lines) → IsRefused c lines old cause
-    → new.hosts ≡ old.hosts → new.journal ≡ old.journal ++ Refused (call.name_of c) cause ∷ [] → MediaCall c lines (Some cause) told told faults faults old new
+    → new.hosts ≡ old.hosts → new.journal ≡ old.journal ++ Refused (call.name_of c) cause ∷ [] → MediaCall c lines (Some cause) (media_change told faults told faults) old new
 media_refused c other sound lines told faults old new cause modelled refused hosts journal = record {
   answers = refused_answers c lines faults old new cause refused hosts journal (refused_form c lines old other cause refused.first);
   keeps = λ start. refused_keeps c lines start told old new cause sound modelled refused.first hosts journal;
@@ -81,7 +82,7 @@ module _ (name : List ℕ) (line at : ℕ) (move : Move) (lines : ℕ) (old : Wo
           (m.image ∙ ap (λ (x : Machine). Some (moved move line x).image) (sym same)) joined stands
 
       pub moved_call : line < lines → ((l : ℕ) → IsHeld (cell_at cache l) → (l ≡ line) ⊎ IsHeld (cell_at view.cache l)) → faults ≤ faults_now
-          → IfModelled told (λ image. IsMachine (moved move line (machine image view.cache)) now cache) → MediaCall c lines None told now faults faults_now old new
+          → IfModelled told (λ image. IsMachine (moved move line (machine image view.cache)) now cache) → MediaCall c lines None (media_change told faults now faults_now) old new
       moved_call below held later is = record { answers = moved_answers below held later; keeps = moved_keeps is }
 
     -- the media failed in it
@@ -116,5 +117,5 @@ module _ (name : List ℕ) (line at : ℕ) (move : Move) (lines : ℕ) (old : Wo
           (inr (record { through = f.through; image = image; fails = cut; notes_are = ap (λ (l : ℕ). Refused name (why.MediaFault (record { 0 = l })) ∷ []) line_is; left = refl })) tt f.written journal stands
 
       pub move_failed_call : faults ≤ faults_now → Rose faults faults_now → IfModelled told (λ image. FailsTo line (λ through memory. failed_move move through memory (cell_at view.cache line)) image now)
-          → MediaCall c lines (Some cause) told now faults faults_now old new
+          → MediaCall c lines (Some cause) (media_change told faults now faults_now) old new
       move_failed_call later rose fails = record { answers = failed_answers later rose; keeps = failed_keeps fails }

@@ -36,7 +36,7 @@ use Rattle.fam_journal.specs.Ends.{is_answer_note}
 use Rattle.fam_journal.specs.Machines.{notes_of}
 use Rattle.fam_journal.specs.Notes.{Answered, MediaFault, Note, Replied}
 use Rattle.fam_journal.specs.Notes as journal
-use Rattle.fam_world.specs.Steps.{Around, IsStep}
+use Rattle.fam_world.specs.Steps.{HostChange, IsStep}
 use Rattle.fam_world.specs.Turns.{is_done, kept_by, turn_notes}
 
 -- Words.
@@ -137,7 +137,7 @@ told_by at (turn.Done given) next (turns.Ends reply) tells = record {
 
 -- An operation that was done.
 
-module _ (at : ℕ) (t next : Task) (said : Turn) (a : Around) (over : Bool) (goes : GoesOn t a.new.cache said next) where
+module _ (at : ℕ) (t next : Task) (said : Turn) (a : HostChange) (over : Bool) (goes : GoesOn t a.new.cache said next) where
   abbrev word : ℕ
   word = unwrap_or (word_of (op_of t) a.new.cache) 0
 
@@ -152,8 +152,8 @@ module _ (at : ℕ) (t next : Task) (said : Turn) (a : Around) (over : Bool) (go
   fits_on (turn.Note note) keeps = keeps refl
   fits_on (turn.Done given) keeps = tt
 
-  pub step_served : (mid : Option Task) → mid ≡ Some next → a.new.task ≡ kept_by said mid → a.after ≡ a.before ++ turn_notes at said → heading a.new ≡ heading a.old → a.faults ≤ a.faults_now → over ≡ is_done said
-      → IfModelled a.told (λ image. HasTurned t (machine image a.old.cache) said next a.now a.new.cache) → KeepsLines said t next → LeavesCache (op_of t) a.told a.old.cache a.new.cache → IsWithin t.lines (op_of t) → t.lines ≡ a.size
+  pub step_served : (mid : Option Task) → mid ≡ Some next → a.new.task ≡ kept_by said mid → a.after ≡ a.before ++ turn_notes at said → heading a.new ≡ heading a.old → a.media.old.faults ≤ a.media.new.faults → over ≡ is_done said
+      → IfModelled a.media.old.image (λ image. HasTurned t (machine image a.old.cache) said next a.media.new.image a.new.cache) → KeepsLines said t next → LeavesCache (op_of t) a.media.old.image a.old.cache a.new.cache → IsWithin t.lines (op_of t) → t.lines ≡ a.lines
       → IsStep at t a over
   step_served mid mid_is task joined host later over_is turned keeps leaves within lines =
       let task_is : a.new.task ≡ kept_by said (Some next) = task ∙ ap (kept_by said) mid_is in
@@ -169,17 +169,17 @@ module _ (at : ℕ) (t next : Task) (said : Turn) (a : Around) (over : Bool) (go
           done = λ image is. (turned image is).is;
           own = λ image is.
               let m : Machine = machine image a.old.cache in
-              let d : IsMachine (operated (op_of t) m) a.now a.new.cache = (turned image is).is in
+              let d : IsMachine (operated (op_of t) m) a.media.new.image a.new.cache = (turned image is).is in
               ap (λ (o : Option ℕ). turn_given t (unwrap_or o 0)) (ap (word_of (op_of t)) d.cache ∙ word_is (op_of t) m);
-          held = lines_held (op_of t) a.size a.told a.old.cache a.new.cache (subst (λ (n : ℕ). IsWithin n (op_of t)) lines within) leaves;
+          held = lines_held (op_of t) a.lines a.media.old.image a.old.cache a.new.cache (subst (λ (n : ℕ). IsWithin n (op_of t)) lines within) leaves;
           fits = subst (TaskFits t.lines) (sym task_is) (fits_on said keeps);
           over_is = over_is ∙ told.over ∙ ap (λ (n : List Note). list_any is_answer_note n) (sym told.notes);
         };
       }
 
 -- the media failed in it
-pub step_cut : (at : ℕ) (t : Task) (a : Around) (line : LineNo) → a.after ≡ a.before ++ Answered at (MediaFault line.0) ∷ [] → heading a.new ≡ heading a.old → a.faults ≤ a.faults_now → a.new.task ≡ None → ((l : ℕ) → IsHeld (cell_at a.new.cache l) → IsHeld (cell_at a.old.cache l))
-    → IfModelled a.told (λ image. HasFailed (op_of t) (machine image a.old.cache) line a.now a.new.cache) → Rose a.faults a.faults_now → IsStep at t a true
+pub step_cut : (at : ℕ) (t : Task) (a : HostChange) (line : LineNo) → a.after ≡ a.before ++ Answered at (MediaFault line.0) ∷ [] → heading a.new ≡ heading a.old → a.media.old.faults ≤ a.media.new.faults → a.new.task ≡ None → ((l : ℕ) → IsHeld (cell_at a.new.cache l) → IsHeld (cell_at a.old.cache l))
+    → IfModelled a.media.old.image (λ image. HasFailed (op_of t) (machine image a.old.cache) line a.media.new.image a.new.cache) → Rose a.media.old.faults a.media.new.faults → IsStep at t a true
 step_cut at t a line joined host later task kept failed rose = record {
   notes = Answered at (MediaFault line.0) ∷ [];
   joined = joined;

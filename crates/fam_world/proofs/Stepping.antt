@@ -6,6 +6,7 @@ use Rattle.fam_base.specs.declared.line.LineNo.{LineNo}
 use Rattle.fam_base.specs.Image.{Image}
 use Rattle.fam_media.specs.Causes.{Rose}
 use Rattle.fam_media.specs.Outside.{IfModelled}
+use Rattle.fam_media.specs.States.{media_change}
 use Rattle.fam_machine.specs.Caches.{Cache, cell_at}
 use Rattle.fam_machine.specs.Cuts.{HasFailed, IsMachine}
 use Rattle.fam_machine.specs.OneLine.{IsHeld}
@@ -35,7 +36,7 @@ use Rattle.fam_journal.proofs.Forms.Pairs.{pairs_at, pairs_changed}
 use Rattle.fam_journal.proofs.Forms.Operations.{forms_both}
 use Rattle.fam_journal.proofs.Forms.Views.{step_formed, world_formed}
 use Rattle.fam_journal.proofs.JournalLaws.{kept_on}
-use Rattle.fam_world.specs.Steps.{Around, IsCut, IsServed, IsStep}
+use Rattle.fam_world.specs.Steps.{HostChange, IsCut, IsServed, IsStep}
 use Rattle.fam_world.proofs.Answering.{free_answers}
 use Rattle.fam_world.proofs.Members.{fits_kept, length_kept, map_kept}
 use Rattle.fam_world.proofs.Rows.{found, row_kept}
@@ -69,7 +70,7 @@ pub no_cause : (c : call.Call) (cause : Refusal) → None ≡ Some cause → IsL
 no_cause c cause e = absurd cc
 
 -- a step that is refused at once
-pub step_refused : (name : List ℕ) (lines : ℕ) (old new : WorldView) (cause : Refusal) (told : Option Image) (faults : ℕ) → refusal_in (call.Steps name) old lines ≡ Some cause → MediaCall (call.Steps name) lines (Some cause) told told faults faults old new → StepCall name lines (Some cause) false told told faults faults old new
+pub step_refused : (name : List ℕ) (lines : ℕ) (old new : WorldView) (cause : Refusal) (told : Option Image) (faults : ℕ) → refusal_in (call.Steps name) old lines ≡ Some cause → MediaCall (call.Steps name) lines (Some cause) (media_change told faults told faults) old new → StepCall name lines (Some cause) false (media_change told faults told faults) old new
 step_refused name lines old new cause told faults first x = record {
   answers = record { answers = x.answers; over_is = ap (λ (n : List Note). list_any is_answer_note n) (sym (x.answers.refused cause first).0) };
   keeps = x.keeps;
@@ -94,8 +95,8 @@ module _ (name : List ℕ) (at lines : ℕ) (old : WorldView) (view : HostView) 
   c = call.Steps name
 
   module _ (new : WorldView) (next : HostView) (told now : Option Image) (faults faults_now : ℕ) (modelled : IfModelled told (λ image. length image ≡ lines)) (hosts : new.hosts ≡ changed_at at (λ v. next) old.hosts) where
-    abbrev a : Around
-    a = record { old = view; new = next; before = old.journal; after = new.journal; told = told; now = now; size = lines; faults = faults; faults_now = faults_now }
+    abbrev a : HostChange
+    a = record { old = view; new = next; before = old.journal; after = new.journal; lines = lines; media = record { old = record { image = told; faults = faults }; new = record { image = now; faults = faults_now } } }
 
     count_is : length new.hosts ≡ length old.hosts
     count_is = ap (λ (vs : List HostView). length vs) hosts ∙ length_kept (λ v. next) at old.hosts
@@ -176,7 +177,7 @@ module _ (name : List ℕ) (at lines : ℕ) (old : WorldView) (view : HostView) 
               held = kept_on start state step.left old new c own held tt step.row stands all;
             }
 
-        pub served_call : StepCall name lines None over told now faults faults_now old new
+        pub served_call : StepCall name lines None over (media_change told faults now faults_now) old new
         served_call = record {
           answers = record { answers = served_answers; over_is = x.over_is ∙ ap (λ (n : List Note). list_any is_answer_note n) x.notes_are };
           keeps = served_keeps;
@@ -238,12 +239,12 @@ module _ (name : List ℕ) (at lines : ℕ) (old : WorldView) (view : HostView) 
             record { name = h.2.name ∙ sym name_is; uuid = h.2.uuid ∙ sym uuid_is; cache = sym f.is.cache; task = subst (λ (o : Option Task). TaskStands (length start) None o) (sym x.task) tt } held.stands k) in
             row_kept start state old held c lines (modelled state.memory told_is) at view number free view_is new now (fault ∷ []) left (λ y. y) op tt f.is.image joined_fault stands
 
-        pub fault_call : StepCall name lines None over told now faults faults_now old new
+        pub fault_call : StepCall name lines None over (media_change told faults now faults_now) old new
         fault_call = record { answers = record { answers = fault_answers; over_is = x.over_is }; keeps = fault_keeps }
 
-    pub step_call : (over : Bool) → IsStep at t a over → StepCall name lines None over told now faults faults_now old new
+    pub step_call : (over : Bool) → IsStep at t a over → StepCall name lines None over (media_change told faults now faults_now) old new
     step_call over x = by x.how
       where
-        by : IsServed at t a x.notes over ⊎ IsCut at t a x.notes over → StepCall name lines None over told now faults faults_now old new
+        by : IsServed at t a x.notes over ⊎ IsCut at t a x.notes over → StepCall name lines None over (media_change told faults now faults_now) old new
         by (inl served) = served_call x.notes over x.joined x.host x.later served
         by (inr cut) = fault_call x.notes over x.joined x.host x.later cut

@@ -1,5 +1,6 @@
 -- Operations of a task, as its cache and its media tell them, are steps of the host that runs it.
 use Rattle.std.proofs.Common.{◌≡◌, ℕ, suc, ◌<◌, ◌≤◌, inl, inr, List, [], ◌∷◌, ◌++◌, length, Bool, true, false, Option, Some, None, Result, Ok, Err, refl, ap, ap₂, sym, subst, ◌∙◌, arith, append-nil}
+use Rattle.std.specs.Prelude.{OnOk}
 use Rattle.fam_base.specs.Image.{Image}
 use Rattle.fam_base.specs.declared.line.LineNo.{LineNo}
 use Rattle.fam_base.specs.declared.line.OutOfMemory.{OutOfMemory}
@@ -10,26 +11,27 @@ use Rattle.fam_commands.specs.Task.{Task, op_of}
 use Rattle.fam_machine.specs.Caches.{Cache, cell_at}
 use Rattle.fam_machine.specs.OneLine.{IsHeld}
 use Rattle.fam_media.specs.Outside.{IfModelled}
+use Rattle.fam_media.specs.States.{MediaState}
 use Rattle.fam_tasks.specs.declared.answer.Turn.{Turn}
 use Rattle.fam_tasks.specs.declared.answer.Turn.TheVariants.{Go, Note as Notes, Done}
 use Rattle.fam_run.specs.Led as led
 use Rattle.fam_run.specs.Led.{Advanced, HasBrokenOff, HasDone, Led}
 use Rattle.fam_run.specs.Operation.{IsBroken, IsDone, IsUndone, Operated, ended}
-use Rattle.fam_run.specs.Step.{Around as Passed}
+use Rattle.fam_run.specs.TaskChange.{TaskChange}
 use Rattle.fam_run.proofs.Led.{led_lines}
 use Rattle.fam_run.proofs.Running.{lines_kept}
 use Rattle.fam_journal.specs.Notes.{Answered, MediaFault, Note}
 use Rattle.fam_journal.specs.View.{HostView}
 use Rattle.fam_world.specs.Counted.{HostStanding, HostStep, Iterated, Runs, more, none}
-use Rattle.fam_world.specs.Steps.{Around}
+use Rattle.fam_world.specs.Steps.{HostChange}
 use Rattle.fam_world.specs.Turns.{IsNoted, is_done, kept_by, turn_notes}
 use Rattle.fam_world.specs.declared.fault.Moved.{Moved}
 use Rattle.fam_world.specs.declared.fault.Moved.TheVariants as moved
 use Rattle.fam_world.proofs.Saying.{step_cut, step_served}
 
 -- a host that runs this task, if any, on this cache, with these notes, and what the media tells
-abbrev pub standing_at : HostView → Option Task → Cache → List Note → Option Image → ℕ → HostStanding
-standing_at view task held notes told faults = record { host = record view { task = task; cache = held }; notes = notes; told = told; faults = faults }
+abbrev pub standing_at : HostView → Option Task → Cache → List Note → MediaState → HostStanding
+standing_at view task held notes media = record { host = record view { task = task; cache = held }; notes = notes; media = media }
 
 -- What a result of operations tells, once it is noted.
 
@@ -49,6 +51,10 @@ went at (Ok (Done answer)) old new res x is = absurd (let over : Ok moved.Answer
 went at (Err (fault.MediaFault line)) old new res x is = absurd (let over : Ok moved.Answered ≡ Ok moved.Going = sym x.1 ∙ is in cc)
 went at (Err fault.OutOfMemory) old new res x is = absurd (let full : Err record {} ≡ Ok moved.Going = sym x.1 ∙ is in cc)
 
+pub ok_going : {P : Type 0} (res : Result Moved OutOfMemory) → res ≡ Ok moved.Going → OnOk res P → P
+ok_going (Ok moved) is p = p
+ok_going (Err full) is p = absurd cc
+
 -- no memory was found
 pub lacked : (at : ℕ) (r : Result Turn OperationFault) (old new : List Note) (res : Result Moved OutOfMemory) (full : OutOfMemory) → IsNoted at r old new res → res ≡ Err full → (r ≡ Err fault.OutOfMemory) × (new ≡ old)
 lacked at (Ok said) old new res full x is = absurd (let over = sym x.1 ∙ is in cc)
@@ -56,27 +62,23 @@ lacked at (Err (fault.MediaFault line)) old new res full x is = absurd (let over
 lacked at (Err fault.OutOfMemory) old new res full x is = (refl, x.0)
 
 -- where nothing was done a host stands as before
-pub stands_still : (view : HostView) (b : Passed) (notes notes_now : List Note) → IsUndone b → notes_now ≡ notes → standing_at view (Some b.next) b.new notes_now b.left b.now ≡ standing_at view (Some b.task) b.old notes b.modelled b.before
+pub stands_still : (view : HostView) (b : TaskChange) (notes notes_now : List Note) → IsUndone b → notes_now ≡ notes → standing_at view (Some b.next) b.new notes_now b.media.new ≡ standing_at view (Some b.task) b.old notes b.media.old
 stands_still view b notes notes_now undone same =
-    ap₂ (λ (t : Task) (k : Cache). standing_at view (Some t) k notes_now b.left b.now) undone.task undone.cache
-    ∙ ap₂ (λ (n : List Note) (o : Option Image). standing_at view (Some b.task) b.old n o b.now) same undone.image
-    ∙ ap (λ (f : ℕ). standing_at view (Some b.task) b.old notes b.modelled f) undone.faults
+    ap₂ (λ (t : Task) (k : Cache). standing_at view (Some t) k notes_now b.media.new) undone.task undone.cache
+    ∙ ap₂ (λ (n : List Note) (m : MediaState). standing_at view (Some b.task) b.old n m) same undone.media
 
 module _ (at lines : ℕ) (view : HostView) where
   -- an operation that was done
-  pub done_step : (b : Passed) (said : Turn) (notes notes_now : List Note) → IsDone b said → IfModelled b.modelled (λ image. length image ≡ lines) → b.task.lines ≡ lines → b.before ≤ b.now → notes_now ≡ notes ++ turn_notes at said
-      → HostStep at lines (is_done said) (standing_at view (Some b.task) b.old notes b.modelled b.before) (standing_at view (kept_by said (Some b.next)) b.new notes_now b.left b.now)
+  pub done_step : (b : TaskChange) (said : Turn) (notes notes_now : List Note) → IsDone b said → IfModelled b.media.old.image (λ image. length image ≡ lines) → b.task.lines ≡ lines → b.media.old.faults ≤ b.media.new.faults → notes_now ≡ notes ++ turn_notes at said
+      → HostStep at lines (is_done said) (standing_at view (Some b.task) b.old notes b.media.old) (standing_at view (kept_by said (Some b.next)) b.new notes_now b.media.new)
   done_step b said notes notes_now x modelled fits later noted =
-      let a : Around = record {
+      let a : HostChange = record {
         old = record view { task = Some b.task; cache = b.old };
         new = record view { task = kept_by said (Some b.next); cache = b.new };
         before = notes;
         after = notes_now;
-        told = b.modelled;
-        now = b.left;
-        size = lines;
-        faults = b.before;
-        faults_now = b.now;
+        lines = lines;
+        media = b.media;
       } in
       record {
         task = b.task;
@@ -86,19 +88,16 @@ module _ (at lines : ℕ) (view : HostView) where
       }
 
   -- the media failed in it
-  pub broken_step : (b : Passed) (line : LineNo) (notes notes_now : List Note) → IsBroken b line → IfModelled b.modelled (λ image. length image ≡ lines) → b.before ≤ b.now → notes_now ≡ notes ++ Answered at (MediaFault line.0) ∷ []
-      → HostStep at lines true (standing_at view (Some b.task) b.old notes b.modelled b.before) (standing_at view None b.new notes_now b.left b.now)
+  pub broken_step : (b : TaskChange) (line : LineNo) (notes notes_now : List Note) → IsBroken b line → IfModelled b.media.old.image (λ image. length image ≡ lines) → b.media.old.faults ≤ b.media.new.faults → notes_now ≡ notes ++ Answered at (MediaFault line.0) ∷ []
+      → HostStep at lines true (standing_at view (Some b.task) b.old notes b.media.old) (standing_at view None b.new notes_now b.media.new)
   broken_step b line notes notes_now x modelled later noted =
-      let a : Around = record {
+      let a : HostChange = record {
         old = record view { task = Some b.task; cache = b.old };
         new = record view { task = None; cache = b.new };
         before = notes;
         after = notes_now;
-        told = b.modelled;
-        now = b.left;
-        size = lines;
-        faults = b.before;
-        faults_now = b.now;
+        lines = lines;
+        media = b.media;
       } in
       record {
         task = b.task;
@@ -108,12 +107,12 @@ module _ (at lines : ℕ) (view : HostView) where
       }
 
   -- operations that leave memory's image
-  pub led_runs : (told : Option Image) (faults : ℕ) (notes : List Note) → IfModelled told (λ image. length image ≡ lines) → (t next : Task) (held after : Cache) → Led told t held next after → t.lines ≡ lines
-      → Runs at lines (standing_at view (Some t) held notes told faults) (standing_at view (Some next) after notes told faults)
-  led_runs told faults notes modelled t _ held _ led.none fits = record { count = 0; goes = none }
-  led_runs told faults notes modelled t next held after (led.more {mid = mid} {now = now} before quiet) fits =
-      let first = led_runs told faults notes modelled t mid held now before fits in
-      let b : Passed = record { task = mid; next = next; old = now; new = after; modelled = told; left = told; size = lines; before = faults; now = faults } in
+  pub led_runs : (media : MediaState) (notes : List Note) → IfModelled media.image (λ image. length image ≡ lines) → (t next : Task) (held after : Cache) → Led media.image t held next after → t.lines ≡ lines
+      → Runs at lines (standing_at view (Some t) held notes media) (standing_at view (Some next) after notes media)
+  led_runs media notes modelled t _ held _ led.none fits = record { count = 0; goes = none }
+  led_runs media notes modelled t next held after (led.more {mid = mid} {now = now} before quiet) fits =
+      let first = led_runs media notes modelled t mid held now before fits in
+      let b : TaskChange = record { task = mid; next = next; old = now; new = after; lines = lines; media = record { old = media; new = media } } in
       let one : IsDone b Go = record {
         sound = quiet.sound;
         within = quiet.within;
@@ -125,7 +124,7 @@ module _ (at lines : ℕ) (view : HostView) where
       } in
       record {
         count = suc first.count;
-        goes = more first.goes (done_step b Go notes notes one modelled (led_lines told t mid held now before ∙ fits) (omega arith) (sym (append-nil notes)));
+        goes = more first.goes (done_step b Go notes notes one modelled (led_lines media.image t mid held now before ∙ fits) (omega arith) (sym (append-nil notes)));
       }
 
   -- some, and one more that was done
@@ -134,8 +133,8 @@ module _ (at lines : ℕ) (view : HostView) where
     pub runs : Runs at lines a before
     pub last : HostStep at lines over before c
 
-  pub done_reached : (b : Passed) (said : Turn) (notes notes_now : List Note) → HasDone b said → IfModelled b.modelled (λ image. length image ≡ lines) → b.task.lines ≡ lines → b.before ≤ b.now → notes_now ≡ notes ++ turn_notes at said
-      → Reached (standing_at view (Some b.task) b.old notes b.modelled b.before) (is_done said) (standing_at view (kept_by said (Some b.next)) b.new notes_now b.left b.now)
+  pub done_reached : (b : TaskChange) (said : Turn) (notes notes_now : List Note) → HasDone b said → IfModelled b.media.old.image (λ image. length image ≡ lines) → b.task.lines ≡ lines → b.media.old.faults ≤ b.media.new.faults → notes_now ≡ notes ++ turn_notes at said
+      → Reached (standing_at view (Some b.task) b.old notes b.media.old) (is_done said) (standing_at view (kept_by said (Some b.next)) b.new notes_now b.media.new)
   done_reached b said notes notes_now x modelled fits later noted =
       let last : IsDone (record b { task = x.task; old = x.held }) said = record {
         sound = x.sound;
@@ -147,28 +146,25 @@ module _ (at lines : ℕ) (view : HostView) where
         own = x.own;
       } in
       record {
-        before = standing_at view (Some x.task) x.held notes b.modelled b.before;
-        runs = led_runs b.modelled b.before notes modelled b.task x.task b.old x.held x.led fits;
-        last = done_step (record b { task = x.task; old = x.held }) said notes notes_now last modelled (led_lines b.modelled b.task x.task b.old x.held x.led ∙ fits) later noted;
+        before = standing_at view (Some x.task) x.held notes b.media.old;
+        runs = led_runs b.media.old notes modelled b.task x.task b.old x.held x.led fits;
+        last = done_step (record b { task = x.task; old = x.held }) said notes notes_now last modelled (led_lines b.media.old.image b.task x.task b.old x.held x.led ∙ fits) later noted;
       }
 
-  pub broken_reached : (b : Passed) (line : LineNo) (notes notes_now : List Note) → HasBrokenOff b line → IfModelled b.modelled (λ image. length image ≡ lines) → b.task.lines ≡ lines → b.before ≤ b.now → notes_now ≡ notes ++ Answered at (MediaFault line.0) ∷ []
-      → Reached (standing_at view (Some b.task) b.old notes b.modelled b.before) true (standing_at view None b.new notes_now b.left b.now)
+  pub broken_reached : (b : TaskChange) (line : LineNo) (notes notes_now : List Note) → HasBrokenOff b line → IfModelled b.media.old.image (λ image. length image ≡ lines) → b.task.lines ≡ lines → b.media.old.faults ≤ b.media.new.faults → notes_now ≡ notes ++ Answered at (MediaFault line.0) ∷ []
+      → Reached (standing_at view (Some b.task) b.old notes b.media.old) true (standing_at view None b.new notes_now b.media.new)
   broken_reached b line notes notes_now x modelled fits later noted =
-      let a : Around = record {
+      let a : HostChange = record {
         old = record view { task = Some x.task; cache = x.held };
         new = record view { task = None; cache = b.new };
         before = notes;
         after = notes_now;
-        told = b.modelled;
-        now = b.left;
-        size = lines;
-        faults = b.before;
-        faults_now = b.now;
+        lines = lines;
+        media = b.media;
       } in
       record {
-        before = standing_at view (Some x.task) x.held notes b.modelled b.before;
-        runs = led_runs b.modelled b.before notes modelled b.task x.task b.old x.held x.led fits;
+        before = standing_at view (Some x.task) x.held notes b.media.old;
+        runs = led_runs b.media.old notes modelled b.task x.task b.old x.held x.led fits;
         last = record {
           task = x.task;
           runs = refl;
@@ -177,13 +173,13 @@ module _ (at lines : ℕ) (view : HostView) where
         };
       }
 
-  module _ (b : Passed) (r : Result Turn OperationFault) (notes notes_now : List Note) (res : Result Moved OutOfMemory) (noted : IsNoted at r notes notes_now res) (modelled : IfModelled b.modelled (λ image. length image ≡ lines)) (fits : b.task.lines ≡ lines) (later : b.before ≤ b.now) where
+  module _ (b : TaskChange) (r : Result Turn OperationFault) (notes notes_now : List Note) (res : Result Moved OutOfMemory) (noted : IsNoted at r notes notes_now res) (modelled : IfModelled b.media.old.image (λ image. length image ≡ lines)) (fits : b.task.lines ≡ lines) (later : b.media.old.faults ≤ b.media.new.faults) where
     -- what stands before and behind
     abbrev pub start : HostStanding
-    start = standing_at view (Some b.task) b.old notes b.modelled b.before
+    start = standing_at view (Some b.task) b.old notes b.media.old
 
     abbrev pub end : Option Task → HostStanding
-    end task = standing_at view task b.new notes_now b.left b.now
+    end task = standing_at view task b.new notes_now b.media.new
 
     -- of one operation
 
@@ -207,16 +203,16 @@ module _ (at lines : ℕ) (view : HostView) where
         record { count = suc reached.runs.count; goes = more reached.runs.goes last }
 
   -- the task is over
-  pub one_ends : (b : Passed) (r : Result Turn OperationFault) (notes notes_now : List Note) (res : Result Moved OutOfMemory) → IsNoted at r notes notes_now res → IfModelled b.modelled (λ image. length image ≡ lines) → b.task.lines ≡ lines → b.before ≤ b.now → Operated b r → res ≡ Ok moved.Answered
-      → HostStep at lines true (standing_at view (Some b.task) b.old notes b.modelled b.before) (standing_at view None b.new notes_now b.left b.now)
+  pub one_ends : (b : TaskChange) (r : Result Turn OperationFault) (notes notes_now : List Note) (res : Result Moved OutOfMemory) → IsNoted at r notes notes_now res → IfModelled b.media.old.image (λ image. length image ≡ lines) → b.task.lines ≡ lines → b.media.old.faults ≤ b.media.new.faults → Operated b r → res ≡ Ok moved.Answered
+      → HostStep at lines true (standing_at view (Some b.task) b.old notes b.media.old) (standing_at view None b.new notes_now b.media.new)
   one_ends b (Ok Go) notes notes_now res noted modelled fits later x is = absurd (let on : Ok moved.Going ≡ Ok moved.Answered = sym noted.1 ∙ is in cc)
   one_ends b (Ok (Notes note)) notes notes_now res noted modelled fits later x is = absurd (let on : Ok moved.Going ≡ Ok moved.Answered = sym noted.1 ∙ is in cc)
   one_ends b (Ok (Done answer)) notes notes_now res noted modelled fits later x is = done_step b (Done answer) notes notes_now x modelled fits later noted.0
   one_ends b (Err (fault.MediaFault line)) notes notes_now res noted modelled fits later x is = broken_step b line notes notes_now x modelled later noted.0
   one_ends b (Err fault.OutOfMemory) notes notes_now res noted modelled fits later x is = absurd (let full : Err record {} ≡ Ok moved.Answered = sym noted.1 ∙ is in cc)
 
-  pub all_end : (b : Passed) (r : Result Turn OperationFault) (notes notes_now : List Note) (res : Result Moved OutOfMemory) → IsNoted at r notes notes_now res → IfModelled b.modelled (λ image. length image ≡ lines) → b.task.lines ≡ lines → b.before ≤ b.now → Advanced b r → res ≡ Ok moved.Answered
-      → Reached (standing_at view (Some b.task) b.old notes b.modelled b.before) true (standing_at view None b.new notes_now b.left b.now)
+  pub all_end : (b : TaskChange) (r : Result Turn OperationFault) (notes notes_now : List Note) (res : Result Moved OutOfMemory) → IsNoted at r notes notes_now res → IfModelled b.media.old.image (λ image. length image ≡ lines) → b.task.lines ≡ lines → b.media.old.faults ≤ b.media.new.faults → Advanced b r → res ≡ Ok moved.Answered
+      → Reached (standing_at view (Some b.task) b.old notes b.media.old) true (standing_at view None b.new notes_now b.media.new)
   all_end b (Ok Go) notes notes_now res noted modelled fits later x is = absurd (let on : Ok moved.Going ≡ Ok moved.Answered = sym noted.1 ∙ is in cc)
   all_end b (Ok (Notes note)) notes notes_now res noted modelled fits later x is = absurd (let on : Ok moved.Going ≡ Ok moved.Answered = sym noted.1 ∙ is in cc)
   all_end b (Ok (Done answer)) notes notes_now res noted modelled fits later x is = done_reached b (Done answer) notes notes_now x modelled fits later noted.0

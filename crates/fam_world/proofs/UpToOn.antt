@@ -22,13 +22,13 @@ use Rattle.fam_commands.proofs.UpToStores.{before_next, up_to_next}
 use Rattle.fam_tasks.specs.declared.answer.Turn.{Turn}
 use Rattle.fam_tasks.specs.declared.answer.Turn.TheVariants.{Go}
 use Rattle.fam_tasks.specs.Tells.{Tells}
-use Rattle.fam_run.specs.Held as run
-use Rattle.fam_run.specs.Held.{HeldRun, IsOfHeld, held_after}
+use Rattle.fam_run.specs.Cached as run
+use Rattle.fam_run.specs.Cached.{CachedRun, IsCached, cached_after}
 use Rattle.fam_run.specs.Led as led
 use Rattle.fam_run.specs.Led.{HasDone, Led}
 use Rattle.fam_run.specs.Operation.{ended}
 use Rattle.fam_run.specs.Places.{HasPlaces}
-use Rattle.fam_run.specs.Step.{Around as Passed}
+use Rattle.fam_run.specs.TaskChange.{TaskChange}
 use Rattle.fam_run.proofs.FirstStores.{first_phase}
 use Rattle.fam_run.proofs.Running.{goes_on}
 use Rattle.fam_world.specs.Places.{IsSafe}
@@ -103,13 +103,13 @@ led_clean image normal t next held after (led.more {mid = mid} {now = now} first
     subst IsClean (sym (quiet.turned image refl).is.cache)
     (reads_clean image normal now (led_clean image normal t mid held now first before clean) mid.phase mid (led_before (Some image) t mid held now first before))
 
-held_before : (t next : Task) (held after : Cache) {n : ℕ} → HeldRun t held next after n → IsBeforeWrites t.phase → IsBeforeWrites next.phase
+held_before : (t next : Task) (held after : Cache) {n : ℕ} → CachedRun t held next after n → IsBeforeWrites t.phase → IsBeforeWrites next.phase
 held_before t _ held _ run.none before = before
 held_before t next held after (run.more {mid = mid} {now = now} first sound within of is turn) before =
     before_next mid next (unwrap_or (word_of (op_of mid) now) 0) (held_before t mid held now first before) turn
 
 -- an operation on copies
-held_clean_at : (p : Phase) (t : Task) (held : Cache) → IsBeforeWrites p → IsOfHeld (op_at t p) held → IsClean held → IsClean (held_after (op_at t p) held)
+held_clean_at : (p : Phase) (t : Task) (held : Cache) → IsBeforeWrites p → IsCached (op_at t p) held → IsClean held → IsClean (cached_after (op_at t p) held)
 held_clean_at at.DropMagic t held before of clean = clean_with _ Absent held clean tt
 held_clean_at at.Magic t held before of clean = clean
 held_clean_at (at.Drop part j) t held before of clean = clean_with _ Absent held clean tt
@@ -127,7 +127,7 @@ held_clean_at at.FenceSlot t held before of clean = absurd before
 held_clean_at at.SendGate t held before of clean = absurd before
 held_clean_at at.FenceGate t held before of clean = absurd before
 
-held_clean : (t next : Task) (held after : Cache) {n : ℕ} → HeldRun t held next after n → IsBeforeWrites t.phase → IsClean held → IsClean after
+held_clean : (t next : Task) (held after : Cache) {n : ℕ} → CachedRun t held next after n → IsBeforeWrites t.phase → IsClean held → IsClean after
 held_clean t _ held _ run.none before clean = clean
 held_clean t next held after (run.more {mid = mid} {now = now} first sound within of is turn) before clean =
     subst IsClean (sym is) (held_clean_at mid.phase mid now (held_before t mid held now first before) of (held_clean t mid held now first before clean))
@@ -139,7 +139,7 @@ first_behind t first before = elim (first_phase t first) [
   | inr file ↦ subst IsBeforeWrites file before
 ]
 
-pub held_safe : (t next : Task) (cache after : CacheState) (told now : Option Image) (notes room : ℕ) {n : ℕ} → HeldRun t cache.lines next after.lines n → (HasPlaces t cache → HasPlaces next after) → (IsFirstStore t → next ≡ t)
+pub held_safe : (t next : Task) (cache after : CacheState) (told now : Option Image) (notes room : ℕ) {n : ℕ} → CachedRun t cache.lines next after.lines n → (HasPlaces t cache → HasPlaces next after) → (IsFirstStore t → next ≡ t)
     → IsSafe told now t cache notes room → IsSafe told now next after notes room
 held_safe t next cache after told now notes room ran places idle (inl (inl before, calm)) =
     inl (
@@ -154,15 +154,15 @@ held_safe t next cache after told now notes room ran places idle (inr has) = inr
 -- A turn of the loop.
 
 -- of a task that reads
-module _ (b : Passed) (said : Turn) (on : ended said ≡ None) (x : HasDone b said) (before : IsBeforeWrites b.task.phase) where
+module _ (b : TaskChange) (said : Turn) (on : ended said ≡ None) (x : HasDone b said) (before : IsBeforeWrites b.task.phase) where
   mid_before : IsBeforeWrites x.task.phase
-  mid_before = led_before b.modelled b.task x.task b.old x.held x.led before
+  mid_before = led_before b.media.old.image b.task x.task b.old x.held x.led before
 
   next_up_to : IsUpToStore b.next
   next_up_to =
       up_to_next x.task b.next (unwrap_or (word_of (op_of x.task) b.new) 0) mid_before (goes_on (turn_of x.task (word_of (op_of x.task) b.new)) said b.next on x.goes)
 
-  next_calm : (image : Image) → map eight image ≡ image → b.modelled ≡ Some image → IsClean b.old → (b.left ≡ Some image) × IsClean b.new
+  next_calm : (image : Image) → map eight image ≡ image → b.media.old.image ≡ Some image → IsClean b.old → (b.media.new.image ≡ Some image) × IsClean b.new
   next_calm image normal told_is clean =
       let ran : Led (Some image) b.task b.old x.task x.held = subst (λ (o : Option Image). Led o b.task b.old x.task x.held) told_is x.led in
       let clean_mid = led_clean image normal b.task x.task b.old x.held ran before clean in
@@ -171,9 +171,9 @@ module _ (b : Passed) (said : Turn) (on : ended said ≡ None) (x : HasDone b sa
         subst IsClean (sym is.cache) (reads_clean image normal x.held clean_mid x.task.phase x.task mid_before),
       )
 
-pub safe_on : (b : Passed) (said : Turn) (told : Option Image) (cache after : CacheState) (notes_old room_old notes room : ℕ) → ended said ≡ None → HasDone b said → IsNormal b.modelled → cache.lines ≡ b.old → after.lines ≡ b.new
+pub safe_on : (b : TaskChange) (said : Turn) (told : Option Image) (cache after : CacheState) (notes_old room_old notes room : ℕ) → ended said ≡ None → HasDone b said → IsNormal b.media.old.image → cache.lines ≡ b.old → after.lines ≡ b.new
     → (IsFirstStore b.task ⊎ HasPlaces b.task cache → (said ≡ Go) × HasPlaces b.next after) → (said ≡ Go → notes < room)
-    → IsSafe told b.modelled b.task cache notes_old room_old → IsSafe told b.left b.next after notes room
+    → IsSafe told b.media.old.image b.task cache notes_old room_old → IsSafe told b.media.new.image b.next after notes room
 safe_on b said told cache after notes_old room_old notes room on x normal old_is new_is places kept (inl (inl before, calm)) =
     inl (
       next_up_to b said on x before,
@@ -198,7 +198,3 @@ full_same told now t cache notes room full (inr has) = absurd (let some = has.1 
 pub lacks_same : (told now : Option Image) (t : Task) (cache : CacheState) (notes room : ℕ) → ¬ (HasPlaces t cache) → IsSafe told now t cache notes room → IfModelled told (λ image. now ≡ Some image)
 lacks_same told now t cache notes room lacks (inl calm) = λ image is. (calm.1 image is).0
 lacks_same told now t cache notes room lacks (inr has) = absurd (lacks has.0)
-
-pub on_err_of : {T E : Type 0} (r : Result T E) {P : Type 0} → P → OnErr r P
-on_err_of (Ok x) p = tt
-on_err_of (Err e) p = p

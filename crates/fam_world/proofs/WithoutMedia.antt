@@ -16,9 +16,6 @@ use Rattle.fam_world.specs.Answers.{IfAnswered, IfStepped}
 pub refused_told : (given : WorldFault) (cause : Refusal) (P : Option Refusal → Type 0) → given ≡ fault.Refused cause → P (Some cause) → IfAnswered {T = Unit {0}} (Err given) P
 refused_told given cause P is p = subst (λ (z : WorldFault). IfAnswered {T = Unit {0}} (Err z) P) (sym is) p
 
-pub refused_stepped : (given : WorldFault) (cause : Refusal) (P : Option Refusal → Bool → Type 0) → given ≡ fault.Refused cause → P (Some cause) false → IfStepped (Err given) P
-refused_stepped given cause P is p = subst (λ (z : WorldFault). IfStepped (Err z) P) (sym is) p
-
 -- a stop is refused as a step is
 pub stops_as_steps : (name : List ℕ) (world : WorldView) (lines : ℕ) (o : Option Refusal) → refusal_in (call.Steps name) world lines ≡ o → refusal_in (call.Stops name) world lines ≡ o
 unfolding refusal_of

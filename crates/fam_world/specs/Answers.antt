@@ -34,6 +34,10 @@ abbrev pub refusal_told : {T : Type 0} → Result T Refusal → Option Refusal
 refusal_told (Ok x) = None
 refusal_told (Err cause) = Some cause
 
+-- a call that the world alone refuses asks nothing of the media, which is then as it was
+abbrev pub IsUntouched : {M : Type 0} → Call → ℕ → WorldView → M → M → Type 0
+IsUntouched c lines world before behind = (cause : Refusal) → refusal_in c world lines ≡ Some cause → behind ≡ before
+
 -- a cause that is no text of a source
 abbrev pub IsPlain : Refusal → Type 0
 IsPlain why.NoHost = ⊤

@@ -1,6 +1,5 @@
 -- So many operations of a host's task by one call: each of them is a step, one behind another.
 use Rattle.std.specs.Prelude.{ℕ, suc, ◌≡◌, ◌<◌, Bool, true, false, List, length, Option, Some, None, Result, Ok, Err}
-use Rattle.fam_base.specs.Image.{Image}
 use Rattle.fam_base.specs.declared.line.OutOfMemory.{OutOfMemory}
 use Rattle.fam_cache.specs.States.{CacheState}
 use Rattle.fam_commands.specs.Task.{Task}
@@ -34,20 +33,19 @@ pub record StopsWithin {S : Type 0} (R : S → S → Type 0) (most : ℕ) (a b :
   pub within : count < most
   pub goes : Iterated R a b count
 
--- a world, and what its media tells: the image, where it is modelled, and the count of faults
+-- a world, and what its media tells
 pub record WorldStanding : Type 0 where
   pub world : WorldView
-  pub told : Option Image
-  pub faults : ℕ
+  pub media : MediaState
 
 -- with this media
 abbrev pub standing : {M : Type 0} → (M → MediaState) → M → WorldView → WorldStanding
-standing state media world = record { world = world; told = (state media).image; faults = (state media).faults }
+standing state media world = record { world = world; media = state media }
 
 -- a step of the host of this name, which wasn't refused, on a media of so many lines; and whether its task is over
 pub record WorldStep (name : List ℕ) (lines : ℕ) (over : Bool) (a b : WorldStanding) : Type 0 where
-  pub modelled : IfModelled a.told (λ image. length image ≡ lines)
-  pub step : StepCall name lines None over a.told b.told a.faults b.faults a.world b.world
+  pub modelled : IfModelled a.media.image (λ image. length image ≡ lines)
+  pub step : StepCall name lines None over (record { old = a.media; new = b.media }) a.world b.world
 
 -- what is said of at most so many steps: all were done, and the task goes on; or it answered with one of them; or the first
 -- one was refused; or no memory was left behind fewer of them
@@ -55,7 +53,7 @@ abbrev pub StepsSay : List ℕ → ℕ → ℕ → WorldStanding → WorldStandi
 StepsSay name lines most a b (Ok moved.Going) = Iterated (WorldStep name lines false) a b most
 StepsSay name lines most a b (Ok moved.Answered) = EndsWithin (WorldStep name lines false) (WorldStep name lines true) most a b
 StepsSay name lines most a b (Err (fault.Refused cause)) =
-    StepCall name lines (Some cause) false a.told b.told a.faults b.faults a.world b.world
+    StepCall name lines (Some cause) false (record { old = a.media; new = b.media }) a.world b.world
 StepsSay name lines most a b (Err fault.OutOfMemory) = StopsWithin (WorldStep name lines false) most a b
 
 -- The same of a host alone.
@@ -64,17 +62,16 @@ StepsSay name lines most a b (Err fault.OutOfMemory) = StopsWithin (WorldStep na
 pub record HostStanding : Type 0 where
   pub host : HostView
   pub notes : List Note
-  pub told : Option Image
-  pub faults : ℕ
+  pub media : MediaState
 
 -- with this media
 abbrev pub host_standing : {M : Type 0} → (M → MediaState) → M → HostView → List Note → HostStanding
-host_standing state media host notes = record { host = host; notes = notes; told = (state media).image; faults = (state media).faults }
+host_standing state media host notes = record { host = host; notes = notes; media = state media }
 
 -- with this media, of a host that runs this task, if any, on this cache
 abbrev pub task_standing : {M : Type 0} → (M → MediaState) → M → HostView → Option Task → CacheState → List Note → HostStanding
 task_standing state media view task cache notes =
-    record { host = record view { task = task; cache = cache.lines }; notes = notes; told = (state media).image; faults = (state media).faults }
+    record { host = record view { task = task; cache = cache.lines }; notes = notes; media = state media }
 
 -- the task that the host has behind operations of this one
 abbrev pub task_left : Result Moved OutOfMemory → Option Task → Option Task
@@ -86,8 +83,8 @@ task_left (Err full) task = task
 pub record HostStep (at lines : ℕ) (over : Bool) (a b : HostStanding) : Type 0 where
   pub task : Task
   pub runs : a.host.task ≡ Some task
-  pub modelled : IfModelled a.told (λ image. length image ≡ lines)
-  pub step : IsStep at task (record { old = a.host; new = b.host; before = a.notes; after = b.notes; told = a.told; now = b.told; size = lines; faults = a.faults; faults_now = b.faults }) over
+  pub modelled : IfModelled a.media.image (λ image. length image ≡ lines)
+  pub step : IsStep at task (record { old = a.host; new = b.host; before = a.notes; after = b.notes; lines = lines; media = record { old = a.media; new = b.media } }) over
 
 -- what is said of at most so many operations of its task: all were done, and it goes on; or it answered with one of them; or
 -- no memory was left behind fewer of them

@@ -6,6 +6,7 @@ ghost use Rattle.fam_media.specs.Outside.{IfModelled};
 ghost use Rattle.fam_tasks.specs.declared.answer.Turn.TheVariants.{Go};
 ghost use Rattle.fam_journal.specs.CallRecords.{TaskFits};
 ghost use Rattle.fam_journal.specs.View.{HostView};
+ghost use Rattle.fam_run.specs.Operation.{said_of};
 ghost use Rattle.fam_world.specs.Counted.{HostStepsSay, RunsUp, host_standing, moved_up, task_left, task_standing};
 ghost use Rattle.fam_world.specs.Steps.{CacheFits};
 ghost use Rattle.fam_world.specs.Turns.{IsNoted, task_note};
@@ -19,8 +20,9 @@ use fam_cache::{HostCache, OperationFault};
 use fam_journal::HostId;
 use fam_media::Media;
 use fam_notes::Note;
-use fam_run::{advance, operate, operate_held};
+use fam_run::{advance, operate, operate_cached};
 use fam_tasks::{Answer, Replica, Task, TaskNote, Turn};
+use std::mem::replace;
 
 /// A note of a host's task.
 fn note_of(host: HostId, note: TaskNote) -> Note
@@ -33,27 +35,45 @@ fn note_of(host: HostId, note: TaskNote) -> Note
     }
 }
 
-/// Notes what came of operations of a host's task, for which there is room, and says whether the task is over.
+/// Notes what a host's task says, for which there is room, and says whether the task is over.
+fn note_said(journal: &mut Vec<Note>, host: HostId, said: Turn) -> Moved
+    requires room { vec_len journal.old < vec_capacity journal.old }
+    ensures noted { IsNoted host.0 (Ok said) (notes_view journal.old.items) (notes_view journal.new.items) (Ok result) }
+    ensures quiet { said ≡ Go → journal.new ≡ journal.old }
+{
+    match said {
+        Turn::Go => Moved::Going,
+        Turn::Note(note) => {
+            add(journal, note_of(host, note));
+            Moved::Going
+        }
+        Turn::Done(answer) => {
+            add(journal, Note::Answered { host, answer });
+            Moved::Answered
+        }
+    }
+}
+
+/// Notes what came of operations of a host's task, for which there is room, and says whether the task is over. Where it goes
+/// on, `turn` is `Go` again.
 #[inline(always)]
 fn note_turn(
     journal: &mut Vec<Note>,
     host: HostId,
-    turned: Result<Turn, OperationFault>,
+    advanced: Result<(), OperationFault>,
+    turn: &mut Turn,
 ) -> Result<Moved, OutOfMemory>
     requires room { vec_len journal.old < vec_capacity journal.old }
-    ensures noted { IsNoted host.0 turned (notes_view journal.old.items) (notes_view journal.new.items) result }
-    ensures quiet { turned ≡ Ok Go → journal.new ≡ journal.old }
+    ensures noted { IsNoted host.0 (said_of advanced turn.old) (notes_view journal.old.items)
+        (notes_view journal.new.items) result }
+    ensures quiet { said_of advanced turn.old ≡ Ok Go → journal.new ≡ journal.old }
+    ensures go { OnOk result (turn.new ≡ Go) }
 {
-    match turned {
-        Ok(Turn::Go) => Ok(Moved::Going),
-        Ok(Turn::Note(note)) => {
-            add(journal, note_of(host, note));
-            Ok(Moved::Going)
-        }
-        Ok(Turn::Done(answer)) => {
-            add(journal, Note::Answered { host, answer });
-            Ok(Moved::Answered)
-        }
+    match advanced {
+        Ok(()) => match turn {
+            Turn::Go => Ok(Moved::Going),
+            _ => Ok(note_said(journal, host, replace(turn, Turn::Go))),
+        },
         Err(OperationFault::MediaFault(line)) => {
             let answer = Answer::MediaFault(line);
             add(journal, Note::Answered { host, answer });
@@ -82,15 +102,21 @@ fn run_most<M: Media>(
     ensures undone { most ≡ 1 → OnErr result (media.new ≡ media.old) }
     ensures size { M.size media.new ≡ M.size media.old }
 {
+    let mut turn = Turn::Go;
     let mut done = 0;
     'operations: while done < most {
         if make_room(journal).is_err() {
             return Err(OutOfMemory);
         }
-        match note_turn(journal, host, operate(cache, task, media)) {
+        match note_turn(
+            journal,
+            host,
+            operate(cache, task, media, &mut turn),
+            &mut turn,
+        ) {
             Ok(Moved::Going) => {
                 done += 1;
-                done += operate_held(cache, task, most - done);
+                done += operate_cached(cache, task, most - done);
             }
             Ok(Moved::Answered) => return Ok(Moved::Answered),
             Err(_) => return Err(OutOfMemory),
@@ -118,14 +144,20 @@ fn run_up<M: Media>(
         → IfModelled (M.state media.old).image (λ image. (M.state media.new).image ≡ Some image)) }
     ensures size { M.size media.new ≡ M.size media.old }
 {
+    let mut turn = Turn::Go;
     'operations: loop {
         if make_room(journal).is_err() {
             return Err(OutOfMemory);
         }
-        match note_turn(journal, host, advance(cache, task, media)) {
+        match note_turn(
+            journal,
+            host,
+            advance(cache, task, media, &mut turn),
+            &mut turn,
+        ) {
             Ok(Moved::Going) => {
                 task.is_sound();
-                let _ = operate_held(cache, task, u64::MAX);
+                let _ = operate_cached(cache, task, u64::MAX);
                 task.is_sound();
             }
             Ok(Moved::Answered) => return Ok(()),

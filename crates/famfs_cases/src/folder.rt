@@ -7,7 +7,7 @@ use std::alloc::Global;
 
 /// A file that stands in the folder at first.
 #[derive(Drop)]
-struct Held {
+struct StoredFile {
     name: String,
     bytes: Vec<u8>,
 }
@@ -23,7 +23,7 @@ struct Failure {
 #[derive(Drop)]
 pub struct Folder {
     pub shade: MemShade,
-    held: Vec<Held>,
+    held: Vec<StoredFile>,
     failures: Vec<Failure>,
 }
 
@@ -54,7 +54,7 @@ impl Folder {
     /// The name is a file of these bytes.
     pub fn hold(&mut self, name: String, bytes: Vec<u8>) -> Result<(), Stop> {
         self.shade.add(name.as_str(), bytes.as_slice())?;
-        push(&mut self.held, Held { name, bytes })
+        push(&mut self.held, StoredFile { name, bytes })
     }
 
     /// The call of this number, from 0, will fail, and where it is a put keep at most so many bytes.

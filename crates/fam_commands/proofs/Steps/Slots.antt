@@ -3,21 +3,18 @@ use Rattle.std.proofs.Common.{ℕ, ◌≡◌, ◌<◌, ◌+◌, ◌-◌, ◌*◌
 use Rattle.std.specs.Prelude.{find}
 use Rattle.std.specs.Option.{option_or}
 use Rattle.std.specs.FinMap as finmap
-use Rattle.std.specs.FinMap.{get-insert}
-use Rattle.std.specs.Cmp.{eq_by_cmp_equiv}
-use Rattle.std.specs.Cmp.Lexicographic.{nat_list_cmp_total, texts_ties}
 use Rattle.std.proofs.lemmas.Bool.{cases_Bool, cases_lt}
 use Rattle.std.proofs.lemmas.List.Folds.{find-append}
 use Rattle.std.proofs.lemmas.Slice.Eq.{bytes_eq-Decides}
 use Rattle.fam_base.specs.declared.cmd.Cmd.{Cmd}
 use Rattle.fam_base.specs.declared.cmd.Cmd.TheVariants.{Fsck}
 use Rattle.fam_base.specs.declared.entry.Entry.{Entry}
-use Rattle.fam_base.specs.PathOrder.{path_cmp, path_eq}
+use Rattle.fam_base.specs.PathOrder.{path_eq}
 use Rattle.fam_format.specs.declared.faults.Reason.{Reason}
 use Rattle.fam_format.specs.Slot.{entry_of}
 use Rattle.fam_format.specs.Tree.{replay, join_fault}
 use Rattle.fam_format.specs.Reading.{Sound, slot_in, slot_words, slot_or, joined_or}
-use Rattle.fam_format.proofs.JoinLaws.{joins_from, replay_more}
+use Rattle.fam_format.proofs.JoinLaws.{joins_from, tree_more}
 use Rattle.fam_rules.specs.Reply as reply
 use Rattle.fam_rules.specs.Reports.{survey_slot}
 use Rattle.fam_commands.specs.declared.phase.Part.TheVariants.{Slot}
@@ -38,12 +35,6 @@ use Rattle.fam_commands.proofs.Steps.Ties.{AreRead, SlotsKnown, TaskSlots, InPar
 or_none : {A : Type 0} (o : Option A) → option_or o None ≡ o
 or_none None = refl
 or_none (Some x) = refl
-
-tree_more : (list : List Entry) (e : Entry) (path : List ℕ) → finmap.get (replay (list ++ e ∷ [])) path ≡ cond (path_eq e.path path) (Some e) (finmap.get (replay list) path)
-tree_more list e path =
-    ap (λ (t : finmap.FinMap path_cmp Entry). finmap.get t path) (replay_more list e)
-    ∙ get-insert nat_list_cmp_total (replay list) e.path e path
-    ∙ ap (λ (b : Bool). cond b (Some e) (finmap.get (replay list) path)) ((eq_by_cmp_equiv nat_list_cmp_total).symm path e.path ∙ sym (texts_ties e.path path))
 
 -- with an entry more, a path is found where it was or is new
 pub lookups_more : (list : List Entry) (e : Entry) → ((path : List ℕ) → finmap.get (replay list) path ≡ find (λ x. path_eq x.path path) list) → finmap.get (replay list) e.path ≡ None → (path : List ℕ) → finmap.get (replay (list ++ e ∷ [])) path ≡ find (λ x. path_eq x.path path) (list ++ e ∷ [])

@@ -105,10 +105,6 @@ module _ (start : Image) (state : Machines) (world : WorldView) (held : Agrees s
   apart k None is e = absurd cc
   apart k (Some view) is e = other k view is (Rattle.std.proofs.lemmas.Option.same_Some view.uuid uuid e)
 
-  -- nobody has a task there
-  run_none : (o : Option HostPast) → run_at None o ≡ None
-  run_none o = refl
-
   runs : (k : ℕ) → run_at (slice_get views k) (slice_get (x.hosts ++ new_host name uuid ∷ []) k) ≡ run_at (slice_get world.hosts k) (slice_get x.hosts k)
   runs k =
       elim (cases_eq k n) [

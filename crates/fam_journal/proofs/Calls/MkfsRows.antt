@@ -36,7 +36,7 @@ use Rattle.fam_journal.specs.Notes.{Made, Refused}
 use Rattle.fam_journal.specs.Past.{HostPast, Past, past_of}
 use Rattle.fam_journal.proofs.Calls.Hosts.{held_with, stands_changed, told_changed, uuids_same}
 use Rattle.fam_journal.proofs.Calls.Members.{changed_at_member, changed_other}
-use Rattle.fam_machine.specs.Whole.{IsWhole}
+use Rattle.fam_machine.specs.EightWords.{HasEightWords}
 use Rattle.fam_machine.proofs.MkfsOps.{made_dirty, all_left, formatted_normal, prefix_dropped, gate_dropped, header_dropped, magic_dropped, read_in_turn, read_length, read_normal, rest_dropped, whole_left}
 use Rattle.fam_protocol.proofs.Hosts.Inside.{dirty_inside}
 use Rattle.fam_journal.proofs.Calls.Rows.{Declared, moved_held, refused_held}
@@ -54,7 +54,7 @@ module _ (start : Image) (state : Machines) (world : WorldView) (held : Agrees s
   abbrev m : Machine
   m = record { image = state.memory; cache = d.view.cache }
 
-  whole : IsWhole m
+  whole : HasEightWords m
   whole l =
       eight_whole (current (line_at state.memory l) (cell_at d.view.cache l))
       (subst (λ (o : Option HostView). length (current (line_at state.memory l) (copy_at o l)) ≡ 8) d.view_is (held.invariant.wide.copies h l))

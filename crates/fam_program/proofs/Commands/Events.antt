@@ -19,7 +19,7 @@ use Rattle.fam_outcomes.specs.Programs.{MakesParents, OneShot, ends_command, las
 use Rattle.fam_outcomes.specs.Runs.{Outside}
 use Rattle.fam_outcomes.specs.Statuses.{last_stops}
 use Rattle.fam_program.specs.Far.{AreSoundEvents}
-use Rattle.fam_program.specs.Quiet.{AreShotEvents, HasStopped}
+use Rattle.fam_program.specs.Unprinted.{AreShotEvents, HasStopped}
 use Rattle.fam_program.specs.Runs.{HasEnded}
 use Rattle.fam_program.proofs.Commands.LastNotes.{behind_first, runs_end, stopped_end}
 

@@ -17,13 +17,13 @@ use Rattle.fam_journal.specs.Machines.{HostState, Machines}
 use Rattle.fam_journal.specs.Notes.{Note}
 use Rattle.fam_outcomes.specs.Programs.{last_passes}
 use Rattle.fam_journal.specs.View.{HostStandsAt, HostView, WorldStands, WorldView}
-use Rattle.fam_events.specs.Around.{session}
+use Rattle.fam_events.specs.WorldChange.{session}
 use Rattle.fam_events.specs.Happens.{EventSays}
 use Rattle.fam_events.specs.Rested.{IsRested, IsRun}
 use Rattle.fam_events.specs.declared.fault.EventFault.{EventFault}
 use Rattle.fam_events.specs.declared.fault.EventFault.TheVariants as fault
 use Rattle.fam_program.specs.Far.{Base, Far, FarOn, Now}
-use Rattle.fam_program.specs.Quiet.{IsOneRun}
+use Rattle.fam_program.specs.Unprinted.{IsOneRun}
 use Rattle.fam_program.specs.Shots.{is_short}
 use Rattle.fam_program.proofs.Runs.GoesOn.{next_of}
 use Rattle.fam_program.proofs.Commands.MemoryLeft.{AreClean, declared, one_run, one_spares}

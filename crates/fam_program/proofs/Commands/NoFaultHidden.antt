@@ -20,7 +20,7 @@ use Rattle.fam_events.specs.declared.fault.EventFault.{EventFault}
 use Rattle.fam_events.specs.declared.fault.EventFault.TheVariants as fault
 use Rattle.fam_events.proofs.Running.{note_runs}
 use Rattle.fam_program.specs.Far.{Base, Now}
-use Rattle.fam_program.specs.Quiet.{GoesOn, HidesNoFault, IsShotEvent}
+use Rattle.fam_program.specs.Unprinted.{GoesOn, HidesNoFault, IsShotEvent}
 use Rattle.fam_program.specs.Shots.{is_short}
 use Rattle.fam_program.proofs.Runs.GoesOn.{next_of}
 use Rattle.fam_program.proofs.Runs.Stops.{of_none, or_parts}

@@ -15,7 +15,7 @@ use Rattle.fam_outcomes.specs.Runs.{NoneFalls, Outside}
 use Rattle.fam_outcomes.specs.Statuses.{last_status}
 use Rattle.fam_events.specs.declared.fault.EventFault.{EventFault}
 use Rattle.fam_program.specs.Puts.{Put}
-use Rattle.fam_program.specs.Quiet.{HasStopped, MayLack, ShotEnded}
+use Rattle.fam_program.specs.Unprinted.{HasStopped, MayLack, ShotEnded}
 use Rattle.fam_shadow.specs.Nodes.{ShadeChange}
 use Rattle.fam_program.specs.Shadows.{IsUntouched, ShadowTop, logplay, shadow_status, shadow_text, shown_tree}
 use Rattle.fam_program.specs.Shots.{ShotSays}

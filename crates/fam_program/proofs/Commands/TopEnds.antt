@@ -29,7 +29,7 @@ use Rattle.fam_outcomes.specs.Texts.{is_sound_report, shown}
 use Rattle.fam_events.specs.declared.fault.EventFault.{EventFault}
 use Rattle.fam_events.specs.declared.fault.EventFault.TheVariants as fault
 use Rattle.fam_program.specs.Puts.{Put}
-use Rattle.fam_program.specs.Quiet.{GoesOn, HasStopped, MayLack, ShotEnded}
+use Rattle.fam_program.specs.Unprinted.{GoesOn, HasStopped, MayLack, ShotEnded}
 use Rattle.fam_program.specs.Runs.{HasEnded}
 use Rattle.fam_program.specs.Shots.{LastSays, ShotSays, is_short}
 use Rattle.fam_program.proofs.Commands.LastNotes.{behind_first, host_end, mkfs_end, runs_end, stopped_end}

@@ -23,7 +23,7 @@ use Rattle.fam_journal.specs.Notes.{Note}
 use Rattle.fam_outcomes.specs.Runs.{EndsBroken, HasRisen, Outside, RunsOn, SourceCaused}
 use Rattle.fam_journal.proofs.JournalLaws.{held_reads_as}
 use Rattle.fam_journal.proofs.Runs.Unique.{faults_both}
-use Rattle.fam_events.specs.Around.{Around, session}
+use Rattle.fam_events.specs.WorldChange.{WorldChange, session}
 use Rattle.fam_events.specs.Happens.{EventBroken, EventDone, EventEnded, EventPart}
 use Rattle.fam_program.specs.Far.{Base, Far, Now}
 use Rattle.fam_program.specs.Runs.{HasEnded}
@@ -80,7 +80,7 @@ module _ (b : Base) (count : ℕ) (n : Now) (far : Far b count n) (shelf : Shelf
 
 -- An event ends the run.
 module _ (b : Base) (count : ℕ) (n m : Now) (far : Far b count n) (e : Event) (is : slice_get b.events count ≡ Some e) (shelf : ShelfChange) (all : SinkChange) where
-  abbrev a : Around
+  abbrev a : WorldChange
   a = next_of b n m
 
   abbrev end_out : Outside

@@ -13,7 +13,7 @@ use Rattle.fam_journal.specs.Notes.{Note}
 use Rattle.fam_outcomes.specs.Texts.{names_behind, render_behind}
 use Rattle.fam_notes.specs.declared.note.Note.{Note as Kept}
 use Rattle.fam_notes.specs.Notes.{note_view, notes_view}
-use Rattle.fam_events.specs.Around.{Around}
+use Rattle.fam_events.specs.WorldChange.{WorldChange}
 use Rattle.fam_events.specs.declared.fault.EventFault.{EventFault}
 use Rattle.fam_events.specs.declared.fault.EventFault.TheVariants as fault
 use Rattle.fam_events.specs.Happens.{EventSays}
@@ -34,27 +34,27 @@ cause_more : (a b : ShelfChange) → IsEarlier a b → (end : SourceEnd) → Has
 cause_more a b e Faulted cause = subst (Rose b.old.faults) e.faults_now (rose_more b.old.faults a.old.faults a.new.faults e.faults cause)
 cause_more a b e (Short size got) cause = (subst (Rose b.old.shorts) e.shorts_now (rose_more b.old.shorts a.old.shorts a.new.shorts e.shorts cause.0), cause.1)
 
-says_more : (e : Event) (a b : ShelfChange) (around : Around) (r : Result (Unit {0}) EventFault) → IsEarlier a b → EventSays e a around r → EventSays e b around r
-says_more e a b around (Ok x) earlier says = says
-says_more e a b around (Err fault.MkfsFailed) earlier says = says
-says_more e a b around (Err (fault.SourceEnded end)) earlier says = (says.0, cause_more a b earlier end says.1)
-says_more e a b around (Err fault.OutOfMemory) earlier says = says
+says_more : (e : Event) (a b : ShelfChange) (world_change : WorldChange) (r : Result (Unit {0}) EventFault) → IsEarlier a b → EventSays e a world_change r → EventSays e b world_change r
+says_more e a b world_change (Ok x) earlier says = says
+says_more e a b world_change (Err fault.MkfsFailed) earlier says = says
+says_more e a b world_change (Err (fault.SourceEnded end)) earlier says = (says.0, cause_more a b earlier end says.1)
+says_more e a b world_change (Err fault.OutOfMemory) earlier says = says
 
 -- on a media of as many lines, with the same files
-pub says_from : (e : Event) (a b : ShelfChange) (around : Around) (lines : ℕ) (files : Option Files) (r : Result (Unit {0}) EventFault) → around.lines ≡ lines → around.files ≡ files → IsEarlier a b → EventSays e a around r
-    → EventSays e b (record around { lines = lines; files = files }) r
-says_from e a b around lines files r lines_are files_are earlier says =
-    subst (λ (f : Option Files). EventSays e b (record around { lines = lines; files = f }) r) files_are
-    (subst (λ (n : ℕ). EventSays e b (record around { lines = n; files = around.files }) r) lines_are (says_more e a b around r earlier says))
+pub says_from : (e : Event) (a b : ShelfChange) (world_change : WorldChange) (lines : ℕ) (files : Option Files) (r : Result (Unit {0}) EventFault) → world_change.lines ≡ lines → world_change.files ≡ files → IsEarlier a b → EventSays e a world_change r
+    → EventSays e b (record world_change { lines = lines; files = files }) r
+says_from e a b world_change lines files r lines_are files_are earlier says =
+    subst (λ (f : Option Files). EventSays e b (record world_change { lines = lines; files = f }) r) files_are
+    (subst (λ (n : ℕ). EventSays e b (record world_change { lines = n; files = world_change.files }) r) lines_are (says_more e a b world_change r earlier says))
 
 -- the notes that an event adds, however it ends
-pub record Noted (a : Around) : Type 0 where
+pub record Noted (a : WorldChange) : Type 0 where
   pub notes : List Note
   pub joined : a.new.journal ≡ a.old.journal ++ notes
   pub named : AreNamed (length a.old.hosts) notes
   pub later : a.media.old.faults ≤ a.media.new.faults
 
-pub noted : (e : Event) (shelf : ShelfChange) (a : Around) (r : Result (Unit {0}) EventFault) → EventSays e shelf a r → Noted a
+pub noted : (e : Event) (shelf : ShelfChange) (a : WorldChange) (r : Result (Unit {0}) EventFault) → EventSays e shelf a r → Noted a
 noted e shelf a (Ok x) says = record { notes = says.adds.notes; joined = says.adds.joined; named = says.adds.named; later = says.adds.later }
 noted e shelf a (Err fault.MkfsFailed) says = record { notes = says.adds.notes; joined = says.adds.joined; named = says.adds.named; later = says.adds.later }
 noted e shelf a (Err (fault.SourceEnded end)) says = record { notes = says.0.adds.notes; joined = says.0.adds.joined; named = says.0.adds.named; later = says.0.adds.later }

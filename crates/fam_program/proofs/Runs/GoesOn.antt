@@ -18,7 +18,7 @@ use Rattle.fam_journal.proofs.Forms.Pairs.{pairs_length}
 use Rattle.fam_journal.proofs.JournalLaws.{begun}
 use Rattle.fam_journal.proofs.Runs.Unique.{faults_both}
 use Rattle.fam_outcomes.proofs.Names.{named_added}
-use Rattle.fam_events.specs.Around.{Around, session}
+use Rattle.fam_events.specs.WorldChange.{WorldChange, session}
 use Rattle.fam_events.specs.Happens.{EventDone}
 use Rattle.fam_program.specs.Far.{Base, Far, Now}
 use Rattle.fam_program.proofs.Runs.OneMore.{follows_more, form_more, take_next}
@@ -72,7 +72,7 @@ names_count world formed = pairs_length HostFormed world.hosts (forms_of world.j
 
 -- An event from here on.
 
-abbrev pub next_of : Base → Now → Now → Around
+abbrev pub next_of : Base → Now → Now → WorldChange
 next_of b n m = record {
   lines = b.lines;
   old = n.world;
@@ -84,7 +84,7 @@ next_of b n m = record {
 }
 
 module _ (b : Base) (count : ℕ) (n m : Now) (far : Far b count n) where
-  abbrev a : Around
+  abbrev a : WorldChange
   a = next_of b n m
 
   -- its notes name hosts that are declared

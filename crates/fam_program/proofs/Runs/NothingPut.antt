@@ -14,7 +14,7 @@ use Rattle.fam_events.specs.declared.fault.EventFault.{EventFault}
 use Rattle.fam_events.specs.declared.fault.EventFault.TheVariants as fault
 use Rattle.fam_events.specs.Happens.{EventSays}
 use Rattle.fam_program.specs.Far.{Base, Far, Now}
-use Rattle.fam_program.specs.Quiet.{GoesOn, IsShotEvent}
+use Rattle.fam_program.specs.Unprinted.{GoesOn, IsShotEvent}
 use Rattle.fam_program.specs.Runs.{HasEnded, ending_of}
 use Rattle.fam_program.proofs.Runs.Ends.{broken_ended, out_of, part_ended, source_ended}
 use Rattle.fam_program.proofs.Runs.GoesOn.{next_of}

@@ -22,7 +22,7 @@ use Rattle.fam_outcomes.specs.Statuses.{last_stops, note_stops}
 use Rattle.fam_journal.proofs.Calls.Members.{changed_here}
 use Rattle.fam_events.specs.Happens.{FormOfPart}
 use Rattle.fam_machine.specs.Mkfs.{asked}
-use Rattle.fam_program.specs.Quiet.{GoesOn, IsShotEvent}
+use Rattle.fam_program.specs.Unprinted.{GoesOn, IsShotEvent}
 
 -- One note.
 

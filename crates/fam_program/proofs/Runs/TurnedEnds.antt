@@ -10,7 +10,7 @@ use Rattle.fam_outcomes.specs.Statuses.{note_stops}
 use Rattle.fam_events.specs.declared.fault.EventFault.{EventFault}
 use Rattle.fam_events.specs.Rested.{IsRested, IsRun}
 use Rattle.fam_program.specs.Far.{Far, Now, base_of, now_of}
-use Rattle.fam_program.specs.Quiet.{GoesOn, HidesNoFault, IsOneRun, IsShotEvent}
+use Rattle.fam_program.specs.Unprinted.{GoesOn, HidesNoFault, IsOneRun, IsShotEvent}
 use Rattle.fam_program.specs.Runs.{HasEnded, ending_of, outside_of}
 use Rattle.fam_program.proofs.Commands.ImageLeft.{fault_spares}
 use Rattle.fam_program.proofs.Commands.NoFaultHidden.{fault_hides}

@@ -9,7 +9,7 @@ use Rattle.fam_journal.specs.declared.event.Event.{Event}
 use Rattle.fam_journal.specs.Laws.{IsImage}
 use Rattle.fam_journal.specs.View.{WorldView, empty_world}
 use Rattle.fam_grammar.specs.Sound.{IsSoundEvent}
-use Rattle.fam_events.specs.Around.{around}
+use Rattle.fam_events.specs.WorldChange.{world_change}
 use Rattle.fam_events.specs.declared.fault.EventFault.{EventFault}
 use Rattle.fam_events.specs.Happens.{EventSays}
 use Rattle.fam_program.specs.Far.{AreSoundEvents, Far, Now, base_of, now_of}
@@ -67,13 +67,13 @@ module _ {M S : Type 0} {size : M → ℕ} {state : M → MediaState} {shelf_sta
 
     -- it comes to its end
     pub turned : {e : Event} {more : List Event} → left ≡ e ∷ more → (next : M) (shelf_next : S) (after : WorldView) (read : ℕ) (said : Result (Unit {0}) EventFault) → size next ≡ size here → IsShelfSteady (shelf_state shelf_here) (shelf_state shelf_next)
-        → EventSays e (change shelf_state shelf_here shelf_next) (around size state here next world after (shelf_state shelf_here).files copied read) said
+        → EventSays e (change shelf_state shelf_here shelf_next) (world_change size state here next world after (shelf_state shelf_here).files copied read) said
         → Turned size state shelf_state events media next shelf shelf_next (now_of world (state here) copied) after read passed e said
     turned {e} {more} is next shelf_next after read said size_is steady says =
         let b = base_of events (size media) (state media) (shelf_state shelf) in
         let later = change shelf_state shelf shelf_next in
         let from : EventSays e later (next_of b (now_of world (state here) copied) (now_of after (state next) read)) said =
-        says_from e (change shelf_state shelf_here shelf_next) later (around size state here next world after (shelf_state shelf_here).files copied read) (size media) (shelf_state shelf).files said t.size_is t.shelf_steady.same
+        says_from e (change shelf_state shelf_here shelf_next) later (world_change size state here next world after (shelf_state shelf_here).files copied read) (size media) (shelf_state shelf).files said t.size_is t.shelf_steady.same
         (record { faults = t.shelf_steady.faults_later; faults_now = refl; shorts = t.shelf_steady.shorts_later; shorts_now = refl }) says in
         record {
           far = t.far;

@@ -22,7 +22,7 @@ use Rattle.fam_outcomes.specs.Statuses.{good_status, is_good}
 use Rattle.fam_outcomes.specs.Texts.{names_behind, render, render_behind}
 use Rattle.fam_journal.proofs.JournalLaws.{held_reads_as}
 use Rattle.fam_outcomes.proofs.Names.{render_more}
-use Rattle.fam_events.specs.Around.{Around, session}
+use Rattle.fam_events.specs.WorldChange.{WorldChange, session}
 use Rattle.fam_events.specs.declared.fault.EventFault.{EventFault}
 use Rattle.fam_events.specs.declared.fault.EventFault.TheVariants as fault
 use Rattle.fam_events.specs.Happens.{EventBroken, EventDone, EventEnded, EventPart, EventSays}
@@ -176,7 +176,7 @@ module _ (b : Base) (shelf : ShelfChange) (all : SinkChange) where
     put_before m more put = has_put (out_at m) (render n.world.journal) (short_text put.0 more) s now_is sink_is later mid status.OutOfMemory given put.1
 
     module _ (count : ℕ) (far : Far b count n) (e : Event) (is : slice_get b.events count ≡ Some e) (m : Now) where
-      abbrev a : Around
+      abbrev a : WorldChange
       a = next_of b n m
 
       -- behind an event that is done

@@ -32,7 +32,7 @@ use Rattle.fam_protocol.specs.SharedState.{SharedState}
 use Rattle.fam_protocol.specs.Tasks.{AtPhase, OnPart}
 use Rattle.fam_protocol.specs.Invariant.{Hosts, Settled, Small, Damaged, Known, InvariantBy}
 use Rattle.fam_protocol.proofs.Lines.Apart.{line_begins, slot_before}
-use Rattle.fam_protocol.proofs.Lines.Quiet.{wanted_line}
+use Rattle.fam_protocol.proofs.Lines.Clean.{wanted_line}
 use Rattle.fam_protocol.proofs.Hosts.SoundReads.{super_is_sound}
 use Rattle.fam_rules.specs.Asks.{File}
 use Rattle.fam_rules.specs.Place.{line_bytes}

@@ -11,7 +11,7 @@ use Rattle.fam_protocol.specs.Lines.{Finished, Holding, IsHandedOver, gate_of, t
 use Rattle.fam_protocol.specs.Core.{System, Core, IsWide}
 use Rattle.fam_protocol.proofs.Lines.Free.{core_kept, dirty_was, transfers_at, wide_now}
 use Rattle.fam_protocol.proofs.Lines.Keeping.{Keeps}
-use Rattle.fam_protocol.proofs.Lines.Quiet.{Quiet}
+use Rattle.fam_protocol.proofs.Lines.Clean.{NobodyDirty}
 use Rattle.fam_protocol.proofs.Lines.Transferring.{transfer_keeps}
 
 -- a line that is sent is a transfer there
@@ -29,7 +29,7 @@ same_keeps sys h settled s = record {
 }
 
 -- what stays in two steps, of which the first makes nothing dirty
-pub keeps_then : (sys : System) (h settled : ℕ) (s next s' : SharedState) → ((l : ℕ) → Quiet s l → Quiet next l) → Keeps sys h settled s next → Keeps sys h settled next s' → Keeps sys h settled s s'
+pub keeps_then : (sys : System) (h settled : ℕ) (s next s' : SharedState) → ((l : ℕ) → NobodyDirty s l → NobodyDirty next l) → Keeps sys h settled s next → Keeps sys h settled next s' → Keeps sys h settled s s'
 keeps_then sys h settled s next s' still first second = record {
   quiet = λ l q. second.quiet l (still l q) ∙ first.quiet l q;
   fresh = λ l q f. second.fresh l (still l q) (first.fresh l q f);

@@ -20,7 +20,7 @@ use Rattle.fam_protocol.specs.SharedState.{SharedState, TransfersAt, LeavesAt}
 use Rattle.fam_protocol.specs.Lines.{gate_of, top}
 use Rattle.fam_protocol.specs.Core.{System, Core, HeadStands, IsWide, IsEntryLine, EntryStands, masters_copy, top_of}
 use Rattle.fam_protocol.proofs.Lines.Moves.{Wide, along, wide_kept, dirty_transfer, still_transfer, same_top, gate_grows}
-use Rattle.fam_protocol.proofs.Lines.Quiet.{Quiet}
+use Rattle.fam_protocol.proofs.Lines.Clean.{NobodyDirty}
 
 -- two numbers are one or not, as a case to look at
 abbrev pub Same : ℕ → ℕ → Type 0
@@ -133,7 +133,7 @@ module _ (host line : ℕ) (s s' : SharedState) (transfers : TransfersAt host li
 
   module _ (sys : System) (all : List File) (settled : ℕ) (core : Core sys s all settled) where
     -- a line that nobody has dirty
-    pub quiet_same : (l : ℕ) → Quiet s l → s'.memory l ≡ s.memory l
+    pub quiet_same : (l : ℕ) → NobodyDirty s l → s'.memory l ≡ s.memory l
     quiet_same l q = memory_still l (q host)
 
     -- the gate's line and the master's copy of it

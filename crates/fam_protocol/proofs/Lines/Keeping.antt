@@ -16,7 +16,7 @@ use Rattle.fam_protocol.specs.SharedState.{SharedState}
 use Rattle.fam_protocol.specs.Lines.{Fresh, Holding, IsHandedOver, Finished, gate_of}
 use Rattle.fam_protocol.specs.Core.{System, Core, top_of}
 use Rattle.fam_protocol.specs.Tasks.{AtPhase, TaskHolds, HasLoaded, HasReadAll, IsAtFile, IsAtGate, IsAtSlot, IsBeingRead, IsStable, IsWriting, HasPublished, KnowsGate, AwaitsSlot, MayPublish, OnPart, StoresData, StoresSlot, kept_from, part_words}
-use Rattle.fam_protocol.proofs.Lines.Quiet.{Quiet, super_quiet, header_quiet, slot_quiet, file_quiet, wanted_line}
+use Rattle.fam_protocol.proofs.Lines.Clean.{NobodyDirty, super_quiet, header_quiet, slot_quiet, file_quiet, wanted_line}
 
 -- what a writer rests on
 pub record KeepsWriting (sys : System) (h : ℕ) (s s' : SharedState) : Type 0 where
@@ -27,8 +27,8 @@ pub record KeepsWriting (sys : System) (h : ℕ) (s s' : SharedState) : Type 0 w
 
 -- what any task of host h rests on
 pub record Keeps (sys : System) (h settled : ℕ) (s s' : SharedState) : Type 0 where
-  pub quiet : (l : ℕ) → Quiet s l → s'.memory l ≡ s.memory l
-  pub fresh : (l : ℕ) → Quiet s l → Fresh (s.memory l) (s.copy h l) → Fresh (s'.memory l) (s'.copy h l)
+  pub quiet : (l : ℕ) → NobodyDirty s l → s'.memory l ≡ s.memory l
+  pub fresh : (l : ℕ) → NobodyDirty s l → Fresh (s.memory l) (s.copy h l) → Fresh (s'.memory l) (s'.copy h l)
   pub gate : gate_of (s.memory gate_line) ≤ gate_of (s'.memory gate_line)
   pub at_gate : (floor : Option ℕ) → IsAtGate sys h floor s settled → IsAtGate sys h floor s' settled
   pub writing : sys.master ≡ Some h → KeepsWriting sys h s s'
@@ -52,11 +52,11 @@ module _ (sys : System) (s s' : SharedState) (all : List File) (settled : ℕ) (
   file_kept j t r = record { all_read = read_all_kept t r.all_read; file = r.file }
 
   -- nobody has a line of the part dirty
-  pub part_quiet : (part : Part) (j n : ℕ) (t : Task) → OnPart part j sys h floor t s all settled → IsStable t part → n < part_count t part → Quiet s (part_line t part n)
+  pub part_quiet : (part : Part) (j n : ℕ) (t : Task) → OnPart part j sys h floor t s all settled → IsStable t part → n < part_count t part → NobodyDirty s (part_line t part n)
   part_quiet Superblock j n t on sure lt = super_quiet sys s all settled core (1 + n) (omega (arith, lt))
   part_quiet Header j n t on sure lt = header_quiet sys s all settled core
   part_quiet (Slot i) j n t on sure lt =
-      subst (λ (p : Params). Quiet s (slot_line p i n)) (sym on.0.params) (slot_quiet sys s all settled core i n (omega (arith, sure, on.1.gate.high, core.order)) (omega (arith, lt)))
+      subst (λ (p : Params). NobodyDirty s (slot_line p i n)) (sym on.0.params) (slot_quiet sys s all settled core i n (omega (arith, sure, on.1.gate.high, core.order)) (omega (arith, lt)))
   part_quiet FileLines j n t on sure lt =
       let f = on.1.file in
       file_quiet sys s all settled core t.cmd t.entry f.i f.file (first_line t.cmd + n) f.is (omega (arith, f.below, on.1.all_read.gate.high, core.order)) f.entry

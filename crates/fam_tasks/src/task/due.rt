@@ -18,6 +18,8 @@ pub enum Due {
     Stored(u64),
     /// This line of a file is dropped, and its words are loaded and compared.
     Compared(LineNo),
+    /// The words of this slot are looked at: a Digest.
+    Checked(u64),
     /// Any other operation.
     Other,
 }
@@ -33,6 +35,7 @@ impl Task {
                 part: Part::Slot(slot),
                 line,
             } => self.slot_due(slot, line),
+            Phase::Check { slot } => Due::Checked(slot),
             Phase::StoreData { line, word: 0 } => Due::Stored(line),
             Phase::Drop {
                 part: Part::File,

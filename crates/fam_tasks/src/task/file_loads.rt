@@ -8,6 +8,7 @@ ghost use Rattle.fam_commands.specs.declared.phase.Phase.TheVariants as at;
 ghost use Rattle.fam_commands.specs.Task as spec;
 ghost use Rattle.fam_commands.specs.Turns as turns;
 ghost use Rattle.fam_commands.specs.Classes.{IsRead, IsVerify};
+ghost use Rattle.fam_tasks.specs.declared.answer.Turn.TheVariants.{Go};
 ghost use Rattle.fam_tasks.specs.Tells.{Tells};
 
 use super::{Task, done};
@@ -58,16 +59,19 @@ impl Task {
             part: Part::File,
             line,
         };
-        self.compare_found(line, &found)
+        let mut turn = Turn::Go;
+        self.compare_found(line, &found, &mut turn);
+        turn
     }
 
-    /// Compares these words of a line, of which none is held.
+    /// Compares these words of a line, of which none is held. Where the task is done with it, `turn` says so.
     #[inline(always)]
-    pub(super) fn compare_found(&mut self, line: u64, found: &Line) -> Turn
+    pub(super) fn compare_found(&mut self, line: u64, found: &Line, turn: &mut Turn)
+        requires go { turn.old ≡ Go }
         requires phase { self.old.phase ≡ at.Drop part.File line }
         requires verify { IsVerify self.old.cmd }
         ensures { (phase : Phase) → Tells (turns.file_turn self.old.cmd
-            (record self.old { phase = phase; words = found.now }) line) result self.new }
+            (record self.old { phase = phase; words = found.now }) line) turn.new self.new }
     {
         let size = self.file_size();
         let lines = wanted_lines(&self.cmd, size);
@@ -81,7 +85,7 @@ impl Task {
                     found,
                     wanted,
                 };
-                done(&mut self.phase, answer)
+                *turn = done(&mut self.phase, answer);
             }
             None => {
                 if line + 1 < lines {
@@ -89,9 +93,8 @@ impl Task {
                         part: Part::File,
                         line: line + 1,
                     };
-                    Turn::Go
                 } else {
-                    done(&mut self.phase, Answer::Same { m })
+                    *turn = done(&mut self.phase, Answer::Same { m });
                 }
             }
         }

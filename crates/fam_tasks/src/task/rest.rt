@@ -6,6 +6,7 @@ ghost use Rattle.fam_base.specs.Image.{eight};
 ghost use Rattle.fam_base.specs.declared.line.LineNo.{LineNo};
 ghost use Rattle.fam_commands.specs.declared.phase.Phase.TheVariants as at;
 ghost use Rattle.fam_commands.specs.Task as spec;
+ghost use Rattle.fam_tasks.specs.declared.answer.Turn.TheVariants.{Go};
 ghost use Rattle.fam_tasks.specs.Rest.{ComparesLine, DropsLine, IsComparedLine, IsFileLineDue, IsFileRest, IsRest, IsSlotRest, IsStoreRest, Loads, Stored, Stores, StoresFileLine, StoresFileRest, Taken};
 
 use super::Task;
@@ -110,11 +111,13 @@ impl Task {
         }
     }
 
-    /// The line that is dropped next was dropped, and all its words were loaded.
+    /// The line that is dropped next was dropped, and all its words were loaded. Where the task is done with it, `turn`
+    /// says so.
     #[inline(always)]
-    pub fn compare_whole(&mut self, line: LineNo, words: &Line) -> Turn
+    pub fn compare_whole(&mut self, line: LineNo, words: &Line, turn: &mut Turn)
+        requires go { turn.old ≡ Go }
         requires compared { IsComparedLine line self.old }
-        ensures { ComparesLine line (eight words.now) self.old self.new result }
+        ensures { ComparesLine line (eight words.now) self.old self.new turn.new }
     {
         let _ = line;
         self.is_sound();
@@ -122,7 +125,7 @@ impl Task {
             words[0], words[1], words[2], words[3], words[4], words[5], words[6], words[7],
         ];
         match self.phase {
-            Phase::Drop { line: number, .. } => self.compare_found(number, &found),
+            Phase::Drop { line: number, .. } => self.compare_found(number, &found, turn),
             _ => unreachable!(),
         }
     }

@@ -1,13 +1,13 @@
 //! Making a file system.
 
 ghost use Rattle.std.specs.Prelude.{◌≡◌, ◌*◌, ◌<◌, ◌≤◌, ◌++◌, ◌∷◌, [], OnErr, vec_capacity, Bool, None, ℕ, List, IfErr, IfOk, IfSome, IsErrOf, OnOk, option_map, vec_len};
-ghost use Rattle.fam_format.specs.Params.{IsUuid};
 ghost use Rattle.fam_rules.specs.Place.{line_bytes};
 ghost use Rattle.fam_machine.specs.Mkfs.{early_refusal};
 ghost use Rattle.fam_machine.specs.Mkfs as spec;
 ghost use Rattle.fam_machine.specs.MkfsRequest.{mkfs_request};
 ghost use Rattle.fam_machine.specs.Caches.{cell_at};
 ghost use Rattle.fam_media.specs.Causes.{IsSteady};
+ghost use Rattle.fam_media.specs.States.{change};
 ghost use Rattle.fam_cache.specs.Runs.{over};
 ghost use Rattle.fam_mkfs.specs.Ends.{MkfsEnds};
 ghost use Rattle.fam_mkfs.specs.Parts.{IsElsewhere};
@@ -16,7 +16,7 @@ ghost use Rattle.fam_world.specs.Makes.{IsLateEnd, end_note, end_result};
 ghost use Rattle.fam_journal.specs.Calls.{Makes, cause_of};
 ghost use Rattle.fam_journal.specs.CallRecords.{MakeCall};
 ghost use Rattle.fam_journal.specs.Notes as notes;
-ghost use Rattle.fam_world.specs.Answers.{IfAnswered, IsPlaced, IsPlain};
+ghost use Rattle.fam_world.specs.Answers.{IfAnswered, IsPlaced, IsPlain, IsUntouched};
 ghost use Rattle.fam_world.specs.View.{notes_view, views};
 
 use super::World;
@@ -27,7 +27,7 @@ use crate::notes::{add, make_room, refused};
 use fam_base::{HostName, OutOfMemory};
 use fam_format::LINE_BYTES;
 use fam_journal::{HostId, Refusal};
-use fam_machine::MkfsRequest;
+use fam_machine::{MkfsRequest, is_uuid};
 use fam_media::{MOST_LINES, Media};
 use fam_mkfs::{MkfsEnd, mkfs, refusal};
 use fam_notes::Note;
@@ -75,20 +75,6 @@ fn maker(
         return Err(Refusal::Dirty(HostId(dirty as u32)));
     }
     Ok(at)
-}
-
-/// Sixteen bytes may be those of a UUID.
-fn are_bytes(bytes: [u8; 16])
-    ensures { IsUuid bytes }
-{
-    let _ = bytes[0];
-}
-
-/// A UUID has sixteen bytes.
-fn is_uuid(id: Uuid)
-    ensures { IsUuid id }
-{
-    are_bytes(id.into_bytes());
 }
 
 /// Makes a file system through the cache of a host, of which the numbers are no hindrance.
@@ -158,7 +144,8 @@ impl World {
         force: bool,
     ) -> Result<(), WorldFault>
         ensures answered { IfAnswered result (λ answered. MakeCall (Makes name.now (mkfs_request fs unit log force)) (M.size media.old)
-            answered (M.state media.old).image (M.state media.new).image (M.state media.old).faults (M.state media.new).faults self.old self.new) }
+            answered (change M.state media.old media.new) self.old self.new) }
+        ensures untouched { IsUntouched (Makes name.now (mkfs_request fs unit log force)) (M.size media.old) self.old media.old media.new }
         ensures undone { IsErrOf result WorldFault.OutOfMemory → media.new ≡ media.old }
         ensures err { IsErrOf result WorldFault.OutOfMemory → self.new ≡ self.old }
         ensures size { M.size media.new ≡ M.size media.old }

@@ -8,11 +8,12 @@ ghost use Rattle.fam_machine.specs.OneLine.{IsHeld};
 ghost use Rattle.fam_machine.specs.Operations.{machine};
 ghost use Rattle.fam_media.specs.Causes.{IsSteady, Rose};
 ghost use Rattle.fam_media.specs.Outside.{IfModelled};
+ghost use Rattle.fam_media.specs.States.{change};
 ghost use Rattle.fam_cache.specs.Effects.{FailsTo};
 ghost use Rattle.fam_machine.specs.HostMoves as how;
 ghost use Rattle.fam_journal.specs.Calls.{Moves};
 ghost use Rattle.fam_journal.specs.CallRecords.{MediaCall};
-ghost use Rattle.fam_world.specs.Answers.{IfAnswered};
+ghost use Rattle.fam_world.specs.Answers.{IfAnswered, IsUntouched};
 ghost use Rattle.fam_world.specs.Moves.{fault_of, move_of};
 
 use super::World;
@@ -84,7 +85,8 @@ impl World {
         line: LineNo,
     ) -> Result<(), WorldFault>
         ensures answered { IfAnswered result (λ answered. MediaCall (Moves name.now line.0 how.Evict) (M.size media.old)
-            answered (M.state media.old).image (M.state media.new).image (M.state media.old).faults (M.state media.new).faults self.old self.new) }
+            answered (change M.state media.old media.new) self.old self.new) }
+        ensures untouched { IsUntouched (Moves name.now line.0 how.Evict) (M.size media.old) self.old media.old media.new }
         ensures undone { IsErrOf result WorldFault.OutOfMemory → media.new ≡ media.old }
         ensures err { IsErrOf result WorldFault.OutOfMemory → self.new ≡ self.old }
         ensures size { M.size media.new ≡ M.size media.old }
@@ -101,7 +103,8 @@ impl World {
         mask: Mask,
     ) -> Result<(), WorldFault>
         ensures answered { IfAnswered result (λ answered. MediaCall (Moves name.now line.0 (how.Leak mask.0)) (M.size media.old)
-            answered (M.state media.old).image (M.state media.new).image (M.state media.old).faults (M.state media.new).faults self.old self.new) }
+            answered (change M.state media.old media.new) self.old self.new) }
+        ensures untouched { IsUntouched (Moves name.now line.0 (how.Leak mask.0)) (M.size media.old) self.old media.old media.new }
         ensures undone { IsErrOf result WorldFault.OutOfMemory → media.new ≡ media.old }
         ensures err { IsErrOf result WorldFault.OutOfMemory → self.new ≡ self.old }
         ensures size { M.size media.new ≡ M.size media.old }
@@ -119,7 +122,8 @@ impl World {
         mask: Mask,
     ) -> Result<(), WorldFault>
         ensures answered { IfAnswered result (λ answered. MediaCall (Moves name.now line.0 (how.Fetch mask.0)) (M.size media.old)
-            answered (M.state media.old).image (M.state media.new).image (M.state media.old).faults (M.state media.new).faults self.old self.new) }
+            answered (change M.state media.old media.new) self.old self.new) }
+        ensures untouched { IsUntouched (Moves name.now line.0 (how.Fetch mask.0)) (M.size media.old) self.old media.old media.new }
         ensures undone { IsErrOf result WorldFault.OutOfMemory → media.new ≡ media.old }
         ensures err { IsErrOf result WorldFault.OutOfMemory → self.new ≡ self.old }
         ensures size { M.size media.new ≡ M.size media.old }
@@ -136,7 +140,8 @@ impl World {
         what: OwnMove,
     ) -> Result<(), WorldFault>
         ensures answered { IfAnswered result (λ answered. MediaCall (Moves name.now line.0 (move_of what)) (M.size media.old)
-            answered (M.state media.old).image (M.state media.new).image (M.state media.old).faults (M.state media.new).faults self.old self.new) }
+            answered (change M.state media.old media.new) self.old self.new) }
+        ensures untouched { IsUntouched (Moves name.now line.0 (move_of what)) (M.size media.old) self.old media.old media.new }
         ensures undone { IsErrOf result WorldFault.OutOfMemory → media.new ≡ media.old }
         ensures err { IsErrOf result WorldFault.OutOfMemory → self.new ≡ self.old }
         ensures size { M.size media.new ≡ M.size media.old }

@@ -1,9 +1,10 @@
 //! Calls that do operations of a host's task: one, so many, or all up to its answer.
 
 ghost use Rattle.std.specs.Prelude.{◌≡◌, ◌<◌, IsErrOf};
-ghost use Rattle.fam_journal.specs.Calls.{Finishes};
+ghost use Rattle.fam_media.specs.States.{change};
+ghost use Rattle.fam_journal.specs.Calls.{Finishes, Steps};
 ghost use Rattle.fam_journal.specs.CallRecords.{FinishOutOfMemory, FitsMedia, MediaCall, StepCall};
-ghost use Rattle.fam_world.specs.Answers.{IfAnswered, IfStepped};
+ghost use Rattle.fam_world.specs.Answers.{IfAnswered, IfStepped, IsUntouched};
 ghost use Rattle.fam_world.specs.Counted.{StepsSay, standing};
 
 use super::World;
@@ -23,7 +24,8 @@ impl World {
         requires fits { FitsMedia (M.size media.old) self.old.hosts }
 
         ensures answered { IfStepped result (λ answered over. StepCall name.now (M.size media.old) answered over
-            (M.state media.old).image (M.state media.new).image (M.state media.old).faults (M.state media.new).faults self.old self.new) }
+            (change M.state media.old media.new) self.old self.new) }
+        ensures untouched { IsUntouched (Steps name.now) (M.size media.old) self.old media.old media.new }
         ensures undone { IsErrOf result WorldFault.OutOfMemory → media.new ≡ media.old }
         ensures err { IsErrOf result WorldFault.OutOfMemory → self.new ≡ self.old }
         ensures size { M.size media.new ≡ M.size media.old }
@@ -46,6 +48,7 @@ impl World {
 
         ensures says { StepsSay name.now (M.size media.old) most (standing M.state media.old self.old)
             (standing M.state media.new self.new) result }
+        ensures untouched { IsUntouched (Steps name.now) (M.size media.old) self.old media.old media.new }
         ensures undone { most ≡ 1 → IsErrOf result WorldFault.OutOfMemory → media.new ≡ media.old }
         ensures size { M.size media.new ≡ M.size media.old }
     {
@@ -66,9 +69,10 @@ impl World {
         requires fits { FitsMedia (M.size media.old) self.old.hosts }
 
         ensures answered { IfAnswered result (λ answered. MediaCall (Finishes name.now) (M.size media.old) answered
-            (M.state media.old).image (M.state media.new).image (M.state media.old).faults (M.state media.new).faults self.old self.new) }
+            (change M.state media.old media.new) self.old self.new) }
+        ensures untouched { IsUntouched (Finishes name.now) (M.size media.old) self.old media.old media.new }
         ensures want { IsErrOf result WorldFault.OutOfMemory → FinishOutOfMemory name.now (M.size media.old)
-            (M.state media.old).image (M.state media.new).image (M.state media.old).faults (M.state media.new).faults self.old self.new }
+            (change M.state media.old media.new) self.old self.new }
         ensures size { M.size media.new ≡ M.size media.old }
     {
         if make_room(&mut self.journal).is_err() {

@@ -4,7 +4,7 @@ use Rattle.fam_media.specs.States.{change, ShelfChange}
 use Rattle.fam_journal.specs.View.{WorldView}
 use Rattle.fam_sources.specs.declared.sourced.Sourced.{Sourced}
 use Rattle.fam_sources.specs.Sourced.{IsSourced}
-use Rattle.fam_events.specs.Around.{Around, asking}
+use Rattle.fam_events.specs.WorldChange.{WorldChange, asking}
 use Rattle.fam_events.specs.Begins.{AskUndone}
 use Rattle.fam_events.specs.declared.asks.Asked.TheVariants.{Begun, Refused}
 use Rattle.fam_events.proofs.Asking.{asked_as, begun, ended, ready_of, undone, unfit, unfit_of}
@@ -19,7 +19,7 @@ pub returns-in-Ready-clause-says : goal.returns-in-Ready-clause-says
 returns-in-Ready-clause-says g c = λ told faults modelled fits.
     let shelf : ShelfChange = change g.S.Shelf.state c.args.shelf.now c.resolve.new.shelf in
     let now : ℕ = c.in-Ok.resolved.copied in
-    let a : Around = asking c.args.lines c.args.world.now c.start.new.world told faults (g.S.Shelf.state c.args.shelf.now).files c.args.copied.now now in
+    let a : WorldChange = asking c.args.lines c.args.world.now c.start.new.world told faults (g.S.Shelf.state c.args.shelf.now).files c.args.copied.now now in
     let ready = ready_of shelf c.args.copied.now c.args.what now c.in-Ok.resolved.sourced c.in-Ready.cmd _ c.in-Ready.is c.in-Ready.cmd-is c.in-Ok.ensures.says in
     asked_as c.args.name.now c.args.what shelf a c.start.result _ (c.start.new.world ≡ c.args.world.now) Begun c.start.ensures.done c.start.ensures.err c.start.ensures.undone
     (λ w. begun c.args.name.now c.args.what c.args.lines c.args.world.now c.requires.formed fits told modelled faults (g.S.Shelf.state c.args.shelf.now).files c.args.copied.now (c.requires.free Logplay) _ c.start.ensures.command c.start.new.world shelf now refl ready w)
@@ -30,7 +30,7 @@ pub returns-in-Unfit-clause-says : goal.returns-in-Unfit-clause-says
 returns-in-Unfit-clause-says g c = λ told faults modelled fits.
     let shelf : ShelfChange = change g.S.Shelf.state c.args.shelf.now c.resolve.new.shelf in
     let now : ℕ = c.in-Ok.resolved.copied in
-    let a : Around = asking c.args.lines c.args.world.now c.refuse.new.world told faults (g.S.Shelf.state c.args.shelf.now).files c.args.copied.now now in
+    let a : WorldChange = asking c.args.lines c.args.world.now c.refuse.new.world told faults (g.S.Shelf.state c.args.shelf.now).files c.args.copied.now now in
     let none = unfit_of shelf c.args.copied.now c.args.what now c.in-Ok.resolved.sourced c.in-Unfit.cause _ c.in-Unfit.is c.in-Unfit.cause-is c.in-Ok.ensures.says in
     asked_as c.args.name.now c.args.what shelf a c.refuse.result _ (c.refuse.new.world ≡ c.args.world.now) Refused (c.refuse.ensures.done c.args.lines) c.refuse.ensures.err c.refuse.ensures.undone
     (λ w. unfit c.args.name.now c.args.what c.args.lines c.args.world.now c.requires.formed fits told modelled faults (g.S.Shelf.state c.args.shelf.now).files c.args.copied.now (c.requires.free Logplay) c.refuse.new.world _ shelf now refl none w)

@@ -1,8 +1,8 @@
 use Rattle.std.proofs.Common.{subst, sym}
 use Rattle.fam_journal.specs.Calls.{Declares}
-use Rattle.fam_events.specs.Around.{still}
+use Rattle.fam_events.specs.WorldChange.{still}
 use Rattle.fam_events.specs.Calls.{CallSays}
-use Rattle.fam_events.proofs.Quiet.{quiet_says}
+use Rattle.fam_events.proofs.WithoutMedia.{quiet_says}
 use Rattle.fam_events.proofs.calls.declare.Goals as goal
 
 pub returns : goal.returns

@@ -1,16 +1,16 @@
 use Rattle.std.proofs.Common.{ap, refl, subst, sym}
 use Rattle.fam_journal.specs.Calls.{Call, Moves}
 use Rattle.fam_machine.specs.HostMoves as how
-use Rattle.fam_events.specs.Around.{Around, around}
+use Rattle.fam_events.specs.WorldChange.{WorldChange, world_change}
 use Rattle.fam_events.specs.Calls.{CallSays}
 use Rattle.fam_events.proofs.OverMedia.{media_says}
-use Rattle.fam_events.proofs.Quiet.{still_part}
+use Rattle.fam_events.proofs.WithoutMedia.{still_part}
 use Rattle.fam_events.proofs.calls.evict.Goals as goal
 
 pub returns-clause-says : goal.returns-clause-says
 returns-clause-says g c = λ files copied.
     let call : Call = Moves c.args.name.now c.args.line.0 how.Evict in
-    let a : Around = around g.M.Media.size g.M.Media.state c.args.media.now c.evict.new.media c.args.world.now c.evict.new.self files copied copied in
+    let a : WorldChange = world_change g.M.Media.size g.M.Media.state c.args.media.now c.evict.new.media c.args.world.now c.evict.new.self files copied copied in
     subst (CallSays call a) (sym c.noted.ensures)
     (media_says call a c.requires.formed c.requires.fits refl tt c.evict.result c.evict.ensures.answered
     (λ e. still_part a (record { world = c.evict.ensures.err e; media = ap (λ m. (g.M.Media.state m).image) (c.evict.ensures.undone e); count = ap (λ m. (g.M.Media.state m).faults) (c.evict.ensures.undone e) }) call c.requires.formed c.requires.fits))

@@ -4,7 +4,7 @@ use Rattle.fam_media.specs.States.{change, ShelfChange}
 use Rattle.fam_events.specs.Rested.{IsRested}
 use Rattle.fam_journal.proofs.Forms.Views.{number_formed}
 use Rattle.fam_events.specs.declared.asks.Asked.{Asked}
-use Rattle.fam_events.specs.Around.{Around, around}
+use Rattle.fam_events.specs.WorldChange.{WorldChange, world_change}
 use Rattle.fam_events.specs.Begins.{AskBegun, AskSays}
 use Rattle.fam_events.proofs.Events.{run_fault, run_refused, run_says, with_lines}
 use Rattle.fam_events.proofs.Resting.{run_same}
@@ -13,7 +13,7 @@ use Rattle.fam_events.proofs.doing.run.Goals as goal
 pub finish-requires-clause-formed : goal.finish-requires-clause-formed
 finish-requires-clause-formed g c =
     let shelf : ShelfChange = change g.S.Shelf.state c.args.shelf.now c.ask.new.shelf in
-    let a : Around = around g.M.Media.size g.M.Media.state c.args.media.now c.args.media.now c.args.world.now c.ask.new.world (g.S.Shelf.state c.args.shelf.now).files c.args.copied.now c.ask.new.copied in
+    let a : WorldChange = world_change g.M.Media.size g.M.Media.state c.args.media.now c.args.media.now c.args.world.now c.ask.new.world (g.S.Shelf.state c.args.shelf.now).files c.args.copied.now c.ask.new.copied in
     (subst (λ (x : Asked). AskSays c.args.name c.args.what shelf a (Ok x)) c.in-Ok-Begun.field-0-is
     (with_lines c.lines.result (g.M.Media.size c.args.media.now) c.lines.ensures.count c.args.name c.args.what shelf c.args.world.now c.ask.new.world (g.M.Media.state c.args.media.now).image (g.M.Media.state c.args.media.now).faults (g.S.Shelf.state c.args.shelf.now).files c.args.copied.now c.ask.new.copied (Ok c.in-Ok-Begun.field-0)
     (c.in-Ok-Begun.ensures.says (g.M.Media.state c.args.media.now).image (g.M.Media.state c.args.media.now).faults) (g.met.M.Media.modelled c.args.media.now) c.requires.fits)).adds.formed
@@ -21,7 +21,7 @@ finish-requires-clause-formed g c =
 pub finish-requires-clause-fits : goal.finish-requires-clause-fits
 finish-requires-clause-fits g c =
     let shelf : ShelfChange = change g.S.Shelf.state c.args.shelf.now c.ask.new.shelf in
-    let a : Around = around g.M.Media.size g.M.Media.state c.args.media.now c.args.media.now c.args.world.now c.ask.new.world (g.S.Shelf.state c.args.shelf.now).files c.args.copied.now c.ask.new.copied in
+    let a : WorldChange = world_change g.M.Media.size g.M.Media.state c.args.media.now c.args.media.now c.args.world.now c.ask.new.world (g.S.Shelf.state c.args.shelf.now).files c.args.copied.now c.ask.new.copied in
     (subst (λ (x : Asked). AskSays c.args.name c.args.what shelf a (Ok x)) c.in-Ok-Begun.field-0-is
     (with_lines c.lines.result (g.M.Media.size c.args.media.now) c.lines.ensures.count c.args.name c.args.what shelf c.args.world.now c.ask.new.world (g.M.Media.state c.args.media.now).image (g.M.Media.state c.args.media.now).faults (g.S.Shelf.state c.args.shelf.now).files c.args.copied.now c.ask.new.copied (Ok c.in-Ok-Begun.field-0)
     (c.in-Ok-Begun.ensures.says (g.M.Media.state c.args.media.now).image (g.M.Media.state c.args.media.now).faults) (g.met.M.Media.modelled c.args.media.now) c.requires.fits)).adds.fits
@@ -29,7 +29,7 @@ finish-requires-clause-fits g c =
 pub returns-in-Ok-Refused-clause-says : goal.returns-in-Ok-Refused-clause-says
 returns-in-Ok-Refused-clause-says g c =
     let shelf : ShelfChange = change g.S.Shelf.state c.args.shelf.now c.ask.new.shelf in
-    let a : Around = around g.M.Media.size g.M.Media.state c.args.media.now c.args.media.now c.args.world.now c.ask.new.world (g.S.Shelf.state c.args.shelf.now).files c.args.copied.now c.ask.new.copied in
+    let a : WorldChange = world_change g.M.Media.size g.M.Media.state c.args.media.now c.args.media.now c.args.world.now c.ask.new.world (g.S.Shelf.state c.args.shelf.now).files c.args.copied.now c.ask.new.copied in
     run_refused c.args.name c.args.what a (subst (λ (x : Asked). AskSays c.args.name c.args.what shelf a (Ok x)) c.in-Ok-Refused.field-0-is
     (with_lines c.lines.result (g.M.Media.size c.args.media.now) c.lines.ensures.count c.args.name c.args.what shelf c.args.world.now c.ask.new.world (g.M.Media.state c.args.media.now).image (g.M.Media.state c.args.media.now).faults (g.S.Shelf.state c.args.shelf.now).files c.args.copied.now c.ask.new.copied (Ok c.in-Ok-Refused.field-0)
     (c.in-Ok-Refused.ensures.says (g.M.Media.state c.args.media.now).image (g.M.Media.state c.args.media.now).faults) (g.met.M.Media.modelled c.args.media.now) c.requires.fits))
@@ -37,7 +37,7 @@ returns-in-Ok-Refused-clause-says g c =
 pub returns-in-Ok-Begun-clause-says : goal.returns-in-Ok-Begun-clause-says
 returns-in-Ok-Begun-clause-says g c =
     let shelf : ShelfChange = change g.S.Shelf.state c.args.shelf.now c.ask.new.shelf in
-    let a : Around = around g.M.Media.size g.M.Media.state c.args.media.now c.args.media.now c.args.world.now c.ask.new.world (g.S.Shelf.state c.args.shelf.now).files c.args.copied.now c.ask.new.copied in
+    let a : WorldChange = world_change g.M.Media.size g.M.Media.state c.args.media.now c.args.media.now c.args.world.now c.ask.new.world (g.S.Shelf.state c.args.shelf.now).files c.args.copied.now c.ask.new.copied in
     run_says c.args.name c.args.what (g.M.Media.size c.args.media.now) c.args.world.now c.ask.new.world c.finish.new.world (g.M.Media.state c.args.media.now).image (g.M.Media.state c.finish.new.media).image (g.M.Media.state c.args.media.now).faults (g.M.Media.state c.finish.new.media).faults (g.S.Shelf.state c.args.shelf.now).files c.args.copied.now c.ask.new.copied c.requires.formed
     (subst (λ (x : Asked). AskSays c.args.name c.args.what shelf a (Ok x)) c.in-Ok-Begun.field-0-is
     (with_lines c.lines.result (g.M.Media.size c.args.media.now) c.lines.ensures.count c.args.name c.args.what shelf c.args.world.now c.ask.new.world (g.M.Media.state c.args.media.now).image (g.M.Media.state c.args.media.now).faults (g.S.Shelf.state c.args.shelf.now).files c.args.copied.now c.ask.new.copied (Ok c.in-Ok-Begun.field-0)
@@ -47,7 +47,7 @@ returns-in-Ok-Begun-clause-says g c =
 pub returns-in-Err-clause-says : goal.returns-in-Err-clause-says
 returns-in-Err-clause-says g c =
     let shelf : ShelfChange = change g.S.Shelf.state c.args.shelf.now c.ask.new.shelf in
-    let a : Around = around g.M.Media.size g.M.Media.state c.args.media.now c.args.media.now c.args.world.now c.ask.new.world (g.S.Shelf.state c.args.shelf.now).files c.args.copied.now c.ask.new.copied in
+    let a : WorldChange = world_change g.M.Media.size g.M.Media.state c.args.media.now c.args.media.now c.args.world.now c.ask.new.world (g.S.Shelf.state c.args.shelf.now).files c.args.copied.now c.ask.new.copied in
     run_fault _ _ shelf a c.in-Err.fault
     (with_lines c.lines.result (g.M.Media.size c.args.media.now) c.lines.ensures.count c.args.name c.args.what shelf c.args.world.now c.ask.new.world (g.M.Media.state c.args.media.now).image (g.M.Media.state c.args.media.now).faults (g.S.Shelf.state c.args.shelf.now).files c.args.copied.now c.ask.new.copied (Err c.in-Err.fault)
     (c.in-Err.ensures.says (g.M.Media.state c.args.media.now).image (g.M.Media.state c.args.media.now).faults) (g.met.M.Media.modelled c.args.media.now) c.requires.fits)
@@ -55,7 +55,7 @@ returns-in-Err-clause-says g c =
 pub returns-in-Ok-Begun-clause-same : goal.returns-in-Ok-Begun-clause-same
 returns-in-Ok-Begun-clause-same g c =
     let shelf : ShelfChange = change g.S.Shelf.state c.args.shelf.now c.ask.new.shelf in
-    let a : Around = around g.M.Media.size g.M.Media.state c.args.media.now c.args.media.now c.args.world.now c.ask.new.world (g.S.Shelf.state c.args.shelf.now).files c.args.copied.now c.ask.new.copied in
+    let a : WorldChange = world_change g.M.Media.size g.M.Media.state c.args.media.now c.args.media.now c.args.world.now c.ask.new.world (g.S.Shelf.state c.args.shelf.now).files c.args.copied.now c.ask.new.copied in
     let begun : AskBegun c.args.name c.args.what a = subst (λ (x : Asked). AskSays c.args.name c.args.what shelf a (Ok x)) c.in-Ok-Begun.field-0-is
     (with_lines c.lines.result (g.M.Media.size c.args.media.now) c.lines.ensures.count c.args.name c.args.what shelf c.args.world.now c.ask.new.world (g.M.Media.state c.args.media.now).image (g.M.Media.state c.args.media.now).faults (g.S.Shelf.state c.args.shelf.now).files c.args.copied.now c.ask.new.copied (Ok c.in-Ok-Begun.field-0)
     (c.in-Ok-Begun.ensures.says (g.M.Media.state c.args.media.now).image (g.M.Media.state c.args.media.now).faults) (g.met.M.Media.modelled c.args.media.now) c.requires.fits) in

@@ -9,7 +9,7 @@ use Rattle.fam_journal.specs.Notes.{Note}
 use Rattle.fam_outcomes.specs.Runs.{NoneFalls, Outside}
 use Rattle.fam_outcomes.specs.Statuses.{last_status}
 use Rattle.fam_program.specs.Far.{AreSoundEvents}
-use Rattle.fam_program.specs.Quiet.{AreShotEvents, ShotEnded}
+use Rattle.fam_program.specs.Unprinted.{AreShotEvents, ShotEnded}
 use Rattle.fam_program.specs.Runs.{outside_of}
 use Rattle.fam_shadow.specs.Nodes.{ShadeChange}
 use Rattle.fam_program.specs.Shadows.{no_files, shown_tree}

@@ -7,7 +7,7 @@ use Rattle.fam_outcomes.specs.Programs.{MakesParents, OneShot, Single}
 use Rattle.fam_outcomes.specs.Runs.{NoneFalls, Outside}
 use Rattle.fam_outcomes.specs.Statuses.{parents_status}
 use Rattle.fam_program.specs.Far.{AreSoundEvents}
-use Rattle.fam_program.specs.Quiet.{AreShotEvents, ShotEnded}
+use Rattle.fam_program.specs.Unprinted.{AreShotEvents, ShotEnded}
 use Rattle.fam_program.specs.Runs.{outside_of}
 use Rattle.fam_program.specs.Shots.{ShotSays}
 use Rattle.fam_program.proofs.Commands.TopEnds.{shot_named, shot_top}

@@ -2,7 +2,7 @@ use Rattle.std.proofs.Common.{◌≡◌, Some, Err, refl, ap, sym, subst, ◌∙
 use Rattle.std.proofs.lemmas.Result.{err_from_is_err_and}
 use Rattle.fam_commands.specs.Task.{op_of}
 use Rattle.fam_machine.specs.declared.op.Op.TheVariants.{Digest}
-use Rattle.fam_run.specs.Step.{Around, around}
+use Rattle.fam_run.specs.TaskChange.{TaskChange, task_change}
 use Rattle.fam_run.proofs.Operated.{done, failed}
 use Rattle.fam_run.proofs.PlacesKept.{digest_none, kept, quiet}
 use Rattle.fam_run.proofs.operation.operate.Goals as goal
@@ -11,30 +11,29 @@ pub returns-in_ok-word-in_default-clause-operated : goal.returns-in_ok-word-in_d
 returns-in_ok-word-in_default-clause-operated g c =
     let m = g.M.Media in
     let e = c.in_ok-word-in_default.ensures in
-    let a : Around = around m.size m.state c.args.task.now c.feed.new.self c.args.cache.now c.perform.new.self c.args.media.now c.perform.new.media in
+    let a : TaskChange = task_change m.size m.state c.args.task.now c.feed.new.self c.args.cache.now c.perform.new.self c.args.media.now c.perform.new.media in
     done a c.next.result c.next.ensures.op c.is_sound.ensures c.next.ensures.within c.in_ok-word-in_default.word c.feed.result e.operated e.given e.cache e.word c.feed.ensures.turn
 
 pub returns-in_err-word-in_default-clause-operated : goal.returns-in_err-word-in_default-clause-operated
 returns-in_err-word-in_default-clause-operated g c =
     let m = g.M.Media in
     let e = c.in_err-word-in_default.ensures in
-    let a : Around = around m.size m.state c.args.task.now c.args.task.now c.args.cache.now c.perform.new.self c.args.media.now c.perform.new.media in
+    let a : TaskChange = task_change m.size m.state c.args.task.now c.args.task.now c.args.cache.now c.perform.new.self c.args.media.now c.perform.new.media in
     let p = err_from_is_err_and c.from_residual.result c.from_residual.ensures.1 in
     rw (p.1, p.2)
     (failed a c.next.result c.next.ensures.op c.is_sound.ensures c.next.ensures.within c.in_err-word-in_default.field-0.0 refl e.err e.failed e.line e.inside e.rose
     (λ full. record {
       task = refl;
       cache = ap (λ s. s.lines) (e.unchanged (ap Err full));
-      image = ap (λ x. (m.state x).image) (e.undone (ap Err full));
-      faults = ap (λ x. (m.state x).faults) (e.undone (ap Err full));
+      media = ap m.state (e.undone (ap Err full));
     }))
 
 pub returns-in-Ok-clause-operated : goal.returns-in-Ok-clause-operated
 returns-in-Ok-clause-operated g c =
     let m = g.M.Media in
     let op : op_of c.args.task.now ≡ Digest = sym c.next.ensures.op ∙ c.in-Digest.is in
-    let a : Around = around m.size m.state c.args.task.now c.digest.new.self c.args.cache.now c.args.cache.now c.args.media.now c.args.media.now in
-    done a Digest (sym op) c.is_sound.ensures tt Rattle.std.proofs.Common.None c.in-Ok.turn (λ image is. record { image = is; cache = refl }) (λ image is. refl) refl refl c.in-Ok.ensures.turn
+    let a : TaskChange = task_change m.size m.state c.args.task.now c.digest.new.self c.args.cache.now c.args.cache.now c.args.media.now c.args.media.now in
+    done a Digest (sym op) c.is_sound.ensures tt Rattle.std.proofs.Common.None c.in-Ok.said (λ image is. record { image = is; cache = refl }) (λ image is. refl) refl refl c.in-Ok.ensures.turn
 
 pub returns-in_ok-word-in_default-clause-places : goal.returns-in_ok-word-in_default-clause-places
 returns-in_ok-word-in_default-clause-places g c = λ on has. (

@@ -1,7 +1,10 @@
-use Rattle.std.proofs.Common.{◌≡◌, Err, refl, ap, subst}
+use Rattle.std.proofs.Common.{◌≡◌, Err, refl, ap, sym, subst}
 use Rattle.std.specs.Prelude.{◌<◌, ℕ}
 use Rattle.fam_cache.specs.States.{CacheState}
-use Rattle.fam_run.specs.Step.{Around, around}
+use Rattle.fam_tasks.specs.declared.answer.Turn.{Turn}
+use Rattle.fam_run.specs.Led.{HasDone}
+use Rattle.fam_run.specs.Operation.{said_of}
+use Rattle.fam_run.specs.TaskChange.{TaskChange, task_change}
 use Rattle.fam_run.proofs.Operated.{alone, from_same}
 use Rattle.fam_run.proofs.PlacesKept.{put_kept}
 use Rattle.fam_run.proofs.Stored.{line_sent, line_torn}
@@ -11,8 +14,9 @@ pub returns-in-Ok-true-clause-advanced : goal.returns-in-Ok-true-clause-advanced
 returns-in-Ok-true-clause-advanced g c =
     let put = c.in-Ok-true.field-0-test in
     let due = c.line_due-due.result in
-    line_sent due.0 due.1 c.args.task.now c.store_line.new.self (g.M.Media.state c.args.media.now).image c.args.cache.now.lines (g.met.M.Media.normal c.args.media.now) c.store_line.ensures (c.in-Ok-true.ensures.absent put) c.is_sound.ensures c.is_sound-in-Ok-true.ensures
-    _ _ _ c.read_on.new.self c.put_line.new.self.lines (g.M.Media.state c.put_line.new.media).image c.in-Ok-true.ensures.lines (c.in-Ok-true.ensures.memory put) c.read_on.ensures
+    subst (λ (said : Turn). HasDone (task_change g.M.Media.size g.M.Media.state c.args.task.now c.read_on.new.self c.args.cache.now c.put_line.new.self c.args.media.now c.put_line.new.media) said) (sym c.requires.go)
+    (line_sent due.0 due.1 c.args.task.now c.store_line.new.self (g.M.Media.state c.args.media.now).image c.args.cache.now.lines (g.met.M.Media.normal c.args.media.now) c.store_line.ensures (c.in-Ok-true.ensures.absent put) c.is_sound.ensures c.is_sound-in-Ok-true.ensures
+    _ _ _ c.read_on.new.self c.put_line.new.self.lines (g.M.Media.state c.put_line.new.media).image c.in-Ok-true.ensures.lines (c.in-Ok-true.ensures.memory put) c.read_on.ensures)
 
 pub returns-in-Err-Failed-clause-advanced : goal.returns-in-Err-Failed-clause-advanced
 returns-in-Err-Failed-clause-advanced g c =
@@ -25,7 +29,7 @@ returns-in-Err-Failed-clause-advanced g c =
 
 pub returns-in-Ok-true-clause-places : goal.returns-in-Ok-true-clause-places
 returns-in-Ok-true-clause-places g c = λ on has. (
-  refl,
+  c.requires.go,
   put_kept c.line_due-due.result.0 c.line_due-due.result.1 c.args.task.now c.args.cache.now c.line_due-due.ensures c.store_line.new.self c.read_on.new.self c.put_line.new.self c.is_sound.ensures c.is_sound-in-Ok-true.ensures
       c.store_line.ensures c.in-Ok-true.ensures.ok_spare c.read_on.ensures has,
 )
@@ -34,8 +38,8 @@ pub returns-in-Ok-false-clause-advanced : goal.returns-in-Ok-false-clause-advanc
 returns-in-Ok-false-clause-advanced g c =
     let m = g.M.Media in
     let b = c.in-Ok-false in
-    let a : Around = around m.size m.state c.args.task.now c.operate.new.task c.args.cache.now c.operate.new.cache c.args.media.now c.operate.new.media in
+    let a : TaskChange = task_change m.size m.state c.args.task.now c.operate.new.task c.args.cache.now c.operate.new.cache c.args.media.now c.operate.new.media in
     let cache : c.put_line.new.self ≡ c.args.cache.now = b.ensures.other b.field-0-test in
     let media : c.put_line.new.media ≡ c.args.media.now = b.ensures.same b.field-0-test in
-    from_same a c.operate.result c.args.task.now c.put_line.new.self.lines (m.state c.put_line.new.media).image (m.size c.put_line.new.media) (m.state c.put_line.new.media).faults refl (ap (λ (s : CacheState). s.lines) cache) (ap (λ x. (m.state x).image) media) (ap m.size media) (ap (λ x. (m.state x).faults) media)
-    (alone (record a { task = c.args.task.now; old = c.put_line.new.self.lines; modelled = (m.state c.put_line.new.media).image; size = m.size c.put_line.new.media; before = (m.state c.put_line.new.media).faults }) c.operate.result c.operate.ensures.operated)
+    from_same a (said_of c.operate.result c.operate.new.turn) c.args.task.now c.put_line.new.self.lines (m.state c.put_line.new.media) (m.size c.put_line.new.media) refl (ap (λ (s : CacheState). s.lines) cache) (ap m.state media) (ap m.size media)
+    (alone (record a { task = c.args.task.now; old = c.put_line.new.self.lines; lines = m.size c.put_line.new.media; media = record { old = m.state c.put_line.new.media; new = a.media.new } }) (said_of c.operate.result c.operate.new.turn) c.operate.ensures.operated)

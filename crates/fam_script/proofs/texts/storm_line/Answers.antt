@@ -4,5 +4,5 @@ use Rattle.fam_script.proofs.texts.storm_line.Goals as goal
 
 pub returns : goal.returns
 returns c =
-    parts_put c.args.seed c.args.size c.args.events c.args.crc c.args.counts.now c.new-made.result.items c.put.new.into.items c.put-2.new.into.items c.put-3.new.into.items c.as_bytes.result.now c.as_bytes-2.result.now
-    c.new-made.ensures.items c.in_ok-put.ensures (c.as_bytes.ensures.value ∙ c.in-Ok.ensures) c.in_ok-put-2.ensures (c.as_bytes-2.ensures.value ∙ c.in-Ok-storm_back.ensures) c.in_ok-put-3.ensures
+    parts_put c.args.seed c.args.size c.args.events c.args.crc c.args.counts.now c.new-made.result.items c.put_bytes.new.into.items c.put_bytes-2.new.into.items c.put_bytes-3.new.into.items c.as_bytes.result.now c.as_bytes-2.result.now
+    c.new-made.ensures.items c.in_ok-put_bytes.ensures.added (c.as_bytes.ensures.value ∙ c.in-Ok.ensures) c.in_ok-put_bytes-2.ensures.added (c.as_bytes-2.ensures.value ∙ c.in-Ok-storm_back.ensures) c.in_ok-put_bytes-3.ensures.added

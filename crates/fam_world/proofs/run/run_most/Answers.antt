@@ -3,21 +3,23 @@ use Rattle.std.proofs.lemmas.Bool.Decides.{nat_tests}
 use Rattle.fam_world.proofs.Sends.{held_sends}
 use Rattle.fam_commands.specs.Task.{op_of}
 use Rattle.fam_media.specs.Outside.{IfModelled}
-use Rattle.fam_run.specs.Operation.{IsDone, IsUndone, Operated}
-use Rattle.fam_run.specs.Step.{Around as Passed, around}
-use Rattle.fam_run.proofs.Held.{held_lines}
+use Rattle.fam_run.specs.Operation.{IsDone, IsUndone, Operated, said_of}
+use Rattle.fam_run.proofs.Operated.{said_full}
+use Rattle.fam_run.specs.TaskChange.{TaskChange, task_change}
+use Rattle.fam_run.proofs.Cached.{cached_lines}
 use Rattle.fam_journal.specs.Notes.{Note}
 use Rattle.fam_journal.specs.View.{HostView}
 use Rattle.fam_world.specs.Counted.{HostStanding, HostStep, Iterated, more, none, task_standing}
 use Rattle.fam_world.specs.Turns.{IsNoted}
 use Rattle.fam_world.specs.View.{notes_view}
 use Rattle.fam_world.proofs.Counting.{held_steps, iterated_both}
-use Rattle.fam_world.proofs.TaskSteps.{lacked, one_ends, one_goes, stands_still, steps_below, went}
+use Rattle.fam_world.proofs.TaskSteps.{ok_going, lacked, one_ends, one_goes, stands_still, steps_below, went}
 use Rattle.fam_world.proofs.run.run_most.Goals as goal
 
 pub operations-init : goal.operations-init
 operations-init g c = record {
   far = λ view. none;
+  turn = refl;
   size = refl;
   within = omega arith;
   fits = c.requires.fits;
@@ -29,6 +31,7 @@ pub operate-requires : goal.operate-requires
 operate-requires g c =
     let inv = c.operations.invariant in
     record {
+      go = inv.turn;
       lines = inv.fits ∙ sym inv.size;
       asked = held_sends (op_of c.operations.task) (g.M.Media.size c.operations.media) c.operations.cache.lines (λ l is. subst (λ (n : ℕ). l < n) (sym inv.size) (inv.cached.below l is));
     }
@@ -39,29 +42,29 @@ operations-preserved g c =
     let inv = c.operations.invariant in
     let size = m.size c.args.media.now in
     let at = c.args.host.0 in
-    let b : Passed = around m.size m.state c.operations.task c.operate.new.task c.operations.cache c.operate.new.cache c.operations.media c.operate.new.media in
+    let b : TaskChange = task_change m.size m.state c.operations.task c.operate.new.task c.operations.cache c.operate.new.cache c.operations.media c.operate.new.media in
     let is = c.in-Ok-Going.is ∙ ap Ok c.in-Ok-Going.field-0-is in
     let notes : List Note = notes_view c.operations.journal.items in
     let notes_now : List Note = notes_view c.note_turn.new.journal.items in
-    let noted : IsNoted at c.operate.result notes notes_now c.note_turn.result =
-    subst (λ (j : List Note). IsNoted at c.operate.result j notes_now c.note_turn.result) (ap notes_view c.make_room.ensures.same) c.note_turn.ensures.noted in
+    let noted : IsNoted at (said_of c.operate.result c.operate.new.turn) notes notes_now c.note_turn.result =
+    subst (λ (j : List Note). IsNoted at (said_of c.operate.result c.operate.new.turn) j notes_now c.note_turn.result) (ap notes_view c.make_room.ensures.same) c.note_turn.ensures.noted in
     let same_size : m.size c.operate.new.media ≡ size = c.operate.ensures.steady.size ∙ inv.size in
     let modelled : IfModelled (m.state c.operations.media).image (λ image. length image ≡ size) = λ i told. g.met.M.Media.modelled c.operations.media i told ∙ inv.size in
-    let w = went at c.operate.result notes notes_now c.note_turn.result noted is in
+    let w = went at (said_of c.operate.result c.operate.new.turn) notes notes_now c.note_turn.result noted is in
     let done : IsDone b w.said = subst (Operated b) w.is c.operate.ensures.operated in
     let fits : c.operate.new.task.lines ≡ size = done.keeps w.on ∙ inv.fits in
-    let z = c.operate_held-done.new in
-    let k = c.operate_held-done.result in
+    let z = c.operate_cached-done.new in
+    let k = c.operate_cached-done.result in
     let here : HostView → HostStanding = λ view. task_standing m.state c.operations.media view (Some c.operations.task) c.operations.cache notes in
     let mid : HostView → HostStanding = λ view. task_standing m.state c.operate.new.media view (Some c.operate.new.task) c.operate.new.cache notes_now in
     let end : HostView → HostStanding = λ view. task_standing m.state c.operate.new.media view (Some z.task) z.cache notes_now in
     let one : (view : HostView) → HostStep at size false (here view) (mid view) = λ view.
-    one_goes at size view b c.operate.result notes notes_now c.note_turn.result noted modelled inv.fits c.operate.ensures.steady.later c.operate.ensures.operated is in
+    one_goes at size view b (said_of c.operate.result c.operate.new.turn) notes notes_now c.note_turn.result noted modelled inv.fits c.operate.ensures.steady.later c.operate.ensures.operated is in
     let held : (view : HostView) → Iterated (HostStep at size false) (mid view) (end view) k = λ view.
-    held_steps at size view notes_now (m.state c.operate.new.media).image (m.state c.operate.new.media).faults (g.met.M.Media.normal c.operate.new.media) (λ i told. g.met.M.Media.modelled c.operate.new.media i told ∙ same_size)
-    c.operate.new.task z.task c.operate.new.cache.lines z.cache.lines c.operate_held-done.ensures.run fits in
+    held_steps at size view notes_now (m.state c.operate.new.media) (g.met.M.Media.normal c.operate.new.media) (λ i told. g.met.M.Media.modelled c.operate.new.media i told ∙ same_size)
+    c.operate.new.task z.task c.operate.new.cache.lines z.cache.lines c.operate_cached-done.ensures.run fits in
     let nobody : HostView = record { name = []; uuid = []; cache = c.operations.cache.lines; task = None } in
-    let most_left = c.operate_held-done.ensures.most in
+    let most_left = c.operate_cached-done.ensures.most in
     let less = c.operations-test.true in
     let count : suc c.operations.done + k ≡ c.operations.done + 1 + k = omega arith in
     record {
@@ -70,9 +73,10 @@ operations-preserved g c =
           subst (Iterated (HostStep at size false) start (end view)) count
           (iterated_both (HostStep at size false) start (mid view) (end view) (suc c.operations.done) k (more (inv.far view) (one view)) (held view))
           );
+      turn = ok_going c.note_turn.result is c.note_turn.ensures.go;
       size = same_size;
       within = grind (arith, nat_tests, less, most_left);
-      fits = held_lines c.operate.new.task z.task c.operate.new.cache.lines z.cache.lines c.operate_held-done.ensures.run ∙ fits;
+      fits = cached_lines c.operate.new.task z.task c.operate.new.cache.lines z.cache.lines c.operate_cached-done.ensures.run ∙ fits;
       cached = record {
         below = steps_below at size (here nobody) (end nobody)
             (iterated_both (HostStep at size false) (here nobody) (mid nobody) (end nobody) 1 k (more none (one nobody)) (held nobody)) inv.cached.below;
@@ -103,11 +107,11 @@ returns-in-Ok-Answered-clause-says g c = λ view.
     let inv = c.operations.invariant in
     let size = m.size c.args.media.now in
     let at = c.args.host.0 in
-    let b : Passed = around m.size m.state c.operations.task c.operate.new.task c.operations.cache c.operate.new.cache c.operations.media c.operate.new.media in
+    let b : TaskChange = task_change m.size m.state c.operations.task c.operate.new.task c.operations.cache c.operate.new.cache c.operations.media c.operate.new.media in
     let notes : List Note = notes_view c.operations.journal.items in
     let notes_now : List Note = notes_view c.note_turn.new.journal.items in
-    let noted : IsNoted at c.operate.result notes notes_now c.note_turn.result =
-    subst (λ (j : List Note). IsNoted at c.operate.result j notes_now c.note_turn.result) (ap notes_view c.make_room.ensures.same) c.note_turn.ensures.noted in
+    let noted : IsNoted at (said_of c.operate.result c.operate.new.turn) notes notes_now c.note_turn.result =
+    subst (λ (j : List Note). IsNoted at (said_of c.operate.result c.operate.new.turn) j notes_now c.note_turn.result) (ap notes_view c.make_room.ensures.same) c.note_turn.ensures.noted in
     let modelled : IfModelled (m.state c.operations.media).image (λ image. length image ≡ size) = λ i told. g.met.M.Media.modelled c.operations.media i told ∙ inv.size in
     let less = c.operations-test.true in
     record {
@@ -115,7 +119,7 @@ returns-in-Ok-Answered-clause-says g c = λ view.
       count = c.operations.done;
       within = grind (arith, nat_tests, less);
       goes = inv.far view;
-      ends = one_ends at size view b c.operate.result notes notes_now c.note_turn.result noted modelled inv.fits c.operate.ensures.steady.later c.operate.ensures.operated (c.in-Ok-Answered.is ∙ ap Ok c.in-Ok-Answered.field-0-is);
+      ends = one_ends at size view b (said_of c.operate.result c.operate.new.turn) notes notes_now c.note_turn.result noted modelled inv.fits c.operate.ensures.steady.later c.operate.ensures.operated (c.in-Ok-Answered.is ∙ ap Ok c.in-Ok-Answered.field-0-is);
     }
 
 pub returns-in-Err-clause-says : goal.returns-in-Err-clause-says
@@ -125,8 +129,8 @@ returns-in-Err-clause-says g c = λ view.
     let less = c.operations-test.true in
     let size = m.size c.args.media.now in
     let at = c.args.host.0 in
-    let b : Passed = around m.size m.state c.operations.task c.operate.new.task c.operations.cache c.operate.new.cache c.operations.media c.operate.new.media in
-    let full = lacked at c.operate.result (notes_view c.make_room.new.journal.items) (notes_view c.note_turn.new.journal.items) c.note_turn.result c.in-Err.field-0 c.note_turn.ensures.noted c.in-Err.is in
+    let b : TaskChange = task_change m.size m.state c.operations.task c.operate.new.task c.operations.cache c.operate.new.cache c.operations.media c.operate.new.media in
+    let full = lacked at (said_of c.operate.result c.operate.new.turn) (notes_view c.make_room.new.journal.items) (notes_view c.note_turn.new.journal.items) c.note_turn.result c.in-Err.field-0 c.note_turn.ensures.noted c.in-Err.is in
     let undone : IsUndone b = subst (Operated b) full.0 c.operate.ensures.operated in
     let start : HostStanding = task_standing m.state c.args.media.now view (Some c.args.task.now) c.args.cache.now (notes_view c.args.journal.now.items) in
     let here : HostStanding = task_standing m.state c.operations.media view (Some c.operations.task) c.operations.cache (notes_view c.operations.journal.items) in
@@ -141,8 +145,8 @@ returns-in-Err-clause-says g c = λ view.
 pub returns-in-Err-clause-undone : goal.returns-in-Err-clause-undone
 returns-in-Err-clause-undone g c = λ one.
     let less = c.operations-test.true in
-    let full = lacked c.args.host.0 c.operate.result (notes_view c.make_room.new.journal.items) (notes_view c.note_turn.new.journal.items) c.note_turn.result c.in-Err.field-0 c.note_turn.ensures.noted c.in-Err.is in
-    c.operate.ensures.undone full.0 ∙ c.operations.invariant.first (grind (arith, nat_tests, less, one))
+    let full = lacked c.args.host.0 (said_of c.operate.result c.operate.new.turn) (notes_view c.make_room.new.journal.items) (notes_view c.note_turn.new.journal.items) c.note_turn.result c.in-Err.field-0 c.note_turn.ensures.noted c.in-Err.is in
+    c.operate.ensures.undone (said_full c.operate.result c.operate.new.turn full.0) ∙ c.operations.invariant.first (grind (arith, nat_tests, less, one))
 
 pub returns-clause-says : goal.returns-clause-says
 returns-clause-says g c = λ view.

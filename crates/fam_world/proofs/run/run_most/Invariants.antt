@@ -1,5 +1,6 @@
 use Rattle.std.proofs.Common.{◌≡◌, ◌≤◌, ◌-◌, false, Some}
 use Rattle.fam_journal.specs.View.{HostView}
+use Rattle.fam_tasks.specs.declared.answer.Turn.TheVariants.{Go}
 use Rattle.fam_world.specs.Counted.{HostStep, Iterated, task_standing}
 use Rattle.fam_world.specs.Steps.{CacheFits}
 use Rattle.fam_world.specs.View.{notes_view}
@@ -10,6 +11,7 @@ invariant-operations g l = record {
   far : (view : HostView) → Iterated (HostStep l.host.0 (g.M.Media.size l.fn.media) false)
       (task_standing g.M.Media.state l.fn.media view (Some l.fn.task) l.fn.cache (notes_view l.fn.journal.items))
       (task_standing g.M.Media.state l.media view (Some l.task) l.cache (notes_view l.journal.items)) l.done;
+  turn : l.turn ≡ Go;
   size : g.M.Media.size l.media ≡ g.M.Media.size l.fn.media;
   within : l.done ≤ l.most;
   fits : l.task.lines ≡ g.M.Media.size l.fn.media;

@@ -10,9 +10,11 @@ use Rattle.fam_commands.specs.Turns.{Ends, file_turn, line_or}
 use Rattle.fam_commands.specs.Classes.{IsVerify}
 use Rattle.fam_content.specs.Difference.{DiffersAt, IsFirst}
 use Rattle.fam_tasks.specs.declared.answer.Answer.TheVariants as answer
+use Rattle.fam_tasks.specs.declared.answer.Turn.{Turn}
+use Rattle.fam_tasks.specs.Tells.{Tells}
 use Rattle.fam_tasks.specs.Commands.{content_used}
 use Rattle.fam_tasks.specs.Contents.{ContentsState}
-use Rattle.fam_tasks.specs.Held.{IsHeldAt}
+use Rattle.fam_tasks.specs.Invariant.{IsInvariantAt}
 use Rattle.fam_tasks.specs.Model.{task_of}
 use Rattle.fam_tasks.specs.Sound.{IsSoundAt}
 use Rattle.fam_tasks.proofs.FileLines.{same_proper, verify_held, verify_holds, verify_kept, wanted_line}
@@ -26,7 +28,7 @@ invariant_of-self-then-line-lines c =
     let sound = c.self.invariant.sound in
     let phase : c.self.inside.phase ≡ at.Drop File c.args.line = ap (λ (u : Task). u.phase) c.self.view_is ∙ c.requires.phase in
     let stands : IsSoundAt (at.Drop File c.args.line) t = subst (λ (p : Phase). IsSoundAt p t) phase sound.stands in
-    let held : IsHeldAt (at.Drop File c.args.line) c.self.inside = subst (λ (p : Phase). IsHeldAt p c.self.inside) phase c.self.invariant.held in
+    let held : IsInvariantAt (at.Drop File c.args.line) c.self.inside = subst (λ (p : Phase). IsInvariantAt p c.self.inside) phase c.self.invariant.held in
     let is : IsVerify c.self.inside.cmd = subst (λ (u : Task). IsVerify u.cmd) (sym c.self.view_is) c.requires.verify in
     let holds = verify_holds c.self.inside.cmd c.self.inside c.args.line is held in
     let size : c.file_size-size.result ≡ size_of c.self.inside.entry = c.file_size-size.ensures ∙ ap (λ (u : Task). size_of u.entry) (sym c.self.view_is) in
@@ -51,7 +53,7 @@ pub returns-in-Some : goal.returns-in-Some
 returns-in-Some c phase =
     let t : Task = task_of c.self.inside in
     let at_phase : c.self.inside.phase ≡ at.Drop File c.args.line = ap (λ (u : Task). u.phase) c.self.view_is ∙ c.requires.phase in
-    let held : IsHeldAt (at.Drop File c.args.line) c.self.inside = subst (λ (p : Phase). IsHeldAt p c.self.inside) at_phase c.self.invariant.held in
+    let held : IsInvariantAt (at.Drop File c.args.line) c.self.inside = subst (λ (p : Phase). IsInvariantAt p c.self.inside) at_phase c.self.invariant.held in
     let is : IsVerify c.self.inside.cmd = subst (λ (u : Task). IsVerify u.cmd) (sym c.self.view_is) c.requires.verify in
     let holds = verify_holds c.self.inside.cmd c.self.inside c.args.line is held in
     let size : c.file_size-size.result ≡ size_of c.args.self.now.entry = c.file_size-size.ensures in
@@ -69,7 +71,7 @@ pub returns-then-line-lines : goal.returns-then-line-lines
 returns-then-line-lines c phase =
     let t : Task = task_of c.self.inside in
     let at_phase : c.self.inside.phase ≡ at.Drop File c.args.line = ap (λ (u : Task). u.phase) c.self.view_is ∙ c.requires.phase in
-    let held : IsHeldAt (at.Drop File c.args.line) c.self.inside = subst (λ (p : Phase). IsHeldAt p c.self.inside) at_phase c.self.invariant.held in
+    let held : IsInvariantAt (at.Drop File c.args.line) c.self.inside = subst (λ (p : Phase). IsInvariantAt p c.self.inside) at_phase c.self.invariant.held in
     let is : IsVerify c.self.inside.cmd = subst (λ (u : Task). IsVerify u.cmd) (sym c.self.view_is) c.requires.verify in
     let holds = verify_holds c.self.inside.cmd c.self.inside c.args.line is held in
     let size : c.file_size-size.result ≡ size_of c.args.self.now.entry = c.file_size-size.ensures in
@@ -86,15 +88,16 @@ returns-then-line-lines c phase =
     same_told loaded c.args.self.now.cmd c.args.line c.file_size-size.result c.args.found.now c.line.result.now c.requires.verify refl size wanted bytes none in
     let stands : IsSoundAt (at.Drop File c.args.line) t = subst (λ (p : Phase). IsSoundAt p t) at_phase c.self.invariant.sound.stands in
     let empty : t.words ≡ [] = no_words t.words (stands.1 ∙ verify_kept c.self.inside.cmd c.args.line is) in
-    goes _ _ _
+    subst (λ (said : Turn). Tells (file_turn c.args.self.now.cmd loaded c.args.line) said (record t { phase = at.Drop File (c.args.line + 1) })) (sym c.requires.go)
+    (goes _ _ _
     (told ∙ next_line (record loaded { words = [] }) c.args.line c.wanted_lines-lines.result _ lines c.if-line-lines.true)
-    (ap (λ (w : List ℕ). record t { phase = at.Drop File (c.args.line + 1); words = w }) empty ∙ ap (λ (u : Task). record u { phase = at.Drop File (c.args.line + 1); words = [] }) c.self.view_is)
+    (ap (λ (w : List ℕ). record t { phase = at.Drop File (c.args.line + 1); words = w }) empty ∙ ap (λ (u : Task). record u { phase = at.Drop File (c.args.line + 1); words = [] }) c.self.view_is))
 
 pub returns-else-line-lines : goal.returns-else-line-lines
 returns-else-line-lines c phase =
     let t : Task = task_of c.self.inside in
     let at_phase : c.self.inside.phase ≡ at.Drop File c.args.line = ap (λ (u : Task). u.phase) c.self.view_is ∙ c.requires.phase in
-    let held : IsHeldAt (at.Drop File c.args.line) c.self.inside = subst (λ (p : Phase). IsHeldAt p c.self.inside) at_phase c.self.invariant.held in
+    let held : IsInvariantAt (at.Drop File c.args.line) c.self.inside = subst (λ (p : Phase). IsInvariantAt p c.self.inside) at_phase c.self.invariant.held in
     let is : IsVerify c.self.inside.cmd = subst (λ (u : Task). IsVerify u.cmd) (sym c.self.view_is) c.requires.verify in
     let holds = verify_holds c.self.inside.cmd c.self.inside c.args.line is held in
     let size : c.file_size-size.result ≡ size_of c.args.self.now.entry = c.file_size-size.ensures in

@@ -23,4 +23,4 @@ returns c =
     ∙ take_all 8 c.push.new.self (omega (arith, ap length c.push.ensures, length-append c.self.inside.buffer (c.args.word ∷ []), stands.2, verify_kept c.self.inside.cmd c.args.line is))
     ∙ c.push.ensures in
     rw (← c.self.view_is)
-    (subst (λ (ws : List ℕ). Tells (file_turn t.cmd (record t { words = ws }) c.args.line) c.compare_found.result c.compare_found.new.self) words (c.compare_found.ensures c.self.inside.phase))
+    (subst (λ (ws : List ℕ). Tells (file_turn t.cmd (record t { words = ws }) c.args.line) c.compare_found.new.turn c.compare_found.new.self) words (c.compare_found.ensures c.self.inside.phase))

@@ -9,7 +9,7 @@ use Rattle.fam_commands.specs.Task.{Task, size_of, wanted_end, wanted_lines, wan
 use Rattle.fam_commands.specs.Turns.{loaded_bytes, with_word}
 use Rattle.fam_commands.specs.Classes.{IsRead}
 use Rattle.fam_tasks.specs.declared.answer.Answer.TheVariants as answer
-use Rattle.fam_tasks.specs.Held.{IsHeldAt}
+use Rattle.fam_tasks.specs.Invariant.{IsInvariantAt}
 use Rattle.fam_tasks.specs.Model.{task_of}
 use Rattle.fam_tasks.specs.Sound.{IsSoundAt}
 use Rattle.fam_tasks.proofs.FileLines.{read_held, read_holds, read_kept, read_turn, same_proper, wanted_line}
@@ -23,7 +23,7 @@ invariant_of-self c =
     let sound = c.self.invariant.sound in
     let phase : c.self.inside.phase ≡ at.Word File c.args.line 7 = ap (λ (u : Task). u.phase) c.self.view_is ∙ c.requires.phase in
     let stands : IsSoundAt (at.Word File c.args.line 7) t = subst (λ (p : Phase). IsSoundAt p t) phase sound.stands in
-    let held : IsHeldAt (at.Word File c.args.line 7) c.self.inside = subst (λ (p : Phase). IsHeldAt p c.self.inside) phase c.self.invariant.held in
+    let held : IsInvariantAt (at.Word File c.args.line 7) c.self.inside = subst (λ (p : Phase). IsInvariantAt p c.self.inside) phase c.self.invariant.held in
     let is : IsRead c.self.inside.cmd = subst (λ (u : Task). IsRead u.cmd) (sym c.self.view_is) c.requires.read in
     let lines : c.wanted_lines-lines.result ≡ wanted_lines c.self.inside.cmd (size_of c.self.inside.entry) =
     c.wanted_lines-lines.ensures ∙ ap (wanted_lines c.self.inside.cmd) (c.file_size.ensures ∙ ap (λ (u : Task). size_of u.entry) (sym c.self.view_is)) in
@@ -46,7 +46,7 @@ invariant_of-self c =
 pub returns : goal.returns
 returns c =
     let phase : c.self.inside.phase ≡ at.Word File c.args.line 7 = ap (λ (u : Task). u.phase) c.self.view_is ∙ c.requires.phase in
-    let held : IsHeldAt (at.Word File c.args.line 7) c.self.inside = subst (λ (p : Phase). IsHeldAt p c.self.inside) phase c.self.invariant.held in
+    let held : IsInvariantAt (at.Word File c.args.line 7) c.self.inside = subst (λ (p : Phase). IsInvariantAt p c.self.inside) phase c.self.invariant.held in
     let is : IsRead c.self.inside.cmd = subst (λ (u : Task). IsRead u.cmd) (sym c.self.view_is) c.requires.read in
     let u : Task = with_word c.args.self.now c.args.word in
     let lines : c.wanted_lines-lines.result ≡ wanted_lines u.cmd (size_of u.entry) =

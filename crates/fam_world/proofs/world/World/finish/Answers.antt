@@ -1,4 +1,5 @@
 use Rattle.std.proofs.Common.{◌≡◌, ◌++◌, ◌∷◌, [], List, length, Option, None, Some, Result, Ok, Err, set, refl, ap, sym, subst, ◌∙◌, arith, true}
+use Rattle.fam_media.specs.States.{change}
 use Rattle.std.specs.Prelude.{IfSome, IsErrOf, OnErr, OnOk, is_some}
 use Rattle.fam_base.specs.declared.line.OutOfMemory.{OutOfMemory}
 use Rattle.fam_journal.specs.declared.refusal.Refusal.{Refusal}
@@ -20,6 +21,7 @@ use Rattle.fam_world.proofs.Finishing.{finish_done, finish_lacks, finish_nothing
 use Rattle.fam_world.proofs.Members.{map_at, map_set}
 use Rattle.fam_world.proofs.Moving.{media_refused}
 use Rattle.fam_world.proofs.WithoutMedia.{refused_told}
+use Rattle.fam_world.proofs.Untouched.{none_refused}
 use Rattle.fam_world.proofs.world.World.finish.Goals as goal
 
 -- of a task that is there
@@ -53,7 +55,7 @@ returns-in-Err-clause-answered g c =
       named = placed.named;
       faultless = placed.faultless;
     } in
-    subst (λ (w : WorldView). IfAnswered {T = Unit {0}} (Err c.refused.result) (λ answered. MediaCall (call.Finishes c.args.name.now) size answered (m.state media).image (m.state media).image (m.state media).faults (m.state media).faults w new)) c.self.view_is
+    subst (λ (w : WorldView). IfAnswered {T = Unit {0}} (Err c.refused.result) (λ answered. MediaCall (call.Finishes c.args.name.now) size answered (change m.state media media) w new)) c.self.view_is
     (refused_told c.refused.result c.in-Err.cause _ c.refused.ensures.given
     (media_refused (call.Finishes c.args.name.now) tt tt size (m.state media).image (m.state media).faults old new c.in-Err.cause (g.met.M.Media.modelled media) refused refl
     (c.refused.ensures.noted ∙ ap (λ (xs : List Kept). notes_view xs ++ Refused c.args.name.now c.in-Err.cause ∷ []) c.make_room.ensures.same)))
@@ -72,14 +74,14 @@ returns-clause-answered g c =
     let at_is = slice_get_read items (length items) at x refl (omega (arith, c.in-Ok.ensures.within)) c.index_mut.ensures.value in
     let free = c.in-Ok.ensures.placed size old.journal in
     let new : WorldView = world_view (set items at y) c.finish_of.new.journal.items in
-    let P : Option Refusal → Type 0 = λ answered. MediaCall (call.Finishes c.args.name.now) size answered (m.state media).image (m.state media_now).image (m.state media).faults (m.state media_now).faults c.args.self.now new in
+    let P : Option Refusal → Type 0 = λ answered. MediaCall (call.Finishes c.args.name.now) size answered (change m.state media media_now) c.args.self.now new in
     subst (λ r. IfAnswered {T = Unit {0}} r P) (sym c.or_fault.ensures)
     (done_answered c.finish_of.result P
     (λ is.
     let ends = subst (λ (j : List Note). Ends at size (host_standing m.state media (host_view x) j) (host_standing m.state media_now (host_view y) new.journal)) (ap notes_view c.make_room.ensures.same) (subst (RunsUp at size (host_standing m.state media (host_view x) (notes_view c.make_room.new.journal.items)) (host_standing m.state media_now (host_view y) new.journal)) is c.finish_of.ensures.runs) in
     let far = far_ends c.args.name.now at size old (host_view x) free.number (map_at host_view items at x at_is) free.within (m.state media).image (m.state media_now).image (m.state media).faults (m.state media_now).faults new (host_view y)
     (map_set host_view (λ v. host_view y) items at y x at_is refl) ends in
-    subst (λ (w : WorldView). MediaCall (call.Finishes c.args.name.now) size None (m.state media).image (m.state media_now).image (m.state media).faults (m.state media_now).faults w new) c.self.view_is
+    subst (λ (w : WorldView). MediaCall (call.Finishes c.args.name.now) size None (change m.state media media_now) w new) c.self.view_is
     (finish_done c.args.name.now at size old (m.state media).image (m.state media).faults new (m.state media_now).image (m.state media_now).faults far free.number free.free free.within (g.met.M.Media.modelled media)
     (λ v there. subst (λ (u : HostView). u.task ≡ None) (same_Some (host_view y) v (sym (view_set items at x y at_is) ∙ there)) (ok_then c.finish_of.result is c.finish_of.ensures.over)))))
 
@@ -102,7 +104,7 @@ returns-clause-want g c = λ full.
     let runs = subst (λ (j : List Note). Runs at size (host_standing m.state media (host_view x) j) (host_standing m.state media_now (host_view y) new.journal)) (ap notes_view c.make_room.ensures.same) (subst (RunsUp at size (host_standing m.state media (host_view x) (notes_view c.make_room.new.journal.items)) (host_standing m.state media_now (host_view y) new.journal)) is c.finish_of.ensures.runs) in
     let far = far_runs c.args.name.now at size old (host_view x) free.number view_is free.within (m.state media).image (m.state media_now).image (m.state media).faults (m.state media_now).faults new (host_view y)
     (map_set host_view (λ v. host_view y) items at y x at_is refl) runs in
-    subst (λ (w : WorldView). FinishOutOfMemory c.args.name.now size (m.state media).image (m.state media_now).image (m.state media).faults (m.state media_now).faults w new) c.self.view_is
+    subst (λ (w : WorldView). FinishOutOfMemory c.args.name.now size (change m.state media media_now) w new) c.self.view_is
     (finish_lacks c.args.name.now at size old (m.state media).image (m.state media).faults new (m.state media_now).image (m.state media_now).faults far free.number free.free free.within (g.met.M.Media.modelled media)
     (λ v there. subst (λ (u : HostView). is_some u.task ≡ true) (same_Some (host_view y) v (sym (view_set items at x y at_is) ∙ there)) (err_then c.finish_of.result is c.finish_of.ensures.on))
     (λ unstored. unstored_then x.task x.cache.lines _ (c.in-Ok.ensures.runs (host_view x) view_is) (unstored (host_view x) view_is) (err_then c.finish_of.result is c.finish_of.ensures.same)))
@@ -114,8 +116,8 @@ returns-then-is_err-clause-want g c = λ _.
     let old : WorldView = world_view c.self.inside.hosts.items c.self.inside.journal.items in
     let size = m.size media in
     let new : WorldView = world_view c.self.inside.hosts.items c.make_room.new.journal.items in
-    subst (λ (w : WorldView). FinishOutOfMemory c.args.name.now size (m.state media).image (m.state media).image (m.state media).faults (m.state media).faults w new) c.self.view_is
-    (subst (λ (j : List Note). FinishOutOfMemory c.args.name.now size (m.state media).image (m.state media).image (m.state media).faults (m.state media).faults old (record { hosts = old.hosts; journal = j })) (sym (ap notes_view c.make_room.ensures.same))
+    subst (λ (w : WorldView). FinishOutOfMemory c.args.name.now size (change m.state media media) w new) c.self.view_is
+    (subst (λ (j : List Note). FinishOutOfMemory c.args.name.now size (change m.state media media) old (record { hosts = old.hosts; journal = j })) (sym (ap notes_view c.make_room.ensures.same))
     (finish_nothing c.args.name.now size (m.state media).image (m.state media).faults old))
 
 pub finish_of-requires : goal.finish_of-requires
@@ -131,3 +133,10 @@ finish_of-requires g c =
       cached = record { below = fits.cache };
       few = omega (arith, c.in-Ok.ensures.within, c.self.invariant);
     }
+
+pub returns-clause-untouched : goal.returns-clause-untouched
+returns-clause-untouched g c =
+    let old : WorldView = world_view c.self.inside.hosts.items c.self.inside.journal.items in
+    let size = g.M.Media.size c.args.media.now in
+    none_refused (call.Finishes c.args.name.now) size old c.args.self.now c.args.media.now c.finish_of.new.media
+    (finishes_as_steps c.args.name.now old size _ (c.in-Ok.ensures.placed size old.journal).free) c.self.view_is

@@ -1,4 +1,5 @@
 use Rattle.std.proofs.Common.{set, ◌≡◌, ◌*◌, ◌++◌, ◌∷◌, [], List, Err, length, refl, ap, ◌∙◌, subst, arith, None}
+use Rattle.fam_media.specs.States.{change}
 use Rattle.std.proofs.lemmas.Option.{slice_get_read}
 use Rattle.fam_rules.specs.Place.{line_bytes}
 use Rattle.fam_machine.specs.MkfsRequest.{mkfs_request}
@@ -15,6 +16,7 @@ use Rattle.fam_world.proofs.Making.{make_ended, make_refused, wide_of}
 use Rattle.fam_world.proofs.Members.{map_at, map_set}
 use Rattle.fam_world.proofs.Moving.{with_cache}
 use Rattle.fam_world.proofs.WithoutMedia.{refused_told}
+use Rattle.fam_world.proofs.Untouched.{free_untouched}
 use Rattle.fam_world.proofs.world.World.mkfs.Goals as goal
 
 pub returns-in-Err-clause-answered : goal.returns-in-Err-clause-answered
@@ -23,7 +25,7 @@ returns-in-Err-clause-answered g c =
     let new : WorldView = world_view c.self.inside.hosts.items c.refused.new.journal.items in
     let asked : call.Call = call.Makes c.args.name.now (mkfs_request c.args.fs c.args.unit c.args.log c.args.force) in
     let refused : IsRefused asked (g.M.Media.size c.args.media.now) old c.in-Err.cause = subst (λ n. IsRefused asked n old c.in-Err.cause) c.lines.ensures.count (c.in-Err.ensures.placed old.journal) in
-    subst (λ (w : WorldView). IfAnswered {T = Unit {0}} (Err c.refused.result) (λ answered. MakeCall asked (g.M.Media.size c.args.media.now) answered (g.M.Media.state c.args.media.now).image (g.M.Media.state c.args.media.now).image (g.M.Media.state c.args.media.now).faults (g.M.Media.state c.args.media.now).faults w new)) c.self.view_is
+    subst (λ (w : WorldView). IfAnswered {T = Unit {0}} (Err c.refused.result) (λ answered. MakeCall asked (g.M.Media.size c.args.media.now) answered (change g.M.Media.state c.args.media.now c.args.media.now) w new)) c.self.view_is
     (refused_told c.refused.result c.in-Err.cause _ c.refused.ensures.given
     (make_refused c.args.name.now (mkfs_request c.args.fs c.args.unit c.args.log c.args.force) c.is_uuid.ensures (g.M.Media.size c.args.media.now) old (g.M.Media.state c.args.media.now).image (g.M.Media.state c.args.media.now).faults new c.in-Err.cause (g.met.M.Media.modelled c.args.media.now) refused refl
     (c.refused.ensures.noted ∙ ap (λ (xs : List Kept). notes_view xs ++ Refused c.args.name.now c.in-Err.cause ∷ []) c.make_room.ensures.same)))
@@ -40,7 +42,7 @@ returns-in-Ok-make_host-clause-answered g c =
     let free : IsFree asked size old at = subst (λ n. IsFree asked n old at) c.lines.ensures.count (c.in-Ok.ensures.placed old.journal) in
     let wide = wide_of c.args.unit c.args.log size (subst (λ n. refusal c.args.unit c.args.log (line_bytes * n) ≡ None) c.lines.ensures.count c.in-Ok.ensures.free) in
     let new : WorldView = world_view (set items at c.make_host.new.host) c.note_end.new.journal.items in
-    subst (λ (w : WorldView). IfAnswered c.note_end.result (λ answered. MakeCall asked size answered (g.M.Media.state c.args.media.now).image (g.M.Media.state c.make_host.new.media).image (g.M.Media.state c.args.media.now).faults (g.M.Media.state c.make_host.new.media).faults w new)) c.self.view_is
+    subst (λ (w : WorldView). IfAnswered c.note_end.result (λ answered. MakeCall asked size answered (change g.M.Media.state c.args.media.now c.make_host.new.media) w new)) c.self.view_is
     (make_ended c.args.name.now (mkfs_request c.args.fs c.args.unit c.args.log c.args.force) c.is_uuid.ensures size old at (host_view x) free.number free.free free.within (map_at host_view items at x at_is)
     (g.M.Media.state c.args.media.now).image (g.M.Media.state c.make_host.new.media).image (g.M.Media.state c.args.media.now).faults (g.M.Media.state c.make_host.new.media).faults _ (g.met.M.Media.modelled c.args.media.now) wide
     c.make_host.new.host.cache.lines c.make_host.ensures.others
@@ -48,3 +50,11 @@ returns-in-Ok-make_host-clause-answered g c =
     c.in-Ok-make_host.end c.note_end.result c.note_end.ensures.given
     (c.note_end.ensures.noted ∙ ap (λ (xs : List Kept). notes_view xs ++ end_note at c.args.name.now c.in-Ok-make_host.end ∷ []) c.make_room.ensures.same)
     c.in-Ok-make_host.ensures.ends)
+
+pub returns-in-Ok-make_host-clause-untouched : goal.returns-in-Ok-make_host-clause-untouched
+returns-in-Ok-make_host-clause-untouched g c =
+    let old : WorldView = world_view c.self.inside.hosts.items c.self.inside.journal.items in
+    let asked : call.Call = call.Makes c.args.name.now (mkfs_request c.args.fs c.args.unit c.args.log c.args.force) in
+    let size = g.M.Media.size c.args.media.now in
+    free_untouched asked size c.in-Ok.at old c.args.self.now c.args.media.now c.make_host.new.media
+    (subst (λ n. IsFree asked n old c.in-Ok.at) c.lines.ensures.count (c.in-Ok.ensures.placed old.journal)) c.self.view_is

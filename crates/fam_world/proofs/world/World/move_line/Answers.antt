@@ -1,4 +1,5 @@
 use Rattle.std.proofs.Common.{set, ◌<◌, ◌++◌, ◌∷◌, [], List, Err, None, length, refl, ap, ◌∙◌, subst, arith}
+use Rattle.fam_media.specs.States.{change}
 use Rattle.std.proofs.lemmas.Option.{slice_get_read}
 use Rattle.fam_machine.specs.Caches.{Cache}
 use Rattle.fam_cache.specs.declared.fault.CacheFault.{CacheFault}
@@ -14,6 +15,7 @@ use Rattle.fam_world.specs.View.{host_view, notes_view, world_view}
 use Rattle.fam_world.proofs.Members.{map_at, map_same, map_set}
 use Rattle.fam_world.proofs.Moving.{media_refused, move_failed_call, moved_call, with_cache}
 use Rattle.fam_world.proofs.WithoutMedia.{refused_told}
+use Rattle.fam_world.proofs.Untouched.{free_untouched}
 use Rattle.fam_world.proofs.world.World.move_line.Goals as goal
 
 pub returns-in-Err-clause-answered : goal.returns-in-Err-clause-answered
@@ -22,7 +24,7 @@ returns-in-Err-clause-answered g c =
     let new : WorldView = world_view c.self.inside.hosts.items c.refused.new.journal.items in
     let asked : call.Call = call.Moves c.args.name.now c.args.line.0 (move_of c.args.what) in
     let refused : IsRefused asked (g.M.Media.size c.args.media.now) old c.in-Err.cause = subst (λ n. IsRefused asked n old c.in-Err.cause) c.lines.ensures.count (c.in-Err.ensures.placed (move_of c.args.what) old.journal) in
-    subst (λ (w : WorldView). IfAnswered {T = Unit {0}} (Err c.refused.result) (λ answered. MediaCall asked (g.M.Media.size c.args.media.now) answered (g.M.Media.state c.args.media.now).image (g.M.Media.state c.args.media.now).image (g.M.Media.state c.args.media.now).faults (g.M.Media.state c.args.media.now).faults w new)) c.self.view_is
+    subst (λ (w : WorldView). IfAnswered {T = Unit {0}} (Err c.refused.result) (λ answered. MediaCall asked (g.M.Media.size c.args.media.now) answered (change g.M.Media.state c.args.media.now c.args.media.now) w new)) c.self.view_is
     (refused_told c.refused.result c.in-Err.cause _ c.refused.ensures.given
     (media_refused asked tt tt (g.M.Media.size c.args.media.now) (g.M.Media.state c.args.media.now).image (g.M.Media.state c.args.media.now).faults old new c.in-Err.cause (g.met.M.Media.modelled c.args.media.now) refused refl
     (c.refused.ensures.noted ∙ ap (λ (xs : List Kept). notes_view xs ++ Refused c.args.name.now c.in-Err.cause ∷ []) c.make_room.ensures.same)))
@@ -37,7 +39,7 @@ returns-in-Ok-shift-clause-answered g c =
     let asked : call.Call = call.Moves c.args.name.now c.args.line.0 (move_of c.args.what) in
     let free : IsFree asked (g.M.Media.size c.args.media.now) old at = subst (λ n. IsFree asked n old at) c.lines.ensures.count (c.in-Ok.ensures.placed (move_of c.args.what) old.journal) in
     let new : WorldView = world_view (set items at (record x { cache = c.shift.new.cache })) c.make_room.new.journal.items in
-    subst (λ (w : WorldView). MediaCall asked (g.M.Media.size c.args.media.now) None (g.M.Media.state c.args.media.now).image (g.M.Media.state c.shift.new.media).image (g.M.Media.state c.args.media.now).faults (g.M.Media.state c.shift.new.media).faults w new) c.self.view_is
+    subst (λ (w : WorldView). MediaCall asked (g.M.Media.size c.args.media.now) None (change g.M.Media.state c.args.media.now c.shift.new.media) w new) c.self.view_is
     (moved_call c.args.name.now c.args.line.0 at (move_of c.args.what) (g.M.Media.size c.args.media.now) old (host_view x) free.number free.free (map_at host_view items at x at_is)
     (g.M.Media.state c.args.media.now).image (g.M.Media.state c.shift.new.media).image (g.M.Media.state c.args.media.now).faults (g.M.Media.state c.shift.new.media).faults _ (g.met.M.Media.modelled c.args.media.now)
     c.shift.new.cache.lines (map_set host_view (with_cache c.shift.new.cache.lines) items at _ x at_is refl) (ap notes_view c.make_room.ensures.same)
@@ -54,10 +56,26 @@ returns-in-Err-Failed-clause-answered g c =
     let free : IsFree asked (g.M.Media.size c.args.media.now) old at = subst (λ n. IsFree asked n old at) c.lines.ensures.count (c.in-Ok.ensures.placed (move_of c.args.what) old.journal) in
     let failed = c.in-Err-Failed.is ∙ ap (λ (f : CacheFault). Err f) c.in-Err-Failed.field-0-is in
     let new : WorldView = world_view (set items at (record x { cache = c.shift.new.cache })) c.refused-in-Err-Failed.new.journal.items in
-    subst (λ (w : WorldView). IfAnswered {T = Unit {0}} (Err c.refused-in-Err-Failed.result) (λ answered. MediaCall asked (g.M.Media.size c.args.media.now) answered (g.M.Media.state c.args.media.now).image (g.M.Media.state c.shift.new.media).image (g.M.Media.state c.args.media.now).faults (g.M.Media.state c.shift.new.media).faults w new)) c.self.view_is
+    subst (λ (w : WorldView). IfAnswered {T = Unit {0}} (Err c.refused-in-Err-Failed.result) (λ answered. MediaCall asked (g.M.Media.size c.args.media.now) answered (change g.M.Media.state c.args.media.now c.shift.new.media) w new)) c.self.view_is
     (refused_told c.refused-in-Err-Failed.result (why.MediaFault c.args.line) _ c.refused-in-Err-Failed.ensures.given
     (move_failed_call c.args.name.now c.args.line.0 at (move_of c.args.what) (g.M.Media.size c.args.media.now) old (host_view x) free.number free.free (map_at host_view items at x at_is)
     (g.M.Media.state c.args.media.now).image (g.M.Media.state c.shift.new.media).image (g.M.Media.state c.args.media.now).faults (g.M.Media.state c.shift.new.media).faults _ (g.met.M.Media.modelled c.args.media.now)
     c.args.line refl (map_same host_view items at _ x at_is (ap (λ (k : Cache). record (host_view x) { cache = k }) c.in-Err-Failed.ensures.err))
     (c.refused-in-Err-Failed.ensures.noted ∙ ap (λ (xs : List Kept). notes_view xs ++ Refused c.args.name.now (why.MediaFault c.args.line) ∷ []) c.make_room.ensures.same)
     c.shift.ensures.steady.later (c.shift.ensures.rose failed) (c.shift.ensures.failed failed)))
+
+pub returns-in-Ok-shift-clause-untouched : goal.returns-in-Ok-shift-clause-untouched
+returns-in-Ok-shift-clause-untouched g c =
+    let old : WorldView = world_view c.self.inside.hosts.items c.self.inside.journal.items in
+    let asked : call.Call = call.Moves c.args.name.now c.args.line.0 (move_of c.args.what) in
+    let size = g.M.Media.size c.args.media.now in
+    free_untouched asked size c.in-Ok.at old c.args.self.now c.args.media.now c.shift.new.media
+    (subst (λ n. IsFree asked n old c.in-Ok.at) c.lines.ensures.count (c.in-Ok.ensures.placed (move_of c.args.what) old.journal)) c.self.view_is
+
+pub returns-in-Err-Failed-clause-untouched : goal.returns-in-Err-Failed-clause-untouched
+returns-in-Err-Failed-clause-untouched g c =
+    let old : WorldView = world_view c.self.inside.hosts.items c.self.inside.journal.items in
+    let asked : call.Call = call.Moves c.args.name.now c.args.line.0 (move_of c.args.what) in
+    let size = g.M.Media.size c.args.media.now in
+    free_untouched asked size c.in-Ok.at old c.args.self.now c.args.media.now c.shift.new.media
+    (subst (λ n. IsFree asked n old c.in-Ok.at) c.lines.ensures.count (c.in-Ok.ensures.placed (move_of c.args.what) old.journal)) c.self.view_is

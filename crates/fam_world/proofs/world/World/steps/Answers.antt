@@ -1,6 +1,7 @@
 use Rattle.std.specs.Prelude.{IsErrOf, OnErr}
 use Rattle.std.proofs.Common.{◌≡◌, Result, ◌++◌, ◌∷◌, [], List, length, Ok, Err, false, refl, ap, sym, subst, ◌∙◌, arith, set}
 use Rattle.std.proofs.lemmas.Option.{slice_get_read}
+use Rattle.fam_media.specs.States.{change}
 use Rattle.fam_journal.specs.Calls as call
 use Rattle.fam_journal.specs.CallRecords.{FitsMedia}
 use Rattle.fam_journal.specs.Notes.{Note, Refused}
@@ -14,6 +15,7 @@ use Rattle.fam_world.proofs.Counting.{steps_said, told_full}
 use Rattle.fam_world.proofs.Members.{map_at, map_set}
 use Rattle.fam_world.proofs.Moving.{media_refused}
 use Rattle.fam_world.proofs.Stepping.{step_refused}
+use Rattle.fam_world.proofs.Untouched.{free_untouched}
 use Rattle.fam_world.proofs.world.World.steps.Goals as goal
 
 err_then : {T E P : Type 0} (r : Result T E) {e : E} → r ≡ Err e → OnErr r P → P
@@ -54,7 +56,7 @@ returns-clause-says g c =
     let new : WorldView = world_view (set items at y) c.steps_of.new.journal.items in
     let said : StepsSay c.args.name.now size c.args.most (standing g.M.Media.state c.args.media.now old) (standing g.M.Media.state c.steps_of.new.media new) (told_of c.steps_of.result) =
     steps_said c.args.name.now at size old (host_view x) free.number (map_at host_view items at x at_is) free.within c.args.most
-    (g.M.Media.state c.args.media.now).image (g.M.Media.state c.steps_of.new.media).image (g.M.Media.state c.args.media.now).faults (g.M.Media.state c.steps_of.new.media).faults new (host_view y)
+    (change g.M.Media.state c.args.media.now c.steps_of.new.media) new (host_view y)
     c.steps_of.result (map_set host_view (λ v. host_view y) items at y x at_is refl)
     (subst (λ (j : List Note). HostStepsSay at size c.args.most (host_standing g.M.Media.state c.args.media.now (host_view x) j)
     (host_standing g.M.Media.state c.steps_of.new.media (host_view y) (notes_view c.steps_of.new.journal.items)) c.steps_of.result) (ap notes_view c.make_room.ensures.same) c.steps_of.ensures.says) in
@@ -78,3 +80,9 @@ steps_of-requires g c =
       cached = record { below = fits.cache };
       few = omega (arith, c.in-Ok.ensures.within, c.self.invariant);
     }
+
+pub returns-clause-untouched : goal.returns-clause-untouched
+returns-clause-untouched g c =
+    let old : WorldView = world_view c.self.inside.hosts.items c.self.inside.journal.items in
+    let size = g.M.Media.size c.args.media.now in
+    free_untouched (call.Steps c.args.name.now) size c.in-Ok.at old c.args.self.now c.args.media.now c.steps_of.new.media (c.in-Ok.ensures.placed size old.journal) c.self.view_is

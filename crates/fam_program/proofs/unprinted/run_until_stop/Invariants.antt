@@ -1,9 +1,9 @@
 use Rattle.std.proofs.Common.{◌≡◌, false}
 use Rattle.std.specs.List.{list_any}
 use Rattle.fam_outcomes.specs.Statuses.{note_stops}
-use Rattle.fam_program.specs.Quiet.{AreShotEvents}
+use Rattle.fam_program.specs.Unprinted.{AreShotEvents}
 use Rattle.fam_program.proofs.Runs.Turns.{Turns}
-use Rattle.fam_program.proofs.quiet.run_until_stop.Given as goal
+use Rattle.fam_program.proofs.unprinted.run_until_stop.Given as goal
 
 abbrev pub invariant-events : goal.invariant-events
 invariant-events g l = record {

@@ -36,7 +36,7 @@ HoldsFileIn Replays j t = ⊤
 HoldsFileIn Appends j t = ⊤
 HoldsFileIn Surveys j t = ⊤
 
--- of a command
+-- so of a command, by its class
 abbrev pub HoldsFile : Cmd → ℕ → Inside → Type 0
 HoldsFile cmd j t = HoldsFileIn (class_of cmd) j t
 
@@ -54,25 +54,25 @@ HoldsPart (Slot i) j t = HasLooked i t
 HoldsPart File j t = HoldsFile t.cmd j t
 
 -- in a phase
-abbrev pub IsHeldAt : Phase → Inside → Type 0
-IsHeldAt at.DropMagic t = IsUnread t
-IsHeldAt at.Magic t = IsUnread t
-IsHeldAt (at.Drop part j) t = HoldsPart part j t
-IsHeldAt (at.Word part j k) t = HoldsPart part j t
-IsHeldAt at.DropGate t = IsUnread t
-IsHeldAt at.Gate t = IsUnread t
-IsHeldAt (at.Check i) t = HasLooked i t
-IsHeldAt at.Decide t = HasLooked (slots_told t.cmd t.params t.gate) t
-IsHeldAt (at.StoreData j k) t = HoldsLine j t
-IsHeldAt (at.SendData j) t = HoldsLine j t
-IsHeldAt (at.StoreSlot j k) t = ⊤
-IsHeldAt (at.SendSlot j) t = ⊤
-IsHeldAt at.StoreGate t = ⊤
-IsHeldAt at.FenceSlot t = ⊤
-IsHeldAt at.SendGate t = ⊤
-IsHeldAt at.FenceGate t = ⊤
+abbrev pub IsInvariantAt : Phase → Inside → Type 0
+IsInvariantAt at.DropMagic t = IsUnread t
+IsInvariantAt at.Magic t = IsUnread t
+IsInvariantAt (at.Drop part j) t = HoldsPart part j t
+IsInvariantAt (at.Word part j k) t = HoldsPart part j t
+IsInvariantAt at.DropGate t = IsUnread t
+IsInvariantAt at.Gate t = IsUnread t
+IsInvariantAt (at.Check i) t = HasLooked i t
+IsInvariantAt at.Decide t = HasLooked (slots_told t.cmd t.params t.gate) t
+IsInvariantAt (at.StoreData j k) t = HoldsLine j t
+IsInvariantAt (at.SendData j) t = HoldsLine j t
+IsInvariantAt (at.StoreSlot j k) t = ⊤
+IsInvariantAt (at.SendSlot j) t = ⊤
+IsInvariantAt at.StoreGate t = ⊤
+IsInvariantAt at.FenceSlot t = ⊤
+IsInvariantAt at.SendGate t = ⊤
+IsInvariantAt at.FenceGate t = ⊤
 
 -- every task is sound, and its parts hang together
 pub record IsTask (t : Inside) : Type 0 where
   pub sound : IsSound (task_of t)
-  pub held : IsHeldAt t.phase t
+  pub held : IsInvariantAt t.phase t

@@ -13,26 +13,26 @@ use Rattle.fam_tasks.specs.Sound.{IsSound}
 
 -- the operation loads a word of a line that the host holds, or stores into one, or drops a line of which memory lacks
 -- nothing
-abbrev pub IsOfHeld : Op → Cache → Type 0
-IsOfHeld (Load line k) held = IsHeld (cell_at held line.0)
-IsOfHeld (Store line k value) held = IsHeld (cell_at held line.0)
-IsOfHeld (WriteBack line) held = ⊥
-IsOfHeld Fence held = ⊥
-IsOfHeld (Invalidate line) held = ¬ (IsDirty (cell_at held line.0))
-IsOfHeld Digest held = ⊥
+abbrev pub IsCached : Op → Cache → Type 0
+IsCached (Load line k) held = IsHeld (cell_at held line.0)
+IsCached (Store line k value) held = IsHeld (cell_at held line.0)
+IsCached (WriteBack line) held = ⊥
+IsCached Fence held = ⊥
+IsCached (Invalidate line) held = ¬ (IsDirty (cell_at held line.0))
+IsCached Digest held = ⊥
 
 -- what such an operation leaves of the cache: a load all, a store another word in the line's copy, which is dirty, and a
 -- drop all but the line
-abbrev pub held_after : Op → Cache → Cache
-held_after (Load line k) held = held
-held_after (Store line k value) held = with_cell line.0 (Dirty false (slice_set (words_of (cell_at held line.0)) k value)) held
-held_after (WriteBack line) held = held
-held_after Fence held = held
-held_after (Invalidate line) held = with_cell line.0 Absent held
-held_after Digest held = held
+abbrev pub cached_after : Op → Cache → Cache
+cached_after (Load line k) held = held
+cached_after (Store line k value) held = with_cell line.0 (Dirty false (slice_set (words_of (cell_at held line.0)) k value)) held
+cached_after (WriteBack line) held = held
+cached_after Fence held = held
+cached_after (Invalidate line) held = with_cell line.0 Absent held
+cached_after Digest held = held
 
 -- the task and its host's cache, and what so many such operations leave of both: behind each of them the task just goes
 -- on, a load by the word of the copy
-pub data HeldRun : Task → Cache → Task → Cache → ℕ → Type 0 where
-  none : {t : Task} {held : Cache} → HeldRun t held t held 0
-  more : {t mid next : Task} {held now after : Cache} {n : ℕ} → HeldRun t held mid now n → IsSound mid → IsWithin mid.lines (op_of mid) → IsOfHeld (op_of mid) now → after ≡ held_after (op_of mid) now → turn_of mid (word_of (op_of mid) now) ≡ Goes next → HeldRun t held next after (suc n)
+pub data CachedRun : Task → Cache → Task → Cache → ℕ → Type 0 where
+  none : {t : Task} {held : Cache} → CachedRun t held t held 0
+  more : {t mid next : Task} {held now after : Cache} {n : ℕ} → CachedRun t held mid now n → IsSound mid → IsWithin mid.lines (op_of mid) → IsCached (op_of mid) now → after ≡ cached_after (op_of mid) now → turn_of mid (word_of (op_of mid) now) ≡ Goes next → CachedRun t held next after (suc n)

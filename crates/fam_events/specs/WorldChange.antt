@@ -1,4 +1,4 @@
--- What stands around an event: the world, the media, the shelf, and how many bytes of sources were read, before and after it.
+-- The world, the media, the shelf, and how many bytes of sources were read, before and behind an event.
 use Rattle.std.specs.Prelude.{ℕ, ◌≡◌, ◌≤◌, ◌++◌, List, length, Option, Some}
 use Rattle.fam_base.specs.Image.{Image}
 use Rattle.fam_media.specs.Files.{Files}
@@ -16,7 +16,7 @@ use Rattle.fam_journal.specs.View.{WorldView}
 
 -- the media's image and the shelf's files are told where they are modelled; the media's number of lines and its count of
 -- faults always
-pub record Around : Type 0 where
+pub record WorldChange : Type 0 where
   pub lines : ℕ
   pub media : MediaChange
   pub old : WorldView
@@ -26,7 +26,7 @@ pub record Around : Type 0 where
   pub copied_now : ℕ
 
 -- the world may change, and bytes of sources may be read
-abbrev pub asking : ℕ → WorldView → WorldView → Option Image → ℕ → Option Files → ℕ → ℕ → Around
+abbrev pub asking : ℕ → WorldView → WorldView → Option Image → ℕ → Option Files → ℕ → ℕ → WorldChange
 asking lines old new told faults files copied copied_now = record {
   lines = lines;
   media = record { old = record { image = told; faults = faults }; new = record { image = told; faults = faults } };
@@ -38,12 +38,12 @@ asking lines old new told faults files copied copied_now = record {
 }
 
 -- nothing but the world may change
-abbrev pub still : ℕ → WorldView → WorldView → Option Image → ℕ → Option Files → ℕ → Around
+abbrev pub still : ℕ → WorldView → WorldView → Option Image → ℕ → Option Files → ℕ → WorldChange
 still lines old new told faults files copied = asking lines old new told faults files copied copied
 
 -- a media and a world, from one state to another, by what the media tells of each
-abbrev pub around : {M : Type 0} → (M → ℕ) → (M → MediaState) → M → M → WorldView → WorldView → Option Files → ℕ → ℕ → Around
-around size state media media_now old new files copied copied_now = record {
+abbrev pub world_change : {M : Type 0} → (M → ℕ) → (M → MediaState) → M → M → WorldView → WorldView → Option Files → ℕ → ℕ → WorldChange
+world_change size state media media_now old new files copied copied_now = record {
   lines = size media;
   media = change state media media_now;
   old = old;
@@ -55,7 +55,7 @@ around size state media media_now old new files copied copied_now = record {
 
 -- On every media and shelf: notes of a form are added, which name hosts that were declared; the media's count rose by as many
 -- faults as they tell; tasks and cached lines are those of the media; and hosts are what the journal tells.
-pub record AddsForm (P : ℕ → List HostForm → List Note → Type 0) (a : Around) : Type 0 where
+pub record AddsForm (P : ℕ → List HostForm → List Note → Type 0) (a : WorldChange) : Type 0 where
   pub notes : List Note
   pub joined : a.new.journal ≡ a.old.journal ++ notes
   pub named : AreNamed (length a.old.hosts) notes
@@ -73,7 +73,7 @@ abbrev pub session : Machines → ℕ → Session
 session machines copied = record { machines = machines; copied = copied }
 
 -- what an event does on a modelled image, from a state for which the world is held
-pub record Comes (P : Session → List Note → Session → Type 0) (a : Around) (state : Machines) : Type 0 where
+pub record Comes (P : Session → List Note → Session → Type 0) (a : WorldChange) (state : Machines) : Type 0 where
   pub last : Session
   pub notes : List Note
   pub does : P (session state a.copied) notes last
@@ -81,17 +81,17 @@ pub record Comes (P : Session → List Note → Session → Type 0) (a : Around)
   pub joined : a.new.journal ≡ a.old.journal ++ notes
 
 -- and the world is held again, at the last state
-pub record Keeps (P : Session → List Note → Session → Type 0) (start : Image) (a : Around) (state : Machines) : Type 0 where
+pub record Keeps (P : Session → List Note → Session → Type 0) (start : Image) (a : WorldChange) (state : Machines) : Type 0 where
   pub comes : Comes P a state
   pub held : Held start comes.last.machines a.new comes.last.machines.memory
 
 -- or the journal is legal, and no more is held
-pub record Breaks (P : Session → List Note → Session → Type 0) (start : Image) (a : Around) (state : Machines) : Type 0 where
+pub record Breaks (P : Session → List Note → Session → Type 0) (start : Image) (a : WorldChange) (state : Machines) : Type 0 where
   pub comes : Comes P a state
   pub legal : Legal start a.new.journal
 
 -- from every state that the image tells, with the shelf's files
-abbrev pub Told : (Files → Image → Around → Machines → Type 0) → Around → Type 0
+abbrev pub Told : (Files → Image → WorldChange → Machines → Type 0) → WorldChange → Type 0
 Told Q a =
     (start : Image) (files : Files) (state : Machines) → a.files ≡ Some files → a.media.old.image ≡ Some state.memory → Held start state a.old state.memory
     → Q files start a state

@@ -16,8 +16,8 @@ use Rattle.fam_protocol.specs.SharedState.{SharedState}
 use Rattle.fam_protocol.specs.Core.{System, Core, top_of}
 
 -- nobody has a dirty copy of the line
-abbrev pub Quiet : SharedState → ℕ → Type 0
-Quiet s l = (h : ℕ) → IsDirty (s.copy h l) → ⊥
+abbrev pub NobodyDirty : SharedState → ℕ → Type 0
+NobodyDirty s l = (h : ℕ) → IsDirty (s.copy h l) → ⊥
 
 -- a line of a file that is counted holds a byte of it
 pub counted_line : (size j : ℕ) → j < div_ceil size 64 → 64 * j < size
@@ -47,11 +47,11 @@ wanted_line cmd size j lt = go (nat_le (wanted_end cmd size) (wanted_start cmd))
 
 module _ (sys : System) (s : SharedState) (all : List File) (settled : ℕ) (core : Core sys s all settled) where
   -- lines 1 and 2 of the superblock, and the header
-  pub super_quiet : (j : ℕ) → j ≤ 2 → Quiet s j
+  pub super_quiet : (j : ℕ) → j ≤ 2 → NobodyDirty s j
   super_quiet j le h = core.head.clean h j (inl le)
 
   -- nobody has the header's line dirty
-  pub header_quiet : Quiet s log_line
+  pub header_quiet : NobodyDirty s log_line
   header_quiet h = core.head.clean h log_line (inr refl)
 
   -- below the top there is an entry
@@ -63,11 +63,11 @@ module _ (sys : System) (s : SharedState) (all : List File) (settled : ℕ) (cor
       go (inr e) = absurd (omega (arith, e.0, lt, core.high))
 
   -- a line of a slot below the top
-  pub slot_quiet : (i j : ℕ) → i < top_of sys s → j < 8 → Quiet s (slot_line sys.params i j)
+  pub slot_quiet : (i j : ℕ) → i < top_of sys s → j < 8 → NobodyDirty s (slot_line sys.params i j)
   slot_quiet i j lt small h = let e = published_entry i lt in core.clean i e.0 h _ e.1 lt (inl (j, small, refl))
 
   -- a wanted line of a file whose entry is below the top
   pub file_quiet : (cmd : Cmd) (entry : Option Entry) (i : ℕ) (f : File) (j : ℕ) → slice_get all i ≡ Some f → i < top_of sys s → entry ≡ Some f.entry
-      → line_bytes * j < f.entry.size → Quiet s (line_of entry j)
+      → line_bytes * j < f.entry.size → NobodyDirty s (line_of entry j)
   file_quiet cmd entry i f j is lt named small h =
       subst (λ (o : Option Entry). IsDirty (s.copy h (line_of o j)) → ⊥) (sym named) (core.clean i f h _ is lt (inr (j, small, refl)))

@@ -1,5 +1,5 @@
 use Rattle.fam_program.proofs.Runs.Turns.{Turns}
-use Rattle.fam_program.proofs.quiet.run_events.Given as goal
+use Rattle.fam_program.proofs.unprinted.run_events.Given as goal
 
 abbrev pub invariant-events : goal.invariant-events
 invariant-events g l =

@@ -6,7 +6,7 @@ ghost use Rattle.fam_media.specs.Outside.{IfModelled};
 ghost use Rattle.fam_media.specs.States.{change, SinkChange};
 ghost use Rattle.fam_journal.specs.View.{empty_world};
 ghost use Rattle.fam_program.specs.Far.{AreSoundEvents};
-ghost use Rattle.fam_program.specs.Quiet.{AreShotEvents, EventsEnded, IsOneRun, MayLack, ShotEnded};
+ghost use Rattle.fam_program.specs.Unprinted.{AreShotEvents, EventsEnded, IsOneRun, MayLack, ShotEnded};
 ghost use Rattle.fam_program.specs.Runs.{outside_of};
 
 use crate::script::is_image;

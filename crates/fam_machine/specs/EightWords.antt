@@ -6,5 +6,5 @@ use Rattle.fam_machine.specs.OneLine.{current}
 use Rattle.fam_machine.specs.Operations.{Machine}
 
 -- what the host reads of any line, once it is brought, are eight words
-abbrev pub IsWhole : Machine → Type 0
-IsWhole m = (line : ℕ) → eight (current (line_at m.image line) (cell_at m.cache line)) ≡ current (line_at m.image line) (cell_at m.cache line)
+abbrev pub HasEightWords : Machine → Type 0
+HasEightWords m = (line : ℕ) → eight (current (line_at m.image line) (cell_at m.cache line)) ≡ current (line_at m.image line) (cell_at m.cache line)

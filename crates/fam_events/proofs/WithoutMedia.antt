@@ -23,10 +23,10 @@ use Rattle.fam_world.specs.declared.fault.WorldFault.{WorldFault}
 use Rattle.fam_world.specs.declared.fault.WorldFault.TheVariants as fault
 use Rattle.fam_world.proofs.Finishing.{behind_same}
 use Rattle.fam_world.proofs.Fits.{world_fits}
-use Rattle.fam_events.specs.Around.{AddsForm, Around, Keeps, Told, asking, session, still}
+use Rattle.fam_events.specs.WorldChange.{AddsForm, WorldChange, Keeps, Told, asking, session, still}
 use Rattle.fam_events.specs.Calls.{CallDone, CallPart, CallSays, CallsPart, outcome}
 use Rattle.fam_events.specs.Steps.{IsStill}
-use Rattle.fam_events.proofs.Refusals.{quiet_notes}
+use Rattle.fam_events.proofs.Refusals.{hosts_notes}
 
 -- it is done
 module _ (c : Call) (lines : ℕ) (answered : Option Refusal) (old new : WorldView) (w : WorldCall c lines answered old new) (takes : TakesNoMedia c lines old) where
@@ -49,7 +49,7 @@ module _ (c : Call) (lines : ℕ) (answered : Option Refusal) (old new : WorldVi
   pub quiet_adds : IsFormed old → FitsMedia lines old.hosts → (told : Option Image) (faults : ℕ) (files : Option Files) (copied copied_now : ℕ) → AddsForm (DoesForm c) (asking lines old new told faults files copied copied_now)
   quiet_adds formed fits told faults files copied copied_now =
       let x = solo_form lines old formed c takes in
-      let n = quiet_notes lines old c takes in
+      let n = hosts_notes lines old c takes in
       let same : n.notes ≡ x.notes = behind_same old.journal n.notes x.notes (sym n.joined ∙ x.joined) in
       record {
         notes = n.notes;
@@ -86,7 +86,7 @@ nothing_part (call.Halts name) state = (refl, refl)
 nothing_part (call.Moves name line move) state = (refl, refl)
 nothing_part (call.Refuses name cause) state = (refl, refl)
 
-module _ (a : Around) (still : IsStill a) where
+module _ (a : WorldChange) (still : IsStill a) where
   same_journal : a.new.journal ≡ a.old.journal ++ []
   same_journal = ap (λ (z : WorldView). z.journal) still.world ∙ sym (append-nil a.old.journal)
 

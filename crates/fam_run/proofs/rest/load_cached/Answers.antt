@@ -1,6 +1,6 @@
-use Rattle.fam_run.proofs.Held.{loads_held}
+use Rattle.fam_run.proofs.Cached.{loads_held}
 use Rattle.fam_run.proofs.FirstStores.{no_rest}
-use Rattle.fam_run.proofs.rest.load_held.Goals as goal
+use Rattle.fam_run.proofs.rest.load_cached.Goals as goal
 
 pub returns-in-Some-held-clause-run : goal.returns-in-Some-held-clause-run
 returns-in-Some-held-clause-run c =

@@ -5,12 +5,12 @@ use Rattle.std.proofs.lemmas.List.{nil_from_length}
 use Rattle.fam_journal.specs.View.{WorldView}
 use Rattle.fam_outcomes.specs.Statuses.{last_stops, note_stops}
 use Rattle.fam_program.specs.Far.{base_of, now_of}
-use Rattle.fam_program.specs.Quiet.{AreShotEvents}
+use Rattle.fam_program.specs.Unprinted.{AreShotEvents}
 use Rattle.fam_program.proofs.Commands.ImageLeft.{done_spares}
 use Rattle.fam_program.proofs.Runs.Stops.{all_go, none_stops}
 use Rattle.fam_program.proofs.Runs.Turns.{all_passed, first_turns, fits_here, goes_on, next_sound, steady_here, turned}
 use Rattle.fam_program.proofs.Runs.TurnedEnds.{done_ends, done_far, done_goes_on, fault_ends, fault_goes_on, fault_is_told, fault_leaves, passed_end}
-use Rattle.fam_program.proofs.quiet.run_until_stop.Goals as goal
+use Rattle.fam_program.proofs.unprinted.run_until_stop.Goals as goal
 
 pub events-init : goal.events-init
 events-init g c = record {

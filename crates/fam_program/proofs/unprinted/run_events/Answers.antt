@@ -2,7 +2,7 @@ use Rattle.std.proofs.Common.{Ok, Err, arith}
 use Rattle.std.proofs.lemmas.List.{nil_from_length}
 use Rattle.fam_program.proofs.Runs.Turns.{all_passed, first_turns, fits_here, goes_on, next_sound, steady_here, turned}
 use Rattle.fam_program.proofs.Runs.TurnedEnds.{all_end, fault_ends}
-use Rattle.fam_program.proofs.quiet.run_events.Goals as goal
+use Rattle.fam_program.proofs.unprinted.run_events.Goals as goal
 
 pub events-init : goal.events-init
 events-init g c =

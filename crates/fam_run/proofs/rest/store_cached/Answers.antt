@@ -1,9 +1,9 @@
 use Rattle.std.proofs.Common.{refl, sym, subst}
 use Rattle.fam_cache.specs.States.{CacheState}
-use Rattle.fam_run.specs.Held.{HeldRun, none}
-use Rattle.fam_run.proofs.Held.{stores_held}
+use Rattle.fam_run.specs.Cached.{CachedRun, none}
+use Rattle.fam_run.proofs.Cached.{stores_held}
 use Rattle.fam_run.proofs.FirstStores.{no_store}
-use Rattle.fam_run.proofs.rest.store_held.Goals as goal
+use Rattle.fam_run.proofs.rest.store_cached.Goals as goal
 
 pub returns-then-store_rest-clause-run : goal.returns-then-store_rest-clause-run
 returns-then-store_rest-clause-run c =
@@ -12,7 +12,7 @@ returns-then-store_rest-clause-run c =
 
 pub returns-else-store_rest-clause-run : goal.returns-else-store_rest-clause-run
 returns-else-store_rest-clause-run c =
-    subst (λ (s : CacheState). HeldRun c.args.task.now c.args.cache.now.lines c.args.task.now s.lines 0) (sym (c.if-store_rest.ensures.other refl)) none
+    subst (λ (s : CacheState). CachedRun c.args.task.now c.args.cache.now.lines c.args.task.now s.lines 0) (sym (c.if-store_rest.ensures.other refl)) none
 
 pub returns-in_default-clause-run : goal.returns-in_default-clause-run
 returns-in_default-clause-run c = none
