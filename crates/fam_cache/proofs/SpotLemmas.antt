@@ -1,18 +1,15 @@
 -- Spots that need room, and those that don't.
-use Rattle.std.proofs.Common.{◌≡◌, ℕ, true, false, List, Option, Result, Ok, Err, refl, sym, ap, ◌∙◌}
+use Rattle.std.proofs.Common.{◌≡◌, ℕ, true, false, List, Result, Ok, Err, refl, sym, ap, ◌∙◌}
 use Rattle.std.specs.Prelude.{OnErr, is_err}
 use Rattle.std.proofs.lemmas.Bool.{false≢true}
 use Rattle.std.specs.Ordering.{nat_cmp}
 use Rattle.std.specs.FinMap.{is_sorted}
-use Rattle.fam_base.specs.Image.{Image}
 use Rattle.fam_machine.specs.declared.cell.Cell.{Cell}
 use Rattle.fam_machine.specs.declared.cell.Cell.TheVariants.{Absent, Clean, Dirty}
-use Rattle.fam_machine.specs.Caches.{Cache, cell_at, with_cell}
+use Rattle.fam_machine.specs.Caches.{cell_at}
 use Rattle.fam_machine.specs.OneLine.{is_held, IsHeld, IsDirty, brought}
-use Rattle.fam_machine.proofs.CacheLemmas.{cell_at-with_cell_same}
 use Rattle.fam_cache.specs.declared.places.Spot.{Spot}
 use Rattle.fam_cache.specs.declared.places.Spot.TheVariants.{Place, Gap}
-use Rattle.fam_cache.specs.Effects.{FromMemory}
 use Rattle.fam_cache.specs.Places.{Places, cache_of, is_gap, IsSpot}
 use Rattle.fam_cache.proofs.HeldLemmas.{cell_gap}
 

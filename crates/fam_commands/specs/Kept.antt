@@ -1,7 +1,6 @@
 -- What a host keeps of the log that it has replayed, and what a command uses of it. docs/MODEL.md, "What a host keeps".
 use Rattle.std.specs.Prelude.{ℕ, ⊤, ◌≡◌, ◌==◌, ◌&&◌, nat_le, Bool, if◌then◌else◌, List, [], length, take, slice_get, Option, Some, None}
 use Rattle.fam_base.specs.declared.cmd.Cmd.{Cmd}
-use Rattle.fam_base.specs.declared.cmd.Cmd.TheVariants.{Logplay, Mkdir, Creat, Cp, Verify, Read, Check, Fsck}
 use Rattle.fam_base.specs.declared.entry.Params.{Params}
 use Rattle.fam_base.specs.declared.entry.Entry.{Entry}
 use Rattle.fam_base.specs.PathOrder.{path_eq}

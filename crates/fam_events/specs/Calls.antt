@@ -1,7 +1,6 @@
 -- What calls of the world come to, as parts of events.
 use Rattle.std.specs.Prelude.{◌≡◌, List, Result, Ok, Err}
 use Rattle.fam_journal.specs.declared.refusal.Refusal.{Refusal}
-use Rattle.fam_journal.specs.declared.refusal.Refusal.TheVariants as why
 use Rattle.fam_journal.specs.Calls.{BreaksOff, Call}
 use Rattle.fam_journal.specs.CallRecords.{DoesPart}
 use Rattle.fam_journal.specs.Events.{Calls, Session}

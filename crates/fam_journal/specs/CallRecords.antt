@@ -16,14 +16,13 @@ use Rattle.fam_media.specs.States.{MediaChange}
 use Rattle.fam_protocol.specs.Tasks.{IsCommand}
 use Rattle.fam_journal.specs.Calls as call
 use Rattle.fam_journal.specs.declared.refusal.Refusal.{Refusal}
-use Rattle.fam_journal.specs.declared.refusal.Refusal.TheVariants as why
 use Rattle.fam_journal.specs.Calls.{Call, Does, BreaksOff, Unfinished, name_of, number_of}
 use Rattle.fam_journal.specs.Ends.{HasCounted, is_answer_note}
 use Rattle.fam_journal.specs.Forms.{BreaksForm, DoesForm, HostForm, IsFormed, PartForm, forms_of}
 use Rattle.fam_journal.specs.Legal.{Legal}
 use Rattle.fam_journal.specs.Machines.{Machines, notes_of}
 use Rattle.fam_journal.specs.Names.{AreNamed}
-use Rattle.fam_journal.specs.Notes.{Note, Host, Made, Start, Mark, Found, Writes, Answered, Stop, Halt, Refused}
+use Rattle.fam_journal.specs.Notes.{Note, Refused}
 use Rattle.fam_journal.specs.View.{HostView, WorldView, WorldStands}
 use Rattle.fam_journal.specs.Kept.{Held}
 use Rattle.fam_journal.specs.ByWorld.{busy_in, number_in, refusal_in, world_after}

@@ -9,10 +9,9 @@ use Rattle.fam_media.specs.Files.{Files}
 use Rattle.fam_rules.specs.Asks.{entries_of}
 use Rattle.fam_journal.specs.declared.event.Event.{Event}
 use Rattle.fam_journal.specs.declared.refusal.Refusal.{Refusal}
-use Rattle.fam_journal.specs.declared.refusal.Refusal.TheVariants as why
 use Rattle.fam_journal.specs.Events.{Session}
 use Rattle.fam_journal.specs.Follows.{Follows, FollowsBroken, FollowsCut, FollowsPrefix, FollowsLast, FollowsToSource, SourceEnd}
-use Rattle.fam_journal.specs.Notes.{Answer, Replied, MediaFault, Note, Host, Made, Start, Mark, Found, Writes, Answered, Stop, Halt, Refused}
+use Rattle.fam_journal.specs.Notes.{Answer, Replied, MediaFault, Note}
 use Rattle.fam_journal.specs.Past.{State, Bad, Sound, past_of, settled_length, with_pending}
 use Rattle.fam_journal.specs.NoteClasses.{NoteClass, note_class, Declared, Formatted, Going, Answering, Refusing}
 use Rattle.fam_journal.specs.RefusalClasses.{RefusalClass, refusal_class, AtOnce, ByHost, ByImage, BySource, ByFault}

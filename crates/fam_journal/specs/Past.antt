@@ -14,7 +14,6 @@ use Rattle.fam_rules.specs.declared.answers.LogState.TheVariants as log
 use Rattle.fam_rules.specs.Solo.{content_of, held_file}
 use Rattle.fam_rules.specs.Asks.{File}
 use Rattle.fam_rules.specs.Content.{fill}
-use Rattle.fam_rules.specs.Reply as reply
 use Rattle.fam_rules.specs.Reply.{Reply}
 use Rattle.fam_protocol.specs.After.{Named}
 use Rattle.fam_journal.specs.Members.{changed_at}

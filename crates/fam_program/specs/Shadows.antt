@@ -17,7 +17,7 @@ use Rattle.fam_journal.specs.declared.event.Event.{Event}
 use Rattle.fam_outcomes.specs.declared.status.Status.{Status}
 use Rattle.fam_outcomes.specs.declared.status.Status.TheVariants as status
 use Rattle.fam_journal.specs.Ends.{AllDone}
-use Rattle.fam_journal.specs.Notes.{Answer, Replied, MediaFault, Note, Host, Made, Start, Mark, Found, Writes, Answered, Stop, Halt, Refused}
+use Rattle.fam_journal.specs.Notes.{Answer, Replied, MediaFault, Note, Refused}
 use Rattle.fam_outcomes.specs.Programs.{EndsEarly, IsWholeRun, OneShot, Runs, ShotRuns, Single, memory_line}
 use Rattle.fam_outcomes.specs.Runs.{IsPut, NoneFalls, Outside}
 use Rattle.fam_outcomes.specs.Texts.{line, number}

@@ -6,7 +6,7 @@ use Rattle.fam_journal.specs.declared.refusal.Refusal.{Refusal}
 use Rattle.fam_journal.specs.declared.refusal.Refusal.TheVariants as why
 use Rattle.fam_outcomes.specs.declared.status.Status.{Status}
 use Rattle.fam_outcomes.specs.declared.status.Status.TheVariants as status
-use Rattle.fam_journal.specs.Notes.{Answer, Replied, MediaFault, Note, Host, Made, Start, Mark, Found, Writes, Answered, Stop, Halt, Refused}
+use Rattle.fam_journal.specs.Notes.{Answer, Replied, MediaFault, Note}
 use Rattle.fam_outcomes.specs.Programs.{last_passes, memory_line}
 use Rattle.fam_outcomes.specs.Texts.{line, number, shown}
 use Rattle.fam_events.specs.declared.fault.EventFault.{EventFault}

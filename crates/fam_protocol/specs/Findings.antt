@@ -14,7 +14,7 @@ use Rattle.fam_rules.specs.declared.answers.Refused.{Refused}
 use Rattle.fam_rules.specs.declared.answers.Refused.TheVariants.{NotMaster, BadStripe, Exists, NoParent, ParentIsFile, LogFull, NoSpace}
 use Rattle.fam_rules.specs.Asks.{File, file_at}
 use Rattle.fam_rules.specs.Place.{line_bytes}
-use Rattle.fam_rules.specs.Reply.{Reply, Played, Same, Differs, Length, Bytes, NotFound, IsDirectory, Checks, NoSuperblock, BadHeader, BadSlot, Appended, NotAppended, Reports}
+use Rattle.fam_rules.specs.Reply.{Reply}
 use Rattle.fam_protocol.specs.SharedState.{SharedState}
 use Rattle.fam_protocol.specs.Lines.{IsAtLeast}
 use Rattle.fam_protocol.specs.Tasks.{HasRead, wanted_path}

@@ -1,13 +1,11 @@
 -- A task whose first store comes next has nothing to do on copies alone.
-use Rattle.std.proofs.Common.{ℕ, ◌≡◌, ◌⊎◌, ◌+◌, ◌<◌, ◌≤◌, ◌==◌, Bool, true, false, cond, List, inl, inr, refl, sym, subst, arith}
+use Rattle.std.proofs.Common.{ℕ, ◌≡◌, ◌⊎◌, ◌+◌, ◌<◌, ◌≤◌, ◌==◌, Bool, true, false, cond, List, inl, inr}
 use Rattle.fam_base.specs.declared.line.LineNo.{LineNo}
 use Rattle.fam_commands.specs.declared.phase.Part.{Part}
 use Rattle.fam_commands.specs.declared.phase.Phase.{Phase}
 use Rattle.fam_commands.specs.declared.phase.Phase.TheVariants as at
 use Rattle.fam_commands.specs.FirstStore.{IsFirstStore}
 use Rattle.fam_commands.specs.Task.{Task}
-use Rattle.fam_cache.specs.States.{CacheState}
-use Rattle.fam_run.specs.Places.{HasPlaces, HasPlacesAt}
 use Rattle.fam_tasks.specs.Rest.{IsRest, IsStoreRest}
 
 -- it is the store of word 0 of line 0, of the slot or of the file

@@ -1,5 +1,5 @@
 -- An append that has its places keeps them, and never wants memory.
-use Rattle.std.proofs.Common.{ℕ, ◌≡◌, ◌≢◌, ◌⊎◌, ◌+◌, ◌<◌, ◌≤◌, Bool, true, false, cond, List, Option, None, Result, Ok, Err, refl, sym, ap, subst, inl, inr, arith}
+use Rattle.std.proofs.Common.{ℕ, ◌≡◌, ◌≢◌, ◌⊎◌, ◌+◌, ◌<◌, ◌≤◌, Bool, true, false, cond, List, Option, None, Result, Ok, Err, refl, sym, subst, inl, inr, arith}
 use Rattle.std.specs.Prelude.{⊤, IfSome, nat_lt, slice_set, unwrap_or}
 use Rattle.std.proofs.lemmas.Bool.{cases_lt}
 use Rattle.fam_base.specs.Image.{Image}
@@ -34,7 +34,6 @@ use Rattle.fam_run.specs.Places.{HasPlaces, HasPlacesAt, IsReadyAt, PlacesKept, 
 use Rattle.fam_run.specs.Operation.{ended}
 use Rattle.fam_run.specs.Cached as run
 use Rattle.fam_run.specs.Cached.{CachedRun, IsCached, cached_after}
-use Rattle.fam_run.specs.Room.{LacksRoom}
 use Rattle.fam_run.proofs.Running.{goes_on, no_reply}
 
 -- what an operation makes of the cache's places: one that brings no line takes none, and what is stored into is held

@@ -3,7 +3,6 @@ use Rattle.std.specs.Prelude.{ℕ, ◌+◌, ◌==◌, true, false, if◌then◌e
 use Rattle.fam_journal.specs.Notes.{Answer, Replied, MediaFault, Note, Host, Made, Start, Mark, Found, Writes, Answered, Stop, Halt, Refused}
 use Rattle.fam_rules.specs.declared.answers.LogState.{LogState}
 use Rattle.fam_rules.specs.declared.answers.LogState.TheVariants as log
-use Rattle.fam_rules.specs.Reply as reply
 use Rattle.fam_rules.specs.Reply.{Reply}
 use Rattle.fam_script.specs.declared.counts.Settled.{Settled}
 use Rattle.fam_journal.specs.NoteClasses.{NoteClass, note_class, Declared, Formatted, Going, Answering, Refusing}

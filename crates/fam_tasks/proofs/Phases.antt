@@ -1,6 +1,6 @@
 -- The phase behind a slot.
-use Rattle.std.proofs.Common.{◌≡◌, ℕ, ◌≤◌, Bool, true, false, cond, nat_lt, length, refl, sym, ap, subst, arith}
-use Rattle.std.proofs.lemmas.Bool.{ltb-true, ltb-false}
+use Rattle.std.proofs.Common.{◌≡◌, ℕ, ◌≤◌, Bool, true, false, cond, nat_lt, refl, sym, ap, subst, arith}
+use Rattle.std.proofs.lemmas.Bool.{ltb-false}
 use Rattle.fam_base.specs.declared.cmd.Cmd.{Cmd}
 use Rattle.fam_base.specs.declared.cmd.Cmd.TheVariants.{Logplay, Mkdir, Creat, Cp, Verify, Read, Check, Fsck}
 use Rattle.fam_base.specs.declared.entry.Params.{Params}
@@ -14,7 +14,7 @@ use Rattle.fam_commands.specs.Classes.{is_fsck}
 use Rattle.fam_tasks.specs.declared.task.Task.TheInside.{Inside}
 use Rattle.fam_tasks.specs.Commands.{slots_told}
 use Rattle.fam_tasks.specs.Invariant.{HasLooked, IsInvariantAt}
-use Rattle.fam_tasks.specs.Sound.{HasSuper, HasValidGate, IsSoundAt}
+use Rattle.fam_tasks.specs.Sound.{HasSuper, HasValidGate}
 
 -- the next slot, or the decision
 abbrev pub next_phase : ℕ → ℕ → Phase

@@ -1,5 +1,5 @@
 -- What a task asks of its command.
-use Rattle.std.specs.Prelude.{ℕ, ⊤, ◌*◌, Bool, true, false, if◌then◌else◌}
+use Rattle.std.specs.Prelude.{ℕ, ◌*◌, if◌then◌else◌}
 use Rattle.fam_base.specs.declared.cmd.Cmd.{Cmd}
 use Rattle.fam_base.specs.declared.cmd.Cmd.TheVariants.{Logplay, Mkdir, Creat, Cp, Verify, Read, Check, Fsck}
 use Rattle.fam_base.specs.declared.cmd.Content.{Content}

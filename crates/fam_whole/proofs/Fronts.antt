@@ -20,7 +20,7 @@ use Rattle.fam_outcomes.specs.Programs.{CommandRuns, EndsEarly, Grammar, IsWhole
 use Rattle.fam_outcomes.specs.Runs.{HasRisen, IsCaused, IsPut, Outside, RunsOn}
 use Rattle.fam_outcomes.proofs.Causes.{broken_faults, risen}
 use Rattle.fam_journal.proofs.Runs.Unique.{clean_prefix, faults_both}
-use Rattle.fam_whole.specs.Whole.{AreWhole, EndsFront, EndsNone, FaultsNext, FrontRun, IsExact, IsLeft, UpToFault, WholeRun}
+use Rattle.fam_whole.specs.Whole.{AreWhole, EndsFront, EndsNone, FaultsNext, FrontRun, IsExact, UpToFault, WholeRun}
 use Rattle.fam_whole.proofs.Exact.{exact}
 use Rattle.fam_whole.specs.Alone.{ShotFront}
 use Rattle.fam_whole.proofs.Shots.{IsSoundShot, shot_events_sound, shot_events_whole, sound_take, whole_take}

@@ -1,6 +1,6 @@
 -- The UUIDs that the words of a call give are UUIDs.
 use Rattle.std.proofs.Common.{◌≡◌, ℕ, Bool, true, false, List, [], ◌∷◌, Option, Some, None, IfSome}
-use Rattle.std.specs.Prelude.{⊤, codes, option_map, option_and_then}
+use Rattle.std.specs.Prelude.{codes, option_map, option_and_then}
 use Rattle.clap.specs.Walk.{Row, Text}
 use Rattle.uuid.specs.Text.{parsed}
 use Rattle.fam_base.specs.declared.cmd.Attr.{Attr}
@@ -10,13 +10,12 @@ use Rattle.fam_grammar.proofs.UuidLaw.{Parses, parses}
 use Rattle.fam_grammar.specs.Lines.{default_log, default_unit, directory_mode, file_mode}
 use Rattle.fam_grammar.specs.Numbers.{number_of_text, size_of_text}
 use Rattle.fam_grammar.specs.Spellings.{count_of}
-use Rattle.fam_journal.specs.declared.event.Ask.{Ask}
 use Rattle.fam_words.specs.declared.wanted.Call.{Call}
 use Rattle.fam_words.specs.declared.wanted.Invocation.{Invocation}
 use Rattle.fam_words.specs.declared.wanted.Shot.{Shot}
 use Rattle.fam_words.specs.declared.invocations.Name.{Name}
 use Rattle.fam_words.specs.declared.invocations.Name.TheVariants as name
-use Rattle.fam_words.specs.Calls.{HasShotUuids, HasUuids, against_texts, app_named, attr_in, call_behind, call_of, call_with, check_shot, cp_shot, cp_with, creat_shot, creat_with, invocation_call, invocation_in, mkdir_by, mkdir_shot, mkdir_with, mkfs_shot, mkfs_with, name_of, path_in, read_shot, read_with, script_invocation, single_invocation, single_with, storm_invocation, storm_with, stripe_in, system_of, verify_shot}
+use Rattle.fam_words.specs.Calls.{HasShotUuids, HasUuids, against_texts, app_named, attr_in, call_behind, call_of, call_with, check_shot, cp_shot, cp_with, creat_shot, creat_with, invocation_in, mkdir_by, mkdir_shot, mkdir_with, mkfs_shot, mkfs_with, name_of, path_in, read_shot, read_with, script_invocation, single_invocation, single_with, storm_invocation, storm_with, stripe_in, system_of, verify_shot}
 use Rattle.fam_words.specs.Simple.{flag_in, rows_given, value_in}
 use Rattle.fam_words.specs.Values.{if_given, name_of_text, needed, or_default, storm_size_of}
 

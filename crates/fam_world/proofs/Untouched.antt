@@ -1,6 +1,5 @@
 -- A call that isn't refused may ask of the media what it likes.
-use Rattle.std.proofs.Common.{◌≡◌, ℕ, Option, Some, None, sym, ap, ◌∙◌}
-use Rattle.fam_journal.specs.declared.refusal.Refusal.{Refusal}
+use Rattle.std.proofs.Common.{◌≡◌, ℕ, Some, None, sym, ap, ◌∙◌}
 use Rattle.fam_journal.specs.ByWorld.{refusal_in}
 use Rattle.fam_journal.specs.Calls.{Call}
 use Rattle.fam_journal.specs.View.{WorldView}

@@ -1,5 +1,5 @@
 -- Calls that take no media: what they make of the world is told by the world alone.
-use Rattle.std.proofs.Common.{◌≡◌, ℕ, Bool, false, List, [], ◌∷◌, ◌++◌, Option, Some, None, Err, refl, ap, ap₂, sym, ◌∙◌, subst}
+use Rattle.std.proofs.Common.{◌≡◌, ℕ, List, [], ◌∷◌, ◌++◌, Option, Some, None, Err, refl, ap, ap₂, sym, ◌∙◌, subst}
 use Rattle.fam_journal.specs.declared.refusal.Refusal.{Refusal}
 use Rattle.fam_journal.specs.Calls as call
 use Rattle.fam_journal.specs.Calls.{Call, name_of, refusal_of}
@@ -10,7 +10,7 @@ use Rattle.fam_journal.specs.View.{HostView, WorldView}
 use Rattle.fam_journal.specs.ByWorld.{acted, acted_by, number_in, refusal_in, with_host}
 use Rattle.fam_world.specs.declared.fault.WorldFault.{WorldFault}
 use Rattle.fam_world.specs.declared.fault.WorldFault.TheVariants as fault
-use Rattle.fam_world.specs.Answers.{IfAnswered, IfStepped}
+use Rattle.fam_world.specs.Answers.{IfAnswered}
 
 -- a refusal that was noted and given
 pub refused_told : (given : WorldFault) (cause : Refusal) (P : Option Refusal → Type 0) → given ≡ fault.Refused cause → P (Some cause) → IfAnswered {T = Unit {0}} (Err given) P

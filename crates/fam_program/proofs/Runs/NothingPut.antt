@@ -1,5 +1,5 @@
 -- A run of which nothing is put ends, with an event or behind one.
-use Rattle.std.proofs.Common.{◌≡◌, ℕ, ◌++◌, false, List, take, Option, Some, Err, ap, sym, subst, ◌∙◌}
+use Rattle.std.proofs.Common.{◌≡◌, ℕ, ◌++◌, false, List, take, Some, Err, ap, sym, subst, ◌∙◌}
 use Rattle.std.specs.Prelude.{slice_get}
 use Rattle.std.specs.List.{list_any}
 use Rattle.std.proofs.lemmas.List.{append-nil}

@@ -1,5 +1,4 @@
 use Rattle.std.proofs.Common.{◌≡◌, None, refl, ap, sym, subst, inl}
-use Rattle.fam_commands.specs.declared.phase.Phase.{Phase}
 use Rattle.fam_commands.specs.Task.{op_at, op_of}
 use Rattle.fam_commands.specs.Turns.{turn_of}
 use Rattle.fam_machine.specs.declared.op.Op.{Op}
