@@ -1,10 +1,11 @@
-use Rattle.std.proofs.Common.{◌≡◌, None, refl, ap, sym, subst, inl}
+use Rattle.std.proofs.Common.{◌≡◌, Option, None, refl, ap, sym, subst, inl}
+use Rattle.fam_format.specs.declared.faults.Reason.{Reason}
 use Rattle.fam_commands.specs.Task.{op_at, op_of}
 use Rattle.fam_commands.specs.Turns.{turn_of}
 use Rattle.fam_machine.specs.declared.op.Op.{Op}
 use Rattle.fam_machine.specs.declared.op.Op.TheVariants.{Digest}
 use Rattle.fam_tasks.specs.declared.answer.Turn.{Turn}
-use Rattle.fam_tasks.specs.Tells.{Tells}
+use Rattle.fam_tasks.specs.Tells.{Tells, slot_turn_by}
 use Rattle.fam_run.specs.Room.{LacksRoom}
 use Rattle.fam_run.specs.TaskChange.{TaskChange}
 use Rattle.fam_run.proofs.Operated.{done}
@@ -15,7 +16,8 @@ returns-in-Ok-None-clause-operated c = λ cache lines media.
     let t = c.args.task.now in
     let op : op_of t ≡ Digest = ap (op_at t) c.requires.due in
     let a : TaskChange = record { task = t; next = c.check_slot.new.self; old = cache; new = cache; lines = lines; media = record { old = media; new = media } } in
-    let told = subst (λ (o : Turn). Tells (turn_of t None) o c.check_slot.new.self) (sym c.requires.go) c.in-Ok-None.ensures.turn in
+    let goes = subst (λ (r : Option Reason). Tells (turn_of t None) (slot_turn_by c.args.slot r) c.check_slot.new.self) c.in-Ok-None.field-0-is c.in-Ok-None.ensures.turn in
+    let told = subst (λ (o : Turn). Tells (turn_of t None) o c.check_slot.new.self) (sym c.requires.go) goes in
     done a Digest (sym op) c.is_sound.ensures tt None c.args.turn.now (λ image is. record { image = is; cache = refl }) (λ image is. refl) refl refl told
 
 pub returns-in-Ok-Some-clause-operated : goal.returns-in-Ok-Some-clause-operated
@@ -23,7 +25,8 @@ returns-in-Ok-Some-clause-operated c = λ cache lines media.
     let t = c.args.task.now in
     let op : op_of t ≡ Digest = ap (op_at t) c.requires.due in
     let a : TaskChange = record { task = t; next = c.check_slot.new.self; old = cache; new = cache; lines = lines; media = record { old = media; new = media } } in
-    done a Digest (sym op) c.is_sound.ensures tt None _ (λ image is. record { image = is; cache = refl }) (λ image is. refl) refl refl c.in-Ok-Some.ensures.turn
+    let told = subst (λ (r : Option Reason). Tells (turn_of t None) (slot_turn_by c.args.slot r) c.check_slot.new.self) c.in-Ok-Some.field-0-is c.in-Ok-Some.ensures.turn in
+    done a Digest (sym op) c.is_sound.ensures tt None _ (λ image is. record { image = is; cache = refl }) (λ image is. refl) refl refl told
 
 pub returns-in-Err-clause-operated : goal.returns-in-Err-clause-operated
 returns-in-Err-clause-operated c = λ cache lines media. record { task = c.in-Err.ensures.err; cache = refl; media = refl }
