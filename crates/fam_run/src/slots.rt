@@ -1,7 +1,7 @@
 //! Lines of a slot that are loaded whole: of each line its drop and its eight loads by one read. Of a long log nearly all
 //! operations are such.
 
-ghost use Rattle.std.specs.Prelude.{◌≡◌, ◌+◌, ◌<◌, ℕ, IfErr, IfOk, IsErrOf, OnErr, false, true};
+ghost use Rattle.std.specs.Prelude.{◌≡◌, ◌+◌, ◌<◌, ℕ, IfErr, IfOk, IsErrOf, false, true};
 ghost use Rattle.fam_commands.specs.declared.phase.Part.TheVariants as part;
 ghost use Rattle.fam_commands.specs.declared.phase.Phase.TheVariants as at;
 ghost use Rattle.fam_machine.specs.Caches.{Cache};
@@ -136,7 +136,7 @@ pub(crate) fn check_slot(task: &mut Task, turn: &mut Turn, slot: u64) -> Result<
       lines = lines;
       media = record { old = media; new = media };
     }) (said_of result turn.new) }
-    ensures want { (cache : CacheState) → OnErr result (WantsRoom task.old cache) }
+    ensures want { (cache : CacheState) → IsErrOf result OperationFault.OutOfMemory → WantsRoom task.old cache }
 {
     task.is_sound();
     match task.check_slot(slot) {

@@ -32,7 +32,7 @@ pub returns-in-Err-clause-operated : goal.returns-in-Err-clause-operated
 returns-in-Err-clause-operated c = λ cache lines media. record { task = c.in-Err.ensures.err; cache = refl; media = refl }
 
 pub returns-in-Err-clause-want : goal.returns-in-Err-clause-want
-returns-in-Err-clause-want c = λ cache.
+returns-in-Err-clause-want c = λ cache full.
     let t = c.args.task.now in
     let op : op_of t ≡ Digest = ap (op_at t) c.requires.due in
     inl (subst (λ (o : Op). LacksRoom o t cache) (sym op) c.in-Err.ensures.want)
