@@ -20,10 +20,10 @@ insert_front low units [] b v p h = refl
 insert_front low units (r ∷ rs) b v p h =
     ap (λ (o : Ordering). match_ordering o ((b, v) ∷ r ∷ rs) ((r.0, v) ∷ rs) (r ∷ insert_entry nat_cmp rs b v)) (cmp_less b r.0 (omega (arith, p.0)))
 
-length_here : (r : ℕ × ℕ) (rs : List (ℕ × ℕ)) (s n : ℕ) → s ≡ r.0 → with_length (r ∷ rs) s n ≡ (r.0, n) ∷ rs
+pub length_here : (r : ℕ × ℕ) (rs : List (ℕ × ℕ)) (s n : ℕ) → s ≡ r.0 → with_length (r ∷ rs) s n ≡ (r.0, n) ∷ rs
 length_here r rs s n at = cond-true (is_at (nat_cmp s) r.0) ((r.0, n) ∷ rs) (r ∷ with_length rs s n) (at_here s r.0 at)
 
-length_later : (r : ℕ × ℕ) (rs : List (ℕ × ℕ)) (s n : ℕ) → (s ≡ r.0 → ⊥) → with_length (r ∷ rs) s n ≡ r ∷ with_length rs s n
+pub length_later : (r : ℕ × ℕ) (rs : List (ℕ × ℕ)) (s n : ℕ) → (s ≡ r.0 → ⊥) → with_length (r ∷ rs) s n ≡ r ∷ with_length rs s n
 length_later r rs s n other = cond-false (is_at (nat_cmp s) r.0) ((r.0, n) ∷ rs) (r ∷ with_length rs s n) (at_other s r.0 other)
 
 -- a run that is absent gets no length

@@ -5,10 +5,10 @@ use Rattle.std.proofs.lemmas.Option.{none-some, same_Some}
 use Rattle.std.specs.BTreeMap.{is_at}
 use Rattle.std.specs.Map.{remove_entry}
 use Rattle.fam_alloc.specs.Next.{is_between}
-use Rattle.fam_alloc.specs.Runs.{in_runs, AreSpaced, NoneEmpty, is_empty_at, run_from, settled}
+use Rattle.fam_alloc.specs.Runs.{in_runs, AreSpaced, NoneEmpty, is_empty_at, run_from, with_length, settled}
 use Rattle.fam_alloc.proofs.OverlapLemmas.{or_assoc}
 use Rattle.fam_alloc.proofs.SpacedLemmas.{before_run, behind_run, spaced_lower, run_here, run_later, run_bounds, place}
-use Rattle.fam_alloc.proofs.CutLemmas.{cut, cut_here, cut_later, rest_then, remove_here, remove_later}
+use Rattle.fam_alloc.proofs.CutLemmas.{cut, cut_here, cut_later, rest_then, length_here, length_later, remove_here, remove_later}
 
 -- none stands below the first
 none_lower : (low units : ℕ) (rs : List (ℕ × ℕ)) (q : ℕ) → AreSpaced low units rs → q < low → is_empty_at rs q ≡ false
@@ -167,6 +167,31 @@ removed_length (r ∷ rs) s = elim (cases_eq s r.0) [
   | inl here ↦ omega (arith, ap (λ (xs : List (ℕ × ℕ)). length xs) (remove_here r rs s here))
   | inr later ↦ omega (arith, ap (λ (xs : List (ℕ × ℕ)). length xs) (remove_later r rs s later), removed_length rs s)
 ]
+
+-- a length that is given to a run and the run that is given up
+remove_given : (rs : List (ℕ × ℕ)) (s n : ℕ) → remove_entry (is_at (nat_cmp s)) (with_length rs s n) ≡ remove_entry (is_at (nat_cmp s)) rs
+remove_given [] s n = refl
+remove_given (r ∷ rs) s n = elim (cases_eq s r.0) [
+  | inl here ↦
+      ap (λ (xs : List (ℕ × ℕ)). remove_entry (is_at (nat_cmp s)) xs) (length_here r rs s n here)
+      ∙ remove_here (r.0, n) rs s here ∙ sym (remove_here r rs s here)
+  | inr later ↦
+      ap (λ (xs : List (ℕ × ℕ)). remove_entry (is_at (nat_cmp s)) xs) (length_later r rs s n later)
+      ∙ remove_later r (with_length rs s n) s later
+      ∙ ap (λ (xs : List (ℕ × ℕ)). r ∷ xs) (remove_given rs s n)
+      ∙ sym (remove_later r rs s later)
+]
+
+-- a run that is left no units is removed
+pub shortened_whole : (rs : List (ℕ × ℕ)) (s a : ℕ) → s ≡ a → remove_entry (is_at (nat_cmp s)) rs ≡ settled (with_length rs s (a - s)) s a
+shortened_whole rs s a at =
+    sym (cond-true (s == a) (remove_entry (is_at (nat_cmp s)) (with_length rs s (a - s))) (with_length rs s (a - s)) (eq-eqb s a at)
+    ∙ remove_given rs s (a - s))
+
+-- and one that is left some stays
+pub shortened_part : (rs : List (ℕ × ℕ)) (s a : ℕ) → (s ≡ a → ⊥) → with_length rs s (a - s) ≡ settled (with_length rs s (a - s)) s a
+shortened_part rs s a part =
+    sym (cond-false (s == a) (remove_entry (is_at (nat_cmp s)) (with_length rs s (a - s))) (with_length rs s (a - s)) (ne_eqb s a part))
 
 -- what a run from s leaves once its first units were taken from `a` on
 module _ (units : ℕ) (rs : List (ℕ × ℕ)) (s a : ℕ) (p : AreSpaced 0 units rs) (left : s ≡ a → is_empty_at rs s ≡ true) where

@@ -1,33 +1,23 @@
 -- One extent more is taken out of the free runs.
-use Rattle.std.proofs.Common.{◌≡◌, ℕ, Bool, true, false, not, ◌+◌, ◌-◌, ◌/◌, ◌<◌, ◌≤◌, ◌==◌, ◌&&◌, ◌||◌, Some, None, List, [], ◌∷◌, ◌++◌, length, drop, get_or, refl, sym, ap, subst, ◌∙◌, inl, inr, arith}
-use Rattle.std.proofs.lemmas.Bool.{cases_eq, cases_lt, cond-false, eq-eqb, ne_eqb, ltb-true, or_left, or_right, or_parts, not-false, false≢true}
+use Rattle.std.proofs.Common.{◌≡◌, ℕ, Bool, true, false, not, ◌+◌, ◌-◌, ◌/◌, ◌<◌, ◌≤◌, ◌==◌, ◌&&◌, ◌||◌, None, List, [], ◌++◌, length, drop, drop_of_length-le, get_or, refl, sym, ap, subst, ◌∙◌, arith}
+use Rattle.std.proofs.lemmas.Bool.{eq-eqb, or_right}
 use Rattle.fam_base.specs.declared.extents.Extent.{Extent}
 use Rattle.fam_base.specs.ExtentLists.{no_extent}
 use Rattle.fam_format.specs.Units.{units_in, first_overlap}
 use Rattle.fam_alloc.specs.Next.{is_between}
 use Rattle.fam_alloc.specs.Taken.{holds}
 use Rattle.fam_alloc.specs.Runs.{in_runs, outside, AreSpaced, IsHeld, is_empty_at, with_rest, without_rest, with_length, settled}
-use Rattle.fam_alloc.proofs.OverlapLemmas.{or_assoc, holds-append, holds-range, units_at, units_rest, overlap_same, overlap_passed}
-use Rattle.fam_alloc.proofs.MapLemmas.{overlap_head}
-use Rattle.fam_alloc.proofs.SpacedLemmas.{within_run, clear_behind}
+use Rattle.fam_alloc.proofs.OverlapLemmas.{or_assoc, or_false, holds-append, holds-range, units_at, units_rest, overlap_same, overlap_passed}
+use Rattle.fam_alloc.proofs.SpacedLemmas.{in_run}
 use Rattle.fam_alloc.proofs.CutLemmas.{cut, opened_is, closed_is, cut_spaced, cut_length, cut_in}
 use Rattle.fam_alloc.proofs.EmptyLemmas.{some_stands, cut_empty, settled_spaced, settled_in, settled_length, settled_empty}
 
--- no unit of a list that doesn't overlap is used
-all_clear : (f : ℕ → Bool) (us : List ℕ) → first_overlap f us ≡ None → (u : ℕ) → holds us u ≡ true → f u ≡ false
-all_clear f [] h u e = absurd (false≢true e)
-all_clear f (v ∷ us) h u e =
-    let first : f v ≡ false = overlap_head f v us h in
-    elim (cases_eq v u) [
-      | inl at ↦ ap f (sym at) ∙ first
-      | inr other ↦
-          let later : holds us u ≡ true = ap (λ (b : Bool). b || holds us u) (sym (ne_eqb v u other)) ∙ e in
-          let rest = sym (cond-false (f v) (Some v) (first_overlap (λ w. (w == v) || f w) us) first) ∙ h in
-          (or_parts (u == v) (f u) (all_clear (λ w. (w == v) || f w) us rest u later)).1
-    ]
+-- the units of no extent
+none_behind : (unit : ℕ) (xs : List Extent) (i : ℕ) → length xs ≤ i → units_in unit (drop i xs) ≡ []
+none_behind unit xs i past = ap (units_in unit) (drop_of_length-le xs past)
 
--- the extent at i, whose units from a up to b are free, and the run from s up to e that holds its first
-module _ (units unit : ℕ) (xs : List Extent) (i : ℕ) (rs : List (ℕ × ℕ)) (a b s e : ℕ) (below : i < length xs) (first : a ≡ (get_or xs i no_extent).offset / unit) (last : b ≡ a + (get_or xs i no_extent).length / unit) (some : a < b) (p : AreSpaced 0 units rs) (held : IsHeld rs a s e) (free : first_overlap (outside rs) (units_in unit (drop i xs)) ≡ None) where
+-- the extent at i, with the units from a up to b, and the run from s up to e that holds them
+module _ (units unit : ℕ) (xs : List Extent) (i : ℕ) (rs : List (ℕ × ℕ)) (a b s e : ℕ) (below : i < length xs) (first : a ≡ (get_or xs i no_extent).offset / unit) (last : b ≡ a + (get_or xs i no_extent).length / unit) (some : a < b) (p : AreSpaced 0 units rs) (held : IsHeld rs a s e) (ends_inside : b ≤ e) where
   -- the units of the extent
   at_extent : (u : ℕ) → holds (units_at unit xs i) u ≡ is_between a b u
   at_extent u = rw (last, first) (holds-range _ _ u)
@@ -35,25 +25,9 @@ module _ (units unit : ℕ) (xs : List Extent) (i : ℕ) (rs : List (ℕ × ℕ)
   rest_of : units_in unit (drop i xs) ≡ units_at unit xs i ++ units_in unit (drop (i + 1) xs)
   rest_of = units_rest unit xs i below
 
-  -- all of them stand in the runs
+  -- all of them are free
   stands_free : (u : ℕ) → a ≤ u → u < b → outside rs u ≡ false
-  stands_free u low high =
-      all_clear (outside rs) (units_in unit (drop i xs)) free u
-      (ap (λ (us : List ℕ). holds us u) rest_of
-      ∙ holds-append (units_at unit xs i) (units_in unit (drop (i + 1) xs)) u
-      ∙ or_left (holds (units_at unit xs i) u) (holds (units_in unit (drop (i + 1) xs)) u) (at_extent u ∙ within_run a b u low high))
-
-  starts_inside : a < e
-  starts_inside = ltb-true a e (sym held.here ∙ not-false (in_runs rs a) (stands_free a (omega arith) some))
-
-  -- and so in that one
-  ends_inside : b ≤ e
-  ends_inside = elim (cases_lt e b) [
-    | inl past ↦
-        let end : s + (e - s) ≡ e = omega (arith, held.order) in
-        absurd (false≢true (sym (clear_behind 0 units rs s (e - s) p held.stands) ∙ ap (in_runs rs) end ∙ not-false (in_runs rs e) (stands_free e (omega (arith, starts_inside)) past)))
-    | inr within ↦ within
-  ]
+  stands_free u low high = ap not (in_run 0 units rs s (e - s) u p held.stands (omega (arith, held.low)) (omega (arith, held.order)))
 
   -- the runs once the run was opened
   module _ (opened : List (ℕ × ℕ)) (is : opened ≡ with_length (with_rest rs b e) s (a - s)) where
@@ -75,14 +49,14 @@ module _ (units unit : ℕ) (xs : List Extent) (i : ℕ) (rs : List (ℕ × ℕ)
         not_and false true = refl
         not_and false false = refl
 
-    -- the rest of the extents is free there
-    pub opened_free : first_overlap (outside opened) (units_in unit (drop (i + 1) xs)) ≡ None
-    opened_free =
-        overlap_same (outside opened) (λ u. outside rs u || holds (units_at unit xs i) u) (units_in unit (drop (i + 1) xs))
-        (λ u. opened_outside u ∙ ap (λ (t : Bool). outside rs u || t) (sym (at_extent u)))
-        ∙ sym (overlap_passed (outside rs) _ _ (units_in unit (drop (i + 1) xs)) (λ u low high. stands_free u (omega (arith, first)) (omega (arith, first, last))))
-        ∙ ap (first_overlap (outside rs)) (sym rest_of)
-        ∙ free
+    -- where the rest of the extents doesn't overlap there, they don't with this one
+    pub opened_fits : first_overlap (outside opened) (units_in unit (drop (i + 1) xs)) ≡ None → first_overlap (outside rs) (units_in unit (drop i xs)) ≡ None
+    opened_fits h =
+        ap (first_overlap (outside rs)) rest_of
+        ∙ overlap_passed (outside rs) _ _ (units_in unit (drop (i + 1) xs)) (λ u low high. stands_free u (omega (arith, first)) (omega (arith, first, last)))
+        ∙ sym (overlap_same (outside opened) (λ u. outside rs u || holds (units_at unit xs i) u) (units_in unit (drop (i + 1) xs))
+        (λ u. opened_outside u ∙ ap (λ (t : Bool). outside rs u || t) (sym (at_extent u))))
+        ∙ h
 
     -- what is put back where the rest was refused
     pub put_back : (refused closed : List (ℕ × ℕ)) → refused ≡ opened → closed ≡ with_length (without_rest refused b e) s (e - s) → closed ≡ rs
@@ -117,19 +91,36 @@ module _ (units unit : ℕ) (xs : List Extent) (i : ℕ) (rs : List (ℕ × ℕ)
       pub left_empty : (k : ℕ) → is_empty_at left k ≡ is_empty_at rs k
       left_empty k =
           ap (λ (os : List (ℕ × ℕ)). is_empty_at os k) over
-          ∙ settled_empty units rest s a q front_left (is_empty_at rs) (some_stands 0 units rs s (e - s) p held.stands (omega (arith, starts_inside, held.low))) empty_now k
+          ∙ settled_empty units rest s a q front_left (is_empty_at rs) (some_stands 0 units rs s (e - s) p held.stands (omega (arith, held.low))) empty_now k
 
       pub left_length : length rest + (i + 1) ≤ length opened + length xs → length left + i ≤ length rs + length xs
       left_length h =
           omega (arith, h, ap (λ (os : List (ℕ × ℕ)). length os) over, ap (λ (os : List (ℕ × ℕ)). length os) as_cut, settled_length units rest s a q front_left, cut_length units s e a b held.low some ends_inside rs)
 
--- no run at an extent that is free
-pub no_run_at : (unit : ℕ) (xs : List Extent) (i : ℕ) (rs : List (ℕ × ℕ)) (a b : ℕ) → i < length xs → a ≡ (get_or xs i no_extent).offset / unit → b ≡ a + (get_or xs i no_extent).length / unit → a < b → ((v : ℕ) → v ≤ a → in_runs rs v ≡ false) → first_overlap (outside rs) (units_in unit (drop i xs)) ≡ None → ⊥
-no_run_at unit xs i rs a b below first last some none free =
-    false≢true (sym (all_clear (outside rs) (units_in unit (drop i xs)) free a holds_first) ∙ ap not (none a (omega arith)))
-  where
-    holds_first : holds (units_in unit (drop i xs)) a ≡ true
-    holds_first =
-        ap (λ (us : List ℕ). holds us a) (units_rest unit xs i below)
-        ∙ holds-append (units_at unit xs i) (units_in unit (drop (i + 1) xs)) a
-        ∙ or_left (holds (units_at unit xs i) a) (holds (units_in unit (drop (i + 1) xs)) a) (holds-range _ _ a ∙ within_run _ _ a (omega (arith, first)) (omega (arith, first, last)))
+  -- where it is the last extent
+  module _ (new : List (ℕ × ℕ)) (all : length xs ≤ i + 1) (over : new ≡ settled (with_length (with_rest rs b e) s (a - s)) s a) where
+    none_more : (u : ℕ) → outside (with_length (with_rest rs b e) s (a - s)) u ≡ (outside (with_length (with_rest rs b e) s (a - s)) u || holds (units_in unit (drop (i + 1) xs)) u)
+    none_more u =
+        or_false (outside (with_length (with_rest rs b e) s (a - s)) u)
+        ∙ ap (λ (us : List ℕ). outside (with_length (with_rest rs b e) s (a - s)) u || holds us u) (sym (none_behind unit xs (i + 1) all))
+
+    pub last_spaced : AreSpaced 0 units new
+    last_spaced =
+        left_spaced (with_length (with_rest rs b e) s (a - s)) refl (with_length (with_rest rs b e) s (a - s)) new (opened_spaced _ refl) none_more (λ k. refl) over
+
+    pub last_outside : (u : ℕ) → outside new u ≡ (outside rs u || holds (units_in unit (drop i xs)) u)
+    last_outside =
+        left_outside (with_length (with_rest rs b e) s (a - s)) refl (with_length (with_rest rs b e) s (a - s)) new (opened_spaced _ refl) none_more (λ k. refl) over
+
+    pub last_fits : first_overlap (outside rs) (units_in unit (drop i xs)) ≡ None
+    last_fits =
+        opened_fits (with_length (with_rest rs b e) s (a - s)) refl
+        (ap (first_overlap (outside (with_length (with_rest rs b e) s (a - s)))) (none_behind unit xs (i + 1) all))
+
+    pub last_empty : (k : ℕ) → is_empty_at new k ≡ is_empty_at rs k
+    last_empty =
+        left_empty (with_length (with_rest rs b e) s (a - s)) refl (with_length (with_rest rs b e) s (a - s)) new (opened_spaced _ refl) none_more (λ k. refl) over
+
+    pub last_length : length new + i ≤ length rs + length xs
+    last_length =
+        left_length (with_length (with_rest rs b e) s (a - s)) refl (with_length (with_rest rs b e) s (a - s)) new (opened_spaced _ refl) none_more (λ k. refl) over (omega arith)

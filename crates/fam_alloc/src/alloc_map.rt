@@ -143,6 +143,18 @@ impl AllocMap {
         first_overlap(self, extents, unit, self.units)
     }
 
+    /// Why the units of extents can't be taken: the first that overlaps, or want of memory where none does.
+    fn fault(&self, extents: &Extents, unit: u64) -> TakeFault
+        requires unit { 0 < unit }
+        requires within { LieWithin unit (length self.now) extents.now }
+        ensures { NamesOverlap (first_overlap (is_taken self.now) (units_in unit extents.now)) result }
+    {
+        match self.overlap(extents, unit) {
+            Some(taken) => TakeFault::Overlap(taken),
+            None => TakeFault::OutOfMemory,
+        }
+    }
+
     /// Marks all units of the extents as used. They are whole units: offsets and lengths are multiples of
     /// `unit`, in bytes. A refusal changes nothing, `OutOfMemory` among them: a run that is taken in its middle
     /// becomes two.
@@ -162,15 +174,12 @@ impl AllocMap {
         ensures units { length self.new ≡ length self.old }
         ensures runs { OnOk result (length (free_runs self.new) ≤ length (free_runs self.old) + length extents.now) }
     {
-        if let Some(taken) = self.overlap(extents, unit) {
-            return Err(TakeFault::Overlap(taken));
-        }
         match take_from(&mut self.runs, extents, unit, self.units, 0) {
             Ok(()) => {
                 self.used += count_units(extents, unit, self.units);
                 Ok(())
             }
-            Err(_) => Err(TakeFault::OutOfMemory),
+            Err(_) => Err(self.fault(extents, unit)),
         }
     }
 

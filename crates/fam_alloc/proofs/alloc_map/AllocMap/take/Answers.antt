@@ -1,5 +1,4 @@
-use Rattle.std.proofs.Common.{◌≡◌, ℕ, ◌+◌, None, List, length, ap, sym, ◌∙◌, arith}
-use Rattle.fam_format.specs.Units.{units_in, first_overlap}
+use Rattle.std.proofs.Common.{◌≡◌, ℕ, ◌+◌, List, length, ap, ◌∙◌, arith}
 use Rattle.fam_alloc.specs.FreeRuns.{free_runs}
 use Rattle.fam_alloc.specs.Runs.{outside}
 use Rattle.fam_alloc.specs.Taken.{taken_units, units_by}
@@ -14,12 +13,6 @@ take_from-requires-clause-within c =
     let own = c.self.inside in
     lie_within (outside own.runs.entries) own.units c.args.unit c.args.self.now c.args.extents.now c.self.view_is c.requires.unit c.requires.within
 
-pub take_from-requires-clause-free : goal.take_from-requires-clause-free
-take_from-requires-clause-free c =
-    let own = c.self.inside in
-    sym (overlap_of_view (outside own.runs.entries) own.units c.args.unit c.args.self.now c.args.extents.now c.self.view_is c.requires.unit c.requires.within)
-    ∙ sym c.in_default.ensures
-
 pub count_units-requires-clause-within : goal.count_units-requires-clause-within
 count_units-requires-clause-within c =
     let own = c.self.inside in
@@ -29,28 +22,22 @@ pub overflow_add-self : goal.overflow_add-self
 overflow_add-self c =
     let own = c.self.inside in
     let new = outside c.take_from.new.runs.entries in
-    let free : first_overlap (outside own.runs.entries) (units_in c.args.unit c.args.extents.now) ≡ None =
-    sym (overlap_of_view (outside own.runs.entries) own.units c.args.unit c.args.self.now c.args.extents.now c.self.view_is c.requires.unit c.requires.within)
-    ∙ sym c.in_default.ensures in
     let counted : own.used + c.count_units.result ≡ taken_units (units_by new own.units) =
     counted_more (outside own.runs.entries) own.units c.args.unit c.args.self.now c.args.extents.now c.self.view_is c.requires.unit c.requires.within
-    new own.used c.count_units.result c.self.invariant.counted free c.count_units.ensures c.in-Ok.ensures.taken in
+    new own.used c.count_units.result c.self.invariant.counted c.in-Ok.ensures.fits c.count_units.ensures c.in-Ok.ensures.taken in
     omega (arith, counted_le new own.units, c.self.invariant.few)
 
 pub invariant_of-self : goal.invariant_of-self
 invariant_of-self c =
     let own = c.self.inside in
     let new = outside c.take_from.new.runs.entries in
-    let free : first_overlap (outside own.runs.entries) (units_in c.args.unit c.args.extents.now) ≡ None =
-    sym (overlap_of_view (outside own.runs.entries) own.units c.args.unit c.args.self.now c.args.extents.now c.self.view_is c.requires.unit c.requires.within)
-    ∙ sym c.in_default.ensures in
     record {
       few = c.self.invariant.few;
       spaced = c.in-Ok.ensures.spaced;
       some = still_none own.runs.entries c.take_from.new.runs.entries c.self.invariant.some c.in-Ok.ensures.empty;
       counted =
           counted_more (outside own.runs.entries) own.units c.args.unit c.args.self.now c.args.extents.now c.self.view_is c.requires.unit c.requires.within
-          new own.used c.count_units.result c.self.invariant.counted free c.count_units.ensures c.in-Ok.ensures.taken;
+          new own.used c.count_units.result c.self.invariant.counted c.in-Ok.ensures.fits c.count_units.ensures c.in-Ok.ensures.taken;
     }
 
 pub returns-in-Ok-clause-value : goal.returns-in-Ok-clause-value
@@ -73,3 +60,9 @@ returns-in-Ok-clause-runs c =
     let after : length new ≡ length (free_runs (units_by (outside new) own.units)) =
     ap (λ (rs : List (ℕ × ℕ)). length rs) (free_runs_are own.units new c.in-Ok.ensures.spaced (still_none own.runs.entries new c.self.invariant.some c.in-Ok.ensures.empty)) in
     omega (arith, before, after, c.in-Ok.ensures.more)
+
+pub returns-in-Ok-clause-fits : goal.returns-in-Ok-clause-fits
+returns-in-Ok-clause-fits c =
+    let own = c.self.inside in
+    overlap_of_view (outside own.runs.entries) own.units c.args.unit c.args.self.now c.args.extents.now c.self.view_is c.requires.unit c.requires.within
+    ∙ c.in-Ok.ensures.fits
