@@ -1,7 +1,7 @@
 -- How many units of a run pass a test.
 use Rattle.std.proofs.Common.{◌≡◌, ℕ, zero, suc, Bool, true, false, ◌+◌, ◌-◌, ◌<◌, ◌≤◌, List, cond, ap, ◌∙◌, arith}
 use Rattle.fam_alloc.specs.Next.{is_bit_set, IsNext}
-use Rattle.fam_alloc.specs.Taken.{taken_units, units_of_words}
+use Rattle.fam_alloc.specs.Taken.{taken_units, units_by}
 use Rattle.fam_alloc.proofs.MapLemmas.{passing, passing-suc}
 
 -- all of them
@@ -38,6 +38,6 @@ run_counted f unit units start end count had first second =
     omega (arith, gap, run, had)
 
 -- the count of the list
-pub counted_units : (words : List ℕ) (units count : ℕ) → count ≡ passing (is_bit_set words) units → count ≡ taken_units (units_of_words words units)
-unfolding units_of_words
+pub counted_units : (words : List ℕ) (units count : ℕ) → count ≡ passing (is_bit_set words) units → count ≡ taken_units (units_by (is_bit_set words) units)
+unfolding units_by
 counted_units words units count h = h

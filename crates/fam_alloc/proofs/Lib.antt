@@ -1,10 +1,16 @@
 pub mod BitLemmas
 pub mod NextLemmas
 pub mod LayerLemmas
-pub mod RunLemmas
 pub mod OverlapLemmas
 pub mod StripLemmas
 pub mod MapLemmas
 pub mod ViewLemmas
 pub mod AnyLemmas
 pub mod CountLemmas
+pub mod SpacedLemmas
+pub mod CutLemmas
+pub mod EmptyLemmas
+pub mod TakeLemmas
+pub mod FreeRunsLemmas
+pub mod NewLemmas
+pub mod FitLemmas

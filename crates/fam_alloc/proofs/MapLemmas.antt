@@ -1,4 +1,4 @@
--- A bitmap as a list that says of each unit whether it is used.
+-- A test of units as a list that says of each whether it is used.
 use Rattle.std.proofs.Common.{◌≡◌, ℕ, zero, suc, Bool, true, false, ◌+◌, ◌/◌, ◌%◌, ◌<◌, ◌≤◌, ◌==◌, ◌||◌, Option, Some, None, List, [], ◌∷◌, length, get_or, map, replicate, cond, ltb, count_by, refl, sym, ap, ◌∙◌, inl, inr, arith, add-one, min, leb}
 use Rattle.std.proofs.lemmas.Option.{none-some}
 use Rattle.std.specs.List.{range_with_len}
@@ -12,21 +12,21 @@ use Rattle.fam_base.specs.declared.extents.Extent.{Extent}
 use Rattle.fam_format.specs.Units.{units_in, first_overlap}
 use Rattle.fam_rules.proofs.RoomSame.{map_range_same}
 use Rattle.fam_alloc.specs.Next.{has_bit, is_bit_set}
-use Rattle.fam_alloc.specs.Taken.{is_taken, holds, LieWithin, units_of_words}
+use Rattle.fam_alloc.specs.Taken.{is_taken, holds, LieWithin, units_by}
 use Rattle.fam_alloc.proofs.OverlapLemmas.{holds-append, holds-range, or_false, turned, quotients}
 
-pub length-units_of_words : (words : List ℕ) (units : ℕ) → length (units_of_words words units) ≡ units
-unfolding units_of_words
-length-units_of_words words units = length-map-range_with_len (is_bit_set words) 0 units
+pub length-units_by : (used : ℕ → Bool) (units : ℕ) → length (units_by used units) ≡ units
+unfolding units_by
+length-units_by used units = length-map-range_with_len used 0 units
 
 -- a unit of the device
-pub taken_below : (words : List ℕ) (units u : ℕ) → u < units → is_taken (units_of_words words units) u ≡ is_bit_set words u
-unfolding units_of_words
-taken_below words units u below = get_or-map-range_with_len (is_bit_set words) 0 units u u false below (omega arith)
+pub taken_below : (used : ℕ → Bool) (units u : ℕ) → u < units → is_taken (units_by used units) u ≡ used u
+unfolding units_by
+taken_below used units u below = get_or-map-range_with_len used 0 units u u false below (omega arith)
 
 -- none past its end
-pub taken_past : (words : List ℕ) (units u : ℕ) → units ≤ u → is_taken (units_of_words words units) u ≡ false
-taken_past words units u past = get_or_past (units_of_words words units) u false (omega (arith, length-units_of_words words units))
+pub taken_past : (used : ℕ → Bool) (units u : ℕ) → units ≤ u → is_taken (units_by used units) u ≡ false
+taken_past used units u past = get_or_past (units_by used units) u false (omega (arith, length-units_by used units))
 
 -- a bitmap of zeros has no used unit
 pub zeros_free : (n u : ℕ) → is_bit_set (replicate n 0) u ≡ false

@@ -1,10 +1,10 @@
 -- The next unit in a state, and units that are marked.
-use Rattle.std.proofs.Common.{◌≡◌, ℕ, Bool, true, false, not, ◌+◌, ◌*◌, ◌/◌, ◌%◌, ◌<◌, ◌&&◌, ◌||◌, List, length, get_or, set, ltb, bit_and, bit_or, refl, sym, ap, ◌∙◌, inl, inr, arith}
+use Rattle.std.proofs.Common.{◌≡◌, ℕ, Bool, true, false, ◌+◌, ◌*◌, ◌/◌, ◌%◌, ◌<◌, ◌&&◌, ◌||◌, List, length, get_or, set, ltb, bit_or, refl, sym, ap, ◌∙◌, inl, inr, arith}
 use Rattle.std.proofs.lemmas.Bool.{cases_eq, lt-ltb, le-ltb}
 use Rattle.std.proofs.lemmas.Bool.Decides.{nat_tests}
 use Rattle.std.proofs.lemmas.List.{get_or-set_same, get_or-set_other}
 use Rattle.fam_alloc.specs.Next.{has_bit, is_bit_set, is_between, IsNext}
-use Rattle.fam_alloc.proofs.BitLemmas.{has_bit-and, has_bit-or}
+use Rattle.fam_alloc.proofs.BitLemmas.{has_bit-or}
 
 here_or : (o p : Bool) → ((o || (p && false)) || p) ≡ (o || (p && true))
 here_or true p = refl

@@ -1,5 +1,5 @@
 -- Units of extents, and the first that overlaps.
-use Rattle.std.proofs.Common.{◌≡◌, ℕ, zero, suc, Bool, true, false, not, ◌+◌, ◌-◌, ◌*◌, ◌/◌, ◌<◌, ◌≤◌, ◌==◌, ◌&&◌, ◌||◌, Option, Some, List, [], ◌∷◌, ◌++◌, length, take, drop, get_or, cond, refl, sym, ap, subst, ◌∙◌, inl, inr, arith}
+use Rattle.std.proofs.Common.{◌≡◌, ℕ, zero, suc, Bool, true, false, ◌+◌, ◌-◌, ◌*◌, ◌/◌, ◌<◌, ◌≤◌, ◌==◌, ◌||◌, Option, Some, List, [], ◌∷◌, ◌++◌, length, take, drop, get_or, cond, refl, sym, ap, subst, ◌∙◌, inl, inr, arith}
 use Rattle.std.specs.List.{range_with_len}
 use Rattle.std.proofs.lemmas.Bool.{cases_lt, cases_eq, cond-true, cond-false, ne_eqb, eq-eqb, or_right}
 use Rattle.std.proofs.lemmas.Bool.Decides.{nat_tests}
@@ -13,7 +13,7 @@ use Rattle.fam_format.specs.Units.{units_in, first_overlap}
 use Rattle.fam_alloc.specs.Next.{is_between, IsNext}
 use Rattle.fam_alloc.specs.Taken.{LieWithin, holds}
 
-or_assoc : (x y z : Bool) → (x || (y || z)) ≡ ((x || y) || z)
+pub or_assoc : (x y z : Bool) → (x || (y || z)) ≡ ((x || y) || z)
 or_assoc true y z = refl
 or_assoc false y z = refl
 

@@ -1,4 +1,6 @@
 pub mod Taken
+pub mod FreeRuns
+pub mod Runs
 pub mod Next
 pub mod Full
 pub mod TakeFaults

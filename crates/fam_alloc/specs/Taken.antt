@@ -1,9 +1,7 @@
--- What a contract sees of an `AllocMap`: a list that says of each unit whether it is used.
-use Rattle.std.specs.Prelude.{ℕ, Bool, false, ◌≡◌, ◌==◌, ◌+◌, ◌*◌, ◌≤◌, List, map, slice_index_or, count_by}
+-- What a contract sees of an `AllocMap` or of `UsedUnits`: a list that says of each unit whether it is used.
+use Rattle.std.specs.Prelude.{ℕ, Bool, false, ◌==◌, ◌+◌, ◌*◌, ◌≤◌, List, map, slice_index_or, count_by}
 use Rattle.std.specs.List.{All, list_any, range_with_len}
 use Rattle.fam_base.specs.declared.extents.Extent.{Extent}
-use Rattle.fam_alloc.specs.declared.bits.TheConstants.{MOST_UNITS}
-use Rattle.fam_alloc.specs.Next.{is_bit_set}
 
 -- unit u is used. No unit past the last one is
 abbrev pub is_taken : List Bool → ℕ → Bool
@@ -21,12 +19,6 @@ holds us u = list_any (λ v. v == u) us
 abbrev pub LieWithin : ℕ → ℕ → List Extent → Type 0
 LieWithin unit units extents = All (λ x. x.offset + x.length ≤ units * unit) extents
 
--- a bitmap of so many units as such a list
-unfoldable pub units_of_words : List ℕ → ℕ → List Bool
-units_of_words words units = map (is_bit_set words) (range_with_len 0 units)
-
--- how the fields of an `AllocMap` hang together
-pub record IsMap (words : List ℕ) (room units used : ℕ) : Type 0 where
-  pub covered : units ≤ 64 * room
-  pub few : units ≤ MOST_UNITS
-  pub counted : used ≡ taken_units (units_of_words words units)
+-- a test of so many units as such a list
+unfoldable pub units_by : (ℕ → Bool) → ℕ → List Bool
+units_by used units = map used (range_with_len 0 units)

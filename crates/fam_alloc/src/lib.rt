@@ -1,14 +1,16 @@
 //! Which units of a device are used, and where a new file finds room.
 //!
 //! A contract sees an `AllocMap` as a list that says of each unit whether it is used (`specs/Taken.antt`).
-//! Room and strips are defined in `fam_rules`. The bitmap behind the list is in no contract.
+//! Room and strips are defined in `fam_rules`, free runs in `specs/FreeRuns.antt`.
 #![tactic(auto)]
 
 mod alloc_map;
 mod bits;
+mod cut;
 mod layers;
 mod overlap;
 mod run;
+mod runs;
 mod starts;
 mod used_units;
 

@@ -1,6 +1,6 @@
 //! The units of extents: which of them overlap, and how they are marked.
 
-ghost use Rattle.std.specs.Prelude.{◌≡◌, ℕ, true, false, not, ◌+◌, ◌*◌, ◌/◌, ◌<◌, ◌≤◌, ◌==◌, ◌&&◌, ◌||◌, length, nat_lt, take, slice_index_or, vec_len, IfOk, OnOk, IfErr, OnErr};
+ghost use Rattle.std.specs.Prelude.{◌≡◌, ℕ, Bool, true, false, not, ◌+◌, ◌*◌, ◌/◌, ◌<◌, ◌≤◌, ◌==◌, ◌&&◌, ◌||◌, length, nat_lt, take, slice_index_or};
 ghost use Rattle.std.specs.List.{list_any};
 ghost use Rattle.fam_base.specs.ExtentLists.{no_extent};
 ghost use Rattle.fam_format.specs.Units.{units_in, first_overlap};
@@ -8,9 +8,24 @@ ghost use Rattle.fam_rules.specs.Reports.{is_overlap};
 ghost use Rattle.fam_alloc.specs.Next.{is_bit_set, is_between, IsNext};
 ghost use Rattle.fam_alloc.specs.Taken.{LieWithin, holds};
 
-use crate::bits::{MOST_UNITS, mark, next};
+use crate::bits::MOST_UNITS;
 use crate::layers::Layers;
 use fam_base::{Extent, Extents};
+
+/// Units of a device, some of which are used.
+pub trait Occupied {
+    /// Whether a unit is used.
+    ghost is_used: { Self → ℕ → Bool };
+
+    /// How many units there are.
+    ghost units: { Self → ℕ };
+
+    /// The first unit from `from` on and below `to` that is used, or `to`.
+    fn next_used(&self, from: u64, to: u64) -> u64
+        requires order { from ≤ to }
+        requires within { to ≤ units self.now }
+        ensures { IsNext (is_used self.now) true from to result };
+}
 
 /// Units from `start` on and below `end`.
 #[derive(Clone, Copy)]
@@ -98,8 +113,8 @@ pub fn first_below(head: u64, run: Run) -> u64
 }
 
 /// The first unit of a run that is used or that one of the first `count` extents holds, or the run's end.
-fn first_taken(
-    words: &Vec<u64>,
+fn first_taken<M: Occupied>(
+    map: &M,
     extents: &Extents,
     unit: u64,
     units: u64,
@@ -109,14 +124,14 @@ fn first_taken(
     requires unit { 0 < unit }
     requires within { LieWithin unit units extents.now }
     requires few { units ≤ MOST_UNITS }
-    requires covered { units ≤ 64 * vec_len words.now }
+    requires covered { units ≤ M.units map.now }
     requires count { count ≤ length extents.now }
     requires order { run.start ≤ run.end }
     requires end { run.end ≤ units }
-    ensures { IsNext (λ u. is_bit_set words.now.items u || holds (units_in unit (take count extents.now)) u)
+    ensures { IsNext (λ u. M.is_used map.now u || holds (units_in unit (take count extents.now)) u)
         true run.start run.end result }
 {
-    let end = next(words, true, run.start, run.end);
+    let end = map.next_used(run.start, run.end);
     let before = Run {
         start: run.start,
         end,
@@ -125,16 +140,16 @@ fn first_taken(
 }
 
 /// The first unit of the extents, in their order and upwards in each, that is used or stands twice.
-pub fn first_overlap(words: &Vec<u64>, extents: &Extents, unit: u64, units: u64) -> Option<u64>
+pub fn first_overlap<M: Occupied>(map: &M, extents: &Extents, unit: u64, units: u64) -> Option<u64>
     requires unit { 0 < unit }
     requires within { LieWithin unit units extents.now }
     requires few { units ≤ MOST_UNITS }
-    requires covered { units ≤ 64 * vec_len words.now }
-    ensures { result ≡ first_overlap (is_bit_set words.now.items) (units_in unit extents.now) }
+    requires covered { units ≤ M.units map.now }
+    ensures { result ≡ first_overlap (M.is_used map.now) (units_in unit extents.now) }
 {
     for i in 0..extents.len() {
         let run = run_at(extents, unit, units, i);
-        let first = first_taken(words, extents, unit, units, i, run);
+        let first = first_taken(map, extents, unit, units, i, run);
         if first < run.end {
             return Some(first);
         }
@@ -177,49 +192,19 @@ pub fn overlap_behind(head: u64, extents: &Extents, unit: u64, units: u64) -> Op
     None
 }
 
-/// Marks the units of the extents as used, and gives their number.
-pub fn mark_all(words: &mut Vec<u64>, extents: &Extents, unit: u64, units: u64) -> u64
+/// How many units the extents have.
+pub fn count_units(extents: &Extents, unit: u64, units: u64) -> u64
     requires unit { 0 < unit }
     requires within { LieWithin unit units extents.now }
     requires few { units ≤ MOST_UNITS }
-    requires covered { units ≤ 64 * vec_len words.old }
-    ensures count { result ≡ length (units_in unit extents.now) }
-    ensures marked { (u : ℕ) → is_bit_set words.new.items u
-        ≡ (is_bit_set words.old.items u || holds (units_in unit extents.now) u) }
-    ensures len { vec_len words.new ≡ vec_len words.old }
+    ensures { result ≡ length (units_in unit extents.now) }
 {
     let mut count = 0;
     for i in 0..extents.len() {
         let run = run_at(extents, unit, units, i);
-        mark(words, run.start, run.end);
         count += run.end - run.start;
     }
     count
-}
-
-/// Marks the units of the extents as used, and gives their number; or else the first of them that overlaps.
-pub fn mark_free(words: &mut Vec<u64>, extents: &Extents, unit: u64, units: u64) -> Result<u64, u64>
-    requires unit { 0 < unit }
-    requires within { LieWithin unit units extents.now }
-    requires few { units ≤ MOST_UNITS }
-    requires covered { units ≤ 64 * vec_len words.old }
-
-    ensures count { IfOk result (λ count. count ≡ length (units_in unit extents.now)) }
-    ensures marked { OnOk result ((u : ℕ) → is_bit_set words.new.items u
-        ≡ (is_bit_set words.old.items u || holds (units_in unit extents.now) u)) }
-    ensures fits { OnOk result
-        (first_overlap (is_bit_set words.old.items) (units_in unit extents.now) ≡ None) }
-
-    ensures overlap { IfErr result (λ taken.
-        first_overlap (is_bit_set words.old.items) (units_in unit extents.now) ≡ Some taken) }
-    ensures err { OnErr result (words.new.items ≡ words.old.items) }
-
-    ensures len { vec_len words.new ≡ vec_len words.old }
-{
-    if let Some(taken) = first_overlap(words, extents, unit, units) {
-        return Err(taken);
-    }
-    Ok(mark_all(words, extents, unit, units))
 }
 
 /// Marks the units of the extents as used, whether they were or not.

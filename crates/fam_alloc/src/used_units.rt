@@ -2,11 +2,12 @@
 
 ghost use Rattle.std.specs.Prelude.{◌≡◌, ℕ, ◌*◌, ◌<◌, ◌≤◌, ◌||◌, length, nat_lt, vec_len, IfOk};
 ghost use Rattle.fam_format.specs.Units.{units_in, first_overlap};
-ghost use Rattle.fam_alloc.specs.Taken.{is_taken, taken_units, units_of_words, holds, LieWithin};
+ghost use Rattle.fam_alloc.specs.Next.{is_bit_set};
+ghost use Rattle.fam_alloc.specs.Taken.{is_taken, taken_units, units_by, holds, LieWithin};
 
 use crate::bits::{MOST_UNITS, next};
 use crate::layers::Layers;
-use crate::overlap::{cover_all, first_overlap};
+use crate::overlap::{Occupied, cover_all, first_overlap};
 use fam_base::{Extents, OutOfMemory};
 use std::alloc::Global;
 use std::marker::Model;
@@ -21,11 +22,12 @@ pub struct UsedUnits {
 impl Model for UsedUnits {
     ghost use Rattle.std.specs.Prelude.{Bool, List, ◌*◌, ◌≤◌, length};
     ghost use Rattle.fam_alloc.specs.declared.bits.TheConstants.{MOST_UNITS};
-    ghost use Rattle.fam_alloc.specs.Taken.{units_of_words};
+    ghost use Rattle.fam_alloc.specs.Next.{is_bit_set};
+    ghost use Rattle.fam_alloc.specs.Taken.{units_by};
 
     ghost Value = { List Bool };
 
-    ghost view = { λ a. units_of_words a.layers a.units };
+    ghost view = { λ a. units_by (is_bit_set a.layers) a.units };
 
     ghost invariant = { λ a. (a.units ≤ 64 * length a.layers) × (a.units ≤ MOST_UNITS) };
 }
@@ -34,7 +36,7 @@ impl Model for UsedUnits {
 fn count_used(words: &Vec<u64>, units: u64) -> u64
     requires covered { units ≤ 64 * vec_len words.now }
     requires few { units ≤ MOST_UNITS }
-    ensures { result ≡ taken_units (units_of_words words.now.items units) }
+    ensures { result ≡ taken_units (units_by (is_bit_set words.now.items) units) }
 {
     let mut count = 0;
     let mut unit = 0;
@@ -45,6 +47,16 @@ fn count_used(words: &Vec<u64>, units: u64) -> u64
         unit = end;
     }
     count
+}
+
+impl Occupied for UsedUnits {
+    ghost is_used = { is_taken };
+
+    ghost units = { length };
+
+    fn next_used(&self, from: u64, to: u64) -> u64 {
+        next(self.layers.words(), true, from, to)
+    }
 }
 
 impl UsedUnits {
@@ -75,7 +87,7 @@ impl UsedUnits {
         requires within { LieWithin unit (length self.now) extents.now }
         ensures { result ≡ first_overlap (is_taken self.now) (units_in unit extents.now) }
     {
-        first_overlap(self.layers.words(), extents, unit, self.units)
+        first_overlap(self, extents, unit, self.units)
     }
 
     /// Marks all units of the extents as used, whether they were or not. They are whole units: offsets and lengths

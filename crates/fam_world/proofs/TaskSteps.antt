@@ -1,6 +1,5 @@
 -- Operations of a task, as its cache and its media tell them, are steps of the host that runs it.
 use Rattle.std.proofs.Common.{◌≡◌, ℕ, suc, ◌<◌, ◌≤◌, inl, inr, List, [], ◌∷◌, ◌++◌, length, Bool, true, false, Option, Some, None, Result, Ok, Err, refl, ap₂, sym, subst, ◌∙◌, arith, append-nil}
-use Rattle.std.specs.Prelude.{OnOk}
 use Rattle.fam_base.specs.declared.line.LineNo.{LineNo}
 use Rattle.fam_base.specs.declared.line.OutOfMemory.{OutOfMemory}
 use Rattle.fam_cache.specs.declared.fault.OperationFault.{OperationFault}
@@ -49,10 +48,6 @@ went at (Ok (Notes note)) old new res x is = record { said = Notes note; is = re
 went at (Ok (Done answer)) old new res x is = absurd (let over : Ok moved.Answered ≡ Ok moved.Going = sym x.1 ∙ is in cc)
 went at (Err (fault.MediaFault line)) old new res x is = absurd (let over : Ok moved.Answered ≡ Ok moved.Going = sym x.1 ∙ is in cc)
 went at (Err fault.OutOfMemory) old new res x is = absurd (let full : Err record {} ≡ Ok moved.Going = sym x.1 ∙ is in cc)
-
-pub ok_going : {P : Type 0} (res : Result Moved OutOfMemory) → res ≡ Ok moved.Going → OnOk res P → P
-ok_going (Ok moved) is p = p
-ok_going (Err full) is p = absurd cc
 
 -- no memory was found
 pub lacked : (at : ℕ) (r : Result Turn OperationFault) (old new : List Note) (res : Result Moved OutOfMemory) (full : OutOfMemory) → IsNoted at r old new res → res ≡ Err full → (r ≡ Err fault.OutOfMemory) × (new ≡ old)

@@ -67,7 +67,7 @@ fn note_turn(
     ensures noted { IsNoted host.0 (said_of advanced turn.old) (notes_view journal.old.items)
         (notes_view journal.new.items) result }
     ensures quiet { said_of advanced turn.old ≡ Ok Go → journal.new ≡ journal.old }
-    ensures go { OnOk result (turn.new ≡ Go) }
+    ensures go { result ≡ Ok Moved.Going → turn.new ≡ Go }
 {
     match advanced {
         Ok(()) => match turn {

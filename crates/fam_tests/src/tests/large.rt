@@ -74,7 +74,7 @@ fn the_largest_device_has_a_map(rt: HostRuntime) -> Result<(), Fail> {
 }
 
 /// One extent.
-fn one(extent: Extent) -> Extents
+pub(super) fn one(extent: Extent) -> Extents
     ensures { result ≡ extent ∷ [] }
 {
     let mut extents = Extents::new();

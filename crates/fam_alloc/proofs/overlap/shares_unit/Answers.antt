@@ -1,8 +1,5 @@
-use Rattle.std.proofs.Common.{◌≡◌, ℕ, List, take, true, length, subst, ap, ◌∙◌, arith}
-use Rattle.std.proofs.Math.Seq.{take-length}
-use Rattle.fam_base.specs.declared.extents.Extent.{Extent}
+use Rattle.std.proofs.Common.{◌∙◌, arith}
 use Rattle.fam_format.specs.Units.{units_in}
-use Rattle.fam_alloc.specs.Next.{IsNext}
 use Rattle.fam_alloc.specs.Taken.{holds}
 use Rattle.fam_alloc.proofs.AnyLemmas.{any_at, none_at}
 use Rattle.fam_alloc.proofs.overlap.shares_unit.Goals as goal

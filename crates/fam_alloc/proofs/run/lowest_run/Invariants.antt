@@ -1,14 +1,8 @@
-use Rattle.std.proofs.Common.{◌-◌, ℕ, ◌≤◌}
-use Rattle.fam_rules.specs.Room.{Fits}
-use Rattle.fam_alloc.specs.Next.{is_bit_set}
+use Rattle.std.proofs.Common.{◌≡◌}
+use Rattle.fam_rules.specs.Room.{room}
+use Rattle.fam_alloc.specs.Runs.{outside}
+use Rattle.fam_alloc.proofs.FitLemmas.{first_fit}
 use Rattle.fam_alloc.proofs.run.lowest_run.Given as goal
 
 abbrev pub invariant-loop-start : goal.invariant-loop-start
-invariant-loop-start l = record {
-  low : l.from ≤ l.start;
-  high : l.start ≤ l.to;
-  lowest : (t : ℕ) → l.from ≤ t → Fits (is_bit_set l.words.items) l.to l.count t → l.start ≤ t;
-}
-
-abbrev pub decreases-loop-start : goal.decreases-loop-start
-decreases-loop-start l = l.to - l.start
+invariant-loop-start l = first_fit l.from l.to l.count l.start-iterator ≡ room (outside l.runs.entries) l.from l.to l.count

@@ -13,7 +13,7 @@ use Rattle.fam_world.specs.Counted.{HostStanding, HostStep, Iterated, more, none
 use Rattle.fam_world.specs.Turns.{IsNoted}
 use Rattle.fam_world.specs.View.{notes_view}
 use Rattle.fam_world.proofs.Counting.{held_steps, iterated_both}
-use Rattle.fam_world.proofs.TaskSteps.{ok_going, lacked, one_ends, one_goes, stands_still, steps_below, went}
+use Rattle.fam_world.proofs.TaskSteps.{lacked, one_ends, one_goes, stands_still, steps_below, went}
 use Rattle.fam_world.proofs.run.run_most.Goals as goal
 
 pub operations-init : goal.operations-init
@@ -73,7 +73,7 @@ operations-preserved g c =
           subst (Iterated (HostStep at size false) start (end view)) count
           (iterated_both (HostStep at size false) start (mid view) (end view) (suc c.operations.done) k (more (inv.far view) (one view)) (held view))
           );
-      turn = ok_going c.note_turn.result is c.note_turn.ensures.go;
+      turn = c.note_turn.ensures.go is;
       size = same_size;
       within = grind (arith, nat_tests, less, most_left);
       fits = cached_lines c.operate.new.task z.task c.operate.new.cache.lines z.cache.lines c.operate_cached-done.ensures.run ∙ fits;

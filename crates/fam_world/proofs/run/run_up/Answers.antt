@@ -17,7 +17,7 @@ use Rattle.fam_world.specs.Counted.{HostStanding, HostStep, Iterated, Runs, none
 use Rattle.fam_world.specs.Turns.{IsNoted}
 use Rattle.fam_world.specs.View.{notes_view}
 use Rattle.fam_world.proofs.Counting.{ends_behind, held_steps, runs_all, runs_both}
-use Rattle.fam_world.proofs.TaskSteps.{ok_going, all_end, all_go, lacked, stands_still, runs_below, went}
+use Rattle.fam_world.proofs.TaskSteps.{all_end, all_go, lacked, stands_still, runs_below, went}
 use Rattle.fam_world.proofs.UpToOn.{full_same, held_safe, lacks_same, safe_on}
 use Rattle.fam_world.proofs.run.run_up.Goals as goal
 
@@ -92,7 +92,7 @@ operations-preserved g c =
     record {
       far = λ view.
           runs_all at size _ (here view) (end view) (inv.far view) (runs_both at size (here view) (mid view) (end view) (all view) (held view));
-      turn = ok_going c.note_turn.result is c.note_turn.ensures.go;
+      turn = c.note_turn.ensures.go is;
       size = same_size;
       fits = cached_lines next.task z.task next.cache.lines z.cache.lines c.operate_cached.ensures.run ∙ fits;
       cached = record { below = runs_below at size (here nobody) (end nobody) (runs_both at size (here nobody) (mid nobody) (end nobody) (all nobody) (held nobody)) inv.cached.below };

@@ -1,22 +1,19 @@
-use Rattle.std.proofs.Common.{ℕ, List, length, ap, ◌∙◌, arith}
-use Rattle.std.proofs.lemmas.List.{length-replicate}
-use Rattle.fam_alloc.proofs.MapLemmas.{length-units_of_words}
-use Rattle.fam_alloc.proofs.ViewLemmas.{first_marked, new_taken, new_counted}
+use Rattle.fam_alloc.specs.Runs.{outside}
+use Rattle.fam_alloc.proofs.MapLemmas.{length-units_by}
+use Rattle.fam_alloc.proofs.ViewLemmas.{new_taken}
+use Rattle.fam_alloc.proofs.NewLemmas.{new_map, outside_behind, new_few}
 use Rattle.fam_alloc.proofs.alloc_map.AllocMap.new.Goals as goal
 
 pub invariant_of-result : goal.invariant_of-result
-invariant_of-result c =
-    let marked = first_marked c.mark.new.words.items c.in_ok-words.words.items _ c.args.used c.in_ok-words.ensures c.mark.ensures.marked in
-    record {
-      covered = omega (arith, c.mark.ensures.len, c.in_ok-words.words.ok.0, c.div_ceil.ensures, ap (λ (ws : List ℕ). length ws) c.in_ok-words.ensures ∙ length-replicate _ 0);
-      few = c.requires.limit;
-      counted = new_counted c.mark.new.words.items c.args.units c.args.used c.requires.within marked;
-    }
+invariant_of-result c = new_map c.in_ok-runs.runs.entries c.args.units c.args.used c.requires.within c.in_ok-runs.ensures c.requires.limit
 
 pub returns-clause-units : goal.returns-clause-units
-returns-clause-units c = length-units_of_words c.mark.new.words.items c.args.units
+returns-clause-units c = length-units_by (outside c.in_ok-runs.runs.entries) c.args.units
 
 pub returns-clause-used : goal.returns-clause-used
 returns-clause-used c =
-    let marked = first_marked c.mark.new.words.items c.in_ok-words.words.items _ c.args.used c.in_ok-words.ensures c.mark.ensures.marked in
-    new_taken c.mark.new.words.items c.args.units c.args.used c.requires.within marked
+    new_taken (outside c.in_ok-runs.runs.entries) c.args.units c.args.used c.requires.within
+    (outside_behind c.in_ok-runs.runs.entries c.args.units c.args.used c.requires.within c.in_ok-runs.ensures)
+
+pub returns-clause-runs : goal.returns-clause-runs
+returns-clause-runs c = new_few c.in_ok-runs.runs.entries c.args.units c.args.used c.requires.within c.in_ok-runs.ensures

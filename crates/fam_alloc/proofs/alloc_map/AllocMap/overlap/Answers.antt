@@ -1,14 +1,14 @@
-use Rattle.std.proofs.Common.{sym, ◌∙◌}
-use Rattle.fam_alloc.proofs.ViewLemmas.{lie_within, overlap_of_view}
+use Rattle.std.proofs.Common.{arith}
+use Rattle.fam_alloc.specs.Runs.{outside}
+use Rattle.fam_alloc.proofs.ViewLemmas.{units_of_view, lie_within}
 use Rattle.fam_alloc.proofs.alloc_map.AllocMap.overlap.Goals as goal
 
 pub first_overlap-requires-clause-within : goal.first_overlap-requires-clause-within
 first_overlap-requires-clause-within c =
     let own = c.self.inside in
-    lie_within own.words.items own.units c.args.unit c.args.self.now c.args.extents.now c.self.view_is c.requires.unit c.requires.within
+    lie_within (outside own.runs.entries) own.units c.args.unit c.args.self.now c.args.extents.now c.self.view_is c.requires.unit c.requires.within
 
-pub returns : goal.returns
-returns c =
+pub first_overlap-requires-clause-covered : goal.first_overlap-requires-clause-covered
+first_overlap-requires-clause-covered c =
     let own = c.self.inside in
-    c.first_overlap.ensures
-    ∙ sym (overlap_of_view own.words.items own.units c.args.unit c.args.self.now c.args.extents.now c.self.view_is c.requires.unit c.requires.within)
+    omega (arith, units_of_view (outside own.runs.entries) own.units c.args.self.now c.self.view_is)
