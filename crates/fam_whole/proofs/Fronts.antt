@@ -186,23 +186,25 @@ one_reached files event events old mid first rest journal does clean joined x = 
   ];
 }
 
+-- by how many faults the first event tells
+count_reached : (files : Files) (event : Event) (events : List Event) (old new : Session) (journal : List Note) → (follows : Follows files (event ∷ events) old journal new) → Reached files events follows.0 follows.2 → (n : ℕ) → faults_of follows.1 ≡ n → Reached files (event ∷ events) old journal
+count_reached files event events old new journal follows rest zero is = one_reached files event events old follows.0 follows.1 follows.2 journal follows.3 is follows.5 rest
+count_reached files event events old new journal follows rest (suc n) is = record {
+  count = 0;
+  mid = old;
+  notes = [];
+  follows = (refl, refl);
+  clean = refl;
+  rest = journal;
+  joined = refl;
+  next = inr (record { event = event; is = refl; notes = follows.1; more = follows.2; joined = follows.5; behind = follows.0; does = follows.3; faults = omega (arith, is) });
+}
+
 reached : (files : Files) (events : List Event) (old new : Session) (journal : List Note) → Follows files events old journal new → Reached files events old journal
 reached files [] old new journal follows =
     record { count = 0; mid = old; notes = []; follows = (refl, refl); clean = refl; rest = []; joined = follows.0; next = inl (refl, refl) }
-reached files (event ∷ events) old new journal follows = by_count (faults_of follows.1) refl
-  where
-    by_count : (n : ℕ) → faults_of follows.1 ≡ n → Reached files (event ∷ events) old journal
-    by_count zero is = one_reached files event events old follows.0 follows.1 follows.2 journal follows.3 is follows.5 (reached files events follows.0 new follows.2 follows.4)
-    by_count (suc n) is = record {
-      count = 0;
-      mid = old;
-      notes = [];
-      follows = (refl, refl);
-      clean = refl;
-      rest = journal;
-      joined = refl;
-      next = inr (record { event = event; is = refl; notes = follows.1; more = follows.2; joined = follows.5; behind = follows.0; does = follows.3; faults = omega (arith, is) });
-    }
+reached files (event ∷ events) old new journal follows =
+    count_reached files event events old new journal follows (reached files events follows.0 new follows.2 follows.4) (faults_of follows.1) refl
 
 pub up_to_fault : (files : Files) (events : List Event) (start : Image) → IsImage start → AreSound events → AreWhole events → (journal : List Note) (last : Session) → Follows files events (first_session start) journal last → UpToFault files events start journal
 up_to_fault files events start image sound whole journal last follows =
