@@ -88,7 +88,7 @@ impl AllocMap {
         Ok(AllocMap { runs, units, used })
     }
 
-    /// The same map again, in memory of its own. It comes from where this map's own came from, as `alloc` does.
+    /// The same map again, in memory of its own. That is from the allocator of this map, which any `Global` is.
     pub fn copy(&self, _alloc: Global) -> Result<AllocMap, OutOfMemory>
         ensures { IfOk result (λ map. map ≡ self.now) }
     {
