@@ -307,9 +307,8 @@ impl Task {
         }
     }
 
-    /// Line `line` of those that are wanted of the file. It stands apart from the lines of slots, which are most of
-    /// those that are read.
-    #[inline(never)]
+    /// Line `line` of those that are wanted of the file.
+    #[inline(always)]
     fn wanted_line(&self, line: u64) -> LineNo
         requires { IsWantedLine line self.now }
         ensures line { result.0 ≡ spec.part_line self.now part.File line }

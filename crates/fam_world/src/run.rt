@@ -1,6 +1,6 @@
 //! Operations of a host's task: so many of them, or all up to its answer.
 
-ghost use Rattle.std.specs.Prelude.{◌≡◌, ◌<◌, IfSome, None, Ok, OnErr, OnOk, Some, is_some, true, vec_capacity, vec_len};
+ghost use Rattle.std.specs.Prelude.{◌≡◌, ◌<◌, Err, IfSome, None, Ok, OnErr, OnOk, Some, is_some, true, vec_capacity, vec_len};
 ghost use Rattle.fam_commands.specs.FirstStore.{IsUnstored};
 ghost use Rattle.fam_media.specs.Outside.{IfModelled};
 ghost use Rattle.fam_tasks.specs.declared.answer.Turn.TheVariants.{Go};
@@ -15,7 +15,7 @@ ghost use Rattle.fam_world.specs.View.{host_view, note_view, notes_view};
 use crate::fault::Moved;
 use crate::hosts::{Host, MOST_HOSTS, retire};
 use crate::notes::{add, make_room};
-use fam_base::OutOfMemory;
+use fam_base::{LineNo, OutOfMemory};
 use fam_cache::{HostCache, OperationFault};
 use fam_journal::HostId;
 use fam_media::Media;
@@ -35,13 +35,16 @@ fn note_of(host: HostId, note: TaskNote) -> Note
     }
 }
 
-/// Notes what a host's task says, for which there is room, and says whether the task is over.
-fn note_said(journal: &mut Vec<Note>, host: HostId, said: Turn) -> Moved
+/// Notes what a host's task says, for which there is room, and says whether the task is over. `turn` is `Go` again. It stands
+/// apart from the loop, which mostly has nothing to note, since it moves what may be large.
+#[inline(never)]
+fn note_said(journal: &mut Vec<Note>, host: HostId, turn: &mut Turn) -> Moved
     requires room { vec_len journal.old < vec_capacity journal.old }
-    ensures noted { IsNoted host.0 (Ok said) (notes_view journal.old.items) (notes_view journal.new.items) (Ok result) }
-    ensures quiet { said ≡ Go → journal.new ≡ journal.old }
+    ensures noted { IsNoted host.0 (Ok turn.old) (notes_view journal.old.items) (notes_view journal.new.items) (Ok result) }
+    ensures quiet { turn.old ≡ Go → journal.new ≡ journal.old }
+    ensures go { turn.new ≡ Go }
 {
-    match said {
+    match replace(turn, Turn::Go) {
         Turn::Go => Moved::Going,
         Turn::Note(note) => {
             add(journal, note_of(host, note));
@@ -52,6 +55,17 @@ fn note_said(journal: &mut Vec<Note>, host: HostId, said: Turn) -> Moved
             Moved::Answered
         }
     }
+}
+
+/// Notes that the media failed at a line, for which there is room. It stands apart too.
+#[inline(never)]
+fn note_fault(journal: &mut Vec<Note>, host: HostId, line: LineNo)
+    requires room { vec_len journal.old < vec_capacity journal.old }
+    ensures noted { IsNoted host.0 (Err (OperationFault.MediaFault line)) (notes_view journal.old.items)
+        (notes_view journal.new.items) (Ok Moved.Answered) }
+{
+    let answer = Answer::MediaFault(line);
+    add(journal, Note::Answered { host, answer });
 }
 
 /// Notes what came of operations of a host's task, for which there is room, and says whether the task is over. Where it goes
@@ -72,11 +86,10 @@ fn note_turn(
     match advanced {
         Ok(()) => match turn {
             Turn::Go => Ok(Moved::Going),
-            _ => Ok(note_said(journal, host, replace(turn, Turn::Go))),
+            _ => Ok(note_said(journal, host, turn)),
         },
         Err(OperationFault::MediaFault(line)) => {
-            let answer = Answer::MediaFault(line);
-            add(journal, Note::Answered { host, answer });
+            note_fault(journal, host, line);
             Ok(Moved::Answered)
         }
         Err(OperationFault::OutOfMemory) => Err(OutOfMemory),
