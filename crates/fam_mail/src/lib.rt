@@ -1,0 +1,20 @@
+//! A mailbox in a file: one host posts records into the file's lines, and others take them, through caches that
+//! need not agree.
+//!
+//! `specs/Records.antt` and `specs/Boxes.antt` say what a record and a box are, `specs/Tasks.antt` which operations a
+//! post and a take do, and `specs/Mail.antt` what a journal may say.
+#![tactic(auto)]
+
+mod ask;
+mod check;
+mod phase;
+mod record;
+mod task;
+mod turn;
+
+pub use ask::Ask;
+pub use check::WrongBox;
+pub use phase::Phase;
+pub use record::{Record, Records};
+pub use task::Task;
+pub use turn::Turn;
