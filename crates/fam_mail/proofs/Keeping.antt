@@ -20,7 +20,6 @@ pub record WriterKeeps (b : Box) (h : ℕ) (s s' : SharedState) : Type 0 where
 
 -- what any task rests on
 pub record Keeps (b : Box) (h : ℕ) (s s' : SharedState) (m : Mail) : Type 0 where
-  pub top : top_at b s ≤ top_at b s'
   pub memory : (i : ℕ) → i < top_at b s → s'.memory (b.place (1 + i)) ≡ s.memory (b.place (1 + i))
   pub fresh : (i : ℕ) → i < top_at b s → Fresh (s.memory (b.place (1 + i))) (s.copy h (b.place (1 + i))) → Fresh (s'.memory (b.place (1 + i))) (s'.copy h (b.place (1 + i)))
   pub gate : gate_at b s ≤ gate_at b s'

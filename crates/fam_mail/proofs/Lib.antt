@@ -5,3 +5,4 @@ pub mod Moving
 pub mod Storing
 pub mod Settling
 pub mod Stepping
+pub mod Running

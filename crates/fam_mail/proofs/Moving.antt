@@ -92,7 +92,6 @@ module _ (b : Box) (s s' : SharedState) (m : Mail) (core : Core b s m) (host lin
 
   pub keeps_moved : (h : ℕ) → Keeps b h s s' m
   keeps_moved h = record {
-    top = omega (arith, gate_moved.2);
     memory = record_still;
     fresh = λ i lt f. moved Fresh (λ m m' c c' v w. fresh_kept v w) h (b.place (1 + i)) (λ _. core.clean i host lt) f;
     gate = gate_moved.0;
@@ -109,7 +108,6 @@ module _ (b : Box) (s s' : SharedState) (m : Mail) (core : Core b s m) (host lin
 -- what stays where nothing changes
 pub keeps_same : (b : Box) (h : ℕ) (s : SharedState) (m : Mail) → Keeps b h s s m
 keeps_same b h s m = record {
-  top = omega arith;
   memory = λ i lt. refl;
   fresh = λ i lt f. f;
   gate = omega arith;
@@ -118,11 +116,10 @@ keeps_same b h s m = record {
 }
 
 -- and in two steps
-pub keeps_then : (b : Box) (h : ℕ) (s next s' : SharedState) (m : Mail) → Keeps b h s next m → Keeps b h next s' m → Keeps b h s s' m
-keeps_then b h s next s' m first second = record {
-  top = omega (arith, first.top, second.top);
-  memory = λ i lt. second.memory i (omega (arith, lt, first.top)) ∙ first.memory i lt;
-  fresh = λ i lt f. second.fresh i (omega (arith, lt, first.top)) (first.fresh i lt f);
+pub keeps_then : (b : Box) (h : ℕ) (s next s' : SharedState) (m : Mail) → top_at b s ≤ top_at b next → Keeps b h s next m → Keeps b h next s' m → Keeps b h s s' m
+keeps_then b h s next s' m grows first second = record {
+  memory = λ i lt. second.memory i (omega (arith, lt, grows)) ∙ first.memory i lt;
+  fresh = λ i lt f. second.fresh i (omega (arith, lt, grows)) (first.fresh i lt f);
   gate = omega (arith, first.gate, second.gate);
   gate_copy = λ floor low f. second.gate_copy floor low (first.gate_copy floor low f);
   writing = λ is.
@@ -147,4 +144,4 @@ sends_keep b m host [] s _ all_sent core = record { core = core; keeps = λ h. k
 sends_keep b m host (line ∷ lines) s s' (sends_one {next = next} left rest) core =
     let moves = sends_at host line s next left in
     let then = sends_keep b m host lines next s' rest (core_moved b s next m core host line moves) in
-    record { core = then.core; keeps = λ h. keeps_then b h s next s' m (keeps_moved b s next m core host line moves h) (then.keeps h) }
+    record { core = then.core; keeps = λ h. keeps_then b h s next s' m (omega (arith, (gate_moved b s next m core host line moves).2)) (keeps_moved b s next m core host line moves h) (then.keeps h) }

@@ -356,7 +356,7 @@ module _ (b : Box) (host : ℕ) (floor : Option ℕ) (m : Mail) (s : SharedState
           go (inr e) = absurd (omega (arith, e.0, below, core.high))
 
       reads : record_in (slice_set t.words 7 word) ≡ Ok member.0
-      reads = ap record_in loaded ∙ (moved_core s' (b.place (1 + i)) line_moves).stands i member.0 member.1 (omega (arith, below, (moved_keeps s' (b.place (1 + i)) line_moves host).top))
+      reads = ap record_in loaded ∙ (moved_core s' (b.place (1 + i)) line_moves).stands i member.0 member.1 (omega (arith, below, (gate_moved b s s' m core host (b.place (1 + i)) line_moves).2))
 
       -- one record more is read
       read_more : records_with word t ≡ take (suc i) (whole m)

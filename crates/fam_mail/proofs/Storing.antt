@@ -34,9 +34,8 @@ module _ (b : Box) (s s' : SharedState) (m : Mail) (core : Core b s m) (host lin
   dirties : (h l : ℕ) → IsDirty (s'.copy h l) → IsDirty (s.copy h l) ⊎ ((h ≡ host) × (l ≡ line))
   dirties = store_dirties host line word value s s' core.wide done
 
-  pub stored_keeps : (h : ℕ) → h ≢ host → top_at b s ≤ top_at b s' → Keeps b h s s' m
-  stored_keeps h ne le = record {
-    top = le;
+  pub stored_keeps : (h : ℕ) → h ≢ host → Keeps b h s s' m
+  stored_keeps h ne = record {
     memory = λ i lt. memory_same (b.place (1 + i));
     fresh = λ i lt f. rw (memory_same (b.place (1 + i)), copy_same h (b.place (1 + i)) (inl ne)) f;
     gate = omega (arith, ap gate_of (memory_same (b.place 0)));
@@ -101,7 +100,7 @@ module _ (b : Box) (s s' : SharedState) (m : Mail) (core : Core b s m) (host : �
           omega (arith, below, core.apart (1 + i) (1 + gate) (omega (arith, below, w.room)) (omega (arith, w.room)) e.1)
 
   pub word_keeps : (h : ℕ) → h ≢ host → Keeps b h s s' m
-  word_keeps h ne = stored_keeps b s s' m core host (b.place (1 + gate)) word value w.own.writer done h ne (omega (arith, top_same))
+  word_keeps h ne = stored_keeps b s s' m core host (b.place (1 + gate)) word value w.own.writer done h ne
 
   pub writing_stored : IsWriting b host ask gate s' m
   writing_stored = record { own = w.own; settled = w.settled; pending = w.pending; unpublished = top_same ∙ w.unpublished; room = w.room }
@@ -158,7 +157,7 @@ module _ (b : Box) (s s' : SharedState) (m : Mail) (core : Core b s m) (host : �
           fresh_clean _ _ finished.1 (subst (λ (x : ℕ). IsDirty (s.copy host (b.place (1 + x)))) e (subst (λ (x : ℕ). IsDirty (s.copy x (b.place (1 + i)))) own d))
 
   pub gate_keeps : (h : ℕ) → h ≢ host → Keeps b h s s' m
-  gate_keeps h ne = stored_keeps b s s' m core host (b.place 0) 0 (gate + 1) w.own.writer done h ne (omega (arith, top_now, w.unpublished))
+  gate_keeps h ne = stored_keeps b s s' m core host (b.place 0) 0 (gate + 1) w.own.writer done h ne
 
   pub has_published : HasPublished b host ask gate s' m
   has_published = record { own = w.own; published = top_now; count = count_is; last = last_is ∙ sym w.own.is; settled = omega (arith, w.settled) }

@@ -4,3 +4,4 @@ pub mod Tasks
 pub mod TaskModel
 pub mod Mail
 pub mod Protocol
+pub mod Running

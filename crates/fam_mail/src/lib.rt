@@ -9,6 +9,7 @@ mod ask;
 mod check;
 mod phase;
 mod record;
+mod run;
 mod task;
 mod turn;
 

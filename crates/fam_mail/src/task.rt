@@ -1,7 +1,7 @@
 //! A task: a post or a take on its way over the cache of a host. It says which operation it does next, takes the word
 //! that a load gave, and knows nothing else of memory.
 
-ghost use Rattle.std.specs.Prelude.{ℕ, ◌≡◌, ◌≢◌, ◌+◌, ◌*◌, ◌<◌, ◌++◌, ◌∷◌, [], IfOk, OnErr, false, slice_index, unwrap_or};
+ghost use Rattle.std.specs.Prelude.{ℕ, ◌≡◌, ◌≢◌, ◌↔◌, IsTrue, ◌+◌, ◌*◌, ◌<◌, ◌++◌, ◌∷◌, [], IfOk, OnErr, false, slice_index, unwrap_or};
 ghost use Rattle.fam_machine.specs.declared.op.Op.{Op};
 ghost use Rattle.fam_rules.specs.Place.{IsProperEntry, line_bytes};
 ghost use Rattle.fam_rules.specs.Written.{file_line};
@@ -72,6 +72,13 @@ impl Task {
         ensures { IsSound self.now }
     {
         let _ = &self.phase;
+    }
+
+    /// Whether a Digest comes next.
+    pub fn counts(&self) -> bool
+        ensures { IsTrue result ↔ (self.now.phase ≡ at.Count) }
+    {
+        matches!(self.phase, Phase::Count)
     }
 
     /// A word of the line that a post stores.
