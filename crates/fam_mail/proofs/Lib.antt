@@ -6,3 +6,4 @@ pub mod Storing
 pub mod Settling
 pub mod Stepping
 pub mod Running
+pub mod Events
