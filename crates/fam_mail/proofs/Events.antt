@@ -75,6 +75,7 @@ module _ (b : Box) (runs : Runs) (s s' : SharedState) (m : Mail) (inv : Invarian
           wide = record { memory = λ l. ap (λ (w : List ℕ). length w) (loses.memory l) ∙ inv.core.wide.memory l; copies = wide_lost };
           only_writer = λ h l d. inv.core.only_writer h l (dirty_lost h l d);
           inside = λ h l d. inv.core.inside h l (dirty_lost h l d);
+          outside = λ l not. loses.memory l ∙ inv.core.outside l not;
           low = omega (arith, inv.core.low, m0);
           order = t.0;
           high = omega (arith, inv.core.high, t.1);
@@ -152,6 +153,7 @@ module _ (b : Box) (runs : Runs) (s : SharedState) (m : Mail) (inv : Invariant b
     wide = inv.core.wide;
     only_writer = λ h l d. absurd (none_some (sym none ∙ inv.core.only_writer h l d));
     inside = λ h l d. absurd (none_some (sym none ∙ inv.core.only_writer h l d));
+    outside = inv.core.outside;
     low = inv.core.low;
     order = omega (arith, inv.core.order, top_declared);
     high = omega (arith, inv.core.high, top_declared);

@@ -7,3 +7,4 @@ pub mod Settling
 pub mod Stepping
 pub mod Running
 pub mod Events
+pub mod Boxing

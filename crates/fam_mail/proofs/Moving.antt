@@ -62,6 +62,7 @@ module _ (b : Box) (s s' : SharedState) (m : Mail) (core : Core b s m) (host lin
         wide = wide_now host line s s' moves core.wide;
         only_writer = λ h l d. core.only_writer h l (dirty_was host line s s' moves core.wide h l d);
         inside = λ h l d. core.inside h l (dirty_was host line s s' moves core.wide h l d);
+        outside = λ l not. memory_still host line s s' moves core.wide l (λ d. not (core.inside host l d)) ∙ core.outside l not;
         low = omega (arith, core.low, g.0);
         order = g.1;
         high = omega (arith, core.high, g.2);

@@ -31,6 +31,7 @@ core_settled b s m m' core low high room front = record {
   wide = core.wide;
   only_writer = core.only_writer;
   inside = core.inside;
+  outside = core.outside;
   low = low;
   order = core.order;
   high = high;

@@ -47,12 +47,12 @@ module _ (b : Box) (s s' : SharedState) (m : Mail) (core : Core b s m) (host lin
   writers h l (inl d) = core.only_writer h l d
   writers h l (inr e) = writer ∙ ap (λ (x : ℕ). Some x) (sym e.0)
 
-  box_line : IsBoxLine b line → (h l : ℕ) → IsDirty (s.copy h l) ⊎ ((h ≡ host) × (l ≡ line)) → IsBoxLine b l
+  box_line : IsBoxLine b.place b.capacity line → (h l : ℕ) → IsDirty (s.copy h l) ⊎ ((h ≡ host) × (l ≡ line)) → IsBoxLine b.place b.capacity l
   box_line of h l (inl d) = core.inside h l d
   box_line of h l (inr e) = record { number = of.number; below = of.below; is = e.1 ∙ of.is }
 
   -- a store into a line of the file: what the gate counts then stands in memory, and nothing is dirty over it
-  core_stored : IsBoxLine b line → gate_at b s ≤ top_at b s' → top_at b s' ≤ length (whole m)
+  core_stored : IsBoxLine b.place b.capacity line → gate_at b s ≤ top_at b s' → top_at b s' ≤ length (whole m)
       → ((i : ℕ) (numbers : List ℕ) → slice_get (whole m) i ≡ Some numbers → i < top_at b s' → record_at b.place s.memory i ≡ Ok numbers)
       → ((i h : ℕ) → i < top_at b s' → IsDirty (s.copy h (b.place (1 + i))) ⊎ ((h ≡ host) × (b.place (1 + i) ≡ line)) → ⊥) → Core b s' m
   core_stored of order high stands clean =
@@ -62,6 +62,7 @@ module _ (b : Box) (s s' : SharedState) (m : Mail) (core : Core b s m) (host lin
         wide = store_wide host line word value s s' core.wide done;
         only_writer = λ h l d. writers h l (dirties h l d);
         inside = λ h l d. box_line of h l (dirties h l d);
+        outside = λ l not. memory_same l ∙ core.outside l not;
         low = omega (arith, core.low, m0);
         order = omega (arith, order, m0);
         high = high;

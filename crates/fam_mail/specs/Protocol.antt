@@ -14,17 +14,19 @@ use Rattle.fam_mail.specs.Mail.{Mail, MaySay, Run, posted_by, run_after, settles
 use Rattle.fam_mail.specs.Records.{IsRecord}
 use Rattle.fam_mail.specs.Tasks.{IsPost, Task, line_of, op_of, turn_of}
 
--- a box: line j of its file is line `place j` of the image; how many records it has room for; and which host may post
+-- a box: line j of its file is line `place j` of the image; how many records it has room for; which host may post; and what
+-- memory's other lines hold from the first to the last
 pub record Box : Type 0 where
   pub place : ℕ → ℕ
   pub capacity : ℕ
   pub writer : Option ℕ
+  pub rest : ℕ → List ℕ
 
 -- a line of the image is one of the file's
-pub record IsBoxLine (b : Box) (line : ℕ) : Type 0 where
+pub record IsBoxLine (place : ℕ → ℕ) (capacity line : ℕ) : Type 0 where
   pub number : ℕ
-  pub below : number ≤ b.capacity
-  pub is : line ≡ b.place number
+  pub below : number ≤ capacity
+  pub is : line ≡ place number
 
 -- memory's gate
 abbrev pub gate_at : Box → SharedState → ℕ
@@ -40,7 +42,9 @@ pub record Core (b : Box) (s : SharedState) (m : Mail) : Type 0 where
   pub wide : IsWide s
   -- nobody but the writer holds a line that memory lacks, and it is one of the file's
   pub only_writer : (h l : ℕ) → IsDirty (s.copy h l) → b.writer ≡ Some h
-  pub inside : (h l : ℕ) → IsDirty (s.copy h l) → IsBoxLine b l
+  pub inside : (h l : ℕ) → IsDirty (s.copy h l) → IsBoxLine b.place b.capacity l
+  -- the others are as at first
+  pub outside : (l : ℕ) → (IsBoxLine b.place b.capacity l → ⊥) → s.memory l ≡ b.rest l
   -- the gate counts the settled records, or one more with something pending
   pub low : length m.list ≤ gate_at b s
   pub order : gate_at b s ≤ top_at b s
