@@ -8,3 +8,5 @@ pub mod Stepping
 pub mod Running
 pub mod Events
 pub mod Boxing
+pub mod Members
+pub mod Calling

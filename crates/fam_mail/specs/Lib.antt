@@ -5,3 +5,5 @@ pub mod TaskModel
 pub mod Mail
 pub mod Protocol
 pub mod Running
+pub mod World
+pub mod Calls

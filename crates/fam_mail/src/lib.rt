@@ -7,15 +7,21 @@
 
 mod ask;
 mod check;
+mod hosts;
+mod note;
+mod notes;
 mod phase;
 mod record;
 mod run;
 mod task;
 mod turn;
+mod world;
 
 pub use ask::Ask;
 pub use check::WrongBox;
+pub use note::{MailFault, MailNote, MailRefusal};
 pub use phase::Phase;
 pub use record::{Record, Records};
 pub use task::Task;
 pub use turn::Turn;
+pub use world::MailWorld;
