@@ -1,11 +1,18 @@
 -- What a call makes of a world, from what its parts say.
-use Rattle.std.proofs.Common.{◌≡◌, ℕ, ◌++◌, ◌∷◌, [], List, Option, Some, None, refl, sym, ap, ap₂, ◌∙◌}
-use Rattle.std.specs.Prelude.{slice_get}
+use Rattle.std.proofs.Common.{◌≡◌, ◌≢◌, ℕ, ◌++◌, ◌∷◌, [], List, Option, Some, None, inl, inr, refl, sym, ap, ap₂, subst, ◌∙◌}
+use Prim.Native.Nat.{zero, suc}
+use Rattle.std.specs.Prelude.{Bool, true, IfOk, Result, Ok, Err, is_some, slice_get}
+use Rattle.std.proofs.lemmas.Bool.{cases_eq}
+use Rattle.std.proofs.lemmas.Option.{same_Some}
+use Rattle.fam_base.specs.declared.line.OutOfMemory.{OutOfMemory}
+use Rattle.fam_media.specs.States.{MediaChange}
 use Rattle.fam_base.specs.declared.entry.Entry.{Entry}
 use Rattle.fam_mail.specs.declared.note.MailNote.{MailNote}
 use Rattle.fam_mail.specs.declared.note.MailRefusal.{MailRefusal}
-use Rattle.fam_mail.specs.Calls.{Changes, IsFree, host_at, refusal_named, refusal_of}
+use Rattle.fam_mail.specs.Calls.{Changes, HostFits, HostOperates, HostStepped, IfStepped, IsFree, Operates, Steps, WorldFits, capacity_in, host_at, idle_refusal, refusal_named, refusal_of, told_of}
+use Rattle.fam_mail.specs.Tasks.{Task}
 use Rattle.fam_mail.specs.World.{HostView, MailView, changed_at}
+use Rattle.fam_mail.proofs.Members.{changed_here, changed_other}
 
 -- a call that isn't refused has no cause
 pub free_call : (name : List ℕ) (cause : HostView → Option MailRefusal) (v : MailView) (at : ℕ) → IsFree name cause v at → refusal_named name cause v ≡ None
@@ -25,3 +32,71 @@ changed_call name cause change made v at free hosts journal changed noted = (
     is = ap₂ (λ (hs : List HostView) (ns : List MailNote). record { entry = v.entry; hosts = hs; journal = ns }) changed noted;
   },
 )
+
+-- Steps.
+
+-- a host that isn't idle has a task
+task_there : (task : Option Task) (h : HostView) → h.task ≡ task → idle_refusal h ≡ None → is_some h.task ≡ true
+task_there None h is free = absurd (cc (ap (λ (t : Option Task). idle_by t) is, free))
+  where
+    idle_by : Option Task → Option MailRefusal
+    idle_by None = None
+    idle_by (Some t) = None
+task_there (Some t) h is free = ap (λ (x : Option Task). is_some x) is
+
+pub has_task : (h : HostView) → idle_refusal h ≡ None → is_some h.task ≡ true
+has_task h free = task_there h.task h refl free
+
+module _ (name : List ℕ) (v : MailView) (at : ℕ) (free : IsFree name idle_refusal v at) (h : HostView) (h_is : slice_get v.hosts at ≡ Some h) where
+  same_host : free.host ≡ h
+  same_host = same_Some free.host h (sym free.host_is ∙ h_is)
+
+  pub runs : is_some h.task ≡ true
+  runs = has_task h (ap idle_refusal (sym same_host) ∙ free.free)
+
+  -- its host does an operation
+  pub step_said : (told : MediaChange) (next : HostView) (hosts : List HostView) (journal : List MailNote) (r : Result Bool OutOfMemory)
+      → IfOk r (λ over. HostStepped v.entry name h told over next v.journal journal) → hosts ≡ changed_at at (λ (x : HostView). next) v.hosts
+      → IfStepped (told_of r) (λ answered over. Steps name told answered over v (record { entry = v.entry; hosts = hosts; journal = journal }))
+  step_said told next hosts journal (Err full) said changed = tt
+  step_said told next hosts journal (Ok over) said changed = (
+    (
+      free_call name idle_refusal v at free,
+      record {
+        at = at;
+        host = h;
+        number = free.number;
+        host_is = h_is;
+        next = next;
+        notes = said.notes;
+        operates = said.operates;
+        is = ap₂ (λ (hs : List HostView) (ns : List MailNote). record { entry = v.entry; hosts = hs; journal = ns }) changed said.noted;
+      },
+    ),
+    λ not. absurd (not refl),
+  )
+
+  -- and all fits the media still
+  pub fits_said : (lines : ℕ) (next : HostView) (hosts : List HostView) (journal : List MailNote) → hosts ≡ changed_at at (λ (x : HostView). next) v.hosts → WorldFits lines v → HostFits lines (capacity_in v) next
+      → WorldFits lines (record { entry = v.entry; hosts = hosts; journal = journal })
+  fits_said lines next hosts journal changed fits here = record {
+    place = fits.place;
+    host = λ k x is.
+        let is' : slice_get (changed_at at (λ (y : HostView). next) v.hosts) k ≡ Some x = ap (λ (hs : List HostView). slice_get hs k) (sym changed) ∙ is in
+        elim (cases_eq k at) [
+          | inl e ↦
+              subst (HostFits lines (capacity_in v))
+              (same_Some next x (sym (changed_here at (λ (y : HostView). next) v.hosts h h_is) ∙ ap (λ (n : ℕ). slice_get (changed_at at (λ (y : HostView). next) v.hosts) n) (sym e) ∙ is')) here
+          | inr ne ↦ fits.host k x (sym (changed_other at k (λ (y : HostView). next) v.hosts ne) ∙ is')
+        ];
+  }
+
+-- a note changes nothing of what fits
+pub fits_noted : (lines : ℕ) (v : MailView) (journal : List MailNote) → WorldFits lines v → WorldFits lines (record { entry = v.entry; hosts = v.hosts; journal = journal })
+fits_noted lines v journal fits = record { place = fits.place; host = fits.host }
+
+-- a member that is put where it stands
+pub put_own : {A : Type 0} (at : ℕ) (x : A) (xs : List A) → slice_get xs at ≡ Some x → changed_at at (λ (v : A). x) xs ≡ xs
+put_own {A} at x [] is = refl
+put_own {A} zero x (y ∷ xs) is = ap (λ (z : A). z ∷ xs) (sym (same_Some y x is))
+put_own {A} (suc at) x (y ∷ xs) is = ap (λ (zs : List A). y ∷ zs) (put_own at x xs is)

@@ -2,8 +2,9 @@
 use Rattle.std.specs.Prelude.{ℕ, ⊤, ◌≡◌, ◌≢◌, ◌⊎◌, ◌+◌, ◌<◌, ◌≤◌, ◌++◌, ◌∷◌, ◌&&◌, Bool, true, false, nat_le, nat_lt, not, is_some, if◌then◌else◌, List, [], length, slice_get, Option, Some, None, Result, Ok, Err, unwrap_or, option_map}
 use Rattle.std.specs.FinMap as finmap
 use Rattle.fam_base.specs.Image.{Image}
+use Rattle.fam_base.specs.declared.entry.Entry.{Entry}
 use Rattle.fam_base.specs.declared.line.LineNo.{LineNo}
-use Rattle.fam_base.specs.declared.line.Mask.{Mask}
+use Rattle.fam_base.specs.declared.line.OutOfMemory.{OutOfMemory}
 use Rattle.fam_machine.specs.Caches.{Cache}
 use Rattle.fam_machine.specs.Cuts.{HasFailed, IsMachine}
 use Rattle.fam_machine.specs.HostMoves.{Move, move_failed, moved}
@@ -23,6 +24,7 @@ use Rattle.fam_mail.specs.declared.note.MailRefusal.TheVariants as why
 use Rattle.fam_mail.specs.declared.turn.Turn.{Turn}
 use Rattle.fam_mail.specs.declared.turn.Turn.TheVariants.{Go, Mark, Found, Posted, Full, Taken, BadBox, BadRecord}
 use Rattle.fam_mail.specs.Boxes.{capacity_of}
+use Rattle.fam_mail.specs.Running.{CacheFits}
 use Rattle.fam_mail.specs.Tasks.{Task, is_over, op_of, starting, task_of, turn_of}
 use Rattle.fam_mail.specs.World.{HostView, MailView, changed_at, index_of, is_named, is_writer, new_host, noted}
 
@@ -37,6 +39,11 @@ abbrev pub IfStepped : Result Bool MailFault → (Option MailRefusal → Bool �
 IfStepped (Ok over) P = P None over
 IfStepped (Err (fault.Refused cause)) P = P (Some cause) false
 IfStepped (Err fault.OutOfMemory) P = ⊤
+
+-- what is answered: want of memory is a fault
+abbrev pub told_of : {T : Type 0} → Result T OutOfMemory → Result T MailFault
+told_of (Ok x) = Ok x
+told_of (Err full) = Err fault.OutOfMemory
 
 -- how many records the box of a world has room for
 abbrev pub capacity_in : MailView → ℕ
@@ -168,42 +175,63 @@ turn_notes name (BadRecord i word) = note.BadRecord name i word ∷ []
 abbrev pub kept_task : Turn → Task → Option Task
 kept_task turn next = if is_over turn then None else Some next
 
--- The world around a call on a media: this is what the media tells before and behind it.
+-- A host around an operation of its task, with the notes that come of it; this is what the media tells before and behind it.
 
--- the media served an operation of a task: it gave a word, with which the task takes its turn
-pub record Serves (name : List ℕ) (at : ℕ) (host : HostView) (t : Task) (told : MediaChange) (over : Bool) (old new : MailView) : Type 0 where
+-- the media served it: it gave a word, with which the task takes its turn
+pub record Serves (entry : Entry) (name : List ℕ) (host : HostView) (t : Task) (told : MediaChange) (over : Bool) (next : HostView) (notes : List MailNote) : Type 0 where
   pub word : ℕ
-  pub cache : Cache
-  pub done : IfModelled told.old.image (λ image. IsMachine (operated (op_of (file_line old.entry) t) (machine image host.cache)) told.new.image cache)
-  pub word_is : IfModelled told.old.image (λ image. word ≡ unwrap_or (given (op_of (file_line old.entry) t) (machine image host.cache)) 0)
+  pub done : IfModelled told.old.image (λ image. IsMachine (operated (op_of (file_line entry) t) (machine image host.cache)) told.new.image next.cache)
+  pub word_is : IfModelled told.old.image (λ image. word ≡ unwrap_or (given (op_of (file_line entry) t) (machine image host.cache)) 0)
   pub over_is : over ≡ is_over (turn_of word t)
-  pub is : new ≡ record {
-    entry = old.entry;
-    hosts = changed_at at (λ h. record h { cache = cache; task = kept_task (turn_of word t) (task_of word t) }) old.hosts;
-    journal = old.journal ++ turn_notes name (turn_of word t);
-  }
+  pub next_is : next ≡ record host { cache = next.cache; task = kept_task (turn_of word t) (task_of word t) }
+  pub notes_are : notes ≡ turn_notes name (turn_of word t)
 
 -- the media failed in it, at this line of the image: the task is gone
-pub record Breaks (name : List ℕ) (at : ℕ) (host : HostView) (t : Task) (told : MediaChange) (over : Bool) (old new : MailView) : Type 0 where
+pub record Breaks (entry : Entry) (name : List ℕ) (host : HostView) (t : Task) (told : MediaChange) (over : Bool) (next : HostView) (notes : List MailNote) : Type 0 where
   pub line : LineNo
-  pub cache : Cache
-  pub failed : IfModelled told.old.image (λ image. HasFailed (op_of (file_line old.entry) t) (machine image host.cache) line told.new.image cache)
+  pub failed : IfModelled told.old.image (λ image. HasFailed (op_of (file_line entry) t) (machine image host.cache) line told.new.image next.cache)
   pub rose : Rose told.old.faults told.new.faults
   pub over_is : over ≡ true
-  pub is : new ≡ noted (note.MediaFault name line) (record old { hosts = changed_at at (λ h. record h { cache = cache; task = None }) old.hosts })
+  pub next_is : next ≡ record host { cache = next.cache; task = None }
+  pub notes_are : notes ≡ note.MediaFault name line ∷ []
 
--- one or the other, of the task that the host of this name runs
+-- one or the other, of the task that it runs
+pub record HostOperates (entry : Entry) (name : List ℕ) (host : HostView) (told : MediaChange) (over : Bool) (next : HostView) (notes : List MailNote) : Type 0 where
+  pub task : Task
+  pub task_is : host.task ≡ Some task
+  pub how : Serves entry name host task told over next notes ⊎ Breaks entry name host task told over next notes
+
+-- with the journal behind it
+pub record HostStepped (entry : Entry) (name : List ℕ) (host : HostView) (told : MediaChange) (over : Bool) (next : HostView) (before after : List MailNote) : Type 0 where
+  pub notes : List MailNote
+  pub operates : HostOperates entry name host told over next notes
+  pub noted : after ≡ before ++ notes
+
+-- the host of this name does so, and no other one is changed
 pub record Operates (name : List ℕ) (told : MediaChange) (over : Bool) (old new : MailView) : Type 0 where
   pub at : ℕ
   pub host : HostView
-  pub task : Task
   pub number : index_of (is_named name) old.hosts ≡ Some at
   pub host_is : slice_get old.hosts at ≡ Some host
-  pub task_is : host.task ≡ Some task
-  pub how : Serves name at host task told over old new ⊎ Breaks name at host task told over old new
+  pub next : HostView
+  pub notes : List MailNote
+  pub operates : HostOperates old.entry name host told over next notes
+  pub is : new ≡ record { entry = old.entry; hosts = changed_at at (λ h. next) old.hosts; journal = old.journal ++ notes }
 
 -- a step: it is refused, and the media is as it was, or it is done
 abbrev pub Steps : List ℕ → MediaChange → Option MailRefusal → Bool → MailView → MailView → Type 0
 Steps name told answered over old new =
     Refuses name (refusal_named name idle_refusal old) old new answered (Operates name told over old new)
     × (answered ≢ None → told.new ≡ told.old)
+
+-- What a call on a media asks of a world, and keeps.
+
+-- a host's cache holds lines of a media of so many, and its task is one of this box
+pub record HostFits (lines capacity : ℕ) (h : HostView) : Type 0 where
+  pub cache : CacheFits lines h.cache
+  pub task : (t : Task) → h.task ≡ Some t → t.capacity ≡ capacity
+
+-- so it is with every host, and the file's lines are the media's
+pub record WorldFits (lines : ℕ) (v : MailView) : Type 0 where
+  pub place : (j : ℕ) → j ≤ capacity_in v → file_line v.entry j < lines
+  pub host : (at : ℕ) (h : HostView) → slice_get v.hosts at ≡ Some h → HostFits lines (capacity_in v) h

@@ -1,6 +1,7 @@
 //! Notes that are added where there is room, and the room.
 
-ghost use Rattle.std.specs.Prelude.{◌≡◌, ◌++◌, ◌∷◌, ◌<◌, [], OnOk, vec_capacity, vec_len};
+ghost use Rattle.std.specs.Prelude.{◌≡◌, ◌++◌, ◌∷◌, ◌<◌, ◌≤◌, ◌+◌, [], OnOk, vec_capacity, vec_len};
+ghost use Rattle.fam_mail.specs.Calls.{told_of};
 ghost use Rattle.fam_mail.specs.declared.note.MailNote.TheVariants as notes;
 ghost use Rattle.fam_mail.specs.declared.note.MailFault.TheVariants as fault;
 
@@ -18,10 +19,23 @@ pub(crate) fn make_room(journal: &mut Vec<MailNote>) -> Result<(), OutOfMemory>
     }
 }
 
+/// Makes room for two notes.
+pub(crate) fn two_rooms(journal: &mut Vec<MailNote>) -> Result<(), OutOfMemory>
+    ensures room { OnOk result (vec_len journal.new + 2 ≤ vec_capacity journal.new) }
+    ensures same { journal.new.items ≡ journal.old.items }
+{
+    match journal.reserve(2) {
+        Ok(()) => Ok(()),
+        Err(_) => Err(OutOfMemory),
+    }
+}
+
 /// Adds a note, for which there is room.
 pub(crate) fn add(journal: &mut Vec<MailNote>, note: MailNote)
     requires room { vec_len journal.old < vec_capacity journal.old }
-    ensures { journal.new.items ≡ journal.old.items ++ note ∷ [] }
+    ensures noted { journal.new.items ≡ journal.old.items ++ note ∷ [] }
+    ensures len { vec_len journal.new ≡ vec_len journal.old + 1 }
+    ensures capacity { vec_capacity journal.old ≤ vec_capacity journal.new }
 {
     let _ = journal.push(note);
 }
@@ -66,4 +80,14 @@ pub(crate) fn refused(
     let (own, given) = twice(cause);
     add(journal, MailNote::Refused(*name, own));
     MailFault::Refused(given)
+}
+
+/// What was done, or that there was no memory for it.
+pub(crate) fn or_fault<T>(done: Result<T, OutOfMemory>) -> Result<T, MailFault>
+    ensures { result ≡ told_of done }
+{
+    match done {
+        Ok(done) => Ok(done),
+        Err(_) => Err(MailFault::OutOfMemory),
+    }
 }

@@ -4,6 +4,8 @@ ghost use Rattle.std.specs.Prelude.{◌≡◌, ◌≤◌, [], IsErrOf};
 ghost use Rattle.fam_rules.specs.Place.{IsProperEntry};
 ghost use Rattle.fam_mail.specs.Calls.{Begins, Declares, Halts, IfAnswered, Stops};
 
+mod steps;
+
 use crate::ask::Ask;
 use crate::hosts::{
     Host, add_host, begin_task, declared, declared_before, end_task, host_room, lose, may_begin,
@@ -39,6 +41,11 @@ impl Model for MailWorld {
     ghost use Rattle.fam_mail.specs.World.{mail_view};
 
     ghost view = { λ w. mail_view w.entry w.hosts.items w.journal.items };
+
+    ghost use Rattle.std.specs.Prelude.{◌≤◌};
+    ghost use Rattle.fam_rules.specs.Place.{IsProperEntry};
+
+    ghost invariant = { λ w. IsProperEntry w.entry × (128 ≤ w.entry.size) };
 }
 
 impl MailWorld {

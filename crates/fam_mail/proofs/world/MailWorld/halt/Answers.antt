@@ -15,4 +15,4 @@ returns-in-Ok-clause-answered c =
     let new : MailView = mail_view i.entry c.lose.new.hosts.items c.add.new.journal.items in
     rw (← c.self.view_is)
     (changed_call c.args.name.now no_refusal (λ (h : HostView). record h { cache = finmap.empty; task = None }) (note.Halt c.args.name.now) v c.in-Ok.at (c.in-Ok.ensures.placed i.entry i.journal.items) (views c.lose.new.hosts.items) c.add.new.journal.items
-    c.lose.ensures.views (c.add.ensures ∙ ap (λ (notes : Rattle.std.specs.Prelude.List MailNote). notes ++ note.Halt c.args.name.now ∷ []) c.make_room.ensures.same))
+    c.lose.ensures.views (c.add.ensures.noted ∙ ap (λ (notes : Rattle.std.specs.Prelude.List MailNote). notes ++ note.Halt c.args.name.now ∷ []) c.make_room.ensures.same))

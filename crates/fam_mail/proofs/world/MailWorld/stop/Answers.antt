@@ -15,4 +15,4 @@ returns-in-Ok-clause-answered c =
     let new : MailView = mail_view i.entry c.end_task.new.hosts.items c.add.new.journal.items in
     rw (← c.self.view_is)
     (changed_call c.args.name.now idle_refusal (λ (h : HostView). record h { task = None }) (note.Stop c.args.name.now) v c.in-Ok.at (c.in-Ok.ensures.placed i.entry i.journal.items) (views c.end_task.new.hosts.items) c.add.new.journal.items
-    c.end_task.ensures.views (c.add.ensures ∙ ap (λ (notes : Rattle.std.specs.Prelude.List MailNote). notes ++ note.Stop c.args.name.now ∷ []) c.make_room.ensures.same))
+    c.end_task.ensures.views (c.add.ensures.noted ∙ ap (λ (notes : Rattle.std.specs.Prelude.List MailNote). notes ++ note.Stop c.args.name.now ∷ []) c.make_room.ensures.same))
