@@ -10,3 +10,4 @@ pub mod Events
 pub mod Boxing
 pub mod Members
 pub mod Calling
+pub mod Standing

@@ -7,3 +7,4 @@ pub mod Protocol
 pub mod Running
 pub mod World
 pub mod Calls
+pub mod Standing
