@@ -11,3 +11,4 @@ pub mod Boxing
 pub mod Members
 pub mod Calling
 pub mod Standing
+pub mod Outcomes

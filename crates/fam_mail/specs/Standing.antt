@@ -1,5 +1,6 @@
 -- How a world with a mailbox stands: what the protocol keeps holds of its image, its hosts and their tasks. docs/MODEL.md, "The mailbox".
-use Rattle.std.specs.Prelude.{ℕ, ◌≡◌, ◌==◌, if◌then◌else◌, List, length, slice_get, Option, Some, None, option_map}
+use Rattle.std.specs.Prelude.{ℕ, Bool, ◌⊎◌, true, ◌≡◌, ◌==◌, if◌then◌else◌, List, length, slice_get, Option, Some, None, option_map}
+use Rattle.std.proofs.Common.{inl, inr}
 use Rattle.fam_base.specs.Image.{Image, IsNormal, line_at}
 use Rattle.fam_machine.specs.Caches.{cell_at}
 use Rattle.fam_machine.specs.declared.cell.Cell.{Cell}
@@ -9,7 +10,10 @@ use Rattle.fam_protocol.specs.SharedState.{SharedState}
 use Rattle.fam_rules.specs.Written.{file_line}
 use Rattle.fam_mail.specs.declared.ask.Ask.{Ask}
 use Rattle.fam_mail.specs.declared.turn.Turn.{Turn}
-use Rattle.fam_mail.specs.Calls.{capacity_in}
+use Rattle.fam_base.specs.declared.entry.Entry.{Entry}
+use Rattle.fam_media.specs.States.{MediaChange}
+use Rattle.fam_mail.specs.declared.note.MailNote.{MailNote}
+use Rattle.fam_mail.specs.Calls.{Breaks, Operates, Serves, capacity_in}
 use Rattle.fam_mail.specs.Mail.{Mail, MaySay, Run, floor_after, settles}
 use Rattle.fam_mail.specs.Protocol.{Box, Invariant, Runs}
 use Rattle.fam_mail.specs.Tasks.{Task, turn_of}
@@ -42,6 +46,10 @@ pub record Past : Type 0 where
   pub mail : Mail
   pub floors : ℕ → Option ℕ
 
+-- at most one host may post
+abbrev pub IsOneWriter : List HostView → Type 0
+IsOneWriter hosts = (n : ℕ) (h : HostView) → slice_get hosts n ≡ Some h → h.writer ≡ true → index_of is_writer hosts ≡ Some n
+
 -- a world stands over an image
 abbrev pub Stands : (ℕ → List ℕ) → MailView → Past → Image → Type 0
 Stands rest v past image = Invariant (box_in v rest) (runs_of v.hosts past.floors) (shared image v.hosts) past.mail
@@ -68,3 +76,14 @@ pub record StandsStill (rest : ℕ → List ℕ) (past : Past) (now : Option Ima
   pub image : Image
   pub told : now ≡ Some image
   pub stands : Stands rest new past image
+
+-- what is known behind an operation of a task, which the media served or failed in
+abbrev pub StandsBehind : (rest : ℕ → List ℕ) (past : Past) (at : ℕ) (entry : Entry) (name : List ℕ) (host : HostView) (t : Task) (told : MediaChange) (over : Bool) (next : HostView) (notes : List MailNote) (new : MailView)
+    → Serves entry name host t told over next notes ⊎ Breaks entry name host t told over next notes → Type 0
+StandsBehind rest past at entry name host t told over next notes new (inl serves) = SaysSo rest at serves.word t past told.new.image new
+StandsBehind rest past at entry name host t told over next notes new (inr breaks) = StandsStill rest past told.new.image new
+
+-- behind the operation that a call does
+abbrev pub StandsAfter : (rest : ℕ → List ℕ) (past : Past) (name : List ℕ) (told : MediaChange) (over : Bool) (old new : MailView) → Operates name told over old new → Type 0
+StandsAfter rest past name told over old new call =
+    StandsBehind rest past call.at old.entry name call.host call.operates.task told over call.next call.notes new call.operates.how
