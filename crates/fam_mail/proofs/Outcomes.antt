@@ -1,7 +1,7 @@
 -- How a world with a mailbox stands behind each of its calls.
 use Rattle.std.proofs.Common.{◌≡◌, ◌≢◌, ℕ, ◌+◌, ◌<◌, ◌≤◌, ◌⊎◌, inl, inr, List, [], ◌∷◌, ◌++◌, length, map, refl, sym, ap, ap₂, subst, ◌∙◌, arith}
 use Prim.Native.Nat.{zero, suc}
-use Rattle.std.specs.Prelude.{◌==◌, cond, if◌then◌else◌, Bool, true, false, slice_get, Option, Some, None, Ok, Result, option_map, is_some}
+use Rattle.std.specs.Prelude.{◌==◌, cond, if◌then◌else◌, nat_le, Bool, true, false, slice_get, Option, Some, None, Ok, Result, option_map, is_some}
 use Rattle.std.specs.FinMap as finmap
 use Rattle.std.proofs.Math.Path.{fun_ext}
 use Rattle.std.proofs.lemmas.Bool.{cases_eq, eq-eqb, ne_eqb}
@@ -22,15 +22,16 @@ use Rattle.fam_mail.specs.declared.check.WrongBox.{WrongBox}
 use Rattle.fam_mail.specs.declared.note.MailNote.{MailNote}
 use Rattle.fam_mail.specs.declared.note.MailNote.TheVariants as note
 use Rattle.fam_mail.specs.Boxes.{IsOneToOne, box_of, capacity_of}
-use Rattle.fam_mail.specs.Calls.{Begins, Breaks, Changes, Declares, Halts, HostOperates, Operates, Serves, Stops, WorldFits, ask_refusal, begin_refusal, capacity_in, host_at, refusal_of}
+use Rattle.fam_mail.specs.Calls.{Begins, Breaks, Changes, Declares, Halts, HostOperates, Operates, Serves, Stops, WorldFits, ask_refusal, begin_refusal, capacity_in, declare_refusal, host_at, refusal_of, second_writer}
 use Rattle.fam_mail.specs.Mail.{Mail, Run, whole}
 use Rattle.fam_mail.specs.Protocol.{Box, Invariant, IsBoxLine, IsWriters, Runs}
 use Rattle.fam_mail.specs.Records.{IsRecord}
 use Rattle.fam_mail.specs.Standing.{IsOneWriter, IsTold, Past, SaysSo, Stands, StandsAfter, StandsBehind, StandsStill, box_in, held_by, run_by, runs_of, shared}
 use Rattle.fam_mail.specs.Tasks.{IsPost, Task, starting}
-use Rattle.fam_mail.specs.World.{HostView, MailView, changed_at, index_from, index_of, is_writer, new_host}
+use Rattle.fam_mail.specs.World.{HostView, MailView, changed_at, index_from, index_of, is_named, is_writer, new_host}
 use Rattle.fam_mail.proofs.Boxing.{box_begins, box_reads}
 use Rattle.fam_mail.proofs.Events.{begins_hold, declared_holds, fewer_hold, loses_hold}
+use Rattle.fam_mail.proofs.Lists.{member_behind}
 use Rattle.fam_mail.proofs.Members.{changed_here, changed_other}
 use Rattle.fam_mail.proofs.Standing.{index_put, says_so, stands_still}
 
@@ -192,3 +193,119 @@ module _ (rest : ℕ → List ℕ) (name : List ℕ) (old new : MailView) (past 
         let found : begin_refusal ask c.host ≡ None = sym (ap (λ (o : Option ℕ). refusal_of (begin_refusal ask) (host_at o old)) c.number ∙ ap (refusal_of (begin_refusal ask)) c.host_is) ∙ call.0 in
         subst (λ (v : MailView). Stands rest v past image) (sym (changed_world change (note.Start name ask) c))
         (begin_stands rest old past image stands c.at c.host (change c.host) c.host_is refl ask refl refl (may_post c.at c.host ask c.host_is (begin_free c.host.task ask c.host found) proper) (old.journal ++ note.Start name ask ∷ []))
+
+-- A host is declared.
+
+-- a list with one more member has the members before, and it
+data More {A : Type 0} (xs : List A) (y : A) (n : ℕ) : Type 0 where
+  before : slice_get (xs ++ y ∷ []) n ≡ slice_get xs n → (n ≡ length xs → ⊥) → More xs y n
+  last : n ≡ length xs → slice_get (xs ++ y ∷ []) n ≡ Some y → slice_get xs n ≡ None → More xs y n
+
+more_next : {A : Type 0} (x : A) (xs : List A) (y : A) (n : ℕ) → More xs y n → More (x ∷ xs) y (suc n)
+more_next x xs y n (before is not) = before is (λ e. not (cc))
+more_next x xs y n (last e is none) = last (ap suc e) is none
+
+more : {A : Type 0} (xs : List A) (y : A) (n : ℕ) → More xs y n
+more {A} [] y zero = last refl refl refl
+more {A} [] y (suc n) = before refl (λ e. absurd cc)
+more {A} (x ∷ xs) y zero = before refl (λ e. absurd cc)
+more {A} (x ∷ xs) y (suc n) = more_next x xs y n (more xs y n)
+
+-- the first that passes, with one more member behind
+index_more : {A : Type 0} (test : A → Bool) (n : ℕ) (xs : List A) (y : A) → test y ≡ false → index_from n test (xs ++ y ∷ []) ≡ index_from n test xs
+index_more test n [] y fails = ap (λ (b : Bool). if b then Some n else None) fails
+index_more test n (x ∷ xs) y fails = ap (λ (r : Option ℕ). if test x then Some n else r) (index_more test (n + 1) xs y fails)
+
+index_last_by : (t : Bool) (n len : ℕ) (here rest : Option ℕ) → cond t (Some n) rest ≡ None → (rest ≡ None → here ≡ Some (n + 1 + len)) → cond t (Some n) here ≡ Some (n + suc len)
+index_last_by true n len here rest none next = absurd cc
+index_last_by false n len here rest none next = next none ∙ ap (λ (k : ℕ). Some k) (omega arith)
+
+index_last : {A : Type 0} (test : A → Bool) (n : ℕ) (xs : List A) (y : A) → test y ≡ true → index_from n test xs ≡ None → index_from n test (xs ++ y ∷ []) ≡ Some (n + length xs)
+index_last test n [] y passes none = ap (λ (b : Bool). if b then Some n else None) passes ∙ ap (λ (k : ℕ). Some k) (omega arith)
+index_last test n (x ∷ xs) y passes none =
+    index_last_by (test x) n (length xs) (index_from (n + 1) test (xs ++ y ∷ [])) (index_from (n + 1) test xs) none (λ rest. index_last test (n + 1) xs y passes rest)
+
+module _ (rest : ℕ → List ℕ) (v : MailView) (past : Past) (image : Image) (stands : Stands rest v past image) (fresh : HostView) (empty : fresh.cache ≡ finmap.empty) (idle : fresh.task ≡ None) where
+  -- neither memory nor a copy is other
+  copies_more : shared image (v.hosts ++ fresh ∷ []) ≡ shared image v.hosts
+  copies_more = ap (λ (copy : ℕ → ℕ → Cell). record { memory = line_at image; copy = copy }) (fun_ext (λ h. fun_ext (λ l. one h l (more v.hosts fresh h))))
+    where
+      one : (h l : ℕ) → More v.hosts fresh h → held_by (slice_get (v.hosts ++ fresh ∷ []) h) l ≡ held_by (slice_get v.hosts h) l
+      one h l (before is not) = ap (λ (o : Option HostView). held_by o l) is
+      one h l (last e is none) =
+          ap (λ (o : Option HostView). held_by o l) is ∙ ap (λ (k : Cache). cell_at k l) empty ∙ cell_at-empty l ∙ sym (ap (λ (o : Option HostView). held_by o l) none)
+
+  -- nor does a task run that didn't
+  runs_more : (h : ℕ) (r : Run) → runs_of (v.hosts ++ fresh ∷ []) past.floors h ≡ Some r → runs_of v.hosts past.floors h ≡ Some r
+  runs_more h r is = one (more v.hosts fresh h)
+    where
+      one : More v.hosts fresh h → runs_of v.hosts past.floors h ≡ Some r
+      one (before same not) = sym (ap (λ (o : Option HostView). run_by o (past.floors h)) same) ∙ is
+      one (last e same none) =
+          absurd (cc (ap (λ (o : Option HostView). run_by o (past.floors h)) same ∙ ap (option_map {U = Run} (λ (t : Task). record { task = t; floor = past.floors h })) idle, is))
+
+  again : Invariant (box_in v rest) (runs_of (v.hosts ++ fresh ∷ []) past.floors) (shared image (v.hosts ++ fresh ∷ [])) past.mail
+  again =
+      subst (λ (s : SharedState). Invariant (box_in v rest) (runs_of (v.hosts ++ fresh ∷ []) past.floors) s past.mail) (sym copies_more)
+      (fewer_hold (box_in v rest) (runs_of v.hosts past.floors) (runs_of (v.hosts ++ fresh ∷ []) past.floors) (shared image v.hosts) past.mail stands runs_more)
+
+  -- one that may not post
+  reader_stands : fresh.writer ≡ false → (journal : List MailNote) → Stands rest (record { entry = v.entry; hosts = v.hosts ++ fresh ∷ []; journal = journal }) past image
+  reader_stands fails journal =
+      subst (λ (w : Option ℕ). Invariant (record { place = file_line v.entry; capacity = capacity_in v; writer = w; rest = rest }) (runs_of (v.hosts ++ fresh ∷ []) past.floors) (shared image (v.hosts ++ fresh ∷ [])) past.mail)
+      (sym (index_more is_writer 0 v.hosts fresh fails)) again
+
+  -- the one that may
+  writer_stands : fresh.writer ≡ true → index_of is_writer v.hosts ≡ None → (journal : List MailNote) → Stands rest (record { entry = v.entry; hosts = v.hosts ++ fresh ∷ []; journal = journal }) past image
+  writer_stands passes none journal =
+      let n = length v.hosts in
+      let lastly : slice_get (v.hosts ++ fresh ∷ []) n ≡ Some fresh = member_behind v.hosts fresh in
+      let absent : (l : ℕ) → (shared image (v.hosts ++ fresh ∷ [])).copy n l ≡ Absent = λ l.
+      ap (λ (o : Option HostView). held_by o l) lastly ∙ ap (λ (k : Cache). cell_at k l) empty ∙ cell_at-empty l in
+      let rests : runs_of (v.hosts ++ fresh ∷ []) past.floors n ≡ None =
+      ap (λ (o : Option HostView). run_by o (past.floors n)) lastly ∙ ap (option_map {U = Run} (λ (t : Task). record { task = t; floor = past.floors n })) idle in
+      let found : index_of is_writer (v.hosts ++ fresh ∷ []) ≡ Some n = index_last is_writer 0 v.hosts fresh passes none ∙ ap (λ (k : ℕ). Some k) (omega arith) in
+      subst (λ (w : Option ℕ). Invariant (record { place = file_line v.entry; capacity = capacity_in v; writer = w; rest = rest }) (runs_of (v.hosts ++ fresh ∷ []) past.floors) (shared image (v.hosts ++ fresh ∷ [])) past.mail) (sym found)
+      (declared_holds (box_in v rest) (runs_of (v.hosts ++ fresh ∷ []) past.floors) (shared image (v.hosts ++ fresh ∷ [])) past.mail again none n absent rests)
+
+-- at most one host may post then too
+one_writer : (hosts : List HostView) (fresh : HostView) → IsOneWriter hosts → (fresh.writer ≡ true → index_of is_writer hosts ≡ None) → IsOneWriter (hosts ++ fresh ∷ [])
+one_writer hosts fresh one free n h is passes = by (more hosts fresh n)
+  where
+    unpassed : (w : Bool) → fresh.writer ≡ w → index_of is_writer hosts ≡ Some n → index_of is_writer (hosts ++ fresh ∷ []) ≡ Some n
+    unpassed true e found = absurd (let none = free e in cc)
+    unpassed false e found = index_more is_writer 0 hosts fresh e ∙ found
+
+    by : More hosts fresh n → index_of is_writer (hosts ++ fresh ∷ []) ≡ Some n
+    by (before same not) = unpassed fresh.writer refl (one n h (sym same ∙ is) passes)
+    by (last e same none) =
+        let own : fresh.writer ≡ true = ap (λ (x : HostView). x.writer) (same_Some fresh h (sym same ∙ is)) ∙ passes in
+        index_last is_writer 0 hosts fresh own (free own) ∙ ap (λ (k : ℕ). Some k) (omega (arith, e))
+
+-- what isn't refused of a second writer
+unrefused : (found : Option ℕ) (v : MailView) → second_writer true found v ≡ None → found ≡ None
+unrefused None v e = refl
+unrefused (Some n) v e = absurd cc
+
+declare_free : (same many : Bool) (writer : Bool) (name : List ℕ) (v : MailView)
+    → cond same (Some (Rattle.fam_mail.specs.declared.note.MailRefusal.TheVariants.SameHost name)) (cond many (Some Rattle.fam_mail.specs.declared.note.MailRefusal.TheVariants.TooManyHosts) (second_writer writer (index_of is_writer v.hosts) v)) ≡ None
+    → second_writer writer (index_of is_writer v.hosts) v ≡ None
+declare_free true many writer name v e = absurd cc
+declare_free false true writer name v e = absurd cc
+declare_free false false writer name v e = e
+
+module _ (rest : ℕ → List ℕ) (name : List ℕ) (old new : MailView) (past : Past) (image : Image) (one : IsOneWriter old.hosts) where
+  free_of : (writer : Bool) → declare_refusal name writer old ≡ None → second_writer writer (index_of is_writer old.hosts) old ≡ None
+  free_of writer free = declare_free (is_some (index_of (is_named name) old.hosts)) (nat_le 64 (length old.hosts)) writer name old free
+
+  pub declared_stands : (writer : Bool) → Declares name writer None old new → Stands rest old past image → Stands rest new past image
+  declared_stands false call stands =
+      subst (λ (v : MailView). Stands rest v past image) (sym call.1) (reader_stands rest old past image stands (new_host name false) refl refl refl (old.journal ++ note.Reader name ∷ []))
+  declared_stands true call stands =
+      subst (λ (v : MailView). Stands rest v past image) (sym call.1)
+      (writer_stands rest old past image stands (new_host name true) refl refl refl (unrefused (index_of is_writer old.hosts) old (free_of true call.0)) (old.journal ++ note.Writer name ∷ []))
+
+  pub declared_one : (writer : Bool) → Declares name writer None old new → IsOneWriter new.hosts
+  declared_one writer call =
+      let free = free_of writer call.0 in
+      subst (λ (v : MailView). IsOneWriter v.hosts) (sym call.1) (one_writer old.hosts (new_host name writer) one (λ passes. unrefused (index_of is_writer old.hosts) old (subst (λ (w : Bool). second_writer w (index_of is_writer old.hosts) old ≡ None) passes free)))
