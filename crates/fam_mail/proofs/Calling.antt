@@ -1,10 +1,12 @@
 -- What a call makes of a world, from what its parts say.
-use Rattle.std.proofs.Common.{◌≡◌, ◌≢◌, ℕ, ◌++◌, ◌∷◌, [], List, Option, Some, None, inl, inr, refl, sym, ap, ap₂, subst, ◌∙◌}
+use Rattle.std.proofs.Common.{◌≡◌, ◌≢◌, ◌⊎◌, ◌<◌, ℕ, ◌++◌, ◌∷◌, [], List, Option, Some, None, inl, inr, refl, sym, ap, ap₂, subst, ◌∙◌}
 use Prim.Native.Nat.{zero, suc}
 use Rattle.std.specs.Prelude.{Bool, true, IfOk, Result, Ok, Err, is_some, slice_get}
 use Rattle.std.proofs.lemmas.Bool.{cases_eq}
 use Rattle.std.proofs.lemmas.Option.{same_Some}
 use Rattle.fam_base.specs.declared.line.OutOfMemory.{OutOfMemory}
+use Rattle.fam_machine.specs.Caches.{Cache, cell_at}
+use Rattle.fam_machine.specs.OneLine.{IsHeld}
 use Rattle.fam_media.specs.States.{MediaChange}
 use Rattle.fam_base.specs.declared.entry.Entry.{Entry}
 use Rattle.fam_mail.specs.declared.note.MailNote.{MailNote}
@@ -76,21 +78,6 @@ module _ (name : List ℕ) (v : MailView) (at : ℕ) (free : IsFree name idle_re
     λ not. absurd (not refl),
   )
 
-  -- and all fits the media still
-  pub fits_said : (lines : ℕ) (next : HostView) (hosts : List HostView) (journal : List MailNote) → hosts ≡ changed_at at (λ (x : HostView). next) v.hosts → WorldFits lines v → HostFits lines (capacity_in v) next
-      → WorldFits lines (record { entry = v.entry; hosts = hosts; journal = journal })
-  fits_said lines next hosts journal changed fits here = record {
-    place = fits.place;
-    host = λ k x is.
-        let is' : slice_get (changed_at at (λ (y : HostView). next) v.hosts) k ≡ Some x = ap (λ (hs : List HostView). slice_get hs k) (sym changed) ∙ is in
-        elim (cases_eq k at) [
-          | inl e ↦
-              subst (HostFits lines (capacity_in v))
-              (same_Some next x (sym (changed_here at (λ (y : HostView). next) v.hosts h h_is) ∙ ap (λ (n : ℕ). slice_get (changed_at at (λ (y : HostView). next) v.hosts) n) (sym e) ∙ is')) here
-          | inr ne ↦ fits.host k x (sym (changed_other at k (λ (y : HostView). next) v.hosts ne) ∙ is')
-        ];
-  }
-
 -- a note changes nothing of what fits
 pub fits_noted : (lines : ℕ) (v : MailView) (journal : List MailNote) → WorldFits lines v → WorldFits lines (record { entry = v.entry; hosts = v.hosts; journal = journal })
 fits_noted lines v journal fits = record { place = fits.place; host = fits.host }
@@ -100,3 +87,26 @@ pub put_own : {A : Type 0} (at : ℕ) (x : A) (xs : List A) → slice_get xs at 
 put_own {A} at x [] is = refl
 put_own {A} zero x (y ∷ xs) is = ap (λ (z : A). z ∷ xs) (sym (same_Some y x is))
 put_own {A} (suc at) x (y ∷ xs) is = ap (λ (zs : List A). y ∷ zs) (put_own at x xs is)
+
+-- all fits the media still, where one host is another one that does
+pub fits_put : (lines : ℕ) (v : MailView) (at : ℕ) (h next : HostView) → slice_get v.hosts at ≡ Some h → (hosts : List HostView) (journal : List MailNote) → hosts ≡ changed_at at (λ (x : HostView). next) v.hosts
+    → WorldFits lines v → HostFits lines (capacity_in v) next → WorldFits lines (record { entry = v.entry; hosts = hosts; journal = journal })
+fits_put lines v at h next h_is hosts journal changed fits here = record {
+  place = fits.place;
+  host = λ k x is.
+      let is' : slice_get (changed_at at (λ (y : HostView). next) v.hosts) k ≡ Some x = ap (λ (hs : List HostView). slice_get hs k) (sym changed) ∙ is in
+      elim (cases_eq k at) [
+        | inl e ↦
+            subst (HostFits lines (capacity_in v))
+            (same_Some next x (sym (changed_here at (λ (y : HostView). next) v.hosts h h_is) ∙ ap (λ (n : ℕ). slice_get (changed_at at (λ (y : HostView). next) v.hosts) n) (sym e) ∙ is')) here
+        | inr ne ↦ fits.host k x (sym (changed_other at k (λ (y : HostView). next) v.hosts ne) ∙ is')
+      ];
+}
+
+-- a host whose cache holds one line of the media more
+pub host_fits : (lines capacity line : ℕ) (h : HostView) (cache : Cache) → line < lines → ((l : ℕ) → IsHeld (cell_at cache l) → (l ≡ line) ⊎ IsHeld (cell_at h.cache l)) → HostFits lines capacity h → HostFits lines capacity (record h { cache = cache })
+host_fits lines capacity line h cache below held fits = record { cache = λ l is. go l (held l is); task = fits.task }
+  where
+    go : (l : ℕ) → (l ≡ line) ⊎ IsHeld (cell_at h.cache l) → l < lines
+    go l (inl e) = subst (λ (n : ℕ). n < lines) (sym e) below
+    go l (inr was) = fits.cache l was

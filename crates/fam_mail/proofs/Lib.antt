@@ -12,3 +12,4 @@ pub mod Members
 pub mod Calling
 pub mod Standing
 pub mod Outcomes
+pub mod Shifting

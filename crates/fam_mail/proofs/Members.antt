@@ -41,6 +41,12 @@ map_set f g [] at y x is e = absurd cc
 map_set f g (a ∷ xs) zero y x is e = ap (λ z. z ∷ map f xs) (e ∙ ap (λ w. g (f w)) (sym (same_Some a x is)))
 map_set f g (a ∷ xs) (suc at) y x is e = ap (λ zs. f a ∷ zs) (map_set f g xs at y x is e)
 
+-- with one that looks the same
+pub map_same : {A B : Type 0} (f : A → B) (xs : List A) (at : ℕ) (y x : A) → slice_get xs at ≡ Some x → f y ≡ f x → map f (set xs at y) ≡ map f xs
+map_same f [] at y x is e = absurd cc
+map_same f (a ∷ xs) zero y x is e = ap (λ z. z ∷ map f xs) (e ∙ ap f (sym (same_Some a x is)))
+map_same f (a ∷ xs) (suc at) y x is e = ap (λ zs. f a ∷ zs) (map_same f xs at y x is e)
+
 -- there is a member at a place within
 pub member_at : {A : Type 0} (xs : List A) (at : ℕ) → at < length xs → (x : A) × (slice_get xs at ≡ Some x)
 member_at [] at below = absurd (omega (arith, below))

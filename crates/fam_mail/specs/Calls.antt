@@ -5,12 +5,13 @@ use Rattle.fam_base.specs.Image.{Image}
 use Rattle.fam_base.specs.declared.entry.Entry.{Entry}
 use Rattle.fam_base.specs.declared.line.LineNo.{LineNo}
 use Rattle.fam_base.specs.declared.line.OutOfMemory.{OutOfMemory}
-use Rattle.fam_machine.specs.Caches.{Cache}
+use Rattle.fam_cache.specs.Effects.{FailsTo}
+use Rattle.fam_machine.specs.Caches.{Cache, cell_at}
 use Rattle.fam_machine.specs.Cuts.{HasFailed, IsMachine}
-use Rattle.fam_machine.specs.HostMoves.{Move, move_failed, moved}
-use Rattle.fam_machine.specs.Operations.{given, machine, operated}
+use Rattle.fam_machine.specs.HostMoves.{Move, failed_move, moved}
+use Rattle.fam_machine.specs.Operations.{given, line_no, machine, operated}
 use Rattle.fam_media.specs.Causes.{Rose}
-use Rattle.fam_media.specs.Outside.{IfModelled, masks}
+use Rattle.fam_media.specs.Outside.{IfModelled}
 use Rattle.fam_media.specs.States.{MediaChange}
 use Rattle.fam_rules.specs.Written.{file_line}
 use Rattle.fam_mail.specs.declared.ask.Ask.{Ask}
@@ -235,3 +236,40 @@ pub record HostFits (lines capacity : ℕ) (h : HostView) : Type 0 where
 pub record WorldFits (lines : ℕ) (v : MailView) : Type 0 where
   pub place : (j : ℕ) → j ≤ capacity_in v → file_line v.entry j < lines
   pub host : (at : ℕ) (h : HostView) → slice_get v.hosts at ≡ Some h → HostFits lines (capacity_in v) h
+
+-- Moves that a host's cache makes by itself, at a line of the file.
+
+-- the move on the machine's line that the file's line is
+pub record MovesAt (name : List ℕ) (line : ℕ) (move : Move) (told : MediaChange) (old new : MailView) : Type 0 where
+  pub at : ℕ
+  pub host : HostView
+  pub cache : Cache
+  pub number : index_of (is_named name) old.hosts ≡ Some at
+  pub host_is : slice_get old.hosts at ≡ Some host
+  pub done : IfModelled told.old.image (λ image. IsMachine (moved move (file_line old.entry line) (machine image host.cache)) told.new.image cache)
+  pub is : new ≡ record old { hosts = changed_at at (λ h. record h { cache = cache }) old.hosts }
+
+-- the media failed in it: memory may have words of the copy, and the cache is as it was
+pub record FailsAt (name : List ℕ) (line : ℕ) (move : Move) (told : MediaChange) (old new : MailView) : Type 0 where
+  pub at : ℕ
+  pub host : HostView
+  pub number : index_of (is_named name) old.hosts ≡ Some at
+  pub host_is : slice_get old.hosts at ≡ Some host
+  pub failed : IfModelled told.old.image (λ image. FailsTo (file_line old.entry line)
+      (λ through memory. failed_move move through memory (cell_at host.cache (file_line old.entry line))) image told.new.image)
+  pub rose : Rose told.old.faults told.new.faults
+  pub is : new ≡ noted (note.Refused name (why.MediaFault (line_no (file_line old.entry line)))) old
+
+-- it is refused at once, and the media is as it was
+pub record IsTurnedDown (name : List ℕ) (first : Option MailRefusal) (cause : MailRefusal) (told : MediaChange) (old new : MailView) : Type 0 where
+  pub first_is : first ≡ Some cause
+  pub is : new ≡ noted (note.Refused name cause) old
+  pub same : told.new ≡ told.old
+
+-- one or the other
+abbrev pub MovesLine : List ℕ → ℕ → Move → MediaChange → Option MailRefusal → MailView → MailView → Type 0
+MovesLine name line move told None old new =
+    (refusal_named name (line_refusal line (capacity_in old)) old ≡ None) × MovesAt name line move told old new
+MovesLine name line move told (Some cause) old new =
+    IsTurnedDown name (refusal_named name (line_refusal line (capacity_in old)) old) cause told old new
+    ⊎ ((refusal_named name (line_refusal line (capacity_in old)) old ≡ None) × FailsAt name line move told old new)

@@ -8,3 +8,4 @@ pub mod Running
 pub mod World
 pub mod Calls
 pub mod Standing
+pub mod Moves

@@ -1,12 +1,12 @@
 //! Hosts with a mailbox, whom a call is for, and why it is refused at once.
 
-ghost use Rattle.std.specs.Prelude.{◌≡◌, ◌+◌, ◌<◌, ◌++◌, ◌∷◌, [], ℕ, List, IfOk, IfSome, Some, None, OnErr, OnOk, is_some, vec_capacity, vec_len};
+ghost use Rattle.std.specs.Prelude.{◌≡◌, ◌+◌, ◌<◌, ◌≤◌, ◌++◌, ◌∷◌, [], ℕ, List, IfOk, IfSome, Some, None, OnErr, OnOk, is_some, vec_capacity, vec_len};
 ghost use Rattle.std.specs.FinMap as map;
 ghost use Rattle.fam_mail.specs.Tasks.{most_records, starting};
 ghost use Rattle.fam_mail.specs.Calls.{IsPlaced, begin_refusal, declare_refusal, idle_refusal, line_refusal, no_refusal};
 ghost use Rattle.fam_mail.specs.declared.note.MailNote.{MailNote};
 ghost use Rattle.fam_base.specs.declared.entry.Entry.{Entry};
-ghost use Rattle.fam_mail.specs.World.{changed_at, host_view, index_of, is_named, is_writer, mail_view, views};
+ghost use Rattle.fam_mail.specs.World.{HostView, changed_at, host_view, index_of, is_named, is_writer, mail_view, views};
 
 use crate::ask::Ask;
 use crate::note::MailRefusal;
@@ -154,6 +154,41 @@ pub(crate) fn declared(hosts: &Vec<Host>, name: &HostName) -> Result<usize, Mail
     match number(hosts, name) {
         Some(at) => Ok(at),
         None => Err(MailRefusal::NoHost),
+    }
+}
+
+/// Why a cache moves no line of this number, of a file with so many lines behind the first one.
+fn line_cause(line: u64, capacity: u64) -> Option<MailRefusal>
+    requires few { capacity < most_records }
+    ensures cause { (host : HostView) → result ≡ line_refusal line capacity host }
+    ensures below { result ≡ None → line ≤ capacity }
+{
+    if line <= capacity {
+        return None;
+    }
+    Some(MailRefusal::NoLine {
+        line,
+        lines: capacity + 1,
+    })
+}
+
+/// The host of this name, whose cache may move this line of the file; or why not.
+pub(crate) fn holder(
+    hosts: &Vec<Host>,
+    name: &HostName,
+    line: u64,
+    capacity: u64,
+) -> Result<usize, MailRefusal>
+    requires few { capacity < most_records }
+    ensures within { IfOk result (λ at. at < vec_len hosts.now) }
+    ensures placed { (entry : Entry) (journal : List MailNote)
+        → IsPlaced name.now (line_refusal line capacity) (mail_view entry hosts.now.items journal) result }
+    ensures below { OnOk result (line ≤ capacity) }
+{
+    let at = declared(hosts, name)?;
+    match line_cause(line, capacity) {
+        Some(cause) => Err(cause),
+        None => Ok(at),
     }
 }
 

@@ -2,8 +2,10 @@
 
 ghost use Rattle.std.specs.Prelude.{◌≡◌, ◌≤◌, [], IsErrOf};
 ghost use Rattle.fam_rules.specs.Place.{IsProperEntry};
+ghost use Rattle.fam_mail.specs.Boxes.{capacity_of};
 ghost use Rattle.fam_mail.specs.Calls.{Begins, Declares, Halts, IfAnswered, Stops};
 
+mod moves;
 mod steps;
 
 use crate::ask::Ask;
@@ -46,6 +48,13 @@ impl Model for MailWorld {
     ghost use Rattle.fam_rules.specs.Place.{IsProperEntry};
 
     ghost invariant = { λ w. IsProperEntry w.entry × (128 ≤ w.entry.size) };
+}
+
+/// How many records the file of an entry has room for.
+fn capacity(entry: &Entry) -> u64
+    ensures { result ≡ capacity_of entry.now.size }
+{
+    (entry.size / LINE_BYTES).saturating_sub(1)
 }
 
 impl MailWorld {
@@ -114,8 +123,8 @@ impl MailWorld {
         }
         match may_begin(&self.hosts, name, ask) {
             Ok(at) => {
-                let capacity = (self.entry.size / LINE_BYTES).saturating_sub(1);
-                begin_task(self.alloc, &mut self.hosts, at, *ask, capacity);
+                let room = capacity(&self.entry);
+                begin_task(self.alloc, &mut self.hosts, at, *ask, room);
                 add(&mut self.journal, MailNote::Start(*name, *ask));
                 Ok(())
             }

@@ -15,4 +15,4 @@ returns-in-Ok-clause-answered c =
     let new : MailView = mail_view i.entry c.begin_task.new.hosts.items c.add.new.journal.items in
     rw (← c.self.view_is)
     (changed_call c.args.name.now (begin_refusal c.args.ask.now) (λ (h : HostView). record h { task = Some (starting c.args.ask.now (capacity_in v)) }) (note.Start c.args.name.now c.args.ask.now) v c.in-Ok.at (c.in-Ok.ensures.placed i.entry i.journal.items) (views c.begin_task.new.hosts.items) c.add.new.journal.items
-    (c.begin_task.ensures.views ∙ ap (λ (n : ℕ). changed_at c.in-Ok.at (λ (h : HostView). record h { task = Some (starting c.args.ask.now n) }) v.hosts) c.saturating_sub-capacity.ensures) (c.add.ensures.noted ∙ ap (λ (notes : Rattle.std.specs.Prelude.List MailNote). notes ++ note.Start c.args.name.now c.args.ask.now ∷ []) c.make_room.ensures.same))
+    (c.begin_task.ensures.views ∙ ap (λ (n : ℕ). changed_at c.in-Ok.at (λ (h : HostView). record h { task = Some (starting c.args.ask.now n) }) v.hosts) c.capacity-room.ensures) (c.add.ensures.noted ∙ ap (λ (notes : Rattle.std.specs.Prelude.List MailNote). notes ++ note.Start c.args.name.now c.args.ask.now ∷ []) c.make_room.ensures.same))

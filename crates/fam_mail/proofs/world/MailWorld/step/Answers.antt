@@ -8,7 +8,7 @@ use Rattle.fam_mail.specs.declared.note.MailFault.{MailFault}
 use Rattle.fam_mail.specs.declared.note.MailFault.TheVariants as fault
 use Rattle.fam_mail.specs.World.{HostView, MailView, host_view, mail_view, views}
 use Rattle.fam_mail.specs.declared.note.MailNote.{MailNote}
-use Rattle.fam_mail.proofs.Calling.{fits_noted, fits_said, put_own, runs, step_said}
+use Rattle.fam_mail.proofs.Calling.{fits_noted, fits_put, put_own, runs, step_said}
 use Rattle.fam_mail.proofs.Members.{map_at, map_set}
 use Rattle.fam_mail.proofs.world.MailWorld.step.Goals as goal
 
@@ -67,8 +67,7 @@ returns-clause-fits g c =
     let fits : WorldFits lines v = subst (WorldFits lines) (sym c.self.view_is) c.requires.fits in
     let here : HostFits lines (capacity_in v) (host_view y) = subst (λ (n : ℕ). HostFits n (capacity_in v) (host_view y)) c.step_of.ensures.size c.step_of.ensures.fits in
     subst (λ (n : ℕ). WorldFits n (mail_view i.entry (set items at y) c.step_of.new.journal.items)) (sym c.step_of.ensures.size)
-    (fits_said c.args.name.now v at (c.in-Ok.ensures.placed i.entry i.journal.items) (host_view x) (map_at host_view items at x at_is) lines (host_view y) (views (set items at y)) c.step_of.new.journal.items
-    (map_set host_view (λ (h : HostView). host_view y) items at y x at_is refl) fits here)
+    (fits_put lines v at (host_view x) (host_view y) (map_at host_view items at x at_is) (views (set items at y)) c.step_of.new.journal.items (map_set host_view (λ (h : HostView). host_view y) items at y x at_is refl) fits here)
 
 err_then : {T P : Type 0} (r : Result T OutOfMemory) → IsErrOf (told_of r) fault.OutOfMemory → OnErr r P → P
 err_then (Ok x) is p = absurd cc
