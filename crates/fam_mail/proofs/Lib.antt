@@ -13,3 +13,4 @@ pub mod Calling
 pub mod Standing
 pub mod Outcomes
 pub mod Shifting
+pub mod MovedOn

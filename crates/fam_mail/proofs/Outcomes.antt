@@ -146,7 +146,7 @@ module _ (rest : ℕ → List ℕ) (v : MailView) (past : Past) (image : Image) 
 -- The calls that take no media.
 
 -- a change of one member is one of what stands there
-changed_alike : {A : Type 0} (n : ℕ) (f : A → A) (x : A) (xs : List A) → slice_get xs n ≡ Some x → changed_at n f xs ≡ changed_at n (λ (z : A). f x) xs
+pub changed_alike : {A : Type 0} (n : ℕ) (f : A → A) (x : A) (xs : List A) → slice_get xs n ≡ Some x → changed_at n f xs ≡ changed_at n (λ (z : A). f x) xs
 changed_alike {A} n f x [] is = refl
 changed_alike {A} zero f x (y ∷ xs) is = ap (λ (z : A). f z ∷ xs) (same_Some y x is)
 changed_alike {A} (suc n) f x (y ∷ xs) is = ap (λ (zs : List A). y ∷ zs) (changed_alike n f x xs is)
