@@ -8,6 +8,7 @@
 mod ask;
 mod check;
 mod hosts;
+mod laws;
 mod note;
 mod notes;
 mod phase;
@@ -19,6 +20,10 @@ mod world;
 
 pub use ask::Ask;
 pub use check::WrongBox;
+pub use laws::{
+    a_box_begins_a_run, a_box_reads_as_what_is_settled, a_world_stands_behind_its_calls,
+    every_operation_says_what_it_may,
+};
 pub use note::{MailFault, MailNote, MailRefusal};
 pub use phase::Phase;
 pub use record::{Record, Records};
