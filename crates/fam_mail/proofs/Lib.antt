@@ -14,3 +14,4 @@ pub mod Standing
 pub mod Outcomes
 pub mod Shifting
 pub mod MovedOn
+pub mod Checking

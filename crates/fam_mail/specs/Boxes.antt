@@ -1,5 +1,5 @@
 -- A box: a gate that counts the records behind it. docs/MODEL.md, "The mailbox".
-use Rattle.std.specs.Prelude.{ℕ, zero, suc, ◌+◌, ◌-◌, ◌*◌, ◌/◌, ◌≡◌, ◌<◌, ◌≤◌, nat_lt, if◌then◌else◌, List, [], ◌∷◌, slice_index, Result, Ok, Err}
+use Rattle.std.specs.Prelude.{ℕ, zero, suc, ◌+◌, ◌-◌, ◌*◌, ◌/◌, ◌≡◌, ◌<◌, ◌≤◌, nat_lt, if◌then◌else◌, List, [], ◌∷◌, slice_index, Option, Some, None, Result, Ok, Err}
 use Rattle.fam_rules.specs.Place.{line_bytes}
 use Rattle.fam_mail.specs.declared.check.WrongBox.{WrongBox}
 use Rattle.fam_mail.specs.declared.check.WrongBox.TheVariants.{BadBox, BadRecord}
@@ -43,3 +43,17 @@ box_of at capacity memory =
 -- no two lines of the file, the gate's and those of the records, are one line of the image
 abbrev pub IsOneToOne : (ℕ → ℕ) → ℕ → Type 0
 IsOneToOne at capacity = (i j : ℕ) → i ≤ capacity → j ≤ capacity → at i ≡ at j → i ≡ j
+
+-- the first of so many records from record i on that is none
+abbrev pub wrong_before : ℕ → Result (List ℕ) ℕ → Option ℕ → Option ℕ
+wrong_before i (Err word) rest = Some i
+wrong_before i (Ok numbers) rest = rest
+
+-- if there is one
+abbrev pub first_wrong : (ℕ → Result (List ℕ) ℕ) → ℕ → ℕ → Option ℕ
+first_wrong each i zero = None
+first_wrong each i (suc count) = wrong_before i (each i) (first_wrong each (suc i) count)
+
+-- the box is read as some list
+abbrev pub IsBox : (ℕ → ℕ) → ℕ → (ℕ → List ℕ) → Type 0
+IsBox at capacity memory = (records : List (List ℕ)) × (box_of at capacity memory ≡ Ok records)

@@ -9,3 +9,4 @@ pub mod World
 pub mod Calls
 pub mod Standing
 pub mod Moves
+pub mod Checks

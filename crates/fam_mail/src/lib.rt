@@ -19,7 +19,7 @@ mod turn;
 mod world;
 
 pub use ask::Ask;
-pub use check::WrongBox;
+pub use check::{BoxFault, WrongBox, check_box};
 pub use laws::{
     a_box_begins_a_run, a_box_reads_as_what_is_settled, a_world_stands_behind_its_calls,
     every_operation_says_what_it_may,
