@@ -1,23 +1,20 @@
 -- A box that is read as a list begins a run, and a box in a run is read as the list that is settled, or with the pending record.
-use Rattle.std.proofs.Common.{◌≡◌, ◌≢◌, ℕ, zero, suc, ◌+◌, ◌<◌, ◌≤◌, ◌⊎◌, inl, inr, List, [], ◌∷◌, ◌++◌, length, refl, sym, ap, subst, ◌∙◌, arith, add-one}
-use Rattle.std.specs.Prelude.{Bool, true, false, cond, nat_lt, slice_get, Option, Some, None, Result, Ok, Err}
+use Rattle.std.proofs.Common.{◌≡◌, ℕ, zero, suc, ◌+◌, ◌<◌, ◌≤◌, ◌⊎◌, inl, inr, List, [], ◌∷◌, ◌++◌, length, refl, sym, ap, subst, ◌∙◌, arith}
+use Rattle.std.specs.Prelude.{Bool, true, false, cond, nat_lt, slice_get, Some, None, Result, Ok, Err}
 use Rattle.std.proofs.lemmas.Bool.{cases_eq}
 use Rattle.std.proofs.lemmas.Bool.Decides.{nat_tests}
 use Rattle.std.proofs.lemmas.List.{append-nil}
 use Rattle.std.proofs.lemmas.Option.{same_Some, slice_get_within}
-use Rattle.fam_machine.specs.declared.cell.Cell.{Cell}
 use Rattle.fam_machine.specs.declared.cell.Cell.TheVariants.{Absent}
-use Rattle.fam_machine.specs.OneLine.{IsDirty, current}
-use Rattle.fam_protocol.specs.Lines.{gate_of}
+use Rattle.fam_machine.specs.OneLine.{IsDirty}
 use Rattle.fam_protocol.specs.SharedState.{SharedState}
 use Rattle.fam_protocol.proofs.Lines.Moves.{never}
-use Rattle.fam_mail.specs.declared.check.WrongBox.{WrongBox}
-use Rattle.fam_mail.specs.declared.check.WrongBox.TheVariants.{BadBox, BadRecord}
+use Rattle.fam_mail.specs.declared.check.WrongBox.TheVariants.{BadBox}
 use Rattle.fam_mail.specs.Boxes.{IsOneToOne, box_by, box_of, gate_in, record_at, record_before, records_from}
 use Rattle.fam_mail.specs.Mail.{Mail, listed, whole}
-use Rattle.fam_mail.specs.Protocol.{Box, Core, Invariant, gate_at, top_at}
+use Rattle.fam_mail.specs.Protocol.{Box, Core, Invariant, gate_at}
 use Rattle.fam_mail.proofs.Lists.{front_member}
-use Rattle.fam_mail.proofs.Settling.{few_pending, whole_length}
+use Rattle.fam_mail.proofs.Settling.{few_pending}
 
 -- Records that are read one behind another.
 

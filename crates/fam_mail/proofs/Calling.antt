@@ -1,5 +1,5 @@
 -- What a call makes of a world, from what its parts say.
-use Rattle.std.proofs.Common.{◌≡◌, ◌≢◌, ◌⊎◌, ◌<◌, ℕ, ◌++◌, ◌∷◌, [], List, Option, Some, None, inl, inr, refl, sym, ap, ap₂, subst, ◌∙◌}
+use Rattle.std.proofs.Common.{◌≡◌, ◌⊎◌, ◌<◌, ℕ, ◌++◌, ◌∷◌, [], List, Option, Some, None, inl, inr, refl, sym, ap, ap₂, subst, ◌∙◌}
 use Prim.Native.Nat.{zero, suc}
 use Rattle.std.specs.Prelude.{Bool, true, IfOk, Result, Ok, Err, is_some, slice_get}
 use Rattle.std.proofs.lemmas.Bool.{cases_eq}
@@ -8,10 +8,9 @@ use Rattle.fam_base.specs.declared.line.OutOfMemory.{OutOfMemory}
 use Rattle.fam_machine.specs.Caches.{Cache, cell_at}
 use Rattle.fam_machine.specs.OneLine.{IsHeld}
 use Rattle.fam_media.specs.States.{MediaChange}
-use Rattle.fam_base.specs.declared.entry.Entry.{Entry}
 use Rattle.fam_mail.specs.declared.note.MailNote.{MailNote}
 use Rattle.fam_mail.specs.declared.note.MailRefusal.{MailRefusal}
-use Rattle.fam_mail.specs.Calls.{Changes, HostFits, HostOperates, HostStepped, IfStepped, IsFree, Operates, Steps, WorldFits, capacity_in, host_at, idle_refusal, refusal_named, refusal_of, told_of}
+use Rattle.fam_mail.specs.Calls.{Changes, HostFits, HostStepped, IfStepped, IsFree, Steps, WorldFits, capacity_in, host_at, idle_refusal, refusal_named, refusal_of, told_of}
 use Rattle.fam_mail.specs.Tasks.{Task}
 use Rattle.fam_mail.specs.World.{HostView, MailView, changed_at}
 use Rattle.fam_mail.proofs.Members.{changed_here, changed_other}

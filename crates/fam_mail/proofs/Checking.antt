@@ -4,7 +4,6 @@ use Rattle.std.specs.Prelude.{Bool, true, false, cond, is_some, nat_lt, Option, 
 use Rattle.std.proofs.lemmas.Bool.Decides.{nat_tests}
 use Rattle.fam_mail.specs.Boxes.{IsBox, box_by, box_of, first_wrong, gate_in, record_at, record_before, records_from, wrong_before}
 use Rattle.fam_mail.specs.Records.{numbers_in, numbers_or, record_in, wrong_word}
-use Rattle.fam_mail.specs.declared.check.WrongBox.{WrongBox}
 use Rattle.fam_mail.specs.declared.check.WrongBox.TheVariants.{BadBox, BadRecord}
 
 -- what was read of records, by the first that is none

@@ -1,25 +1,25 @@
 -- What else happens keeps what holds: a cache moves by itself, the media fails, a task begins, is dropped, a host halts, and
 -- the writer is declared.
-use Rattle.std.proofs.Common.{◌≡◌, ◌≢◌, ℕ, ◌+◌, ◌<◌, ◌≤◌, ◌⊎◌, inl, inr, List, [], length, refl, sym, ap, subst, ◌∙◌, arith}
-use Rattle.std.specs.Prelude.{Option, Some, None, true}
+use Rattle.std.proofs.Common.{◌≡◌, ◌≢◌, ℕ, ◌+◌, ◌≤◌, inl, inr, List, length, refl, sym, ap, subst, ◌∙◌, arith}
+use Rattle.std.specs.Prelude.{Option, Some, None}
 use Rattle.std.proofs.lemmas.Bool.{cases_eq}
 use Rattle.std.proofs.lemmas.Option.{same_Some}
 use Rattle.fam_machine.specs.declared.cell.Cell.{Cell}
-use Rattle.fam_machine.specs.declared.cell.Cell.TheVariants.{Absent, Clean, Dirty}
+use Rattle.fam_machine.specs.declared.cell.Cell.TheVariants.{Absent}
 use Rattle.fam_machine.specs.OneLine.{IsDirty, current}
 use Rattle.fam_protocol.specs.Core.{masters_copy}
-use Rattle.fam_protocol.specs.Lines.{Asked, Finished, Fresh, FreshGate, Holding, IsHandedOver, gate_of, top}
+use Rattle.fam_protocol.specs.Lines.{Holding, IsHandedOver, gate_of, top}
 use Rattle.fam_protocol.specs.SharedState.{SharedState, Breaks, Loses, TransfersAt}
 use Rattle.fam_protocol.proofs.Lines.Free.{none_some}
 use Rattle.fam_protocol.proofs.Lines.Moves.{never}
 use Rattle.fam_mail.specs.declared.ask.Ask.{Ask}
 use Rattle.fam_mail.specs.declared.phase.Phase.{Phase}
 use Rattle.fam_mail.specs.declared.phase.Phase.TheVariants as at
-use Rattle.fam_mail.specs.Mail.{Mail, Run, whole}
+use Rattle.fam_mail.specs.Mail.{Mail, Run}
 use Rattle.fam_mail.specs.Protocol.{AtPhase, Box, Core, Invariant, IsWriters, Runs, TaskHolds, gate_at, top_at}
 use Rattle.fam_mail.specs.Records.{record_in}
 use Rattle.fam_mail.specs.Tasks.{IsPost, Task, starting}
-use Rattle.fam_mail.proofs.Keeping.{Keeps, WriterKeeps, task_kept}
+use Rattle.fam_mail.proofs.Keeping.{Keeps, task_kept}
 use Rattle.fam_mail.proofs.Moving.{core_moved, keeps_moved, sends_keep}
 
 module _ (b : Box) (runs : Runs) (s s' : SharedState) (m : Mail) (inv : Invariant b runs s m) where
@@ -59,8 +59,7 @@ module _ (b : Box) (runs : Runs) (s s' : SharedState) (m : Mail) (inv : Invarian
             elim (cases_eq w host) [
               | inl e ↦ rw (ap (λ (k : ℕ). s'.copy k (b.place 0)) e ∙ loses.lost (b.place 0)) (omega arith, omega (arith, m0, inv.core.order))
               | inr ne ↦
-                  rw (loses.hosts w (b.place 0) ne, loses.memory (b.place 0))
-                  (
+                  rw (loses.hosts w (b.place 0) ne, loses.memory (b.place 0)) (
                     subst (λ (o : Option ℕ). gate_at b s ≤ top (s.memory (b.place 0)) (masters_copy o s (b.place 0))) is inv.core.order,
                     subst (λ (o : Option ℕ). top (s.memory (b.place 0)) (s.copy w (b.place 0)) ≤ top (s.memory (b.place 0)) (masters_copy o s (b.place 0))) (sym is) (omega arith),
                   )

@@ -1,13 +1,13 @@
 -- What a task rests on, and that the task's facts stay while that stays.
-use Rattle.std.proofs.Common.{◌≡◌, ℕ, ◌+◌, ◌<◌, ◌≤◌, List, length, take, refl, sym, ap, subst, ◌∙◌, arith}
+use Rattle.std.proofs.Common.{◌≡◌, ℕ, ◌+◌, ◌<◌, ◌≤◌, List, length, take, sym, ap, ◌∙◌, arith}
 use Rattle.std.specs.Prelude.{Option, Some}
-use Rattle.fam_protocol.specs.Lines.{Asked, Finished, Fresh, FreshGate, Holding, IsAtLeast, IsHandedOver}
+use Rattle.fam_protocol.specs.Lines.{Finished, Fresh, FreshGate, Holding, IsAtLeast, IsHandedOver}
 use Rattle.fam_protocol.specs.SharedState.{SharedState}
 use Rattle.fam_mail.specs.declared.ask.Ask.{Ask}
 use Rattle.fam_mail.specs.declared.phase.Phase.{Phase}
 use Rattle.fam_mail.specs.declared.phase.Phase.TheVariants as at
 use Rattle.fam_mail.specs.Mail.{Mail, Run}
-use Rattle.fam_mail.specs.Protocol.{AtPhase, AtRecord, Box, Core, HasGate, HasPublished, HasRead, IsReading, IsWriting, LoadsGate, TaskHolds, gate_at, top_at}
+use Rattle.fam_mail.specs.Protocol.{AtPhase, Box, Core, HasGate, HasPublished, HasRead, IsWriting, TaskHolds, gate_at, top_at}
 use Rattle.fam_mail.specs.Tasks.{Task}
 
 -- what a writer's task rests on

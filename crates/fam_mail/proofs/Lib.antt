@@ -15,3 +15,4 @@ pub mod Outcomes
 pub mod Shifting
 pub mod MovedOn
 pub mod Checking
+pub mod Places

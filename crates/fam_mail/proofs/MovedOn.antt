@@ -1,15 +1,14 @@
 -- A world with a mailbox stands behind a cache's own move at a line of the file.
-use Rattle.std.proofs.Common.{◌≡◌, ℕ, ◌<◌, ◌≤◌, inl, inr, List, map, length, Option, Some, refl, sym, ap, subst, ◌∙◌, arith}
+use Rattle.std.proofs.Common.{◌≡◌, ℕ, ◌<◌, ◌≤◌, inl, inr, List, length, Option, Some, refl, sym, ap, subst, ◌∙◌, arith}
 use Rattle.std.specs.Prelude.{slice_get, option_map}
 use Rattle.std.proofs.lemmas.Bool.{cases_eq}
-use Rattle.fam_base.specs.Image.{Image, IsNormal, eight, line_at, with_line}
+use Rattle.fam_base.specs.Image.{Image, IsNormal, with_line}
 use Rattle.fam_cache.specs.Effects.{FailsTo}
-use Rattle.fam_machine.specs.Caches.{Cache, cell_at}
+use Rattle.fam_machine.specs.Caches.{cell_at}
 use Rattle.fam_machine.specs.HostMoves.{Move, failed_move, move_failed, moved}
 use Rattle.fam_machine.specs.Operations.{Machine, machine}
 use Rattle.fam_media.specs.States.{MediaChange}
 use Rattle.fam_protocol.specs.Hosted.{ActsAs}
-use Rattle.fam_protocol.specs.SharedState.{SharedState}
 use Rattle.fam_protocol.proofs.Hosts.Acts.{failed_move_transfers, moves_by}
 use Rattle.fam_rules.specs.Written.{file_line}
 use Rattle.fam_mail.specs.Calls.{FailsAt, MovesAt, WorldFits, capacity_in}

@@ -4,11 +4,11 @@ use Rattle.std.specs.Prelude.{Option, Some, None}
 use Rattle.std.proofs.lemmas.Option.{same_Some}
 use Rattle.fam_machine.specs.declared.cell.Cell.{Cell}
 use Rattle.fam_machine.specs.declared.cell.Cell.TheVariants.{Absent, Clean, Dirty}
-use Rattle.fam_machine.specs.OneLine.{IsAsked, IsDirty, cleaned, sent}
+use Rattle.fam_machine.specs.OneLine.{IsDirty}
 use Rattle.fam_machine.specs.Moves.{Transfer}
 use Rattle.fam_protocol.specs.Core.{masters_copy}
 use Rattle.fam_protocol.specs.Lines.{Finished, Fresh, FreshGate, Holding, IsAtLeast, IsHandedOver, gate_of, top}
-use Rattle.fam_protocol.specs.SharedState.{SharedState, LeavesAt, Sends, TransfersAt, all_sent, sends_one}
+use Rattle.fam_protocol.specs.SharedState.{SharedState, Sends, TransfersAt, all_sent, sends_one}
 use Rattle.fam_protocol.proofs.Lines.Fencing.{sends_at}
 use Rattle.fam_protocol.proofs.Lines.Floors.{at_least_more}
 use Rattle.fam_protocol.proofs.Lines.Free.{Same, same, cell_kept, dirty_was, memory_still, none_some, own, wide_now}
@@ -17,7 +17,7 @@ use Rattle.fam_protocol.proofs.Lines.Transferring.{gate_grown}
 use Rattle.fam_mail.specs.Mail.{Mail}
 use Rattle.fam_mail.specs.Protocol.{Box, Core, gate_at, top_at}
 use Rattle.fam_mail.specs.Records.{record_in}
-use Rattle.fam_mail.proofs.Keeping.{Keeps, WriterKeeps}
+use Rattle.fam_mail.proofs.Keeping.{Keeps}
 
 -- a copy that a reader may load is no newer than memory
 order_at : (floor : Option ℕ) (m : List ℕ) (c : Cell) → FreshGate floor m c → gate_of m ≤ top m c

@@ -1,10 +1,10 @@
 -- How a world with a mailbox stands behind each of its calls.
-use Rattle.std.proofs.Common.{◌≡◌, ◌≢◌, ℕ, ◌+◌, ◌<◌, ◌≤◌, ◌⊎◌, inl, inr, List, [], ◌∷◌, ◌++◌, length, map, refl, sym, ap, ap₂, subst, ◌∙◌, arith}
+use Rattle.std.proofs.Common.{◌≡◌, ℕ, ◌+◌, ◌<◌, ◌≤◌, ◌⊎◌, inl, inr, List, [], ◌∷◌, ◌++◌, length, map, refl, sym, ap, subst, ◌∙◌, arith}
 use Prim.Native.Nat.{zero, suc}
-use Rattle.std.specs.Prelude.{◌==◌, cond, if◌then◌else◌, nat_le, Bool, true, false, slice_get, Option, Some, None, Ok, Result, option_map, is_some}
+use Rattle.std.specs.Prelude.{cond, if◌then◌else◌, nat_le, Bool, true, false, slice_get, Option, Some, None, Ok, option_map, is_some}
 use Rattle.std.specs.FinMap as finmap
 use Rattle.std.proofs.Math.Path.{fun_ext}
-use Rattle.std.proofs.lemmas.Bool.{cases_eq, eq-eqb, ne_eqb}
+use Rattle.std.proofs.lemmas.Bool.{cases_eq}
 use Rattle.std.proofs.lemmas.Option.{same_Some}
 use Rattle.fam_base.specs.Image.{Image, IsNormal, eight, line_at}
 use Rattle.fam_base.specs.declared.entry.Entry.{Entry}
@@ -12,19 +12,17 @@ use Rattle.fam_machine.specs.declared.cell.Cell.{Cell}
 use Rattle.fam_machine.specs.declared.cell.Cell.TheVariants.{Absent}
 use Rattle.fam_machine.specs.Caches.{Cache, cell_at}
 use Rattle.fam_machine.proofs.CacheLemmas.{cell_at-empty}
-use Rattle.fam_media.specs.Outside.{IfModelled}
 use Rattle.fam_media.specs.States.{MediaChange}
 use Rattle.fam_protocol.specs.SharedState.{SharedState, Loses}
 use Rattle.fam_rules.specs.Written.{file_line}
 use Rattle.fam_mail.specs.declared.ask.Ask.{Ask}
 use Rattle.fam_mail.specs.declared.ask.Ask.TheVariants.{Post, Take}
-use Rattle.fam_mail.specs.declared.check.WrongBox.{WrongBox}
 use Rattle.fam_mail.specs.declared.note.MailNote.{MailNote}
 use Rattle.fam_mail.specs.declared.note.MailNote.TheVariants as note
 use Rattle.fam_mail.specs.Boxes.{IsOneToOne, box_of, capacity_of}
-use Rattle.fam_mail.specs.Calls.{Begins, Breaks, Changes, Declares, Halts, HostOperates, Operates, Serves, Stops, WorldFits, ask_refusal, begin_refusal, capacity_in, declare_refusal, host_at, refusal_of, second_writer}
-use Rattle.fam_mail.specs.Mail.{Mail, Run, whole}
-use Rattle.fam_mail.specs.Protocol.{Box, Invariant, IsBoxLine, IsWriters, Runs}
+use Rattle.fam_mail.specs.Calls.{Begins, Breaks, Changes, Declares, Halts, Operates, Serves, Stops, WorldFits, ask_refusal, begin_refusal, capacity_in, declare_refusal, host_at, refusal_of, second_writer}
+use Rattle.fam_mail.specs.Mail.{Run, whole}
+use Rattle.fam_mail.specs.Protocol.{Box, Invariant, IsBoxLine, IsWriters}
 use Rattle.fam_mail.specs.Records.{IsRecord}
 use Rattle.fam_mail.specs.Standing.{IsOneWriter, IsTold, Past, SaysSo, Stands, StandsAfter, StandsBehind, StandsStill, box_in, held_by, run_by, runs_of, shared}
 use Rattle.fam_mail.specs.Tasks.{IsPost, Task, starting}

@@ -1,35 +1,32 @@
 -- What a host does on its machine, as the protocol of all hosts has it; and that a world stands behind it.
-use Rattle.std.proofs.Common.{◌≡◌, ◌≢◌, ℕ, ◌+◌, ◌<◌, ◌≤◌, ◌⊎◌, inl, inr, List, [], ◌∷◌, length, map, refl, sym, ap, ap₂, subst, ◌∙◌, arith}
+use Rattle.std.proofs.Common.{◌≡◌, ◌≢◌, ℕ, ◌+◌, ◌<◌, ◌≤◌, inl, inr, List, [], ◌∷◌, length, map, refl, sym, ap, ap₂, subst, ◌∙◌, arith}
 use Prim.Native.Nat.{zero, suc}
-use Rattle.std.specs.Prelude.{◌==◌, cond, if◌then◌else◌, Bool, true, false, slice_get, Option, Some, None, option_map, unwrap_or}
+use Rattle.std.specs.Prelude.{cond, if◌then◌else◌, Bool, true, false, slice_get, Option, Some, None, option_map, unwrap_or}
 use Rattle.std.proofs.lemmas.Bool.{cases_eq, eq-eqb, ne_eqb}
 use Rattle.std.proofs.lemmas.Option.{same_Some}
-use Rattle.fam_base.specs.Image.{Image, IsNormal, eight, line_at}
-use Rattle.fam_base.specs.declared.entry.Entry.{Entry}
+use Rattle.fam_base.specs.Image.{Image, eight, line_at}
 use Rattle.fam_machine.specs.declared.op.Op.{Op}
 use Rattle.fam_machine.specs.declared.op.Op.TheVariants as op
-use Rattle.fam_machine.specs.declared.cell.Cell.{Cell}
 use Rattle.fam_machine.specs.Caches.{Cache, cell_at}
 use Rattle.fam_machine.specs.Cuts.{HasFailed, IsMachine}
 use Rattle.fam_machine.specs.OneLine.{IsAsked, IsDirty}
 use Rattle.fam_machine.specs.Operations.{IsInImage, IsWithin, Machine, given, machine, operated}
-use Rattle.fam_media.specs.States.{MediaChange}
 use Rattle.fam_protocol.specs.Hosted.{ActsAs}
 use Rattle.fam_protocol.specs.SharedState.{SharedState}
 use Rattle.fam_protocol.proofs.Hosts.Acts.{failure_breaks, operates_by}
 use Rattle.fam_protocol.proofs.Lines.Moves.{asked_dirty}
 use Rattle.fam_rules.specs.Written.{file_line}
-use Rattle.fam_mail.specs.Calls.{Breaks, HostOperates, Operates, Serves, WorldFits, capacity_in, kept_task}
+use Rattle.fam_mail.specs.Calls.{capacity_in, kept_task}
 use Rattle.fam_mail.specs.Mail.{Mail, Run, floor_after, run_after, settles}
 use Rattle.fam_base.specs.declared.line.LineNo.{LineNo}
 use Rattle.fam_mail.specs.declared.note.MailNote.{MailNote}
 use Rattle.fam_mail.specs.declared.phase.Phase.{Phase}
 use Rattle.fam_mail.specs.declared.phase.Phase.TheVariants as at
-use Rattle.fam_mail.specs.Protocol.{AtPhase, Box, Core, Invariant, Runs, StepHolds, Steps}
-use Rattle.fam_mail.specs.Standing.{IsTold, Past, SaysSo, Stands, StandsStill, box_in, held_by, past_after, run_by, runs_of, shared}
+use Rattle.fam_mail.specs.Protocol.{AtPhase, Box, Core, Invariant, StepHolds}
+use Rattle.fam_mail.specs.Standing.{Past, SaysSo, Stands, StandsStill, box_in, held_by, past_after, run_by, runs_of, shared}
 use Rattle.fam_mail.specs.Tasks.{Task, is_over, op_at, op_of, task_of, turn_of}
 use Rattle.fam_mail.specs.declared.turn.Turn.{Turn}
-use Rattle.fam_mail.specs.World.{HostView, MailView, changed_at, index_from, index_of, is_writer}
+use Rattle.fam_mail.specs.World.{HostView, MailView, changed_at, index_from, is_writer}
 use Rattle.fam_mail.proofs.Events.{breaks_hold, fewer_hold}
 use Rattle.fam_mail.proofs.Members.{changed_here, changed_other}
 use Rattle.fam_mail.proofs.Stepping.{step_holds}

@@ -1,6 +1,6 @@
 -- A host's task does its operation and takes its turn: it says what it may, and all that holds holds again.
-use Rattle.std.proofs.Common.{◌≡◌, ◌≢◌, ℕ, zero, suc, ◌+◌, ◌<◌, ◌≤◌, ◌⊎◌, inl, inr, List, [], ◌∷◌, ◌++◌, length, take, set, refl, sym, ap, subst, ◌∙◌, arith, add-one}
-use Rattle.std.specs.Prelude.{◌==◌, get_or, cond, Bool, true, false, nat_lt, slice_get, slice_index, slice_set, Option, Some, None, Result, Ok, Err}
+use Rattle.std.proofs.Common.{◌≡◌, ◌≢◌, ℕ, suc, ◌+◌, ◌<◌, ◌≤◌, ◌⊎◌, inl, inr, List, [], ◌∷◌, ◌++◌, length, take, refl, sym, ap, subst, ◌∙◌, arith, add-one}
+use Rattle.std.specs.Prelude.{◌==◌, get_or, cond, Bool, true, false, nat_lt, slice_get, slice_index, slice_set, Option, Some, None, Ok}
 use Rattle.std.proofs.Math.Seq.{take-suc, take-suc-set}
 use Rattle.std.proofs.lemmas.Bool.{cases_eq}
 use Rattle.std.proofs.lemmas.Bool.Decides.{nat_tests}
@@ -8,10 +8,10 @@ use Rattle.std.proofs.lemmas.List.{length-append, length-set, length-take-le, ta
 use Rattle.std.proofs.lemmas.Option.{same_Some, slice_get_cases}
 use Rattle.fam_machine.specs.declared.cell.Cell.{Cell}
 use Rattle.fam_machine.specs.declared.cell.Cell.TheVariants.{Absent, Clean, Dirty}
-use Rattle.fam_machine.specs.OneLine.{IsAsked, IsDirty, asked_for, brought, current, sent, stored}
+use Rattle.fam_machine.specs.OneLine.{asked_for, brought, current, sent, stored}
 use Rattle.fam_machine.proofs.Transferring.{absent_transfers, asked_for_transfers, brought_transfers}
 use Rattle.fam_protocol.specs.Core.{masters_copy}
-use Rattle.fam_protocol.specs.Lines.{Asked, Finished, Fresh, FreshGate, Holding, IsAtLeast, IsHandedOver, gate_of, top}
+use Rattle.fam_protocol.specs.Lines.{Finished, Fresh, FreshGate, Holding, IsAtLeast, IsHandedOver, gate_of, top}
 use Rattle.fam_protocol.specs.SharedState.{SharedState, Fences, LeavesAt, Operates, TransfersAt}
 use Rattle.fam_protocol.proofs.Lines.Fencing.{finished_then, not_dirty_then, top_then}
 use Rattle.fam_protocol.proofs.Lines.Floors.{at_least_more}
@@ -23,10 +23,10 @@ use Rattle.fam_mail.specs.declared.ask.Ask.TheVariants.{Post, Take}
 use Rattle.fam_mail.specs.declared.phase.Phase.{Phase}
 use Rattle.fam_mail.specs.declared.phase.Phase.TheVariants as at
 use Rattle.fam_mail.specs.declared.turn.Turn.{Turn}
-use Rattle.fam_mail.specs.declared.turn.Turn.TheVariants.{Go, Mark, Found, Posted, Full, Taken, BadBox, BadRecord}
-use Rattle.fam_mail.specs.Mail.{IsFront, IsPosted, Mail, MayFind, MaySay, Run, floor_after, found, joined, listed, posted_by, settles, whole}
-use Rattle.fam_mail.specs.Protocol.{AtPhase, AtRecord, Box, Core, HasGate, HasPublished, HasRead, Invariant, IsReading, IsWriters, IsWriting, LoadsGate, Runs, StepHolds, Steps, TaskHolds, gate_at, top_at}
-use Rattle.fam_mail.specs.Records.{IsRecord, numbers_in, numbers_or, record_in, record_line, wrong_word}
+use Rattle.fam_mail.specs.declared.turn.Turn.TheVariants.{Go, Mark, Found, Posted, Full, Taken, BadBox}
+use Rattle.fam_mail.specs.Mail.{IsFront, Mail, MayFind, MaySay, Run, floor_after, found, joined, listed, posted_by, settles, whole}
+use Rattle.fam_mail.specs.Protocol.{AtPhase, AtRecord, Box, Core, HasPublished, Invariant, IsReading, IsWriters, IsWriting, LoadsGate, Runs, StepHolds, Steps, TaskHolds, gate_at, top_at}
+use Rattle.fam_mail.specs.Records.{IsRecord, numbers_in, numbers_or, record_in, wrong_word}
 use Rattle.fam_mail.specs.Tasks.{IsPost, Task, gate_turn, is_over, line_of, op_at, record_turn, records_with, task_at, task_of, turn_at, turn_of, words_with}
 use Rattle.fam_mail.proofs.Keeping.{Keeps, phase_kept, task_kept}
 use Rattle.fam_mail.proofs.Lists.{by_equal, by_equal_both, few_listed, front_member, take_member}

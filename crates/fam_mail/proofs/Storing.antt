@@ -1,11 +1,11 @@
 -- The stores of a post: words of its record's line, while the gate doesn't count it, and then the gate.
 use Rattle.std.proofs.Common.{◌≡◌, ◌≢◌, ℕ, ◌+◌, ◌<◌, ◌≤◌, ◌⊎◌, inl, inr, List, [], ◌∷◌, ◌++◌, length, refl, sym, ap, subst, ◌∙◌, arith}
-use Rattle.std.specs.Prelude.{slice_get, slice_index, Option, Some, None, Ok}
+use Rattle.std.specs.Prelude.{slice_get, Option, Some, None, Ok}
 use Rattle.std.proofs.lemmas.List.{get_or-set_same, length-append}
 use Rattle.std.proofs.lemmas.Option.{same_Some}
 use Rattle.fam_machine.specs.declared.cell.Cell.{Cell}
 use Rattle.fam_machine.specs.OneLine.{IsDirty, current, stored}
-use Rattle.fam_protocol.specs.Core.{IsWide, masters_copy}
+use Rattle.fam_protocol.specs.Core.{masters_copy}
 use Rattle.fam_protocol.specs.Lines.{Finished, gate_of, top}
 use Rattle.fam_protocol.specs.SharedState.{SharedState, LeavesAt}
 use Rattle.fam_protocol.proofs.Lines.Free.{Same, same}

@@ -1,7 +1,6 @@
 -- What each call of a world with a mailbox makes of it, and why it is refused. docs/MODEL.md, "The mailbox".
-use Rattle.std.specs.Prelude.{ℕ, ⊤, ◌≡◌, ◌≢◌, ◌⊎◌, ◌+◌, ◌<◌, ◌≤◌, ◌++◌, ◌∷◌, ◌&&◌, Bool, true, false, nat_le, nat_lt, not, is_some, if◌then◌else◌, List, [], length, slice_get, Option, Some, None, Result, Ok, Err, unwrap_or, option_map}
+use Rattle.std.specs.Prelude.{ℕ, ⊤, ◌≡◌, ◌≢◌, ◌⊎◌, ◌+◌, ◌<◌, ◌≤◌, ◌++◌, ◌∷◌, Bool, true, false, nat_le, nat_lt, is_some, if◌then◌else◌, List, [], length, slice_get, Option, Some, None, Result, Ok, Err, unwrap_or, option_map}
 use Rattle.std.specs.FinMap as finmap
-use Rattle.fam_base.specs.Image.{Image}
 use Rattle.fam_base.specs.declared.entry.Entry.{Entry}
 use Rattle.fam_base.specs.declared.line.LineNo.{LineNo}
 use Rattle.fam_base.specs.declared.line.OutOfMemory.{OutOfMemory}

@@ -1,6 +1,6 @@
 -- Why a box is not taken: it is none, or the media failed.
-use Rattle.std.specs.Prelude.{ℕ, ⊤, ◌≡◌, ◌-◌, ◌≤◌, Option}
-use Rattle.fam_base.specs.Image.{Image, line_at}
+use Rattle.std.specs.Prelude.{ℕ, ⊤, ◌≡◌, ◌-◌, ◌≤◌}
+use Rattle.fam_base.specs.Image.{line_at}
 use Rattle.fam_media.specs.Outside.{IfModelled}
 use Rattle.fam_media.specs.States.{MediaState}
 use Rattle.fam_mail.specs.Boxes.{first_wrong, gate_in, record_at}

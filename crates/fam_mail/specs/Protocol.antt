@@ -1,12 +1,11 @@
 -- What holds of memory, of any number of hosts with a mailbox and of their tasks after every step. docs/MODEL.md, "The mailbox".
-use Rattle.std.specs.Prelude.{ℕ, ⊤, ◌≡◌, ◌≢◌, ◌+◌, ◌<◌, ◌≤◌, List, [], length, take, slice_get, Option, Some, None, Ok}
+use Rattle.std.specs.Prelude.{ℕ, ◌≡◌, ◌≢◌, ◌+◌, ◌<◌, ◌≤◌, List, [], length, take, slice_get, Option, Some, Ok}
 use Rattle.fam_machine.specs.OneLine.{IsDirty}
 use Rattle.fam_machine.specs.declared.cell.Cell.{Cell}
 use Rattle.fam_protocol.specs.Core.{IsWide, masters_copy}
 use Rattle.fam_protocol.specs.Lines.{Asked, Finished, Fresh, FreshGate, Holding, IsAtLeast, IsHandedOver, gate_of, top}
 use Rattle.fam_protocol.specs.SharedState.{SharedState, Operates}
 use Rattle.fam_mail.specs.declared.ask.Ask.{Ask}
-use Rattle.fam_mail.specs.declared.ask.Ask.TheVariants.{Post, Take}
 use Rattle.fam_mail.specs.declared.phase.Phase.{Phase}
 use Rattle.fam_mail.specs.declared.phase.Phase.TheVariants as at
 use Rattle.fam_mail.specs.Boxes.{IsOneToOne, record_at}

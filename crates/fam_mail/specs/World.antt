@@ -1,6 +1,6 @@
 -- A world of hosts with a mailbox, as contracts see it.
 use Prim.Native.Nat.{zero, suc}
-use Rattle.std.specs.Prelude.{ℕ, ◌≡◌, ◌+◌, ◌++◌, ◌∷◌, ◌&&◌, Bool, false, if◌then◌else◌, nat_le, List, [], length, map, slice_get, Option, Some, None}
+use Rattle.std.specs.Prelude.{ℕ, ◌+◌, ◌++◌, ◌∷◌, Bool, if◌then◌else◌, List, [], map, Option, Some, None}
 use Rattle.std.specs.FinMap as finmap
 use Rattle.fam_base.specs.declared.entry.Entry.{Entry}
 use Rattle.fam_base.specs.PathOrder.{path_eq}

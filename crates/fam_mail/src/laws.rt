@@ -3,6 +3,11 @@
 ghost use Rattle.std.specs.Prelude.{◌≡◌, ◌⊎◌, ◌≤◌, ℕ, Bool, List, None, Ok, Some, [], map as map_list};
 ghost use Rattle.fam_base.specs.Image.{Image, eight, line_at};
 ghost use Rattle.fam_base.specs.declared.entry.Entry.{Entry};
+ghost use Rattle.fam_base.specs.declared.entry.Params.{Params};
+ghost use Rattle.fam_format.specs.Params.{SoundParams};
+ghost use Rattle.fam_format.specs.Slot.{Proper};
+ghost use Rattle.fam_format.specs.Units.{units_in};
+ghost use Rattle.fam_rules.specs.Place.{IsOnce};
 ghost use Rattle.fam_machine.specs.HostMoves.{Move};
 ghost use Rattle.fam_media.specs.States.{MediaChange};
 ghost use Rattle.fam_rules.specs.Written.{file_line};
@@ -15,6 +20,12 @@ ghost use Rattle.fam_mail.specs.Standing.{IsOneWriter, IsTold, Past, Stands, Sta
 ghost use Rattle.fam_mail.specs.World.{HostView, MailView};
 ghost use Rattle.fam_mail.specs.declared.ask.Ask.{Ask};
 ghost use Rattle.fam_mail.specs.declared.ask.Ask.TheVariants.{Post};
+
+/// No two lines of a file of which no unit stands twice are one line of the image.
+pub fn a_file_has_no_line_twice()
+    ensures { (p : Params) (e : Entry) → SoundParams p → Proper p e → IsOnce (units_in p.unit e.extents)
+        → 128 ≤ e.size → IsOneToOne (file_line e) (capacity_of e.size) }
+{}
 
 /// An image of which the box is read as a list is the beginning of a run: before any host is declared what the protocol
 /// keeps holds, with that list settled and nothing pending.

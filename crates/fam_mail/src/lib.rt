@@ -2,7 +2,8 @@
 //! need not agree.
 //!
 //! `specs/Records.antt` and `specs/Boxes.antt` say what a record and a box are, `specs/Tasks.antt` which operations a
-//! post and a take do, and `specs/Mail.antt` what a journal may say.
+//! post and a take do, and `specs/Mail.antt` what is settled and what a task may say. `specs/Calls.antt` has what each call
+//! of a world makes of it, and `specs/Standing.antt` what holds of image, hosts and tasks behind each.
 #![tactic(auto)]
 
 mod ask;
@@ -21,8 +22,8 @@ mod world;
 pub use ask::Ask;
 pub use check::{BoxFault, WrongBox, check_box};
 pub use laws::{
-    a_box_begins_a_run, a_box_reads_as_what_is_settled, a_world_stands_behind_its_calls,
-    every_operation_says_what_it_may,
+    a_box_begins_a_run, a_box_reads_as_what_is_settled, a_file_has_no_line_twice,
+    a_world_stands_behind_its_calls, every_operation_says_what_it_may,
 };
 pub use note::{MailFault, MailNote, MailRefusal};
 pub use phase::Phase;

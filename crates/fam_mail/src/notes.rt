@@ -68,11 +68,7 @@ fn twice(cause: MailRefusal) -> (MailRefusal, MailRefusal)
 }
 
 /// Notes that a call is refused, for which there is room, and gives the refusal.
-pub(crate) fn refused(
-    journal: &mut Vec<MailNote>,
-    name: &HostName,
-    cause: MailRefusal,
-) -> MailFault
+pub(crate) fn refused(journal: &mut Vec<MailNote>, name: &HostName, cause: MailRefusal) -> MailFault
     requires room { vec_len journal.old < vec_capacity journal.old }
     ensures noted { journal.new.items ≡ journal.old.items ++ notes.Refused name.now cause ∷ [] }
     ensures given { result ≡ fault.Refused cause }

@@ -135,12 +135,6 @@ impl MailWorld {
             Err(cause) => return Err(refused(&mut self.journal, name, cause)),
         };
         let entry = self.entry;
-        or_fault(step_of(
-            &mut self.hosts[at],
-            &mut self.journal,
-            media,
-            &entry,
-            name,
-        ))
+        or_fault(step_of(&mut self.hosts[at], &mut self.journal, media, &entry, name))
     }
 }

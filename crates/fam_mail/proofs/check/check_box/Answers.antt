@@ -1,10 +1,8 @@
-use Rattle.std.proofs.Common.{◌≡◌, ℕ, ◌+◌, ◌<◌, ◌≤◌, List, length, Option, Some, rules, refl, ap, sym, subst, ◌∙◌, arith}
-use Rattle.std.specs.Prelude.{is_some}
-use Rattle.fam_base.specs.Image.{Image, eight, line_at}
+use Rattle.std.proofs.Common.{◌≡◌, ℕ, ◌+◌, List, length, rules, ap, sym, ◌∙◌, arith}
+use Rattle.fam_base.specs.Image.{line_at}
 use Rattle.fam_machine.proofs.WideLines.{eight_whole}
 use Rattle.fam_rules.specs.Written.{file_line}
 use Rattle.fam_mail.specs.Boxes.{capacity_of}
-use Rattle.fam_mail.specs.Records.{wrong_word}
 use Rattle.fam_mail.proofs.Checking.{all_right, no_word, one_right, one_wrong, some_word}
 use Rattle.fam_mail.proofs.check.check_box.Goals as goal
 

@@ -1,4 +1,4 @@
-use Rattle.std.proofs.Common.{◌≡◌, ℕ, ◌<◌, Err, refl, ap, sym, subst}
+use Rattle.std.proofs.Common.{◌≡◌, ℕ, Err, refl, ap, sym, subst}
 use Rattle.std.proofs.lemmas.Result.{err_from_is_err_and}
 use Rattle.fam_cache.specs.declared.fault.OperationFault.{OperationFault}
 use Rattle.fam_cache.specs.declared.fault.OperationFault.TheVariants as fault

@@ -1,6 +1,6 @@
-use Rattle.std.proofs.Common.{ℕ, ◌≡◌, ◌++◌, ◌∷◌, [], Some, None, ap, ◌∙◌}
+use Rattle.std.proofs.Common.{ℕ, ◌++◌, ◌∷◌, [], Some, ap, ◌∙◌}
 use Rattle.std.specs.FinMap as finmap
-use Rattle.fam_mail.specs.Calls.{Changes, begin_refusal, capacity_in, refusal_named}
+use Rattle.fam_mail.specs.Calls.{begin_refusal, capacity_in}
 use Rattle.fam_mail.specs.Tasks.{starting}
 use Rattle.fam_mail.specs.World.{HostView, MailView, changed_at, mail_view, views}
 use Rattle.fam_mail.specs.declared.note.MailNote.{MailNote}

@@ -1,7 +1,6 @@
-use Rattle.std.proofs.Common.{◌≡◌, ◌++◌, ◌∷◌, [], Some, None, ap, ◌∙◌}
+use Rattle.std.proofs.Common.{◌++◌, ◌∷◌, [], None, ap, ◌∙◌}
 use Rattle.std.specs.FinMap as finmap
-use Rattle.fam_mail.specs.Calls.{Changes, no_refusal, capacity_in, refusal_named}
-use Rattle.fam_mail.specs.Tasks.{starting}
+use Rattle.fam_mail.specs.Calls.{no_refusal}
 use Rattle.fam_mail.specs.World.{HostView, MailView, mail_view, views}
 use Rattle.fam_mail.specs.declared.note.MailNote.{MailNote}
 use Rattle.fam_mail.specs.declared.note.MailNote.TheVariants as note

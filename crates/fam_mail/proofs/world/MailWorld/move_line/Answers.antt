@@ -1,4 +1,4 @@
-use Rattle.std.proofs.Common.{◌≡◌, ◌<◌, ℕ, ◌++◌, ◌∷◌, [], List, length, Err, inl, inr, refl, ap, ap₂, sym, subst, ◌∙◌, arith, set, Some, None}
+use Rattle.std.proofs.Common.{◌≡◌, ◌<◌, ℕ, ◌++◌, ◌∷◌, [], List, length, Err, inr, refl, ap, ap₂, sym, subst, ◌∙◌, arith, set, None}
 use Rattle.std.proofs.lemmas.Option.{slice_get_read}
 use Rattle.fam_base.specs.declared.line.LineNo.{LineNo}
 use Rattle.fam_cache.specs.declared.fault.CacheFault.{CacheFault}
@@ -10,7 +10,6 @@ use Rattle.fam_machine.specs.Operations.{line_no, machine}
 use Rattle.fam_media.specs.Outside.{IfModelled}
 use Rattle.fam_media.specs.States.{MediaChange, change}
 use Rattle.fam_rules.specs.Written.{file_line}
-use Rattle.fam_mail.specs.Boxes.{capacity_of}
 use Rattle.fam_mail.specs.Calls.{HostFits, IfAnswered, IsFree, MovesLine, WorldFits, capacity_in, line_refusal}
 use Rattle.fam_mail.specs.Moves.{move_of}
 use Rattle.fam_mail.specs.World.{HostView, MailView, host_view, mail_view, views}
@@ -43,18 +42,19 @@ returns-in-Ok-shift-clause-answered g c =
     let free : IsFree c.args.name.now (line_refusal c.args.line (capacity_in v)) v at =
     subst (λ (n : ℕ). IsFree c.args.name.now (line_refusal c.args.line n) v at) c.capacity.ensures (c.in-Ok.ensures.placed i.entry i.journal.items) in
     let place : c.file_line-place.result.0 ≡ file_line i.entry c.args.line = c.file_line-place.ensures.value in
-    subst (λ (w : MailView). MovesLine c.args.name.now c.args.line (move_of c.args.what) told None w new) c.self.view_is
-    (free_call c.args.name.now (line_refusal c.args.line (capacity_in v)) v at free,
-    record {
-      at = at;
-      host = host_view x;
-      cache = c.shift.new.cache.lines;
-      number = free.number;
-      host_is = map_at host_view items at x at_is;
-      done = subst (λ (l : ℕ). IfModelled told.old.image (λ image. IsMachine (moved (move_of c.args.what) l (machine image x.cache.lines)) told.new.image c.shift.new.cache.lines)) place c.in-Ok-shift.ensures.moved;
-      is = ap₂ (λ (hs : List HostView) (ns : List MailNote). record { entry = i.entry; hosts = hs; journal = ns })
-          (map_set host_view (λ (h : HostView). record h { cache = c.shift.new.cache.lines }) items at y x at_is refl) c.make_room.ensures.same;
-    })
+    subst (λ (w : MailView). MovesLine c.args.name.now c.args.line (move_of c.args.what) told None w new) c.self.view_is (
+      free_call c.args.name.now (line_refusal c.args.line (capacity_in v)) v at free,
+      record {
+        at = at;
+        host = host_view x;
+        cache = c.shift.new.cache.lines;
+        number = free.number;
+        host_is = map_at host_view items at x at_is;
+        done = subst (λ (l : ℕ). IfModelled told.old.image (λ image. IsMachine (moved (move_of c.args.what) l (machine image x.cache.lines)) told.new.image c.shift.new.cache.lines)) place c.in-Ok-shift.ensures.moved;
+        is = ap₂ (λ (hs : List HostView) (ns : List MailNote). record { entry = i.entry; hosts = hs; journal = ns })
+            (map_set host_view (λ (h : HostView). record h { cache = c.shift.new.cache.lines }) items at y x at_is refl) c.make_room.ensures.same;
+      },
+    )
 
 pub returns-in-Ok-shift-clause-fits : goal.returns-in-Ok-shift-clause-fits
 returns-in-Ok-shift-clause-fits g c =
@@ -91,18 +91,20 @@ returns-in-Err-Failed-clause-answered g c =
     let failed = c.in-Err-Failed.is ∙ ap (λ (f : CacheFault). Err f) c.in-Err-Failed.field-0-is in
     subst (λ (w : MailView). IfAnswered {T = Unit {0}} (Err c.refused-in-Err-Failed.result) (λ answered. MovesLine c.args.name.now c.args.line (move_of c.args.what) told answered w new)) c.self.view_is
     (subst (λ (f : MailFault). IfAnswered {T = Unit {0}} (Err f) (λ answered. MovesLine c.args.name.now c.args.line (move_of c.args.what) told answered v new)) (sym c.refused-in-Err-Failed.ensures.given)
-    (inr (free_call c.args.name.now (line_refusal c.args.line (capacity_in v)) v at free,
-    record {
-      at = at;
-      host = host_view x;
-      number = free.number;
-      host_is = map_at host_view items at x at_is;
-      failed = subst (λ (l : ℕ). IfModelled told.old.image (λ image. FailsTo l (λ through memory. failed_move (move_of c.args.what) through memory (cell_at x.cache.lines l)) image told.new.image)) value (c.shift.ensures.failed failed);
-      rose = c.shift.ensures.rose failed;
-      is = ap₂ (λ (hs : List HostView) (ns : List MailNote). record { entry = i.entry; hosts = hs; journal = ns })
-          (map_same host_view items at y x at_is (ap (λ (k : Cache). record (host_view x) { cache = k }) c.in-Err-Failed.ensures.err))
-          (c.refused-in-Err-Failed.ensures.noted ∙ ap₂ (λ (ns : List MailNote) (l : LineNo). ns ++ note.Refused c.args.name.now (why.MediaFault l) ∷ []) c.make_room.ensures.same place);
-    })))
+    (inr (
+      free_call c.args.name.now (line_refusal c.args.line (capacity_in v)) v at free,
+      record {
+        at = at;
+        host = host_view x;
+        number = free.number;
+        host_is = map_at host_view items at x at_is;
+        failed = subst (λ (l : ℕ). IfModelled told.old.image (λ image. FailsTo l (λ through memory. failed_move (move_of c.args.what) through memory (cell_at x.cache.lines l)) image told.new.image)) value (c.shift.ensures.failed failed);
+        rose = c.shift.ensures.rose failed;
+        is = ap₂ (λ (hs : List HostView) (ns : List MailNote). record { entry = i.entry; hosts = hs; journal = ns })
+            (map_same host_view items at y x at_is (ap (λ (k : Cache). record (host_view x) { cache = k }) c.in-Err-Failed.ensures.err))
+            (c.refused-in-Err-Failed.ensures.noted ∙ ap₂ (λ (ns : List MailNote) (l : LineNo). ns ++ note.Refused c.args.name.now (why.MediaFault l) ∷ []) c.make_room.ensures.same place);
+      },
+    )))
 
 pub returns-in-Err-Failed-clause-fits : goal.returns-in-Err-Failed-clause-fits
 returns-in-Err-Failed-clause-fits g c =

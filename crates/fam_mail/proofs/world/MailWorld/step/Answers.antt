@@ -1,4 +1,4 @@
-use Rattle.std.proofs.Common.{◌≡◌, ℕ, Bool, Result, ap₂, ◌++◌, ◌∷◌, [], List, length, Ok, Err, refl, ap, sym, subst, ◌∙◌, arith, set}
+use Rattle.std.proofs.Common.{◌≡◌, ℕ, Bool, Result, ap₂, List, length, Ok, Err, refl, sym, subst, ◌∙◌, arith, set}
 use Rattle.std.specs.Prelude.{IfOk, IsErrOf, OnErr}
 use Rattle.fam_base.specs.declared.line.OutOfMemory.{OutOfMemory}
 use Rattle.fam_media.specs.States.{MediaChange, change}
