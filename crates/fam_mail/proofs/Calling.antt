@@ -1,7 +1,7 @@
 -- What a call makes of a world, from what its parts say.
 use Rattle.std.proofs.Common.{◌≡◌, ◌⊎◌, ◌<◌, ℕ, ◌++◌, ◌∷◌, [], List, Option, Some, None, inl, inr, refl, sym, ap, ap₂, subst, ◌∙◌}
 use Prim.Native.Nat.{zero, suc}
-use Rattle.std.specs.Prelude.{Bool, true, IfOk, Result, Ok, Err, is_some, slice_get}
+use Rattle.std.specs.Prelude.{Bool, true, IfOk, OnErr, OnOk, Result, Ok, Err, is_some, slice_get}
 use Rattle.std.proofs.lemmas.Bool.{cases_eq}
 use Rattle.std.proofs.lemmas.Option.{same_Some}
 use Rattle.fam_base.specs.declared.line.OutOfMemory.{OutOfMemory}
@@ -10,7 +10,7 @@ use Rattle.fam_machine.specs.OneLine.{IsHeld}
 use Rattle.fam_media.specs.States.{MediaChange}
 use Rattle.fam_mail.specs.declared.note.MailNote.{MailNote}
 use Rattle.fam_mail.specs.declared.note.MailRefusal.{MailRefusal}
-use Rattle.fam_mail.specs.Calls.{Changes, HostFits, HostStepped, IfStepped, IsFree, Steps, WorldFits, capacity_in, host_at, idle_refusal, refusal_named, refusal_of, told_of}
+use Rattle.fam_mail.specs.Calls.{Changes, FinishEnds, HostFinishes, HostStays, HostFits, HostStepped, IfStepped, IsFree, Steps, WorldFits, capacity_in, host_at, idle_refusal, refusal_named, refusal_of, told_of}
 use Rattle.fam_mail.specs.Tasks.{Task}
 use Rattle.fam_mail.specs.World.{HostView, MailView, changed_at}
 use Rattle.fam_mail.proofs.Members.{changed_here, changed_other}
@@ -76,6 +76,33 @@ module _ (name : List ℕ) (v : MailView) (at : ℕ) (free : IsFree name idle_re
     ),
     λ not. absurd (not refl),
   )
+
+  -- or all up to its end
+  pub finish_said : (told : MediaChange) (next : HostView) (hosts : List HostView) (journal : List MailNote) (r : Result (Unit {0}) OutOfMemory) → OnOk r (HostFinishes v.entry name h told next v.journal journal)
+      → OnErr r (HostStays v.entry name h told next v.journal journal) → hosts ≡ changed_at at (λ (x : HostView). next) v.hosts → FinishEnds name told v (record { entry = v.entry; hosts = hosts; journal = journal }) (told_of r)
+  finish_said told next hosts journal (Ok done) finished stays changed = (
+    free_call name idle_refusal v at free,
+    record {
+      at = at;
+      host = h;
+      number = free.number;
+      host_is = h_is;
+      next = next;
+      journal = journal;
+      finishes = finished;
+      is = ap (λ (hs : List HostView). record { entry = v.entry; hosts = hs; journal = journal }) changed;
+    },
+  )
+  finish_said told next hosts journal (Err full) finished stays changed = inr (record {
+    at = at;
+    host = h;
+    number = free.number;
+    host_is = h_is;
+    next = next;
+    journal = journal;
+    stays = stays;
+    is = ap (λ (hs : List HostView). record { entry = v.entry; hosts = hs; journal = journal }) changed;
+  })
 
 -- a note changes nothing of what fits
 pub fits_noted : (lines : ℕ) (v : MailView) (journal : List MailNote) → WorldFits lines v → WorldFits lines (record { entry = v.entry; hosts = v.hosts; journal = journal })

@@ -16,3 +16,4 @@ pub mod Shifting
 pub mod MovedOn
 pub mod Checking
 pub mod Places
+pub mod Falling

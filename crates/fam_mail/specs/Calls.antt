@@ -11,7 +11,7 @@ use Rattle.fam_machine.specs.HostMoves.{Move, failed_move, moved}
 use Rattle.fam_machine.specs.Operations.{given, line_no, machine, operated}
 use Rattle.fam_media.specs.Causes.{Rose}
 use Rattle.fam_media.specs.Outside.{IfModelled}
-use Rattle.fam_media.specs.States.{MediaChange}
+use Rattle.fam_media.specs.States.{MediaChange, MediaState}
 use Rattle.fam_rules.specs.Written.{file_line}
 use Rattle.fam_mail.specs.declared.ask.Ask.{Ask}
 use Rattle.fam_mail.specs.declared.ask.Ask.TheVariants.{Post, Take}
@@ -25,7 +25,7 @@ use Rattle.fam_mail.specs.declared.turn.Turn.{Turn}
 use Rattle.fam_mail.specs.declared.turn.Turn.TheVariants.{Go, Mark, Found, Posted, Full, Taken, BadBox, BadRecord}
 use Rattle.fam_mail.specs.Boxes.{capacity_of}
 use Rattle.fam_mail.specs.Running.{CacheFits}
-use Rattle.fam_mail.specs.Tasks.{Task, is_over, op_of, starting, task_of, turn_of}
+use Rattle.fam_mail.specs.Tasks.{Task, is_over, left_of, op_of, starting, task_of, turn_of}
 use Rattle.fam_mail.specs.World.{HostView, MailView, changed_at, index_of, is_named, is_writer, new_host, noted}
 
 -- where the call found memory, P holds of the refusal that it gave, if any
@@ -272,3 +272,60 @@ MovesLine name line move told None old new =
 MovesLine name line move told (Some cause) old new =
     IsTurnedDown name (refusal_named name (line_refusal line (capacity_in old)) old) cause told old new
     ⊎ ((refusal_named name (line_refusal line (capacity_in old)) old ≡ None) × FailsAt name line move told old new)
+
+-- Operations one behind another.
+
+-- some operations of a host's task, of which none ends it: what they lead to, what the media tells then, and the notes
+pub data HostRuns (entry : Entry) (name : List ℕ) (host : HostView) (told : MediaState) : HostView → MediaState → List MailNote → Type 0 where
+  rests : HostRuns entry name host told host told []
+  goes_on : {mid next : HostView} {now later : MediaState} {notes more : List MailNote} → HostRuns entry name host told mid now notes → HostOperates entry name mid (record { old = now; new = later }) false next more
+      → HostRuns entry name host told next later (notes ++ more)
+
+-- some, and then one with which it ends, or none where no memory was left
+pub record HostFinishes (entry : Entry) (name : List ℕ) (host : HostView) (told : MediaChange) (next : HostView) (before after : List MailNote) : Type 0 where
+  pub mid : HostView
+  pub now : MediaState
+  pub notes : List MailNote
+  pub runs : HostRuns entry name host told.old mid now notes
+  pub more : List MailNote
+  pub ends : HostOperates entry name mid (record { old = now; new = told.new }) true next more
+  pub noted : after ≡ before ++ (notes ++ more)
+
+-- or none where no memory was left
+pub record HostStays (entry : Entry) (name : List ℕ) (host : HostView) (told : MediaChange) (next : HostView) (before after : List MailNote) : Type 0 where
+  pub notes : List MailNote
+  pub runs : HostRuns entry name host told.old next told.new notes
+  pub noted : after ≡ before ++ notes
+
+-- how many operations a host's task may be from its end
+abbrev pub left_in : HostView → ℕ
+left_in h = unwrap_or (option_map left_of h.task) 0
+
+-- the host of this name finishes its task, and no other one is changed
+pub record Finishes (name : List ℕ) (told : MediaChange) (old new : MailView) : Type 0 where
+  pub at : ℕ
+  pub host : HostView
+  pub number : index_of (is_named name) old.hosts ≡ Some at
+  pub host_is : slice_get old.hosts at ≡ Some host
+  pub next : HostView
+  pub journal : List MailNote
+  pub finishes : HostFinishes old.entry name host told next old.journal journal
+  pub is : new ≡ record { entry = old.entry; hosts = changed_at at (λ h. next) old.hosts; journal = journal }
+
+-- or it goes on with it, for want of memory
+pub record Stays (name : List ℕ) (told : MediaChange) (old new : MailView) : Type 0 where
+  pub at : ℕ
+  pub host : HostView
+  pub number : index_of (is_named name) old.hosts ≡ Some at
+  pub host_is : slice_get old.hosts at ≡ Some host
+  pub next : HostView
+  pub journal : List MailNote
+  pub stays : HostStays old.entry name host told next old.journal journal
+  pub is : new ≡ record { entry = old.entry; hosts = changed_at at (λ h. next) old.hosts; journal = journal }
+
+-- a call that finishes: it is refused, and the media is as it was, or it is done, or memory ran out behind some operations or
+-- before the first
+abbrev pub FinishEnds : List ℕ → MediaChange → MailView → MailView → Result (Unit {0}) MailFault → Type 0
+FinishEnds name told old new (Ok done) = (refusal_named name idle_refusal old ≡ None) × Finishes name told old new
+FinishEnds name told old new (Err (fault.Refused cause)) = IsTurnedDown name (refusal_named name idle_refusal old) cause told old new
+FinishEnds name told old new (Err fault.OutOfMemory) = ((new ≡ old) × (told.new ≡ told.old)) ⊎ Stays name told old new

@@ -1,5 +1,5 @@
 -- Tasks of a mailbox, a post and a take: which operation comes next, and what comes of it. docs/MODEL.md, "The mailbox".
-use Rattle.std.specs.Prelude.{ℕ, ⊤, Bool, true, false, ◌+◌, ◌<◌, ◌≤◌, ◌^◌, ◌==◌, nat_lt, if◌then◌else◌, List, [], ◌∷◌, ◌++◌, slice_index, slice_set, Option, Some, None}
+use Rattle.std.specs.Prelude.{ℕ, ⊤, Bool, true, false, ◌+◌, ◌-◌, ◌*◌, ◌<◌, ◌≤◌, ◌^◌, ◌==◌, nat_lt, if◌then◌else◌, List, [], ◌∷◌, ◌++◌, slice_index, slice_set, Option, Some, None}
 use Rattle.fam_machine.specs.declared.op.Op.{Op}
 use Rattle.fam_machine.specs.declared.op.Op.TheVariants.{Load, Store, WriteBack, Fence, Invalidate, Digest}
 use Rattle.fam_machine.specs.Operations.{line_no}
@@ -171,3 +171,23 @@ IsPlain at.FenceGate = ⊤
 IsPlain at.Count = ⊥
 IsPlain (at.DropRecord i) = ⊥
 IsPlain (at.LoadRecord i k) = ⊥
+
+-- How many operations a task of a box of such a capacity may be from its end, at most.
+
+-- in a phase
+abbrev pub left_at : Phase → Task → ℕ
+left_at at.DropGate t = 9 * t.capacity + 20
+left_at at.LoadGate t = 9 * t.capacity + 19
+left_at (at.StoreRecord k) t = 18 - k
+left_at at.SendRecord t = 10
+left_at at.FenceRecord t = 9
+left_at at.StoreGate t = 8
+left_at at.SendGate t = 7
+left_at at.FenceGate t = 6
+left_at at.Count t = 9 * t.gate + 2
+left_at (at.DropRecord i) t = 9 * (t.gate - i) + 1
+left_at (at.LoadRecord i k) t = 9 * (t.gate - i) - k
+
+-- in its own phase
+abbrev pub left_of : Task → ℕ
+left_of t = left_at t.phase t

@@ -5,7 +5,7 @@ ghost use Rattle.fam_media.specs.Causes.{IsSteady};
 ghost use Rattle.fam_rules.specs.Place.{IsProperEntry, line_bytes};
 ghost use Rattle.fam_rules.specs.Written.{file_line};
 ghost use Rattle.fam_mail.specs.Running.{CacheFits, Operated, around};
-ghost use Rattle.fam_mail.specs.Tasks.{is_over};
+ghost use Rattle.fam_mail.specs.Tasks.{is_over, left_of};
 
 use crate::task::Task;
 use crate::turn::Turn;
@@ -34,6 +34,7 @@ pub(crate) fn operate<M: Media>(
     ensures unchanged { IsErrOf result OperationFault.OutOfMemory → cache.new ≡ cache.old }
     ensures kept { OnErr result (task.new ≡ task.old) }
     ensures goes_on { IfOk result (λ turn. is_over turn ≡ false → task.new.capacity ≡ task.old.capacity) }
+    ensures falls { IfOk result (λ turn. is_over turn ≡ false → left_of task.new < left_of task.old) }
     ensures fits { CacheFits (M.size media.new) cache.new.lines }
     ensures steady { IsSteady M.size M.state media.old media.new }
 {

@@ -1,4 +1,4 @@
-use Rattle.std.proofs.Common.{◌≡◌, ℕ, Err, refl, ap, sym, subst}
+use Rattle.std.proofs.Common.{◌≡◌, ◌∙◌, ◌<◌, ℕ, Err, false, refl, ap, sym, subst, unwrap_or}
 use Rattle.std.proofs.lemmas.Result.{err_from_is_err_and}
 use Rattle.fam_cache.specs.declared.fault.OperationFault.{OperationFault}
 use Rattle.fam_cache.specs.declared.fault.OperationFault.TheVariants as fault
@@ -8,7 +8,9 @@ use Rattle.fam_media.specs.Outside.{IfModelled}
 use Rattle.fam_machine.specs.Cuts.{HasFailed}
 use Rattle.fam_machine.specs.Operations.{IsWithin, machine}
 use Rattle.fam_mail.specs.Running.{Around, CacheFits, Operated, around}
-use Rattle.fam_mail.specs.Tasks.{op_of}
+use Rattle.fam_mail.specs.Tasks.{PhaseFits, Task, is_over, left_of, op_of, task_of, turn_of}
+use Rattle.fam_mail.specs.declared.turn.Turn.{Turn}
+use Rattle.fam_mail.proofs.Falling.{falls}
 use Rattle.fam_mail.proofs.Running.{failed_fit, lines_fit, op_within}
 use Rattle.fam_rules.specs.Written.{file_line}
 use Rattle.fam_mail.proofs.run.operate.Goals as goal
@@ -46,3 +48,18 @@ returns-clause-fits g c =
     subst (IsWithin size) (sym c.next-op.ensures) (op_within (file_line c.args.entry.now) size c.args.task.now c.requires.within c.args.task.now.phase c.is_sound.ensures.fits) in
     subst (λ (n : ℕ). CacheFits n c.perform.new.self.lines) (sym c.in_ok-word.ensures.steady.size)
     (lines_fit c.next-op.result size (g.M.Media.state c.args.media.now).image c.args.cache.now.lines c.perform.new.self.lines within c.in_ok-word.ensures.cache c.requires.fits)
+
+pub perform-requires-clause-within : goal.perform-requires-clause-within
+perform-requires-clause-within g c =
+    let size = g.M.Media.size c.args.media.now in
+    subst (IsWithin size) (sym c.next-op.ensures) (op_within (file_line c.args.entry.now) size c.args.task.now c.requires.within c.args.task.now.phase c.is_sound.ensures.fits)
+
+nearer : (t next : Task) (turn : Turn) (word : ℕ) → PhaseFits t.phase t → turn ≡ turn_of word t → (is_over turn ≡ false → next ≡ task_of word t) → is_over turn ≡ false → left_of next < left_of t
+nearer t next turn word fits is goes on =
+    subst (λ (x : Task). left_of x < left_of t) (sym (goes on)) (falls t.phase t word fits (ap is_over (sym is) ∙ on))
+
+pub returns-in-Ok-clause-falls : goal.returns-in-Ok-clause-falls
+returns-in-Ok-clause-falls g c = nearer c.args.task.now c.digest.new.self c.in-Ok.turn 0 c.is_sound.ensures.fits c.in-Ok.ensures.turn c.in-Ok.ensures.goes
+
+pub returns-clause-falls : goal.returns-clause-falls
+returns-clause-falls g c = nearer c.args.task.now c.feed.new.self c.feed.result (unwrap_or c.in_ok-word.word 0) c.is_sound.ensures.fits c.feed.ensures.turn c.feed.ensures.goes
