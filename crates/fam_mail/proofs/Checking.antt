@@ -1,0 +1,92 @@
+-- A box whose records are looked at one by one.
+use Rattle.std.proofs.Common.{◌≡◌, ℕ, zero, suc, ◌+◌, ◌-◌, ◌<◌, ◌≤◌, List, [], ◌∷◌, refl, sym, ap, subst, ◌∙◌, arith, add-one}
+use Rattle.std.specs.Prelude.{Bool, true, false, cond, is_some, nat_lt, Option, Some, None, Result, Ok, Err}
+use Rattle.std.proofs.lemmas.Bool.Decides.{nat_tests}
+use Rattle.fam_mail.specs.Boxes.{IsBox, box_by, box_of, first_wrong, gate_in, record_at, record_before, records_from, wrong_before}
+use Rattle.fam_mail.specs.Records.{numbers_in, numbers_or, record_in, wrong_word}
+use Rattle.fam_mail.specs.declared.check.WrongBox.TheVariants.{BadBox, BadRecord}
+
+-- what was read of records, by the first that is none
+abbrev ReadsAs : Result (List (List ℕ)) ℕ → Option ℕ → Type 0
+ReadsAs r None = (records : List (List ℕ)) × (r ≡ Ok records)
+ReadsAs r (Some k) = r ≡ Err k
+
+module _ (each : ℕ → Result (List ℕ) ℕ) where
+  one : (i : ℕ) (first : Result (List ℕ) ℕ) (rest : Result (List (List ℕ)) ℕ) (wrong : Option ℕ) → ReadsAs rest wrong → ReadsAs (record_before i first rest) (wrong_before i first wrong)
+  one i (Err word) rest wrong reads = refl
+  one i (Ok numbers) rest None reads = (numbers ∷ reads.0, ap (record_before i (Ok numbers)) reads.1)
+  one i (Ok numbers) rest (Some k) reads = ap (record_before i (Ok numbers)) reads
+
+  pub reads_as : (i n : ℕ) → ReadsAs (records_from each i n) (first_wrong each i n)
+  reads_as i zero = ([], refl)
+  reads_as i (suc n) = one i (each i) (records_from each (suc i) n) (first_wrong each (suc i) n) (reads_as (suc i) n)
+
+  -- one record that is one, and those behind it
+  pub next_right : (i end : ℕ) (numbers : List ℕ) → i < end → each i ≡ Ok numbers → first_wrong each i (end - i) ≡ first_wrong each (i + 1) (end - (i + 1))
+  next_right i end numbers lt is =
+      let left : end - i ≡ suc (end - (i + 1)) = omega arith in
+      ap (λ (n : ℕ). first_wrong each i n) left ∙ ap (λ (r : Result (List ℕ) ℕ). wrong_before i r (first_wrong each (suc i) (end - (i + 1)))) is
+      ∙ ap (λ (k : ℕ). first_wrong each k (end - (i + 1))) (sym (add-one i))
+
+  -- or none
+  pub here_wrong : (i end word : ℕ) → i < end → each i ≡ Err word → first_wrong each i (end - i) ≡ Some i
+  here_wrong i end word lt is =
+      let left : end - i ≡ suc (end - (i + 1)) = omega arith in
+      ap (λ (n : ℕ). first_wrong each i n) left ∙ ap (λ (r : Result (List ℕ) ℕ). wrong_before i r (first_wrong each (suc i) (end - (i + 1)))) is
+
+-- a line is read as a record, or not, by its wrong word
+pub right_record : (words : List ℕ) → wrong_word words ≡ None → record_in words ≡ Ok (numbers_in words)
+right_record words is = ap (numbers_or (numbers_in words)) is
+
+pub wrong_record : (words : List ℕ) (word : ℕ) → wrong_word words ≡ Some word → record_in words ≡ Err word
+wrong_record words word is = ap (numbers_or (numbers_in words)) is
+
+module _ (place : ℕ → ℕ) (capacity : ℕ) (memory : ℕ → List ℕ) where
+  pub bad_box : capacity < gate_in place memory → box_of place capacity memory ≡ Err (BadBox (gate_in place memory) capacity)
+  bad_box above =
+      let t : nat_lt capacity (gate_in place memory) ≡ true = grind (arith, nat_tests) in
+      ap (λ (b : Bool). cond b (Err (BadBox (gate_in place memory) capacity)) (box_by (records_from (record_at place memory) 0 (gate_in place memory)))) t
+
+  module _ (below : gate_in place memory ≤ capacity) where
+    opened : box_of place capacity memory ≡ box_by (records_from (record_at place memory) 0 (gate_in place memory))
+    opened =
+        let t : nat_lt capacity (gate_in place memory) ≡ false = grind (arith, nat_tests) in
+        ap (λ (b : Bool). cond b (Err (BadBox (gate_in place memory) capacity)) (box_by (records_from (record_at place memory) 0 (gate_in place memory)))) t
+
+    pub bad_record : (i : ℕ) → first_wrong (record_at place memory) 0 (gate_in place memory) ≡ Some i → box_of place capacity memory ≡ Err (BadRecord i)
+    bad_record i is =
+        let reads = subst (ReadsAs (records_from (record_at place memory) 0 (gate_in place memory))) is (reads_as (record_at place memory) 0 (gate_in place memory)) in
+        opened ∙ ap box_by reads
+
+    pub right_box : first_wrong (record_at place memory) 0 (gate_in place memory) ≡ None → IsBox place capacity memory
+    right_box is =
+        let reads = subst (ReadsAs (records_from (record_at place memory) 0 (gate_in place memory))) is (reads_as (record_at place memory) 0 (gate_in place memory)) in
+        (reads.0, opened ∙ ap box_by reads.1)
+
+-- a word that makes a line no record, or none
+pub some_word : (o : Option ℕ) → is_some o ≡ true → (k : ℕ) × (o ≡ Some k)
+some_word None is = absurd cc
+some_word (Some k) is = (k, refl)
+
+pub no_word : (o : Option ℕ) → is_some o ≡ false → o ≡ None
+no_word None is = refl
+no_word (Some k) is = absurd cc
+
+-- A record is looked at, in a memory whose gate was read.
+module _ (place : ℕ → ℕ) (capacity : ℕ) (memory : ℕ → List ℕ) (gate i : ℕ) (lt : i < gate) (room : gate ≤ capacity) (gate_is : gate ≡ gate_in place memory) (words : List ℕ) (line_is : words ≡ memory (place (1 + i)))
+    (front : first_wrong (record_at place memory) 0 gate ≡ first_wrong (record_at place memory) i (gate - i)) where
+  pub one_right : wrong_word words ≡ None → first_wrong (record_at place memory) 0 gate ≡ first_wrong (record_at place memory) (i + 1) (gate - (i + 1))
+  one_right none = front ∙ next_right (record_at place memory) i gate (numbers_in words) lt (ap record_in (sym line_is) ∙ right_record words none)
+
+  pub one_wrong : (word : ℕ) → wrong_word words ≡ Some word → box_of place capacity memory ≡ Err (BadRecord i)
+  one_wrong word is =
+      let here : first_wrong (record_at place memory) 0 gate ≡ Some i = front ∙ here_wrong (record_at place memory) i gate word lt (ap record_in (sym line_is) ∙ wrong_record words word is) in
+      bad_record place capacity memory (omega (arith, room, gate_is)) i (subst (λ (n : ℕ). first_wrong (record_at place memory) 0 n ≡ Some i) gate_is here)
+
+-- all were looked at
+pub all_right : (place : ℕ → ℕ) (capacity : ℕ) (memory : ℕ → List ℕ) (gate i : ℕ) → gate ≤ i → gate ≤ capacity → gate ≡ gate_in place memory
+    → first_wrong (record_at place memory) 0 gate ≡ first_wrong (record_at place memory) i (gate - i) → IsBox place capacity memory
+all_right place capacity memory gate i past room gate_is front =
+    let none : gate - i ≡ 0 = omega arith in
+    let clear : first_wrong (record_at place memory) 0 gate ≡ None = front ∙ ap (λ (n : ℕ). first_wrong (record_at place memory) i n) none in
+    right_box place capacity memory (omega (arith, room, gate_is)) (subst (λ (n : ℕ). first_wrong (record_at place memory) 0 n ≡ None) gate_is clear)

@@ -1,0 +1,41 @@
+use Rattle.std.proofs.Common.{◌≡◌, ℕ, ◌+◌, List, length, rules, ap, sym, ◌∙◌, arith}
+use Rattle.fam_base.specs.Image.{line_at}
+use Rattle.fam_machine.proofs.WideLines.{eight_whole}
+use Rattle.fam_rules.specs.Written.{file_line}
+use Rattle.fam_mail.specs.Boxes.{capacity_of}
+use Rattle.fam_mail.proofs.Checking.{all_right, no_word, one_right, one_wrong, some_word}
+use Rattle.fam_mail.proofs.check.check_box.Goals as goal
+
+pub returns-then-is_some-clause-wrong : goal.returns-then-is_some-clause-wrong
+returns-then-is_some-clause-wrong g c = λ image told.
+    let inv = c.loop-i.invariant in
+    let place : ℕ → ℕ = file_line c.args.entry.now in
+    let words : List ℕ = c.in-Ok-read.words in
+    let long : length c.in-Ok-read.words ≡ 8 = search rules in
+    let line : words ≡ line_at image (place (1 + c.loop-i.i)) =
+    sym (eight_whole c.in-Ok-read.words long) ∙ c.in-Ok-read.ensures.words image (inv.same ∙ told) ∙ ap (line_at image) c.file_line-line.ensures.value in
+    let some = some_word c.wrong_word.result (sym c.is_some.ensures ∙ c.if-is_some.true) in
+    one_wrong place (capacity_of c.args.entry.now.size) (line_at image) _ c.loop-i.i c.loop-i-test.true inv.room (inv.gate_is image told) words line (inv.front image told) some.0 (sym c.wrong_word.ensures ∙ some.1)
+
+pub loop-i-preserved : goal.loop-i-preserved
+loop-i-preserved g c =
+    let inv = c.loop-i.invariant in
+    let place : ℕ → ℕ = file_line c.args.entry.now in
+    record {
+      size_is = c.in-Ok-read.ensures.size ∙ inv.size_is;
+      same = c.in-Ok-read.ensures.same ∙ inv.same;
+      later = omega (arith, inv.later, c.in-Ok-read.ensures.cause.later);
+      room = inv.room;
+      gate_is = inv.gate_is;
+      front = λ image told.
+          let long : length c.in-Ok-read.words ≡ 8 = search rules in
+          let line : c.in-Ok-read.words ≡ line_at image (place (1 + c.loop-i.i)) =
+          sym (eight_whole c.in-Ok-read.words long) ∙ c.in-Ok-read.ensures.words image (inv.same ∙ told) ∙ ap (line_at image) c.file_line-line.ensures.value in
+          one_right place (capacity_of c.args.entry.now.size) (line_at image) _ c.loop-i.i c.loop-i-test.true inv.room (inv.gate_is image told) c.in-Ok-read.words line (inv.front image told)
+          (sym c.wrong_word.ensures ∙ no_word c.wrong_word.result (sym c.is_some.ensures ∙ c.if-is_some.false));
+    }
+
+pub returns-clause-read : goal.returns-clause-read
+returns-clause-read g c = λ image told.
+    let inv = c.loop-i.invariant in
+    all_right (file_line c.args.entry.now) (capacity_of c.args.entry.now.size) (line_at image) _ c.loop-i.i (omega (arith, c.loop-i-test.false)) inv.room (inv.gate_is image told) (inv.front image told)

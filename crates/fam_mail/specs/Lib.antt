@@ -1,0 +1,12 @@
+pub mod Records
+pub mod Boxes
+pub mod Tasks
+pub mod TaskModel
+pub mod Mail
+pub mod Protocol
+pub mod Running
+pub mod World
+pub mod Calls
+pub mod Standing
+pub mod Moves
+pub mod Checks

@@ -1,0 +1,19 @@
+-- Moves of a cache, as the code has them.
+use Rattle.std.specs.Prelude.{Result, Ok, Err}
+use Rattle.fam_cache.specs.declared.fault.CacheFault.{CacheFault}
+use Rattle.fam_cache.specs.declared.fault.CacheFault.TheVariants as cache_fault
+use Rattle.fam_machine.specs.HostMoves.{Move, Evict, Leak, Fetch}
+use Rattle.fam_media.specs.declared.media.Failed.{Failed}
+use Rattle.fam_mail.specs.declared.world.moves.OwnMove.{OwnMove}
+use Rattle.fam_mail.specs.declared.world.moves.OwnMove.TheVariants as own
+
+-- the move that it is
+abbrev pub move_of : OwnMove → Move
+move_of own.Evict = Evict
+move_of (own.Leak mask) = Leak mask.0
+move_of (own.Fetch mask) = Fetch mask.0
+
+-- a failed send, as a fault of a cache
+abbrev pub fault_of : Result (Unit {0}) Failed → Result (Unit {0}) CacheFault
+fault_of (Ok x) = Ok x
+fault_of (Err failed) = Err cache_fault.Failed
