@@ -4,3 +4,7 @@ pub mod Following
 pub mod PutPlaces
 pub mod Parts
 pub mod Rows
+pub mod Slots
+pub mod Failing
+pub mod Copying
+pub mod Sources

@@ -8,7 +8,7 @@ ghost use Rattle.fam_format.specs.Params.{SoundParams};
 ghost use Rattle.fam_format.specs.Slot.{Proper};
 ghost use Rattle.fam_rules.specs.Decide.{wish_of};
 ghost use Rattle.fam_plan.specs.State.{MayBeAdded};
-ghost use Rattle.fam_dup.specs.Copies.{AreAlike, Copied, IsNext, copy_of, copying, copying_from, wish_again};
+ghost use Rattle.fam_dup.specs.Copies.{AreAlike, Copied, IsNext, IsWantOfRoom, copy_of, copying, copying_from, wish_again};
 ghost use Rattle.fam_dup.specs.Ends.{IsOwn};
 ghost use Rattle.fam_dup.specs.Findings.{Names, WantsMemory, class_of, copies_or, refused_of};
 
@@ -44,6 +44,22 @@ fn command(entry: &Entry) -> Cmd
     }
 }
 
+/// A refusal for want of slots or of room.
+fn refusal_of(refused: Refused) -> DupRefusal
+    requires { IsWantOfRoom refused }
+    ensures { refused_of result ≡ refused }
+{
+    match refused {
+        Refused::LogFull(slots) => DupRefusal::LogFull(slots),
+        Refused::NoSpace(units) => DupRefusal::NoSpace(units),
+        Refused::NotMaster { .. }
+        | Refused::BadStripe
+        | Refused::Exists(_)
+        | Refused::NoParent
+        | Refused::ParentIsFile => unreachable!(),
+    }
+}
+
 /// The copy of an entry behind the copies of those before it, or why there is none.
 fn copy_entry(copies: &Plan, entry: &Entry) -> Result<Entry, DupRefusal>
     requires { IsNext copies.now.entries entry.now }
@@ -54,15 +70,7 @@ fn copy_entry(copies: &Plan, entry: &Entry) -> Result<Entry, DupRefusal>
     copies.each_entry_joins();
     match copies.decide(&command(entry), copies.params().master) {
         Ok(copy) => Ok(copy),
-        Err(Refused::LogFull(slots)) => Err(DupRefusal::LogFull(slots)),
-        Err(Refused::NoSpace(units)) => Err(DupRefusal::NoSpace(units)),
-        Err(
-            Refused::NotMaster { .. }
-            | Refused::BadStripe
-            | Refused::Exists(_)
-            | Refused::NoParent
-            | Refused::ParentIsFile,
-        ) => unreachable!(),
+        Err(refused) => Err(refusal_of(refused)),
     }
 }
 
@@ -91,7 +99,8 @@ pub(crate) fn entry_at(plan: &Plan, i: u64) -> Entry
 }
 
 /// Copies the next entry.
-fn copy_next(source: &Plan, copies: &mut Plan) -> Result<(), DupFault>
+fn copy_next(source: &Plan, copies: &mut Plan, seq: u64) -> Result<(), DupFault>
+    requires next { seq ≡ length copies.old.entries }
     requires left { length copies.old.entries < length source.now.entries }
     requires alike { AreAlike (take (length copies.old.entries) source.now.entries) copies.old.entries }
     ensures told { OnOk result
@@ -105,7 +114,6 @@ fn copy_next(source: &Plan, copies: &mut Plan) -> Result<(), DupFault>
     ensures own { IfErr result (λ fault. IsOwn (class_of fault)) }
 {
     source.each_entry_joins();
-    let seq = copies.count();
     let entry = entry_at(source, seq);
     match copy_entry(copies, &entry) {
         Ok(copy) => add_copy(copies, &copy),
@@ -126,8 +134,8 @@ pub(crate) fn plan_copies(
     ensures own { IfErr result (λ fault. IsOwn (class_of fault)) }
 {
     let mut copies = Plan::new(alloc, params)?;
-    for _seq in 0..source.count() {
-        copy_next(source, &mut copies)?;
+    for seq in 0..source.count() {
+        copy_next(source, &mut copies, seq)?;
     }
     Ok(copies)
 }

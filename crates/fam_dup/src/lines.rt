@@ -1,6 +1,6 @@
 //! Single lines of a media, and its superblock.
 
-ghost use Rattle.std.specs.Prelude.{◌≡◌, ◌∷◌, [], ◌*◌, ◌<◌, ◌≤◌, IfOk, OnErr, OnOk, ℕ};
+ghost use Rattle.std.specs.Prelude.{◌≡◌, ◌∷◌, [], ◌*◌, ◌^◌, ◌<◌, ◌≤◌, IfOk, OnErr, OnOk, ℕ, length, slice_index};
 ghost use Rattle.fam_base.specs.Image.{line_at};
 ghost use Rattle.fam_format.specs.Layout.{least_lines};
 ghost use Rattle.fam_format.specs.Params.{SoundParams};
@@ -18,6 +18,14 @@ use fam_super::read_super;
 /// The media failed at this line.
 #[derive(Clone, Copy, Debug, PartialEq, Eq)]
 pub(crate) struct FailedAt(pub(crate) LineNo);
+
+/// A line has eight words of 64 bits, which a contract that has them as numbers doesn't see. A call does nothing.
+pub(crate) fn are_words(words: Line)
+    ensures count { length words ≡ 8 }
+    ensures fit { (w : ℕ) → slice_index words w < 2 ^ 64 }
+{
+    let _ = words[0];
+}
 
 /// Reads a line.
 pub(crate) fn read_line<M: Media>(media: &mut M, line: LineNo) -> Result<Line, FailedAt>

@@ -170,7 +170,8 @@ fn read_words<M: Media>(
 }
 
 /// Reads FROM's next slot, and adds its entry to those before it.
-fn read_slot<M: Media>(from: &mut M, plan: &mut Plan) -> Result<(), DupFault>
+fn read_slot<M: Media>(from: &mut M, plan: &mut Plan, seq: u64) -> Result<(), DupFault>
+    requires next { seq ≡ length plan.old.entries }
     requires device { plan.old.params.device ≤ line_bytes * M.size from.old }
     requires left { length plan.old.entries < plan.old.params.slots }
     ensures told { OnOk result (IfModelled (M.state from.old).image (λ image. (more : ℕ)
@@ -186,7 +187,6 @@ fn read_slot<M: Media>(from: &mut M, plan: &mut Plan) -> Result<(), DupFault>
 {
     plan.each_entry_joins();
     let params = *plan.params();
-    let seq = plan.count();
     let words = read_words(from, &params, seq)?;
     let entry = match read_entry(&words, seq, &params) {
         Ok(entry) => entry,
@@ -212,8 +212,8 @@ fn read_slots<M: Media>(from: &mut M, plan: &mut Plan, count: u64) -> Result<(),
     ensures same { (M.state from.new).image ≡ (M.state from.old).image }
     ensures steady { IsSteady M.size M.state from.old from.new }
 {
-    for _slot in 0..count {
-        read_slot(from, plan)?;
+    for slot in 0..count {
+        read_slot(from, plan, slot)?;
     }
     Ok(())
 }

@@ -18,7 +18,7 @@ ghost use Rattle.fam_dup.specs.Lines.{IsFileOn, PutsEnd, bytes_in, copy_puts, fi
 
 use crate::copies::entry_at;
 use crate::fault::DupFault;
-use crate::lines::{FailedAt, write_line};
+use crate::lines::{FailedAt, are_words, write_line};
 use crate::source::read_from;
 use fam_base::{Entry, Line, LineNo, Params};
 use fam_content::{file_line, first_bytes, lines_of};
@@ -54,6 +54,7 @@ fn read_part<M: Media>(from: &mut M, entry: &Entry, j: u64) -> Result<Line, DupF
 {
     let words = read_from(from, file_line(entry, j))?;
     let part = first_bytes(&words, entry.size - LINE_BYTES * j);
+    are_words(part);
     Ok(part)
 }
 
@@ -188,6 +189,8 @@ fn write_head<N: Media>(to: &mut N, params: &Params, count: u64) -> Result<(), D
     ensures steady { IsSteady N.size N.state to.old to.new }
 {
     let [_, first, second] = Super::spell(params);
+    are_words(first);
+    are_words(second);
     write_to(to, LineNo(GATE_LINE), &[count, 0, 0, 0, 0, 0, 0, 0])?;
     write_to(to, LineNo(LOG_LINE), &spell_log(params))?;
     write_to(to, LineNo(1), &first)?;

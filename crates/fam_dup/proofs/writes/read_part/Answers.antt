@@ -1,5 +1,4 @@
 use Rattle.std.proofs.Common.{◌∙◌, ap, arith}
-use Rattle.std.proofs.Common.{rules}
 use Rattle.fam_base.specs.Image.{line_at}
 use Rattle.fam_rules.proofs.LinesApart.{file_within}
 use Rattle.fam_dup.proofs.Parts.{part_words}
@@ -15,4 +14,4 @@ returns-clause-words g c = λ image told.
     let file = c.requires.file in
     part_words (line_at image) file.params c.args.entry.now c.args.j c.in_ok-words.words c.first_bytes-part.result file.sound file.proper c.requires.below
     (c.in_ok-words.ensures.words image told ∙ ap (line_at image) c.file_line.ensures.value)
-    (search rules) (λ w. omega (arith, c.type_inv.part w)) c.first_bytes-part.ensures
+    c.are_words.ensures.count c.are_words.ensures.fit c.first_bytes-part.ensures
