@@ -8,3 +8,4 @@ pub mod Slots
 pub mod Failing
 pub mod Copying
 pub mod Sources
+pub mod Heads

@@ -50,3 +50,13 @@ files_at memory es cs i e c at_e at_c = ap₂ (λ (xs ys : List Entry). files_pu
 -- and the slots
 pub slots_at : (p : Params) (cs : List Entry) (i : ℕ) (c : Entry) → slice_get cs i ≡ Some c → slots_puts p i (drop i cs) ≡ slot_puts p i c ++ slots_puts p (i + 1) (drop (i + 1) cs)
 slots_at p cs i c at = ap (slots_puts p i) (drop_at cs i c at)
+
+-- behind the last one there are none
+drop_past : (list : List Entry) (i : ℕ) → length list ≤ i → drop i list ≡ []
+drop_past list i past = drop_all i list past
+
+pub files_end : (memory : Lines) (es cs : List Entry) (i : ℕ) → length es ≤ i → files_puts memory (drop i es) (drop i cs) ≡ []
+files_end memory es cs i past = ap (λ (l : List Entry). files_puts memory l (drop i cs)) (drop_past es i past)
+
+pub slots_end : (p : Params) (cs : List Entry) (i : ℕ) → length cs ≤ i → slots_puts p i (drop i cs) ≡ []
+slots_end p cs i past = ap (slots_puts p i) (drop_past cs i past)

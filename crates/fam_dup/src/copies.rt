@@ -114,6 +114,7 @@ fn copy_next(source: &Plan, copies: &mut Plan, seq: u64) -> Result<(), DupFault>
     ensures own { IfErr result (λ fault. IsOwn (class_of fault)) }
 {
     source.each_entry_joins();
+    copies.each_entry_joins();
     let entry = entry_at(source, seq);
     match copy_entry(copies, &entry) {
         Ok(copy) => add_copy(copies, &copy),

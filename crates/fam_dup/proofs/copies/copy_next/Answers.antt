@@ -1,4 +1,4 @@
-use Rattle.std.proofs.Common.{◌≡◌, sym, ap, subst, ◌∙◌, take, drop, length, ℕ, List}
+use Rattle.std.proofs.Common.{◌≡◌, [], sym, ap, subst, ◌∙◌, take, drop, length, ℕ, List}
 use Rattle.std.proofs.lemmas.Result.{IfErr-weaker, on_ok_weaker}
 use Rattle.fam_base.specs.declared.entry.Entry.{Entry}
 use Rattle.fam_plan.specs.State.{IsAdded}
@@ -26,7 +26,15 @@ returns-in-Ok-clause-told c =
     c.add_copy.ensures.added
 
 pub returns-in-Ok-clause-alike : goal.returns-in-Ok-clause-alike
-returns-in-Ok-clause-alike c = ?
+returns-in-Ok-clause-alike c =
+    let source = c.args.source.now in
+    let copies = c.args.copies.now in
+    let e = c.entry_at-entry.result in
+    let added = c.each_entry_joins.ensures.added c.args.seq e c.entry_at-entry.ensures.at in
+    on_ok_weaker c.add_copy.result
+    (λ is. alike_on copies.params source.entries copies.entries c.args.seq e c.requires.next c.entry_at-entry.ensures.at c.in-Ok.copy c.add_copy.new.copies.entries is c.requires.alike
+    (as_copy source.params copies.params c.each_entry_joins.ensures.params c.each_entry_joins-2.ensures.params [] copies.entries e c.in-Ok.copy added.proper c.in-Ok.ensures.value))
+    c.add_copy.ensures.added
 
 pub returns-in-Ok-clause-fault : goal.returns-in-Ok-clause-fault
 returns-in-Ok-clause-fault c =

@@ -1,0 +1,32 @@
+-- The superblock's lines as they are spelled, and lines put one after another.
+use Rattle.std.proofs.Common.{◌≡◌, ℕ, zero, suc, ◌<◌, List, [], ◌∷◌, ◌++◌, length, get_or, Option, refl, sym, ap, ap₂, subst, ◌∙◌, arith}
+use Rattle.std.specs.Prelude.{slice_range}
+use Rattle.std.proofs.lemmas.List.{ext_get_or}
+use Rattle.fam_base.specs.declared.entry.Params.{Params}
+use Rattle.fam_base.specs.Image.{Image, eight, line_at}
+use Rattle.fam_format.specs.Super.{super_words}
+use Rattle.fam_rules.specs.Written.{Put}
+
+-- a word of eight
+pub eight_word : (words : List ℕ) (i : ℕ) → i < 8 → get_or (eight words) i 0 ≡ get_or words i 0
+eight_word words zero h = refl
+eight_word words (suc zero) h = refl
+eight_word words (suc (suc zero)) h = refl
+eight_word words (suc (suc (suc zero))) h = refl
+eight_word words (suc (suc (suc (suc zero)))) h = refl
+eight_word words (suc (suc (suc (suc (suc zero))))) h = refl
+eight_word words (suc (suc (suc (suc (suc (suc zero)))))) h = refl
+eight_word words (suc (suc (suc (suc (suc (suc (suc zero))))))) h = refl
+eight_word words (suc (suc (suc (suc (suc (suc (suc (suc i)))))))) h = absurd (omega arith)
+
+-- of eight they are all
+pub eight_of_eight : (words : List ℕ) → length words ≡ 8 → eight words ≡ words
+eight_of_eight words count = ext_get_or 0 (eight words) words (sym count) (λ i below. eight_word words i below)
+
+-- the first eight of the superblock's words
+pub first_words : (p : Params) (first second : List ℕ) → length first ≡ 8 → eight first ++ eight second ≡ super_words p → first ≡ slice_range (super_words p) 0 8
+first_words p first second count words = sym (eight_of_eight first count) ∙ ap (λ (w : List ℕ). slice_range w 0 8) words
+
+-- and the others
+pub other_words : (p : Params) (first second : List ℕ) → length second ≡ 8 → eight first ++ eight second ≡ super_words p → second ≡ slice_range (super_words p) 8 16
+other_words p first second count words = sym (eight_of_eight second count) ∙ ap (λ (w : List ℕ). slice_range w 8 16) words
