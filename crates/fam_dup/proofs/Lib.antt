@@ -9,3 +9,5 @@ pub mod Failing
 pub mod Copying
 pub mod Sources
 pub mod Heads
+pub mod Whole
+pub mod Chains

@@ -84,5 +84,5 @@ returns-clause-puts g c = λ image told.
     let all : List Put = files_puts (line_at image) entries copies in
     pass_all all (g.N.Media.state c.args.to.now).image (g.N.Media.state c.loop-seq.to).image
     (subst (λ (l : List Put). ArePassed all l (g.N.Media.state c.args.to.now).image (g.N.Media.state c.loop-seq.to).image)
-    (files_end (line_at image) entries copies c.loop-seq.seq (omega (arith, c.count.ensures.count, c.requires.copies.count)))
+    (files_end (line_at image) entries copies c.loop-seq.seq (omega (arith, c.count-seq-end.ensures.count, c.requires.copies.count)))
     (c.loop-seq.invariant.passed image told))

@@ -61,4 +61,4 @@ returns-clause-puts g c =
     let all : List Put = slots_puts p 0 copies in
     pass_all all (g.N.Media.state c.args.to.now).image (g.N.Media.state c.loop-seq.to).image
     (subst (λ (l : List Put). ArePassed all l (g.N.Media.state c.args.to.now).image (g.N.Media.state c.loop-seq.to).image)
-    (slots_end p copies c.loop-seq.seq (omega (arith, c.count.ensures.count))) c.loop-seq.invariant.passed)
+    (slots_end p copies c.loop-seq.seq (omega (arith, c.count-seq-end.ensures.count))) c.loop-seq.invariant.passed)
