@@ -11,3 +11,4 @@ pub mod Sources
 pub mod Heads
 pub mod Whole
 pub mod Chains
+pub mod Cuts

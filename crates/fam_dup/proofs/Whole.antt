@@ -124,11 +124,11 @@ module _ (q : Params) (es cs : List Entry) (from to : Image) (sound : SoundParam
   with_head : Image
   with_head = put_lines (head_puts q (length cs)) with_slots
 
-  whole : Image
+  abbrev pub whole : Image
   whole = put_lines (copy_puts (line_at from) q es cs) to
 
   last : whole ≡ with_line 0 magic_line with_head
-  unfolding whole with_head with_slots with_files cleared
+  unfolding with_head with_slots with_files cleared
   last =
       put_lines-append (body_puts (line_at from) q es cs) ((0, magic_line) ∷ []) (with_line 0 zero_line to)
       ∙ ap (with_line 0 magic_line)
@@ -153,7 +153,6 @@ module _ (q : Params) (es cs : List Entry) (from to : Image) (sound : SoundParam
   count_head = length-put_lines (head_puts q (length cs)) with_slots ∙ count_slots
 
   count_whole : length whole ≡ length to
-  unfolding whole
   count_whole = length-put_lines (copy_puts (line_at from) q es cs) to
 
   -- there are enough for superblock and log
@@ -209,7 +208,9 @@ module _ (q : Params) (es cs : List Entry) (from to : Image) (sound : SoundParam
       let slot : i < q.slots = omega (arith, history.few, slice_get_within cs i c at) in
       before_magic (slot_line q i j) (λ e. omega arith)
       ∙ before_head (slot_line q i j) (λ e. omega arith) (λ e. omega arith) (λ e. omega arith) (λ e. omega arith)
-      ∙ slot_there q cs 0 with_files i c j at below (omega (arith, count_files, slot_within q i j (length to) sound slot below fits))
+      ∙ (let zero_i : 0 + i ≡ i = omega arith in
+      subst (λ (n : ℕ). line_at (put_lines (slots_puts q 0 cs) with_files) (slot_line q n j) ≡ eight (slot_part (spelling (geometry q) c n) j)) zero_i
+      (slot_there q cs 0 with_files i c j at below (omega (arith, count_files, slot_within q i j (length to) sound slot below fits))))
 
   slot_words_there : (i : ℕ) (c : Entry) → slice_get cs i ≡ Some c → slot_words (line_at whole) q i ≡ spelling (geometry q) c i
   unfolding slot_words
@@ -278,6 +279,7 @@ module _ (q : Params) (es cs : List Entry) (from to : Image) (sound : SoundParam
   at_line i e c j at_e at_c below =
       let proper = (history.added i c at_c).proper in
       let high = file_high c j proper below in
+      let low = slot_before q 0 0 sound (omega (arith, history.few, slice_get_within cs i c at_c)) (omega arith) in
       before_magic (file_line c j) (λ same. omega arith)
       ∙ before_head (file_line c j) (λ same. omega arith) (λ same. omega arith) (λ same. omega arith) (λ same. omega arith)
       ∙ put_elsewhere (slots_puts q 0 cs) with_files (file_line c j)
@@ -305,12 +307,11 @@ module _ (q : Params) (es cs : List Entry) (from to : Image) (sound : SoundParam
       (elsewhere-append l (files_puts (line_at from) es cs) (slots_puts q 0 cs ++ head_puts q (length cs))
       (files_elsewhere (line_at from) es cs l off.files)
       (elsewhere-append l (slots_puts q 0 cs) (head_puts q (length cs))
-      (slots_elsewhere q cs 0 l off.slots)
+      (slots_elsewhere q cs 0 l (λ i c at j below same. off.slots i c at j below (let zero_i : slot_line q (0 + i) j ≡ slot_line q i j = omega arith in same ∙ zero_i)))
       (off.gate, (off.header, (off.first, (off.second, tt))))))
       (off.magic, tt))
 
   pub whole_copy : IsCopied from to whole q es cs
-  unfolding whole
   whole_copy = record {
     reads = whole_reads;
     are = copies;
