@@ -82,43 +82,39 @@ unfolding reading_of super_of
 none_read line have word = ap (λ (w : ℕ). read_super line (super_of w (line 1 ++ line 2) have)) word
 
 -- of an image
-none_there : (image : Image) → slice_index (line_at image 0) 0 ≡ 0 → reading image ≡ NoSuperblock (super.NoSuper 0)
+pub none_there : (image : Image) → slice_index (line_at image 0) 0 ≡ 0 → reading image ≡ NoSuperblock (super.NoSuper 0)
 none_there image word = none_read (line_at image) (line_bytes * length image) word
 
 -- A torn line 0.
 
 -- whether word 0 was written
-abbrev bit : ℕ → Bool
+abbrev pub bit : ℕ → Bool
 bit mask = mask / 2 ^ 0 % 2 == 1
 
 module _ (image : Image) (mask : ℕ) (words : List ℕ) (some : 0 < length image) where
-  torn : Image
+  abbrev pub torn : Image
   torn = with_masked 0 words mask image
 
   torn_line : line_at torn 0 ≡ masked mask words (line_at image 0)
-  unfolding torn
   torn_line =
       ap (λ (m : Image). line_at m 0) (with_masked-with_line image 0 words mask)
       ∙ line_at-with_line image 0 (masked mask words (line_at image 0)) some
       ∙ eight-masked mask words (line_at image 0)
 
-  torn_word : slice_index (line_at torn 0) 0 ≡ (if bit mask then slice_index words 0 else slice_index (line_at image 0) 0)
+  pub torn_word : slice_index (line_at torn 0) 0 ≡ (if bit mask then slice_index words 0 else slice_index (line_at image 0) 0)
   unfolding masked
   torn_word = ap (λ (w : List ℕ). slice_index w 0) torn_line
 
-  torn_other : (l : ℕ) → l ≢ 0 → line_at torn l ≡ line_at image l
-  unfolding torn
+  pub torn_other : (l : ℕ) → l ≢ 0 → line_at torn l ≡ line_at image l
   torn_other l off =
       ap (λ (m : Image). line_at m l) (with_masked-with_line image 0 words mask)
       ∙ line_at-with_line_other image 0 (masked mask words (line_at image 0)) l off
 
   torn_count : length torn ≡ length image
-  unfolding torn
   torn_count = ap (λ (m : Image). length m) (with_masked-with_line image 0 words mask) ∙ length-with_line image 0 (masked mask words (line_at image 0))
 
   -- cleared in part it reads as before, or as none
   pub torn_clear : slice_index words 0 ≡ 0 → IsOldOrNone (reading image) (reading (with_masked 0 words mask image))
-  unfolding torn
   torn_clear zero_word =
       elim (cases_Bool (bit mask)) [
         | inl set ↦ inr (none_there torn (torn_word ∙ ap (λ (b : Bool). if b then slice_index words 0 else slice_index (line_at image 0) 0) set ∙ zero_word))
@@ -128,7 +124,7 @@ module _ (image : Image) (mask : ℕ) (words : List ℕ) (some : 0 < length imag
       ]
 
 -- no choice
-no_choice : (b : Bool) → (if b then 0 else 0) ≡ 0
+no_choice : (b : Bool) → ◌≡◌ {A = ℕ} (if b then 0 else 0) 0
 no_choice true = refl
 no_choice false = refl
 
@@ -146,6 +142,6 @@ magic_word mask set (suc (suc (suc (suc (suc (suc (suc zero))))))) below = no_ch
 magic_word mask set (suc (suc (suc (suc (suc (suc (suc (suc i)))))))) below = absurd (omega arith)
 
 -- the magic's line, where its word 0 was written over zeros
-magic_whole : (mask : ℕ) → bit mask ≡ true → masked mask magic_line zero_line ≡ magic_line
+pub magic_whole : (mask : ℕ) → bit mask ≡ true → masked mask magic_line zero_line ≡ magic_line
 unfolding masked
 magic_whole mask set = ext_get_or 0 (masked mask magic_line zero_line) magic_line refl (λ i below. magic_word mask set i below)

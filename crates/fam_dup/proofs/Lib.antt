@@ -12,3 +12,4 @@ pub mod Heads
 pub mod Whole
 pub mod Chains
 pub mod Cuts
+pub mod Cutting

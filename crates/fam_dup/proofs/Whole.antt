@@ -156,7 +156,7 @@ module _ (q : Params) (es cs : List Entry) (from to : Image) (sound : SoundParam
   count_whole = length-put_lines (copy_puts (line_at from) q es cs) to
 
   -- there are enough for superblock and log
-  enough : 32770 ≤ length to
+  pub enough : 32770 ≤ length to
   enough = omega (arith, sound.need, (unit_told q.unit sound.unit).least)
 
   -- Gate, header and superblock.

@@ -44,6 +44,7 @@ pub fn dup<M: Media, N: Media>(
     let source = read_source(alloc, from)?;
     check_target(to, params, force)?;
     let copies = plan_copies(alloc, &source, params)?;
+    source.each_entry_joins();
     write_copy(from, to, &source, &copies)?;
     Ok(copies.count())
 }
