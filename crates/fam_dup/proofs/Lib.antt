@@ -13,3 +13,4 @@ pub mod Whole
 pub mod Chains
 pub mod Cuts
 pub mod Cutting
+pub mod Finding
