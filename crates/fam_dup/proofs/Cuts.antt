@@ -1,12 +1,11 @@
 -- What a copy that was cut reads as.
-use Rattle.std.proofs.Common.{◌≡◌, ℕ, zero, suc, ◌+◌, ◌*◌, ◌/◌, ◌%◌, ◌^◌, ◌<◌, ◌≤◌, Bool, true, false, List, [], ◌∷◌, ◌++◌, length, get_or, Option, Some, None, Result, Ok, Err, if◌then◌else◌, refl, sym, ap, ap₂, subst, ◌∙◌, inl, inr, arith}
-use Rattle.std.specs.Prelude.{◌≢◌, ◌⊎◌, ◌==◌, slice_get, slice_index}
-use Rattle.std.specs.Option.{option_map}
+use Rattle.std.proofs.Common.{◌≡◌, ℕ, zero, suc, ◌+◌, ◌*◌, ◌/◌, ◌%◌, ◌^◌, ◌<◌, Bool, true, false, List, [], ◌∷◌, ◌++◌, length, get_or, Option, Some, None, Result, Ok, Err, if◌then◌else◌, refl, ap, ap₂, ◌∙◌, inl, inr, arith}
+use Rattle.std.specs.Prelude.{◌≢◌, ◌==◌, slice_index}
 use Rattle.std.proofs.lemmas.Bool.{cases_Bool}
 use Rattle.std.proofs.lemmas.List.{ext_get_or}
 use Rattle.fam_base.specs.declared.entry.Params.{Params}
 use Rattle.fam_base.specs.declared.entry.Entry.{Entry}
-use Rattle.fam_base.specs.Image.{Image, eight, line_at, masked, masked_word, with_line, with_masked}
+use Rattle.fam_base.specs.Image.{Image, line_at, masked, with_masked}
 use Rattle.fam_base.proofs.ImageLemmas.{eight-masked, length-with_line, line_at-with_line, line_at-with_line_other, with_masked-with_line}
 use Rattle.fam_format.specs.declared.faults.SuperFault.{SuperFault}
 use Rattle.fam_format.specs.declared.faults.SuperFault.TheVariants as super
@@ -14,23 +13,14 @@ use Rattle.fam_format.specs.declared.faults.LogFault.{LogFault}
 use Rattle.fam_format.specs.declared.faults.Reason.{Reason}
 use Rattle.fam_format.specs.Layout.{gate_line, geometry, log_line, slot_line}
 use Rattle.fam_format.specs.Log.{gate_fault, log_fault}
-use Rattle.fam_format.specs.Params.{SoundParams}
 use Rattle.fam_format.specs.Reading.{Lines, NoSuperblock, Reading, gate_in, joined_or, read_below, read_log, read_slots, read_super, reading, reading_of, slot_in, slot_or, slot_word, slot_words, super_in}
 use Rattle.fam_format.specs.Super.{magic, magic_line, super_of}
 use Rattle.fam_format.specs.Slot.{entry_of}
 use Rattle.fam_format.specs.Tree.{join_fault}
-use Rattle.fam_media.specs.Outside.{IsTorn}
-use Rattle.fam_plan.specs.State.{IsHistory}
 use Rattle.fam_rules.specs.Place.{line_bytes}
-use Rattle.fam_rules.specs.Written.{Put, put_line, put_lines, zero_line}
-use Rattle.fam_rules.proofs.Puts.{AreElsewhere, length-put_lines, put_elsewhere}
+use Rattle.fam_rules.specs.Written.{zero_line}
 use Rattle.fam_rules.proofs.RoomSame.{map_range_same}
-use Rattle.fam_dup.specs.Copies.{AreCopies}
-use Rattle.fam_dup.specs.Ends.{IsCopied, IsOldOrNone}
-use Rattle.fam_dup.specs.Lines.{AreCut, IsOffCopy, IsPartlyPut, body_puts, copy_puts}
-use Rattle.fam_dup.proofs.Passing.{put_lines-append}
-use Rattle.fam_dup.proofs.PutPlaces.{elsewhere-left, elsewhere-right}
-use Rattle.fam_dup.proofs.Whole.{body_off, off_all, whole_copy}
+use Rattle.fam_dup.specs.Ends.{IsOldOrNone}
 
 -- Readings.
 

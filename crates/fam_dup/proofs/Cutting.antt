@@ -1,7 +1,6 @@
 -- A copy that was cut at any of its writes.
-use Rattle.std.proofs.Common.{◌≡◌, ℕ, ◌*◌, ◌/◌, ◌%◌, ◌<◌, ◌≤◌, Bool, true, false, List, [], ◌∷◌, ◌++◌, length, Option, Some, None, if◌then◌else◌, refl, sym, ap, ap₂, subst, ◌∙◌, inl, inr, arith}
+use Rattle.std.proofs.Common.{◌≡◌, ℕ, ◌*◌, ◌<◌, ◌≤◌, Bool, List, [], ◌∷◌, ◌++◌, length, Option, Some, if◌then◌else◌, refl, sym, ap, ap₂, subst, ◌∙◌, inl, inr, arith}
 use Rattle.std.specs.Prelude.{◌≢◌, ◌⊎◌, slice_index}
-use Rattle.std.specs.Option.{option_map}
 use Rattle.std.proofs.lemmas.Bool.{cases_Bool}
 use Rattle.std.proofs.lemmas.Option.{same_Some}
 use Rattle.fam_base.specs.declared.entry.Params.{Params}
@@ -12,7 +11,6 @@ use Rattle.fam_format.specs.declared.faults.SuperFault.TheVariants as super
 use Rattle.fam_format.specs.Params.{SoundParams}
 use Rattle.fam_format.specs.Reading.{NoSuperblock, reading}
 use Rattle.fam_format.specs.Super.{magic_line}
-use Rattle.fam_media.specs.Outside.{IsTorn}
 use Rattle.fam_plan.specs.State.{IsHistory}
 use Rattle.fam_rules.specs.Place.{line_bytes}
 use Rattle.fam_rules.specs.Written.{Put, put_line, put_lines, zero_line}

@@ -1,7 +1,7 @@
 -- Faults that come later in a pass.
-use Rattle.std.proofs.Common.{◌≡◌, ℕ, ◌<◌, ◌≤◌, inl, inr, subst, sym, arith}
+use Rattle.std.proofs.Common.{◌≡◌, ℕ, ◌≤◌, inl, inr, subst, sym, arith}
 use Rattle.fam_media.specs.Causes.{Rose}
-use Rattle.fam_dup.specs.Ends.{IsCaused, IsCausedBy, IsCausedByFrom, IsCausedByTo, IsFailure}
+use Rattle.fam_dup.specs.Ends.{IsCausedByFrom, IsFailure}
 use Rattle.fam_dup.specs.Findings.{FailsFrom, FailsTo, FaultClass, Finding, Names, Refuses, WantsMemory}
 
 -- a count that rose has risen from what it was before

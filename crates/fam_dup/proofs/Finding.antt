@@ -1,13 +1,13 @@
 -- What is found, step by step, and what a fault leaves that came before the first write.
-use Rattle.std.proofs.Common.{◌≡◌, ℕ, ◌<◌, ◌≤◌, Bool, true, false, nat_lt, List, length, if◌then◌else◌, refl, sym, ap, subst, ◌∙◌, inl, arith}
+use Rattle.std.proofs.Common.{◌≡◌, ℕ, ◌<◌, ◌≤◌, Bool, true, false, nat_lt, List, length, if◌then◌else◌, sym, ap, subst, ◌∙◌, inl, arith}
 use Rattle.std.proofs.lemmas.Bool.Decides.{nat_tests}
 use Rattle.fam_base.specs.declared.entry.Params.{Params}
 use Rattle.fam_base.specs.declared.entry.Entry.{Entry}
 use Rattle.fam_base.specs.Image.{Image}
 use Rattle.fam_format.specs.Layout.{least_lines}
 use Rattle.fam_format.specs.Reading.{Reading, Sound, reading}
-use Rattle.fam_dup.specs.Copies.{Copied, Copying, copying}
-use Rattle.fam_dup.specs.Ends.{ClassLeaves, IsBegun, IsFailure, IsLeft}
+use Rattle.fam_dup.specs.Copies.{Copied, copying}
+use Rattle.fam_dup.specs.Ends.{ClassLeaves, IsFailure, IsLeft}
 use Rattle.fam_dup.specs.Findings.{Copies, FailsFrom, FailsTo, FaultClass, Finding, Names, Refuses, SmallFrom, WantsMemory, copies_or, finding, from_or, to_or}
 
 module _ (from to : Image) (p : Params) (force : Bool) where

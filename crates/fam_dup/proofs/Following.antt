@@ -1,8 +1,8 @@
 -- The copies of the first entries of a log, and of all.
-use Rattle.std.proofs.Common.{◌≡◌, ℕ, zero, suc, ◌+◌, ◌<◌, ◌≤◌, ◌&&◌, true, List, [], ◌∷◌, ◌++◌, length, take, get_or, Option, Some, None, Ok, Err, Result, refl, sym, ap, subst, ◌∙◌, inl, inr, append_assoc, arith}
+use Rattle.std.proofs.Common.{◌≡◌, ℕ, ◌+◌, ◌<◌, true, List, [], ◌∷◌, ◌++◌, length, take, get_or, Some, Ok, Err, Result, refl, sym, ap, subst, ◌∙◌, inl, inr, append_assoc, arith}
 use Rattle.std.specs.Prelude.{◌⊎◌, slice_get}
 use Rattle.std.proofs.lemmas.Bool.{and_parts, cases_lt, eqb-true}
-use Rattle.std.proofs.lemmas.List.{append-nil, get_or_append_left, get_or-append_right, length-append, take-append-le}
+use Rattle.std.proofs.lemmas.List.{append-nil, get_or_append_left, length-append, take-append-le}
 use Rattle.std.proofs.lemmas.Option.{get_or_from_slice_get, slice_get-get_or, slice_get_within}
 use Rattle.std.proofs.Math.Seq.{get_or-append_seam, take-append_seam}
 use Rattle.fam_base.specs.declared.entry.Params.{Params}
@@ -18,7 +18,7 @@ use Rattle.fam_rules.specs.declared.answers.Refused.{Refused}
 use Rattle.fam_rules.specs.DecideLaws.{IsSoundWish}
 use Rattle.fam_rules.proofs.DecideProofs.{as_wished, may_append}
 use Rattle.fam_plan.specs.State.{IsAdded, IsHistory}
-use Rattle.fam_dup.specs.Copies.{AreAlike, AreCopies, Copied, Copying, IsCopy, IsNext, IsWantOfRoom, StoppedAt, copied_or, copy_of, copying, copying_from, wish_again}
+use Rattle.fam_dup.specs.Copies.{AreAlike, AreCopies, Copied, Copying, IsCopy, IsWantOfRoom, StoppedAt, copied_or, copy_of, copying, copying_from, wish_again}
 use Rattle.fam_dup.proofs.Alike.{alike_more, alike_none, room_alone}
 
 -- What is wished for again.

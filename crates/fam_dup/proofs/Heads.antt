@@ -1,9 +1,9 @@
 -- The superblock's lines as they are spelled, and lines put one after another.
-use Rattle.std.proofs.Common.{◌≡◌, ℕ, zero, suc, ◌<◌, List, [], ◌∷◌, ◌++◌, length, get_or, Option, refl, sym, ap, ap₂, subst, ◌∙◌, arith}
+use Rattle.std.proofs.Common.{◌≡◌, ℕ, zero, suc, ◌<◌, List, [], ◌∷◌, ◌++◌, length, get_or, refl, sym, ap, ap₂, ◌∙◌, arith}
 use Rattle.std.specs.Prelude.{slice_range}
 use Rattle.std.proofs.lemmas.List.{ext_get_or}
 use Rattle.fam_base.specs.declared.entry.Params.{Params}
-use Rattle.fam_base.specs.Image.{Image, eight, line_at}
+use Rattle.fam_base.specs.Image.{eight}
 use Rattle.fam_format.specs.Layout.{gate_line, log_line}
 use Rattle.fam_format.specs.Log.{log_words}
 use Rattle.fam_format.specs.Super.{super_words}

@@ -1,7 +1,6 @@
 -- Which lines the parts of a copy put, and what they hold then.
-use Rattle.std.proofs.Common.{◌≡◌, ℕ, zero, suc, ◌+◌, ◌*◌, ◌/◌, ◌<◌, ◌≤◌, List, [], ◌∷◌, ◌++◌, length, map, Some, refl, sym, ap, subst, ◌∙◌, inl, inr, arith}
-use Rattle.std.specs.Prelude.{◌≢◌, ⊤, slice_get}
-use Rattle.std.specs.List.{range_with_len}
+use Rattle.std.proofs.Common.{◌≡◌, ℕ, zero, suc, ◌+◌, ◌*◌, ◌<◌, ◌≤◌, List, [], ◌∷◌, ◌++◌, length, Some, refl, sym, ap, subst, ◌∙◌, arith}
+use Rattle.std.specs.Prelude.{◌≢◌, slice_get}
 use Rattle.fam_base.specs.declared.entry.Params.{Params}
 use Rattle.fam_base.specs.declared.entry.Entry.{Entry}
 use Rattle.fam_base.specs.Image.{Image, eight, line_at}
@@ -10,9 +9,9 @@ use Rattle.fam_format.specs.Reading.{Lines}
 use Rattle.fam_format.specs.Slot.{spelling}
 use Rattle.fam_rules.specs.Content.{file_words}
 use Rattle.fam_rules.specs.Place.{line_bytes}
-use Rattle.fam_rules.specs.Written.{Put, file_line, file_puts, lines_of, put_line, put_lines, slot_part, slot_puts}
+use Rattle.fam_rules.specs.Written.{Put, file_line, file_puts, lines_of, put_lines, slot_part, slot_puts}
 use Rattle.fam_rules.specs.WrittenLaws.{IsOffFile, IsOffSlot}
-use Rattle.fam_rules.proofs.Puts.{AreElsewhere, at_put, length-put_lines, off_puts, put_elsewhere, puts_from}
+use Rattle.fam_rules.proofs.Puts.{AreElsewhere, at_put, length-put_lines, put_elsewhere, puts_from}
 use Rattle.fam_dup.specs.Lines.{bytes_in, files_puts, slots_puts}
 use Rattle.fam_dup.proofs.Passing.{put_lines-append}
 

@@ -1,5 +1,5 @@
 -- The words of FROM's slots, and what a slot tells.
-use Rattle.std.proofs.Common.{◌≡◌, ℕ, suc, ◌+◌, ◌-◌, ◌*◌, ◌/◌, ◌%◌, ◌<◌, ◌≤◌, List, [], ◌∷◌, ◌++◌, length, get_or, Option, Some, None, Result, Ok, Err, refl, sym, ap, ap₂, subst, ◌∙◌, inl, inr, arith}
+use Rattle.std.proofs.Common.{◌≡◌, ℕ, suc, ◌+◌, ◌-◌, ◌*◌, ◌/◌, ◌%◌, ◌<◌, ◌≤◌, List, [], ◌∷◌, ◌++◌, length, get_or, Option, Some, None, Result, Ok, Err, sym, ap, ap₂, subst, ◌∙◌, inl, inr, arith}
 use Rattle.std.proofs.lemmas.Bool.{cases_lt}
 use Rattle.std.proofs.lemmas.List.{length-append}
 use Rattle.std.proofs.lemmas.List.FromFn.{fill_by_all}
@@ -7,10 +7,10 @@ use Rattle.fam_base.specs.declared.entry.Params.{Params}
 use Rattle.fam_base.specs.declared.entry.Entry.{Entry}
 use Rattle.fam_format.specs.declared.faults.Reason.{Reason}
 use Rattle.fam_format.specs.Layout.{slot_line}
-use Rattle.fam_format.specs.Reading.{BadSlot, Lines, Reading, joined_or, read_slots, slot_in, slot_or, slot_word, slot_words}
+use Rattle.fam_format.specs.Reading.{Lines, Reading, joined_or, read_slots, slot_or, slot_word, slot_words}
 use Rattle.fam_format.specs.Slot.{entry_of}
 use Rattle.fam_format.specs.Tree.{join_fault}
-use Rattle.fam_dup.specs.Findings.{FaultClass, FaultInSlot, Finding, Names, Refuses, from_or, slot_class}
+use Rattle.fam_dup.specs.Findings.{FaultClass, FaultInSlot, Finding, Names, from_or, slot_class}
 
 module _ (memory : Lines) (p : Params) (slot : ℕ) where
   -- the words of one line more

@@ -3,10 +3,10 @@ use Rattle.std.proofs.Common.{◌≡◌, ℕ, ◌+◌, ◌*◌, ◌/◌, ◌%◌
 use Rattle.std.specs.Prelude.{◌≢◌, slice_get, slice_index, slice_range}
 use Rattle.std.specs.List.{range_with_len}
 use Rattle.std.proofs.lemmas.Bool.{cases_lt}
-use Rattle.std.proofs.lemmas.List.{ext_get_or, get_or_past}
-use Rattle.std.proofs.lemmas.List.Edits.{get_or-between, length-between}
+use Rattle.std.proofs.lemmas.List.{ext_get_or}
+use Rattle.std.proofs.lemmas.List.Edits.{get_or-between}
 use Rattle.std.proofs.lemmas.List.FromFn.{get_or-map-range_with_len, length-map-range_with_len}
-use Rattle.std.proofs.lemmas.Option.{slice_get-get_or, slice_get_within}
+use Rattle.std.proofs.lemmas.Option.{slice_get_within}
 use Rattle.fam_base.specs.declared.entry.Params.{Params}
 use Rattle.fam_base.specs.declared.entry.Entry.{Entry}
 use Rattle.fam_base.specs.Image.{Image, eight, line_at, with_line}
@@ -15,7 +15,7 @@ use Rattle.fam_format.specs.Layout.{gate_line, geometry, log_end, log_line, slot
 use Rattle.fam_format.specs.Log.{log_fault, log_words}
 use Rattle.fam_format.specs.Params.{SoundParams}
 use Rattle.fam_format.specs.Reading.{Lines, Sound, gate_in, reading, reading_of, slot_word, slot_words}
-use Rattle.fam_format.specs.ReadingLaws.{AreSlots, Holds, IsSlot}
+use Rattle.fam_format.specs.ReadingLaws.{Holds}
 use Rattle.fam_format.specs.Slot.{Proper, spelling}
 use Rattle.fam_format.specs.Super.{magic_line, super_of, super_words}
 use Rattle.fam_format.proofs.EntryLawsProofs.{spelling_count}
@@ -25,15 +25,13 @@ use Rattle.fam_format.proofs.ReadingLawsProofs.{holds_sound}
 use Rattle.fam_format.proofs.SuperLawsProofs.{read_spelling}
 use Rattle.fam_format.proofs.UnitPowers.{unit_told}
 use Rattle.fam_rules.specs.Content.{byte_in, file_words}
-use Rattle.fam_rules.specs.Place.{AreApart, IsLaidOut, StandsAt, line_bytes, place}
+use Rattle.fam_rules.specs.Place.{AreApart, StandsAt, line_bytes, place}
 use Rattle.fam_rules.specs.Written.{Put, file_line, put_lines, slot_part, zero_line}
-use Rattle.fam_rules.specs.WrittenLaws.{IsOffFile, IsOffSlot}
 use Rattle.fam_rules.proofs.ContentLines.{byte_of_line}
 use Rattle.fam_rules.proofs.FilePlaces.{line_place}
 use Rattle.fam_rules.proofs.LinesApart.{file_behind, file_within, slot_before, slot_within}
 use Rattle.fam_rules.proofs.ListPlaces.{bytes_apart, laid_apart}
 use Rattle.fam_rules.proofs.Puts.{AreElsewhere, last_put, length-put_lines, put_elsewhere}
-use Rattle.fam_rules.proofs.RoomSame.{map_range_same}
 use Rattle.fam_plan.specs.State.{IsHistory}
 use Rattle.fam_dup.specs.Copies.{AreCopies}
 use Rattle.fam_dup.specs.Ends.{IsCopied}
@@ -301,15 +299,16 @@ module _ (q : Params) (es cs : List Entry) (from to : Image) (sound : SoundParam
   -- Other lines.
 
   pub off_all : (l : ℕ) → IsOffCopy q cs l → AreElsewhere l (copy_puts (line_at from) q es cs)
-  off_all l off =
-      (off.magic,
-      elsewhere-append l (body_puts (line_at from) q es cs) ((0, magic_line) ∷ [])
-      (elsewhere-append l (files_puts (line_at from) es cs) (slots_puts q 0 cs ++ head_puts q (length cs))
-      (files_elsewhere (line_at from) es cs l off.files)
-      (elsewhere-append l (slots_puts q 0 cs) (head_puts q (length cs))
-      (slots_elsewhere q cs 0 l (λ i c at j below same. off.slots i c at j below (let zero_i : slot_line q (0 + i) j ≡ slot_line q i j = omega arith in same ∙ zero_i)))
-      (off.gate, (off.header, (off.first, (off.second, tt))))))
-      (off.magic, tt))
+  off_all l off = (
+    off.magic,
+    elsewhere-append l (body_puts (line_at from) q es cs) ((0, magic_line) ∷ [])
+        (elsewhere-append l (files_puts (line_at from) es cs) (slots_puts q 0 cs ++ head_puts q (length cs))
+        (files_elsewhere (line_at from) es cs l off.files)
+        (elsewhere-append l (slots_puts q 0 cs) (head_puts q (length cs))
+        (slots_elsewhere q cs 0 l (λ i c at j below same. off.slots i c at j below (let zero_i : slot_line q (0 + i) j ≡ slot_line q i j = omega arith in same ∙ zero_i)))
+        (off.gate, (off.header, (off.first, (off.second, tt))))))
+        (off.magic, tt),
+  )
 
   pub whole_copy : IsCopied from to whole q es cs
   whole_copy = record {

@@ -1,5 +1,5 @@
 -- How a copy ends, and what each end leaves of TO.
-use Rattle.std.specs.Prelude.{ℕ, ◌≡◌, ◌⊎◌, ◌*◌, ◌<◌, ⊤, Bool, IsTrue, List, length, slice_get, Option, Some, Result, Ok, Err}
+use Rattle.std.specs.Prelude.{ℕ, ◌≡◌, ◌⊎◌, ◌*◌, ⊤, Bool, IsTrue, List, length, slice_get, Option, Some, Result, Ok, Err}
 use Rattle.fam_base.specs.declared.entry.Params.{Params}
 use Rattle.fam_base.specs.declared.entry.Entry.{Entry}
 use Rattle.fam_base.specs.Image.{Image, line_at}
@@ -11,7 +11,7 @@ use Rattle.fam_media.specs.Causes.{Rose}
 use Rattle.fam_media.specs.Outside.{IfModelled}
 use Rattle.fam_rules.specs.Place.{line_bytes}
 use Rattle.fam_dup.specs.Copies.{AreCopies}
-use Rattle.fam_dup.specs.Findings.{Copies, FailsFrom, FailsTo, FaultClass, Finding, Names, Refuses, WantsMemory, class_of, finding}
+use Rattle.fam_dup.specs.Findings.{Copies, FailsFrom, FailsTo, FaultClass, Names, Refuses, WantsMemory, class_of, finding}
 use Rattle.fam_dup.specs.Lines.{IsOffCopy, bytes_in}
 use Rattle.fam_dup.specs.declared.fault.DupFault.{DupFault}
 

@@ -123,11 +123,7 @@ fn copy_next(source: &Plan, copies: &mut Plan, seq: u64) -> Result<(), DupFault>
 }
 
 /// The copies of all entries, in a plan of their own.
-pub(crate) fn plan_copies(
-    alloc: Global,
-    source: &Plan,
-    params: &Params,
-) -> Result<Plan, DupFault>
+pub(crate) fn plan_copies(alloc: Global, source: &Plan, params: &Params) -> Result<Plan, DupFault>
     requires sound { SoundParams params.now }
     ensures told { IfOk result (λ copies. copying params.now source.now.entries ≡ Copied copies.entries) }
     ensures params { IfOk result (λ copies. copies.params ≡ params.now) }

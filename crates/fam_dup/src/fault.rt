@@ -36,13 +36,22 @@ pub enum DupFault {
         wanted: u64,
     },
     /// FROM's least slot that has no entry, or one that doesn't join those before it.
-    BadEntry { seq: u64, reason: Reason },
+    BadEntry {
+        seq: u64,
+        reason: Reason,
+    },
     /// TO has fewer bytes than are needed.
-    TooSmall { need: u64, have: u64 },
+    TooSmall {
+        need: u64,
+        have: u64,
+    },
     /// A file system with this UUID stands on TO, and it isn't to be written over.
     HasSuper(Uuid),
     /// The first entry that has no copy.
-    Stopped { seq: u64, refusal: DupRefusal },
+    Stopped {
+        seq: u64,
+        refusal: DupRefusal,
+    },
     /// FROM failed at this line.
     FromFault(LineNo),
     /// TO failed at this line.

@@ -7,7 +7,6 @@
 
 mod copies;
 mod copy;
-
 mod fault;
 mod laws;
 mod lines;

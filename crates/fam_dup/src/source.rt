@@ -20,8 +20,7 @@ use crate::lines::{FailedAt, read_line, superblock};
 use fam_base::{Line, LineNo, Params};
 use fam_entry::read_entry;
 use fam_format::{
-    GATE_LINE, LINE_WORDS, LOG_LINE, LogFault, Reason, SLOT_LINES, SLOT_WORDS,
-    SuperFault,
+    GATE_LINE, LINE_WORDS, LOG_LINE, LogFault, Reason, SLOT_LINES, SLOT_WORDS, SuperFault,
 };
 use fam_media::Media;
 use fam_plan::{AddFault, Plan};

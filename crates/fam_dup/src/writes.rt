@@ -146,12 +146,7 @@ fn part_of(words: &[u64; SLOT_WORDS], j: u64) -> Line
 }
 
 /// Writes the slot of a copy.
-fn write_slot<N: Media>(
-    to: &mut N,
-    params: &Params,
-    seq: u64,
-    copy: &Entry,
-) -> Result<(), DupFault>
+fn write_slot<N: Media>(to: &mut N, params: &Params, seq: u64, copy: &Entry) -> Result<(), DupFault>
     requires sound { SoundParams params.now }
     requires device { params.now.device ≤ line_bytes * N.size to.old }
     requires slot { seq < params.now.slots }

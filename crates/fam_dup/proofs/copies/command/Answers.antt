@@ -1,4 +1,4 @@
-use Rattle.std.proofs.Common.{ℕ, ◌≡◌, Some, sym, ap₂}
+use Rattle.std.proofs.Common.{ℕ, Some, sym, ap₂}
 use Rattle.std.specs.Prelude.{None, Option}
 use Rattle.fam_base.specs.declared.entry.Kind.{Kind}
 use Rattle.fam_rules.specs.Decide.{Wish}

@@ -1,9 +1,8 @@
-use Rattle.std.proofs.Common.{◌≡◌, [], sym, ap, subst, ◌∙◌, take, drop, length, ℕ, List}
+use Rattle.std.proofs.Common.{[], sym, subst, take, drop, length, ℕ}
 use Rattle.std.proofs.lemmas.Result.{IfErr-weaker, on_ok_weaker}
-use Rattle.fam_base.specs.declared.entry.Entry.{Entry}
 use Rattle.fam_plan.specs.State.{IsAdded}
 use Rattle.fam_dup.specs.Copies.{copying_from}
-use Rattle.fam_dup.specs.Findings.{FaultClass, Names, class_of, copies_or}
+use Rattle.fam_dup.specs.Findings.{FaultClass, Names, copies_or}
 use Rattle.fam_dup.proofs.Copying.{alike_on, goes_on, stops_here}
 use Rattle.fam_dup.proofs.Following.{as_copy}
 use Rattle.fam_dup.proofs.copies.copy_next.Goals as goal

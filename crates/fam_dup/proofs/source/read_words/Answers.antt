@@ -1,5 +1,5 @@
-use Rattle.std.proofs.Common.{◌≡◌, ◌<◌, ◌*◌, ℕ, Option, subst, sym, ◌∙◌, ap, length, arith}
-use Rattle.fam_base.specs.Image.{Image, line_at}
+use Rattle.std.proofs.Common.{◌∙◌, ap, arith}
+use Rattle.fam_base.specs.Image.{line_at}
 use Rattle.fam_rules.proofs.LinesApart.{slot_within}
 use Rattle.fam_dup.proofs.Slots.{words_all, words_more}
 use Rattle.fam_dup.proofs.source.read_words.Goals as goal

@@ -1,8 +1,8 @@
 use Rattle.std.proofs.Common.{◌≡◌, ℕ, ◌-◌, ◌∙◌, List, sym, subst, arith, rules}
 use Rattle.std.proofs.lemmas.Result.{err_from_is_err_and}
-use Rattle.fam_base.specs.Image.{Image, line_at}
+use Rattle.fam_base.specs.Image.{line_at}
 use Rattle.fam_rules.specs.Content.{file_words}
-use Rattle.fam_rules.specs.Written.{Put, file_line, file_puts, lines_of}
+use Rattle.fam_rules.specs.Written.{file_line, file_puts, lines_of}
 use Rattle.fam_rules.proofs.Puts.{puts_from}
 use Rattle.fam_dup.specs.Lines.{IsFileOn, bytes_in}
 use Rattle.fam_dup.specs.Passes.{ArePassed}

@@ -1,4 +1,4 @@
-use Rattle.std.proofs.Common.{◌≡◌, ℕ, ◌+◌, ◌≤◌, ◌*◌, ◌++◌, ◌∙◌, List, Option, drop, length, sym, subst, arith, rules}
+use Rattle.std.proofs.Common.{◌+◌, ◌∙◌, List, Option, drop, subst, arith, rules}
 use Rattle.std.proofs.lemmas.Result.{err_from_is_err_and}
 use Rattle.fam_base.specs.Image.{Image, line_at}
 use Rattle.fam_rules.specs.Written.{Put, file_puts}

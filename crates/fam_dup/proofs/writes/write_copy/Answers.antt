@@ -1,4 +1,4 @@
-use Rattle.std.proofs.Common.{◌≡◌, ℕ, [], ◌∷◌, ◌++◌, List, Option, length, refl, sym, ap₂, subst}
+use Rattle.std.proofs.Common.{ℕ, [], ◌∷◌, List, Option, length, ap₂, subst}
 use Rattle.std.proofs.lemmas.Result.{err_from_is_err_and}
 use Rattle.fam_base.specs.declared.entry.Params.{Params}
 use Rattle.fam_base.specs.Image.{Image, line_at}
@@ -86,4 +86,3 @@ returns-clause-puts g c = λ image told.
     let parts = copy_parts (line_at image) p es cs in
     let t0 : Option Image = (g.N.Media.state c.args.to.now).image in
     ends_5 all one two three four five parts t0 (g.N.Media.state c.write_to.new.to).image (g.N.Media.state c.copy_files.new.to).image (g.N.Media.state c.write_slots.new.to).image (g.N.Media.state c.write_head.new.to).image (g.N.Media.state c.write_to-2.new.to).image c.write_to-2.result c.in_ok-write_to.ensures.puts (c.in_ok-copy_files.ensures.puts image told) c.in_ok-write_slots.ensures.puts (subst (λ (l : List Put). ArePut l (g.N.Media.state c.write_slots.new.to).image (g.N.Media.state c.write_head.new.to).image) (ap₂ (λ (r : Params) (n : ℕ). head_puts r n) c.params.ensures c.count.ensures.count) c.in_ok-write_head.ensures.puts) c.write_to-2.ensures.puts
-

@@ -1,4 +1,4 @@
-use Rattle.std.proofs.Common.{◌≡◌, ℕ, [], ◌∷◌, ◌++◌, List, Option, refl, get_or}
+use Rattle.std.proofs.Common.{ℕ, [], ◌∷◌, List, Option, refl, get_or}
 use Rattle.std.proofs.lemmas.Result.{err_from_is_err_and}
 use Rattle.fam_base.specs.Image.{Image}
 use Rattle.fam_format.specs.Layout.{gate_line, log_line}
@@ -68,4 +68,3 @@ returns-clause-puts g c =
     let four : List Put = (2, second) ∷ [] in
     let t0 : Option Image = (g.N.Media.state c.args.to.now).image in
     ends_5 (head_puts p c.args.count) [] one two three four parts t0 t0 (g.N.Media.state c.write_to.new.to).image (g.N.Media.state c.write_to-2.new.to).image (g.N.Media.state c.write_to-3.new.to).image (g.N.Media.state c.write_to-4.new.to).image c.write_to-4.result (put_none t0) c.in_ok-write_to.ensures.puts c.in_ok-write_to-2.ensures.puts c.in_ok-write_to-3.ensures.puts c.write_to-4.ensures.puts
-

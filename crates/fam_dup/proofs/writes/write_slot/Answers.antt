@@ -1,12 +1,10 @@
-use Rattle.std.proofs.Common.{◌≡◌, ℕ, ◌-◌, ◌∙◌, List, [], ◌∷◌, sym, ap, ap₂, subst, arith}
+use Rattle.std.proofs.Common.{◌≡◌, ℕ, ◌∙◌, List, [], ◌∷◌, ap, ap₂, subst, arith}
 use Rattle.std.proofs.lemmas.Result.{err_from_is_err_and}
-use Rattle.fam_base.specs.Image.{Image}
 use Rattle.fam_format.specs.Layout.{geometry, slot_line}
 use Rattle.fam_format.specs.Slot.{spelling}
 use Rattle.fam_rules.specs.Written.{Put, slot_part, slot_puts}
 use Rattle.fam_rules.proofs.LinesApart.{slot_within}
 use Rattle.fam_dup.specs.Lines.{ArePut, AreCut}
-use Rattle.fam_dup.proofs.Passing.{pass_none}
 use Rattle.fam_dup.proofs.Rows.{row_cut, row_end, row_part}
 use Rattle.fam_dup.proofs.writes.write_slot.Goals as goal
 
