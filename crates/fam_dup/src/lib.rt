@@ -12,6 +12,8 @@ mod laws;
 mod lines;
 mod source;
 mod target;
+#[cfg(test)]
+mod tests;
 mod writes;
 
 pub use copy::dup;
