@@ -18,7 +18,7 @@ fn first_of_word(word: u64, count: u64) -> u64
 }
 
 /// The first `count` bytes of a line, zeros behind.
-pub(crate) fn first_bytes(line: &Line, count: u64) -> Line
+pub fn first_bytes(line: &Line, count: u64) -> Line
     ensures { (b : ℕ) → b < 64 → byte_in result b ≡ if nat_lt b count then byte_in line.now b else 0 }
 {
     if count >= 64 {

@@ -1,0 +1,16 @@
+pub mod Passing
+pub mod Alike
+pub mod Following
+pub mod PutPlaces
+pub mod Parts
+pub mod Rows
+pub mod Slots
+pub mod Failing
+pub mod Copying
+pub mod Sources
+pub mod Heads
+pub mod Whole
+pub mod Chains
+pub mod Cuts
+pub mod Cutting
+pub mod Finding

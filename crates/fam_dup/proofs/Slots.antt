@@ -1,0 +1,72 @@
+-- The words of FROM's slots, and what a slot tells.
+use Rattle.std.proofs.Common.{◌≡◌, ℕ, suc, ◌+◌, ◌-◌, ◌*◌, ◌/◌, ◌%◌, ◌<◌, ◌≤◌, List, [], ◌∷◌, ◌++◌, length, get_or, Option, Some, None, Result, Ok, Err, sym, ap, ap₂, subst, ◌∙◌, inl, inr, arith}
+use Rattle.std.proofs.lemmas.Bool.{cases_lt}
+use Rattle.std.proofs.lemmas.List.{length-append}
+use Rattle.std.proofs.lemmas.List.FromFn.{fill_by_all}
+use Rattle.fam_base.specs.declared.entry.Params.{Params}
+use Rattle.fam_base.specs.declared.entry.Entry.{Entry}
+use Rattle.fam_format.specs.declared.faults.Reason.{Reason}
+use Rattle.fam_format.specs.Layout.{slot_line}
+use Rattle.fam_format.specs.Reading.{Lines, Reading, joined_or, read_slots, slot_or, slot_word, slot_words}
+use Rattle.fam_format.specs.Slot.{entry_of}
+use Rattle.fam_format.specs.Tree.{join_fault}
+use Rattle.fam_dup.specs.Findings.{FaultClass, FaultInSlot, Finding, Names, from_or, slot_class}
+
+module _ (memory : Lines) (p : Params) (slot : ℕ) where
+  -- the words of one line more
+  pub words_more : (line : ℕ) (old new part : List ℕ) → ((k : ℕ) → k < 8 * line → get_or old k 0 ≡ slot_word memory p slot k)
+      → ((k : ℕ) → k < 8 → get_or new (8 * line + k) 0 ≡ get_or part k 0) → ((k : ℕ) → k < 8 * line → get_or new k 0 ≡ get_or old k 0) → part ≡ memory (slot_line p slot line)
+      → (k : ℕ) → k < 8 * (line + 1) → get_or new k 0 ≡ slot_word memory p slot k
+  words_more line old new part before here same is k below =
+      elim (cases_lt k (8 * line)) [
+        | inl earlier ↦ same k earlier ∙ before k earlier
+        | inr past ↦
+            let at : 8 * line + (k - 8 * line) ≡ k = omega arith in
+            let row : line ≡ k / 8 = omega arith in
+            let word : k - 8 * line ≡ k % 8 = omega arith in
+            ap (λ (n : ℕ). get_or new n 0) (sym at)
+            ∙ here (k - 8 * line) (omega arith)
+            ∙ ap (λ (w : List ℕ). get_or w (k - 8 * line) 0) is
+            ∙ ap₂ (λ (l n : ℕ). get_or (memory (slot_line p slot l)) n 0) row word
+      ]
+
+  -- all of them
+  pub words_all : (words : List ℕ) (line : ℕ) → length words ≡ 64 → 8 ≤ line → ((k : ℕ) → k < 8 * line → get_or words k 0 ≡ slot_word memory p slot k) → words ≡ slot_words memory p slot
+  unfolding slot_words
+  words_all words line count past each = fill_by_all (slot_word memory p slot) words 64 0 count (λ k below. each k (omega arith))
+
+module _ (memory : Lines) (p : Params) (list : List Entry) (words : List ℕ) (is : words ≡ slot_words memory p (length list)) (more : ℕ) where
+  reads : (r : Result Entry Reason) → r ≡ entry_of p words (length list)
+      → read_slots memory p (length list) (suc more) list ≡ slot_or p list (length list) r (λ e. read_slots memory p (length list + 1) more (list ++ e ∷ []))
+  reads r told =
+      ap (λ (s : Result Entry Reason). slot_or p list (length list) s (λ e. read_slots memory p (length list + 1) more (list ++ e ∷ [])))
+      (ap (λ (w : List ℕ). entry_of p w (length list)) (sym is) ∙ sym told)
+
+  -- words that don't read
+  pub bad_slot : (reason : Reason) (rest : List Entry → Finding) → Err reason ≡ entry_of p words (length list)
+      → from_or (read_slots memory p (length list) (suc more) list) rest ≡ FaultInSlot (length list) reason
+  bad_slot reason rest told = ap (λ (r : Reading). from_or r rest) (reads (Err reason) told)
+
+  module _ (e : Entry) (told : Ok e ≡ entry_of p words (length list)) where
+    joined : (fault : Option Reason) → join_fault p list e ≡ fault
+        → read_slots memory p (length list) (suc more) list ≡ joined_or (length list) fault (read_slots memory p (length list + 1) more (list ++ e ∷ []))
+    joined fault joins =
+        reads (Ok e) told ∙ ap (λ (f : Option Reason). joined_or (length list) f (read_slots memory p (length list + 1) more (list ++ e ∷ []))) joins
+
+    -- an entry that joins
+    pub next_slot : (new : List Entry) → join_fault p list e ≡ None → new ≡ list ++ e ∷ []
+        → read_slots memory p (length list) (suc more) list ≡ read_slots memory p (length new) more new
+    next_slot new joins added =
+        let count : length list + 1 ≡ length new = omega (arith, ap (λ (l : List Entry). length l) added, length-append list (e ∷ [])) in
+        joined None joins ∙ ap₂ (λ (n : ℕ) (l : List Entry). read_slots memory p n more l) count (sym added)
+
+    by_fault : (fault : Option Reason) (rest : List Entry → Finding) → join_fault p list e ≡ fault
+        → Names (slot_class (length list) fault) (from_or (read_slots memory p (length list) (suc more) list) rest)
+    by_fault (Some reason) rest joins = ap (λ (r : Reading). from_or r rest) (joined (Some reason) joins)
+    by_fault None rest joins = tt
+
+    -- an entry that doesn't, or for which no memory was left
+    pub apart_slot : (class : FaultClass) (fault : Option Reason) (rest : List Entry → Finding) → class ≡ slot_class (length list) fault → fault ≡ join_fault p list e
+        → Names class (from_or (read_slots memory p (length list) (suc more) list) rest)
+    apart_slot class fault rest is_class joins =
+        subst (λ (k : FaultClass). Names k (from_or (read_slots memory p (length list) (suc more) list) rest)) (sym is_class) (by_fault fault rest (sym joins))

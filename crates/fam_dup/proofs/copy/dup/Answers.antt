@@ -1,0 +1,127 @@
+use Rattle.std.proofs.Common.{◌∙◌, ◌≤◌, ◌*◌, Option, Some, refl, sym, ap, subst, inr, length, arith}
+use Rattle.std.specs.Option.{option_map}
+use Rattle.std.proofs.lemmas.Result.{err_from_is_err_and}
+use Rattle.fam_base.specs.declared.entry.Params.{Params}
+use Rattle.fam_base.specs.Image.{Image, line_at}
+use Rattle.fam_format.specs.Layout.{least_lines}
+use Rattle.fam_rules.specs.Place.{line_bytes}
+use Rattle.fam_rules.specs.Written.{put_lines}
+use Rattle.fam_dup.specs.Findings.{class_of, finding}
+use Rattle.fam_dup.specs.Lines.{AreCut, copy_puts}
+use Rattle.fam_dup.proofs.Cutting.{cut_others, cut_reads, cut_some}
+use Rattle.fam_dup.proofs.Finding.{copied_to, entries_or, failed_ends, free_to, large_from, left_alone, names_found, small_from, sound_from}
+use Rattle.fam_dup.proofs.Following.{copies_follow}
+use Rattle.fam_dup.proofs.Whole.{whole_copy}
+use Rattle.fam_dup.proofs.copy.dup.Goals as goal
+
+pub returns-then-lines-lt-LEAST_LINES-clause-ends : goal.returns-then-lines-lt-LEAST_LINES-clause-ends
+returns-then-lines-lt-LEAST_LINES-clause-ends g c = λ source told old is.
+    (old, is, (small_from source old c.args.params.now c.args.force c.lines-lines.result (c.lines-lines.ensures.count ∙ sym (g.met.M.Media.modelled c.args.from.now source told)) c.if-lines-lt-LEAST_LINES.true, refl))
+
+pub returns-in_err-source-clause-ends : goal.returns-in_err-source-clause-ends
+returns-in_err-source-clause-ends g c =
+    let p = c.args.params.now in
+    let force = c.args.force in
+    let q = err_from_is_err_and c.from_residual.result c.from_residual.ensures.1 in
+    rw (q.1, q.2) (λ source told old is.
+    let enough : least_lines ≤ length source = omega (arith, c.if-lines-lt-LEAST_LINES.false, c.lines-lines.ensures.count, g.met.M.Media.modelled c.args.from.now source told) in (
+      old,
+      is,
+      (
+        names_found (class_of c.in_err-source.field-0.0) _ _ (large_from source old p force enough) (c.in_err-source.ensures.fault source told (entries_or source old p force)),
+        left_alone source old old p force (class_of c.in_err-source.field-0.0) refl,
+      ),
+    ))
+
+pub returns-in_err-check_target-clause-ends : goal.returns-in_err-check_target-clause-ends
+returns-in_err-check_target-clause-ends g c =
+    let p = c.args.params.now in
+    let force = c.args.force in
+    let s = c.in_ok-source.source in
+    let e = c.in_err-check_target.ensures in
+    let q = err_from_is_err_and c.from_residual-in_err-check_target.result c.from_residual-in_err-check_target.ensures.1 in
+    rw (q.1, q.2) (λ source told old is.
+    let enough : least_lines ≤ length source = omega (arith, c.if-lines-lt-LEAST_LINES.false, c.lines-lines.ensures.count, g.met.M.Media.modelled c.args.from.now source told) in (
+      old,
+      e.same ∙ is,
+      (
+        names_found (class_of c.in_err-check_target.field-0.0) _ _ (sound_from source old p force s.params s.entries enough (c.in_ok-source.ensures.told source told)) (e.fault old is _),
+        left_alone source old old p force (class_of c.in_err-check_target.field-0.0) refl,
+      ),
+    ))
+
+pub returns-in_err-copies-clause-ends : goal.returns-in_err-copies-clause-ends
+returns-in_err-copies-clause-ends g c =
+    let p = c.args.params.now in
+    let force = c.args.force in
+    let s = c.in_ok-source.source in
+    let t = c.in_ok-check_target.ensures in
+    let q = err_from_is_err_and c.from_residual-in_err-copies.result c.from_residual-in_err-copies.ensures.1 in
+    rw (q.1, q.2) (λ source told old is.
+    let enough : least_lines ≤ length source = omega (arith, c.if-lines-lt-LEAST_LINES.false, c.lines-lines.ensures.count, g.met.M.Media.modelled c.args.from.now source told) in (
+      old,
+      t.same ∙ is,
+      (
+        names_found (class_of c.in_err-copies.field-0.0) _ _ (free_to source old p force s.params s.entries enough (c.in_ok-source.ensures.told source told) (t.free old is)) (c.in_err-copies.ensures.fault s.entries),
+        left_alone source old old p force (class_of c.in_err-copies.field-0.0) refl,
+      ),
+    ))
+
+pub write_copy-requires-clause-copies : goal.write_copy-requires-clause-copies
+write_copy-requires-clause-copies g c =
+    let s = c.in_ok-source.source in
+    (copies_follow s.params c.args.params.now s.entries c.in_ok-check_target.ensures.sound c.each_entry_joins.ensures c.in_ok-copies.copies.entries c.in_ok-copies.ensures.told).are
+
+pub returns-in_err-write_copy-clause-ends : goal.returns-in_err-write_copy-clause-ends
+returns-in_err-write_copy-clause-ends g c =
+    let p = c.args.params.now in
+    let force = c.args.force in
+    let s = c.in_ok-source.source in
+    let k = c.in_ok-copies.copies in
+    let t = c.in_ok-check_target.ensures in
+    let e = c.in_err-write_copy.ensures in
+    let q = err_from_is_err_and c.from_residual-in_err-write_copy.result c.from_residual-in_err-write_copy.ensures.1 in
+    let so = copies_follow s.params p s.entries t.sound c.each_entry_joins.ensures k.entries c.in_ok-copies.ensures.told in
+    let new : Option Image = (g.N.Media.state c.write_copy.new.to).image in
+    rw (q.1, q.2) (λ source told old is.
+    let enough : least_lines ≤ length source = omega (arith, c.if-lines-lt-LEAST_LINES.false, c.lines-lines.ensures.count, g.met.M.Media.modelled c.args.from.now source told) in
+    let fits : p.device ≤ line_bytes * length old = omega (arith, c.requires.asked.device, g.met.N.Media.modelled c.args.to.now old is) in
+    let cut : AreCut (copy_puts (line_at source) p s.entries k.entries) (Some old) new =
+    subst (λ (r : Params). AreCut (copy_puts (line_at source) r s.entries k.entries) (Some old) new) c.in_ok-copies.ensures.params
+    (subst (λ (o : Option Image). AreCut (copy_puts (line_at source) k.params s.entries k.entries) o new) (t.same ∙ is) (e.puts source (c.in_ok-source.ensures.same ∙ told))) in
+    let after = cut_some (copy_puts (line_at source) p s.entries k.entries) old new cut in
+    let left : AreCut (copy_puts (line_at source) p s.entries k.entries) (Some old) (Some after.0) = subst (λ (o : Option Image). AreCut (copy_puts (line_at source) p s.entries k.entries) (Some old) o) after.1 cut in (
+      after.0,
+      after.1,
+      failed_ends source old after.0 p force (class_of c.in_err-write_copy.field-0.0) (finding source old p force) _ _ _ _ e.failed
+          (inr (record {
+            entries = s.entries;
+            copies = k.entries;
+            found = copied_to source old p force s.params s.entries enough (c.in_ok-source.ensures.told source told) (t.free old is) k.entries c.in_ok-copies.ensures.told;
+            left = cut_reads p s.entries k.entries source old t.sound fits so.history so.are after.0 left;
+            others = cut_others p s.entries k.entries source old t.sound fits so.history so.are after.0 left;
+          })),
+    ))
+
+pub returns-clause-ends : goal.returns-clause-ends
+returns-clause-ends g c = λ source told old is.
+    let p = c.args.params.now in
+    let force = c.args.force in
+    let s = c.in_ok-source.source in
+    let k = c.in_ok-copies.copies in
+    let t = c.in_ok-check_target.ensures in
+    let so = copies_follow s.params p s.entries t.sound c.each_entry_joins.ensures k.entries c.in_ok-copies.ensures.told in
+    let enough : least_lines ≤ length source = omega (arith, c.if-lines-lt-LEAST_LINES.false, c.lines-lines.ensures.count, g.met.M.Media.modelled c.args.from.now source told) in
+    let fits : p.device ≤ line_bytes * length old = omega (arith, c.requires.asked.device, g.met.N.Media.modelled c.args.to.now old is) in (
+      put_lines (copy_puts (line_at source) p s.entries k.entries) old,
+      c.in_ok-write_copy.ensures.puts source (c.in_ok-source.ensures.same ∙ told)
+          ∙ ap (option_map (put_lines (copy_puts (line_at source) k.params s.entries k.entries))) (t.same ∙ is)
+          ∙ ap (λ (r : Params). Some (put_lines (copy_puts (line_at source) r s.entries k.entries) old)) c.in_ok-copies.ensures.params,
+      record {
+        entries = s.entries;
+        copies = k.entries;
+        found = copied_to source old p force s.params s.entries enough (c.in_ok-source.ensures.told source told) (t.free old is) k.entries c.in_ok-copies.ensures.told;
+        number = c.count.ensures.count ∙ so.are.count;
+        copied = whole_copy p s.entries k.entries source old t.sound fits so.history so.are;
+      },
+    )

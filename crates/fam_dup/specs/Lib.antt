@@ -1,0 +1,5 @@
+pub mod Copies
+pub mod Lines
+pub mod Findings
+pub mod Ends
+pub mod Passes

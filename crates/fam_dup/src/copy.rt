@@ -1,0 +1,50 @@
+//! Copying a file system.
+
+ghost use Rattle.std.specs.Prelude.{◌≡◌, IfErr};
+ghost use Rattle.fam_media.specs.Causes.{IsSteady};
+ghost use Rattle.fam_media.specs.Outside.{IfModelled};
+ghost use Rattle.fam_dup.specs.Ends.{AreAsked, Becomes, DupEnds, IsCaused};
+
+use crate::copies::plan_copies;
+use crate::fault::DupFault;
+use crate::source::read_source;
+use crate::target::check_target;
+use crate::writes::write_copy;
+use fam_base::Params;
+use fam_format::LEAST_LINES;
+use fam_media::Media;
+use std::alloc::Global;
+
+/// Copies the file system on FROM onto TO, with these parameters, and says how many entries it has. Each file has its
+/// bytes in one extent.
+///
+/// What is against the copy is named before anything is written, the first cause of these: FROM is too small, or has a
+/// fault; TO is too small, or has a superblock and isn't forced; an entry has no slot or no room. Behind a fault of a
+/// media TO reads as before, as no file system, or as the whole copy. Want of memory changes nothing.
+pub fn dup<M: Media, N: Media>(
+    alloc: Global,
+    from: &mut M,
+    to: &mut N,
+    params: &Params,
+    force: bool,
+) -> Result<u64, DupFault>
+    requires asked { AreAsked params.now (N.size to.old) }
+    ensures ends { IfModelled (M.state from.old).image (λ source. Becomes (N.state to.old).image (N.state to.new).image
+        (λ old new. DupEnds source old new params.now force result)) }
+    ensures cause { IfErr result (λ fault. IsCaused (M.state from.old).faults (M.state from.new).faults
+        (N.state to.old).faults (N.state to.new).faults fault) }
+    ensures same { (M.state from.new).image ≡ (M.state from.old).image }
+    ensures steady_from { IsSteady M.size M.state from.old from.new }
+    ensures steady_to { IsSteady N.size N.state to.old to.new }
+{
+    let lines = from.lines();
+    if lines < LEAST_LINES {
+        return Err(DupFault::ImageSmall(lines));
+    }
+    let source = read_source(alloc, from)?;
+    check_target(to, params, force)?;
+    let copies = plan_copies(alloc, &source, params)?;
+    source.each_entry_joins();
+    write_copy(from, to, &source, &copies)?;
+    Ok(copies.count())
+}

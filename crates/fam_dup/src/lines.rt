@@ -1,0 +1,90 @@
+//! Single lines of a media, and its superblock.
+
+ghost use Rattle.std.specs.Prelude.{◌≡◌, ◌∷◌, [], ◌*◌, ◌^◌, ◌<◌, ◌≤◌, IfOk, OnErr, OnOk, ℕ, length, slice_index};
+ghost use Rattle.fam_base.specs.Image.{line_at};
+ghost use Rattle.fam_format.specs.Layout.{least_lines};
+ghost use Rattle.fam_format.specs.Params.{SoundParams};
+ghost use Rattle.fam_format.specs.Reading.{super_in};
+ghost use Rattle.fam_media.specs.Causes.{IsSteady, Rose};
+ghost use Rattle.fam_media.specs.Outside.{IfModelled};
+ghost use Rattle.fam_rules.specs.Place.{line_bytes};
+ghost use Rattle.fam_dup.specs.Lines.{AreCut, ArePut};
+
+use fam_base::{Line, LineNo, Params};
+use fam_format::{LINE_BYTES, SuperFault};
+use fam_media::Media;
+use fam_super::read_super;
+
+/// The media failed at this line.
+#[derive(Clone, Copy, Debug, PartialEq, Eq)]
+pub(crate) struct FailedAt(pub(crate) LineNo);
+
+/// A line has eight words of 64 bits, which a contract that has them as numbers doesn't see. A call does nothing.
+pub(crate) fn are_words(words: Line)
+    ensures count { length words ≡ 8 }
+    ensures fit { (w : ℕ) → slice_index words w < 2 ^ 64 }
+{
+    let _ = words[0];
+}
+
+/// Reads a line.
+pub(crate) fn read_line<M: Media>(media: &mut M, line: LineNo) -> Result<Line, FailedAt>
+    requires within { line.0 < M.size media.old }
+    ensures words { IfOk result (λ words. IfModelled (M.state media.old).image (λ image. words ≡ line_at image line.0)) }
+    ensures same { (M.state media.new).image ≡ (M.state media.old).image }
+    ensures rose { OnErr result (Rose (M.state media.old).faults (M.state media.new).faults) }
+    ensures steady { IsSteady M.size M.state media.old media.new }
+{
+    match media.read(line) {
+        Ok(words) => Ok(words),
+        Err(_) => Err(FailedAt(line)),
+    }
+}
+
+/// Writes a line.
+pub(crate) fn write_line<M: Media>(
+    media: &mut M,
+    line: LineNo,
+    words: &Line,
+) -> Result<(), FailedAt>
+    requires within { line.0 < M.size media.old }
+    ensures put { OnOk result (ArePut ((line.0, words.now) ∷ []) (M.state media.old).image (M.state media.new).image) }
+    ensures cut { OnErr result (AreCut ((line.0, words.now) ∷ []) (M.state media.old).image (M.state media.new).image) }
+    ensures rose { OnErr result (Rose (M.state media.old).faults (M.state media.new).faults) }
+    ensures steady { IsSteady M.size M.state media.old media.new }
+{
+    match media.write(line, words) {
+        Ok(()) => Ok(()),
+        Err(_) => Err(FailedAt(line)),
+    }
+}
+
+/// Lines 0, 1 and 2.
+fn super_lines<M: Media>(media: &mut M) -> Result<[Line; 3], FailedAt>
+    requires within { least_lines ≤ M.size media.old }
+    ensures found { IfOk result (λ lines. IfModelled (M.state media.old).image (λ image.
+        (have : ℕ) → super_in (line_at lines) have ≡ super_in (line_at image) have)) }
+    ensures same { (M.state media.new).image ≡ (M.state media.old).image }
+    ensures rose { OnErr result (Rose (M.state media.old).faults (M.state media.new).faults) }
+    ensures steady { IsSteady M.size M.state media.old media.new }
+{
+    let magic = read_line(media, LineNo(0))?;
+    let first = read_line(media, LineNo(1))?;
+    let second = read_line(media, LineNo(2))?;
+    Ok([magic, first, second])
+}
+
+/// What the superblock tells: its parameters, or its first fault.
+pub(crate) fn superblock<M: Media>(media: &mut M) -> Result<Result<Params, SuperFault>, FailedAt>
+    requires within { least_lines ≤ M.size media.old }
+    ensures found { IfOk result (λ found. IfModelled (M.state media.old).image (λ image.
+        found ≡ super_in (line_at image) (line_bytes * M.size media.old))) }
+    ensures sound { IfOk result (λ found. IfOk found (λ p. SoundParams p)) }
+    ensures device { IfOk result (λ found. IfOk found (λ p. p.device ≤ line_bytes * M.size media.old)) }
+    ensures same { (M.state media.new).image ≡ (M.state media.old).image }
+    ensures rose { OnErr result (Rose (M.state media.old).faults (M.state media.new).faults) }
+    ensures steady { IsSteady M.size M.state media.old media.new }
+{
+    let lines = super_lines(media)?;
+    Ok(read_super(&lines, LINE_BYTES * media.lines()))
+}
