@@ -12,8 +12,6 @@ mod laws;
 mod lines;
 mod source;
 mod target;
-#[cfg(test)]
-mod tests;
 mod writes;
 
 pub use copy::dup;

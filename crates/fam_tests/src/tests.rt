@@ -1,5 +1,6 @@
 //! Each test stands for calls that no command comes to.
 
+mod copies;
 mod free_runs;
 mod large;
 mod random;

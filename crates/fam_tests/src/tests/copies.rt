@@ -2,8 +2,8 @@
 
 ghost use Rattle.std.specs.Prelude.{◌<◌, length};
 
-use crate::{DupFault, DupRefusal, dup};
 use fam_base::{Entry, Extent, Extents, Kind, Line, LineNo, MapKind, Params, Path};
+use fam_dup::{DupFault, DupRefusal, dup};
 use fam_entry::{spell, spell_log};
 use fam_format::{GATE_LINE, LINE_BYTES, LOG_LINE, SLOT_LINES};
 use fam_media::{Media, MemMedia};
