@@ -6,6 +6,7 @@
 #![tactic(auto)]
 
 mod apps;
+mod dups;
 mod invocations;
 mod shadows;
 mod shots;
@@ -13,6 +14,7 @@ mod simple;
 mod values;
 mod wanted;
 
+pub use dups::read_dup_words;
 pub use invocations::read_words;
 pub use shadows::read_shadow_words;
-pub use wanted::{Call, Invocation, ShadowCall, Shot};
+pub use wanted::{Call, DupCall, Invocation, ShadowCall, Shot};
