@@ -3,3 +3,4 @@ pub mod Apps
 pub mod Values
 pub mod Calls
 pub mod Shadows
+pub mod Dups

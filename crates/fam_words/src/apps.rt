@@ -3,6 +3,7 @@
 ghost use Rattle.std.specs.Prelude.{◌≡◌, fold, IfOk};
 ghost use Rattle.clap.specs.Words.{app_of, with_rule};
 ghost use Rattle.fam_words.specs.Apps.{mkfs_app, logplay_app, mkdir_app, creat_app, cp_app, verify_app, read_app, check_app, fsck_app, script_app, storm_app, owner_rules, stripe_rules};
+ghost use Rattle.fam_words.specs.Dups.{dup_app};
 ghost use Rattle.fam_words.specs.Shadows.{shadow_app};
 
 use crate::simple::{flag, long_option, needed_option, option, plain, word};
@@ -34,6 +35,20 @@ pub(crate) fn mkfs<'a>(alloc: Global) -> Result<Command<'a>, OutOfMemory>
 {
     let command = plain(alloc, "mkfs");
     let command = word(alloc, command, "image")?;
+    let command = option(alloc, command, "unit", 'u', false)?;
+    let command = option(alloc, command, "loglen", 'l', false)?;
+    let command = flag(alloc, command, "force", 'f')?;
+    let command = long_option(alloc, command, "uuid")?;
+    long_option(alloc, command, "system")
+}
+
+/// The command dup.
+pub(crate) fn dup<'a>(alloc: Global) -> Result<Command<'a>, OutOfMemory>
+    ensures { IfOk result (λ c. app_of c ≡ dup_app) }
+{
+    let command = plain(alloc, "dup");
+    let command = word(alloc, command, "from")?;
+    let command = word(alloc, command, "to")?;
     let command = option(alloc, command, "unit", 'u', false)?;
     let command = option(alloc, command, "loglen", 'l', false)?;
     let command = flag(alloc, command, "force", 'f')?;

@@ -6,6 +6,7 @@
 #![tactic(auto)]
 
 mod apps;
+mod dups;
 mod invocations;
 mod laws;
 mod shadows;
@@ -14,7 +15,8 @@ mod simple;
 mod values;
 mod wanted;
 
+pub use dups::read_dup_words;
 pub use invocations::read_words;
 pub use laws::uuids_of_words_are_uuids;
 pub use shadows::read_shadow_words;
-pub use wanted::{Call, Invocation, ShadowCall, Shot};
+pub use wanted::{Call, DupCall, Invocation, ShadowCall, Shot};

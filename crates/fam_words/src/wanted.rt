@@ -23,6 +23,25 @@ pub struct ShadowCall {
     pub system: Option<Uuid>,
 }
 
+/// The copy of a file system onto another image.
+#[derive(Drop)]
+pub struct DupCall {
+    /// The name of the file of the image that is copied. It may be empty.
+    pub from: NameText,
+    /// The name of the file of the image that is written. It may be empty, and is another one.
+    pub to: NameText,
+    /// The bytes of a unit of the copy.
+    pub unit: u64,
+    /// The bytes of the copy's log.
+    pub log: u64,
+    /// The UUID of the copy, where one is given.
+    pub fs: Option<Uuid>,
+    /// Whether a superblock that reads is written over.
+    pub force: bool,
+    /// The UUID of the host that the copy's log belongs to, where one is given.
+    pub system: Option<Uuid>,
+}
+
 /// What is to be done with the image.
 #[derive(Drop)]
 pub enum Invocation {
