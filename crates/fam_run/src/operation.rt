@@ -56,7 +56,11 @@ pub fn operate<M: Media>(
         },
         op => {
             let word = cache.perform(media, op)?;
-            *turn = task.feed(word);
+            if task.reads_on() {
+                task.read_on(word);
+            } else {
+                *turn = task.feed(word);
+            }
             Ok(())
         }
     }

@@ -221,7 +221,7 @@ impl Task {
     /// Whether the task just goes on once the next operation is done, among the lines that it reads or writes, whatever
     /// the operation gives.
     #[inline(always)]
-    fn reads_on(&self) -> bool
+    pub fn reads_on(&self) -> bool
         ensures { result ≡ is_reading self.now.phase }
     {
         match self.phase {

@@ -1,14 +1,24 @@
-use Rattle.std.proofs.Common.{◌≡◌, Err, refl, ap, sym, ◌∙◌}
+use Rattle.std.proofs.Common.{◌≡◌, Err, refl, ap, sym, subst, ◌∙◌}
 use Rattle.std.proofs.lemmas.Result.{err_from_is_err_and}
 use Rattle.fam_commands.specs.Task.{op_of}
+use Rattle.fam_commands.specs.Turns.{turn_of}
 use Rattle.fam_machine.specs.declared.op.Op.TheVariants.{Digest}
+use Rattle.fam_tasks.specs.declared.answer.Turn.{Turn}
+use Rattle.fam_tasks.specs.Tells.{Tells}
 use Rattle.fam_run.specs.TaskChange.{TaskChange, task_change}
 use Rattle.fam_run.proofs.Operated.{done, failed}
 use Rattle.fam_run.proofs.PlacesKept.{digest_none, kept, quiet}
 use Rattle.fam_run.proofs.operation.operate.Goals as goal
 
-pub returns-in_ok-word-in_default-clause-operated : goal.returns-in_ok-word-in_default-clause-operated
-returns-in_ok-word-in_default-clause-operated g c =
+pub returns-then-reads_on-clause-operated : goal.returns-then-reads_on-clause-operated
+returns-then-reads_on-clause-operated g c =
+    let m = g.M.Media in
+    let e = c.in_ok-word-in_default.ensures in
+    let a : TaskChange = task_change m.size m.state c.args.task.now c.read_on.new.self c.args.cache.now c.perform.new.self c.args.media.now c.perform.new.media in
+    done a c.next.result c.next.ensures.op c.is_sound.ensures c.next.ensures.within c.in_ok-word-in_default.word c.args.turn.now e.operated e.given e.cache e.word (subst (λ (said : Turn). Tells (turn_of c.args.task.now c.in_ok-word-in_default.word) said c.read_on.new.self) (sym c.requires.go) c.read_on.ensures)
+
+pub returns-else-reads_on-clause-operated : goal.returns-else-reads_on-clause-operated
+returns-else-reads_on-clause-operated g c =
     let m = g.M.Media in
     let e = c.in_ok-word-in_default.ensures in
     let a : TaskChange = task_change m.size m.state c.args.task.now c.feed.new.self c.args.cache.now c.perform.new.self c.args.media.now c.perform.new.media in
@@ -35,8 +45,16 @@ returns-in-Ok-clause-operated g c =
     let a : TaskChange = task_change m.size m.state c.args.task.now c.digest.new.self c.args.cache.now c.args.cache.now c.args.media.now c.args.media.now in
     done a Digest (sym op) c.is_sound.ensures tt Rattle.std.proofs.Common.None c.in-Ok.said (λ image is. record { image = is; cache = refl }) (λ image is. refl) refl refl c.in-Ok.ensures.turn
 
-pub returns-in_ok-word-in_default-clause-places : goal.returns-in_ok-word-in_default-clause-places
-returns-in_ok-word-in_default-clause-places g c = λ on has. (
+pub returns-then-reads_on-clause-places : goal.returns-then-reads_on-clause-places
+returns-then-reads_on-clause-places g c = λ on has. (
+  quiet c.args.task.now c.read_on.new.self c.in_ok-word-in_default.word c.args.turn.now c.args.cache.now (subst (λ (said : Turn). Tells (turn_of c.args.task.now c.in_ok-word-in_default.word) said c.read_on.new.self) (sym c.requires.go) c.read_on.ensures) on has,
+  λ ready.
+      kept c.args.task.now c.read_on.new.self c.next.result c.in_ok-word-in_default.word c.args.turn.now (g.M.Media.state c.args.media.now).image c.args.cache.now c.perform.new.self c.next.ensures.op c.is_sound.ensures
+      c.perform.ensures.spare c.perform.ensures.held_spare c.in_ok-word-in_default.ensures.cache (subst (λ (said : Turn). Tells (turn_of c.args.task.now c.in_ok-word-in_default.word) said c.read_on.new.self) (sym c.requires.go) c.read_on.ensures) on ready has,
+)
+
+pub returns-else-reads_on-clause-places : goal.returns-else-reads_on-clause-places
+returns-else-reads_on-clause-places g c = λ on has. (
   quiet c.args.task.now c.feed.new.self c.in_ok-word-in_default.word c.feed.result c.args.cache.now c.feed.ensures.turn on has,
   λ ready.
       kept c.args.task.now c.feed.new.self c.next.result c.in_ok-word-in_default.word c.feed.result (g.M.Media.state c.args.media.now).image c.args.cache.now c.perform.new.self c.next.ensures.op c.is_sound.ensures
