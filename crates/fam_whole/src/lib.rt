@@ -2,7 +2,7 @@
 #![tactic(auto)]
 
 ghost use Rattle.std.specs.FinMap as finmap;
-ghost use Rattle.std.specs.Prelude.{◌≡◌, ◌⊎◌, ◌≤◌, ℕ, Bool, true, List, Ok, Option, None, Some, length, slice_get};
+ghost use Rattle.std.specs.Prelude.{◌≡◌, ◌⊎◌, ◌≤◌, ℕ, Bool, true, List, Ok, Option, None, Some, length, slice_get, option_map};
 ghost use Rattle.fam_base.specs.declared.cmd.Attr.{Attr};
 ghost use Rattle.fam_base.specs.declared.cmd.Cmd.{Cmd};
 ghost use Rattle.fam_base.specs.declared.entry.Params.{Params};
@@ -26,10 +26,12 @@ ghost use Rattle.fam_outcomes.specs.Runs.{HasRisen, NoneRose, Outside};
 ghost use Rattle.fam_media.specs.Files.{Files};
 ghost use Rattle.fam_grammar.specs.Scripts.{script_events};
 ghost use Rattle.fam_storm.specs.Storm.{storm};
+ghost use Rattle.fam_words.specs.declared.wanted.Invocation.{Invocation};
 ghost use Rattle.fam_words.specs.declared.wanted.Invocation.TheVariants as invocation;
 ghost use Rattle.fam_words.specs.declared.wanted.Shot.{Shot};
 ghost use Rattle.fam_words.specs.declared.wanted.Shot.TheVariants as shot;
-ghost use Rattle.fam_top.specs.Calls.{CallEnds, fs_or, host_or, shot_of};
+ghost use Rattle.fam_top.specs.Calls.{CallEnds, command_of, fs_or, host_or, shot_of};
+ghost use Rattle.fam_whole.specs.Called.{RunsLawfully};
 ghost use Rattle.fam_whole.specs.Alone.{AskEnds, CommandEnds, MkfsEnds, ParentsEnd, ShotFront};
 ghost use Rattle.fam_whole.specs.Whole.{AreAlike, AreRefusals, AreWhole, EndsExact, EndsFront, EndsNone, IsExact, UpToFault, WholeRun, commands_in, is_move};
 
@@ -76,6 +78,15 @@ pub fn a_run_is_exact_up_to_a_fault()
     ensures { (files : Files) (events : List Event) (start : Image) → IsImage start → AreSound events → AreWhole events
         → (journal : List Note) (last : Session) → Follows files events (first_session start) journal last
         → UpToFault files events start journal }
+{}
+
+/// Whatever a call of the program runs, a script, a storm or a command of its own, keeps the laws of runs, where image and
+/// files are modelled. Its journal is legal, and the image that is left reads as what that settles; each answer is of the
+/// rules, where all events are done; and where no count rose they are, or memory ran out. Or no event was run.
+pub fn what_a_call_runs_keeps_the_laws()
+    ensures { (asked : Option Invocation) (me random : List ℕ) (out : Outside) (given : Status) (files : Files) (start : Image)
+        → CallEnds asked me random out given → out.media.old.image ≡ Some start → out.shelf.old.files ≡ Some files
+        → EndsNone script_events storm (option_map (command_of me random) asked) out given ⊎ RunsLawfully out files start }
 {}
 
 /// What the program's top call leaves of a script of whole commands, where no count rose, of media, shelf and sink, and
