@@ -15,14 +15,13 @@ use Rattle.fam_journal.specs.Past.{first_past}
 use Rattle.fam_journal.proofs.Runs.Completing.{all_ruled}
 use Rattle.fam_journal.proofs.Runs.Following.{run_settled}
 use Rattle.fam_outcomes.specs.declared.status.Status.{Status}
-use Rattle.fam_outcomes.specs.Programs.{Command, CommandRuns, EndsEarly, Makes, MakesParents, OneShot, Runs, Script, Single, Storm, TopEnds}
+use Rattle.fam_outcomes.specs.Programs.{Command, CommandRuns, EndsEarly, Makes, MakesParents, OneShot, Runs, Script, Single, Storm}
 use Rattle.fam_outcomes.specs.Runs.{HasRun, NoneRose, Outside, RunsOn}
 use Rattle.fam_outcomes.proofs.Faultless.{run_complete}
 use Rattle.fam_storm.specs.Storm.{storm}
 use Rattle.fam_words.specs.declared.wanted.Invocation.{Invocation}
 use Rattle.fam_top.specs.Calls.{CallEnds, HasShotUuids, HasUuids, command_of}
-use Rattle.fam_whole.specs.Called.{RunsLawfully}
-use Rattle.fam_whole.specs.Whole.{EndsNone}
+use Rattle.fam_whole.specs.Called.{IsLawful, OfRun, RunsLawfully}
 use Rattle.fam_whole.proofs.Shots.{IsSoundShot, shot_events_sound}
 
 module _ (out : Outside) (files : Files) (start : Image) (told_start : out.media.old.image ≡ Some start) (told : out.shelf.old.files ≡ Some files) (image : IsImage start) where
@@ -31,13 +30,10 @@ module _ (out : Outside) (files : Files) (start : Image) (told_start : out.media
       let all : RunsOn AllDone files events start out.media.new.image journal = subst (λ (z : Ending). RunsOn z files events start out.media.new.image journal) is on in
       all_ruled start files events image sound journal all.last all.follows
 
-  lawful : {puts : Ending → List Note → List ℕ → Type 0} {gives : Ending → List Note → Status} {text : List ℕ} {own : Status} (ending : Ending) (events : List Event) → AreSound events → HasRun puts gives ending out events text own → RunsLawfully out files start
+  lawful : {puts : Ending → List Note → List ℕ → Type 0} {gives : Ending → List Note → Status} {text : List ℕ} {own : Status} (ending : Ending) (events : List Event) → AreSound events → (run : HasRun puts gives ending out events text own) → RunsLawfully out files start ending events run.journal
   lawful ending events sound run =
       let on : RunsOn ending files events start out.media.new.image run.journal = run.told start told_start files told in
       record {
-        ending = ending;
-        events = events;
-        journal = run.journal;
         runs = on;
         settled = run_settled start image files events sound ending run.journal on.last on.follows;
         ruled = ruled_where ending events run.journal sound on;
@@ -49,23 +45,20 @@ module _ (out : Outside) (files : Files) (start : Image) (told_start : out.media
   sound_shot (Runs what) is = tt
   sound_shot (MakesParents path attr) is = tt
 
-  command_runs : (command : Option Command) (given own : Status) (text : List ℕ) → IfSome command HasUuids → CommandRuns script_events storm command out given text own → RunsLawfully out files start
-  command_runs None given own text uuids x = absurd x
+  command_runs : (command : Option Command) (given own : Status) (text : List ℕ) → IfSome command HasUuids → (x : CommandRuns script_events storm command out given text own) → OfRun out files start command given own text x
+  command_runs None given own text uuids x = tt
   command_runs (Some (Single me shot)) given own text uuids x =
       lawful x.ending x.events (shot_events_sound me shot uuids.0 (sound_shot shot uuids.1) x.events x.run.journal x.run.text_is.0) x.run
   command_runs (Some (Script name)) given own text uuids x = lawful x.ending x.events (script_uuids x.bytes x.events x.reads) x.run
-  command_runs (Some (Storm seed size true)) given own text uuids x = absurd x
+  command_runs (Some (Storm seed size true)) given own text uuids x = tt
   command_runs (Some (Storm seed size false)) given own text uuids x = lawful x.ending x.events (script_uuids (storm seed size) x.events x.reads) x.run
 
-  shown : (command : Option Command) (given : Status) → IfSome command HasUuids → TopEnds script_events storm command out given → EndsNone script_events storm command out given ⊎ RunsLawfully out files start
-  shown command given uuids top = by_shows top.shows
-    where
-      by_shows : EndsEarly script_events storm command out top.text top.own ⊎ CommandRuns script_events storm command out given top.text top.own → EndsNone script_events storm command out given ⊎ RunsLawfully out files start
-      by_shows (inl x) = inl (record { text = top.text; own = top.own; early = x; put = top.put })
-      by_shows (inr x) = inr (command_runs command given top.own top.text uuids x)
+  shown : (command : Option Command) (given own : Status) (text : List ℕ) → IfSome command HasUuids → (shows : EndsEarly script_events storm command out text own ⊎ CommandRuns script_events storm command out given text own) → IsLawful out files start command given own text shows
+  shown command given own text uuids (inl early) = tt
+  shown command given own text uuids (inr x) = command_runs command given own text uuids x
 
--- a call that runs events
-pub call_lawful : (asked : Option Invocation) (me random : List ℕ) (out : Outside) (given : Status) (files : Files) (start : Image) → CallEnds asked me random out given → out.media.old.image ≡ Some start → out.shelf.old.files ≡ Some files
-    → EndsNone script_events storm (option_map (command_of me random) asked) out given ⊎ RunsLawfully out files start
+-- the run that the clause tells
+pub call_lawful : (asked : Option Invocation) (me random : List ℕ) (out : Outside) (given : Status) (files : Files) (start : Image) → (call : CallEnds asked me random out given) → out.media.old.image ≡ Some start → out.shelf.old.files ≡ Some files
+    → IsLawful out files start (option_map (command_of me random) asked) given call.ends.own call.ends.text call.ends.shows
 call_lawful asked me random out given files start call told_start told =
-    shown out files start told_start told (call.image start told_start) (option_map (command_of me random) asked) given call.uuids call.ends
+    shown out files start told_start told (call.image start told_start) (option_map (command_of me random) asked) given call.ends.own call.ends.text call.uuids call.ends.shows
