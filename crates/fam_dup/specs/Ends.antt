@@ -10,9 +10,10 @@ use Rattle.fam_format.specs.Reading.{Reading, NoSuperblock, Sound, reading}
 use Rattle.fam_media.specs.Causes.{Rose}
 use Rattle.fam_media.specs.Outside.{IfModelled}
 use Rattle.fam_rules.specs.Place.{line_bytes}
+use Rattle.fam_rules.specs.Written.{put_lines}
 use Rattle.fam_dup.specs.Copies.{AreCopies}
 use Rattle.fam_dup.specs.Findings.{Copies, FailsFrom, FailsTo, FaultClass, Names, Refuses, WantsMemory, class_of, finding}
-use Rattle.fam_dup.specs.Lines.{IsOffCopy, bytes_in}
+use Rattle.fam_dup.specs.Lines.{AreCut, IsOffCopy, bytes_in, copy_puts}
 use Rattle.fam_dup.specs.declared.fault.DupFault.{DupFault}
 
 -- parameters that are asked for on a device of so many lines: a unit, a log of such units, and the slots and the bytes
@@ -37,17 +38,21 @@ pub record IsMade (from old new : Image) (p : Params) (force : Bool) (count : �
   pub copies : List Entry
   pub found : finding from old p force ≡ Copies entries copies
   pub number : count ≡ length entries
+  -- all its lines were put, in their order
+  pub written : new ≡ put_lines (copy_puts (line_at from) p entries copies) old
   pub copied : IsCopied from old new p entries copies
 
--- what TO reads as where a media failed: what it read as before, no superblock, or the whole copy
+-- what TO reads as where a media failed before the whole copy was made: what it read as before, or no superblock
 abbrev pub IsOldOrNone : Reading → Reading → Type 0
 IsOldOrNone old new = (new ≡ old) ⊎ (new ≡ NoSuperblock (super.NoSuper 0))
 
--- nothing was against the copy, and a part of it was made: lines that hold no part of it are as before
+-- nothing was against the copy, and a part of it was made: some of its lines were put, in their order, and of the next one nothing
+-- or some of its words. So lines that hold no part of it are as before
 pub record IsBegun (from old new : Image) (p : Params) (force : Bool) : Type 0 where
   pub entries : List Entry
   pub copies : List Entry
   pub found : finding from old p force ≡ Copies entries copies
+  pub written : AreCut (copy_puts (line_at from) p entries copies) (Some old) (Some new)
   pub left : IsOldOrNone (reading old) (reading new) ⊎ IsCopied from old new p entries copies
   pub others : (l : ℕ) → IsOffCopy p copies l → line_at new l ≡ line_at old l
 

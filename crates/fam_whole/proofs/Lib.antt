@@ -15,3 +15,4 @@ pub mod Alone
 pub mod Makes
 pub mod Fronts
 pub mod Called
+pub mod Lawful

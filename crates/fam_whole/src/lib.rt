@@ -2,7 +2,7 @@
 #![tactic(auto)]
 
 ghost use Rattle.std.specs.FinMap as finmap;
-ghost use Rattle.std.specs.Prelude.{◌≡◌, ◌⊎◌, ◌≤◌, ℕ, Bool, true, List, Ok, Option, None, Some, length, slice_get};
+ghost use Rattle.std.specs.Prelude.{◌≡◌, ◌⊎◌, ◌≤◌, ℕ, Bool, true, List, Ok, Option, None, Some, length, slice_get, option_map};
 ghost use Rattle.fam_base.specs.declared.cmd.Attr.{Attr};
 ghost use Rattle.fam_base.specs.declared.cmd.Cmd.{Cmd};
 ghost use Rattle.fam_base.specs.declared.entry.Params.{Params};
@@ -26,10 +26,12 @@ ghost use Rattle.fam_outcomes.specs.Runs.{HasRisen, NoneRose, Outside};
 ghost use Rattle.fam_media.specs.Files.{Files};
 ghost use Rattle.fam_grammar.specs.Scripts.{script_events};
 ghost use Rattle.fam_storm.specs.Storm.{storm};
+ghost use Rattle.fam_words.specs.declared.wanted.Invocation.{Invocation};
 ghost use Rattle.fam_words.specs.declared.wanted.Invocation.TheVariants as invocation;
 ghost use Rattle.fam_words.specs.declared.wanted.Shot.{Shot};
 ghost use Rattle.fam_words.specs.declared.wanted.Shot.TheVariants as shot;
-ghost use Rattle.fam_top.specs.Calls.{CallEnds, fs_or, host_or, shot_of};
+ghost use Rattle.fam_top.specs.Calls.{CallEnds, command_of, fs_or, host_or, shot_of};
+ghost use Rattle.fam_whole.specs.Called.{IsLawful};
 ghost use Rattle.fam_whole.specs.Alone.{AskEnds, CommandEnds, MkfsEnds, ParentsEnd, ShotFront};
 ghost use Rattle.fam_whole.specs.Whole.{AreAlike, AreRefusals, AreWhole, EndsExact, EndsFront, EndsNone, IsExact, UpToFault, WholeRun, commands_in, is_move};
 
@@ -70,18 +72,29 @@ pub fn no_byte_is_in_two_files()
         → (i : ℕ) (f : File) → slice_get history i ≡ Some f → f ≡ held_file (line_at run.last.machines.memory) f.entry }
 {}
 
-/// Whatever the media does, the first events of a run, all of them or up to the first one that tells a fault of the media, are
-/// run exactly.
+/// Whatever the media does, the first events of a run of whole commands, all of them or up to the first one that tells a fault
+/// of the media, are run exactly.
 pub fn a_run_is_exact_up_to_a_fault()
     ensures { (files : Files) (events : List Event) (start : Image) → IsImage start → AreSound events → AreWhole events
         → (journal : List Note) (last : Session) → Follows files events (first_session start) journal last
         → UpToFault files events start journal }
 {}
 
+/// The run that the clause of the top call tells, of a script, a storm or a command of its own, keeps the laws of runs, where
+/// image and files are modelled. Its journal is legal, and the image that is left reads as what that settles, but behind a
+/// mkfs that a media fault cut; where all events are done each answer is of the rules; and where no count rose they are done,
+/// or memory ran out.
+pub fn what_a_call_runs_keeps_the_laws()
+    ensures { (asked : Option Invocation) (me random : List ℕ) (out : Outside) (given : Status) (files : Files) (start : Image)
+        → (call : CallEnds asked me random out given) → out.media.old.image ≡ Some start → out.shelf.old.files ≡ Some files
+        → IsLawful out files start (option_map (command_of me random) asked) given call.ends.own call.ends.text
+        call.ends.shows }
+{}
+
 /// What the program's top call leaves of a script of whole commands, where no count rose, of media, shelf and sink, and
 /// the shelf holds the script. Each event was run; the notes of the run were put, and it is exact: the image that is left
 /// is the fold of new file systems and acknowledged entries, and each answer is the rules' answer on the image that its
-/// command began with. Or there was no memory (`whole`). Where the media alone didn't fail, so it is of some first events,
+/// command began with. Or there was no memory (`whole`). Where the media didn't fail, whatever shelf and sink did, so it is of some first events,
 /// and no others were run (`front`); but that memory may have run out in one more command.
 pub fn a_program_of_whole_commands_is_exact()
     ensures whole { (me random : List ℕ) (out : Outside) (given : Status) (name : List ℕ) (files : Files)
@@ -102,8 +115,9 @@ pub fn a_program_of_whole_commands_is_exact()
 /// answer on the image is put, and the image that they leave is left (`command`); so all that the protocol and the caches
 /// do comes to the rules alone. So it is with a source, once the shelf says what it comes to (`asks`). A new file system
 /// is made as it was asked for, or refused by its numbers or by the superblock that stands there (`mkfs`). Directories
-/// along a path are made one after another, each exactly (`parents`). Where the media alone didn't fail, some first events
-/// of the command were run, exactly, and the text of what came of them was put, or a front of it (`front`).
+/// along a path are made one after another, each exactly (`parents`). Where the media didn't fail, whatever shelf and sink
+/// did, some first events of the command were run, exactly; and the text of what came of them, or the line that ends them
+/// early, was put, or a front of it (`front`).
 pub fn a_command_of_its_own_is_exact()
     ensures command { (me random : List ℕ) (out : Outside) (given : Status) (system : Option (List ℕ)) (cmd : Cmd)
         (files : Files) (start : Image) → NoneRose out

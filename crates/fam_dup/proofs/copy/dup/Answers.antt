@@ -98,6 +98,7 @@ returns-in_err-write_copy-clause-ends g c =
             entries = s.entries;
             copies = k.entries;
             found = copied_to source old p force s.params s.entries enough (c.in_ok-source.ensures.told source told) (t.free old is) k.entries c.in_ok-copies.ensures.told;
+            written = left;
             left = cut_reads p s.entries k.entries source old t.sound fits so.history so.are after.0 left;
             others = cut_others p s.entries k.entries source old t.sound fits so.history so.are after.0 left;
           })),
@@ -122,6 +123,7 @@ returns-clause-ends g c = λ source told old is.
         copies = k.entries;
         found = copied_to source old p force s.params s.entries enough (c.in_ok-source.ensures.told source told) (t.free old is) k.entries c.in_ok-copies.ensures.told;
         number = c.count.ensures.count ∙ so.are.count;
+        written = refl;
         copied = whole_copy p s.entries k.entries source old t.sound fits so.history so.are;
       },
     )
