@@ -12,6 +12,7 @@ pub mod Members
 pub mod Calling
 pub mod Standing
 pub mod Outcomes
+pub mod Readying
 pub mod Shifting
 pub mod MovedOn
 pub mod Checking

@@ -26,7 +26,7 @@ use Rattle.fam_mail.specs.Protocol.{Box, Invariant, IsBoxLine, IsWriters}
 use Rattle.fam_mail.specs.Records.{IsRecord}
 use Rattle.fam_mail.specs.Standing.{IsOneWriter, IsTold, Past, SaysSo, Stands, StandsAfter, StandsBehind, StandsStill, box_in, held_by, run_by, runs_of, shared}
 use Rattle.fam_mail.specs.Tasks.{IsPost, Task, starting}
-use Rattle.fam_mail.specs.World.{HostView, MailView, changed_at, index_from, index_of, is_named, is_writer, new_host}
+use Rattle.fam_mail.specs.World.{HostView, MailView, changed_at, index_from, index_of, is_named, is_writer, new_host, noted}
 use Rattle.fam_mail.proofs.Boxing.{box_begins, box_reads}
 use Rattle.fam_mail.proofs.Events.{begins_hold, declared_holds, fewer_hold, loses_hold}
 use Rattle.fam_mail.proofs.Lists.{member_behind}
@@ -195,7 +195,7 @@ module _ (rest : ℕ → List ℕ) (name : List ℕ) (old new : MailView) (past 
 -- A host is declared.
 
 -- a list with one more member has the members before, and it
-data More {A : Type 0} (xs : List A) (y : A) (n : ℕ) : Type 0 where
+pub data More {A : Type 0} (xs : List A) (y : A) (n : ℕ) : Type 0 where
   before : slice_get (xs ++ y ∷ []) n ≡ slice_get xs n → (n ≡ length xs → ⊥) → More xs y n
   last : n ≡ length xs → slice_get (xs ++ y ∷ []) n ≡ Some y → slice_get xs n ≡ None → More xs y n
 
@@ -203,7 +203,7 @@ more_next : {A : Type 0} (x : A) (xs : List A) (y : A) (n : ℕ) → More xs y n
 more_next x xs y n (before is not) = before is (λ e. not (cc))
 more_next x xs y n (last e is none) = last (ap suc e) is none
 
-more : {A : Type 0} (xs : List A) (y : A) (n : ℕ) → More xs y n
+pub more : {A : Type 0} (xs : List A) (y : A) (n : ℕ) → More xs y n
 more {A} [] y zero = last refl refl refl
 more {A} [] y (suc n) = before refl (λ e. absurd cc)
 more {A} (x ∷ xs) y zero = before refl (λ e. absurd cc)
@@ -292,18 +292,22 @@ declare_free true many writer name v e = absurd cc
 declare_free false true writer name v e = absurd cc
 declare_free false false writer name v e = e
 
-module _ (rest : ℕ → List ℕ) (name : List ℕ) (old new : MailView) (past : Past) (image : Image) (one : IsOneWriter old.hosts) where
+module _ (name : List ℕ) (old new : MailView) where
   free_of : (writer : Bool) → declare_refusal name writer old ≡ None → second_writer writer (index_of is_writer old.hosts) old ≡ None
   free_of writer free = declare_free (is_some (index_of (is_named name) old.hosts)) (nat_le 64 (length old.hosts)) writer name old free
 
-  pub declared_stands : (writer : Bool) → Declares name writer None old new → Stands rest old past image → Stands rest new past image
-  declared_stands false call stands =
-      subst (λ (v : MailView). Stands rest v past image) (sym call.1) (reader_stands rest old past image stands (new_host name false) refl refl refl (old.journal ++ note.Reader name ∷ []))
-  declared_stands true call stands =
-      subst (λ (v : MailView). Stands rest v past image) (sym call.1)
-      (writer_stands rest old past image stands (new_host name true) refl refl refl (unrefused (index_of is_writer old.hosts) old (free_of true call.0)) (old.journal ++ note.Writer name ∷ []))
-
-  pub declared_one : (writer : Bool) → Declares name writer None old new → IsOneWriter new.hosts
-  declared_one writer call =
+  pub declared_one : (writer : Bool) → Declares name writer None old new → IsOneWriter old.hosts → IsOneWriter new.hosts
+  declared_one writer call one =
       let free = free_of writer call.0 in
       subst (λ (v : MailView). IsOneWriter v.hosts) (sym call.1) (one_writer old.hosts (new_host name writer) one (λ passes. unrefused (index_of is_writer old.hosts) old (subst (λ (w : Bool). second_writer w (index_of is_writer old.hosts) old ≡ None) passes free)))
+
+pub declared_stands : (rest : ℕ → List ℕ) (name : List ℕ) (old new : MailView) (past : Past) (image : Image) → (writer : Bool) → Declares name writer None old new → Stands rest old past image → Stands rest new past image
+declared_stands rest name old new past image false call stands =
+    subst (λ (v : MailView). Stands rest v past image) (sym call.1) (reader_stands rest old past image stands (new_host name false) refl refl refl (old.journal ++ note.Reader name ∷ []))
+declared_stands rest name old new past image true call stands =
+    subst (λ (v : MailView). Stands rest v past image) (sym call.1)
+    (writer_stands rest old past image stands (new_host name true) refl refl refl (unrefused (index_of is_writer old.hosts) old (free_of name old new true call.0)) (old.journal ++ note.Writer name ∷ []))
+
+-- a note changes nothing of it
+pub noted_stands : (rest : ℕ → List ℕ) (made : MailNote) (old : MailView) (past : Past) (image : Image) → Stands rest old past image → Stands rest (noted made old) past image
+noted_stands rest made old past image stands = stands

@@ -195,11 +195,12 @@ pub record Breaks (entry : Entry) (name : List ℕ) (host : HostView) (t : Task)
   pub next_is : next ≡ record host { cache = next.cache; task = None }
   pub notes_are : notes ≡ note.MediaFault name line ∷ []
 
--- one or the other, of the task that it runs
+-- one or the other, of the task that it runs. The media's count of faults doesn't fall
 pub record HostOperates (entry : Entry) (name : List ℕ) (host : HostView) (told : MediaChange) (over : Bool) (next : HostView) (notes : List MailNote) : Type 0 where
   pub task : Task
   pub task_is : host.task ≡ Some task
   pub how : Serves entry name host task told over next notes ⊎ Breaks entry name host task told over next notes
+  pub later : told.old.faults ≤ told.new.faults
 
 -- with the journal behind it
 pub record HostStepped (entry : Entry) (name : List ℕ) (host : HostView) (told : MediaChange) (over : Bool) (next : HostView) (before after : List MailNote) : Type 0 where
@@ -246,10 +247,11 @@ pub record MovesAt (name : List ℕ) (line : ℕ) (move : Move) (told : MediaCha
   pub number : index_of (is_named name) old.hosts ≡ Some at
   pub host_is : slice_get old.hosts at ≡ Some host
   pub done : IfModelled told.old.image (λ image. IsMachine (moved move (file_line old.entry line) (machine image host.cache)) told.new.image cache)
+  pub later : told.old.faults ≤ told.new.faults
   pub is : new ≡ record old { hosts = changed_at at (λ h. record h { cache = cache }) old.hosts }
 
--- the media failed in it: memory may have words of the copy, and the cache is as it was
-pub record FailsAt (name : List ℕ) (line : ℕ) (move : Move) (told : MediaChange) (old new : MailView) : Type 0 where
+-- the media failed in it, and the call is refused for it: memory may have words of the copy, and the cache is as it was
+pub record FailsAt (name : List ℕ) (line : ℕ) (move : Move) (told : MediaChange) (cause : MailRefusal) (old new : MailView) : Type 0 where
   pub at : ℕ
   pub host : HostView
   pub number : index_of (is_named name) old.hosts ≡ Some at
@@ -257,7 +259,9 @@ pub record FailsAt (name : List ℕ) (line : ℕ) (move : Move) (told : MediaCha
   pub failed : IfModelled told.old.image (λ image. FailsTo (file_line old.entry line)
       (λ through memory. failed_move move through memory (cell_at host.cache (file_line old.entry line))) image told.new.image)
   pub rose : Rose told.old.faults told.new.faults
-  pub is : new ≡ noted (note.Refused name (why.MediaFault (line_no (file_line old.entry line)))) old
+  pub later : told.old.faults ≤ told.new.faults
+  pub cause_is : cause ≡ why.MediaFault (line_no (file_line old.entry line))
+  pub is : new ≡ noted (note.Refused name cause) old
 
 -- it is refused at once, and the media is as it was
 pub record IsTurnedDown (name : List ℕ) (first : Option MailRefusal) (cause : MailRefusal) (told : MediaChange) (old new : MailView) : Type 0 where
@@ -271,7 +275,7 @@ MovesLine name line move told None old new =
     (refusal_named name (line_refusal line (capacity_in old)) old ≡ None) × MovesAt name line move told old new
 MovesLine name line move told (Some cause) old new =
     IsTurnedDown name (refusal_named name (line_refusal line (capacity_in old)) old) cause told old new
-    ⊎ ((refusal_named name (line_refusal line (capacity_in old)) old ≡ None) × FailsAt name line move told old new)
+    ⊎ ((refusal_named name (line_refusal line (capacity_in old)) old ≡ None) × FailsAt name line move told cause old new)
 
 -- Operations one behind another.
 

@@ -13,7 +13,7 @@ use Rattle.fam_mail.specs.declared.turn.Turn.{Turn}
 use Rattle.fam_base.specs.declared.entry.Entry.{Entry}
 use Rattle.fam_media.specs.States.{MediaChange}
 use Rattle.fam_mail.specs.declared.note.MailNote.{MailNote}
-use Rattle.fam_mail.specs.Calls.{Breaks, Operates, Serves, capacity_in}
+use Rattle.fam_mail.specs.Calls.{Breaks, Operates, Serves, WorldFits, capacity_in}
 use Rattle.fam_mail.specs.Mail.{Mail, MaySay, Run, floor_after, settles}
 use Rattle.fam_mail.specs.Protocol.{Box, Invariant, Runs}
 use Rattle.fam_mail.specs.Tasks.{Task, turn_of}
@@ -49,6 +49,11 @@ pub record Past : Type 0 where
 -- at most one host may post
 abbrev pub IsOneWriter : List HostView → Type 0
 IsOneWriter hosts = (n : ℕ) (h : HostView) → slice_get hosts n ≡ Some h → h.writer ≡ true → index_of is_writer hosts ≡ Some n
+
+-- what laws ask of a world before a call, besides that it stands: at most one host may post, and all fits a media of so many lines
+pub record IsReady (lines : ℕ) (v : MailView) : Type 0 where
+  pub one : IsOneWriter v.hosts
+  pub fits : WorldFits lines v
 
 -- a world stands over an image
 abbrev pub Stands : (ℕ → List ℕ) → MailView → Past → Image → Type 0

@@ -1,4 +1,4 @@
-use Rattle.std.proofs.Common.{◌≡◌, ℕ, Bool, true, false, List, [], ◌++◌, refl, sym, ap, subst, ◌∙◌}
+use Rattle.std.proofs.Common.{◌≡◌, ℕ, Bool, true, false, List, [], ◌++◌, refl, sym, ap, subst, ◌∙◌, arith}
 use Rattle.std.proofs.lemmas.List.{append-nil, append_assoc}
 use Rattle.fam_base.specs.declared.entry.Entry.{Entry}
 use Rattle.fam_media.specs.States.{MediaState, change}
@@ -26,6 +26,7 @@ operations-init g c = record {
   runs = c.requires.runs;
   fits = c.requires.fits;
   size = refl;
+  later = omega arith;
 }
 
 pub returns-in-Ok-true-clause-finished : goal.returns-in-Ok-true-clause-finished
@@ -47,6 +48,7 @@ operations-preserved g c =
       stays = stays_on c.args.entry.now c.args.name.now (host_view c.args.host.now) (host_view c.operations.host) (host_view c.step_of.new.host) (state c.args.media.now) (state c.operations.media) (state c.step_of.new.media)
           c.args.journal.now.items c.operations.journal.items c.two_rooms.new.journal.items c.step_of.new.journal.items inv.stays c.two_rooms.ensures.same stepped;
       runs = c.in-Ok-false.ensures.on c.in-Ok-false.field-0-test;
-      fits = subst (λ (n : ℕ). HostFits n (capacity_of c.args.entry.now.size) (host_view c.step_of.new.host)) (c.in-Ok-false.ensures.size ∙ inv.size) c.in-Ok-false.ensures.fits;
-      size = c.in-Ok-false.ensures.size ∙ inv.size;
+      fits = subst (λ (n : ℕ). HostFits n (capacity_of c.args.entry.now.size) (host_view c.step_of.new.host)) (c.in-Ok-false.ensures.steady.size ∙ inv.size) c.in-Ok-false.ensures.fits;
+      size = c.in-Ok-false.ensures.steady.size ∙ inv.size;
+      later = omega (arith, inv.later, c.in-Ok-false.ensures.steady.later);
     }
