@@ -13,6 +13,7 @@ pub mod Calling
 pub mod Standing
 pub mod Outcomes
 pub mod Readying
+pub mod Finishing
 pub mod Shifting
 pub mod MovedOn
 pub mod Checking

@@ -11,11 +11,11 @@ use Rattle.fam_media.specs.States.{MediaChange}
 use Rattle.fam_protocol.specs.Hosted.{ActsAs}
 use Rattle.fam_protocol.proofs.Hosts.Acts.{failed_move_transfers, moves_by}
 use Rattle.fam_rules.specs.Written.{file_line}
-use Rattle.fam_mail.specs.Calls.{FailsAt, MovesAt, WorldFits, capacity_in}
+use Rattle.fam_mail.specs.Calls.{FailsAt, IsTold, MovesAt, WorldFits, capacity_in}
 use Rattle.fam_mail.specs.Mail.{Run}
 use Rattle.fam_mail.specs.declared.note.MailRefusal.{MailRefusal}
 use Rattle.fam_mail.specs.Protocol.{Box, Invariant}
-use Rattle.fam_mail.specs.Standing.{IsTold, Past, Stands, StandsStill, box_in, held_by, run_by, runs_of, shared}
+use Rattle.fam_mail.specs.Standing.{Past, Stands, StandsStill, box_in, held_by, run_by, runs_of, shared}
 use Rattle.fam_mail.specs.World.{HostView, MailView, changed_at}
 use Rattle.fam_mail.proofs.Events.{fewer_hold, moves_hold}
 use Rattle.fam_mail.proofs.Members.{changed_here, changed_other}

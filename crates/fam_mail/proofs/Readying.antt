@@ -65,10 +65,10 @@ writer_stays entry name host t told over next notes (inr breaks) = ap (λ (x : H
 operated_writer : (entry : Entry) (name : List ℕ) (host : HostView) (told : MediaChange) (over : Bool) (next : HostView) (notes : List MailNote) → HostOperates entry name host told over next notes → next.writer ≡ host.writer
 operated_writer entry name host told over next notes operates = writer_stays entry name host operates.task told over next notes operates.how
 
-runs_writer : (entry : Entry) (name : List ℕ) (host : HostView) (told : MediaState) (next : HostView) (later : MediaState) (notes : List MailNote) → HostRuns entry name host told next later notes → next.writer ≡ host.writer
-runs_writer entry name host told _ _ _ rests = refl
-runs_writer entry name host told next later _ (goes_on {mid = mid} {now = now} {notes = notes} {more = more} runs operates) =
-    operated_writer entry name mid (record { old = now; new = later }) false next more operates ∙ runs_writer entry name host told mid now notes runs
+runs_writer : (lines : ℕ) (entry : Entry) (name : List ℕ) (host : HostView) (told : MediaState) (next : HostView) (later : MediaState) (notes : List MailNote) → HostRuns lines entry name host told next later notes → next.writer ≡ host.writer
+runs_writer lines entry name host told _ _ _ rests = refl
+runs_writer lines entry name host told next later _ (goes_on {mid = mid} {now = now} {notes = notes} {more = more} runs is_told operates) =
+    operated_writer entry name mid (record { old = now; new = later }) false next more operates ∙ runs_writer lines entry name host told mid now notes runs
 
 -- a new host's cache is empty, and it has no task
 empty_fits : (lines capacity : ℕ) (name : List ℕ) (writer : Bool) → HostFits lines capacity (new_host name writer)
@@ -116,15 +116,15 @@ module _ (lines : ℕ) (name : List ℕ) (old new : MailView) (ready : IsReady l
   operated_ready told over call =
       put_ready lines old new ready call.at call.host call.next call.host_is (operated_writer old.entry name call.host told over call.next call.notes call.operates) (old.journal ++ call.notes) call.is
 
-  pub finished_ready : (told : MediaChange) → Finishes name told old new → WorldFits lines new → IsReady lines new
+  pub finished_ready : (told : MediaChange) → Finishes lines name told old new → WorldFits lines new → IsReady lines new
   finished_ready told call =
       let f = call.finishes in
       put_ready lines old new ready call.at call.host call.next call.host_is
-      (operated_writer old.entry name f.mid (record { old = f.now; new = told.new }) true call.next f.more f.ends ∙ runs_writer old.entry name call.host told.old f.mid f.now f.notes f.runs) call.journal call.is
+      (operated_writer old.entry name f.mid (record { old = f.now; new = told.new }) true call.next f.more f.ends ∙ runs_writer lines old.entry name call.host told.old f.mid f.now f.notes f.runs) call.journal call.is
 
-  pub stays_ready : (told : MediaChange) → Stays name told old new → WorldFits lines new → IsReady lines new
+  pub stays_ready : (told : MediaChange) → Stays lines name told old new → WorldFits lines new → IsReady lines new
   stays_ready told call =
-      put_ready lines old new ready call.at call.host call.next call.host_is (runs_writer old.entry name call.host told.old call.next told.new call.stays.notes call.stays.runs) call.journal call.is
+      put_ready lines old new ready call.at call.host call.next call.host_is (runs_writer lines old.entry name call.host told.old call.next told.new call.stays.notes call.stays.runs) call.journal call.is
 
   -- a cache's own moves
   pub moved_ready : (line : ℕ) (move : Move) (told : MediaChange) → MovesAt name line move told old new → WorldFits lines new → IsReady lines new

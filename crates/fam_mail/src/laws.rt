@@ -12,11 +12,11 @@ ghost use Rattle.fam_machine.specs.HostMoves.{Move};
 ghost use Rattle.fam_media.specs.States.{MediaChange};
 ghost use Rattle.fam_rules.specs.Written.{file_line};
 ghost use Rattle.fam_mail.specs.Boxes.{IsOneToOne, box_of, capacity_of};
-ghost use Rattle.fam_mail.specs.Calls.{Begins, Declares, FailsAt, Finishes, Halts, MovesAt, Operates, Stays, Stops, WorldFits, capacity_in};
+ghost use Rattle.fam_mail.specs.Calls.{Begins, Declares, FailsAt, Finishes, Halts, IsTold, MovesAt, Operates, Stays, Stops, WorldFits, capacity_in};
 ghost use Rattle.fam_mail.specs.Mail.{whole};
 ghost use Rattle.fam_mail.specs.Protocol.{IsBoxLine};
 ghost use Rattle.fam_mail.specs.Records.{IsRecord};
-ghost use Rattle.fam_mail.specs.Standing.{IsOneWriter, IsReady, IsTold, Past, Stands, StandsAfter, StandsStill};
+ghost use Rattle.fam_mail.specs.Standing.{IsOneWriter, IsReady, Past, Stands, StandsAfter, StandsFinished, StandsStill, StandsUnfinished};
 ghost use Rattle.fam_mail.specs.World.{MailView, noted};
 ghost use Rattle.fam_mail.specs.declared.ask.Ask.{Ask};
 ghost use Rattle.fam_mail.specs.declared.ask.Ask.TheVariants.{Post};
@@ -45,6 +45,17 @@ pub fn every_operation_says_what_it_may()
     ensures { (rest : ℕ → List ℕ) (name : List ℕ) (told : MediaChange) (over : Bool) (old new : MailView) (past : Past) (image : Image)
         (lines : ℕ) (call : Operates name told over old new) → Stands rest old past image → told.old.image ≡ Some image
         → IsTold lines told.old.image → WorldFits lines old → StandsAfter rest past name told over old new call }
+{}
+
+/// So it is with a task that is finished: each of its operations says what it may, and the world stands behind each. Where
+/// memory ran out before the last one it stands too.
+pub fn a_task_that_is_finished_says_what_it_may()
+    ensures finished { (rest : ℕ → List ℕ) (name : List ℕ) (told : MediaChange) (old new : MailView) (past : Past) (image : Image)
+        (lines : ℕ) (call : Finishes lines name told old new) → Stands rest old past image → told.old.image ≡ Some image
+        → WorldFits lines old → StandsFinished rest past lines name told old new call }
+    ensures stays { (rest : ℕ → List ℕ) (name : List ℕ) (told : MediaChange) (old new : MailView) (past : Past) (image : Image)
+        (lines : ℕ) (call : Stays lines name told old new) → Stands rest old past image → told.old.image ≡ Some image
+        → WorldFits lines old → StandsUnfinished rest past lines name told old new call }
 {}
 
 /// The world stands behind every other call too.
@@ -96,9 +107,9 @@ pub fn a_world_is_ready_behind_its_calls()
     ensures operated { (lines : ℕ) (name : List ℕ) (old new : MailView) → IsReady lines old → (told : MediaChange) (over : Bool)
         → Operates name told over old new → WorldFits lines new → IsReady lines new }
     ensures finished { (lines : ℕ) (name : List ℕ) (old new : MailView) → IsReady lines old → (told : MediaChange)
-        → Finishes name told old new → WorldFits lines new → IsReady lines new }
+        → Finishes lines name told old new → WorldFits lines new → IsReady lines new }
     ensures stays { (lines : ℕ) (name : List ℕ) (old new : MailView) → IsReady lines old → (told : MediaChange)
-        → Stays name told old new → WorldFits lines new → IsReady lines new }
+        → Stays lines name told old new → WorldFits lines new → IsReady lines new }
     ensures moved { (lines : ℕ) (name : List ℕ) (old new : MailView) → IsReady lines old → (line : ℕ) (move : Move) (told : MediaChange)
         → MovesAt name line move told old new → WorldFits lines new → IsReady lines new }
     ensures failed { (lines : ℕ) (name : List ℕ) (old new : MailView) → IsReady lines old → (line : ℕ) (move : Move)

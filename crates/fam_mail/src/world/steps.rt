@@ -132,9 +132,9 @@ fn finish_of<M: Media>(
     requires within { (j : ℕ) → j ≤ capacity_of entry.now.size → file_line entry.now j < M.size media.old }
     requires fits { HostFits (M.size media.old) (capacity_of entry.now.size) (host_view host.old) }
 
-    ensures finished { OnOk result (HostFinishes entry.now name.now (host_view host.old) (change M.state media.old media.new)
+    ensures finished { OnOk result (HostFinishes (M.size media.old) entry.now name.now (host_view host.old) (change M.state media.old media.new)
         (host_view host.new) journal.old.items journal.new.items) }
-    ensures stays { OnErr result (HostStays entry.now name.now (host_view host.old) (change M.state media.old media.new)
+    ensures stays { OnErr result (HostStays (M.size media.old) entry.now name.now (host_view host.old) (change M.state media.old media.new)
         (host_view host.new) journal.old.items journal.new.items) }
     ensures fits { HostFits (M.size media.new) (capacity_of entry.now.size) (host_view host.new) }
     ensures steady { IsSteady M.size M.state media.old media.new }
@@ -182,7 +182,7 @@ impl MailWorld {
     pub fn finish<M: Media>(&mut self, media: &mut M, name: &HostName) -> Result<(), MailFault>
         requires fits { WorldFits (M.size media.old) self.old }
 
-        ensures ends { FinishEnds name.now (change M.state media.old media.new) self.old self.new result }
+        ensures ends { FinishEnds (M.size media.old) name.now (change M.state media.old media.new) self.old self.new result }
         ensures fits { WorldFits (M.size media.new) self.new }
         ensures steady { IsSteady M.size M.state media.old media.new }
     {

@@ -8,7 +8,7 @@ use Rattle.fam_mail.proofs.world.steps.finish_of.Given as goal
 
 abbrev pub invariant-operations : goal.invariant-operations
 invariant-operations g l = record {
-  stays : HostStays l.entry l.name (host_view l.fn.host) (change g.M.Media.state l.fn.media l.media) (host_view l.host) l.fn.journal.items l.journal.items;
+  stays : HostStays (g.M.Media.size l.fn.media) l.entry l.name (host_view l.fn.host) (change g.M.Media.state l.fn.media l.media) (host_view l.host) l.fn.journal.items l.journal.items;
   runs : is_some l.host.task ≡ true;
   fits : HostFits (g.M.Media.size l.fn.media) (capacity_of l.entry.size) (host_view l.host);
   size : g.M.Media.size l.media ≡ g.M.Media.size l.fn.media;
