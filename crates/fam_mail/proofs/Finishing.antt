@@ -64,8 +64,7 @@ pub finished_stands : (rest : ℕ → List ℕ) (name : List ℕ) (told : MediaC
 finished_stands rest name told old new past image lines call stands is fits =
     let f = call.finishes in
     let before = along rest past image lines old name call.at call.host call.host_is stands fits.place told.old is f.mid f.now f.notes f.runs in
-    let so_far : Past = past_along past call.at lines old.entry name call.host told.old f.mid f.now f.notes f.runs in
-    (
+    let so_far : Past = past_along past call.at lines old.entry name call.host told.old f.mid f.now f.notes f.runs in (
       before.0,
       one_more rest past image lines old name call.at call.host call.host_is stands fits.place told.old is f.mid call.next f.now told.new true f.notes f.more call.journal so_far new before.1 f.is_told call.is f.ends.task f.ends.task_is f.ends.how,
     )
