@@ -78,9 +78,9 @@ module _ (name : List ℕ) (v : MailView) (at : ℕ) (free : IsFree name idle_re
   )
 
   -- or all up to its end
-  pub finish_said : (told : MediaChange) (next : HostView) (hosts : List HostView) (journal : List MailNote) (r : Result (Unit {0}) OutOfMemory) → OnOk r (HostFinishes v.entry name h told next v.journal journal)
-      → OnErr r (HostStays v.entry name h told next v.journal journal) → hosts ≡ changed_at at (λ (x : HostView). next) v.hosts → FinishEnds name told v (record { entry = v.entry; hosts = hosts; journal = journal }) (told_of r)
-  finish_said told next hosts journal (Ok done) finished stays changed = (
+  pub finish_said : (lines : ℕ) (told : MediaChange) (next : HostView) (hosts : List HostView) (journal : List MailNote) (r : Result (Unit {0}) OutOfMemory) → OnOk r (HostFinishes lines v.entry name h told next v.journal journal)
+      → OnErr r (HostStays lines v.entry name h told next v.journal journal) → hosts ≡ changed_at at (λ (x : HostView). next) v.hosts → FinishEnds lines name told v (record { entry = v.entry; hosts = hosts; journal = journal }) (told_of r)
+  finish_said lines told next hosts journal (Ok done) finished stays changed = (
     free_call name idle_refusal v at free,
     record {
       at = at;
@@ -93,7 +93,7 @@ module _ (name : List ℕ) (v : MailView) (at : ℕ) (free : IsFree name idle_re
       is = ap (λ (hs : List HostView). record { entry = v.entry; hosts = hs; journal = journal }) changed;
     },
   )
-  finish_said told next hosts journal (Err full) finished stays changed = inr (record {
+  finish_said lines told next hosts journal (Err full) finished stays changed = inr (record {
     at = at;
     host = h;
     number = free.number;

@@ -1,7 +1,10 @@
 -- A box whose records are looked at one by one.
-use Rattle.std.proofs.Common.{◌≡◌, ℕ, zero, suc, ◌+◌, ◌-◌, ◌<◌, ◌≤◌, List, [], ◌∷◌, refl, sym, ap, subst, ◌∙◌, arith, add-one}
+use Rattle.std.proofs.Common.{◌≡◌, ℕ, zero, suc, ◌+◌, ◌-◌, ◌<◌, ◌≤◌, inr, List, [], ◌∷◌, refl, sym, ap, subst, ◌∙◌, arith, add-one}
 use Rattle.std.specs.Prelude.{Bool, true, false, cond, is_some, nat_lt, Option, Some, None, Result, Ok, Err}
 use Rattle.std.proofs.lemmas.Bool.Decides.{nat_tests}
+use Rattle.fam_base.specs.Image.{Image, line_at}
+use Rattle.fam_media.specs.Outside.{IfModelled}
+use Rattle.fam_mail.specs.Checks.{IsReadLine}
 use Rattle.fam_mail.specs.Boxes.{IsBox, box_by, box_of, first_wrong, gate_in, record_at, record_before, records_from, wrong_before}
 use Rattle.fam_mail.specs.Records.{numbers_in, numbers_or, record_in, wrong_word}
 use Rattle.fam_mail.specs.declared.check.WrongBox.TheVariants.{BadBox, BadRecord}
@@ -20,6 +23,18 @@ module _ (each : ℕ → Result (List ℕ) ℕ) where
   pub reads_as : (i n : ℕ) → ReadsAs (records_from each i n) (first_wrong each i n)
   reads_as i zero = ([], refl)
   reads_as i (suc n) = one i (each i) (records_from each (suc i) n) (first_wrong each (suc i) n) (reads_as (suc i) n)
+
+  -- where none of so many records is wrong, nor is the one behind them, none of one more is
+  behind_right : (i : ℕ) (first : Result (List ℕ) ℕ) (rest more : Option ℕ) → wrong_before i first rest ≡ None → (rest ≡ None → more ≡ None) → wrong_before i first more ≡ None
+  behind_right i (Err word) rest more none next = absurd cc
+  behind_right i (Ok numbers) rest more none next = next none
+
+  pub still_right : (i n last : ℕ) (numbers : List ℕ) → last ≡ i + n → each last ≡ Ok numbers → first_wrong each i n ≡ None → first_wrong each i (suc n) ≡ None
+  still_right i zero last numbers at is none =
+      let here : i ≡ last = omega (arith, at) in
+      ap (λ (r : Result (List ℕ) ℕ). wrong_before i r None) (ap each here ∙ is)
+  still_right i (suc n) last numbers at is none =
+      behind_right i (each i) (first_wrong each (suc i) n) (first_wrong each (suc i) (suc n)) none (λ rest. still_right (suc i) n last numbers (omega (arith, at)) is rest)
 
   -- one record that is one, and those behind it
   pub next_right : (i end : ℕ) (numbers : List ℕ) → i < end → each i ≡ Ok numbers → first_wrong each i (end - i) ≡ first_wrong each (i + 1) (end - (i + 1))
@@ -78,10 +93,20 @@ module _ (place : ℕ → ℕ) (capacity : ℕ) (memory : ℕ → List ℕ) (gat
   pub one_right : wrong_word words ≡ None → first_wrong (record_at place memory) 0 gate ≡ first_wrong (record_at place memory) (i + 1) (gate - (i + 1))
   one_right none = front ∙ next_right (record_at place memory) i gate (numbers_in words) lt (ap record_in (sym line_is) ∙ right_record words none)
 
+  pub one_more : wrong_word words ≡ None → first_wrong (record_at place memory) 0 i ≡ None → first_wrong (record_at place memory) 0 (i + 1) ≡ None
+  one_more none right =
+      ap (λ (n : ℕ). first_wrong (record_at place memory) 0 n) (add-one i)
+      ∙ still_right (record_at place memory) 0 i i (numbers_in words) (omega arith) (ap record_in (sym line_is) ∙ right_record words none) right
+
   pub one_wrong : (word : ℕ) → wrong_word words ≡ Some word → box_of place capacity memory ≡ Err (BadRecord i)
   one_wrong word is =
       let here : first_wrong (record_at place memory) 0 gate ≡ Some i = front ∙ here_wrong (record_at place memory) i gate word lt (ap record_in (sym line_is) ∙ wrong_record words word is) in
       bad_record place capacity memory (omega (arith, room, gate_is)) i (subst (λ (n : ℕ). first_wrong (record_at place memory) 0 n ≡ Some i) gate_is here)
+
+-- the media failed at its line
+pub failed_record : (place : ℕ → ℕ) (capacity : ℕ) (told : Option Image) (gate i line : ℕ) → i < gate → gate ≤ capacity → line ≡ place (1 + i) → IfModelled told (λ image. gate ≡ gate_in place (line_at image))
+    → IfModelled told (λ image. first_wrong (record_at place (line_at image)) 0 i ≡ None) → IsReadLine place capacity told line
+failed_record place capacity told gate i line below room line_is gate_is front = inr (record { number = i; gate = gate; below = below; room = room; line_is = line_is; gate_is = gate_is; front = front })
 
 -- all were looked at
 pub all_right : (place : ℕ → ℕ) (capacity : ℕ) (memory : ℕ → List ℕ) (gate i : ℕ) → gate ≤ i → gate ≤ capacity → gate ≡ gate_in place memory

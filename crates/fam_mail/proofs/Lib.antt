@@ -12,6 +12,8 @@ pub mod Members
 pub mod Calling
 pub mod Standing
 pub mod Outcomes
+pub mod Readying
+pub mod Finishing
 pub mod Shifting
 pub mod MovedOn
 pub mod Checking

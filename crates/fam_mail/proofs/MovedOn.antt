@@ -11,10 +11,11 @@ use Rattle.fam_media.specs.States.{MediaChange}
 use Rattle.fam_protocol.specs.Hosted.{ActsAs}
 use Rattle.fam_protocol.proofs.Hosts.Acts.{failed_move_transfers, moves_by}
 use Rattle.fam_rules.specs.Written.{file_line}
-use Rattle.fam_mail.specs.Calls.{FailsAt, MovesAt, WorldFits, capacity_in}
+use Rattle.fam_mail.specs.Calls.{FailsAt, IsTold, MovesAt, WorldFits, capacity_in}
 use Rattle.fam_mail.specs.Mail.{Run}
+use Rattle.fam_mail.specs.declared.note.MailRefusal.{MailRefusal}
 use Rattle.fam_mail.specs.Protocol.{Box, Invariant}
-use Rattle.fam_mail.specs.Standing.{IsTold, Past, Stands, StandsStill, box_in, held_by, run_by, runs_of, shared}
+use Rattle.fam_mail.specs.Standing.{Past, Stands, StandsStill, box_in, held_by, run_by, runs_of, shared}
 use Rattle.fam_mail.specs.World.{HostView, MailView, changed_at}
 use Rattle.fam_mail.proofs.Events.{fewer_hold, moves_hold}
 use Rattle.fam_mail.proofs.Members.{changed_here, changed_other}
@@ -61,8 +62,8 @@ module _ (rest : ℕ → List ℕ) (name : List ℕ) (line : ℕ) (move : Move) 
                 sym (ap (λ (o : Option HostView). run_by o (past.floors h)) (changed_other call.at h (λ (x : HostView). record call.host { cache = call.cache }) old.hosts ne)) ∙ at_is
           ]
 
-  pub failed_on : FailsAt name line move told old new → StandsStill rest past told.new.image new
-  failed_on call =
+  pub failed_on : (cause : MailRefusal) → FailsAt name line move told cause old new → StandsStill rest past told.new.image new
+  failed_on cause call =
       let l = file_line old.entry line in
       let m : Machine = machine image call.host.cache in
       let fails : FailsTo l (λ through memory. failed_move move through memory (cell_at call.host.cache l)) image told.new.image = call.failed image is in

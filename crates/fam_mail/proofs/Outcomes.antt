@@ -20,13 +20,13 @@ use Rattle.fam_mail.specs.declared.ask.Ask.TheVariants.{Post, Take}
 use Rattle.fam_mail.specs.declared.note.MailNote.{MailNote}
 use Rattle.fam_mail.specs.declared.note.MailNote.TheVariants as note
 use Rattle.fam_mail.specs.Boxes.{IsOneToOne, box_of, capacity_of}
-use Rattle.fam_mail.specs.Calls.{Begins, Breaks, Changes, Declares, Halts, Operates, Serves, Stops, WorldFits, ask_refusal, begin_refusal, capacity_in, declare_refusal, host_at, refusal_of, second_writer}
+use Rattle.fam_mail.specs.Calls.{Begins, Breaks, Changes, Declares, Halts, IsTold, Operates, Serves, Stops, WorldFits, ask_refusal, begin_refusal, capacity_in, declare_refusal, host_at, refusal_of, second_writer}
 use Rattle.fam_mail.specs.Mail.{Run, whole}
 use Rattle.fam_mail.specs.Protocol.{Box, Invariant, IsBoxLine, IsWriters}
 use Rattle.fam_mail.specs.Records.{IsRecord}
-use Rattle.fam_mail.specs.Standing.{IsOneWriter, IsTold, Past, SaysSo, Stands, StandsAfter, StandsBehind, StandsStill, box_in, held_by, run_by, runs_of, shared}
+use Rattle.fam_mail.specs.Standing.{IsOneWriter, Past, SaysSo, Stands, StandsAfter, StandsBehind, StandsStill, box_in, held_by, run_by, runs_of, shared}
 use Rattle.fam_mail.specs.Tasks.{IsPost, Task, starting}
-use Rattle.fam_mail.specs.World.{HostView, MailView, changed_at, index_from, index_of, is_named, is_writer, new_host}
+use Rattle.fam_mail.specs.World.{HostView, MailView, changed_at, index_from, index_of, is_named, is_writer, new_host, noted}
 use Rattle.fam_mail.proofs.Boxing.{box_begins, box_reads}
 use Rattle.fam_mail.proofs.Events.{begins_hold, declared_holds, fewer_hold, loses_hold}
 use Rattle.fam_mail.proofs.Lists.{member_behind}
@@ -43,24 +43,25 @@ begun entry image records apart normal is =
     let inv = box_begins (file_line entry) (capacity_of entry.size) s records apart (λ l. refl) (λ h l. refl) is in
     fewer_hold b (λ h. None) (runs_of [] (λ h. None)) s (record { list = records; pending = None }) inv (λ h r none. none)
 
--- An operation of a task.
+-- An operation of a task, of which the media served or failed.
+module _ (rest : ℕ → List ℕ) (v new : MailView) (past : Past) (image : Image) (lines : ℕ) (name : List ℕ) (told : MediaChange) (over : Bool) (stands : Stands rest v past image) (is : told.old.image ≡ Some image) (is_told : IsTold lines told.old.image)
+    (place : (j : ℕ) → j ≤ capacity_in v → file_line v.entry j < lines) (at : ℕ) (host next : HostView) (host_is : slice_get v.hosts at ≡ Some host) (t : Task) (task_is : host.task ≡ Some t) (notes journal : List MailNote)
+    (new_is : new ≡ record { entry = v.entry; hosts = changed_at at (λ (x : HostView). next) v.hosts; journal = journal }) where
+  inside : (j : ℕ) → j ≤ capacity_in v → file_line v.entry j < length image
+  inside j le = omega (arith, place j le, is_told.count image is)
+
+  pub behind : (how : Serves v.entry name host t told over next notes ⊎ Breaks v.entry name host t told over next notes) → StandsBehind rest past at v.entry name host t told over next notes new how
+  behind (inl serves) =
+      let said = says_so rest v past image stands at host next host_is t task_is inside serves.word serves.next_is told.new.image (serves.done image is) (serves.word_is image is) journal in
+      subst (λ (w : MailView). SaysSo rest at serves.word t past told.new.image w) (sym new_is) said
+  behind (inr breaks) =
+      let still = stands_still rest v past image stands at host next host_is t task_is inside (subst IsNormal is is_told.normal) breaks.line breaks.next_is told.new.image (breaks.failed image is) journal in
+      subst (λ (w : MailView). StandsStill rest past told.new.image w) (sym new_is) still
+
 pub operated_stands : (rest : ℕ → List ℕ) (name : List ℕ) (told : MediaChange) (over : Bool) (old new : MailView) (past : Past) (image : Image) (lines : ℕ) (call : Operates name told over old new) → Stands rest old past image
     → told.old.image ≡ Some image → IsTold lines told.old.image → WorldFits lines old → StandsAfter rest past name told over old new call
-operated_stands rest name told over old new past image lines call stands is modelled fits = go call.operates.how
-  where
-    inside : (j : ℕ) → j ≤ capacity_in old → file_line old.entry j < length image
-    inside j le = omega (arith, fits.place j le, modelled.count image is)
-
-    go : (how : Serves old.entry name call.host call.operates.task told over call.next call.notes ⊎ Breaks old.entry name call.host call.operates.task told over call.next call.notes)
-        → StandsBehind rest past call.at old.entry name call.host call.operates.task told over call.next call.notes new how
-    go (inl serves) =
-        let said = says_so rest old past image stands call.at call.host call.next call.host_is call.operates.task call.operates.task_is inside serves.word serves.next_is told.new.image
-        (serves.done image is) (serves.word_is image is) (old.journal ++ call.notes) in
-        subst (λ (v : MailView). SaysSo rest call.at serves.word call.operates.task past told.new.image v) (sym call.is) said
-    go (inr breaks) =
-        let still = stands_still rest old past image stands call.at call.host call.next call.host_is call.operates.task call.operates.task_is inside (subst IsNormal is modelled.normal) breaks.line breaks.next_is
-        told.new.image (breaks.failed image is) (old.journal ++ call.notes) in
-        subst (λ (v : MailView). StandsStill rest past told.new.image v) (sym call.is) still
+operated_stands rest name told over old new past image lines call stands is modelled fits =
+    behind rest old new past image lines name told over stands is modelled fits.place call.at call.host call.next call.host_is call.operates.task call.operates.task_is call.notes (old.journal ++ call.notes) call.is call.operates.how
 
 -- What the box reads as at any time, and the other lines of the image.
 pub box_told : (rest : ℕ → List ℕ) (v : MailView) (past : Past) (image : Image) → Stands rest v past image
@@ -195,7 +196,7 @@ module _ (rest : ℕ → List ℕ) (name : List ℕ) (old new : MailView) (past 
 -- A host is declared.
 
 -- a list with one more member has the members before, and it
-data More {A : Type 0} (xs : List A) (y : A) (n : ℕ) : Type 0 where
+pub data More {A : Type 0} (xs : List A) (y : A) (n : ℕ) : Type 0 where
   before : slice_get (xs ++ y ∷ []) n ≡ slice_get xs n → (n ≡ length xs → ⊥) → More xs y n
   last : n ≡ length xs → slice_get (xs ++ y ∷ []) n ≡ Some y → slice_get xs n ≡ None → More xs y n
 
@@ -203,7 +204,7 @@ more_next : {A : Type 0} (x : A) (xs : List A) (y : A) (n : ℕ) → More xs y n
 more_next x xs y n (before is not) = before is (λ e. not (cc))
 more_next x xs y n (last e is none) = last (ap suc e) is none
 
-more : {A : Type 0} (xs : List A) (y : A) (n : ℕ) → More xs y n
+pub more : {A : Type 0} (xs : List A) (y : A) (n : ℕ) → More xs y n
 more {A} [] y zero = last refl refl refl
 more {A} [] y (suc n) = before refl (λ e. absurd cc)
 more {A} (x ∷ xs) y zero = before refl (λ e. absurd cc)
@@ -292,18 +293,22 @@ declare_free true many writer name v e = absurd cc
 declare_free false true writer name v e = absurd cc
 declare_free false false writer name v e = e
 
-module _ (rest : ℕ → List ℕ) (name : List ℕ) (old new : MailView) (past : Past) (image : Image) (one : IsOneWriter old.hosts) where
+module _ (name : List ℕ) (old new : MailView) where
   free_of : (writer : Bool) → declare_refusal name writer old ≡ None → second_writer writer (index_of is_writer old.hosts) old ≡ None
   free_of writer free = declare_free (is_some (index_of (is_named name) old.hosts)) (nat_le 64 (length old.hosts)) writer name old free
 
-  pub declared_stands : (writer : Bool) → Declares name writer None old new → Stands rest old past image → Stands rest new past image
-  declared_stands false call stands =
-      subst (λ (v : MailView). Stands rest v past image) (sym call.1) (reader_stands rest old past image stands (new_host name false) refl refl refl (old.journal ++ note.Reader name ∷ []))
-  declared_stands true call stands =
-      subst (λ (v : MailView). Stands rest v past image) (sym call.1)
-      (writer_stands rest old past image stands (new_host name true) refl refl refl (unrefused (index_of is_writer old.hosts) old (free_of true call.0)) (old.journal ++ note.Writer name ∷ []))
-
-  pub declared_one : (writer : Bool) → Declares name writer None old new → IsOneWriter new.hosts
-  declared_one writer call =
+  pub declared_one : (writer : Bool) → Declares name writer None old new → IsOneWriter old.hosts → IsOneWriter new.hosts
+  declared_one writer call one =
       let free = free_of writer call.0 in
       subst (λ (v : MailView). IsOneWriter v.hosts) (sym call.1) (one_writer old.hosts (new_host name writer) one (λ passes. unrefused (index_of is_writer old.hosts) old (subst (λ (w : Bool). second_writer w (index_of is_writer old.hosts) old ≡ None) passes free)))
+
+pub declared_stands : (rest : ℕ → List ℕ) (name : List ℕ) (old new : MailView) (past : Past) (image : Image) → (writer : Bool) → Declares name writer None old new → Stands rest old past image → Stands rest new past image
+declared_stands rest name old new past image false call stands =
+    subst (λ (v : MailView). Stands rest v past image) (sym call.1) (reader_stands rest old past image stands (new_host name false) refl refl refl (old.journal ++ note.Reader name ∷ []))
+declared_stands rest name old new past image true call stands =
+    subst (λ (v : MailView). Stands rest v past image) (sym call.1)
+    (writer_stands rest old past image stands (new_host name true) refl refl refl (unrefused (index_of is_writer old.hosts) old (free_of name old new true call.0)) (old.journal ++ note.Writer name ∷ []))
+
+-- a note changes nothing of it
+pub noted_stands : (rest : ℕ → List ℕ) (made : MailNote) (old : MailView) (past : Past) (image : Image) → Stands rest old past image → Stands rest (noted made old) past image
+noted_stands rest made old past image stands = stands

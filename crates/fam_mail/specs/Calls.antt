@@ -1,6 +1,7 @@
 -- What each call of a world with a mailbox makes of it, and why it is refused. docs/MODEL.md, "The mailbox".
 use Rattle.std.specs.Prelude.{ℕ, ⊤, ◌≡◌, ◌≢◌, ◌⊎◌, ◌+◌, ◌<◌, ◌≤◌, ◌++◌, ◌∷◌, Bool, true, false, nat_le, nat_lt, is_some, if◌then◌else◌, List, [], length, slice_get, Option, Some, None, Result, Ok, Err, unwrap_or, option_map}
 use Rattle.std.specs.FinMap as finmap
+use Rattle.fam_base.specs.Image.{Image, IsNormal}
 use Rattle.fam_base.specs.declared.entry.Entry.{Entry}
 use Rattle.fam_base.specs.declared.line.LineNo.{LineNo}
 use Rattle.fam_base.specs.declared.line.OutOfMemory.{OutOfMemory}
@@ -195,11 +196,12 @@ pub record Breaks (entry : Entry) (name : List ℕ) (host : HostView) (t : Task)
   pub next_is : next ≡ record host { cache = next.cache; task = None }
   pub notes_are : notes ≡ note.MediaFault name line ∷ []
 
--- one or the other, of the task that it runs
+-- one or the other, of the task that it runs. The media's count of faults doesn't fall
 pub record HostOperates (entry : Entry) (name : List ℕ) (host : HostView) (told : MediaChange) (over : Bool) (next : HostView) (notes : List MailNote) : Type 0 where
   pub task : Task
   pub task_is : host.task ≡ Some task
   pub how : Serves entry name host task told over next notes ⊎ Breaks entry name host task told over next notes
+  pub later : told.old.faults ≤ told.new.faults
 
 -- with the journal behind it
 pub record HostStepped (entry : Entry) (name : List ℕ) (host : HostView) (told : MediaChange) (over : Bool) (next : HostView) (before after : List MailNote) : Type 0 where
@@ -246,10 +248,11 @@ pub record MovesAt (name : List ℕ) (line : ℕ) (move : Move) (told : MediaCha
   pub number : index_of (is_named name) old.hosts ≡ Some at
   pub host_is : slice_get old.hosts at ≡ Some host
   pub done : IfModelled told.old.image (λ image. IsMachine (moved move (file_line old.entry line) (machine image host.cache)) told.new.image cache)
+  pub later : told.old.faults ≤ told.new.faults
   pub is : new ≡ record old { hosts = changed_at at (λ h. record h { cache = cache }) old.hosts }
 
--- the media failed in it: memory may have words of the copy, and the cache is as it was
-pub record FailsAt (name : List ℕ) (line : ℕ) (move : Move) (told : MediaChange) (old new : MailView) : Type 0 where
+-- the media failed in it, and the call is refused for it: memory may have words of the copy, and the cache is as it was
+pub record FailsAt (name : List ℕ) (line : ℕ) (move : Move) (told : MediaChange) (cause : MailRefusal) (old new : MailView) : Type 0 where
   pub at : ℕ
   pub host : HostView
   pub number : index_of (is_named name) old.hosts ≡ Some at
@@ -257,7 +260,9 @@ pub record FailsAt (name : List ℕ) (line : ℕ) (move : Move) (told : MediaCha
   pub failed : IfModelled told.old.image (λ image. FailsTo (file_line old.entry line)
       (λ through memory. failed_move move through memory (cell_at host.cache (file_line old.entry line))) image told.new.image)
   pub rose : Rose told.old.faults told.new.faults
-  pub is : new ≡ noted (note.Refused name (why.MediaFault (line_no (file_line old.entry line)))) old
+  pub later : told.old.faults ≤ told.new.faults
+  pub cause_is : cause ≡ why.MediaFault (line_no (file_line old.entry line))
+  pub is : new ≡ noted (note.Refused name cause) old
 
 -- it is refused at once, and the media is as it was
 pub record IsTurnedDown (name : List ℕ) (first : Option MailRefusal) (cause : MailRefusal) (told : MediaChange) (old new : MailView) : Type 0 where
@@ -271,30 +276,37 @@ MovesLine name line move told None old new =
     (refusal_named name (line_refusal line (capacity_in old)) old ≡ None) × MovesAt name line move told old new
 MovesLine name line move told (Some cause) old new =
     IsTurnedDown name (refusal_named name (line_refusal line (capacity_in old)) old) cause told old new
-    ⊎ ((refusal_named name (line_refusal line (capacity_in old)) old ≡ None) × FailsAt name line move told old new)
+    ⊎ ((refusal_named name (line_refusal line (capacity_in old)) old ≡ None) × FailsAt name line move told cause old new)
 
 -- Operations one behind another.
 
--- some operations of a host's task, of which none ends it: what they lead to, what the media tells then, and the notes
-pub data HostRuns (entry : Entry) (name : List ℕ) (host : HostView) (told : MediaState) : HostView → MediaState → List MailNote → Type 0 where
-  rests : HostRuns entry name host told host told []
-  goes_on : {mid next : HostView} {now later : MediaState} {notes more : List MailNote} → HostRuns entry name host told mid now notes → HostOperates entry name mid (record { old = now; new = later }) false next more
-      → HostRuns entry name host told next later (notes ++ more)
+-- an image that is told has so many lines of eight words
+pub record IsTold (lines : ℕ) (told : Option Image) : Type 0 where
+  pub normal : IsNormal told
+  pub count : IfModelled told (λ image. length image ≡ lines)
+
+-- some operations of a host's task, of which none ends it, on a media of so many lines: what they lead to, what the media tells
+-- then, and the notes
+pub data HostRuns (lines : ℕ) (entry : Entry) (name : List ℕ) (host : HostView) (told : MediaState) : HostView → MediaState → List MailNote → Type 0 where
+  rests : HostRuns lines entry name host told host told []
+  goes_on : {mid next : HostView} {now later : MediaState} {notes more : List MailNote} → HostRuns lines entry name host told mid now notes → IsTold lines now.image
+      → HostOperates entry name mid (record { old = now; new = later }) false next more → HostRuns lines entry name host told next later (notes ++ more)
 
 -- some, and then one with which it ends, or none where no memory was left
-pub record HostFinishes (entry : Entry) (name : List ℕ) (host : HostView) (told : MediaChange) (next : HostView) (before after : List MailNote) : Type 0 where
+pub record HostFinishes (lines : ℕ) (entry : Entry) (name : List ℕ) (host : HostView) (told : MediaChange) (next : HostView) (before after : List MailNote) : Type 0 where
   pub mid : HostView
   pub now : MediaState
   pub notes : List MailNote
-  pub runs : HostRuns entry name host told.old mid now notes
+  pub runs : HostRuns lines entry name host told.old mid now notes
   pub more : List MailNote
+  pub is_told : IsTold lines now.image
   pub ends : HostOperates entry name mid (record { old = now; new = told.new }) true next more
   pub noted : after ≡ before ++ (notes ++ more)
 
 -- or none where no memory was left
-pub record HostStays (entry : Entry) (name : List ℕ) (host : HostView) (told : MediaChange) (next : HostView) (before after : List MailNote) : Type 0 where
+pub record HostStays (lines : ℕ) (entry : Entry) (name : List ℕ) (host : HostView) (told : MediaChange) (next : HostView) (before after : List MailNote) : Type 0 where
   pub notes : List MailNote
-  pub runs : HostRuns entry name host told.old next told.new notes
+  pub runs : HostRuns lines entry name host told.old next told.new notes
   pub noted : after ≡ before ++ notes
 
 -- how many operations a host's task may be from its end
@@ -302,30 +314,30 @@ abbrev pub left_in : HostView → ℕ
 left_in h = unwrap_or (option_map left_of h.task) 0
 
 -- the host of this name finishes its task, and no other one is changed
-pub record Finishes (name : List ℕ) (told : MediaChange) (old new : MailView) : Type 0 where
+pub record Finishes (lines : ℕ) (name : List ℕ) (told : MediaChange) (old new : MailView) : Type 0 where
   pub at : ℕ
   pub host : HostView
   pub number : index_of (is_named name) old.hosts ≡ Some at
   pub host_is : slice_get old.hosts at ≡ Some host
   pub next : HostView
   pub journal : List MailNote
-  pub finishes : HostFinishes old.entry name host told next old.journal journal
+  pub finishes : HostFinishes lines old.entry name host told next old.journal journal
   pub is : new ≡ record { entry = old.entry; hosts = changed_at at (λ h. next) old.hosts; journal = journal }
 
 -- or it goes on with it, for want of memory
-pub record Stays (name : List ℕ) (told : MediaChange) (old new : MailView) : Type 0 where
+pub record Stays (lines : ℕ) (name : List ℕ) (told : MediaChange) (old new : MailView) : Type 0 where
   pub at : ℕ
   pub host : HostView
   pub number : index_of (is_named name) old.hosts ≡ Some at
   pub host_is : slice_get old.hosts at ≡ Some host
   pub next : HostView
   pub journal : List MailNote
-  pub stays : HostStays old.entry name host told next old.journal journal
+  pub stays : HostStays lines old.entry name host told next old.journal journal
   pub is : new ≡ record { entry = old.entry; hosts = changed_at at (λ h. next) old.hosts; journal = journal }
 
 -- a call that finishes: it is refused, and the media is as it was, or it is done, or memory ran out behind some operations or
 -- before the first
-abbrev pub FinishEnds : List ℕ → MediaChange → MailView → MailView → Result (Unit {0}) MailFault → Type 0
-FinishEnds name told old new (Ok done) = (refusal_named name idle_refusal old ≡ None) × Finishes name told old new
-FinishEnds name told old new (Err (fault.Refused cause)) = IsTurnedDown name (refusal_named name idle_refusal old) cause told old new
-FinishEnds name told old new (Err fault.OutOfMemory) = ((new ≡ old) × (told.new ≡ told.old)) ⊎ Stays name told old new
+abbrev pub FinishEnds : ℕ → List ℕ → MediaChange → MailView → MailView → Result (Unit {0}) MailFault → Type 0
+FinishEnds lines name told old new (Ok done) = (refusal_named name idle_refusal old ≡ None) × Finishes lines name told old new
+FinishEnds lines name told old new (Err (fault.Refused cause)) = IsTurnedDown name (refusal_named name idle_refusal old) cause told old new
+FinishEnds lines name told old new (Err fault.OutOfMemory) = ((new ≡ old) × (told.new ≡ told.old)) ⊎ Stays lines name told old new

@@ -1,6 +1,7 @@
 -- Why a box is not taken: it is none, or the media failed.
-use Rattle.std.specs.Prelude.{ℕ, ⊤, ◌≡◌, ◌-◌, ◌≤◌}
-use Rattle.fam_base.specs.Image.{line_at}
+use Rattle.std.specs.Prelude.{ℕ, ⊤, ◌≡◌, ◌⊎◌, ◌+◌, ◌-◌, ◌<◌, ◌≤◌, Option, None}
+use Rattle.fam_base.specs.Image.{Image, line_at}
+use Rattle.fam_base.specs.declared.line.LineNo.{LineNo}
 use Rattle.fam_media.specs.Outside.{IfModelled}
 use Rattle.fam_media.specs.States.{MediaState}
 use Rattle.fam_mail.specs.Boxes.{first_wrong, gate_in, record_at}
@@ -13,16 +14,32 @@ abbrev pub IfWrong : BoxFault → (WrongBox → Type 0) → Type 0
 IfWrong (Wrong wrong) P = P wrong
 IfWrong (MediaFault line) P = ⊤
 
--- where the media failed, P holds
-abbrev pub IfFailed : BoxFault → Type 0 → Type 0
+-- where the media failed, P holds of the line that is named
+abbrev pub IfFailed : BoxFault → (LineNo → Type 0) → Type 0
 IfFailed (Wrong wrong) P = ⊤
-IfFailed (MediaFault line) P = P
+IfFailed (MediaFault line) P = P line
 
--- the gate was read, and the records before record i are records; the media is as it was but for its faults
+-- a line of the image is that of a record below a gate that the box has room for. Where the image is told the gate is its own,
+-- and the records before this one are records
+pub record IsRecordRead (place : ℕ → ℕ) (capacity : ℕ) (told : Option Image) (line : ℕ) : Type 0 where
+  pub number : ℕ
+  pub gate : ℕ
+  pub below : number < gate
+  pub room : gate ≤ capacity
+  pub line_is : line ≡ place (1 + number)
+  pub gate_is : IfModelled told (λ image. gate ≡ gate_in place (line_at image))
+  pub front : IfModelled told (λ image. first_wrong (record_at place (line_at image)) 0 number ≡ None)
+
+-- a test of a box reads this line: the gate's, or that of a record
+abbrev pub IsReadLine : (ℕ → ℕ) → ℕ → Option Image → ℕ → Type 0
+IsReadLine place capacity told line = (line ≡ place 0) ⊎ IsRecordRead place capacity told line
+
+-- the gate was read, and the records before record i are records, so that the first that is none is the first from i on; the media is as it was but for its faults
 pub record IsCheckedTo {M : Type 0} (size : M → ℕ) (state : M → MediaState) (place : ℕ → ℕ) (capacity gate i : ℕ) (old now : M) : Type 0 where
   pub size_is : size now ≡ size old
   pub same : (state now).image ≡ (state old).image
   pub later : (state old).faults ≤ (state now).faults
   pub room : gate ≤ capacity
   pub gate_is : IfModelled (state old).image (λ image. gate ≡ gate_in place (line_at image))
+  pub right : IfModelled (state old).image (λ image. first_wrong (record_at place (line_at image)) 0 i ≡ None)
   pub front : IfModelled (state old).image (λ image. first_wrong (record_at place (line_at image)) 0 gate ≡ first_wrong (record_at place (line_at image)) i (gate - i))

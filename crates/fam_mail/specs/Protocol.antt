@@ -21,7 +21,7 @@ pub record Box : Type 0 where
   pub writer : Option ℕ
   pub rest : ℕ → List ℕ
 
--- a line of the image is one of the file's
+-- a line of the image is one of the box's
 pub record IsBoxLine (place : ℕ → ℕ) (capacity line : ℕ) : Type 0 where
   pub number : ℕ
   pub below : number ≤ capacity
@@ -39,7 +39,7 @@ top_at b s = top (s.memory (b.place 0)) (masters_copy b.writer s (b.place 0))
 pub record Core (b : Box) (s : SharedState) (m : Mail) : Type 0 where
   pub apart : IsOneToOne b.place b.capacity
   pub wide : IsWide s
-  -- nobody but the writer holds a line that memory lacks, and it is one of the file's
+  -- nobody but the writer holds a line that memory lacks, and it is one of the box's
   pub only_writer : (h l : ℕ) → IsDirty (s.copy h l) → b.writer ≡ Some h
   pub inside : (h l : ℕ) → IsDirty (s.copy h l) → IsBoxLine b.place b.capacity l
   -- the others are as at first

@@ -7,7 +7,7 @@ ghost use Rattle.fam_media.specs.Outside.{IfModelled};
 ghost use Rattle.fam_rules.specs.Place.{IsProperEntry};
 ghost use Rattle.fam_rules.specs.Written.{file_line};
 ghost use Rattle.fam_mail.specs.Boxes.{IsBox, box_of, capacity_of};
-ghost use Rattle.fam_mail.specs.Checks.{IfFailed, IfWrong};
+ghost use Rattle.fam_mail.specs.Checks.{IfFailed, IfWrong, IsReadLine};
 
 use crate::record::wrong_word;
 use fam_base::{Entry, LineNo};
@@ -33,8 +33,9 @@ pub enum BoxFault {
     MediaFault(LineNo),
 }
 
-/// Reads the gate and the records below it, in their order, each once, and says whether they are a box: `Wrong` comes exactly
-/// where the file's lines are read as none, and `MediaFault` where the media failed.
+/// Reads the gate and the records below it, and says whether they are a box: `Wrong` comes exactly where the file's lines are
+/// read as none. `MediaFault` comes where the media failed, at the gate's line or at that of a record below the gate; where
+/// the image is modelled the records before that one are records.
 pub fn check_box<M: Media>(media: &mut M, entry: &Entry) -> Result<(), BoxFault>
     requires file { IsProperEntry entry.now }
     requires room { 128 ≤ entry.now.size }
@@ -44,7 +45,9 @@ pub fn check_box<M: Media>(media: &mut M, entry: &Entry) -> Result<(), BoxFault>
         IsBox (file_line entry.now) (capacity_of entry.now.size) (line_at image))) }
     ensures wrong { IfErr result (λ fault. IfWrong fault (λ wrong. IfModelled (M.state media.old).image (λ image.
         box_of (file_line entry.now) (capacity_of entry.now.size) (line_at image) ≡ Err wrong))) }
-    ensures cause { IfErr result (λ fault. IfFailed fault (Rose (M.state media.old).faults (M.state media.new).faults)) }
+    ensures cause { IfErr result (λ fault. IfFailed fault (λ line. Rose (M.state media.old).faults (M.state media.new).faults)) }
+    ensures line { IfErr result (λ fault. IfFailed fault (λ line. IsReadLine (file_line entry.now) (capacity_of entry.now.size)
+        (M.state media.old).image line.0)) }
     ensures same { (M.state media.new).image ≡ (M.state media.old).image }
     ensures steady { IsSteady M.size M.state media.old media.new }
 {

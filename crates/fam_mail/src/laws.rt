@@ -1,6 +1,6 @@
 //! Laws of a world with a mailbox, over what its calls promise. A law has an empty body.
 
-ghost use Rattle.std.specs.Prelude.{◌≡◌, ◌⊎◌, ◌≤◌, ℕ, Bool, List, None, Ok, Some, [], map as map_list};
+ghost use Rattle.std.specs.Prelude.{◌≡◌, ◌⊎◌, ◌<◌, ◌≤◌, ℕ, Bool, List, None, Ok, Some, [], map as map_list};
 ghost use Rattle.fam_base.specs.Image.{Image, eight, line_at};
 ghost use Rattle.fam_base.specs.declared.entry.Entry.{Entry};
 ghost use Rattle.fam_base.specs.declared.entry.Params.{Params};
@@ -12,14 +12,16 @@ ghost use Rattle.fam_machine.specs.HostMoves.{Move};
 ghost use Rattle.fam_media.specs.States.{MediaChange};
 ghost use Rattle.fam_rules.specs.Written.{file_line};
 ghost use Rattle.fam_mail.specs.Boxes.{IsOneToOne, box_of, capacity_of};
-ghost use Rattle.fam_mail.specs.Calls.{Begins, Declares, FailsAt, Halts, MovesAt, Operates, Stops, WorldFits, capacity_in};
+ghost use Rattle.fam_mail.specs.Calls.{Begins, Declares, FailsAt, Finishes, Halts, IsTold, MovesAt, Operates, Stays, Stops, WorldFits, capacity_in};
 ghost use Rattle.fam_mail.specs.Mail.{whole};
 ghost use Rattle.fam_mail.specs.Protocol.{IsBoxLine};
 ghost use Rattle.fam_mail.specs.Records.{IsRecord};
-ghost use Rattle.fam_mail.specs.Standing.{IsOneWriter, IsTold, Past, Stands, StandsAfter, StandsStill};
-ghost use Rattle.fam_mail.specs.World.{HostView, MailView};
+ghost use Rattle.fam_mail.specs.Standing.{IsOneWriter, IsReady, Past, Stands, StandsAfter, StandsFinished, StandsStill, StandsUnfinished};
+ghost use Rattle.fam_mail.specs.World.{MailView, noted};
 ghost use Rattle.fam_mail.specs.declared.ask.Ask.{Ask};
 ghost use Rattle.fam_mail.specs.declared.ask.Ask.TheVariants.{Post};
+ghost use Rattle.fam_mail.specs.declared.note.MailNote.{MailNote};
+ghost use Rattle.fam_mail.specs.declared.note.MailRefusal.{MailRefusal};
 
 /// No two lines of a file of which no unit stands twice are one line of the image.
 pub fn a_file_has_no_line_twice()
@@ -45,13 +47,26 @@ pub fn every_operation_says_what_it_may()
         → IsTold lines told.old.image → WorldFits lines old → StandsAfter rest past name told over old new call }
 {}
 
+/// So it is with a task that is finished: each of its operations says what it may, and the world stands behind each. Where
+/// memory ran out before the last one it stands too.
+pub fn a_task_that_is_finished_says_what_it_may()
+    ensures finished { (rest : ℕ → List ℕ) (name : List ℕ) (told : MediaChange) (old new : MailView) (past : Past) (image : Image)
+        (lines : ℕ) (call : Finishes lines name told old new) → Stands rest old past image → told.old.image ≡ Some image
+        → WorldFits lines old → StandsFinished rest past lines name told old new call }
+    ensures stays { (rest : ℕ → List ℕ) (name : List ℕ) (told : MediaChange) (old new : MailView) (past : Past) (image : Image)
+        (lines : ℕ) (call : Stays lines name told old new) → Stands rest old past image → told.old.image ≡ Some image
+        → WorldFits lines old → StandsUnfinished rest past lines name told old new call }
+{}
+
 /// The world stands behind every other call too.
 pub fn a_world_stands_behind_its_calls()
-    // A host is declared, and at most one may post.
-    ensures host { (rest : ℕ → List ℕ) (name : List ℕ) (old new : MailView) (past : Past) (image : Image) → IsOneWriter old.hosts
-        → (writer : Bool) → Declares name writer None old new → Stands rest old past image → Stands rest new past image }
-    ensures one { (rest : ℕ → List ℕ) (name : List ℕ) (old new : MailView) (past : Past) (image : Image) → IsOneWriter old.hosts
-        → (writer : Bool) → Declares name writer None old new → IsOneWriter new.hosts }
+    // A call is refused, and the media is as it was.
+    ensures refused { (rest : ℕ → List ℕ) (made : MailNote) (old : MailView) (past : Past) (image : Image) → Stands rest old past image
+        → Stands rest (noted made old) past image }
+
+    // A host is declared.
+    ensures host { (rest : ℕ → List ℕ) (name : List ℕ) (old new : MailView) (past : Past) (image : Image) → (writer : Bool)
+        → Declares name writer None old new → Stands rest old past image → Stands rest new past image }
 
     // A task begins, is dropped, or is lost with its host's cache.
     ensures begin { (rest : ℕ → List ℕ) (name : List ℕ) (old new : MailView) (past : Past) (image : Image) → Stands rest old past image
@@ -68,11 +83,41 @@ pub fn a_world_stands_behind_its_calls()
         → WorldFits lines old → line ≤ capacity_in old → MovesAt name line move told old new → StandsStill rest past told.new.image new }
     ensures failed { (rest : ℕ → List ℕ) (name : List ℕ) (line : ℕ) (move : Move) (told : MediaChange) (old new : MailView) (past : Past)
         (image : Image) (lines : ℕ) → Stands rest old past image → told.old.image ≡ Some image → IsTold lines told.old.image
-        → WorldFits lines old → line ≤ capacity_in old → FailsAt name line move told old new → StandsStill rest past told.new.image new }
+        → WorldFits lines old → line ≤ capacity_in old → (cause : MailRefusal) → FailsAt name line move told cause old new
+        → StandsStill rest past told.new.image new }
+{}
+
+/// What these laws ask of a world besides that it stands holds at first, and behind every call: at most one host may post, and
+/// all fits the media. Of calls on a media the second is a clause of the call's own.
+pub fn a_world_is_ready_behind_its_calls()
+    // Before any host is declared, and where a call is refused.
+    ensures first { (lines : ℕ) (entry : Entry) → ((j : ℕ) → j ≤ capacity_of entry.size → file_line entry j < lines)
+        → IsReady lines (record { entry = entry; hosts = []; journal = [] }) }
+    ensures refused { (lines : ℕ) (made : MailNote) (old : MailView) → IsReady lines old → IsReady lines (noted made old) }
+
+    // A host is declared, begins a task, drops it, or halts.
+    ensures host { (lines : ℕ) (name : List ℕ) (old new : MailView) → IsReady lines old → (writer : Bool)
+        → Declares name writer None old new → IsReady lines new }
+    ensures begin { (lines : ℕ) (name : List ℕ) (old new : MailView) → IsReady lines old → (ask : Ask) → Begins name ask None old new
+        → IsReady lines new }
+    ensures stop { (lines : ℕ) (name : List ℕ) (old new : MailView) → IsReady lines old → Stops name None old new → IsReady lines new }
+    ensures halt { (lines : ℕ) (name : List ℕ) (old new : MailView) → IsReady lines old → Halts name None old new → IsReady lines new }
+
+    // A task does an operation, or more of them, or a cache moves by itself, or the media fails in that.
+    ensures operated { (lines : ℕ) (name : List ℕ) (old new : MailView) → IsReady lines old → (told : MediaChange) (over : Bool)
+        → Operates name told over old new → WorldFits lines new → IsReady lines new }
+    ensures finished { (lines : ℕ) (name : List ℕ) (old new : MailView) → IsReady lines old → (told : MediaChange)
+        → Finishes lines name told old new → WorldFits lines new → IsReady lines new }
+    ensures stays { (lines : ℕ) (name : List ℕ) (old new : MailView) → IsReady lines old → (told : MediaChange)
+        → Stays lines name told old new → WorldFits lines new → IsReady lines new }
+    ensures moved { (lines : ℕ) (name : List ℕ) (old new : MailView) → IsReady lines old → (line : ℕ) (move : Move) (told : MediaChange)
+        → MovesAt name line move told old new → WorldFits lines new → IsReady lines new }
+    ensures failed { (lines : ℕ) (name : List ℕ) (old new : MailView) → IsReady lines old → (line : ℕ) (move : Move)
+        (told : MediaChange) (cause : MailRefusal) → FailsAt name line move told cause old new → IsReady lines new }
 {}
 
 /// While a world stands its box reads as what is settled, or as that followed by the pending record (`read`), and each line of
-/// the image that isn't one of the file's is as at first (`others`).
+/// the image that isn't one of the box's is as at first (`others`).
 pub fn a_box_reads_as_what_is_settled()
     ensures read { (rest : ℕ → List ℕ) (v : MailView) (past : Past) (image : Image) → Stands rest v past image
         → (box_of (file_line v.entry) (capacity_in v) (line_at image) ≡ Ok past.mail.list)

@@ -23,6 +23,7 @@ pub use ask::Ask;
 pub use check::{BoxFault, WrongBox, check_box};
 pub use laws::{
     a_box_begins_a_run, a_box_reads_as_what_is_settled, a_file_has_no_line_twice,
+    a_task_that_is_finished_says_what_it_may, a_world_is_ready_behind_its_calls,
     a_world_stands_behind_its_calls, every_operation_says_what_it_may,
 };
 pub use note::{MailFault, MailNote, MailRefusal};

@@ -89,7 +89,7 @@ impl MailWorld {
         ensures fits { WorldFits (M.size media.new) self.new }
         ensures undone { IsErrOf result MailFault.OutOfMemory → media.new ≡ media.old }
         ensures err { IsErrOf result MailFault.OutOfMemory → self.new ≡ self.old }
-        ensures size { M.size media.new ≡ M.size media.old }
+        ensures steady { IsSteady M.size M.state media.old media.new }
     {
         self.move_line(media, name, line, OwnMove::Evict)
     }
@@ -110,7 +110,7 @@ impl MailWorld {
         ensures fits { WorldFits (M.size media.new) self.new }
         ensures undone { IsErrOf result MailFault.OutOfMemory → media.new ≡ media.old }
         ensures err { IsErrOf result MailFault.OutOfMemory → self.new ≡ self.old }
-        ensures size { M.size media.new ≡ M.size media.old }
+        ensures steady { IsSteady M.size M.state media.old media.new }
     {
         self.move_line(media, name, line, OwnMove::Leak(mask))
     }
@@ -131,7 +131,7 @@ impl MailWorld {
         ensures fits { WorldFits (M.size media.new) self.new }
         ensures undone { IsErrOf result MailFault.OutOfMemory → media.new ≡ media.old }
         ensures err { IsErrOf result MailFault.OutOfMemory → self.new ≡ self.old }
-        ensures size { M.size media.new ≡ M.size media.old }
+        ensures steady { IsSteady M.size M.state media.old media.new }
     {
         self.move_line(media, name, line, OwnMove::Fetch(mask))
     }
@@ -151,7 +151,7 @@ impl MailWorld {
         ensures fits { WorldFits (M.size media.new) self.new }
         ensures undone { IsErrOf result MailFault.OutOfMemory → media.new ≡ media.old }
         ensures err { IsErrOf result MailFault.OutOfMemory → self.new ≡ self.old }
-        ensures size { M.size media.new ≡ M.size media.old }
+        ensures steady { IsSteady M.size M.state media.old media.new }
     {
         if make_room(&mut self.journal).is_err() {
             return Err(MailFault::OutOfMemory);

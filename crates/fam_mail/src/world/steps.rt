@@ -1,6 +1,7 @@
 //! Calls that do operations of a host's task.
 
 ghost use Rattle.std.specs.Prelude.{◌≡◌, ◌+◌, ◌*◌, ◌<◌, ◌≤◌, ◌++◌, IfOk, IsErrOf, OnErr, is_some, ℕ, true, vec_capacity, vec_len};
+ghost use Rattle.fam_media.specs.Causes.{IsSteady};
 ghost use Rattle.fam_media.specs.States.{change};
 ghost use Rattle.fam_rules.specs.Place.{IsProperEntry, line_bytes};
 ghost use Rattle.fam_rules.specs.Written.{file_line};
@@ -94,7 +95,7 @@ fn step_of<M: Media>(
     ensures undone { OnErr result (media.new ≡ media.old) }
     ensures kept { OnErr result (host_view host.new ≡ host_view host.old) }
     ensures quiet { OnErr result (journal.new.items ≡ journal.old.items) }
-    ensures size { M.size media.new ≡ M.size media.old }
+    ensures steady { IsSteady M.size M.state media.old media.new }
 {
     let Some(task) = &mut host.task else {
         unreachable!();
@@ -131,12 +132,12 @@ fn finish_of<M: Media>(
     requires within { (j : ℕ) → j ≤ capacity_of entry.now.size → file_line entry.now j < M.size media.old }
     requires fits { HostFits (M.size media.old) (capacity_of entry.now.size) (host_view host.old) }
 
-    ensures finished { OnOk result (HostFinishes entry.now name.now (host_view host.old) (change M.state media.old media.new)
+    ensures finished { OnOk result (HostFinishes (M.size media.old) entry.now name.now (host_view host.old) (change M.state media.old media.new)
         (host_view host.new) journal.old.items journal.new.items) }
-    ensures stays { OnErr result (HostStays entry.now name.now (host_view host.old) (change M.state media.old media.new)
+    ensures stays { OnErr result (HostStays (M.size media.old) entry.now name.now (host_view host.old) (change M.state media.old media.new)
         (host_view host.new) journal.old.items journal.new.items) }
     ensures fits { HostFits (M.size media.new) (capacity_of entry.now.size) (host_view host.new) }
-    ensures size { M.size media.new ≡ M.size media.old }
+    ensures steady { IsSteady M.size M.state media.old media.new }
 {
     'operations: loop {
         if two_rooms(journal).is_err() {
@@ -162,7 +163,7 @@ impl MailWorld {
         ensures fits { WorldFits (M.size media.new) self.new }
         ensures undone { IsErrOf result MailFault.OutOfMemory → media.new ≡ media.old }
         ensures err { IsErrOf result MailFault.OutOfMemory → self.new ≡ self.old }
-        ensures size { M.size media.new ≡ M.size media.old }
+        ensures steady { IsSteady M.size M.state media.old media.new }
     {
         if two_rooms(&mut self.journal).is_err() {
             return Err(MailFault::OutOfMemory);
@@ -181,9 +182,9 @@ impl MailWorld {
     pub fn finish<M: Media>(&mut self, media: &mut M, name: &HostName) -> Result<(), MailFault>
         requires fits { WorldFits (M.size media.old) self.old }
 
-        ensures ends { FinishEnds name.now (change M.state media.old media.new) self.old self.new result }
+        ensures ends { FinishEnds (M.size media.old) name.now (change M.state media.old media.new) self.old self.new result }
         ensures fits { WorldFits (M.size media.new) self.new }
-        ensures size { M.size media.new ≡ M.size media.old }
+        ensures steady { IsSteady M.size M.state media.old media.new }
     {
         if two_rooms(&mut self.journal).is_err() {
             return Err(MailFault::OutOfMemory);

@@ -3,7 +3,7 @@ use Rattle.fam_base.specs.Image.{line_at}
 use Rattle.fam_machine.proofs.WideLines.{eight_whole}
 use Rattle.fam_rules.specs.Written.{file_line}
 use Rattle.fam_mail.specs.Boxes.{capacity_of}
-use Rattle.fam_mail.proofs.Checking.{all_right, no_word, one_right, one_wrong, some_word}
+use Rattle.fam_mail.proofs.Checking.{all_right, failed_record, no_word, one_more, one_right, one_wrong, some_word}
 use Rattle.fam_mail.proofs.check.check_box.Goals as goal
 
 pub returns-then-is_some-clause-wrong : goal.returns-then-is_some-clause-wrong
@@ -27,6 +27,12 @@ loop-i-preserved g c =
       later = omega (arith, inv.later, c.in-Ok-read.ensures.cause.later);
       room = inv.room;
       gate_is = inv.gate_is;
+      right = λ image told.
+          let long : length c.in-Ok-read.words ≡ 8 = search rules in
+          let line : c.in-Ok-read.words ≡ line_at image (place (1 + c.loop-i.i)) =
+          sym (eight_whole c.in-Ok-read.words long) ∙ c.in-Ok-read.ensures.words image (inv.same ∙ told) ∙ ap (line_at image) c.file_line-line.ensures.value in
+          one_more place (capacity_of c.args.entry.now.size) (line_at image) _ c.loop-i.i c.loop-i-test.true inv.room (inv.gate_is image told) c.in-Ok-read.words line (inv.front image told)
+          (sym c.wrong_word.ensures ∙ no_word c.wrong_word.result (sym c.is_some.ensures ∙ c.if-is_some.false)) (inv.right image told);
       front = λ image told.
           let long : length c.in-Ok-read.words ≡ 8 = search rules in
           let line : c.in-Ok-read.words ≡ line_at image (place (1 + c.loop-i.i)) =
@@ -34,6 +40,11 @@ loop-i-preserved g c =
           one_right place (capacity_of c.args.entry.now.size) (line_at image) _ c.loop-i.i c.loop-i-test.true inv.room (inv.gate_is image told) c.in-Ok-read.words line (inv.front image told)
           (sym c.wrong_word.ensures ∙ no_word c.wrong_word.result (sym c.is_some.ensures ∙ c.if-is_some.false));
     }
+
+pub returns-in-Err-read-clause-line : goal.returns-in-Err-read-clause-line
+returns-in-Err-read-clause-line g c =
+    let inv = c.loop-i.invariant in
+    failed_record (file_line c.args.entry.now) (capacity_of c.args.entry.now.size) (g.M.Media.state c.args.media.now).image _ c.loop-i.i _ c.loop-i-test.true inv.room c.file_line-line.ensures.value inv.gate_is inv.right
 
 pub returns-clause-read : goal.returns-clause-read
 returns-clause-read g c = λ image told.

@@ -1,12 +1,12 @@
 use Rattle.fam_mail.proofs.MovedOn.{failed_on, moved_on}
-use Rattle.fam_mail.proofs.Outcomes.{declared_one, declared_stands, halted, started, stopped}
+use Rattle.fam_mail.proofs.Outcomes.{declared_stands, halted, noted_stands, started, stopped}
 use Rattle.fam_mail.proofs.laws.a_world_stands_behind_its_calls.Goals as goal
 
 pub returns-clause-host : goal.returns-clause-host
 returns-clause-host c = declared_stands
 
-pub returns-clause-one : goal.returns-clause-one
-returns-clause-one c = declared_one
+pub returns-clause-refused : goal.returns-clause-refused
+returns-clause-refused c = noted_stands
 
 pub returns-clause-begin : goal.returns-clause-begin
 returns-clause-begin c = started

@@ -45,14 +45,14 @@ returns-clause-ends g c =
     let v : MailView = mail_view i.entry items i.journal.items in
     let new : MailView = mail_view i.entry (set items at y) c.finish_of.new.journal.items in
     let at_is = slice_get_read items (length items) at x refl (omega (arith, c.in-Ok.ensures.within)) c.index_mut.ensures.value in
-    let finished : OnOk c.finish_of.result (HostFinishes i.entry c.args.name.now (host_view x) told (host_view y) i.journal.items c.finish_of.new.journal.items) =
-    subst (λ (j : List MailNote). OnOk c.finish_of.result (HostFinishes i.entry c.args.name.now (host_view x) told (host_view y) j c.finish_of.new.journal.items)) c.two_rooms.ensures.same c.finish_of.ensures.finished in
-    let stays : OnErr c.finish_of.result (HostStays i.entry c.args.name.now (host_view x) told (host_view y) i.journal.items c.finish_of.new.journal.items) =
-    subst (λ (j : List MailNote). OnErr c.finish_of.result (HostStays i.entry c.args.name.now (host_view x) told (host_view y) j c.finish_of.new.journal.items)) c.two_rooms.ensures.same c.finish_of.ensures.stays in
-    let said = finish_said c.args.name.now v at (c.in-Ok.ensures.placed i.entry i.journal.items) (host_view x) (map_at host_view items at x at_is) told (host_view y) (views (set items at y)) c.finish_of.new.journal.items
+    let finished : OnOk c.finish_of.result (HostFinishes (g.M.Media.size c.args.media.now) i.entry c.args.name.now (host_view x) told (host_view y) i.journal.items c.finish_of.new.journal.items) =
+    subst (λ (j : List MailNote). OnOk c.finish_of.result (HostFinishes (g.M.Media.size c.args.media.now) i.entry c.args.name.now (host_view x) told (host_view y) j c.finish_of.new.journal.items)) c.two_rooms.ensures.same c.finish_of.ensures.finished in
+    let stays : OnErr c.finish_of.result (HostStays (g.M.Media.size c.args.media.now) i.entry c.args.name.now (host_view x) told (host_view y) i.journal.items c.finish_of.new.journal.items) =
+    subst (λ (j : List MailNote). OnErr c.finish_of.result (HostStays (g.M.Media.size c.args.media.now) i.entry c.args.name.now (host_view x) told (host_view y) j c.finish_of.new.journal.items)) c.two_rooms.ensures.same c.finish_of.ensures.stays in
+    let said = finish_said c.args.name.now v at (c.in-Ok.ensures.placed i.entry i.journal.items) (host_view x) (map_at host_view items at x at_is) (g.M.Media.size c.args.media.now) told (host_view y) (views (set items at y)) c.finish_of.new.journal.items
     c.finish_of.result finished stays (map_set host_view (λ (h : HostView). host_view y) items at y x at_is refl) in
-    subst (λ (w : MailView). FinishEnds c.args.name.now told w new c.or_fault.result) c.self.view_is
-    (subst (λ (r : Result (Unit {0}) MailFault). FinishEnds c.args.name.now told v new r) (sym c.or_fault.ensures) said)
+    subst (λ (w : MailView). FinishEnds (g.M.Media.size c.args.media.now) c.args.name.now told w new c.or_fault.result) c.self.view_is
+    (subst (λ (r : Result (Unit {0}) MailFault). FinishEnds (g.M.Media.size c.args.media.now) c.args.name.now told v new r) (sym c.or_fault.ensures) said)
 
 pub returns-clause-fits : goal.returns-clause-fits
 returns-clause-fits g c =
@@ -65,6 +65,6 @@ returns-clause-fits g c =
     let v : MailView = mail_view i.entry items i.journal.items in
     let at_is = slice_get_read items (length items) at x refl (omega (arith, c.in-Ok.ensures.within)) c.index_mut.ensures.value in
     let fits : WorldFits lines v = subst (WorldFits lines) (sym c.self.view_is) c.requires.fits in
-    let here : HostFits lines (capacity_in v) (host_view y) = subst (λ (n : ℕ). HostFits n (capacity_in v) (host_view y)) c.finish_of.ensures.size c.finish_of.ensures.fits in
-    subst (λ (n : ℕ). WorldFits n (mail_view i.entry (set items at y) c.finish_of.new.journal.items)) (sym c.finish_of.ensures.size)
+    let here : HostFits lines (capacity_in v) (host_view y) = subst (λ (n : ℕ). HostFits n (capacity_in v) (host_view y)) c.finish_of.ensures.steady.size c.finish_of.ensures.fits in
+    subst (λ (n : ℕ). WorldFits n (mail_view i.entry (set items at y) c.finish_of.new.journal.items)) (sym c.finish_of.ensures.steady.size)
     (fits_put lines v at (host_view x) (host_view y) (map_at host_view items at x at_is) (views (set items at y)) c.finish_of.new.journal.items (map_set host_view (λ (h : HostView). host_view y) items at y x at_is refl) fits here)

@@ -51,6 +51,7 @@ returns-in-Ok-shift-clause-answered g c =
         number = free.number;
         host_is = map_at host_view items at x at_is;
         done = subst (λ (l : ℕ). IfModelled told.old.image (λ image. IsMachine (moved (move_of c.args.what) l (machine image x.cache.lines)) told.new.image c.shift.new.cache.lines)) place c.in-Ok-shift.ensures.moved;
+        later = c.shift.ensures.steady.later;
         is = ap₂ (λ (hs : List HostView) (ns : List MailNote). record { entry = i.entry; hosts = hs; journal = ns })
             (map_set host_view (λ (h : HostView). record h { cache = c.shift.new.cache.lines }) items at y x at_is refl) c.make_room.ensures.same;
       },
@@ -100,9 +101,11 @@ returns-in-Err-Failed-clause-answered g c =
         host_is = map_at host_view items at x at_is;
         failed = subst (λ (l : ℕ). IfModelled told.old.image (λ image. FailsTo l (λ through memory. failed_move (move_of c.args.what) through memory (cell_at x.cache.lines l)) image told.new.image)) value (c.shift.ensures.failed failed);
         rose = c.shift.ensures.rose failed;
+        later = c.shift.ensures.steady.later;
+        cause_is = ap (λ (l : LineNo). why.MediaFault l) place;
         is = ap₂ (λ (hs : List HostView) (ns : List MailNote). record { entry = i.entry; hosts = hs; journal = ns })
             (map_same host_view items at y x at_is (ap (λ (k : Cache). record (host_view x) { cache = k }) c.in-Err-Failed.ensures.err))
-            (c.refused-in-Err-Failed.ensures.noted ∙ ap₂ (λ (ns : List MailNote) (l : LineNo). ns ++ note.Refused c.args.name.now (why.MediaFault l) ∷ []) c.make_room.ensures.same place);
+            (c.refused-in-Err-Failed.ensures.noted ∙ ap (λ (ns : List MailNote). ns ++ note.Refused c.args.name.now (why.MediaFault c.file_line-place.result) ∷ []) c.make_room.ensures.same);
       },
     )))
 

@@ -65,8 +65,8 @@ returns-clause-fits g c =
     let v : MailView = mail_view i.entry items i.journal.items in
     let at_is = slice_get_read items (length items) at x refl (omega (arith, c.in-Ok.ensures.within)) c.index_mut.ensures.value in
     let fits : WorldFits lines v = subst (WorldFits lines) (sym c.self.view_is) c.requires.fits in
-    let here : HostFits lines (capacity_in v) (host_view y) = subst (λ (n : ℕ). HostFits n (capacity_in v) (host_view y)) c.step_of.ensures.size c.step_of.ensures.fits in
-    subst (λ (n : ℕ). WorldFits n (mail_view i.entry (set items at y) c.step_of.new.journal.items)) (sym c.step_of.ensures.size)
+    let here : HostFits lines (capacity_in v) (host_view y) = subst (λ (n : ℕ). HostFits n (capacity_in v) (host_view y)) c.step_of.ensures.steady.size c.step_of.ensures.fits in
+    subst (λ (n : ℕ). WorldFits n (mail_view i.entry (set items at y) c.step_of.new.journal.items)) (sym c.step_of.ensures.steady.size)
     (fits_put lines v at (host_view x) (host_view y) (map_at host_view items at x at_is) (views (set items at y)) c.step_of.new.journal.items (map_set host_view (λ (h : HostView). host_view y) items at y x at_is refl) fits here)
 
 err_then : {T P : Type 0} (r : Result T OutOfMemory) → IsErrOf (told_of r) fault.OutOfMemory → OnErr r P → P

@@ -1,24 +1,24 @@
-use Rattle.std.proofs.Common.{◌≡◌, ℕ, Bool, true, false, List, [], ◌++◌, refl, sym, ap, subst, ◌∙◌}
+use Rattle.std.proofs.Common.{◌≡◌, ℕ, Bool, true, false, List, [], ◌++◌, refl, sym, ap, subst, ◌∙◌, arith}
 use Rattle.std.proofs.lemmas.List.{append-nil, append_assoc}
 use Rattle.fam_base.specs.declared.entry.Entry.{Entry}
 use Rattle.fam_media.specs.States.{MediaState, change}
 use Rattle.fam_mail.specs.Boxes.{capacity_of}
-use Rattle.fam_mail.specs.Calls.{HostFinishes, HostFits, HostStays, HostStepped, goes_on, rests}
+use Rattle.fam_mail.specs.Calls.{HostFinishes, HostFits, HostStays, HostStepped, IsTold, goes_on, rests}
 use Rattle.fam_mail.specs.World.{HostView, host_view}
 use Rattle.fam_mail.specs.declared.note.MailNote.{MailNote}
 use Rattle.fam_mail.proofs.world.steps.finish_of.Goals as goal
 
 -- one operation more, behind some
-module _ (entry : Entry) (name : List ℕ) (host mid next : HostView) (first now later : MediaState) (before here room after : List MailNote) (stays : HostStays entry name host (record { old = first; new = now }) mid before here) (same : room ≡ here) where
+module _ (lines : ℕ) (entry : Entry) (name : List ℕ) (host mid next : HostView) (first now later : MediaState) (before here room after : List MailNote) (is_told : IsTold lines now.image) (stays : HostStays lines entry name host (record { old = first; new = now }) mid before here) (same : room ≡ here) where
   joined : (over : Bool) (stepped : HostStepped entry name mid (record { old = now; new = later }) over next room after) → after ≡ before ++ (stays.notes ++ stepped.notes)
   joined over stepped =
       stepped.noted ∙ ap (λ (j : List MailNote). j ++ stepped.notes) (same ∙ stays.noted) ∙ append_assoc before stays.notes stepped.notes
 
-  finishes : HostStepped entry name mid (record { old = now; new = later }) true next room after → HostFinishes entry name host (record { old = first; new = later }) next before after
-  finishes stepped = record { mid = mid; now = now; notes = stays.notes; runs = stays.runs; more = stepped.notes; ends = stepped.operates; noted = joined true stepped }
+  finishes : HostStepped entry name mid (record { old = now; new = later }) true next room after → HostFinishes lines entry name host (record { old = first; new = later }) next before after
+  finishes stepped = record { mid = mid; now = now; notes = stays.notes; runs = stays.runs; more = stepped.notes; is_told = is_told; ends = stepped.operates; noted = joined true stepped }
 
-  stays_on : HostStepped entry name mid (record { old = now; new = later }) false next room after → HostStays entry name host (record { old = first; new = later }) next before after
-  stays_on stepped = record { notes = stays.notes ++ stepped.notes; runs = goes_on stays.runs stepped.operates; noted = joined false stepped }
+  stays_on : HostStepped entry name mid (record { old = now; new = later }) false next room after → HostStays lines entry name host (record { old = first; new = later }) next before after
+  stays_on stepped = record { notes = stays.notes ++ stepped.notes; runs = goes_on stays.runs is_told stepped.operates; noted = joined false stepped }
 
 pub operations-init : goal.operations-init
 operations-init g c = record {
@@ -26,6 +26,7 @@ operations-init g c = record {
   runs = c.requires.runs;
   fits = c.requires.fits;
   size = refl;
+  later = omega arith;
 }
 
 pub returns-in-Ok-true-clause-finished : goal.returns-in-Ok-true-clause-finished
@@ -34,8 +35,9 @@ returns-in-Ok-true-clause-finished g c =
     let inv = c.operations.invariant in
     let stepped = subst (λ (over : Bool). HostStepped c.args.entry.now c.args.name.now (host_view c.operations.host) (change state c.operations.media c.step_of.new.media) over (host_view c.step_of.new.host) c.two_rooms.new.journal.items c.step_of.new.journal.items)
     c.in-Ok-true.field-0-test c.in-Ok-true.ensures.stepped in
-    finishes c.args.entry.now c.args.name.now (host_view c.args.host.now) (host_view c.operations.host) (host_view c.step_of.new.host) (state c.args.media.now) (state c.operations.media) (state c.step_of.new.media)
-    c.args.journal.now.items c.operations.journal.items c.two_rooms.new.journal.items c.step_of.new.journal.items inv.stays c.two_rooms.ensures.same stepped
+    let told : IsTold (g.M.Media.size c.args.media.now) (state c.operations.media).image = record { normal = g.met.M.Media.normal c.operations.media; count = λ image is. g.met.M.Media.modelled c.operations.media image is ∙ inv.size } in
+    finishes (g.M.Media.size c.args.media.now) c.args.entry.now c.args.name.now (host_view c.args.host.now) (host_view c.operations.host) (host_view c.step_of.new.host) (state c.args.media.now) (state c.operations.media) (state c.step_of.new.media)
+    c.args.journal.now.items c.operations.journal.items c.two_rooms.new.journal.items c.step_of.new.journal.items told inv.stays c.two_rooms.ensures.same stepped
 
 pub operations-preserved : goal.operations-preserved
 operations-preserved g c =
@@ -43,10 +45,12 @@ operations-preserved g c =
     let inv = c.operations.invariant in
     let stepped = subst (λ (over : Bool). HostStepped c.args.entry.now c.args.name.now (host_view c.operations.host) (change state c.operations.media c.step_of.new.media) over (host_view c.step_of.new.host) c.two_rooms.new.journal.items c.step_of.new.journal.items)
     c.in-Ok-false.field-0-test c.in-Ok-false.ensures.stepped in
+    let told : IsTold (g.M.Media.size c.args.media.now) (state c.operations.media).image = record { normal = g.met.M.Media.normal c.operations.media; count = λ image is. g.met.M.Media.modelled c.operations.media image is ∙ inv.size } in
     record {
-      stays = stays_on c.args.entry.now c.args.name.now (host_view c.args.host.now) (host_view c.operations.host) (host_view c.step_of.new.host) (state c.args.media.now) (state c.operations.media) (state c.step_of.new.media)
-          c.args.journal.now.items c.operations.journal.items c.two_rooms.new.journal.items c.step_of.new.journal.items inv.stays c.two_rooms.ensures.same stepped;
+      stays = stays_on (g.M.Media.size c.args.media.now) c.args.entry.now c.args.name.now (host_view c.args.host.now) (host_view c.operations.host) (host_view c.step_of.new.host) (state c.args.media.now) (state c.operations.media) (state c.step_of.new.media)
+          c.args.journal.now.items c.operations.journal.items c.two_rooms.new.journal.items c.step_of.new.journal.items told inv.stays c.two_rooms.ensures.same stepped;
       runs = c.in-Ok-false.ensures.on c.in-Ok-false.field-0-test;
-      fits = subst (λ (n : ℕ). HostFits n (capacity_of c.args.entry.now.size) (host_view c.step_of.new.host)) (c.in-Ok-false.ensures.size ∙ inv.size) c.in-Ok-false.ensures.fits;
-      size = c.in-Ok-false.ensures.size ∙ inv.size;
+      fits = subst (λ (n : ℕ). HostFits n (capacity_of c.args.entry.now.size) (host_view c.step_of.new.host)) (c.in-Ok-false.ensures.steady.size ∙ inv.size) c.in-Ok-false.ensures.fits;
+      size = c.in-Ok-false.ensures.steady.size ∙ inv.size;
+      later = omega (arith, inv.later, c.in-Ok-false.ensures.steady.later);
     }

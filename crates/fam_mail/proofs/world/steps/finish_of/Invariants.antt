@@ -1,4 +1,4 @@
-use Rattle.std.proofs.Common.{◌≡◌, true}
+use Rattle.std.proofs.Common.{◌≡◌, ◌≤◌, true}
 use Rattle.std.specs.Prelude.{is_some}
 use Rattle.fam_media.specs.States.{change}
 use Rattle.fam_mail.specs.Boxes.{capacity_of}
@@ -8,10 +8,11 @@ use Rattle.fam_mail.proofs.world.steps.finish_of.Given as goal
 
 abbrev pub invariant-operations : goal.invariant-operations
 invariant-operations g l = record {
-  stays : HostStays l.entry l.name (host_view l.fn.host) (change g.M.Media.state l.fn.media l.media) (host_view l.host) l.fn.journal.items l.journal.items;
+  stays : HostStays (g.M.Media.size l.fn.media) l.entry l.name (host_view l.fn.host) (change g.M.Media.state l.fn.media l.media) (host_view l.host) l.fn.journal.items l.journal.items;
   runs : is_some l.host.task ≡ true;
   fits : HostFits (g.M.Media.size l.fn.media) (capacity_of l.entry.size) (host_view l.host);
   size : g.M.Media.size l.media ≡ g.M.Media.size l.fn.media;
+  later : (g.M.Media.state l.fn.media).faults ≤ (g.M.Media.state l.media).faults;
 }
 
 abbrev pub decreases-operations : goal.decreases-operations

@@ -11,6 +11,7 @@ returns-in-Err-MediaFault-clause-stepped g c =
         task = c.in-Some.task;
         task_is = c.in-Some.is;
         how = inr (record { line = c.in-Err-MediaFault.line; failed = broken.failed; rose = broken.rose; over_is = refl; next_is = refl; notes_are = refl });
+        later = c.in-Err-MediaFault.ensures.steady.later;
       };
       noted = c.add.ensures.noted;
     }
