@@ -3,7 +3,7 @@
 # the options of a command, each with its other name behind a comma
 _famfs_options() {
     case $1 in
-        mkfs) echo "-u,--unit -l,--loglen -f,--force --uuid --system" ;;
+        mkfs | dup) echo "-u,--unit -l,--loglen -f,--force --uuid --system" ;;
         mkdir) echo "-p,--parents -m,--mode -u,--uid -g,--gid --system" ;;
         creat) echo "-s,--size -S,--seed -m,--mode -u,--uid -g,--gid -N,--nstrips -B,--nbuckets -C,--chunksize --system" ;;
         cp) echo "-m,--mode -u,--uid -g,--gid -N,--nstrips -B,--nbuckets -C,--chunksize --system" ;;
@@ -17,7 +17,7 @@ _famfs_options() {
 # whether an option takes no value
 _famfs_is_flag() {
     case $1-$2 in
-        mkfs--f | mkfs---force | mkdir--p | mkdir---parents | storm--p | storm---print) return 0 ;;
+        mkfs--f | mkfs---force | dup--f | dup---force | mkdir--p | mkdir---parents | storm--p | storm---print) return 0 ;;
     esac
     return 1
 }
@@ -29,7 +29,7 @@ _famfs_places() {
         mkdir | creat | verify) echo "file path" ;;
         cp) echo "file file path" ;;
         read) echo "file path none none" ;;
-        check | script) echo "file file" ;;
+        check | script | dup) echo "file file" ;;
         storm) echo "none none file" ;;
     esac
 }
@@ -45,7 +45,7 @@ _famfs() {
     COMPREPLY=()
     if [ "$name" = famfs ]; then
         if [ "$COMP_CWORD" = 1 ]; then
-            mapfile -t COMPREPLY < <(compgen -W "mkfs logplay mkdir creat cp verify read check fsck script storm" -- "$word")
+            mapfile -t COMPREPLY < <(compgen -W "mkfs logplay mkdir creat cp verify read check fsck dup script storm" -- "$word")
             return
         fi
         command=${COMP_WORDS[1]}

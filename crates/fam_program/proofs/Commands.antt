@@ -7,3 +7,4 @@ pub mod ImageLeft
 pub mod TopEnds
 pub mod Shadows
 pub mod ShownTrees
+pub mod Dups

@@ -46,6 +46,9 @@ abbrev pub number_text : NumberLine → List ℕ
 number_text (by.Appended seq) = line (codes "ok" ++ number seq)
 number_text (by.Fault at) = line (codes "media fault" ++ number at)
 number_text (by.MakeFault at) = line (codes "refused media fault" ++ number at)
+number_text (by.Copied count) = line (codes "dup" ++ number count)
+number_text (by.FromFault at) = line (codes "media fault from" ++ number at)
+number_text (by.ToFault at) = line (codes "media fault to" ++ number at)
 
 -- the last note, without its host's name; or that no memory is left for a line that wants some
 abbrev pub LastSays : Status → List Note → SinkChange → Status → Type 0

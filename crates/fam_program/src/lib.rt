@@ -5,6 +5,7 @@
 //! definitions are those of fam_outcomes, as is `TopEnds`, which says it of each of the program's commands.
 #![tactic(auto)]
 
+mod dups;
 mod fault;
 mod lines;
 mod no_files;
@@ -19,6 +20,7 @@ mod shots;
 mod storms;
 mod unprinted;
 
+pub use dups::copy_file_system;
 pub use fault::{PutFault, ScriptFault};
 pub use puts::{put_memory, put_usage};
 pub use read::read_script;

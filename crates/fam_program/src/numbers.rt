@@ -1,4 +1,4 @@
-//! Lines of words and one number, which are made without memory: what an append comes to is told in any case.
+//! Lines of words and one number, which are made without memory: what an append or a copy comes to is told in any case.
 
 ghost use Rattle.std.specs.Prelude.{◌≡◌, ◌++◌, ◌∷◌, ◌≤◌, [], IfSome, List, None, codes, decimal, drop, false, length, ℕ};
 ghost use Rattle.fam_media.specs.States.{change};
@@ -25,6 +25,12 @@ pub(crate) enum NumberLine {
     Fault(u64),
     /// The media failed at this line while a file system was made.
     MakeFault(u64),
+    /// A file system of so many entries is copied.
+    Copied(u64),
+    /// The image that is copied failed at this line.
+    FromFault(u64),
+    /// The image that a copy is made on failed at this line.
+    ToFault(u64),
 }
 
 /// The bytes of the longest such line: 20 of words, 20 digits, a line feed, and one more.
@@ -150,5 +156,8 @@ pub(crate) fn put_number<K: Sink>(short: NumberLine, own: Status, out: &mut K) -
         NumberLine::Appended(seq) => put_words(b"ok ", seq, own, out),
         NumberLine::Fault(line) => put_words(b"media fault ", line, own, out),
         NumberLine::MakeFault(line) => put_words(b"refused media fault ", line, own, out),
+        NumberLine::Copied(count) => put_words(b"dup ", count, own, out),
+        NumberLine::FromFault(line) => put_words(b"media fault from ", line, own, out),
+        NumberLine::ToFault(line) => put_words(b"media fault to ", line, own, out),
     }
 }

@@ -1,11 +1,16 @@
 -- What the words of a call ask for. docs/MANUAL.md.
 use Rattle.std.specs.Prelude.{ℕ, List, Option, option_map}
+use Rattle.fam_machine.specs.declared.request.MkfsRequest.{MkfsRequest}
+use Rattle.fam_machine.specs.MkfsRequest.{mkfs_request}
+use Rattle.fam_program.specs.Dups.{CopyAsked, copy_asked}
 use Rattle.fam_words.specs.declared.wanted.Call.{Call}
+use Rattle.fam_words.specs.declared.wanted.DupCall.{DupCall}
 use Rattle.fam_words.specs.declared.wanted.Invocation.{Invocation}
 use Rattle.fam_words.specs.declared.wanted.ShadowCall.{ShadowCall}
 use Rattle.fam_words.specs.Calls.{call_of}
+use Rattle.fam_words.specs.Dups.{dup_call}
 use Rattle.fam_words.specs.Shadows.{shadow_call}
-use Rattle.fam_top.specs.Calls.{host_or}
+use Rattle.fam_top.specs.Calls.{fs_or, host_or}
 
 -- the command, and `None` where the words are none
 unfoldable pub invocation_named : List (List ℕ) → Option Invocation
@@ -22,3 +27,19 @@ shadow_named words = option_map (λ (call : ShadowCall). (call.image, call.folde
 -- the UUID of the host that looks for the tree: that of the words, or this host's
 abbrev pub shadow_host : List ℕ → List (List ℕ) → Option (List ℕ)
 shadow_host me words = option_map (λ (call : ShadowCall). host_or me call.system) (shadow_call words)
+
+-- FROM and TO of a copy, and `None` where the words ask for none
+unfoldable pub dup_named : List (List ℕ) → Option (List ℕ × List ℕ)
+dup_named words = option_map (λ (call : DupCall). (call.from, call.to)) (dup_call words)
+
+-- what a mkfs with the options of a copy asks for: its UUID is that of the words, or one of the random bytes
+abbrev pub dup_request : List ℕ → DupCall → MkfsRequest
+dup_request random call = mkfs_request (fs_or random call.fs) call.unit call.log call.force
+
+-- the copy that a call asks for: on the host that it names, or this one
+abbrev pub copy_of : List ℕ → List ℕ → DupCall → CopyAsked
+copy_of me random call = copy_asked (host_or me call.system) (dup_request random call)
+
+-- that of the words, and `None` where they ask for none
+abbrev pub copy_named : List ℕ → List ℕ → List (List ℕ) → Option CopyAsked
+copy_named me random words = option_map (copy_of me random) (dup_call words)

@@ -9,7 +9,7 @@ mod std_sink;
 
 use fam_base::{NameText, OutOfMemory};
 use fam_outcomes::Status;
-use fam_top::{famfs, famfs_shadow, image_of, shadow_of};
+use fam_top::{dup_of, famfs, famfs_dup, famfs_shadow, image_of, shadow_of};
 use file_media::FileMedia;
 use file_shelf::FileShelf;
 use folder_shade::FolderShade;
@@ -86,6 +86,25 @@ fn run_shadow(rt: &HostRuntime, words: &Vec<String>, image: NameText, folder: Na
     famfs_shadow(rt.alloc(), words, me, &mut media, &mut shade, &mut out)
 }
 
+/// Copies the file system on one image onto another one. The first is opened for reading alone.
+fn run_dup(rt: &HostRuntime, words: &Vec<String>, from: NameText, to: NameText) -> Status {
+    let source = File::open(rt, from.text()).ok();
+    let target = opened(rt, to.text());
+    let mut from = FileMedia::new(rt.alloc(), source);
+    let mut to = FileMedia::new(rt.alloc(), target);
+    let mut out = StdSink::new(rt.stdout());
+    let me = Uuid::from_bytes(SYSTEM);
+    famfs_dup(
+        rt.alloc(),
+        words,
+        me,
+        random(rt),
+        &mut from,
+        &mut to,
+        &mut out,
+    )
+}
+
 /// Runs the command that the words name on the image that they name. Where the numbers of the standard streams can't be
 /// held, no image is opened, and the output counts as failed.
 fn run(rt: &HostRuntime, words: &Vec<String>) -> Result<Status, OutOfMemory> {
@@ -94,6 +113,9 @@ fn run(rt: &HostRuntime, words: &Vec<String>) -> Result<Status, OutOfMemory> {
     };
     if let Some((image, folder)) = shadow_of(rt.alloc(), words)? {
         return Ok(run_shadow(rt, words, image, folder));
+    }
+    if let Some((from, to)) = dup_of(rt.alloc(), words)? {
+        return Ok(run_dup(rt, words, from, to));
     }
     let file = match image_of(rt.alloc(), words)? {
         Some(name) => opened(rt, name.text()),

@@ -4,7 +4,7 @@ use crate::bytes::copied;
 use crate::state::State;
 use crate::stop::Stop;
 use crate::words::Words;
-use fam_top::{famfs, famfs_shadow, shadow_of};
+use fam_top::{dup_of, famfs, famfs_dup, famfs_shadow, shadow_of};
 use std::alloc::Global;
 
 /// What came of a call: the text that it put, and its status.
@@ -14,14 +14,15 @@ pub struct Outcome {
     pub status: u8,
 }
 
-/// Calls the program with the words that are left, on the image, the shelf or the folder, and a new sink.
+/// Calls the program with the words that are left, on the image, the shelf, the folder or the other image, and a new
+/// sink.
 pub fn call(alloc: Global, state: &mut State, words: &mut Words<'_>) -> Result<Outcome, Stop> {
     let texts = words.texts(alloc)?;
     let mut shelf = state.shelf(alloc)?;
     let mut sink = state.sink(alloc)?;
     state.plan_media()?;
-    let status = match shadow_of(alloc, &texts)? {
-        Some(_) => famfs_shadow(
+    let status = match (shadow_of(alloc, &texts)?, dup_of(alloc, &texts)?) {
+        (Some(_), _) => famfs_shadow(
             alloc,
             &texts,
             state.host,
@@ -29,7 +30,16 @@ pub fn call(alloc: Global, state: &mut State, words: &mut Words<'_>) -> Result<O
             &mut state.folder.shade,
             &mut sink,
         ),
-        None => famfs(
+        (None, Some(_)) => famfs_dup(
+            alloc,
+            &texts,
+            state.host,
+            state.random,
+            &mut state.media,
+            &mut state.other,
+            &mut sink,
+        ),
+        (None, None) => famfs(
             alloc,
             &texts,
             state.host,

@@ -12,6 +12,7 @@ use fam_entry::{SLOT_WORDS, spell};
 use fam_media::{Media, MemMedia};
 use fam_tree::{ListingFault, read_listing};
 use std::alloc::Global;
+use std::mem;
 
 /// One more than the most lines of a case's image, which are 64 MiB.
 const LINE_LIMIT: u64 = 1_048_577;
@@ -33,6 +34,21 @@ fn image(alloc: Global, state: &mut State, words: &mut Words<'_>) -> Result<(), 
     let lines = words.below(LINE_LIMIT)?;
     words.ended()?;
     state.media = MemMedia::new(alloc, lines)?;
+    Ok(())
+}
+
+/// The other image, of zeros: a copy is made on it.
+fn other(alloc: Global, state: &mut State, words: &mut Words<'_>) -> Result<(), Stop> {
+    let lines = words.below(LINE_LIMIT)?;
+    words.ended()?;
+    state.other = MemMedia::new(alloc, lines)?;
+    Ok(())
+}
+
+/// The image and the other one change places.
+fn swap(state: &mut State, words: &mut Words<'_>) -> Result<(), Stop> {
+    words.ended()?;
+    mem::swap(&mut state.media, &mut state.other);
     Ok(())
 }
 
@@ -179,6 +195,8 @@ pub fn change_image(
 ) -> Result<bool, Stop> {
     match name {
         b"image" => image(alloc, state, words)?,
+        b"other" => other(alloc, state, words)?,
+        b"swap" => swap(state, words)?,
         b"fill" => fill(state, words)?,
         b"shorten" => shorten(alloc, state, words)?,
         b"word" => word(state, words)?,

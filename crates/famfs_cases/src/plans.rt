@@ -51,6 +51,10 @@ fn fail(state: &mut State, words: &mut Words<'_>) -> Result<(), Stop> {
             let mask = words.byte()?;
             state.fail_media(call, Mask(mask))?;
         }
+        b"other" => {
+            let mask = words.byte()?;
+            state.fail_other(call, Mask(mask))?;
+        }
         b"shelf" => state.fail_shelf(call)?,
         b"sink" => {
             let kept = words.number()?;

@@ -1,4 +1,4 @@
-//! What a case has at hand: an image, files of the shelf, a folder, and the calls that are to fail.
+//! What a case has at hand: an image and another one, files of the shelf, a folder, and the calls that are to fail.
 
 use crate::bytes::{copied, copied_text, push};
 use crate::folder::Folder;
@@ -46,6 +46,8 @@ struct SinkFailure {
 #[derive(Drop)]
 pub struct State {
     pub media: MemMedia,
+    /// The image that a copy is made on.
+    pub other: MemMedia,
     pub host: Uuid,
     pub random: [u8; 16],
     pub room: u64,
@@ -53,6 +55,7 @@ pub struct State {
     files: Vec<File>,
     cuts: Vec<Cut>,
     media_failures: Vec<MediaFailure>,
+    other_failures: Vec<MediaFailure>,
     shelf_failures: Vec<u64>,
     sink_failures: Vec<SinkFailure>,
 }
@@ -89,6 +92,16 @@ pub fn first_lines(alloc: Global, media: &MemMedia, count: u64) -> Result<MemMed
     Ok(copy)
 }
 
+/// Hands a media the calls that are to fail, counted from its next one.
+fn plan_calls(media: &mut MemMedia, failures: &mut Vec<MediaFailure>) -> Result<(), Stop> {
+    let next = media.calls();
+    for failure in failures.iter() {
+        media.fail(next.saturating_add(failure.call), failure.mask)?;
+    }
+    failures.clear();
+    Ok(())
+}
+
 fn copied_files(alloc: Global, files: &Vec<File>) -> Result<Vec<File>, Stop> {
     let mut copies = Vec::new(alloc);
     for file in files.iter() {
@@ -109,10 +122,11 @@ fn copied_cuts(alloc: Global, cuts: &Vec<Cut>) -> Result<Vec<Cut>, Stop> {
 }
 
 impl State {
-    /// An image without lines, an empty shelf, and nothing planned.
+    /// Images without lines, an empty shelf, and nothing planned.
     pub fn new(alloc: Global) -> Result<State, Stop> {
         Ok(State {
             media: MemMedia::new(alloc, 0)?,
+            other: MemMedia::new(alloc, 0)?,
             host: Uuid::from_bytes(HOST),
             random: [0; 16],
             room: ROOM,
@@ -120,6 +134,7 @@ impl State {
             files: Vec::new(alloc),
             cuts: Vec::new(alloc),
             media_failures: Vec::new(alloc),
+            other_failures: Vec::new(alloc),
             shelf_failures: Vec::new(alloc),
             sink_failures: Vec::new(alloc),
         })
@@ -127,9 +142,9 @@ impl State {
 
     /// A copy, of which those calls are to fail that were planned behind the last run. Its folder has what it had at first.
     pub fn copy(&self, alloc: Global) -> Result<State, Stop> {
-        let lines = self.media.lines();
         Ok(State {
-            media: first_lines(alloc, &self.media, lines)?,
+            media: first_lines(alloc, &self.media, self.media.lines())?,
+            other: first_lines(alloc, &self.other, self.other.lines())?,
             host: self.host,
             random: self.random,
             room: self.room,
@@ -137,6 +152,7 @@ impl State {
             files: copied_files(alloc, &self.files)?,
             cuts: copied_cuts(alloc, &self.cuts)?,
             media_failures: Vec::from_slice(alloc, self.media_failures.as_slice())?,
+            other_failures: Vec::from_slice(alloc, self.other_failures.as_slice())?,
             shelf_failures: Vec::from_slice(alloc, self.shelf_failures.as_slice())?,
             sink_failures: Vec::from_slice(alloc, self.sink_failures.as_slice())?,
         })
@@ -168,6 +184,11 @@ impl State {
         push(&mut self.media_failures, MediaFailure { call, mask })
     }
 
+    /// So of the other image.
+    pub fn fail_other(&mut self, call: u64, mask: Mask) -> Result<(), Stop> {
+        push(&mut self.other_failures, MediaFailure { call, mask })
+    }
+
     /// A call of the shelf in the next run will fail.
     pub fn fail_shelf(&mut self, call: u64) -> Result<(), Stop> {
         push(&mut self.shelf_failures, call)
@@ -178,15 +199,10 @@ impl State {
         push(&mut self.sink_failures, SinkFailure { call, kept })
     }
 
-    /// Hands the media the calls that are to fail.
+    /// Hands both images the calls that are to fail.
     pub fn plan_media(&mut self) -> Result<(), Stop> {
-        let next = self.media.calls();
-        for failure in self.media_failures.iter() {
-            let call = next.saturating_add(failure.call);
-            self.media.fail(call, failure.mask)?;
-        }
-        self.media_failures.clear();
-        Ok(())
+        plan_calls(&mut self.media, &mut self.media_failures)?;
+        plan_calls(&mut self.other, &mut self.other_failures)
     }
 
     /// The shelf of the next run.
