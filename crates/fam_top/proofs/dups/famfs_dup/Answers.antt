@@ -4,7 +4,7 @@ use Rattle.fam_media.specs.States.{change}
 use Rattle.fam_program.specs.Dups.{CopyAsked, CopyOutside, DupTop, copy_asked, copy_outside}
 use Rattle.fam_program.proofs.Commands.Dups.{copy_wants, no_copy}
 use Rattle.fam_words.specs.declared.wanted.DupCall.{DupCall}
-use Rattle.fam_top.specs.Words.{copy_of}
+use Rattle.fam_top.specs.Words.{copy_of, dup_request}
 use Rattle.fam_top.proofs.dups.famfs_dup.Goals as goal
 
 -- a copy was asked for
@@ -12,7 +12,7 @@ pub returns-in-Ok-Some-clause-ends : goal.returns-in-Ok-Some-clause-ends
 returns-in-Ok-Some-clause-ends g c =
     let out : CopyOutside = copy_outside (g.N.Media.size c.args.to.now) (change g.M.Media.state c.args.from.now c.copy_file_system.new.from) (change g.N.Media.state c.args.to.now c.copy_file_system.new.to) (change g.K.Sink.state c.args.out.now c.copy_file_system.new.out) in
     subst (λ (o : Option DupCall). DupTop (option_map (copy_of c.args.me c.args.random) o) out c.copy_file_system.result) (sym (sym c.in-Ok-Some.ensures ∙ c.in-Ok-Some.field-0-is))
-    (subst (λ (host : List ℕ). DupTop (Some (copy_asked host _)) out c.copy_file_system.result) c.host_or.ensures
+    (subst (λ (host : List ℕ). DupTop (Some (copy_asked host (dup_request c.args.random c.in-Ok-Some.call))) out c.copy_file_system.result) c.host_or.ensures
     (subst (λ (request : MkfsRequest). DupTop (Some (copy_asked c.host_or.result request)) out c.copy_file_system.result) c.request_of-request.ensures c.copy_file_system.ensures.ends))
 
 -- the words ask for no copy
