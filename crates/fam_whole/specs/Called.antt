@@ -1,5 +1,6 @@
 -- What holds of the run that the clause of the top call tells, by that clause alone.
 use Rattle.std.specs.Prelude.{ℕ, ⊤, ◌≡◌, ◌⊎◌, true, false, List, Option, Some, None}
+use Rattle.std.proofs.Common.{inl, inr}
 use Rattle.fam_base.specs.Image.{Image}
 use Rattle.fam_media.specs.Files.{Files}
 use Rattle.fam_grammar.specs.Scripts.{script_events}
