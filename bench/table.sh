@@ -58,6 +58,11 @@ def filled():
     file()
     subprocess.run([famfs, "creat", "image", "f", "-s", "64M", "-S", "1"], stdout=subprocess.DEVNULL)
 
+def dup():
+    filled()
+    os.replace("image", "filled")
+    blank(128 << 20)
+
 print("| Command | Instructions | System calls | Peak memory |")
 print("|---|---|---|---|")
 row("logplay of 16,382 directories", log, ["logplay", "image"])
@@ -65,6 +70,7 @@ row("mkdir behind them", log, ["mkdir", "image", "last"])
 row("fsck of them", log, ["fsck", "image"])
 row("creat of 64 MiB of a seed's bytes", file, ["creat", "image", "f", "-s", "64M", "-S", "1"])
 row("verify of it", filled, ["verify", "image", "f", "-S", "1"])
+row("dup of 64 MiB", dup, ["dup", "filled", "image"])
 row("script of 2,000 mkdirs, log of 1 MiB", lambda: blank(16 << 20), ["script", "mkdirs", "image"])
 row("`storm 7 20000`", lambda: blank(4 << 20), ["storm", "7", "20000", "image"])
 row("logplay of 131,070 directories", large, ["logplay", "image"])

@@ -10,7 +10,7 @@ rose_later first before now later (inl rose) = inl (omega arith)
 rose_later first before now later (inr last) = inr last
 
 pub from_later : (first before now : ℕ) (class : FaultClass) → first ≤ before → IsCausedByFrom before now class → IsCausedByFrom first now class
-from_later first before now (Refuses found) later cause = tt
+from_later first before now (Refuses found) later cause = cause
 from_later first before now FailsFrom later cause = rose_later first before now later cause
 from_later first before now FailsTo later cause = cause
 from_later first before now WantsMemory later cause = tt

@@ -1,5 +1,5 @@
 -- What is found, step by step, and what a fault leaves that came before the first write.
-use Rattle.std.proofs.Common.{◌≡◌, ℕ, ◌<◌, ◌≤◌, Bool, true, false, nat_lt, List, length, if◌then◌else◌, sym, ap, subst, ◌∙◌, inl, arith}
+use Rattle.std.proofs.Common.{◌≡◌, ℕ, ◌<◌, ◌≤◌, Bool, true, false, nat_lt, List, length, if◌then◌else◌, refl, sym, ap, subst, ◌∙◌, inl, arith}
 use Rattle.std.proofs.lemmas.Bool.Decides.{nat_tests}
 use Rattle.fam_base.specs.declared.entry.Params.{Params}
 use Rattle.fam_base.specs.declared.entry.Entry.{Entry}
@@ -53,6 +53,10 @@ left_alone from old new p force (Refuses found) same = same
 left_alone from old new p force FailsFrom same = inl same
 left_alone from old new p force FailsTo same = inl same
 left_alone from old new p force WantsMemory same = same
+
+-- want of memory says nothing of what was found, and changes nothing
+pub wanted_memory : (from to : Image) (p : Params) (force : Bool) (class : FaultClass) (found : Finding) → class ≡ WantsMemory → Names class found × ClassLeaves from to to p force class
+wanted_memory from to p force class found is = subst (λ (k : FaultClass). Names k found × ClassLeaves from to to p force k) (sym is) (tt, refl)
 
 -- a media that failed says nothing of what was found, and leaves a part of the copy
 pub failed_ends : (from old new : Image) (p : Params) (force : Bool) (class : FaultClass) (found : Finding) (a b c d : ℕ) → IsFailure a b c d class → IsLeft from old new p force → Names class found × ClassLeaves from old new p force class

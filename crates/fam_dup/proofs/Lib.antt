@@ -4,13 +4,16 @@ pub mod Following
 pub mod PutPlaces
 pub mod Parts
 pub mod Rows
+pub mod RunPuts
 pub mod Slots
 pub mod Failing
 pub mod Copying
 pub mod Sources
 pub mod Heads
+pub mod ReadParts
 pub mod Whole
 pub mod Chains
 pub mod Cuts
 pub mod Cutting
 pub mod Finding
+pub mod Naming

@@ -1,5 +1,5 @@
 -- How a copy ends, and what each end leaves of TO.
-use Rattle.std.specs.Prelude.{ℕ, ◌≡◌, ◌⊎◌, ◌*◌, ⊤, Bool, IsTrue, List, length, slice_get, Option, Some, Result, Ok, Err}
+use Rattle.std.specs.Prelude.{ℕ, ◌≡◌, ◌⊎◌, ◌*◌, ◌<◌, ⊤, Bool, IsTrue, List, length, slice_get, Option, Some, Result, Ok, Err}
 use Rattle.fam_base.specs.declared.entry.Params.{Params}
 use Rattle.fam_base.specs.declared.entry.Entry.{Entry}
 use Rattle.fam_base.specs.Image.{Image, line_at}
@@ -12,9 +12,10 @@ use Rattle.fam_media.specs.Outside.{IfModelled}
 use Rattle.fam_rules.specs.Place.{line_bytes}
 use Rattle.fam_rules.specs.Written.{put_lines}
 use Rattle.fam_dup.specs.Copies.{AreCopies}
-use Rattle.fam_dup.specs.Findings.{Copies, FailsFrom, FailsTo, FaultClass, Names, Refuses, WantsMemory, class_of, finding}
+use Rattle.fam_dup.specs.Findings.{Copies, FailsFrom, FailsTo, FaultClass, FaultInLog, FaultInSlot, FaultInSuper, Finding, FullTo, SmallFrom, SmallTo, Stops, Names, Refuses, WantsMemory, class_of, finding}
 use Rattle.fam_dup.specs.Lines.{AreCut, IsOffCopy, bytes_in, copy_puts}
 use Rattle.fam_dup.specs.declared.fault.DupFault.{DupFault}
+use Rattle.fam_dup.specs.declared.fault.DupFault.TheVariants as fault
 
 -- parameters that are asked for on a device of so many lines: a unit, a log of such units, and the slots and the bytes
 -- that follow from these
@@ -84,9 +85,34 @@ IsCausedBy from from_now to to_now WantsMemory = ⊤
 abbrev pub IsCaused : ℕ → ℕ → ℕ → ℕ → DupFault → Type 0
 IsCaused from from_now to to_now fault = IsCausedBy from from_now to to_now (class_of fault)
 
--- of a fault behind which TO was not asked
+-- the line that a fault names is one of its image, where FROM and TO have so many lines
+abbrev pub NamesLine : ℕ → ℕ → DupFault → Type 0
+NamesLine from to (fault.ImageSmall lines) = ⊤
+NamesLine from to (fault.NoSuper word) = ⊤
+NamesLine from to (fault.BadSuper field found wanted) = ⊤
+NamesLine from to (fault.BadLog field found wanted) = ⊤
+NamesLine from to (fault.BadEntry seq reason) = ⊤
+NamesLine from to (fault.TooSmall needed have) = ⊤
+NamesLine from to (fault.HasSuper fs) = ⊤
+NamesLine from to (fault.Stopped seq refusal) = ⊤
+NamesLine from to (fault.FromFault line) = line.0 < from
+NamesLine from to (fault.ToFault line) = line.0 < to
+NamesLine from to fault.OutOfMemory = ⊤
+
+-- what FROM's lines alone can tell
+abbrev pub IsInFrom : Finding → Type 0
+IsInFrom (SmallFrom lines) = ⊥
+IsInFrom (FaultInSuper fault) = ⊤
+IsInFrom (FaultInLog fault) = ⊤
+IsInFrom (FaultInSlot seq reason) = ⊤
+IsInFrom (SmallTo needed have) = ⊥
+IsInFrom (FullTo fs) = ⊥
+IsInFrom (Stops seq refused) = ⊥
+IsInFrom (Copies entries copies) = ⊥
+
+-- a cause, of a fault behind which TO was not asked: it is told of FROM's lines, or FROM failed
 abbrev pub IsCausedByFrom : ℕ → ℕ → FaultClass → Type 0
-IsCausedByFrom before now (Refuses found) = ⊤
+IsCausedByFrom before now (Refuses found) = IsInFrom found
 IsCausedByFrom before now FailsFrom = Rose before now
 IsCausedByFrom before now FailsTo = ⊥
 IsCausedByFrom before now WantsMemory = ⊤

@@ -3,10 +3,11 @@
 ghost use Rattle.std.specs.Prelude.{◌≡◌, IfErr};
 ghost use Rattle.fam_media.specs.Causes.{IsSteady};
 ghost use Rattle.fam_media.specs.Outside.{IfModelled};
-ghost use Rattle.fam_dup.specs.Ends.{AreAsked, Becomes, DupEnds, IsCaused};
+ghost use Rattle.fam_dup.specs.Ends.{AreAsked, Becomes, DupEnds, IsCaused, NamesLine};
 
 use crate::copies::plan_copies;
 use crate::fault::DupFault;
+use crate::files::run_buffer;
 use crate::source::read_source;
 use crate::target::check_target;
 use crate::writes::write_copy;
@@ -21,6 +22,7 @@ use std::alloc::Global;
 /// What is against the copy is named before anything is written, the first cause of these: FROM is too small, or has a
 /// fault; TO is too small, or has a superblock and isn't forced; an entry has no slot or no room. Behind a fault of a
 /// media TO reads as before, as no file system, or as the whole copy. Want of memory changes nothing.
+#[tactic(auto, using(crate::proofs::Naming::from_names, crate::proofs::Naming::to_names, crate::proofs::Naming::own_names, crate::proofs::Naming::memory_names))]
 pub fn dup<M: Media, N: Media>(
     alloc: Global,
     from: &mut M,
@@ -33,6 +35,7 @@ pub fn dup<M: Media, N: Media>(
         (λ old new. DupEnds source old new params.now force result)) }
     ensures cause { IfErr result (λ fault. IsCaused (M.state from.old).faults (M.state from.new).faults
         (N.state to.old).faults (N.state to.new).faults fault) }
+    ensures line { IfErr result (λ fault. NamesLine (M.size from.old) (N.size to.old) fault) }
     ensures same { (M.state from.new).image ≡ (M.state from.old).image }
     ensures steady_from { IsSteady M.size M.state from.old from.new }
     ensures steady_to { IsSteady N.size N.state to.old to.new }
@@ -44,7 +47,8 @@ pub fn dup<M: Media, N: Media>(
     let source = read_source(alloc, from)?;
     check_target(to, params, force)?;
     let copies = plan_copies(alloc, &source, params)?;
+    let mut buffer = run_buffer(alloc)?;
     source.each_entry_joins();
-    write_copy(from, to, &source, &copies)?;
+    write_copy(from, to, &source, &copies, &mut buffer)?;
     Ok(copies.count())
 }

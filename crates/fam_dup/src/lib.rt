@@ -8,8 +8,10 @@
 mod copies;
 mod copy;
 mod fault;
+mod files;
 mod laws;
 mod lines;
+mod runs;
 mod source;
 mod target;
 mod writes;
@@ -17,3 +19,4 @@ mod writes;
 pub use copy::dup;
 pub use fault::{DupFault, DupRefusal};
 pub use laws::{a_cut_copy_is_old_none_or_whole, a_whole_copy_is_read, only_room_stops_a_copy};
+pub use source::read_source;

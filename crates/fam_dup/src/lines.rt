@@ -1,6 +1,6 @@
 //! Single lines of a media, and its superblock.
 
-ghost use Rattle.std.specs.Prelude.{◌≡◌, ◌∷◌, [], ◌*◌, ◌^◌, ◌<◌, ◌≤◌, IfOk, OnErr, OnOk, ℕ, length, slice_index};
+ghost use Rattle.std.specs.Prelude.{◌≡◌, ◌∷◌, [], ◌+◌, ◌*◌, ◌^◌, ◌<◌, ◌≤◌, IfErr, IfOk, OnErr, OnOk, ℕ, length, slice_index};
 ghost use Rattle.fam_base.specs.Image.{line_at};
 ghost use Rattle.fam_format.specs.Layout.{least_lines};
 ghost use Rattle.fam_format.specs.Params.{SoundParams};
@@ -8,7 +8,9 @@ ghost use Rattle.fam_format.specs.Reading.{super_in};
 ghost use Rattle.fam_media.specs.Causes.{IsSteady, Rose};
 ghost use Rattle.fam_media.specs.Outside.{IfModelled};
 ghost use Rattle.fam_rules.specs.Place.{line_bytes};
+ghost use Rattle.fam_media.specs.Runs.{AreRead, line_in};
 ghost use Rattle.fam_dup.specs.Lines.{AreCut, ArePut};
+ghost use Rattle.fam_dup.specs.Runs.{run_puts};
 
 use fam_base::{Line, LineNo, Params};
 use fam_format::{LINE_BYTES, SuperFault};
@@ -27,12 +29,23 @@ pub(crate) fn are_words(words: Line)
     let _ = words[0];
 }
 
+/// So do lines.
+pub(crate) fn are_lines(lines: &[Line])
+    ensures count { (i : ℕ) → i < length lines.now → length (line_in lines.now i) ≡ 8 }
+    ensures fit { (i w : ℕ) → i < length lines.now → slice_index (line_in lines.now i) w < 2 ^ 64 }
+{
+    for line in lines {
+        are_words(*line);
+    }
+}
+
 /// Reads a line.
 pub(crate) fn read_line<M: Media>(media: &mut M, line: LineNo) -> Result<Line, FailedAt>
     requires within { line.0 < M.size media.old }
     ensures words { IfOk result (λ words. IfModelled (M.state media.old).image (λ image. words ≡ line_at image line.0)) }
     ensures same { (M.state media.new).image ≡ (M.state media.old).image }
     ensures rose { OnErr result (Rose (M.state media.old).faults (M.state media.new).faults) }
+    ensures line { IfErr result (λ failed. failed.0.0 < M.size media.old) }
     ensures steady { IsSteady M.size M.state media.old media.new }
 {
     match media.read(line) {
@@ -51,11 +64,53 @@ pub(crate) fn write_line<M: Media>(
     ensures put { OnOk result (ArePut ((line.0, words.now) ∷ []) (M.state media.old).image (M.state media.new).image) }
     ensures cut { OnErr result (AreCut ((line.0, words.now) ∷ []) (M.state media.old).image (M.state media.new).image) }
     ensures rose { OnErr result (Rose (M.state media.old).faults (M.state media.new).faults) }
+    ensures line { IfErr result (λ failed. failed.0.0 < M.size media.old) }
     ensures steady { IsSteady M.size M.state media.old media.new }
 {
     match media.write(line, words) {
         Ok(()) => Ok(()),
         Err(_) => Err(FailedAt(line)),
+    }
+}
+
+/// Reads lines one behind another.
+pub(crate) fn read_lines<M: Media>(
+    media: &mut M,
+    first: LineNo,
+    lines: &mut [Line],
+) -> Result<(), FailedAt>
+    requires within { first.0 + length lines.old ≤ M.size media.old }
+    ensures words { OnOk result (IfModelled (M.state media.old).image (λ image. AreRead image first.0 lines.new (length lines.new))) }
+    ensures count { length lines.new ≡ length lines.old }
+    ensures same { (M.state media.new).image ≡ (M.state media.old).image }
+    ensures rose { OnErr result (Rose (M.state media.old).faults (M.state media.new).faults) }
+    ensures line { IfErr result (λ failed. failed.0.0 < M.size media.old) }
+    ensures steady { IsSteady M.size M.state media.old media.new }
+{
+    let _ = media.lines();
+    match media.read_run(first, lines) {
+        Ok(()) => Ok(()),
+        Err(failed) => Err(FailedAt(LineNo(first.0 + failed.done as u64))),
+    }
+}
+
+/// Writes lines one behind another.
+pub(crate) fn write_lines<M: Media>(
+    media: &mut M,
+    first: LineNo,
+    lines: &[Line],
+) -> Result<(), FailedAt>
+    requires within { first.0 + length lines.now ≤ M.size media.old }
+    ensures put { OnOk result (ArePut (run_puts first.0 lines.now) (M.state media.old).image (M.state media.new).image) }
+    ensures cut { OnErr result (AreCut (run_puts first.0 lines.now) (M.state media.old).image (M.state media.new).image) }
+    ensures rose { OnErr result (Rose (M.state media.old).faults (M.state media.new).faults) }
+    ensures line { IfErr result (λ failed. failed.0.0 < M.size media.old) }
+    ensures steady { IsSteady M.size M.state media.old media.new }
+{
+    let _ = media.lines();
+    match media.write_run(first, lines) {
+        Ok(()) => Ok(()),
+        Err(failed) => Err(FailedAt(LineNo(first.0 + failed.done as u64))),
     }
 }
 
@@ -66,6 +121,7 @@ fn super_lines<M: Media>(media: &mut M) -> Result<[Line; 3], FailedAt>
         (have : ℕ) → super_in (line_at lines) have ≡ super_in (line_at image) have)) }
     ensures same { (M.state media.new).image ≡ (M.state media.old).image }
     ensures rose { OnErr result (Rose (M.state media.old).faults (M.state media.new).faults) }
+    ensures line { IfErr result (λ failed. failed.0.0 < M.size media.old) }
     ensures steady { IsSteady M.size M.state media.old media.new }
 {
     let magic = read_line(media, LineNo(0))?;
@@ -83,6 +139,7 @@ pub(crate) fn superblock<M: Media>(media: &mut M) -> Result<Result<Params, Super
     ensures device { IfOk result (λ found. IfOk found (λ p. p.device ≤ line_bytes * M.size media.old)) }
     ensures same { (M.state media.new).image ≡ (M.state media.old).image }
     ensures rose { OnErr result (Rose (M.state media.old).faults (M.state media.new).faults) }
+    ensures line { IfErr result (λ failed. failed.0.0 < M.size media.old) }
     ensures steady { IsSteady M.size M.state media.old media.new }
 {
     let lines = super_lines(media)?;

@@ -12,7 +12,7 @@ ghost use Rattle.fam_media.specs.Causes.{IsSteady};
 ghost use Rattle.fam_media.specs.Outside.{IfModelled};
 ghost use Rattle.fam_plan.specs.Faults.{reason_of};
 ghost use Rattle.fam_rules.specs.Place.{line_bytes};
-ghost use Rattle.fam_dup.specs.Ends.{IsCausedByFrom};
+ghost use Rattle.fam_dup.specs.Ends.{IsCausedByFrom, NamesLine};
 ghost use Rattle.fam_dup.specs.Findings.{FailsFrom, FaultInLog, FaultInSuper, Finding, Names, Refuses, class_of, from_or, slot_class};
 
 use crate::fault::DupFault;
@@ -33,6 +33,7 @@ pub(crate) fn read_from<M: Media>(from: &mut M, line: LineNo) -> Result<Line, Du
     ensures words { IfOk result (λ words. IfModelled (M.state from.old).image (λ image. words ≡ line_at image line.0)) }
     ensures failed { IfErr result (λ fault. class_of fault ≡ FailsFrom) }
     ensures cause { IfErr result (λ fault. IsCausedByFrom (M.state from.old).faults (M.state from.new).faults (class_of fault)) }
+    ensures line { IfErr result (λ fault. NamesLine (M.size from.old) 0 fault) }
     ensures same { (M.state from.new).image ≡ (M.state from.old).image }
     ensures steady { IsSteady M.size M.state from.old from.new }
 {
@@ -101,6 +102,7 @@ fn read_params<M: Media>(from: &mut M) -> Result<Params, DupFault>
     ensures fault { IfErr result (λ fault. IfModelled (M.state from.old).image (λ image. (rest : List EntryValue → Finding)
         → Names (class_of fault) (from_or (read.read_super (line_at image) (super_in (line_at image) (line_bytes * M.size from.old))) rest))) }
     ensures cause { IfErr result (λ fault. IsCausedByFrom (M.state from.old).faults (M.state from.new).faults (class_of fault)) }
+    ensures line { IfErr result (λ fault. NamesLine (M.size from.old) 0 fault) }
     ensures same { (M.state from.new).image ≡ (M.state from.old).image }
     ensures steady { IsSteady M.size M.state from.old from.new }
 {
@@ -120,6 +122,7 @@ fn read_count<M: Media>(from: &mut M, params: &Params) -> Result<u64, DupFault>
     ensures fault { IfErr result (λ fault. IfModelled (M.state from.old).image (λ image. (rest : List EntryValue → Finding)
         → Names (class_of fault) (from_or (read.read_log (line_at image) params.now (log_fault (line_at image log_line) params.now)) rest))) }
     ensures cause { IfErr result (λ fault. IsCausedByFrom (M.state from.old).faults (M.state from.new).faults (class_of fault)) }
+    ensures line { IfErr result (λ fault. NamesLine (M.size from.old) 0 fault) }
     ensures same { (M.state from.new).image ≡ (M.state from.old).image }
     ensures steady { IsSteady M.size M.state from.old from.new }
 {
@@ -157,6 +160,7 @@ fn read_words<M: Media>(
     ensures words { IfOk result (λ words. IfModelled (M.state from.old).image (λ image. words ≡ slot_words (line_at image) params.now slot)) }
     ensures failed { IfErr result (λ fault. class_of fault ≡ FailsFrom) }
     ensures cause { IfErr result (λ fault. IsCausedByFrom (M.state from.old).faults (M.state from.new).faults (class_of fault)) }
+    ensures line { IfErr result (λ fault. NamesLine (M.size from.old) 0 fault) }
     ensures same { (M.state from.new).image ≡ (M.state from.old).image }
     ensures steady { IsSteady M.size M.state from.old from.new }
 {
@@ -181,6 +185,7 @@ fn read_slot<M: Media>(from: &mut M, plan: &mut Plan, seq: u64) -> Result<(), Du
     ensures fault { IfErr result (λ fault. IfModelled (M.state from.old).image (λ image. (more : ℕ) (rest : List EntryValue → Finding)
         → Names (class_of fault) (from_or (read.read_slots (line_at image) plan.old.params (length plan.old.entries) (suc more) plan.old.entries) rest))) }
     ensures cause { IfErr result (λ fault. IsCausedByFrom (M.state from.old).faults (M.state from.new).faults (class_of fault)) }
+    ensures line { IfErr result (λ fault. NamesLine (M.size from.old) 0 fault) }
     ensures same { (M.state from.new).image ≡ (M.state from.old).image }
     ensures steady { IsSteady M.size M.state from.old from.new }
 {
@@ -208,6 +213,7 @@ fn read_slots<M: Media>(from: &mut M, plan: &mut Plan, count: u64) -> Result<(),
     ensures fault { IfErr result (λ fault. IfModelled (M.state from.old).image (λ image. (rest : List EntryValue → Finding)
         → Names (class_of fault) (from_or (read.read_slots (line_at image) plan.old.params 0 count []) rest))) }
     ensures cause { IfErr result (λ fault. IsCausedByFrom (M.state from.old).faults (M.state from.new).faults (class_of fault)) }
+    ensures line { IfErr result (λ fault. NamesLine (M.size from.old) 0 fault) }
     ensures same { (M.state from.new).image ≡ (M.state from.old).image }
     ensures steady { IsSteady M.size M.state from.old from.new }
 {
@@ -217,14 +223,17 @@ fn read_slots<M: Media>(from: &mut M, plan: &mut Plan, count: u64) -> Result<(),
     Ok(())
 }
 
-/// FROM's entries, in a plan of its parameters.
-pub(crate) fn read_source<M: Media>(alloc: Global, from: &mut M) -> Result<Plan, DupFault>
+/// FROM's entries, in a plan of its parameters: lines 0, 1 and 2 are read, the log's header and its gate, and the slots below it,
+/// each once and in this order. A fault is the first of FROM's superblock, of its log or of a slot; `FromFault`, where FROM failed;
+/// or `OutOfMemory`.
+pub fn read_source<M: Media>(alloc: Global, from: &mut M) -> Result<Plan, DupFault>
     requires within { least_lines ≤ M.size from.old }
     ensures told { IfOk result (λ plan. IfModelled (M.state from.old).image (λ image. reading image ≡ read.Sound plan.params plan.entries)) }
     ensures device { IfOk result (λ plan. plan.params.device ≤ line_bytes * M.size from.old) }
     ensures fault { IfErr result (λ fault. IfModelled (M.state from.old).image (λ image. (rest : List EntryValue → Finding)
         → Names (class_of fault) (from_or (reading image) rest))) }
     ensures cause { IfErr result (λ fault. IsCausedByFrom (M.state from.old).faults (M.state from.new).faults (class_of fault)) }
+    ensures line { IfErr result (λ fault. NamesLine (M.size from.old) 0 fault) }
     ensures same { (M.state from.new).image ≡ (M.state from.old).image }
     ensures steady { IsSteady M.size M.state from.old from.new }
 {

@@ -5,7 +5,7 @@ ghost use Rattle.fam_format.specs.Params.{SoundParams};
 ghost use Rattle.fam_media.specs.Causes.{IsSteady};
 ghost use Rattle.fam_media.specs.Outside.{IfModelled};
 ghost use Rattle.fam_rules.specs.Place.{line_bytes};
-ghost use Rattle.fam_dup.specs.Ends.{AreAsked, IsCausedByTo};
+ghost use Rattle.fam_dup.specs.Ends.{AreAsked, IsCausedByTo, NamesLine};
 ghost use Rattle.fam_dup.specs.Findings.{Finding, Names, class_of, to_or};
 ghost use Rattle.fam_format.specs.Params.{IsUuid};
 
@@ -42,6 +42,7 @@ pub(crate) fn check_target<N: Media>(
     ensures fault { IfErr result (λ fault. IfModelled (N.state to.old).image (λ image. (rest : Finding)
         → Names (class_of fault) (to_or image params.now force rest))) }
     ensures cause { IfErr result (λ fault. IsCausedByTo (N.state to.old).faults (N.state to.new).faults (class_of fault)) }
+    ensures line { IfErr result (λ fault. NamesLine 0 (N.size to.old) fault) }
     ensures same { (N.state to.new).image ≡ (N.state to.old).image }
     ensures steady { IsSteady N.size N.state to.old to.new }
 {

@@ -7,23 +7,20 @@ ghost use Rattle.fam_format.specs.Params.{SoundParams};
 ghost use Rattle.fam_format.specs.Slot.{spelling};
 ghost use Rattle.fam_media.specs.Causes.{IsSteady, Rose};
 ghost use Rattle.fam_media.specs.Outside.{IfModelled};
-ghost use Rattle.fam_rules.specs.Content.{file_words};
 ghost use Rattle.fam_rules.specs.Place.{line_bytes};
-ghost use Rattle.fam_rules.specs.Written as written;
-ghost use Rattle.fam_rules.specs.Written.{file_puts, slot_part, slot_puts};
+ghost use Rattle.fam_rules.specs.Written.{slot_part, slot_puts};
 ghost use Rattle.fam_dup.specs.Copies.{AreCopies};
-ghost use Rattle.fam_dup.specs.Ends.{IsCausedByFrom, IsFailure};
+ghost use Rattle.fam_dup.specs.Ends.{IsCausedByFrom, IsFailure, NamesLine};
 ghost use Rattle.fam_dup.specs.Findings.{FailsFrom, FailsTo, class_of};
 ghost use Rattle.fam_dup.specs.Lines.{IsFileOn, PutsEnd, bytes_in, copy_puts, files_puts, head_puts, slots_puts};
 
 use crate::copies::entry_at;
 use crate::fault::DupFault;
+use crate::files::copy_files;
 use crate::lines::{FailedAt, are_words, write_line};
-use crate::source::read_from;
 use fam_base::{Entry, Line, LineNo, Params};
-use fam_content::{file_line, first_bytes, lines_of};
 use fam_entry::{spell, spell_log};
-use fam_format::{GATE_LINE, LINE_BYTES, LINE_WORDS, LOG_LINE, SLOT_LINES, SLOT_WORDS};
+use fam_format::{GATE_LINE, LINE_WORDS, LOG_LINE, SLOT_LINES, SLOT_WORDS};
 use fam_media::Media;
 use fam_plan::Plan;
 use fam_replay::line_of_slot;
@@ -34,104 +31,13 @@ fn write_to<N: Media>(to: &mut N, line: LineNo, words: &Line) -> Result<(), DupF
     requires within { line.0 < N.size to.old }
     ensures puts { PutsEnd ((line.0, words.now) ∷ []) (N.state to.old).image (N.state to.new).image result }
     ensures failed { IfErr result (λ fault. (class_of fault ≡ FailsTo) × Rose (N.state to.old).faults (N.state to.new).faults) }
+    ensures line { IfErr result (λ fault. NamesLine 0 (N.size to.old) fault) }
     ensures steady { IsSteady N.size N.state to.old to.new }
 {
     match write_line(to, line, words) {
         Ok(()) => Ok(()),
         Err(FailedAt(line)) => Err(DupFault::ToFault(line)),
     }
-}
-
-/// Line `j` of an entry's file, with zeros behind its last byte.
-fn read_part<M: Media>(from: &mut M, entry: &Entry, j: u64) -> Result<Line, DupFault>
-    requires file { IsFileOn entry.now (M.size from.old) }
-    requires below { line_bytes * j < entry.now.size }
-    ensures words { IfOk result (λ words. IfModelled (M.state from.old).image (λ image. words ≡ file_words (bytes_in (line_at image) entry.now) j)) }
-    ensures failed { IfErr result (λ fault. class_of fault ≡ FailsFrom) }
-    ensures cause { IfErr result (λ fault. IsCausedByFrom (M.state from.old).faults (M.state from.new).faults (class_of fault)) }
-    ensures same { (M.state from.new).image ≡ (M.state from.old).image }
-    ensures steady { IsSteady M.size M.state from.old from.new }
-{
-    let words = read_from(from, file_line(entry, j))?;
-    let part = first_bytes(&words, entry.size - LINE_BYTES * j);
-    are_words(part);
-    Ok(part)
-}
-
-/// Copies line `j` of an entry's file.
-fn copy_line<M: Media, N: Media>(
-    from: &mut M,
-    to: &mut N,
-    entry: &Entry,
-    copy: &Entry,
-    j: u64,
-) -> Result<(), DupFault>
-    requires file { IsFileOn entry.now (M.size from.old) }
-    requires place { IsFileOn copy.now (N.size to.old) }
-    requires size { copy.now.size ≡ entry.now.size }
-    requires below { line_bytes * j < entry.now.size }
-    ensures puts { IfModelled (M.state from.old).image (λ image. PutsEnd ((written.file_line copy.now j, file_words (bytes_in (line_at image) entry.now) j) ∷ [])
-        (N.state to.old).image (N.state to.new).image result) }
-    ensures failed { IfErr result (λ fault. IsFailure (M.state from.old).faults (M.state from.new).faults
-        (N.state to.old).faults (N.state to.new).faults (class_of fault)) }
-    ensures same { (M.state from.new).image ≡ (M.state from.old).image }
-    ensures steady_from { IsSteady M.size M.state from.old from.new }
-    ensures steady_to { IsSteady N.size N.state to.old to.new }
-{
-    let words = read_part(from, entry, j)?;
-    write_to(to, file_line(copy, j), &words)
-}
-
-/// Copies the lines of an entry's file.
-fn copy_file<M: Media, N: Media>(
-    from: &mut M,
-    to: &mut N,
-    entry: &Entry,
-    copy: &Entry,
-) -> Result<(), DupFault>
-    requires file { IsFileOn entry.now (M.size from.old) }
-    requires place { IsFileOn copy.now (N.size to.old) }
-    requires size { copy.now.size ≡ entry.now.size }
-    ensures puts { IfModelled (M.state from.old).image (λ image. PutsEnd (file_puts copy.now (bytes_in (line_at image) entry.now))
-        (N.state to.old).image (N.state to.new).image result) }
-    ensures failed { IfErr result (λ fault. IsFailure (M.state from.old).faults (M.state from.new).faults
-        (N.state to.old).faults (N.state to.new).faults (class_of fault)) }
-    ensures same { (M.state from.new).image ≡ (M.state from.old).image }
-    ensures steady_from { IsSteady M.size M.state from.old from.new }
-    ensures steady_to { IsSteady N.size N.state to.old to.new }
-{
-    for j in 0..lines_of(copy.size) {
-        copy_line(from, to, entry, copy, j)?;
-    }
-    Ok(())
-}
-
-/// Copies the files of all entries.
-fn copy_files<M: Media, N: Media>(
-    from: &mut M,
-    to: &mut N,
-    source: &Plan,
-    copies: &Plan,
-) -> Result<(), DupFault>
-    requires from_device { source.now.params.device ≤ line_bytes * M.size from.old }
-    requires to_device { copies.now.params.device ≤ line_bytes * N.size to.old }
-    requires copies { AreCopies source.now.entries copies.now.entries }
-    ensures puts { IfModelled (M.state from.old).image (λ image. PutsEnd (files_puts (line_at image) source.now.entries copies.now.entries)
-        (N.state to.old).image (N.state to.new).image result) }
-    ensures failed { IfErr result (λ fault. IsFailure (M.state from.old).faults (M.state from.new).faults
-        (N.state to.old).faults (N.state to.new).faults (class_of fault)) }
-    ensures same { (M.state from.new).image ≡ (M.state from.old).image }
-    ensures steady_from { IsSteady M.size M.state from.old from.new }
-    ensures steady_to { IsSteady N.size N.state to.old to.new }
-{
-    source.each_entry_joins();
-    copies.each_entry_joins();
-    for seq in 0..copies.count() {
-        let entry = entry_at(source, seq);
-        let copy = entry_at(copies, seq);
-        copy_file(from, to, &entry, &copy)?;
-    }
-    Ok(())
 }
 
 /// Line `j` of the words of a slot.
@@ -152,6 +58,7 @@ fn write_slot<N: Media>(to: &mut N, params: &Params, seq: u64, copy: &Entry) -> 
     requires slot { seq < params.now.slots }
     ensures puts { PutsEnd (slot_puts params.now seq copy.now) (N.state to.old).image (N.state to.new).image result }
     ensures failed { IfErr result (λ fault. (class_of fault ≡ FailsTo) × Rose (N.state to.old).faults (N.state to.new).faults) }
+    ensures line { IfErr result (λ fault. NamesLine 0 (N.size to.old) fault) }
     ensures steady { IsSteady N.size N.state to.old to.new }
 {
     let words = spell(copy, seq);
@@ -166,6 +73,7 @@ fn write_slots<N: Media>(to: &mut N, copies: &Plan) -> Result<(), DupFault>
     requires device { copies.now.params.device ≤ line_bytes * N.size to.old }
     ensures puts { PutsEnd (slots_puts copies.now.params 0 copies.now.entries) (N.state to.old).image (N.state to.new).image result }
     ensures failed { IfErr result (λ fault. (class_of fault ≡ FailsTo) × Rose (N.state to.old).faults (N.state to.new).faults) }
+    ensures line { IfErr result (λ fault. NamesLine 0 (N.size to.old) fault) }
     ensures steady { IsSteady N.size N.state to.old to.new }
 {
     copies.each_entry_joins();
@@ -181,6 +89,7 @@ fn write_head<N: Media>(to: &mut N, params: &Params, count: u64) -> Result<(), D
     requires within { least_lines ≤ N.size to.old }
     ensures puts { PutsEnd (head_puts params.now count) (N.state to.old).image (N.state to.new).image result }
     ensures failed { IfErr result (λ fault. (class_of fault ≡ FailsTo) × Rose (N.state to.old).faults (N.state to.new).faults) }
+    ensures line { IfErr result (λ fault. NamesLine 0 (N.size to.old) fault) }
     ensures steady { IsSteady N.size N.state to.old to.new }
 {
     let [_, first, second] = Super::spell(params);
@@ -192,13 +101,16 @@ fn write_head<N: Media>(to: &mut N, params: &Params, count: u64) -> Result<(), D
     write_to(to, LineNo(2), &second)
 }
 
-/// Writes the whole copy: line 0 is cleared first, and has the magic last.
+/// Writes the whole copy: line 0 is cleared first, and has the magic last. The buffer is for lines of files.
+#[tactic(auto, using(crate::proofs::Naming::to_names))]
 pub(crate) fn write_copy<M: Media, N: Media>(
     from: &mut M,
     to: &mut N,
     source: &Plan,
     copies: &Plan,
+    buffer: &mut [Line],
 ) -> Result<(), DupFault>
+    requires buffer { 0 < length buffer.old }
     requires from_device { source.now.params.device ≤ line_bytes * M.size from.old }
     requires to_device { copies.now.params.device ≤ line_bytes * N.size to.old }
     requires copies { AreCopies source.now.entries copies.now.entries }
@@ -206,6 +118,7 @@ pub(crate) fn write_copy<M: Media, N: Media>(
         (N.state to.old).image (N.state to.new).image result) }
     ensures failed { IfErr result (λ fault. IsFailure (M.state from.old).faults (M.state from.new).faults
         (N.state to.old).faults (N.state to.new).faults (class_of fault)) }
+    ensures line { IfErr result (λ fault. NamesLine (M.size from.old) (N.size to.old) fault) }
     ensures same { (M.state from.new).image ≡ (M.state from.old).image }
     ensures steady_from { IsSteady M.size M.state from.old from.new }
     ensures steady_to { IsSteady N.size N.state to.old to.new }
@@ -213,7 +126,7 @@ pub(crate) fn write_copy<M: Media, N: Media>(
     copies.each_entry_joins();
     let params = *copies.params();
     write_to(to, LineNo(0), &[0; 8])?;
-    copy_files(from, to, source, copies)?;
+    copy_files(from, to, source, copies, buffer)?;
     write_slots(to, copies)?;
     write_head(to, &params, copies.count())?;
     write_to(to, LineNo(0), &[MAGIC, 0, 0, 0, 0, 0, 0, 0])

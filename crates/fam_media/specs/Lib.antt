@@ -1,5 +1,6 @@
 pub mod Causes
 pub mod Outside
+pub mod Runs
 pub mod Modelled
 pub mod Files
 pub mod States

@@ -15,7 +15,7 @@ mod plan;
 mod shelf;
 mod sink;
 
-pub use media::{Failed, MOST_LINES, Media};
+pub use media::{Failed, MOST_LINES, Media, RunFailed};
 pub use memory_media::MemMedia;
 pub use memory_shelf::MemShelf;
 pub use memory_sink::MemSink;

@@ -1,10 +1,11 @@
 //! A media: an image of lines that several hosts share.
 
-ghost use Rattle.std.specs.Prelude.{◌≡◌, ℕ, ◌<◌, ◌≤◌, IfOk, OnOk, OnErr, length};
+ghost use Rattle.std.specs.Prelude.{◌≡◌, ℕ, ◌+◌, ◌<◌, ◌≤◌, IfErr, IfOk, OnOk, OnErr, length};
 ghost use Rattle.std.specs.Option.{option_map};
 ghost use Rattle.fam_base.specs.Image.{IsNormal, eight, line_at, with_line};
 ghost use Rattle.fam_media.specs.Causes.{HasCause};
 ghost use Rattle.fam_media.specs.Outside.{IfModelled, IsTorn};
+ghost use Rattle.fam_media.specs.Runs.{AreRead, IsRunTorn, run_written};
 ghost use Rattle.fam_media.specs.States.{MediaState};
 
 use fam_base::{Line, LineNo};
@@ -12,6 +13,12 @@ use fam_base::{Line, LineNo};
 /// A call of the outside failed.
 #[derive(Clone, Copy, Debug, PartialEq, Eq)]
 pub struct Failed;
+
+/// A call for several lines failed at one of them, behind so many that were done.
+#[derive(Clone, Copy, Debug, PartialEq, Eq)]
+pub struct RunFailed {
+    pub done: usize,
+}
 
 /// The most lines that a media has: those of 1 TiB.
 pub const MOST_LINES: u64 = 17_179_869_184;
@@ -48,6 +55,56 @@ pub trait Media {
         ensures torn { OnErr result (IsTorn (state self.old).image (state self.new).image line.0 words.now) }
         ensures size { size self.new ≡ size self.old }
         ensures cause { HasCause (state self.old).faults (state self.new).faults result };
+
+    /// Reads lines one behind another, as `read` does each of them. No line of the media changes. Where it fails at a
+    /// line, those before it were read, and what the buffer has from there on is left open.
+    fn read_run(&mut self, first: LineNo, lines: &mut [Line]) -> Result<(), RunFailed>
+        requires within { first.0 + length lines.old ≤ size self.old }
+
+        ensures words { OnOk result
+            (IfModelled (state self.old).image (λ image. AreRead image first.0 lines.new (length lines.old))) }
+        ensures count { length lines.new ≡ length lines.old }
+        ensures same { (state self.new).image ≡ (state self.old).image }
+        ensures before { IfErr result (λ failed. failed.done < length lines.old) }
+        ensures err_words { IfErr result
+            (λ failed. IfModelled (state self.old).image (λ image. AreRead image first.0 lines.new failed.done)) }
+        ensures size { size self.new ≡ size self.old }
+        ensures cause { HasCause (state self.old).faults (state self.new).faults result }
+    {
+        // How many lines there are at most.
+        let _ = self.lines();
+        for k in 0..lines.len() {
+            match self.read(LineNo(first.0 + k as u64)) {
+                Ok(words) => lines[k] = words,
+                Err(_) => return Err(RunFailed { done: k }),
+            }
+        }
+        Ok(())
+    }
+
+    /// Writes lines one behind another, as `write` does each of them, and no other one. Where it fails at a line, those
+    /// before it are written, each word of it is old or new, and those behind it are as before.
+    fn write_run(&mut self, first: LineNo, lines: &[Line]) -> Result<(), RunFailed>
+        requires within { first.0 + length lines.now ≤ size self.old }
+
+        ensures written { OnOk result
+            ((state self.new).image ≡ run_written first.0 lines.now (length lines.now) (state self.old).image) }
+        ensures before { IfErr result (λ failed. failed.done < length lines.now) }
+        ensures torn { IfErr result (λ failed.
+            IsRunTorn (state self.old).image (state self.new).image first.0 lines.now failed.done) }
+        ensures size { size self.new ≡ size self.old }
+        ensures cause { HasCause (state self.old).faults (state self.new).faults result }
+    {
+        // How many lines there are at most.
+        let _ = self.lines();
+        for k in 0..lines.len() {
+            match self.write(LineNo(first.0 + k as u64), &lines[k]) {
+                Ok(()) => {}
+                Err(_) => return Err(RunFailed { done: k }),
+            }
+        }
+        Ok(())
+    }
 
     /// Each line of an image that is modelled has eight words.
     ghost normal: { (m : Self) → IsNormal (state m).image };

@@ -9,7 +9,7 @@ use Rattle.fam_rules.specs.Written.{put_lines}
 use Rattle.fam_dup.specs.Findings.{class_of, finding}
 use Rattle.fam_dup.specs.Lines.{AreCut, copy_puts}
 use Rattle.fam_dup.proofs.Cutting.{cut_others, cut_reads, cut_some}
-use Rattle.fam_dup.proofs.Finding.{copied_to, entries_or, failed_ends, free_to, large_from, left_alone, names_found, small_from, sound_from}
+use Rattle.fam_dup.proofs.Finding.{copied_to, entries_or, failed_ends, free_to, large_from, left_alone, names_found, small_from, sound_from, wanted_memory}
 use Rattle.fam_dup.proofs.Following.{copies_follow}
 use Rattle.fam_dup.proofs.Whole.{whole_copy}
 use Rattle.fam_dup.proofs.copy.dup.Goals as goal
@@ -65,6 +65,15 @@ returns-in_err-copies-clause-ends g c =
         names_found (class_of c.in_err-copies.field-0.0) _ _ (free_to source old p force s.params s.entries enough (c.in_ok-source.ensures.told source told) (t.free old is)) (c.in_err-copies.ensures.fault s.entries),
         left_alone source old old p force (class_of c.in_err-copies.field-0.0) refl,
       ),
+    ))
+
+pub returns-in_err-buffer-clause-ends : goal.returns-in_err-buffer-clause-ends
+returns-in_err-buffer-clause-ends g c =
+    let q = err_from_is_err_and c.from_residual-in_err-buffer.result c.from_residual-in_err-buffer.ensures.1 in
+    rw (q.1, q.2) (λ source told old is. (
+      old,
+      c.in_ok-check_target.ensures.same ∙ is,
+      wanted_memory source old c.args.params.now c.args.force (class_of c.in_err-buffer.field-0.0) (finding source old c.args.params.now c.args.force) c.in_err-buffer.ensures.full,
     ))
 
 pub write_copy-requires-clause-copies : goal.write_copy-requires-clause-copies

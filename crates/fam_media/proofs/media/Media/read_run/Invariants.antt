@@ -1,0 +1,14 @@
+use Rattle.std.proofs.Common.{◌≡◌, ◌≤◌, length}
+use Rattle.fam_media.specs.Outside.{IfModelled}
+use Rattle.fam_media.specs.Runs.{AreRead}
+use Rattle.fam_media.proofs.media.Media.read_run.Given as goal
+
+-- the lines so far were read
+abbrev pub invariant-loop-k : goal.invariant-loop-k
+invariant-loop-k g l = record {
+  read : IfModelled (g.Self.Media.state l.fn.self).image (λ image. AreRead image l.first.0 l.lines l.k);
+  count : length l.lines ≡ length l.fn.lines;
+  same : (g.Self.Media.state l.self).image ≡ (g.Self.Media.state l.fn.self).image;
+  size : g.Self.Media.size l.self ≡ g.Self.Media.size l.fn.self;
+  later : (g.Self.Media.state l.fn.self).faults ≤ (g.Self.Media.state l.self).faults;
+}
