@@ -3,7 +3,7 @@
 //! A contract sees an `Order` as the list of the paths, each of them as its bytes. `specs/Pieces.antt` has how bytes in
 //! a row are cut into paths.
 
-ghost use Rattle.std.specs.Prelude.{◌≡◌, ◌≤◌, ◌++◌, ◌∷◌, [], None, IfSome, IsTrue, OnOk, OnErr, length, slice_get, slice_index};
+ghost use Rattle.std.specs.Prelude.{◌≡◌, ◌≤◌, ◌++◌, ◌∷◌, [], None, IfOk, IfSome, IsTrue, OnOk, OnErr, length, slice_get, slice_index};
 ghost use Rattle.std.specs.List.{between};
 ghost use Rattle.fam_base.specs.Paths.{is_path};
 ghost use Rattle.fam_plan.specs.Pieces.{IsPathAt};
@@ -67,6 +67,19 @@ impl Order {
         Order {
             bytes: Vec::new(alloc),
             ends: Vec::new(alloc),
+        }
+    }
+
+    /// The same paths, in memory of their own.
+    pub(crate) fn copy(&self) -> Result<Order, OutOfMemory>
+        ensures { IfOk result (λ order. order ≡ self.now) }
+    {
+        let Ok(bytes) = self.bytes.clone() else {
+            return Err(OutOfMemory);
+        };
+        match self.ends.clone() {
+            Ok(ends) => Ok(Order { bytes, ends }),
+            Err(_) => Err(OutOfMemory),
         }
     }
 

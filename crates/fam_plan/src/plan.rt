@@ -137,6 +137,18 @@ impl Plan {
         })
     }
 
+    /// The same plan, in memory of its own.
+    pub fn copy(&self, alloc: Global) -> Result<Plan, OutOfMemory>
+        ensures { IfOk result (λ plan. plan ≡ self.now) }
+    {
+        Ok(Plan {
+            params: self.params,
+            tree: self.tree.copy(alloc)?,
+            order: self.order.copy()?,
+            used: self.used.copy(alloc)?,
+        })
+    }
+
     /// Adds a proper entry behind the others, where it joins them and a slot is left for it. A fault leaves the plan as
     /// it was.
     pub fn add(&mut self, entry: &Entry) -> Result<(), AddFault>

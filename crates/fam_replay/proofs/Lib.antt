@@ -1,4 +1,4 @@
 mod EightWords
-mod Found
+pub mod Found
 mod Lines
 pub mod Replicas

@@ -8,9 +8,10 @@ use Rattle.fam_base.specs.declared.entry.Entry.{Entry}
 use Rattle.fam_base.specs.declared.entry.Params.{Params}
 use Rattle.fam_format.specs.declared.faults.Reason.{Reason}
 use Rattle.fam_format.specs.Slot.{entry_of}
+use Rattle.fam_format.specs.Tree.{join_fault}
 use Rattle.fam_plan.specs.State.{PlanState, IsHistory}
 use Rattle.fam_replay.specs.Replica.{IsReplica, FindsNext, ReplicaState}
-use Rattle.fam_replay.specs.Replay.{entries_in, HasFoundAll, IsReplayOf, Joins, ReadsNext, Refused}
+use Rattle.fam_replay.specs.Replay.{entries_in, HasFoundAll, IsAgainst, IsReplayOf, Joins, ReadsNext, Refused}
 
 -- The next entry is one that is kept.
 module _ (s : PlanState) (slots : List (List ℕ)) (found : ℕ) (words : List ℕ) (is : IsReplica s slots found) (history : IsHistory s) (kept : slice_get slots found ≡ Some words) where
@@ -50,3 +51,8 @@ pub reads_by : {E : Type 0} (p : Params) (words : List ℕ) (old new : List Entr
 reads_by p words old new e (Ok None) read joins = record { entry = e; read = read; joins = joins.0; added = joins.1 }
 reads_by p words old new e (Ok (Some reason)) read joins = (Refused e read joins.0, joins.1)
 reads_by p words old new e (Err fault) read joins = tt
+
+-- why an entry that was read doesn't join is against its words
+pub against_by : {E : Type 0} (p : Params) (words : List ℕ) (list : List Entry) (e : Entry) (result : Result Reason E) → entry_of p words (length list) ≡ Ok e → IfOk result (λ reason. join_fault p list e ≡ Some reason) → IfOk result (IsAgainst p words list)
+against_by p words list e (Ok reason) read fault = Refused e read fault
+against_by p words list e (Err fault) read is = tt

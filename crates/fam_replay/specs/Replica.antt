@@ -24,6 +24,10 @@ replica_code = code_by (Params × (List Entry × ℕ)) (coded× params_type.the_
 abbrev pub found_in : ReplicaState → List Entry
 found_in s = take s.found s.entries
 
+-- the entries of a plan, all of which were found
+abbrev pub all_of : PlanState → ReplicaState
+all_of s = record { params = s.params; entries = s.entries; found = length s.entries }
+
 -- all entries that are kept were found
 abbrev pub AreAllFound : ReplicaState → Type 0
 AreAllFound s = length s.entries ≤ s.found

@@ -12,5 +12,5 @@ mod replica;
 mod same;
 
 pub use head::{line_of_slot, read_gate, read_header, read_superblock};
-pub use replay::Replay;
+pub use replay::{Replay, reason_behind};
 pub use replica::Replica;

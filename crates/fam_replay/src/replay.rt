@@ -10,14 +10,14 @@ ghost use Rattle.fam_format.specs.Slot.{entry_of, Proper};
 ghost use Rattle.fam_format.specs.Tree.{join_fault, replay};
 ghost use Rattle.fam_rules.specs.Decide.{decide, wish_of};
 ghost use Rattle.fam_plan.specs.Needs.{NeedsUnits};
-ghost use Rattle.fam_replay.specs.Replica.{FindsNext, JoinsNext};
-ghost use Rattle.fam_replay.specs.Replay.{entries_in, HasFoundAll, IsReplayOf, IsRoomFor, Joins, ReadsNext};
+ghost use Rattle.fam_replay.specs.Replica.{FindsNext, JoinsNext, all_of};
+ghost use Rattle.fam_replay.specs.Replay.{entries_in, HasFoundAll, IsAgainst, IsReplayOf, IsRoomFor, Joins, ReadsNext};
 
 use crate::replica::{Replica, reason_or_memory};
 use fam_base::{Cmd, Entry, OutOfMemory, PATH_LIMIT, Params, Path};
 use fam_entry::{check_entry, checked_entry};
 use fam_format::{Reason, SLOT_WORDS};
-use fam_plan::{first_entry_fault, first_entry_refusal};
+use fam_plan::{Plan, first_entry_fault, first_entry_refusal};
 use fam_rules::Refused;
 use fam_tree::Tree;
 use std::alloc::Global;
@@ -94,6 +94,32 @@ fn refused_alone(
     }
 }
 
+/// Why an entry doesn't join those of a plan, or out of memory where nothing is against it.
+fn fault_behind(plan: &Plan, entry: &Entry) -> Result<Reason, OutOfMemory>
+    requires { Proper plan.now.params entry.now }
+    ensures fault { IfOk result (λ reason. join_fault plan.now.params plan.now.entries entry.now ≡ Some reason) }
+    ensures want { OnErr result (join_fault plan.now.params plan.now.entries entry.now ≡ None) }
+{
+    match plan.fault_among(plan.count(), entry) {
+        Some(reason) => Ok(reason),
+        None => Err(OutOfMemory),
+    }
+}
+
+/// Why the words of the slot behind the entries of a plan add none to them. It takes no memory, and says out of memory
+/// where nothing is against them.
+pub fn reason_behind(plan: &Plan, words: &[u64; SLOT_WORDS]) -> Result<Reason, OutOfMemory>
+    ensures against { IfOk result (IsAgainst plan.now.params words.now plan.now.entries) }
+    ensures want { OnErr result (JoinsNext plan.now.params words.now plan.now.entries) }
+{
+    plan.each_entry_joins();
+    let mut field = [0; PATH_LIMIT];
+    match check_entry(words, plan.count(), plan.params(), &mut field) {
+        Ok(()) => fault_behind(plan, &checked_entry(words, &field)),
+        Err(reason) => Ok(reason),
+    }
+}
+
 impl Replay {
     /// Before the first slot. Nothing is kept, neither from an earlier reading nor for a later one.
     pub fn new(alloc: Global) -> Replay
@@ -120,6 +146,13 @@ impl Replay {
     pub fn into_kept(self) -> Option<Replica> {
         let Replay { kept, replica, .. } = self;
         replica.or(kept)
+    }
+
+    /// Goes on behind the entries of a plan, as if their slots had been read.
+    pub fn begin_behind(&mut self, plan: Plan)
+        ensures { self.new ≡ Some (all_of plan) }
+    {
+        self.replica = Some(Replica::of(self.alloc, plan));
     }
 
     /// How many entries were found.

@@ -9,7 +9,7 @@ ghost use Rattle.fam_format.specs.Slot.{entry_of, Proper};
 ghost use Rattle.fam_format.specs.Tree.{join_fault, replay};
 ghost use Rattle.fam_rules.specs.Decide.{decide, wish_of};
 ghost use Rattle.fam_plan.specs.Faults.{reason_of};
-ghost use Rattle.fam_replay.specs.Replica.{AreRead, FindsNext, AreAllFound, KeepsWords, found_in};
+ghost use Rattle.fam_replay.specs.Replica.{AreRead, FindsNext, AreAllFound, KeepsWords, all_of, found_in};
 ghost use Rattle.fam_replay.specs.Replay.{IsReplayOf, IsRoomFor, Joins};
 
 use crate::same::same_slot;
@@ -135,6 +135,19 @@ impl Replica {
             found: 0,
             keeps,
         })
+    }
+
+    /// The entries of a plan, as if their slots had been read. No words of slots are kept.
+    pub(crate) fn of(alloc: Global, plan: Plan) -> Replica
+        ensures { result ≡ all_of plan }
+    {
+        let found = plan.count();
+        Replica {
+            plan,
+            slots: Vec::new(alloc),
+            found,
+            keeps: false,
+        }
     }
 
     /// Begins another reading, which has found nothing so far. The words of further slots are kept, or not.

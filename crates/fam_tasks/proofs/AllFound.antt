@@ -9,7 +9,7 @@ use Rattle.fam_commands.specs.Classes.{is_fsck}
 use Rattle.fam_tasks.specs.Invariant.{IsInvariantAt, IsTask}
 
 -- as many as the gate counts, and no more are kept
-pub all_found_at : (t : Inside) → IsTask t → t.phase ≡ at.Decide → is_fsck t.cmd ≡ false → HasFoundAll t.replay
+pub all_found_at : (t : Inside) → IsTask t → t.phase ≡ at.Decide → is_fsck t.cmd ≡ false → HasFoundAll t.history.replay
 all_found_at t is phase other =
     let held : IsInvariantAt at.Decide t = subst (λ (p : Phase). IsInvariantAt p t) phase is.held in
-    all_found t.params t.gate t.replay held.replay (held.entries other ∙ ap (λ (b : Bool). cond b t.params.slots t.gate) other)
+    all_found t.params t.gate t.history.replay held.replay (held.entries other ∙ ap (λ (b : Bool). cond b t.params.slots t.gate) other)

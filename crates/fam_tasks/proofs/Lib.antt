@@ -3,6 +3,7 @@ pub mod Found
 pub mod Compared
 pub mod FileLines
 pub mod Phases
+pub mod Begun
 pub mod GateTurns
 pub mod FileTurns
 pub mod Rest

@@ -42,7 +42,8 @@ told_within false gate slots below = below
 pub slots_within : (cmd : Cmd) (p : Params) (gate : ℕ) → gate ≤ p.slots → slots_told cmd p gate ≤ p.slots
 slots_within cmd p gate below = told_within (is_fsck cmd) gate p.slots below
 
-held_by : (t : Inside) (i n : ℕ) (b : Bool) → n ≡ slots_told t.cmd t.params t.gate → nat_lt i n ≡ b → i ≤ n → HasLooked i t → IsInvariantAt (cond b (at.Drop (Slot i) 0) at.Decide) t
+-- slots were looked at up to it
+pub held_by : (t : Inside) (i n : ℕ) (b : Bool) → n ≡ slots_told t.cmd t.params t.gate → nat_lt i n ≡ b → i ≤ n → HasLooked i t → IsInvariantAt (cond b (at.Drop (Slot i) 0) at.Decide) t
 held_by t i n true slots less within looked = looked
 held_by t i n false slots less within looked =
     let all : i ≡ slots_told t.cmd t.params t.gate = omega (arith, slots, within, ltb-false i n less) in

@@ -42,7 +42,7 @@ drop_sound t slot j phase sound =
       least = sound.least;
       most = sound.most;
       stands = (record { line = line; few = stands.0.few }, omega arith, omega (arith, stands.1));
-      nothing = sound.nothing;
+      kept = sound.kept;
     }
 
 word_sound : (t : Task) (slot j k : ℕ) (words : List ℕ) → k < 7 → t.phase ≡ at.Word (Slot slot) j k → IsSound t → IsSound (behind slot j k words t)
@@ -58,7 +58,7 @@ word_sound t slot j k words small phase sound =
         omega (arith, small),
         omega (arith, stands.2, length-append t.words (slice_index words k ∷ [])),
       );
-      nothing = sound.nothing;
+      kept = sound.kept;
     }
 
 word_turn_goes : (t : Task) (slot j k : ℕ) (words : List ℕ) → k < 7 → t.phase ≡ at.Word (Slot slot) j k → turn_of t (Some (slice_index words k)) ≡ Goes (behind slot j k words t)

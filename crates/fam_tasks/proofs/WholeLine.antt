@@ -1,5 +1,5 @@
 -- A line of a file that is compared: it is dropped, and its eight words are loaded.
-use Rattle.std.proofs.Common.{ℕ, ◌≡◌, ◌+◌, ◌<◌, List, [], ◌∷◌, ◌++◌, length-append, Option, Some, None, refl, sym, ap, subst, ◌∙◌, arith}
+use Rattle.std.proofs.Common.{ℕ, ◌≡◌, ◌+◌, ◌<◌, List, [], ◌∷◌, ◌++◌, length-append, Some, None, refl, sym, ap, subst, ◌∙◌, arith}
 use Rattle.std.specs.Prelude.{slice_index}
 use Rattle.fam_base.specs.Image.{eight}
 use Rattle.fam_base.specs.declared.line.LineNo.{LineNo}
@@ -46,7 +46,7 @@ drop_sound t j phase sound =
       least = sound.least;
       most = sound.most;
       stands = (record { line = same_wanted t j (at.Word File j 0) t.words stands.0.line; few = stands.0.few }, omega arith, omega (arith, stands.1));
-      nothing = sound.nothing;
+      kept = sound.kept;
     }
 
 word_sound : (t : Task) (j k : ℕ) (words : List ℕ) → k < 7 → t.phase ≡ at.Word File j k → IsSound t → IsSound (behind j k words t)
@@ -61,7 +61,7 @@ word_sound t j k words small phase sound =
         omega (arith, small),
         omega (arith, stands.2, length-append t.words (slice_index words k ∷ [])),
       );
-      nothing = sound.nothing;
+      kept = sound.kept;
     }
 
 word_turn_goes : (t : Task) (j k : ℕ) (words : List ℕ) → k < 7 → t.phase ≡ at.Word File j k → turn_of t (Some (slice_index words k)) ≡ Goes (behind j k words t)

@@ -1,7 +1,7 @@
 -- How the parts of a task hang together, that a contract doesn't see.
 use Rattle.std.specs.Prelude.{ℕ, ◌≡◌, ◌+◌, ◌-◌, ⊤, true, false, length, None}
 use Rattle.fam_base.specs.declared.cmd.Cmd.{Cmd}
-use Rattle.fam_base.specs.declared.cmd.Cmd.TheVariants.{Read, Check}
+use Rattle.fam_base.specs.declared.cmd.Cmd.TheVariants.{Read}
 use Rattle.fam_commands.specs.declared.phase.Part.{Part}
 use Rattle.fam_commands.specs.declared.phase.Part.TheVariants.{Superblock, Header, Slot, File}
 use Rattle.fam_commands.specs.declared.phase.Phase.{Phase}
@@ -18,14 +18,14 @@ use Rattle.fam_commands.specs.Classes.{Class, class_of, Replays, Appends, Compar
 
 -- no slot was looked at
 pub record IsUnread (t : Inside) : Type 0 where
-  pub replay : t.replay ≡ None
+  pub replay : t.history.replay ≡ None
   pub scan : t.scan ≡ None
 
 -- i slots were looked at: replay and check are the file system's, and were told of as many
 pub record HasLooked (i : ℕ) (t : Inside) : Type 0 where
-  pub replay : IsReplayOf t.params t.gate t.replay
+  pub replay : IsReplayOf t.params t.gate t.history.replay
   pub scan : IsScanFor t.params t.gate t.scan
-  pub entries : is_fsck t.cmd ≡ false → length (entries_in t.replay) ≡ i
+  pub entries : is_fsck t.cmd ≡ false → length (entries_in t.history.replay) ≡ i
   pub slots : is_fsck t.cmd ≡ true → added_in t.scan ≡ i
 
 -- line j of the file comes next: the content is at that line, or there is room for the bytes; by the class of the command

@@ -3,6 +3,7 @@ pub mod Commands
 pub mod Contents
 pub mod ContentsInvariant
 pub mod Survey
+pub mod History
 pub mod Tells
 pub mod Rest
 pub mod Due

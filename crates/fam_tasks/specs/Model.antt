@@ -1,5 +1,4 @@
 -- What a contract sees of a task.
-use Rattle.std.specs.Prelude.{None}
 use Rattle.fam_commands.specs.Task.{Task}
 use Rattle.fam_tasks.specs.declared.task.Task.TheInside.{Inside}
 use Rattle.fam_replay.specs.Replay.{entries_in}
@@ -13,9 +12,9 @@ task_of t = record {
   lines = t.lines;
   phase = t.phase;
   params = t.params;
-  kept = None;
+  kept = t.history.kept;
   gate = t.gate;
-  entries = entries_in t.replay;
+  entries = entries_in t.history.replay;
   words = t.buffer;
   entry = t.entry;
   survey = survey_in t.scan;

@@ -1,6 +1,6 @@
 -- The rest of a line, whose first word a task has loaded or stored: the operations up to its last word, as a whole. And
 -- a line of the new file, whose words are all stored, and one that is compared, whose words are all loaded.
-use Rattle.std.specs.Prelude.{ℕ, suc, ◌≡◌, ◌+◌, ◌*◌, ◌<◌, ◌⊎◌, true, List, Option, Some, None, slice_index}
+use Rattle.std.specs.Prelude.{ℕ, suc, ◌≡◌, ◌+◌, ◌*◌, ◌<◌, ◌⊎◌, true, List, Some, None, slice_index}
 use Rattle.fam_base.specs.declared.line.LineNo.{LineNo}
 use Rattle.fam_format.specs.Layout.{slot_line}
 use Rattle.fam_format.specs.Line.{last_word, line_words}

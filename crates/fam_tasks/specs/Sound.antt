@@ -12,6 +12,7 @@ use Rattle.fam_commands.specs.declared.phase.Part.TheVariants.{Superblock, Heade
 use Rattle.fam_commands.specs.declared.phase.Phase.{Phase}
 use Rattle.fam_commands.specs.declared.phase.Phase.TheVariants as at
 use Rattle.fam_commands.specs.Task.{Task, first_line, size_of, wanted_lines}
+use Rattle.fam_commands.specs.Kept.{IsKept}
 use Rattle.fam_commands.specs.Classes.{LooksAtFile}
 use Rattle.fam_tasks.specs.Commands.{kept_of_file, slots_told}
 
@@ -96,10 +97,10 @@ IsSoundAt at.FenceSlot t = HasSpelledSlot t
 IsSoundAt at.SendGate t = ⊤
 IsSoundAt at.FenceGate t = ⊤
 
--- a task of such a command, on an image with a gate, whose host keeps nothing
+-- a task of such a command, on an image with a gate, whose host keeps nothing or a history
 pub record IsSound (t : Task) : Type 0 where
   pub command : IsSoundCmd t.cmd
   pub least : least_lines ≤ t.lines
   pub most : t.lines ≤ most_lines
   pub stands : IsSoundAt t.phase t
-  pub nothing : t.kept ≡ None
+  pub kept : IsKept t.kept

@@ -1,13 +1,14 @@
 //! A task: a command, its phase, and what it has read. Its turns stand in the files of `task/`.
 
-ghost use Rattle.std.specs.Prelude.{ℕ, ◌≡◌, ◌≢◌, ◌≤◌, ◌<◌, nat_lt, if◌then◌else◌, true, false, None, IfOk, OnErr};
+ghost use Rattle.std.specs.Prelude.{ℕ, ◌≡◌, ◌≢◌, ◌≤◌, ◌<◌, nat_lt, if◌then◌else◌, true, false, None, Some, IfOk, OnErr};
 ghost use Rattle.fam_base.specs.Commands.{IsSoundCmd};
 ghost use Rattle.fam_base.specs.declared.line.LineNo.{LineNo};
 ghost use Rattle.fam_format.specs.Layout.{least_lines};
 ghost use Rattle.fam_commands.specs.declared.phase.Part.TheVariants as part;
 ghost use Rattle.fam_commands.specs.declared.phase.Phase.TheVariants as at;
 ghost use Rattle.fam_commands.specs.Task as spec;
-ghost use Rattle.fam_commands.specs.Task.{op_of, starting};
+ghost use Rattle.fam_commands.specs.Kept.{IsKept};
+ghost use Rattle.fam_commands.specs.Task.{mounted, op_of, starting};
 ghost use Rattle.fam_commands.specs.Turns.{turn_of};
 ghost use Rattle.fam_commands.specs.Classes.{is_fsck};
 ghost use Rattle.fam_machine.specs.Operations.{IsWithin};
@@ -29,6 +30,8 @@ mod stores;
 use crate::answer::{Answer, Turn};
 use crate::buffer::Buffer;
 use crate::contents::Contents;
+use crate::history::History;
+use crate::kept::Kept;
 use crate::wanted::first_line;
 pub use due::Due;
 use fam_base::{Cmd, Content, Entry, LineNo, OutOfMemory, Params};
@@ -37,7 +40,7 @@ use fam_content::file_line;
 use fam_format::{GATE_LINE, LAST_WORD, LOG_LINE, SLOT_LINES};
 use fam_fsck::Fsck;
 use fam_machine::Op;
-use fam_replay::{Replay, Replica, line_of_slot};
+use fam_replay::{Replica, line_of_slot};
 pub use slot_lines::SlotDue;
 use std::alloc::Global;
 use std::marker::Model;
@@ -56,8 +59,8 @@ pub struct Task {
     phase: Phase,
     params: Params,
     gate: u64,
-    /// The entries of the slots that were read; a check of the whole file system has none.
-    replay: Replay,
+    /// What the host keeps, and the entries of the slots that were read; a check of the whole file system reads none.
+    history: History,
     /// A check of the whole file system, with the slots that it was shown.
     scan: Option<Fsck>,
     buffer: Buffer,
@@ -104,6 +107,40 @@ fn slot_or_decide(i: u64, end: u64) -> Phase
     }
 }
 
+/// A command before its first operation, which has read nothing.
+fn begin(alloc: Global, cmd: Cmd, me: Uuid, lines: u64, history: History) -> Task
+    requires command { IsSoundCmd cmd }
+    requires least { least_lines ≤ lines }
+    requires most { lines ≤ most_lines }
+    requires joins { IsKept history.kept }
+    requires unread { history.replay ≡ None }
+    ensures { result ≡ mounted history.kept cmd me lines }
+{
+    let none = Uuid::from_bytes([0; 16]);
+    Task {
+        alloc,
+        cmd,
+        me,
+        lines,
+        phase: Phase::DropMagic,
+        params: Params {
+            log_length: 0,
+            slots: 0,
+            unit: 0,
+            device: 0,
+            fs: none,
+            master: none,
+        },
+        gate: 0,
+        history,
+        scan: None,
+        buffer: Buffer::new(),
+        entry: None,
+        contents: Contents::new(Content::Zero),
+        room: Vec::new(alloc),
+    }
+}
+
 impl Task {
     /// A command before its first operation, on the host `me` and an image of so many lines. It takes no memory.
     pub fn new(alloc: Global, cmd: Cmd, me: Uuid, lines: u64) -> Task
@@ -113,29 +150,21 @@ impl Task {
 
         ensures { result ≡ starting cmd me lines }
     {
-        let none = Uuid::from_bytes([0; 16]);
-        Task {
-            alloc,
-            cmd,
-            me,
-            lines,
-            phase: Phase::DropMagic,
-            params: Params {
-                log_length: 0,
-                slots: 0,
-                unit: 0,
-                device: 0,
-                fs: none,
-                master: none,
-            },
-            gate: 0,
-            replay: Replay::new(alloc),
-            scan: None,
-            buffer: Buffer::new(),
-            entry: None,
-            contents: Contents::new(Content::Zero),
-            room: Vec::new(alloc),
-        }
+        begin(alloc, cmd, me, lines, History::new(alloc, None))
+    }
+
+    /// The same on a host that keeps this of the log. Where the superblock says the same as then and the gate counts no
+    /// fewer entries, the command begins with these, and reads the slots behind them alone; a check of the whole file
+    /// system uses none. What is kept stays as it is.
+    pub fn mounted(alloc: Global, cmd: Cmd, me: Uuid, lines: u64, kept: Kept) -> Task
+        requires command { IsSoundCmd cmd }
+        requires least { least_lines ≤ lines }
+        requires most { lines ≤ most_lines }
+
+        ensures { result ≡ mounted (Some kept) cmd me lines }
+    {
+        kept.each_entry_joins();
+        begin(alloc, cmd, me, lines, History::new(alloc, Some(kept)))
     }
 
     /// Takes what the host's last command kept, and keeps more for the next one: a slot that has the same words is not
@@ -143,12 +172,12 @@ impl Task {
     pub fn remember(&mut self, replica: Option<Replica>)
         ensures { self.new ≡ self.old }
     {
-        self.replay.remember(replica);
+        self.history.remember(replica);
     }
 
     /// What is kept for the host's next command, if anything is. A task that has played its tree keeps nothing.
     pub fn into_replica(self) -> Option<Replica> {
-        self.replay.into_kept()
+        self.history.into_replica()
     }
 
     /// What is known of every task: its numbers fit its phase. A call does nothing.

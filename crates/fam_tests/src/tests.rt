@@ -3,5 +3,6 @@
 mod copies;
 mod free_runs;
 mod large;
+mod mounted;
 mod random;
 mod surface;

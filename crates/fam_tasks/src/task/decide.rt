@@ -24,6 +24,7 @@ use super::{Task, done};
 use crate::answer::{Answer, TaskNote, Turn};
 use crate::commands::content_used;
 use crate::contents::Contents;
+use crate::history::History;
 use crate::replies::refusal_answer;
 use crate::survey::report_of;
 use crate::wanted::{wanted_end, wanted_start};
@@ -31,7 +32,6 @@ use fam_base::{ByteText, Cmd, Content, Entry, Kind, OutOfMemory};
 use fam_commands::{Part, Phase};
 use fam_entry::spell;
 use fam_fsck::check;
-use fam_replay::Replay;
 use fam_rules::Checked;
 use fam_tree::Tree;
 use std::alloc::Global;
@@ -95,10 +95,10 @@ fn other_length(against: &Content, size: u64) -> Option<u64>
 }
 
 /// How the tree of the entries that were found differs from a listing.
-fn checked(alloc: Global, found: &Replay, listing: &[Entry]) -> Checked
-    requires all { HasFoundAll found.now }
+fn checked(alloc: Global, found: &History, listing: &[Entry]) -> Checked
+    requires all { HasFoundAll found.now.replay }
     requires listing { IsListing listing.now }
-    ensures { result ≡ checked (replay (entries_in found.now)) listing.now }
+    ensures { result ≡ checked (replay (entries_in found.now.replay)) listing.now }
 {
     match found.tree() {
         Some(tree) => check(tree, listing),
@@ -142,8 +142,8 @@ impl Task {
         requires logplay { self.old.cmd ≡ cmd.Logplay }
         ensures { Tells (turns.decide_turn cmd.Logplay self.old) result self.new }
     {
-        let m = self.replay.count();
-        let tree = self.replay.take_tree();
+        let m = self.history.count();
+        let tree = self.history.take_tree();
         let answer = Answer::Played { m, tree };
         done(&mut self.phase, answer)
     }
@@ -158,8 +158,8 @@ impl Task {
             unreachable!();
         };
         let answer = Answer::Checked {
-            m: self.replay.count(),
-            checked: checked(self.alloc, &self.replay, listing.as_slice()),
+            m: self.history.count(),
+            checked: checked(self.alloc, &self.history, listing.as_slice()),
         };
         done(&mut self.phase, answer)
     }
@@ -185,7 +185,7 @@ impl Task {
             (turns.wish_turn self.old (wish_of self.old.cmd))) }
     {
         match self
-            .replay
+            .history
             .decide(&self.params, self.gate, &self.cmd, self.me)?
         {
             Ok(entry) => self.write(&entry),
@@ -221,8 +221,8 @@ impl Task {
         let Cmd::Verify { path, against } = &self.cmd else {
             unreachable!();
         };
-        let m = self.replay.count();
-        match file_found(self.replay.at(path), m) {
+        let m = self.history.count();
+        match file_found(self.history.at(path), m) {
             Err(answer) => Ok(done(&mut self.phase, answer)),
             Ok(entry) => match other_length(against, entry.size) {
                 None => self.verify_file(&entry),
@@ -248,7 +248,7 @@ impl Task {
         ensures want { OnErr result (WantsMemory self.old.entries (turns.verify_lines self.old entry.now)) }
     {
         if entry.size == 0 {
-            let m = self.replay.count();
+            let m = self.history.count();
             return Ok(done(&mut self.phase, Answer::Same { m }));
         }
         self.contents = Contents::new(content_used(&self.cmd)?);
@@ -272,8 +272,8 @@ impl Task {
         let Cmd::Read { path, .. } = &self.cmd else {
             unreachable!();
         };
-        let m = self.replay.count();
-        match file_found(self.replay.at(path), m) {
+        let m = self.history.count();
+        match file_found(self.history.at(path), m) {
             Err(answer) => Ok(done(&mut self.phase, answer)),
             Ok(entry) => self.read_file(&entry),
         }
@@ -294,7 +294,7 @@ impl Task {
         let end = wanted_end(&self.cmd, entry.size);
         if end <= start {
             let answer = Answer::Bytes {
-                m: self.replay.count(),
+                m: self.history.count(),
                 bytes: ByteText::new(Vec::new(self.alloc)),
             };
             return Ok(done(&mut self.phase, answer));

@@ -67,7 +67,7 @@ impl Task {
             (entry_of self.old.params self.old.words slot))) }
     {
         let words = self.buffer.slot();
-        match self.replay.read_slot(&self.params, self.gate, words)? {
+        match self.history.read_slot(&self.params, self.gate, words)? {
             Some(reason) => Ok(Some(reason)),
             None => {
                 self.buffer.clear();

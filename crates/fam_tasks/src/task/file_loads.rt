@@ -75,7 +75,7 @@ impl Task {
     {
         let size = self.file_size();
         let lines = wanted_lines(&self.cmd, size);
-        let m = self.replay.count();
+        let m = self.history.count();
         self.contents.take(size);
         match compare(found, self.contents.line(), LINE_BYTES * line, size) {
             Some((offset, found, wanted)) => {
@@ -108,7 +108,7 @@ impl Task {
             result self.new }
     {
         let lines = wanted_lines(&self.cmd, self.file_size());
-        let m = self.replay.count();
+        let m = self.history.count();
         let first = wanted_start(&self.cmd) % LINE_BYTES;
         self.buffer.push(word);
         if line + 1 < lines {

@@ -8,7 +8,10 @@ ghost use Rattle.fam_format.specs.Super.{magic_fault, super_body_of};
 ghost use Rattle.fam_commands.specs.declared.phase.Part.TheVariants as part;
 ghost use Rattle.fam_commands.specs.declared.phase.Phase.TheVariants as at;
 ghost use Rattle.fam_commands.specs.Turns as turns;
+ghost use Rattle.fam_commands.specs.Kept.{first_slot, used};
 ghost use Rattle.fam_commands.specs.Turns.{turn_of};
+ghost use Rattle.fam_replay.specs.Replay.{entries_in, IsReplayOf};
+ghost use Rattle.fam_tasks.specs.Commands.{slots_told};
 ghost use Rattle.fam_tasks.specs.declared.answer.TaskNote.TheVariants.{Mark};
 ghost use Rattle.fam_tasks.specs.declared.answer.Turn.TheVariants.{Go, Note};
 ghost use Rattle.fam_tasks.specs.Tells.{Tells, is_reading};
@@ -16,9 +19,10 @@ ghost use Rattle.fam_tasks.specs.Tells.{Tells, is_reading};
 use super::{LAST_LINE, Task, done, slot_or_decide};
 use crate::answer::{Answer, TaskNote, Turn};
 use crate::buffer::Buffer;
-use crate::commands::{appends, is_refused, slots_told};
+use crate::commands::{appends, is_fsck, is_refused, slots_told};
+use crate::history::History;
 use crate::replies::{log_answer, super_answer};
-use fam_base::Params;
+use fam_base::{Cmd, Params};
 use fam_commands::{Part, Phase};
 use fam_format::{LAST_WORD, LINE_BYTES, LINE_WORDS, SuperFault};
 use fam_replay::{read_gate, read_header, read_superblock};
@@ -33,6 +37,21 @@ fn read_body(words: &Buffer, have: u64) -> Result<Params, SuperFault>
     ensures device { IfOk result (λ p. p.device ≤ have) }
 {
     read_superblock(&words.line(0), &words.line(LINE_WORDS), have)
+}
+
+/// Begins with the entries that the host keeps, where they serve the command, and says how many these are.
+fn begin_history(history: &mut History, cmd: &Cmd, params: &Params, gate: u64) -> u64
+    requires { history.old.replay ≡ None }
+    ensures entries { entries_in history.new.replay ≡ used history.old.kept cmd.now params.now gate }
+    ensures count { result ≡ first_slot history.old.kept cmd.now params.now gate }
+    ensures within { result ≤ slots_told cmd.now params.now gate }
+    ensures fits { IsReplayOf params.now gate history.new.replay }
+    ensures kept { history.new.kept ≡ history.old.kept }
+{
+    if is_fsck(cmd) {
+        return 0;
+    }
+    history.begin(params, gate)
 }
 
 impl Task {
@@ -243,14 +262,15 @@ impl Task {
         }
     }
 
-    /// Goes on to the first slot that the gate counts, or to the decision.
+    /// Goes on to the first slot behind the entries that the host keeps, or to the decision.
     fn begin_slots(&mut self, gate: u64) -> Turn
         requires phase { self.old.phase ≡ at.Gate }
         requires within { gate ≤ self.old.params.slots }
         ensures { Tells (turns.gate_turn self.old gate None) result self.new }
     {
+        let first = begin_history(&mut self.history, &self.cmd, &self.params, gate);
         self.gate = gate;
-        self.phase = slot_or_decide(0, slots_told(&self.cmd, &self.params, gate));
+        self.phase = slot_or_decide(first, slots_told(&self.cmd, &self.params, gate));
         if appends(&self.cmd) {
             Turn::Note(TaskNote::Found(gate))
         } else {

@@ -44,7 +44,7 @@ invariant_of-self-then-line-lines c =
           wanted_line u (c.args.line + 1) sound.command (same_gate t u refl refl refl line.found) line.looks (same_proper c.self.inside.entry t u refl line.file.proper) (omega (arith, lines, ap (wanted_lines c.self.inside.cmd) size)),
           stands.1 ∙ verify_kept c.self.inside.cmd c.args.line is ∙ sym (verify_kept c.self.inside.cmd (c.args.line + 1) is),
         );
-        nothing = sound.nothing;
+        kept = sound.kept;
       };
       held = verify_held c.self.inside.cmd _ (c.args.line + 1) is (ap (λ (s : ContentsState). s.content) c.take.ensures.new ∙ holds.0) (ap (λ (s : ContentsState). s.taken) c.take.ensures.new ∙ ap (λ (n : ℕ). n + 1) holds.1);
     }

@@ -28,7 +28,7 @@ invariant_of-self-2 c =
           wanted_line _ 0 sound.command (same_gate (task_of c.self.inside) _ refl refl refl gate) (read_looks c.self.inside.cmd is) proper (some_wanted c.self.inside.cmd c.args.entry.now.size some),
           ap length c.clear.ensures ∙ sym (none_kept c.self.inside.cmd),
         );
-        nothing = sound.nothing;
+        kept = sound.kept;
       };
       held = read_held c.self.inside.cmd _ 0 is room;
     }

@@ -38,7 +38,7 @@ invariant_of-self c =
           wanted_line u (c.args.line + 1) sound.command (same_gate t u refl refl refl line.found) line.looks (same_proper c.self.inside.entry t u refl line.file.proper) (omega (arith, lines)),
           omega (arith, ap length c.push.ensures, length-append c.self.inside.buffer (c.args.word ∷ []), stands.2, read_kept c.self.inside.cmd c.args.line is, read_kept c.self.inside.cmd (c.args.line + 1) is),
         );
-        nothing = sound.nothing;
+        kept = sound.kept;
       };
       held = read_held c.self.inside.cmd _ (c.args.line + 1) is (read_holds c.self.inside.cmd c.self.inside c.args.line is held);
     }

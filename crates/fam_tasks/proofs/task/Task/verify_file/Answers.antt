@@ -27,7 +27,7 @@ invariant_of-self-2 c =
           wanted_line _ 0 sound.command (same_gate (task_of c.self.inside) _ refl refl refl gate) (verify_looks c.self.inside.cmd is) proper (verify_some c.self.inside.cmd c.args.entry.now.size is some),
           ap length c.clear.ensures ∙ sym (none_kept c.self.inside.cmd),
         );
-        nothing = sound.nothing;
+        kept = sound.kept;
       };
       held = verify_held c.self.inside.cmd _ 0 is (c.new.ensures.content ∙ c.in_ok-content_used.ensures) c.new.ensures.taken;
     }

@@ -1,0 +1,27 @@
+-- The entries that a task has: those that its host keeps, where they serve, and those of the slots that it read.
+use Rattle.std.specs.Prelude.{Bool, if◌then◌else◌, List, length, Option, Some, None, refl}
+use Rattle.std.specs.Coded.{Coded, code_by, coded×, coded_list}
+use Rattle.fam_base.specs.declared.entry.Entry.{Entry}
+use Rattle.fam_base.specs.declared.entry.Params.{Params}
+use Rattle.fam_base.specs.contracts.entry.Entry as entry_type
+use Rattle.fam_base.specs.contracts.entry.Params as params_type
+use Rattle.fam_commands.specs.Kept.{Kept}
+use Rattle.fam_replay.specs.Replica.{ReplicaState}
+
+-- what a host keeps has a code, so that it can be what contracts see
+abbrev pub kept_code : Coded Kept
+kept_code = code_by (Params × List Entry) (coded× params_type.the_row.coded (coded_list entry_type.the_row.coded)) (λ k. (k.params, k.entries)) (λ p. record { params = p.0; entries = p.1 }) (λ _. refl)
+
+-- what the host keeps, and what was read behind it: a replica from the first slot on
+pub record HistoryState : Type 0 where
+  pub kept : Option Kept
+  pub replay : Option ReplicaState
+
+-- the kept entries, as if their slots had been read
+abbrev pub all_kept : Kept → ReplicaState
+all_kept k = record { params = k.params; entries = k.entries; found = length k.entries }
+
+-- what was read so far: where the kept entries serve, these and no others
+abbrev pub read_by : Bool → Option Kept → Option ReplicaState → Option ReplicaState
+read_by serves None replay = replay
+read_by serves (Some k) replay = if serves then Some (all_kept k) else replay

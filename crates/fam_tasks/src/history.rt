@@ -1,0 +1,256 @@
+//! The entries that a task has: those that its host keeps, where they serve, and those of the slots that it read.
+//!
+//! What the host keeps is never changed. A task that reads no slot looks at it where it stands, and the first slot that
+//! is read makes a copy, behind which the task reads on.
+
+ghost use Rattle.std.specs.Prelude.{◌≡◌, ◌≤◌, ◌<◌, ℕ, [], None, Ok, Some, IfOk, IfSome, IsSome, OnErr, OnOk, false, length, true};
+ghost use Rattle.std.specs.FinMap as map;
+ghost use Rattle.fam_base.specs.Commands.{IsSoundCmd};
+ghost use Rattle.fam_base.specs.declared.entry.Params.{Params};
+ghost use Rattle.fam_commands.specs.Kept as spec;
+ghost use Rattle.fam_commands.specs.Kept.{used_by};
+ghost use Rattle.fam_format.specs.Params.{SoundParams};
+ghost use Rattle.fam_format.specs.Slot.{Proper};
+ghost use Rattle.fam_format.specs.Tree.{replay};
+ghost use Rattle.fam_plan.specs.Needs.{NeedsUnits};
+ghost use Rattle.fam_replay.specs.Replica.{JoinsNext};
+ghost use Rattle.fam_replay.specs.Replay.{entries_in, HasFoundAll, IsAgainst, IsReplayOf, IsRoomFor, ReadsNext};
+ghost use Rattle.fam_rules.specs.Decide.{decide, wish_of};
+ghost use Rattle.fam_tasks.specs.History.{all_kept, read_by};
+
+use crate::kept::Kept;
+use fam_base::{Cmd, Entry, OutOfMemory, Params, Path};
+use fam_format::{Reason, SLOT_WORDS};
+use fam_replay::{Replay, Replica};
+use fam_rules::Refused;
+use fam_tree::Tree;
+use std::alloc::Global;
+use std::marker::Model;
+use uuid::Uuid;
+
+/// What a host keeps, and what its task reads behind it.
+#[derive(Drop)]
+pub(crate) struct History {
+    alloc: Global,
+    kept: Option<Kept>,
+    /// Whether the task begins with the kept entries, and has read no slot so far.
+    serves: bool,
+    replay: Replay,
+}
+
+impl Model for History {
+    ghost use Rattle.fam_tasks.specs.History.{HistoryState, read_by};
+
+    ghost Value = { HistoryState };
+
+    ghost view = { λ h. record { kept = h.kept; replay = read_by h.serves h.kept h.replay } };
+}
+
+/// The kept entries become those of a replay, in a copy.
+fn begin_behind(alloc: Global, kept: &Option<Kept>, replay: &mut Replay) -> Result<(), OutOfMemory>
+    ensures read { OnOk result (replay.new ≡ read_by true kept.now replay.old) }
+    ensures err { OnErr result (replay.new ≡ replay.old) }
+    ensures some { OnErr result (IsSome kept.now) }
+{
+    if let Some(kept) = kept {
+        replay.begin_behind(kept.plan(alloc)?);
+    }
+    Ok(())
+}
+
+/// Leaves the kept entries where they stand: where they serve, the slots behind them are read on a copy.
+#[inline(always)]
+fn go_behind(
+    alloc: Global,
+    kept: &Option<Kept>,
+    serves: &mut bool,
+    replay: &mut Replay,
+) -> Result<(), OutOfMemory>
+    ensures read { OnOk result (replay.new ≡ read_by serves.old kept.now replay.old) }
+    ensures left { OnOk result (serves.new ≡ false) }
+    ensures replay { OnErr result (replay.new ≡ replay.old) }
+    ensures serves { OnErr result (serves.new ≡ serves.old) }
+    ensures some { OnErr result (IsSome kept.now) }
+    ensures served { OnErr result (serves.old ≡ true) }
+{
+    if !*serves {
+        return Ok(());
+    }
+    begin_behind(alloc, kept, replay)?;
+    *serves = false;
+    Ok(())
+}
+
+/// Why the words of the slot behind the kept entries add none to them, found without memory.
+fn reason_behind(
+    kept: &Option<Kept>,
+    words: &[u64; SLOT_WORDS],
+) -> Result<Option<Reason>, OutOfMemory>
+    requires { IsSome kept.now }
+    ensures reads { (k : spec.Kept) → kept.now ≡ Some k → IfOk result (λ reason.
+        ReadsNext reason k.params words.now k.entries k.entries) }
+    ensures want { (k : spec.Kept) → kept.now ≡ Some k → OnErr result (JoinsNext k.params words.now k.entries) }
+{
+    match kept {
+        Some(kept) => match kept.reason_behind(words) {
+            Ok(reason) => Ok(Some(reason)),
+            Err(full) => Err(full),
+        },
+        None => unreachable!(),
+    }
+}
+
+impl History {
+    /// Before the first slot, on a host that keeps this.
+    pub(crate) fn new(alloc: Global, kept: Option<Kept>) -> History
+        ensures kept { result.kept ≡ kept }
+        ensures unread { result.replay ≡ None }
+    {
+        History {
+            alloc,
+            kept,
+            serves: false,
+            replay: Replay::new(alloc),
+        }
+    }
+
+    /// Takes what the host's last command read, and keeps more for the next one. It changes nothing that is read.
+    pub(crate) fn remember(&mut self, replica: Option<Replica>)
+        ensures { self.new ≡ self.old }
+    {
+        self.replay.remember(replica);
+    }
+
+    /// What the host's next command may find again, if there is anything.
+    pub(crate) fn into_replica(self) -> Option<Replica> {
+        self.replay.into_kept()
+    }
+
+    /// Begins with the kept entries, where they serve, and says how many these are: the first slot that is to be read.
+    pub(crate) fn begin(&mut self, params: &Params, gate: u64) -> u64
+        requires { self.old.replay ≡ None }
+        ensures count { result ≡ length (used_by self.old.kept params.now gate) }
+        ensures entries { entries_in self.new.replay ≡ used_by self.old.kept params.now gate }
+        ensures fits { IsReplayOf params.now gate self.new.replay }
+        ensures kept { self.new.kept ≡ self.old.kept }
+    {
+        match &self.kept {
+            Some(kept) => {
+                self.serves = kept.serves(params, gate);
+                if self.serves { kept.count() } else { 0 }
+            }
+            None => 0,
+        }
+    }
+
+    /// How many entries were found.
+    pub(crate) fn count(&self) -> u64
+        ensures { result ≡ length (entries_in self.now.replay) }
+    {
+        match &self.kept {
+            Some(kept) if self.serves => kept.count(),
+            _ => self.replay.count(),
+        }
+    }
+
+    /// Reads the words of the next slot, which the gate counts: its entry joins those that were found, or the reason
+    /// against it is given. Where memory lacks for an entry that joins, what was found stays.
+    #[inline(always)]
+    pub(crate) fn read_slot(
+        &mut self,
+        params: &Params,
+        gate: u64,
+        words: &[u64; SLOT_WORDS],
+    ) -> Result<Option<Reason>, OutOfMemory>
+        requires sound { SoundParams params.now }
+        requires fits { IsReplayOf params.now gate self.old.replay }
+        requires gate { gate ≤ params.now.slots }
+        requires left { length (entries_in self.old.replay) < gate }
+
+        ensures reads { IfOk result (λ reason. ReadsNext reason params.now words.now
+            (entries_in self.old.replay) (entries_in self.new.replay)) }
+        ensures fits { IsReplayOf params.now gate self.new.replay }
+        ensures err { OnErr result (entries_in self.new.replay ≡ entries_in self.old.replay) }
+        ensures want { OnErr result (JoinsNext params.now words.now (entries_in self.old.replay)) }
+        ensures kept { self.new.kept ≡ self.old.kept }
+    {
+        if go_behind(self.alloc, &self.kept, &mut self.serves, &mut self.replay).is_err() {
+            return reason_behind(&self.kept, words);
+        }
+        self.replay.read_slot(params, gate, words)
+    }
+
+    /// What a command appends behind the entries that were found, or why nothing. Nothing else may be kept.
+    pub(crate) fn decide(
+        &mut self,
+        params: &Params,
+        gate: u64,
+        cmd: &Cmd,
+        me: Uuid,
+    ) -> Result<Result<Entry, Refused>, OutOfMemory>
+        requires sound { SoundParams params.now }
+        requires fits { IsReplayOf params.now gate self.old.replay }
+        requires all { length (entries_in self.old.replay) ≡ gate }
+        requires wish { IsSome (wish_of cmd.now) }
+
+        ensures value { IfOk result (λ decision.
+            decide params.now me (entries_in self.old.replay) cmd.now ≡ Some decision) }
+        ensures may { IsSoundCmd cmd.now → IfOk result (λ decision.
+            IfOk decision (IsRoomFor params.now (entries_in self.old.replay))) }
+        ensures same { entries_in self.new.replay ≡ entries_in self.old.replay }
+        ensures fits { IsReplayOf params.now gate self.new.replay }
+        ensures kept { self.new.kept ≡ self.old.kept }
+        ensures want { OnErr result (NeedsUnits (decide params.now me (entries_in self.old.replay) cmd.now)) }
+        ensures none { OnErr result (entries_in self.old.replay ≡ []) }
+    {
+        match &self.kept {
+            Some(kept) if self.serves => Ok(kept.decide(cmd, me)),
+            _ => self.replay.decide(params, gate, cmd, me),
+        }
+    }
+
+    /// What stands at a path, by the entries that were found. Nothing else may be kept.
+    pub(crate) fn at(&self, path: &Path) -> Option<Entry>
+        requires { HasFoundAll self.now.replay }
+        ensures value { result ≡ map.get (replay (entries_in self.now.replay)) path.now }
+        ensures proper { (p : Params) (gate : ℕ) → IsReplayOf p gate self.now.replay → IfSome result (Proper p) }
+    {
+        if !self.serves {
+            return self.replay.at(path);
+        }
+        match &self.kept {
+            Some(kept) => kept.at(path),
+            None => self.replay.at(path),
+        }
+    }
+
+    /// The tree of the entries that were found, where there are any. Nothing else may be kept.
+    pub(crate) fn tree(&self) -> Option<&Tree>
+        requires { HasFoundAll self.now.replay }
+        ensures some { IfSome result (λ tree. tree.now ≡ replay (entries_in self.now.replay)) }
+        ensures none { result ≡ None → entries_in self.now.replay ≡ [] }
+    {
+        match &self.kept {
+            Some(kept) if self.serves => Some(kept.tree()),
+            _ => self.replay.tree(),
+        }
+    }
+
+    /// The tree of the entries that were found, which the caller takes over: nothing is kept of it. Nothing else may be
+    /// kept before.
+    pub(crate) fn take_tree(&mut self) -> Tree
+        requires { HasFoundAll self.old.replay }
+        ensures tree { result ≡ replay (entries_in self.old.replay) }
+        ensures kept { self.new.kept ≡ None }
+    {
+        match self.kept.take() {
+            Some(kept) => {
+                if self.serves {
+                    return kept.into_tree();
+                }
+                self.replay.take_tree()
+            }
+            None => self.replay.take_tree(),
+        }
+    }
+}
