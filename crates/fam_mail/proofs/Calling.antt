@@ -1,7 +1,7 @@
 -- What a call makes of a world, from what its parts say.
 use Rattle.std.proofs.Common.{◌≡◌, ◌⊎◌, ◌<◌, ℕ, ◌++◌, ◌∷◌, [], List, Option, Some, None, inl, inr, refl, sym, ap, ap₂, subst, ◌∙◌}
 use Prim.Native.Nat.{zero, suc}
-use Rattle.std.specs.Prelude.{Bool, true, IfOk, OnErr, OnOk, Result, Ok, Err, is_some, slice_get}
+use Rattle.std.specs.Prelude.{Bool, true, false, IfOk, OnErr, OnOk, Result, Ok, Err, is_some, slice_get}
 use Rattle.std.proofs.lemmas.Bool.{cases_eq}
 use Rattle.std.proofs.lemmas.Option.{same_Some}
 use Rattle.fam_base.specs.declared.line.OutOfMemory.{OutOfMemory}
@@ -10,7 +10,7 @@ use Rattle.fam_machine.specs.OneLine.{IsHeld}
 use Rattle.fam_media.specs.States.{MediaChange}
 use Rattle.fam_mail.specs.declared.note.MailNote.{MailNote}
 use Rattle.fam_mail.specs.declared.note.MailRefusal.{MailRefusal}
-use Rattle.fam_mail.specs.Calls.{Changes, FinishEnds, HostFinishes, HostStays, HostFits, HostStepped, IfStepped, IsFree, Steps, WorldFits, capacity_in, host_at, idle_refusal, refusal_named, refusal_of, told_of}
+use Rattle.fam_mail.specs.Calls.{Changes, CountEnds, FinishEnds, HostCounts, HostFinishes, HostStays, HostFits, HostStepped, IfStepped, IsFree, Steps, WorldFits, capacity_in, host_at, idle_refusal, refusal_named, refusal_of, told_of}
 use Rattle.fam_mail.specs.Tasks.{Task}
 use Rattle.fam_mail.specs.World.{HostView, MailView, changed_at}
 use Rattle.fam_mail.proofs.Members.{changed_here, changed_other}
@@ -93,16 +93,65 @@ module _ (name : List ℕ) (v : MailView) (at : ℕ) (free : IsFree name idle_re
       is = ap (λ (hs : List HostView). record { entry = v.entry; hosts = hs; journal = journal }) changed;
     },
   )
-  finish_said lines told next hosts journal (Err full) finished stays changed = inr (record {
-    at = at;
-    host = h;
-    number = free.number;
-    host_is = h_is;
-    next = next;
-    journal = journal;
-    stays = stays;
-    is = ap (λ (hs : List HostView). record { entry = v.entry; hosts = hs; journal = journal }) changed;
-  })
+  finish_said lines told next hosts journal (Err full) finished stays changed = inr (
+    free_call name idle_refusal v at free,
+    record {
+      at = at;
+      host = h;
+      number = free.number;
+      host_is = h_is;
+      next = next;
+      journal = journal;
+      stays = stays;
+      is = ap (λ (hs : List HostView). record { entry = v.entry; hosts = hs; journal = journal }) changed;
+    },
+  )
+
+  -- or so many at most
+  pub count_said : (limit lines : ℕ) (told : MediaChange) (next : HostView) (hosts : List HostView) (journal : List MailNote) (r : Result Bool OutOfMemory) → HostCounts limit lines v.entry name h told next v.journal journal r
+      → hosts ≡ changed_at at (λ (x : HostView). next) v.hosts → CountEnds limit lines name told v (record { entry = v.entry; hosts = hosts; journal = journal }) (told_of r)
+  count_said limit lines told next hosts journal (Ok true) said changed = (
+    free_call name idle_refusal v at free,
+    record {
+      at = at;
+      host = h;
+      number = free.number;
+      host_is = h_is;
+      next = next;
+      journal = journal;
+      finishes = said.0;
+      is = ap (λ (hs : List HostView). record { entry = v.entry; hosts = hs; journal = journal }) changed;
+    },
+    said.1,
+  )
+  count_said limit lines told next hosts journal (Ok false) said changed = (
+    free_call name idle_refusal v at free,
+    record {
+      at = at;
+      host = h;
+      number = free.number;
+      host_is = h_is;
+      next = next;
+      journal = journal;
+      stays = said.0;
+      is = ap (λ (hs : List HostView). record { entry = v.entry; hosts = hs; journal = journal }) changed;
+    },
+    said.1,
+  )
+  count_said limit lines told next hosts journal (Err full) said changed = inr (
+    free_call name idle_refusal v at free,
+    record {
+      at = at;
+      host = h;
+      number = free.number;
+      host_is = h_is;
+      next = next;
+      journal = journal;
+      stays = said.0;
+      is = ap (λ (hs : List HostView). record { entry = v.entry; hosts = hs; journal = journal }) changed;
+    },
+    said.1,
+  )
 
 -- a note changes nothing of what fits
 pub fits_noted : (lines : ℕ) (v : MailView) (journal : List MailNote) → WorldFits lines v → WorldFits lines (record { entry = v.entry; hosts = v.hosts; journal = journal })

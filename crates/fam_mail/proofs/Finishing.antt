@@ -16,7 +16,7 @@ use Rattle.fam_mail.proofs.Members.{changed_here}
 use Rattle.fam_mail.proofs.Outcomes.{behind}
 
 -- a member that is written over twice
-changed_twice : {A : Type 0} (i : ℕ) (x y : A) (xs : List A) → changed_at i (λ (z : A). y) (changed_at i (λ (z : A). x) xs) ≡ changed_at i (λ (z : A). y) xs
+pub changed_twice : {A : Type 0} (i : ℕ) (x y : A) (xs : List A) → changed_at i (λ (z : A). y) (changed_at i (λ (z : A). x) xs) ≡ changed_at i (λ (z : A). y) xs
 changed_twice {A} i x y [] = refl
 changed_twice {A} zero x y (z ∷ zs) = refl
 changed_twice {A} (suc i) x y (z ∷ zs) = ap (λ (ws : List A). z ∷ ws) (changed_twice i x y zs)

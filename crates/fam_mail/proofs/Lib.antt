@@ -19,3 +19,12 @@ pub mod MovedOn
 pub mod Checking
 pub mod Places
 pub mod Falling
+pub mod Chaining
+pub mod Rows
+pub mod EventRows
+pub mod Fitting
+pub mod Journals
+pub mod Holding
+pub mod Following
+pub mod Happening
+pub mod RunLaws

@@ -22,13 +22,10 @@ use Rattle.fam_mail.proofs.Members.{changed_here, changed_other}
 use Rattle.fam_mail.proofs.Outcomes.{changed_alike}
 use Rattle.fam_mail.proofs.Standing.{acts, same_box}
 
-module _ (rest : ℕ → List ℕ) (name : List ℕ) (line : ℕ) (move : Move) (told : MediaChange) (old new : MailView) (past : Past) (image : Image) (lines : ℕ) (stands : Stands rest old past image)
-    (is : told.old.image ≡ Some image) (modelled : IsTold lines told.old.image) (fits : WorldFits lines old) (below : line ≤ capacity_in old) where
-  within : file_line old.entry line < length image
-  within = omega (arith, fits.place line below, modelled.count image is)
-
-  pub moved_on : MovesAt name line move told old new → StandsStill rest past told.new.image new
-  moved_on call =
+module _ (rest : ℕ → List ℕ) (name : List ℕ) (line : ℕ) (move : Move) (told : MediaChange) (old new : MailView) (past : Past) (image : Image) (stands : Stands rest old past image)
+    (is : told.old.image ≡ Some image) (normal : IsNormal told.old.image) (within : file_line old.entry line < length image) where
+  pub moves_stand : MovesAt name line move told old new → StandsStill rest past told.new.image new
+  moves_stand call =
       let l = file_line old.entry line in
       let m : Machine = machine image call.host.cache in
       let next : HostView = record call.host { cache = call.cache } in
@@ -62,8 +59,8 @@ module _ (rest : ℕ → List ℕ) (name : List ℕ) (line : ℕ) (move : Move) 
                 sym (ap (λ (o : Option HostView). run_by o (past.floors h)) (changed_other call.at h (λ (x : HostView). record call.host { cache = call.cache }) old.hosts ne)) ∙ at_is
           ]
 
-  pub failed_on : (cause : MailRefusal) → FailsAt name line move told cause old new → StandsStill rest past told.new.image new
-  failed_on cause call =
+  pub fails_stand : (cause : MailRefusal) → FailsAt name line move told cause old new → StandsStill rest past told.new.image new
+  fails_stand cause call =
       let l = file_line old.entry line in
       let m : Machine = machine image call.host.cache in
       let fails : FailsTo l (λ through memory. failed_move move through memory (cell_at call.host.cache l)) image told.new.image = call.failed image is in
@@ -77,5 +74,17 @@ module _ (rest : ℕ → List ℕ) (name : List ℕ) (line : ℕ) (move : Move) 
       } in
       let broke : move_failed move l fails.through m ≡ Some left = ap (option_map (λ (words : List ℕ). with_line l words image)) fails.left in
       let holds = moves_hold (box_in old rest) (runs_of old.hosts past.floors) (shared image old.hosts) s' past.mail stands call.at l
-      (failed_move_transfers call.at m (shared image old.hosts) s' move l fails.through left act (subst IsNormal is modelled.normal) within broke) in
+      (failed_move_transfers call.at m (shared image old.hosts) s' move l fails.through left act (subst IsNormal is normal) within broke) in
       record { image = left; told = fails.written; stands = subst (λ (v : MailView). Stands rest v past left) (sym call.is) holds }
+
+-- on a media of so many lines
+module _ (rest : ℕ → List ℕ) (name : List ℕ) (line : ℕ) (move : Move) (told : MediaChange) (old new : MailView) (past : Past) (image : Image) (lines : ℕ) (stands : Stands rest old past image)
+    (is : told.old.image ≡ Some image) (modelled : IsTold lines told.old.image) (fits : WorldFits lines old) (below : line ≤ capacity_in old) where
+  within_lines : file_line old.entry line < length image
+  within_lines = omega (arith, fits.place line below, modelled.count image is)
+
+  pub moved_on : MovesAt name line move told old new → StandsStill rest past told.new.image new
+  moved_on call = moves_stand rest name line move told old new past image stands is modelled.normal within_lines call
+
+  pub failed_on : (cause : MailRefusal) → FailsAt name line move told cause old new → StandsStill rest past told.new.image new
+  failed_on cause call = fails_stand rest name line move told old new past image stands is modelled.normal within_lines cause call

@@ -219,7 +219,7 @@ index_last_by : (t : Bool) (n len : ℕ) (here rest : Option ℕ) → cond t (So
 index_last_by true n len here rest none next = absurd cc
 index_last_by false n len here rest none next = next none ∙ ap (λ (k : ℕ). Some k) (omega arith)
 
-index_last : {A : Type 0} (test : A → Bool) (n : ℕ) (xs : List A) (y : A) → test y ≡ true → index_from n test xs ≡ None → index_from n test (xs ++ y ∷ []) ≡ Some (n + length xs)
+pub index_last : {A : Type 0} (test : A → Bool) (n : ℕ) (xs : List A) (y : A) → test y ≡ true → index_from n test xs ≡ None → index_from n test (xs ++ y ∷ []) ≡ Some (n + length xs)
 index_last test n [] y passes none = ap (λ (b : Bool). if b then Some n else None) passes ∙ ap (λ (k : ℕ). Some k) (omega arith)
 index_last test n (x ∷ xs) y passes none =
     index_last_by (test x) n (length xs) (index_from (n + 1) test (xs ++ y ∷ [])) (index_from (n + 1) test xs) none (λ rest. index_last test (n + 1) xs y passes rest)

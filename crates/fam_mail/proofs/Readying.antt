@@ -34,7 +34,7 @@ pub noted_ready : (lines : ℕ) (made : MailNote) (old : MailView) → IsReady l
 noted_ready lines made old ready = record { one = ready.one; fits = record { place = ready.fits.place; host = ready.fits.host } }
 
 -- another host in a host's place, which may post where that one may
-one_put : (n : ℕ) (host next : HostView) (hosts : List HostView) → slice_get hosts n ≡ Some host → next.writer ≡ host.writer → IsOneWriter hosts → IsOneWriter (changed_at n (λ (x : HostView). next) hosts)
+pub one_put : (n : ℕ) (host next : HostView) (hosts : List HostView) → slice_get hosts n ≡ Some host → next.writer ≡ host.writer → IsOneWriter hosts → IsOneWriter (changed_at n (λ (x : HostView). next) hosts)
 one_put n host next hosts host_is same one k h is passes = index_put is_writer 0 n host next hosts host_is same ∙ found
   where
     here : k ≡ n → h ≡ next
@@ -71,7 +71,7 @@ runs_writer lines entry name host told next later _ (goes_on {mid = mid} {now = 
     operated_writer entry name mid (record { old = now; new = later }) false next more operates ∙ runs_writer lines entry name host told mid now notes runs
 
 -- a new host's cache is empty, and it has no task
-empty_fits : (lines capacity : ℕ) (name : List ℕ) (writer : Bool) → HostFits lines capacity (new_host name writer)
+pub empty_fits : (lines capacity : ℕ) (name : List ℕ) (writer : Bool) → HostFits lines capacity (new_host name writer)
 empty_fits lines capacity name writer = record { cache = λ l held. absurd (let bad : IsHeld Absent = subst IsHeld (cell_at-empty l) held in cc); task = λ t is. absurd cc }
 
 module _ (lines : ℕ) (name : List ℕ) (old new : MailView) (ready : IsReady lines old) where

@@ -98,7 +98,7 @@ module _ (rest : ℕ → List ℕ) (v : MailView) (past : Past) (image : Image) 
   run_is : runs_of v.hosts past.floors host_no ≡ Some (record { task = t; floor = past.floors host_no })
   run_is = ap (λ (o : Option HostView). run_by o (past.floors host_no)) host_is ∙ ap (option_map (λ (x : Task). record { task = x; floor = past.floors host_no })) task_is
 
-  asks_inside : IsInImage (op_of (file_line v.entry) t) (machine image host.cache)
+  pub asks_inside : IsInImage (op_of (file_line v.entry) t) (machine image host.cache)
   asks_inside = in_image rest v past image stands host_no host host_is inside (op_of (file_line v.entry) t)
       (op_inside (box_in v rest) host_no (shared image v.hosts) past.mail stands.core (length image) inside t.phase (past.floors host_no) t (stands.tasks host_no (record { task = t; floor = past.floors host_no }) run_is).phase)
 

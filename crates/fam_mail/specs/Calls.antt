@@ -1,5 +1,6 @@
 -- What each call of a world with a mailbox makes of it, and why it is refused. docs/MODEL.md, "The mailbox".
 use Rattle.std.specs.Prelude.{ℕ, ⊤, ◌≡◌, ◌≢◌, ◌⊎◌, ◌+◌, ◌<◌, ◌≤◌, ◌++◌, ◌∷◌, Bool, true, false, nat_le, nat_lt, is_some, if◌then◌else◌, List, [], length, slice_get, Option, Some, None, Result, Ok, Err, unwrap_or, option_map}
+use Prim.Native.Nat.{suc}
 use Rattle.std.specs.FinMap as finmap
 use Rattle.fam_base.specs.Image.{Image, IsNormal}
 use Rattle.fam_base.specs.declared.entry.Entry.{Entry}
@@ -292,6 +293,11 @@ pub data HostRuns (lines : ℕ) (entry : Entry) (name : List ℕ) (host : HostVi
   goes_on : {mid next : HostView} {now later : MediaState} {notes more : List MailNote} → HostRuns lines entry name host told mid now notes → IsTold lines now.image
       → HostOperates entry name mid (record { old = now; new = later }) false next more → HostRuns lines entry name host told next later (notes ++ more)
 
+-- how many they are
+abbrev pub count_of : (lines : ℕ) (entry : Entry) (name : List ℕ) (host : HostView) (told : MediaState) (next : HostView) (later : MediaState) (notes : List MailNote) → HostRuns lines entry name host told next later notes → ℕ
+count_of lines entry name host told _ _ _ rests = 0
+count_of lines entry name host told next later _ (goes_on {mid = mid} {now = now} {notes = notes} {more = more} runs is_told operates) = suc (count_of lines entry name host told mid now notes runs)
+
 -- some, and then one with which it ends, or none where no memory was left
 pub record HostFinishes (lines : ℕ) (entry : Entry) (name : List ℕ) (host : HostView) (told : MediaChange) (next : HostView) (before after : List MailNote) : Type 0 where
   pub mid : HostView
@@ -308,6 +314,15 @@ pub record HostStays (lines : ℕ) (entry : Entry) (name : List ℕ) (host : Hos
   pub notes : List MailNote
   pub runs : HostRuns lines entry name host told.old next told.new notes
   pub noted : after ≡ before ++ notes
+
+-- so many operations at most: it ends with one of them, or has done so many and goes on, or no memory was left before
+abbrev pub HostCounts : ℕ → ℕ → Entry → List ℕ → HostView → MediaChange → HostView → List MailNote → List MailNote → Result Bool OutOfMemory → Type 0
+HostCounts limit lines entry name host told next before after (Ok true) =
+    (f : HostFinishes lines entry name host told next before after) × (count_of lines entry name host told.old f.mid f.now f.notes f.runs < limit)
+HostCounts limit lines entry name host told next before after (Ok false) =
+    (s : HostStays lines entry name host told next before after) × (count_of lines entry name host told.old next told.new s.notes s.runs ≡ limit)
+HostCounts limit lines entry name host told next before after (Err full) =
+    (s : HostStays lines entry name host told next before after) × (count_of lines entry name host told.old next told.new s.notes s.runs < limit)
 
 -- how many operations a host's task may be from its end
 abbrev pub left_in : HostView → ℕ
@@ -340,4 +355,25 @@ pub record Stays (lines : ℕ) (name : List ℕ) (told : MediaChange) (old new :
 abbrev pub FinishEnds : ℕ → List ℕ → MediaChange → MailView → MailView → Result (Unit {0}) MailFault → Type 0
 FinishEnds lines name told old new (Ok done) = (refusal_named name idle_refusal old ≡ None) × Finishes lines name told old new
 FinishEnds lines name told old new (Err (fault.Refused cause)) = IsTurnedDown name (refusal_named name idle_refusal old) cause told old new
-FinishEnds lines name told old new (Err fault.OutOfMemory) = ((new ≡ old) × (told.new ≡ told.old)) ⊎ Stays lines name told old new
+FinishEnds lines name told old new (Err fault.OutOfMemory) =
+    ((new ≡ old) × (told.new ≡ told.old)) ⊎ ((refusal_named name idle_refusal old ≡ None) × Stays lines name told old new)
+
+-- how many operations are done of a task that goes on, and before the one with which it ends
+abbrev pub stays_count : (lines : ℕ) (name : List ℕ) (told : MediaChange) (old new : MailView) → Stays lines name told old new → ℕ
+stays_count lines name told old new call = count_of lines old.entry name call.host told.old call.next told.new call.stays.notes call.stays.runs
+
+-- the same of a task that ends, but for the operation with which it does
+abbrev pub finish_count : (lines : ℕ) (name : List ℕ) (told : MediaChange) (old new : MailView) → Finishes lines name told old new → ℕ
+finish_count lines name told old new call = count_of lines old.entry name call.host told.old call.finishes.mid call.finishes.now call.finishes.notes call.finishes.runs
+
+-- a call for so many operations at most: it is refused, and the media is as it was, or the task ends with one of them, or does all,
+-- or memory ran out before
+abbrev pub CountEnds : ℕ → ℕ → List ℕ → MediaChange → MailView → MailView → Result Bool MailFault → Type 0
+CountEnds limit lines name told old new (Ok true) =
+    (refusal_named name idle_refusal old ≡ None) × (call : Finishes lines name told old new) × (finish_count lines name told old new call < limit)
+CountEnds limit lines name told old new (Ok false) =
+    (refusal_named name idle_refusal old ≡ None) × (call : Stays lines name told old new) × (stays_count lines name told old new call ≡ limit)
+CountEnds limit lines name told old new (Err (fault.Refused cause)) = IsTurnedDown name (refusal_named name idle_refusal old) cause told old new
+CountEnds limit lines name told old new (Err fault.OutOfMemory) =
+    ((new ≡ old) × (told.new ≡ told.old))
+    ⊎ ((refusal_named name idle_refusal old ≡ None) × (call : Stays lines name told old new) × (stays_count lines name told old new call < limit))

@@ -8,5 +8,10 @@ pub mod Running
 pub mod World
 pub mod Calls
 pub mod Standing
+pub mod Legal
+pub mod Machines
+pub mod Follows
+pub mod Happens
+pub mod RunLaws
 pub mod Moves
 pub mod Checks

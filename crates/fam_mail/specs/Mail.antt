@@ -33,6 +33,14 @@ dropped m = record { list = m.list; pending = None }
 abbrev pub found : ℕ → Mail → Mail
 found n m = if n == length m.list + 1 then joined m else dropped m
 
+-- a post says that record n is posted: the pending one joins where it is this one
+abbrev pub acknowledged : ℕ → Mail → Mail
+acknowledged n m = if n == length m.list then joined m else m
+
+-- so many records were taken: the pending one joins where it is the last of them
+abbrev pub shown : ℕ → Mail → Mail
+shown count m = if count == length m.list + 1 then joined m else m
+
 -- the record that a host is asked to post
 abbrev pub posted_by : Ask → Option (List ℕ)
 posted_by (Post numbers) = Some numbers
@@ -44,8 +52,8 @@ settles Go ask m = m
 settles Mark ask m = m
 settles (Found n) ask m = record (found n m) { pending = posted_by ask }
 settles (Full n) ask m = found n m
-settles (Posted n) ask m = if n == length m.list then joined m else m
-settles (Taken records) ask m = if length records == length m.list + 1 then joined m else m
+settles (Posted n) ask m = acknowledged n m
+settles (Taken records) ask m = shown (length records) m
 settles (BadBox gate capacity) ask m = m
 settles (BadRecord i word) ask m = m
 
@@ -81,10 +89,10 @@ pub record IsFront (records : List (List ℕ)) (floor : Option ℕ) (m : Mail) :
   pub within : length records ≤ length (whole m)
   pub holds : IsAtLeast floor (length records)
 
--- a record is posted: it stands last in the list that is settled then
-pub record IsPosted (n : ℕ) (ask : Ask) (m : Mail) : Type 0 where
-  pub count : length (settles (Posted n) ask m).list ≡ n + 1
-  pub last : slice_get (settles (Posted n) ask m).list n ≡ posted_by ask
+-- a task's own record is posted: it stands last in the list that is settled then
+pub record IsPosted (n : ℕ) (own : Option (List ℕ)) (m : Mail) : Type 0 where
+  pub count : length (acknowledged n m).list ≡ n + 1
+  pub last : slice_get (acknowledged n m).list n ≡ own
 
 -- what a task of a box with room for so many records may say
 abbrev pub MaySay : Turn → Ask → Option ℕ → Mail → ℕ → Type 0
@@ -92,7 +100,7 @@ MaySay Go ask floor m capacity = ⊤
 MaySay Mark ask floor m capacity = ⊤
 MaySay (Found n) ask floor m capacity = MayFind n m × (n < capacity)
 MaySay (Full n) ask floor m capacity = MayFind n m × (n ≡ capacity)
-MaySay (Posted n) ask floor m capacity = IsPosted n ask m
+MaySay (Posted n) ask floor m capacity = IsPosted n (posted_by ask) m
 MaySay (Taken records) ask floor m capacity = IsFront records floor m
 MaySay (BadBox gate most) ask floor m capacity = ⊥
 MaySay (BadRecord i word) ask floor m capacity = ⊥

@@ -5,6 +5,7 @@ ghost use Rattle.fam_rules.specs.Place.{IsProperEntry};
 ghost use Rattle.fam_mail.specs.Boxes.{capacity_of};
 ghost use Rattle.fam_mail.specs.Calls.{Begins, Declares, Halts, IfAnswered, Stops};
 
+mod events;
 mod moves;
 mod steps;
 

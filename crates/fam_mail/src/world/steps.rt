@@ -7,7 +7,7 @@ ghost use Rattle.fam_rules.specs.Place.{IsProperEntry, line_bytes};
 ghost use Rattle.fam_rules.specs.Written.{file_line};
 ghost use Rattle.fam_mail.specs.Boxes.{capacity_of};
 ghost use Rattle.std.specs.Prelude.{OnOk, false};
-ghost use Rattle.fam_mail.specs.Calls.{FinishEnds, HostFinishes, HostFits, HostStays, HostStepped, IfStepped, Steps, WorldFits, left_in, turn_notes};
+ghost use Rattle.fam_mail.specs.Calls.{CountEnds, FinishEnds, HostCounts, HostFinishes, HostFits, HostStays, HostStepped, IfStepped, Steps, WorldFits, left_in, turn_notes};
 ghost use Rattle.fam_mail.specs.Tasks.{is_over};
 ghost use Rattle.fam_mail.specs.World.{host_view};
 
@@ -151,6 +151,40 @@ fn finish_of<M: Media>(
     }
 }
 
+/// Does `count` operations of the task that a host runs, which there is, or fewer where one of them ends it, and notes what
+/// comes of them: true where the task is over. Where no memory was left those before stand.
+fn steps_of<M: Media>(
+    host: &mut Host,
+    journal: &mut Vec<MailNote>,
+    media: &mut M,
+    entry: &Entry,
+    name: &HostName,
+    count: u64,
+) -> Result<bool, OutOfMemory>
+    requires runs { is_some host.old.task ≡ true }
+    requires file { IsProperEntry entry.now }
+    requires room { line_bytes * capacity_of entry.now.size < entry.now.size }
+    requires within { (j : ℕ) → j ≤ capacity_of entry.now.size → file_line entry.now j < M.size media.old }
+    requires fits { HostFits (M.size media.old) (capacity_of entry.now.size) (host_view host.old) }
+
+    ensures counts { HostCounts count (M.size media.old) entry.now name.now (host_view host.old) (change M.state media.old media.new)
+        (host_view host.new) journal.old.items journal.new.items result }
+    ensures fits { HostFits (M.size media.new) (capacity_of entry.now.size) (host_view host.new) }
+    ensures steady { IsSteady M.size M.state media.old media.new }
+{
+    for _done in 0..count {
+        if two_rooms(journal).is_err() {
+            return Err(OutOfMemory);
+        }
+        match step_of(host, journal, media, entry, name) {
+            Ok(true) => return Ok(true),
+            Ok(false) => {}
+            Err(_) => return Err(OutOfMemory),
+        }
+    }
+    Ok(false)
+}
+
 impl MailWorld {
     /// Does one operation of a host's task, on the host's cache and the one memory, and notes what comes of it: true where
     /// the task is over. `NoHost`, or else `Idle` where it has no task. Where the media fails the task is gone.
@@ -174,6 +208,40 @@ impl MailWorld {
         };
         let entry = self.entry;
         or_fault(step_of(&mut self.hosts[at], &mut self.journal, media, &entry, name))
+    }
+
+    /// Does `count` operations of a host's task, or fewer where one of them ends it: true where the task is over. Refused as
+    /// `step`.
+    ///
+    /// On `OutOfMemory` the operations before were done, and the task may be gone on with.
+    pub fn steps<M: Media>(
+        &mut self,
+        media: &mut M,
+        name: &HostName,
+        count: u64,
+    ) -> Result<bool, MailFault>
+        requires fits { WorldFits (M.size media.old) self.old }
+
+        ensures ends { CountEnds count (M.size media.old) name.now (change M.state media.old media.new) self.old self.new result }
+        ensures fits { WorldFits (M.size media.new) self.new }
+        ensures steady { IsSteady M.size M.state media.old media.new }
+    {
+        if two_rooms(&mut self.journal).is_err() {
+            return Err(MailFault::OutOfMemory);
+        }
+        let at = match running(&self.hosts, name) {
+            Ok(at) => at,
+            Err(cause) => return Err(refused(&mut self.journal, name, cause)),
+        };
+        let entry = self.entry;
+        or_fault(steps_of(
+            &mut self.hosts[at],
+            &mut self.journal,
+            media,
+            &entry,
+            name,
+            count,
+        ))
     }
 
     /// Does operations of a host's task up to the one with which it ends. Refused as `step`.

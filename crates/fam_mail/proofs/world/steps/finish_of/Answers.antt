@@ -1,24 +1,11 @@
-use Rattle.std.proofs.Common.{◌≡◌, ℕ, Bool, true, false, List, [], ◌++◌, refl, sym, ap, subst, ◌∙◌, arith}
-use Rattle.std.proofs.lemmas.List.{append-nil, append_assoc}
-use Rattle.fam_base.specs.declared.entry.Entry.{Entry}
-use Rattle.fam_media.specs.States.{MediaState, change}
+use Rattle.std.proofs.Common.{ℕ, Bool, [], refl, sym, subst, ◌∙◌, arith}
+use Rattle.std.proofs.lemmas.List.{append-nil}
+use Rattle.fam_media.specs.States.{change}
 use Rattle.fam_mail.specs.Boxes.{capacity_of}
-use Rattle.fam_mail.specs.Calls.{HostFinishes, HostFits, HostStays, HostStepped, IsTold, goes_on, rests}
-use Rattle.fam_mail.specs.World.{HostView, host_view}
-use Rattle.fam_mail.specs.declared.note.MailNote.{MailNote}
+use Rattle.fam_mail.specs.Calls.{HostFits, HostStepped, IsTold, rests}
+use Rattle.fam_mail.specs.World.{host_view}
+use Rattle.fam_mail.proofs.Chaining.{finishes, stays_on}
 use Rattle.fam_mail.proofs.world.steps.finish_of.Goals as goal
-
--- one operation more, behind some
-module _ (lines : ℕ) (entry : Entry) (name : List ℕ) (host mid next : HostView) (first now later : MediaState) (before here room after : List MailNote) (is_told : IsTold lines now.image) (stays : HostStays lines entry name host (record { old = first; new = now }) mid before here) (same : room ≡ here) where
-  joined : (over : Bool) (stepped : HostStepped entry name mid (record { old = now; new = later }) over next room after) → after ≡ before ++ (stays.notes ++ stepped.notes)
-  joined over stepped =
-      stepped.noted ∙ ap (λ (j : List MailNote). j ++ stepped.notes) (same ∙ stays.noted) ∙ append_assoc before stays.notes stepped.notes
-
-  finishes : HostStepped entry name mid (record { old = now; new = later }) true next room after → HostFinishes lines entry name host (record { old = first; new = later }) next before after
-  finishes stepped = record { mid = mid; now = now; notes = stays.notes; runs = stays.runs; more = stepped.notes; is_told = is_told; ends = stepped.operates; noted = joined true stepped }
-
-  stays_on : HostStepped entry name mid (record { old = now; new = later }) false next room after → HostStays lines entry name host (record { old = first; new = later }) next before after
-  stays_on stepped = record { notes = stays.notes ++ stepped.notes; runs = goes_on stays.runs is_told stepped.operates; noted = joined false stepped }
 
 pub operations-init : goal.operations-init
 operations-init g c = record {
