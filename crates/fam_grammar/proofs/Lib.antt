@@ -6,3 +6,5 @@ pub mod Respelled
 pub mod StripeWords
 pub mod SoundLaw
 pub mod UuidLaw
+pub mod LinesRead
+pub mod EventLines

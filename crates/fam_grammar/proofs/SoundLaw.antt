@@ -300,7 +300,7 @@ event_sound end words = behind IsSoundEvent (word_of event_word end words) _ (λ
 
 -- Lines.
 
-abbrev IfLine : LineReading → Type 0
+abbrev IfLine : LineReading Event → Type 0
 IfLine (Ok o) = IfEvent o
 IfLine (Err column) = ⊤
 
@@ -308,7 +308,7 @@ reading_sound : (r : Reading Event) → Holds IsSoundEvent r → IfLine (event_o
 reading_sound (Reads e rest) is = is
 reading_sound (Misfit column) is = tt
 
-words_sound : (end : ℕ) (words : List Word) → IfLine (line_of_words end words)
+words_sound : (end : ℕ) (words : List Word) → IfLine (line_of_words event_line end words)
 words_sound end [] = tt
 words_sound end (w ∷ words) = by_test (is_comment w)
   where
@@ -316,10 +316,10 @@ words_sound end (w ∷ words) = by_test (is_comment w)
     by_test true = tt
     by_test false = reading_sound (event_line end (w ∷ words)) (event_sound end (w ∷ words))
 
-of_line : (r : LineReading) (o : Option Event) → IfLine r → r ≡ Ok o → IfEvent o
+of_line : (r : LineReading Event) (o : Option Event) → IfLine r → r ≡ Ok o → IfEvent o
 of_line (Ok p) o is e = let same : p ≡ o = cc in subst IfEvent same is
 of_line (Err column) o is e = absurd cc
 
 pub line_sound : (line : List ℕ) (event : Option Event) → line_reads line ≡ Ok event → IfEvent event
 unfolding line_reads
-line_sound line event is = of_line (line_of_words (length (without_return line) + 1) (words_from 1 (without_return line))) event (words_sound (length (without_return line) + 1) (words_from 1 (without_return line))) is
+line_sound line event is = of_line (line_of_words event_line (length (without_return line) + 1) (words_from 1 (without_return line))) event (words_sound (length (without_return line) + 1) (words_from 1 (without_return line))) is

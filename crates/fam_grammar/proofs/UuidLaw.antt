@@ -144,7 +144,7 @@ line_uuids end words = behind IsSoundEvent (word_of event_word end words) _ (λ 
 
 -- Lines and scripts.
 
-abbrev IfLine : LineReading → Type 0
+abbrev IfLine : LineReading Event → Type 0
 IfLine (Ok None) = ⊤
 IfLine (Ok (Some event)) = IsSoundEvent event
 IfLine (Err column) = ⊤
@@ -153,7 +153,7 @@ reading_uuids : (r : Reading Event) → Holds IsSoundEvent r → IfLine (event_o
 reading_uuids (Reads e rest) is = is
 reading_uuids (Misfit column) is = tt
 
-words_uuids : (end : ℕ) (words : List Word) → IfLine (line_of_words end words)
+words_uuids : (end : ℕ) (words : List Word) → IfLine (line_of_words event_line end words)
 words_uuids end [] = tt
 words_uuids end (w ∷ words) = by_test (is_comment w)
   where
@@ -170,15 +170,15 @@ abbrev IfEvents : Result (List Event) (ℕ × ℕ) → Type 0
 IfEvents (Ok events) = AreSound events
 IfEvents (Err bad) = ⊤
 
-with_uuids : (r : LineReading) (number : ℕ) (rest : Result (List Event) (ℕ × ℕ)) → IfLine r → IfEvents rest → IfEvents (with_line r number rest)
+with_uuids : (r : LineReading Event) (number : ℕ) (rest : Result (List Event) (ℕ × ℕ)) → IfLine r → IfEvents rest → IfEvents (with_line r number rest)
 with_uuids (Ok None) number rest one others = others
 with_uuids (Ok (Some event)) number (Ok events) one others = (one, others)
 with_uuids (Ok (Some event)) number (Err bad) one others = tt
 with_uuids (Err column) number rest one others = tt
 
-from_uuids : (number : ℕ) (lines : List (List ℕ)) → IfEvents (events_from number lines)
+from_uuids : (number : ℕ) (lines : List (List ℕ)) → IfEvents (events_from line_reads number lines)
 from_uuids number [] = tt
-from_uuids number (line ∷ lines) = with_uuids (line_reads line) number (events_from (number + 1) lines) (reads_uuids line) (from_uuids (number + 1) lines)
+from_uuids number (line ∷ lines) = with_uuids (line_reads line) number (events_from line_reads (number + 1) lines) (reads_uuids line) (from_uuids (number + 1) lines)
 
 of_events : (r : Result (List Event) (ℕ × ℕ)) (events : List Event) → IfEvents r → r ≡ Ok events → AreSound events
 of_events (Ok own) events is e = let same : own ≡ events = cc in subst AreSound same is
@@ -186,4 +186,4 @@ of_events (Err bad) events is e = absurd cc
 
 pub script_uuids : (bytes : List ℕ) (events : List Event) → script_events bytes ≡ Ok events → AreSound events
 unfolding script_events
-script_uuids bytes events is = of_events (events_from 1 (slice_split is_line_feed bytes)) events (from_uuids 1 (slice_split is_line_feed bytes)) is
+script_uuids bytes events is = of_events (events_from line_reads 1 (slice_split is_line_feed bytes)) events (from_uuids 1 (slice_split is_line_feed bytes)) is

@@ -81,7 +81,7 @@ fn first_word(words: Words<'_>) -> (Word<'_>, Words<'_>)
 
 impl<'a> Words<'a> {
     /// The next word, if there is one.
-    pub(crate) fn next(&mut self) -> Option<Word<'a>>
+    pub fn next(&mut self) -> Option<Word<'a>>
         requires short { IsShort self.old }
         ensures value { IsNext (words_left self.old) (words_left self.new) result }
         ensures short { IsShort self.new }
@@ -98,7 +98,7 @@ impl<'a> Words<'a> {
 }
 
 /// A word's value, where it is spelled so.
-pub(crate) fn fitting<T: Drop>(line: Line, column: u64, spelled: Option<T>) -> Result<T, LineFault>
+pub fn fitting<T: Drop>(line: Line, column: u64, spelled: Option<T>) -> Result<T, LineFault>
     ensures { (rest : List SharedState) → Tells line rest result (fitting_word spelled column rest) }
 {
     match spelled {
@@ -112,7 +112,7 @@ pub(crate) fn fitting<T: Drop>(line: Line, column: u64, spelled: Option<T>) -> R
 
 impl<'a> Words<'a> {
     /// The next word, which has to be there.
-    fn expected(&mut self, line: Line) -> Result<Word<'a>, LineFault>
+    pub fn expected(&mut self, line: Line) -> Result<Word<'a>, LineFault>
         requires short { IsShort self.old }
         ensures value { IsExpected line (words_left self.old) (words_left self.new) result }
         ensures short { IsShort self.new }
@@ -127,7 +127,7 @@ impl<'a> Words<'a> {
     }
 
     /// A value with no word behind it.
-    pub(crate) fn ended<T: Drop>(&mut self, line: Line, value: T) -> Result<T, LineFault>
+    pub fn ended<T: Drop>(&mut self, line: Line, value: T) -> Result<T, LineFault>
         requires short { IsShort self.old }
         ensures value { Tells line (words_left self.new) result (ends_with value (words_left self.old)) }
         ensures short { IsShort self.new }
@@ -142,7 +142,7 @@ impl<'a> Words<'a> {
     }
 
     /// A host's name.
-    pub(crate) fn name(&mut self, line: Line) -> Result<HostName, LineFault>
+    pub fn name(&mut self, line: Line) -> Result<HostName, LineFault>
         requires short { IsShort self.old }
         ensures value { Tells line (words_left self.new) result (word_of name_of line.end (words_left self.old)) }
         ensures short { IsShort self.new }
@@ -182,7 +182,7 @@ impl<'a> Words<'a> {
     }
 
     /// A number.
-    pub(crate) fn number(&mut self, line: Line) -> Result<u64, LineFault>
+    pub fn number(&mut self, line: Line) -> Result<u64, LineFault>
         requires short { IsShort self.old }
         ensures value { Tells line (words_left self.new) result (word_of number_of_text line.end (words_left self.old)) }
         ensures short { IsShort self.new }
@@ -202,7 +202,7 @@ impl<'a> Words<'a> {
     }
 
     /// The count of a step.
-    pub(crate) fn steps(&mut self, line: Line) -> Result<u64, LineFault>
+    pub fn steps(&mut self, line: Line) -> Result<u64, LineFault>
         requires short { IsShort self.old }
         ensures value { Tells line (words_left self.new) result (word_of steps_of line.end (words_left self.old)) }
         ensures short { IsShort self.new }
@@ -212,7 +212,7 @@ impl<'a> Words<'a> {
     }
 
     /// A mask of a line's words.
-    pub(crate) fn mask(&mut self, line: Line) -> Result<u8, LineFault>
+    pub fn mask(&mut self, line: Line) -> Result<u8, LineFault>
         requires short { IsShort self.old }
         ensures value { Tells line (words_left self.new) result (word_of mask_of line.end (words_left self.old)) }
         ensures short { IsShort self.new }

@@ -16,9 +16,11 @@ mod script;
 mod spellings;
 mod words;
 
+pub use cursor::fitting;
 pub use defaults::{DEFAULT_LOG, DEFAULT_UNIT, DIRECTORY_MODE, FILE_MODE};
 pub use fault::LineFault;
 pub use laws::{uuids_of_a_script_are_uuids, what_reads_is_sound};
 pub use numbers::{number, size};
-pub use script::read_line;
+pub use script::{read_line, words_of};
 pub use spellings::{count_of, id_of, mode_of};
+pub use words::{Line, Word, Words};

@@ -1,8 +1,8 @@
 //! A line of a script as an event. `specs/Scripts.antt` has the line and the script as a whole.
 
-ghost use Rattle.std.specs.Prelude.{◌≡◌, ◌≤◌, ◌<◌, ◌^◌, ◌==◌, length, slice_index, Ok, IfOk, IfErr};
+ghost use Rattle.std.specs.Prelude.{◌≡◌, ◌≤◌, ◌<◌, ◌^◌, ◌==◌, length, slice_index, Ok, None, IfOk, IfErr, IfSome};
 ghost use Rattle.fam_grammar.specs.Cursor.{words_left, IsShort};
-ghost use Rattle.fam_grammar.specs.Scripts.{line_reads, IsBadLine};
+ghost use Rattle.fam_grammar.specs.Scripts.{line_reads, AreEvent, AreNoEvent, IsBadLine, end_of_line, words_in};
 ghost use Rattle.fam_grammar.specs.Words.{without_return};
 
 use crate::events::event;
@@ -32,6 +32,30 @@ fn is_comment(word: &[u8]) -> bool
     }
 }
 
+/// The words of a line of a script, given without its line feed; `None` for a line without words, or whose first word
+/// begins with `#`. `number` is the line's, counted from 1.
+pub fn words_of(bytes: &[u8], number: u64) -> Option<(Words<'_>, Line)>
+    ensures none { result ≡ None → AreNoEvent (words_in bytes.now) }
+    ensures words { IfSome result (λ found. AreEvent (words_in bytes.now) × (words_left found.0 ≡ words_in bytes.now)) }
+    ensures line { IfSome result (λ found. found.1 ≡ record { number = number; end = end_of_line bytes.now }) }
+    ensures short { IfSome result (λ found. IsShort found.0) }
+{
+    let text = without_return(bytes);
+    let line = Line {
+        number,
+        end: text.len() as u64 + 1,
+    };
+    let words = Words {
+        column: 1,
+        bytes: text,
+    };
+    let mut ahead = words;
+    match ahead.next() {
+        Some(first) if !is_comment(first.text) => Some((words, line)),
+        _ => None,
+    }
+}
+
 /// The event of a line of a script, given without its line feed; `None` for a line without words, or whose first word
 /// begins with `#`. `number` is the line's, counted from 1; a bad line is named by it. Only the name of a file takes
 /// memory.
@@ -40,21 +64,8 @@ pub fn read_line(alloc: Global, bytes: &[u8], number: u64) -> Result<Option<Even
     ensures value { IfOk result (λ event. line_reads bytes.now ≡ Ok event) }
     ensures bad { IfErr result (IsBadLine number (line_reads bytes.now)) }
 {
-    let text = without_return(bytes);
-    let line = Line {
-        number,
-        end: text.len() as u64 + 1,
-    };
-    let mut words = Words {
-        column: 1,
-        bytes: text,
-    };
-    let mut ahead = words;
-    let Some(first) = ahead.next() else {
+    let Some((mut words, line)) = words_of(bytes, number) else {
         return Ok(None);
     };
-    if is_comment(first.text) {
-        return Ok(None);
-    }
     Ok(Some(event(alloc, &mut words, line)?))
 }

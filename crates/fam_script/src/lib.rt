@@ -25,9 +25,11 @@ pub use counts::{Counts, count_notes};
 pub use fam_grammar::{LineFault, read_line};
 pub use fam_journal::{Ask, Event};
 pub use laws::a_printed_command_reads_as_itself;
-pub use lines::{line, line_of, line_with_last_name};
+pub use lines::{line, line_of, line_with, line_with_last_name};
 pub use notes::{note_text, print_note};
 pub use refusals::refusal_line;
 pub use reports::is_sound;
-pub use statuses::{is_good, last_status, last_stops, note_status, note_stops, parents_status};
+pub use statuses::{
+    is_done, is_good, last_status, last_stops, note_status, note_stops, parents_status,
+};
 pub use texts::{note_line, shown, storm_line, text_crc};

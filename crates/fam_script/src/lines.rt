@@ -29,7 +29,7 @@ pub fn line_of(alloc: Global, made: Result<String, AllocError>) -> Result<Vec<u8
 }
 
 /// The line of a text with bytes in it, which are printed as they are.
-pub(crate) fn line_with(alloc: Global, prefix: &str, bytes: &[u8]) -> Result<Vec<u8>, OutOfMemory>
+pub fn line_with(alloc: Global, prefix: &str, bytes: &[u8]) -> Result<Vec<u8>, OutOfMemory>
     ensures { IfOk result (λ made. made.items ≡ text.line (prefix.now ++ bytes.now)) }
 {
     let mut text = Vec::new(alloc);

@@ -152,7 +152,7 @@ pub fn note_stops(note: &Note) -> bool
 }
 
 /// A status is that of success.
-fn is_done(status: Status) -> bool
+pub fn is_done(status: Status) -> bool
     ensures { result ≡ spec.is_done status }
 {
     match status {

@@ -146,8 +146,8 @@ event_of first rest e good plain reads =
     let line : List ℕ = line_text (first ∷ rest) in
     let end : ℕ = length line + 1 in (
       e,
-      ap (λ (l : List ℕ). line_of_words (length l + 1) (words_from 1 l)) (kept line (no_return (first ∷ rest) good))
-          ∙ ap (line_of_words end) (joined_words 1 (first ∷ rest) (are_words (first ∷ rest) good))
+      ap (λ (l : List ℕ). line_of_words event_line (length l + 1) (words_from 1 l)) (kept line (no_return (first ∷ rest) good))
+          ∙ ap (line_of_words event_line end) (joined_words 1 (first ∷ rest) (are_words (first ∷ rest) good))
           ∙ ap (λ (t : Bool). cond t (Ok None) (event_or_column (event_line end (placed 1 (first ∷ rest))))) plain
           ∙ ap event_or_column (reads end),
     )

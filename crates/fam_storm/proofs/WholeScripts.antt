@@ -28,7 +28,7 @@ cut_lines (words ∷ lines) are =
     ∙ ap (λ (l : List (List ℕ)). line_text words ∷ l) (cut_lines lines are.1)
 
 -- what is behind the last line feed is no event
-nothing_left : (n : ℕ) → events_from n ([] ∷ []) ≡ Ok []
+nothing_left : (n : ℕ) → events_from line_reads n ([] ∷ []) ≡ Ok []
 unfolding line_reads
 nothing_left n = refl
 
@@ -40,13 +40,13 @@ record ReadsQuietly (count : ℕ) (said : Result (List Event) (ℕ × ℕ)) : Ty
   sources : ReadNoSource events
 
 -- the events of lines
-read_lines : (n : ℕ) (lines : List Words) → AreEvents lines → ReadsQuietly (length lines) (events_from n (map line_text lines ++ [] ∷ []))
+read_lines : (n : ℕ) (lines : List Words) → AreEvents lines → ReadsQuietly (length lines) (events_from line_reads n (map line_text lines ++ [] ∷ []))
 read_lines n [] are = record { events = []; said_is = nothing_left n; many = refl; sources = All-nil (λ (event : Event). event_source event ≡ None) }
 read_lines n (words ∷ lines) are =
     let more = read_lines (n + 1) lines are.1 in
     record {
       events = are.0.event.0 ∷ more.events;
-      said_is = ap₂ (λ (said : LineReading) (rest : Result (List Event) (ℕ × ℕ)). with_line said n rest) are.0.event.1 more.said_is;
+      said_is = ap₂ (λ (said : LineReading Event) (rest : Result (List Event) (ℕ × ℕ)). with_line said n rest) are.0.event.1 more.said_is;
       many = ap suc more.many;
       sources = All-cons (λ (event : Event). event_source event ≡ None) are.0.event.0 more.events are.0.source more.sources;
     }
@@ -56,7 +56,7 @@ unfolding script_events storm
 read_storm seed size few =
     let are = whole_events seed size few in
     let read = read_lines 1 (storm_lines seed size) are in
-    record { events = read.events; said_is = ap (events_from 1) (cut_lines (storm_lines seed size) are) ∙ read.said_is; many = read.many; sources = read.sources }
+    record { events = read.events; said_is = ap (events_from line_reads 1) (cut_lines (storm_lines seed size) are) ∙ read.said_is; many = read.many; sources = read.sources }
 
 pub whole_storm : (seed size : ℕ) → size ≤ 100000 → IsSoManyEvents (length (storm_lines seed size)) (script_events (storm seed size))
 whole_storm seed size few = let read = read_storm seed size few in (read.events, read.said_is, read.many)
