@@ -4,3 +4,4 @@ pub mod Happens
 pub mod Begins
 pub mod Steps
 pub mod Rested
+pub mod Untouched

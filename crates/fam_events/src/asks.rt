@@ -132,6 +132,8 @@ pub(crate) fn ask<S: Shelf>(
         told faults (S.state shelf.old).files copied.old copied.new) result }
     ensures unstored { IfOk result (λ asked. asked ≡ Begun → IsRested world.old
         → IsUnstoredOf name.now world.old world.new) }
+    ensures free { IfOk result (λ asked. asked ≡ Begun
+        → (cmd : Command) → refusal_in (Begins name.now cmd) world.old lines ≡ None) }
     ensures steady { IsShelfSteady (S.state shelf.old) (S.state shelf.new) }
 {
     match world.may_begin(lines, name) {

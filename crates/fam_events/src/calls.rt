@@ -11,6 +11,7 @@ ghost use Rattle.fam_media.specs.Files.{Files};
 ghost use Rattle.fam_media.specs.Outside.{IfModelled};
 ghost use Rattle.fam_events.specs.WorldChange.{world_change, still};
 ghost use Rattle.fam_events.specs.Calls.{CallSays, make_outcome, outcome};
+ghost use Rattle.fam_world.specs.Answers.{IsUntouched};
 
 use crate::fault::EventFault;
 use fam_base::{HostName, LineNo, Mask};
@@ -85,6 +86,7 @@ pub(crate) fn make<M: Media>(
     requires fits { FitsMedia (M.size media.old) world.old.hosts }
     ensures says { (files : Option Files) (copied : ℕ) → CallSays (Makes name.now request) (world_change M.size M.state
         media.old media.new world.old world.new files copied copied) result }
+    ensures untouched { IsUntouched (Makes name.now request) (M.size media.old) world.old media.old media.new }
     ensures size { M.size media.new ≡ M.size media.old }
 {
     let MkfsRequest {
@@ -110,6 +112,7 @@ pub(crate) fn finish<M: Media>(
         media.old media.new world.old world.new files copied copied) result }
     ensures same { OnErr result ((h : ℕ) → number_in name.now world.old ≡ Some h → IsUnstoredAt h world.old
         → IfModelled (M.state media.old).image (λ image. (M.state media.new).image ≡ Some image)) }
+    ensures untouched { IsUntouched (Finishes name.now) (M.size media.old) world.old media.old media.new }
     ensures size { M.size media.new ≡ M.size media.old }
 {
     noted(world.finish(media, name))
@@ -126,6 +129,7 @@ pub(crate) fn evict<M: Media>(
     requires fits { FitsMedia (M.size media.old) world.old.hosts }
     ensures says { (files : Option Files) (copied : ℕ) → CallSays (Moves name.now line.0 how.Evict) (world_change M.size M.state
         media.old media.new world.old world.new files copied copied) result }
+    ensures untouched { IsUntouched (Moves name.now line.0 how.Evict) (M.size media.old) world.old media.old media.new }
     ensures size { M.size media.new ≡ M.size media.old }
 {
     noted(world.evict(media, name, line))
@@ -143,6 +147,7 @@ pub(crate) fn leak<M: Media>(
     requires fits { FitsMedia (M.size media.old) world.old.hosts }
     ensures says { (files : Option Files) (copied : ℕ) → CallSays (Moves name.now line.0 (how.Leak mask.0)) (world_change M.size M.state
         media.old media.new world.old world.new files copied copied) result }
+    ensures untouched { IsUntouched (Moves name.now line.0 (how.Leak mask.0)) (M.size media.old) world.old media.old media.new }
     ensures size { M.size media.new ≡ M.size media.old }
 {
     noted(world.leak(media, name, line, mask))
@@ -160,6 +165,7 @@ pub(crate) fn fetch<M: Media>(
     requires fits { FitsMedia (M.size media.old) world.old.hosts }
     ensures says { (files : Option Files) (copied : ℕ) → CallSays (Moves name.now line.0 (how.Fetch mask.0)) (world_change M.size M.state
         media.old media.new world.old world.new files copied copied) result }
+    ensures untouched { IsUntouched (Moves name.now line.0 (how.Fetch mask.0)) (M.size media.old) world.old media.old media.new }
     ensures size { M.size media.new ≡ M.size media.old }
 {
     noted(world.fetch(media, name, line, mask))

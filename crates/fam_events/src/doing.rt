@@ -12,6 +12,7 @@ ghost use Rattle.fam_media.specs.States.{change};
 ghost use Rattle.fam_events.specs.WorldChange.{world_change};
 ghost use Rattle.fam_events.specs.Happens.{EventSays};
 ghost use Rattle.fam_events.specs.Rested.{IsRested, IsRun};
+ghost use Rattle.fam_events.specs.Untouched.{IsUntouchedBy};
 
 use crate::asks::{Asked, ask};
 use crate::calls::{declare, evict, fetch, finish, halt, leak, make, stop};
@@ -65,6 +66,7 @@ fn run<M: Media, S: Shelf>(
         (world_change M.size M.state media.old media.new world.old world.new (S.state shelf.old).files copied.old copied.new) result }
     ensures same { OnErr result (IsRested world.old
         → IfModelled (M.state media.old).image (λ image. (M.state media.new).image ≡ Some image)) }
+    ensures untouched { IsUntouchedBy (event.Run name what) (M.size media.old) world.old media.old media.new }
     ensures size { M.size media.new ≡ M.size media.old }
     ensures steady { IsShelfSteady (S.state shelf.old) (S.state shelf.new) }
 {
@@ -98,6 +100,9 @@ pub fn happen<M: Media, S: Shelf>(
     // A run that ends early leaves the image as it was, where no cache had anything to send.
     ensures same { IsRun event → OnErr result (IsRested world.old
         → IfModelled (M.state media.old).image (λ image. (M.state media.new).image ≡ Some image)) }
+
+    // An event that the world alone refuses, and one that speaks of no line, asks nothing of the media.
+    ensures untouched { IsUntouchedBy event (M.size media.old) world.old media.old media.new }
 
     ensures size { M.size media.new ≡ M.size media.old }
     ensures steady { IsShelfSteady (S.state shelf.old) (S.state shelf.new) }

@@ -4,6 +4,8 @@ ghost use Rattle.std.specs.Prelude.{◌≡◌, ◌<◌, ℕ, Option};
 ghost use Rattle.fam_base.specs.Image.{Image};
 ghost use Rattle.fam_journal.specs.declared.event.Event.TheVariants.{Step};
 ghost use Rattle.fam_journal.specs.CallRecords.{FitsMedia};
+ghost use Rattle.fam_journal.specs.Calls.{Steps};
+ghost use Rattle.fam_world.specs.Answers.{IsUntouched};
 ghost use Rattle.fam_journal.specs.Forms.{IsFormed};
 ghost use Rattle.fam_media.specs.Files.{Files};
 ghost use Rattle.fam_media.specs.States.{ShelfChange};
@@ -27,6 +29,7 @@ pub(crate) fn step<M: Media>(
     requires fits { FitsMedia (M.size media.old) world.old.hosts }
     ensures says { (shelf : ShelfChange) (files : Option Files) (copied : ℕ) → EventSays (Step name.now count) shelf
         (world_change M.size M.state media.old media.new world.old world.new files copied copied) result }
+    ensures untouched { IsUntouched (Steps name.now) (M.size media.old) world.old media.old media.new }
     ensures size { M.size media.new ≡ M.size media.old }
 {
     match world.steps(media, name, count) {

@@ -40,8 +40,8 @@ pub record DoesRow (start : Image) (told : Option Image) (does : List Note → M
   pub joined : new.journal ≡ old.journal ++ notes
   pub held : Held start state new state.memory
 
--- the media failed in a mkfs: the same, but the world isn't held any more. It stands for the state behind it: the maker's
--- cache, and every other host as before
+-- the media failed in a mkfs: the same, but that the world is held is no longer said. It stands for the state behind it: the
+-- maker's cache, and every other host as before
 pub record LeavesBroken (start : Image) (told : Option Image) (does : List Note → Machines → Type 0) (old new : WorldView) : Type 0 where
   pub state : Machines
   pub notes : List Note

@@ -112,7 +112,7 @@ pub record Kept (start : Image) (state : Machines) (journal : List Note) : Type 
   pub uuids : (k : ℕ) (host : HostState) → slice_get state.hosts k ≡ Some host → IsUuid host.uuid
 
 -- a world is held, at a state of the machine whose memory is the image: it stands for the state; its journal is legal; and
--- what the protocol keeps holds. A call that was cut gives none
+-- what the protocol keeps holds. A mkfs that a media fault cut is not said to leave it so
 pub record Held (start : Image) (state : Machines) (world : WorldView) (image : Image) : Type 0 where
   pub memory : state.memory ≡ image
   pub stands : WorldStands (length start) state world

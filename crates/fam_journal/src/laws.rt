@@ -59,7 +59,7 @@ pub fn a_row_keeps_what_is_held()
         → WorldStands (length start) left new → new.journal ≡ old.journal ++ notes
         → Held start left new left.memory }
 
-    // Where the media fails in a mkfs the world isn't held any more, and the journal is legal.
+    // Where the media fails in a mkfs the journal is legal, and that the world is held is no longer said.
     ensures cut { (start : Image) (state left : Machines) (old : WorldView) (call : Call) (notes : List Note)
         → Held start state old state.memory → BreaksOff call state notes left
         → Legal start (old.journal ++ notes) }

@@ -18,7 +18,7 @@ use Rattle.fam_commands.specs.Turns.{Goes, turn_of}
 use Rattle.fam_media.specs.Causes.{Rose}
 use Rattle.fam_media.specs.Outside.{IfModelled}
 use Rattle.fam_tasks.specs.Sound.{IsSound}
-use Rattle.fam_run.specs.Led.{HasBrokenOff, LeavesMemory, Led}
+use Rattle.fam_run.specs.Led.{HasBrokenOff, KeepsMemory, Led}
 use Rattle.fam_run.proofs.Cached.{tells_go}
 
 module _ (line : LineNo) (t : Task) (modelled : Option Image) (old : Cache) (sound : IsSound t) (op : op_of t ≡ Load line 0) (small : line.0 < t.lines) (absent : cell_at old line.0 ≡ Absent) where
@@ -40,7 +40,7 @@ module _ (line : LineNo) (t : Task) (modelled : Option Image) (old : Cache) (sou
   }
 
   -- the copy is there, with these words
-  pub brings : (words : List ℕ) (begun : Task) → turn_of t (Some (slice_index words 0)) ≡ Goes begun → IfModelled modelled (λ image. eight words ≡ line_at image line.0) → LeavesMemory modelled t old begun (with_cell line.0 (Clean (eight words)) old)
+  pub brings : (words : List ℕ) (begun : Task) → turn_of t (Some (slice_index words 0)) ≡ Goes begun → IfModelled modelled (λ image. eight words ≡ line_at image line.0) → KeepsMemory modelled t old begun (with_cell line.0 (Clean (eight words)) old)
   brings words begun turn from =
       let full : Cache = with_cell line.0 (Clean (eight words)) old in
       let full_cell : cell_at full line.0 ≡ Clean (eight words) = cell_at-with_cell_same line.0 (Clean (eight words)) old in

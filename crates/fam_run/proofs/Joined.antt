@@ -8,7 +8,7 @@ use Rattle.fam_commands.specs.Task.{Task}
 use Rattle.fam_media.specs.Causes.{Rose}
 use Rattle.fam_media.specs.Outside.{IfModelled}
 use Rattle.fam_tasks.specs.declared.answer.Turn.TheVariants.{Go}
-use Rattle.fam_run.specs.Led.{HasBrokenOff, HasDone, LeavesMemory, Led, none, more}
+use Rattle.fam_run.specs.Led.{HasBrokenOff, HasDone, KeepsMemory, Led, none, more}
 use Rattle.fam_run.specs.Operation.{HasTurned}
 use Rattle.fam_run.specs.TaskChange.{TaskChange}
 
@@ -18,7 +18,7 @@ led_both modelled t mid _ held now _ first none = first
 led_both modelled t mid next held now after first (more {mid = u} {now = v} before quiet) = more (led_both modelled t mid u held now v first before) quiet
 
 -- one that was done, behind which the task just goes on, is one of them
-done_quiet : (a : TaskChange) → a.media.new.image ≡ a.media.old.image → (done : HasDone a Go) → LeavesMemory a.media.old.image done.task done.held a.next a.new
+done_quiet : (a : TaskChange) → a.media.new.image ≡ a.media.old.image → (done : HasDone a Go) → KeepsMemory a.media.old.image done.task done.held a.next a.new
 done_quiet a same done = record {
   sound = done.sound;
   within = done.within;
@@ -27,7 +27,7 @@ done_quiet a same done = record {
   turned = subst (λ (left : Option Image). IfModelled a.media.old.image (λ image. HasTurned done.task (machine image done.held) Go a.next left a.new)) same done.turned;
 }
 
-quiet_done : (a : TaskChange) → a.media.new.image ≡ a.media.old.image → (task : Task) (held : Cache) → Led a.media.old.image a.task a.old task held → LeavesMemory a.media.old.image task held a.next a.new → HasDone a Go
+quiet_done : (a : TaskChange) → a.media.new.image ≡ a.media.old.image → (task : Task) (held : Cache) → Led a.media.old.image a.task a.old task held → KeepsMemory a.media.old.image task held a.next a.new → HasDone a Go
 quiet_done a same task held led quiet = record {
   task = task;
   held = held;
@@ -45,7 +45,7 @@ done_led a same done = more done.led (done_quiet a same done)
 
 module _ (modelled shown : Option Image) (same : shown ≡ modelled) (size before now : ℕ) where
   -- of one and those behind it the last one was done
-  pub led_done : (t task mid next : Task) (old held here new : Cache) → Led modelled t old task held → LeavesMemory modelled task held mid here → Led modelled mid here next new → HasDone (record { task = t; next = next; old = old; new = new; lines = size; media = record { old = record { image = modelled; faults = before }; new = record { image = shown; faults = now } } }) Go
+  pub led_done : (t task mid next : Task) (old held here new : Cache) → Led modelled t old task held → KeepsMemory modelled task held mid here → Led modelled mid here next new → HasDone (record { task = t; next = next; old = old; new = new; lines = size; media = record { old = record { image = modelled; faults = before }; new = record { image = shown; faults = now } } }) Go
   led_done t task mid _ old held here _ led quiet none =
       quiet_done (record { task = t; next = mid; old = old; new = here; lines = size; media = record { old = record { image = modelled; faults = before }; new = record { image = shown; faults = now } } }) same task held led quiet
   led_done t task mid next old held here new led quiet (more {mid = u} {now = v} others last) =

@@ -20,7 +20,7 @@ use Rattle.fam_tasks.specs.Rest.{ComparesLine}
 use Rattle.fam_tasks.specs.Sound.{IsSound}
 use Rattle.fam_tasks.specs.Tells.{Tells}
 use Rattle.fam_run.specs.Cached.{IsCached, cached_after}
-use Rattle.fam_run.specs.Led.{HasDone, LeavesMemory, Led, more}
+use Rattle.fam_run.specs.Led.{HasDone, KeepsMemory, Led, more}
 use Rattle.fam_run.proofs.Cached.{given_held, cached_leaves, loads_held, machine_after}
 use Rattle.fam_run.proofs.Renewed.{led_dropped, renews, without}
 use Rattle.fam_run.proofs.Running.{no_fault}
@@ -39,7 +39,7 @@ module _ (line : LineNo) (words : List ℕ) (t next : Task) (said : Turn) (model
   full_cell : cell_at full line.0 ≡ Clean (eight words)
   full_cell = cell_at-with_cell_same line.0 (Clean (eight words)) old
 
-  begins : LeavesMemory modelled compares.dropped (without line old) compares.begun full
+  begins : KeepsMemory modelled compares.dropped (without line old) compares.begun full
   begins = renews line t compares.dropped modelled old normal sound compares.drops clean compares.dropped_sound words compares.begun compares.begins from
 
   there : IsHeld (cell_at full line.0)

@@ -30,7 +30,7 @@ use Rattle.fam_tasks.specs.declared.answer.Turn.TheVariants.{Go}
 use Rattle.fam_tasks.specs.Rest as rest
 use Rattle.fam_tasks.specs.Rest.{IsFileLineDue, Stores, StoresFileLine}
 use Rattle.fam_tasks.specs.Tells.{Tells}
-use Rattle.fam_run.specs.Places.{HasPlaces, HasPlacesAt, IsReadyAt, PlacesKept, PlacesMade}
+use Rattle.fam_run.specs.Places.{HasPlaces, HasPlacesAt, IsReadyAt, PlacesKept, PlacesMade, ReadyPlacesKept}
 use Rattle.fam_run.specs.Operation.{ended}
 use Rattle.fam_run.specs.Cached as run
 use Rattle.fam_run.specs.Cached.{CachedRun, IsCached, cached_after}
@@ -169,6 +169,12 @@ digest_at at.FenceGate t cache is has = absurd cc
 
 pub digest_none : (t : Task) (cache : CacheState) → op_of t ≡ Digest → ¬ (HasPlaces t cache)
 digest_none t cache is has = digest_at t.phase t cache is has
+
+-- so of what comes of a Digest: it is no append's with its places
+pub digest_places : (t : Task) (cache : CacheState) (next : Task) (after : CacheState) (r : Result Turn OperationFault) → op_of t ≡ Digest → ReadyPlacesKept t cache next after r
+digest_places t cache next after (Ok turn) is = λ on has. absurd (digest_none t cache is has)
+digest_places t cache next after (Err (fault.MediaFault line)) is = tt
+digest_places t cache next after (Err fault.OutOfMemory) is = digest_none t cache is
 
 -- a task in a phase that has none
 pub none_in : (p : Phase) (t : Task) (cache : CacheState) → t.phase ≡ p → ¬ (HasPlacesAt p t cache) → ¬ (HasPlaces t cache)

@@ -13,7 +13,7 @@ use Rattle.fam_media.specs.Causes.{Rose}
 use Rattle.fam_media.specs.Outside.{IfModelled}
 use Rattle.fam_tasks.specs.Rest.{DropsLine}
 use Rattle.fam_tasks.specs.Sound.{IsSound}
-use Rattle.fam_run.specs.Led.{HasBrokenOff, LeavesMemory, Led, none}
+use Rattle.fam_run.specs.Led.{HasBrokenOff, KeepsMemory, Led, none}
 use Rattle.fam_run.proofs.Brought.{brings, not_brought}
 use Rattle.fam_run.proofs.Cached.{drop_held}
 use Rattle.fam_run.proofs.Stored.{cached_led}
@@ -37,7 +37,7 @@ module _ (line : LineNo) (t dropped : Task) (modelled : Option Image) (old : Cac
   line_unread dropped_sound = not_brought line dropped modelled (without line old) dropped_sound drops.loads dropped_small none_there t old led_dropped
 
   -- its words are read
-  pub renews : (dropped_sound : IsSound dropped) (words : List ℕ) (begun : Task) → turn_of dropped (Some (slice_index words 0)) ≡ Goes begun → IfModelled modelled (λ image. eight words ≡ line_at image line.0) → LeavesMemory modelled dropped (without line old) begun (with_cell line.0 (Clean (eight words)) old)
+  pub renews : (dropped_sound : IsSound dropped) (words : List ℕ) (begun : Task) → turn_of dropped (Some (slice_index words 0)) ≡ Goes begun → IfModelled modelled (λ image. eight words ≡ line_at image line.0) → KeepsMemory modelled dropped (without line old) begun (with_cell line.0 (Clean (eight words)) old)
   renews dropped_sound words begun turn from =
-      subst (λ (c : Cache). LeavesMemory modelled dropped (without line old) begun c) (with_cell_twice line.0 Absent (Clean (eight words)) old)
+      subst (λ (c : Cache). KeepsMemory modelled dropped (without line old) begun c) (with_cell_twice line.0 Absent (Clean (eight words)) old)
       (brings line dropped modelled (without line old) dropped_sound drops.loads dropped_small none_there words begun turn from)

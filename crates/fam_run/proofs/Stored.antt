@@ -26,7 +26,7 @@ use Rattle.fam_tasks.specs.Sound.{IsSound}
 use Rattle.fam_tasks.specs.Tells.{Tells}
 use Rattle.fam_run.specs.Cached.{CachedRun}
 use Rattle.fam_run.specs.Cached as held
-use Rattle.fam_run.specs.Led.{HasBrokenOff, HasDone, LeavesMemory, Led, none, more}
+use Rattle.fam_run.specs.Led.{HasBrokenOff, HasDone, KeepsMemory, Led, none, more}
 use Rattle.fam_run.specs.TaskChange.{TaskChange}
 use Rattle.fam_run.proofs.Cached.{cached_goes, cached_leaves, cached_turned, stores_held, tells_go}
 
@@ -59,7 +59,7 @@ module _ (line : LineNo) (words : List ℕ) (t u : Task) (modelled : Option Imag
   full = with_cell line.0 (Dirty false (eight words)) old
 
   -- the first word is stored
-  begins : LeavesMemory modelled t old stores.begun first
+  begins : KeepsMemory modelled t old stores.begun first
   unfolding first
   begins =
       let op = stores.op in

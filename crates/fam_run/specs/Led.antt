@@ -18,7 +18,7 @@ use Rattle.fam_run.specs.Operation.{GoesOn, HasTurned, IsNoFault, IsUndone}
 use Rattle.fam_run.specs.TaskChange.{TaskChange}
 
 -- one operation that leaves memory's image, behind which the task just goes on
-pub record LeavesMemory (modelled : Option Image) (task : Task) (held : Cache) (next : Task) (after : Cache) : Type 0 where
+pub record KeepsMemory (modelled : Option Image) (task : Task) (held : Cache) (next : Task) (after : Cache) : Type 0 where
   pub sound : IsSound task
   pub within : IsWithin task.lines (op_of task)
   pub leaves : LeavesCache (op_of task) modelled held after
@@ -28,7 +28,7 @@ pub record LeavesMemory (modelled : Option Image) (task : Task) (held : Cache) (
 -- the task and its host's cache, and what such operations leave of both
 pub data Led (modelled : Option Image) : Task → Cache → Task → Cache → Type 0 where
   none : {task : Task} {held : Cache} → Led modelled task held task held
-  more : {task mid next : Task} {held now after : Cache} → Led modelled task held mid now → LeavesMemory modelled mid now next after → Led modelled task held next after
+  more : {task mid next : Task} {held now after : Cache} → Led modelled task held mid now → KeepsMemory modelled mid now next after → Led modelled task held next after
 
 -- behind such operations one more was done, and with it the task takes this turn
 pub record HasDone (a : TaskChange) (turn : Turn) : Type 0 where

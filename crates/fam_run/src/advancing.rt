@@ -12,9 +12,10 @@ ghost use Rattle.fam_run.specs.Places.{HasPlaces, PlacesKept, PlacesMade, append
 ghost use Rattle.fam_run.specs.Room.{WantsRoom};
 ghost use Rattle.fam_run.specs.TaskChange.{task_change};
 
+use crate::checking::check_slot;
 use crate::comparing::compare_line;
 use crate::operation::operate;
-use crate::slots::{check_slot, load_slot};
+use crate::slots::load_slot;
 use crate::storing::store_line;
 use fam_base::OutOfMemory;
 use fam_cache::{HostCache, OperationFault};

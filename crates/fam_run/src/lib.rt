@@ -5,6 +5,7 @@
 #![tactic(auto)]
 
 mod advancing;
+mod checking;
 mod comparing;
 mod operation;
 mod rest;

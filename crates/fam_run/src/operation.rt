@@ -1,20 +1,50 @@
 //! One operation of a task, on its host's cache and the one memory.
 
-ghost use Rattle.std.specs.Prelude.{◌≡◌, IsErrOf};
+ghost use Rattle.std.specs.Prelude.{◌≡◌, ◌≢◌, true, false, IsErrOf, None, OnErr, OnOk};
 ghost use Rattle.fam_machine.specs.Operations.{IsWithin};
 ghost use Rattle.fam_media.specs.Causes.{IsSteady};
 ghost use Rattle.fam_cache.specs.Operations.{SendsWithin};
+ghost use Rattle.fam_base.specs.declared.line.LineNo.{LineNo};
 ghost use Rattle.fam_commands.specs.Task.{op_of};
-ghost use Rattle.fam_tasks.specs.declared.answer.Turn.TheVariants.{Go};
+ghost use Rattle.fam_commands.specs.Turns.{turn_of};
+ghost use Rattle.fam_tasks.specs.declared.answer.Answer.TheVariants.{MediaFault};
+ghost use Rattle.fam_tasks.specs.declared.answer.Turn.TheVariants.{Done, Go};
+ghost use Rattle.fam_tasks.specs.Tells.{Tells, WantsMemory, is_digest};
 ghost use Rattle.fam_run.specs.Operation.{Operated, said_of};
 ghost use Rattle.fam_run.specs.Places.{ReadyPlacesKept};
 ghost use Rattle.fam_run.specs.Room.{LacksRoom};
 ghost use Rattle.fam_run.specs.TaskChange.{task_change};
 
+use crate::checking::check_slot;
+use fam_base::OutOfMemory;
 use fam_cache::{HostCache, OperationFault};
 use fam_machine::Op;
 use fam_media::Media;
-use fam_tasks::{Task, Turn};
+use fam_tasks::{Due, Task, Turn};
+
+/// Tells a task what an operation gave, and what it says then. It stands apart, since what a task says may be large, and
+/// behind most operations it says nothing.
+#[inline(never)]
+fn take_word(task: &mut Task, word: Option<u64>, turn: &mut Turn)
+    requires { is_digest (op_of task.old) ≡ false }
+    ensures turn { Tells (turn_of task.old word) turn.new task.new }
+    ensures own { (line : LineNo) → turn.new ≢ Done (MediaFault line) }
+{
+    *turn = task.feed(word);
+}
+
+/// Does a task's Digest, and what it says then. It stands apart too. Where no memory was found nothing was done.
+#[inline(never)]
+fn take_digest(task: &mut Task, turn: &mut Turn) -> Result<(), OutOfMemory>
+    requires { is_digest (op_of task.old) ≡ true }
+    ensures turn { OnOk result (Tells (turn_of task.old None) turn.new task.new) }
+    ensures own { OnOk result ((line : LineNo) → turn.new ≢ Done (MediaFault line)) }
+    ensures err { OnErr result (task.new ≡ task.old) }
+    ensures want { OnErr result (WantsMemory task.old.entries (turn_of task.old None)) }
+{
+    *turn = task.digest()?;
+    Ok(())
+}
 
 /// Does the next operation of a task that has not answered, and says what the task says of it.
 ///
@@ -47,19 +77,19 @@ pub fn operate<M: Media>(
 {
     task.is_sound();
     match task.next() {
-        Op::Digest => match task.digest() {
-            Ok(said) => {
-                *turn = said;
-                Ok(())
-            }
-            Err(_) => Err(OperationFault::OutOfMemory),
+        Op::Digest => match task.due() {
+            Due::Checked(slot) => check_slot(task, turn, slot),
+            _ => match take_digest(task, turn) {
+                Ok(()) => Ok(()),
+                Err(_) => Err(OperationFault::OutOfMemory),
+            },
         },
         op => {
             let word = cache.perform(media, op)?;
             if task.reads_on() {
                 task.read_on(word);
             } else {
-                *turn = task.feed(word);
+                take_word(task, word, turn);
             }
             Ok(())
         }

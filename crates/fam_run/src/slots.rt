@@ -1,19 +1,16 @@
 //! Lines of a slot that are loaded whole: of each line its drop and its eight loads by one read. Of a long log nearly all
 //! operations are such.
 
-ghost use Rattle.std.specs.Prelude.{◌≡◌, ◌+◌, ◌<◌, ℕ, IfErr, IfOk, IsErrOf, false, true};
+ghost use Rattle.std.specs.Prelude.{◌≡◌, ◌+◌, ◌<◌, IfErr, IfOk, IsErrOf, false, true};
 ghost use Rattle.fam_commands.specs.declared.phase.Part.TheVariants as part;
 ghost use Rattle.fam_commands.specs.declared.phase.Phase.TheVariants as at;
-ghost use Rattle.fam_machine.specs.Caches.{Cache};
 ghost use Rattle.fam_media.specs.Causes.{IsSteady};
-ghost use Rattle.fam_media.specs.States.{MediaState};
 ghost use Rattle.fam_cache.specs.Faults.{IfMediaFault};
 ghost use Rattle.fam_cache.specs.Operations.{SendsWithin};
-ghost use Rattle.fam_cache.specs.States.{CacheState};
 ghost use Rattle.fam_commands.specs.Task.{op_of};
 ghost use Rattle.fam_tasks.specs.declared.answer.Turn.TheVariants.{Go};
 ghost use Rattle.fam_run.specs.Led.{Advanced, HasBrokenOff, HasDone};
-ghost use Rattle.fam_run.specs.Operation.{Operated, said_of};
+ghost use Rattle.fam_run.specs.Operation.{said_of};
 ghost use Rattle.fam_run.specs.TaskChange.{task_change};
 ghost use Rattle.fam_run.specs.Room.{LacksRoomWhole, WantsRoom};
 
@@ -21,7 +18,7 @@ use crate::operation::operate;
 use fam_cache::{CacheFault, HostCache, OperationFault};
 use fam_format::SLOT_LINES;
 use fam_media::Media;
-use fam_tasks::{Answer, SlotDue, Task, Turn};
+use fam_tasks::{SlotDue, Task, Turn};
 
 /// Drops the line of a slot that the task drops next, and loads all its words, and says whether it did. Where the host's
 /// copy is dirty, nothing is done.
@@ -118,33 +115,4 @@ pub(crate) fn load_slot<M: Media>(
         }
     }
     Ok(())
-}
-
-/// Looks at the words of a slot, which is the Digest that comes next, and takes the turn with it. `OutOfMemory` comes where it
-/// finds none, and then nothing was done.
-#[inline(always)]
-pub(crate) fn check_slot(task: &mut Task, turn: &mut Turn, slot: u64) -> Result<(), OperationFault>
-    requires go { turn.old ≡ Go }
-    requires due { task.old.phase ≡ at.Check slot }
-
-    // Cache and media stay, whatever they are.
-    ensures operated { (cache : Cache) (lines : ℕ) (media : MediaState) → Operated (record {
-      task = task.old;
-      next = task.new;
-      old = cache;
-      new = cache;
-      lines = lines;
-      media = record { old = media; new = media };
-    }) (said_of result turn.new) }
-    ensures want { (cache : CacheState) → IsErrOf result OperationFault.OutOfMemory → WantsRoom task.old cache }
-{
-    task.is_sound();
-    match task.check_slot(slot) {
-        Ok(None) => Ok(()),
-        Ok(Some(reason)) => {
-            *turn = Turn::Done(Answer::BadEntry { seq: slot, reason });
-            Ok(())
-        }
-        Err(_) => Err(OperationFault::OutOfMemory),
-    }
 }

@@ -10,6 +10,7 @@ use Rattle.fam_media.specs.Causes.{Rose}
 use Rattle.fam_media.specs.Outside.{IfModelled}
 use Rattle.fam_media.specs.States.{ShelfChange}
 use Rattle.fam_journal.specs.declared.event.Ask.{Ask}
+use Rattle.fam_journal.specs.declared.event.Ask.TheVariants as ask
 use Rattle.fam_journal.specs.declared.refusal.Refusal.{Refusal}
 use Rattle.fam_journal.specs.declared.refusal.Refusal.TheVariants as why
 use Rattle.fam_tree.specs.Listings.{ListingSays}
@@ -18,6 +19,7 @@ use Rattle.fam_journal.specs.Events.{Ready, SourceSays, Unfit, copy_limit, sourc
 use Rattle.fam_grammar.specs.Sound.{IsSoundAsk}
 use Rattle.fam_journal.specs.Follows as journal
 use Rattle.fam_journal.specs.Follows.{IsShortOf}
+use Rattle.fam_sources.specs.Whole.{HoldsBytes}
 use Rattle.fam_sources.specs.declared.sourced.Given.{Given}
 use Rattle.fam_sources.specs.declared.sourced.Given.TheVariants as given
 use Rattle.fam_sources.specs.declared.sourced.SourceEnd.{SourceEnd}
@@ -76,3 +78,14 @@ IsListed bytes (sourced.Ready cmd) =
     (entries : List Entry) × (cmd ≡ Check entries) × IsListing entries × ListingSays bytes (Ok entries)
 IsListed bytes (sourced.Unfit cause) = (line : ℕ) × (cause ≡ why.BadListing line) × ListingSays bytes (Err line)
 IsListed bytes (sourced.Ended end) = ⊥
+
+-- memory is wanted for a source alone, one that is there and within the limit
+abbrev pub WantsBytes : ShelfChange → ℕ → List ℕ → Type 0
+WantsBytes change copied name = HoldsBytes change.old.files name (λ bytes. copied + length bytes ≤ copy_limit)
+
+-- so of an ask: a plain one wants none
+abbrev pub WantsSource : ShelfChange → ℕ → Ask → Type 0
+WantsSource change copied (ask.Plain cmd) = ⊥
+WantsSource change copied (ask.Cp source path attr stripe) = WantsBytes change copied source
+WantsSource change copied (ask.VerifySource path source) = WantsBytes change copied source
+WantsSource change copied (ask.Check source) = WantsBytes change copied source

@@ -1,10 +1,10 @@
 //! Asks, and the commands that they come to.
 
-ghost use Rattle.std.specs.Prelude.{◌≡◌, IfOk};
+ghost use Rattle.std.specs.Prelude.{◌≡◌, IfOk, OnErr};
 ghost use Rattle.fam_media.specs.Causes.{IsShelfSteady};
 ghost use Rattle.fam_media.specs.States.{change};
 ghost use Rattle.fam_journal.specs.declared.event.Ask.TheVariants as ask;
-ghost use Rattle.fam_sources.specs.Sourced.{IsGiven, IsListed, IsSourced};
+ghost use Rattle.fam_sources.specs.Sourced.{IsGiven, IsListed, IsSourced, WantsBytes, WantsSource};
 
 use crate::whole::{WholeFault, read_whole};
 use fam_base::{
@@ -64,6 +64,7 @@ fn bytes_of<S: Shelf>(
     copied: u64,
 ) -> Result<Given, OutOfMemory>
     ensures says { IfOk result (IsGiven (change S.state shelf.old shelf.new) copied source) }
+    ensures want { OnErr result (WantsBytes (change S.state shelf.old shelf.new) copied source) }
     ensures steady { IsShelfSteady (S.state shelf.old) (S.state shelf.new) }
 {
     match read_whole(alloc, shelf, source.text(), copied, COPY_LIMIT) {
@@ -95,6 +96,7 @@ fn cp<S: Shelf>(
 ) -> Result<Resolved, OutOfMemory>
     ensures says { IfOk result (λ r. IsSourced (change S.state shelf.old shelf.new)
         copied (ask.Cp source path attr stripe) r.copied r.sourced) }
+    ensures want { OnErr result (WantsBytes (change S.state shelf.old shelf.new) copied source) }
     ensures steady { IsShelfSteady (S.state shelf.old) (S.state shelf.new) }
 {
     match bytes_of(alloc, shelf, source, copied)? {
@@ -126,6 +128,7 @@ fn verify<S: Shelf>(
 ) -> Result<Resolved, OutOfMemory>
     ensures says { IfOk result (λ r. IsSourced (change S.state shelf.old shelf.new)
         copied (ask.VerifySource path source) r.copied r.sourced) }
+    ensures want { OnErr result (WantsBytes (change S.state shelf.old shelf.new) copied source) }
     ensures steady { IsShelfSteady (S.state shelf.old) (S.state shelf.new) }
 {
     match bytes_of(alloc, shelf, source, copied)? {
@@ -164,6 +167,7 @@ fn check<S: Shelf>(
 ) -> Result<Resolved, OutOfMemory>
     ensures says { IfOk result (λ r. IsSourced (change S.state shelf.old shelf.new)
         copied (ask.Check source) r.copied r.sourced) }
+    ensures want { OnErr result (WantsBytes (change S.state shelf.old shelf.new) copied source) }
     ensures steady { IsShelfSteady (S.state shelf.old) (S.state shelf.new) }
 {
     match bytes_of(alloc, shelf, source, copied)? {
@@ -189,6 +193,10 @@ pub fn resolve<S: Shelf>(
 ) -> Result<Resolved, OutOfMemory>
     ensures says { IfOk result (λ r. IsSourced (change S.state shelf.old shelf.new)
         copied what r.copied r.sourced) }
+
+    // Memory is wanted only for a source that is there and within the limit.
+    ensures want { OnErr result (WantsSource (change S.state shelf.old shelf.new) copied what) }
+
     ensures steady { IsShelfSteady (S.state shelf.old) (S.state shelf.new) }
 {
     match what {

@@ -20,7 +20,7 @@ use Rattle.fam_outcomes.specs.Runs.{HasRun, NoneRose, Outside, RunsOn}
 use Rattle.fam_outcomes.proofs.Faultless.{run_complete}
 use Rattle.fam_storm.specs.Storm.{storm}
 use Rattle.fam_words.specs.declared.wanted.Invocation.{Invocation}
-use Rattle.fam_top.specs.Calls.{CallEnds, HasShotUuids, HasUuids, command_of}
+use Rattle.fam_top.specs.Calls.{CallEnds, HasOneShotUuids, HasCommandUuids, command_of}
 use Rattle.fam_whole.specs.Called.{IsLawful, OfRun, RunsLawfully}
 use Rattle.fam_whole.proofs.Shots.{IsSoundShot, shot_events_sound}
 
@@ -40,12 +40,12 @@ module _ (out : Outside) (files : Files) (start : Image) (told_start : out.media
         complete = λ none. run_complete out none run.journal run.counted ending files events start out.media.new.image image sound run.caused on;
       }
 
-  sound_shot : (shot : OneShot) → HasShotUuids shot → IsSoundShot shot
+  sound_shot : (shot : OneShot) → HasOneShotUuids shot → IsSoundShot shot
   sound_shot (Makes request) is = is
   sound_shot (Runs what) is = tt
   sound_shot (MakesParents path attr) is = tt
 
-  command_runs : (command : Option Command) (given own : Status) (text : List ℕ) → IfSome command HasUuids → (x : CommandRuns script_events storm command out given text own) → OfRun out files start command given own text x
+  command_runs : (command : Option Command) (given own : Status) (text : List ℕ) → IfSome command HasCommandUuids → (x : CommandRuns script_events storm command out given text own) → OfRun out files start command given own text x
   command_runs None given own text uuids x = tt
   command_runs (Some (Single me shot)) given own text uuids x =
       lawful x.ending x.events (shot_events_sound me shot uuids.0 (sound_shot shot uuids.1) x.events x.run.journal x.run.text_is.0) x.run
@@ -53,7 +53,7 @@ module _ (out : Outside) (files : Files) (start : Image) (told_start : out.media
   command_runs (Some (Storm seed size true)) given own text uuids x = tt
   command_runs (Some (Storm seed size false)) given own text uuids x = lawful x.ending x.events (script_uuids (storm seed size) x.events x.reads) x.run
 
-  shown : (command : Option Command) (given own : Status) (text : List ℕ) → IfSome command HasUuids → (shows : EndsEarly script_events storm command out text own ⊎ CommandRuns script_events storm command out given text own) → IsLawful out files start command given own text shows
+  shown : (command : Option Command) (given own : Status) (text : List ℕ) → IfSome command HasCommandUuids → (shows : EndsEarly script_events storm command out text own ⊎ CommandRuns script_events storm command out given text own) → IsLawful out files start command given own text shows
   shown command given own text uuids (inl early) = tt
   shown command given own text uuids (inr x) = command_runs command given own text uuids x
 
