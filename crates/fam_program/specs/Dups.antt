@@ -6,7 +6,7 @@ use Rattle.fam_base.specs.Image.{Image}
 use Rattle.fam_dup.specs.declared.fault.DupFault.{DupFault}
 use Rattle.fam_dup.specs.declared.fault.DupFault.TheVariants as fault
 use Rattle.fam_dup.specs.declared.fault.DupRefusal.{DupRefusal}
-use Rattle.fam_dup.specs.Ends.{Becomes, DupEnds, IsCaused}
+use Rattle.fam_dup.specs.Ends.{Becomes, DupEnds, IsCaused, NamesLine}
 use Rattle.fam_dup.specs.Findings.{Copies, FailsFrom, FailsTo, FaultClass, FaultInLog, FaultInSlot, FaultInSuper, Finding, FullTo, Refuses, SmallFrom, SmallTo, Stops, WantsMemory, class_of, refused_of}
 use Rattle.fam_format.specs.declared.faults.SuperFault.TheVariants as super
 use Rattle.fam_format.specs.declared.faults.LogFault.TheVariants as log
@@ -37,16 +37,17 @@ copy_asked me request = record { me = me; request = request }
 abbrev pub copy_params : CopyAsked → ℕ → Params
 copy_params copy lines = asked copy.request copy.me lines
 
--- what both images and the sink tell before and behind a call, and how many lines TO has
+-- what both images and the sink tell before and behind a call, and how many lines FROM and TO have
 pub record CopyOutside : Type 0 where
+  pub from_lines : ℕ
   pub lines : ℕ
   pub from : MediaChange
   pub to : MediaChange
   pub sink : SinkChange
 
 -- from its parts
-abbrev pub copy_outside : ℕ → MediaChange → MediaChange → SinkChange → CopyOutside
-copy_outside lines from to sink = record { lines = lines; from = from; to = to; sink = sink }
+abbrev pub copy_outside : ℕ → ℕ → MediaChange → MediaChange → SinkChange → CopyOutside
+copy_outside from_lines lines from to sink = record { from_lines = from_lines; lines = lines; from = from; to = to; sink = sink }
 
 -- where both images are modelled, this is so of FROM, of TO before, and of TO behind
 abbrev pub OfImages : CopyOutside → (Image → Image → Image → Type 0) → Type 0
@@ -152,6 +153,8 @@ pub record HasCopied (copy : CopyAsked) (out : CopyOutside) (given : Status) : T
   pub ended : Result ℕ DupFault
   pub ends : OfImages out (λ source old new. DupEnds source old new (copy_params copy out.lines) copy.request.force ended)
   pub caused : IfErr ended (λ fault. IsCaused out.from.old.faults out.from.new.faults out.to.old.faults out.to.new.faults fault)
+  -- the line of a media fault is one of its image
+  pub named : IfErr ended (λ fault. NamesLine out.from_lines out.lines fault)
   pub put : PutDup ended out.sink given
 
 -- so of a copy that is asked for

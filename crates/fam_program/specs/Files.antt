@@ -46,6 +46,14 @@ IsUnread change name (Ended end) = HasEndCause change end × IsShortScript chang
 IsUnread change name (BadLine line column) = HoldsBadLine change name line column
 IsUnread change name OutOfMemory = ⊤
 
+-- a fault of the file itself, whatever its lines are
+abbrev pub IsOfFile : ScriptFault → Type 0
+IsOfFile NoFile = ⊤
+IsOfFile (TooLong size) = ⊤
+IsOfFile (Ended end) = ⊤
+IsOfFile (BadLine line column) = ⊥
+IsOfFile OutOfMemory = ⊤
+
 -- a fault as the journal's definitions speak of it
 abbrev pub early_of : List ℕ → ScriptFault → Early
 early_of name NoFile = NoScript name

@@ -58,7 +58,7 @@ fn stopped_line(alloc: Global, seq: u64, refusal: DupRefusal) -> Result<Vec<u8>,
 }
 
 /// Puts a line that may have found no memory, or says that there is none, and gives the status.
-fn put_made<K: Sink>(made: Result<Vec<u8>, OutOfMemory>, own: Status, out: &mut K) -> Status
+pub fn put_made<K: Sink>(made: Result<Vec<u8>, OutOfMemory>, own: Status, out: &mut K) -> Status
     ensures put { (want : List ℕ) → IfOk made (λ bytes. bytes.items ≡ want)
         → PutMade own want (change K.state out.old out.new) result }
     ensures later { (K.state out.old).faults ≤ (K.state out.new).faults }
@@ -192,7 +192,7 @@ pub fn copy_file_system<M: Media, N: Media, K: Sink>(
     to: &mut N,
     out: &mut K,
 ) -> Status
-    ensures ends { DupTop (Some (copy_asked me request)) (copy_outside (N.size to.old) (change M.state from.old from.new)
+    ensures ends { DupTop (Some (copy_asked me request)) (copy_outside (M.size from.old) (N.size to.old) (change M.state from.old from.new)
         (change N.state to.old to.new) (change K.state out.old out.new)) result }
     ensures steady_from { IsSteady M.size M.state from.old from.new }
     ensures steady_to { IsSteady N.size N.state to.old to.new }

@@ -20,12 +20,12 @@ mod shots;
 mod storms;
 mod unprinted;
 
-pub use dups::copy_file_system;
+pub use dups::{copy_file_system, put_made};
 pub use fault::{PutFault, ScriptFault};
-pub use puts::{put_memory, put_usage};
+pub use puts::{put_line, put_memory, put_usage};
 pub use read::read_script;
 pub use script::{is_image, run_script};
-pub use script_file::{SCRIPT_LIMIT, run_script_file};
+pub use script_file::{SCRIPT_LIMIT, put_unread, run_script_file, script_bytes};
 pub use shadows::write_shadow;
 pub use shots::{make_file_system, make_parents, run_command};
 pub use storms::run_storm;

@@ -22,7 +22,7 @@ use fam_world::World;
 use std::alloc::Global;
 
 /// Puts a text, and gives its status, or that of a sink that failed.
-pub(crate) fn put_line<K: Sink>(out: &mut K, own: Status, text: &[u8]) -> Status
+pub fn put_line<K: Sink>(out: &mut K, own: Status, text: &[u8]) -> Status
     ensures put { Put own text.now (change K.state out.old out.new) result }
     ensures later { (K.state out.old).faults ≤ (K.state out.new).faults }
 {

@@ -1,9 +1,8 @@
 //! A script as its events.
 
 ghost use Rattle.std.specs.Prelude.{◌≡◌, IfErr, IfOk, Ok};
-ghost use Rattle.fam_grammar.specs.Scripts.{script_events};
+ghost use Rattle.fam_grammar.specs.Scripts.{IsBadScript, script_events};
 ghost use Rattle.fam_program.specs.Far.{AreSoundEvents};
-ghost use Rattle.fam_program.specs.Reading.{IsBadScript};
 
 use fam_grammar::{LineFault, read_line, what_reads_is_sound};
 use fam_journal::Event;

@@ -8,7 +8,7 @@ ghost use Rattle.fam_outcomes.specs.Programs as program;
 ghost use Rattle.fam_grammar.specs.Scripts.{script_events};
 ghost use Rattle.fam_storm.specs.Storm.{storm};
 ghost use Rattle.fam_program.specs.Far.{AreSoundEvents};
-ghost use Rattle.fam_program.specs.Files.{HoldsEvents, HoldsScript, IsUnread, PutsEarly, early_of};
+ghost use Rattle.fam_program.specs.Files.{HoldsEvents, HoldsScript, IsOfFile, IsUnread, PutsEarly, early_of};
 ghost use Rattle.fam_program.specs.Runs.{outside_of};
 
 use crate::fault::ScriptFault;
@@ -28,10 +28,15 @@ use std::alloc::Global;
 /// The most bytes of a script: 16 MiB.
 pub const SCRIPT_LIMIT: u64 = 16_777_216;
 
-/// The bytes of a script.
-fn script_bytes<S: Shelf>(alloc: Global, shelf: &mut S, name: &str) -> Result<Vec<u8>, ScriptFault>
+/// The bytes of a script: the file of this name, of at most [`SCRIPT_LIMIT`] bytes. No fault speaks of its lines.
+pub fn script_bytes<S: Shelf>(
+    alloc: Global,
+    shelf: &mut S,
+    name: &str,
+) -> Result<Vec<u8>, ScriptFault>
     ensures bytes { IfOk result (λ bytes. HoldsScript (change S.state shelf.old shelf.new) name.now bytes.items) }
     ensures fault { IfErr result (IsUnread (change S.state shelf.old shelf.new) name.now) }
+    ensures file { IfErr result IsOfFile }
     ensures steady { IsShelfSteady (S.state shelf.old) (S.state shelf.new) }
 {
     match read_whole(alloc, shelf, name, 0, SCRIPT_LIMIT) {
@@ -92,7 +97,7 @@ fn fault_status(fault: ScriptFault) -> Status
 }
 
 /// Puts why a script isn't run, or that no memory is left to say so, and gives the status.
-fn put_fault<K: Sink>(alloc: Global, name: &str, fault: ScriptFault, out: &mut K) -> Status
+pub fn put_unread<K: Sink>(alloc: Global, name: &str, fault: ScriptFault, out: &mut K) -> Status
     ensures put { PutsEarly (early_of name.now fault) (change K.state out.old out.new) result }
     ensures later { (K.state out.old).faults ≤ (K.state out.new).faults }
 {
@@ -122,6 +127,6 @@ pub fn run_script_file<M: Media, S: Shelf, K: Sink>(
 {
     match events_of(alloc, shelf, name) {
         Ok(events) => run_script(alloc, events, media, shelf, out),
-        Err(fault) => put_fault(alloc, name, fault, out),
+        Err(fault) => put_unread(alloc, name, fault, out),
     }
 }

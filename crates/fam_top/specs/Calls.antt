@@ -38,16 +38,16 @@ command_of me random (invocation.Script file) = Script file
 command_of me random (invocation.Storm seed size prints) = Storm seed size prints
 
 -- the UUIDs of a command of its own are UUIDs: the host's, and that of a new file system
-abbrev pub HasShotUuids : OneShot → Type 0
-HasShotUuids (Makes request) = IsUuid request.fs
-HasShotUuids (Runs what) = ⊤
-HasShotUuids (MakesParents path attr) = ⊤
+abbrev pub HasOneShotUuids : OneShot → Type 0
+HasOneShotUuids (Makes request) = IsUuid request.fs
+HasOneShotUuids (Runs what) = ⊤
+HasOneShotUuids (MakesParents path attr) = ⊤
 
 -- so of a command. Those of a script and of a storm stand in its lines
-abbrev pub HasUuids : Command → Type 0
-HasUuids (Single me shot) = IsUuid me × HasShotUuids shot
-HasUuids (Script file) = ⊤
-HasUuids (Storm seed size prints) = ⊤
+abbrev pub HasCommandUuids : Command → Type 0
+HasCommandUuids (Single me shot) = IsUuid me × HasOneShotUuids shot
+HasCommandUuids (Script file) = ⊤
+HasCommandUuids (Storm seed size prints) = ⊤
 
 -- what the words ask for is done, for a host of the UUID `me` where they name no other, and with these random bytes; or they are no
 -- command. Each command runs on hosts with caches and keeps a journal: the text is that of one journal, and the image that is
@@ -56,4 +56,4 @@ pub record CallEnds (asked : Option Invocation) (me random : List ℕ) (out : Ou
   pub ends : TopEnds script_events storm (option_map (command_of me random) asked) out status
   -- what the laws of runs ask for: an image that is modelled is one, and the command's UUIDs are UUIDs
   pub image : IfModelled out.media.old.image IsImage
-  pub uuids : IfSome (option_map (command_of me random) asked) HasUuids
+  pub uuids : IfSome (option_map (command_of me random) asked) HasCommandUuids

@@ -1,3 +1,4 @@
 pub mod Fresh
 pub mod Words
 pub mod Calls
+pub mod Mails

@@ -1,14 +1,16 @@
 -- What the words of a call ask for. docs/MANUAL.md.
-use Rattle.std.specs.Prelude.{ℕ, List, Option, option_map}
+use Rattle.std.specs.Prelude.{ℕ, List, Option, Some, None, option_map}
 use Rattle.fam_machine.specs.declared.request.MkfsRequest.{MkfsRequest}
 use Rattle.fam_machine.specs.MkfsRequest.{mkfs_request}
 use Rattle.fam_program.specs.Dups.{CopyAsked, copy_asked}
 use Rattle.fam_words.specs.declared.wanted.Call.{Call}
 use Rattle.fam_words.specs.declared.wanted.DupCall.{DupCall}
 use Rattle.fam_words.specs.declared.wanted.Invocation.{Invocation}
+use Rattle.fam_words.specs.declared.wanted.MailCall.{MailCall}
 use Rattle.fam_words.specs.declared.wanted.ShadowCall.{ShadowCall}
 use Rattle.fam_words.specs.Calls.{call_of}
 use Rattle.fam_words.specs.Dups.{dup_call}
+use Rattle.fam_words.specs.Mails.{mail_call}
 use Rattle.fam_words.specs.Shadows.{shadow_call}
 use Rattle.fam_top.specs.Calls.{fs_or, host_or}
 
@@ -16,9 +18,18 @@ use Rattle.fam_top.specs.Calls.{fs_or, host_or}
 unfoldable pub invocation_named : List (List ℕ) → Option Invocation
 invocation_named words = option_map (λ (call : Call). call.invocation) (call_of words)
 
--- the image that it works on
+-- the image that holds the mailbox of a script, and `None` where the words ask for no such script
+unfoldable pub mail_named : List (List ℕ) → Option (List ℕ)
+mail_named words = option_map (λ (call : MailCall). call.image) (mail_call words)
+
+-- the image of a command, or else of a script over a mailbox
+abbrev pub image_or : Option Call → Option (List ℕ) → Option (List ℕ)
+image_or None mail = mail
+image_or (Some call) mail = Some call.image
+
+-- the image that the words name: of a command, or of a script over a mailbox
 unfoldable pub image_named : List (List ℕ) → Option (List ℕ)
-image_named words = option_map (λ (call : Call). call.image) (call_of words)
+image_named words = image_or (call_of words) (mail_named words)
 
 -- the image and the folder of a shadow, and `None` where the words ask for none
 unfoldable pub shadow_named : List (List ℕ) → Option (List ℕ × List ℕ)

@@ -4,6 +4,7 @@ ghost use Rattle.std.specs.Prelude.{◌≡◌, map, string_bytes, IfOk, IfSome};
 ghost use Rattle.fam_words.specs.Calls.{IsSoundInvocation};
 ghost use Rattle.fam_top.specs.Words.{image_named, invocation_named};
 
+use crate::mails::mail_of;
 use fam_base::{NameText, OutOfMemory};
 use fam_words::{Invocation, read_words};
 use std::alloc::Global;
@@ -23,13 +24,13 @@ pub(crate) fn invocation(
     }
 }
 
-/// The image that the words name, and `None` exactly where they are no command.
+/// The image that the words name, of a command or of a script over a mailbox, and `None` exactly where they are neither.
 #[tactic(auto, unfolding(crate::specs::Words::image_named))]
 pub fn image_of(alloc: Global, words: &Vec<String>) -> Result<Option<NameText>, OutOfMemory>
     ensures { IfOk result (λ name. name ≡ image_named (map string_bytes words.now.items)) }
 {
     match read_words(alloc, words.as_slice())? {
         Some(call) => Ok(Some(call.image)),
-        None => Ok(None),
+        None => mail_of(alloc, words),
     }
 }

@@ -8,6 +8,7 @@ use Rattle.fam_words.specs.Calls.{app_named}
 use Rattle.fam_words.specs.declared.invocations.Name.{Name}
 use Rattle.fam_words.specs.declared.invocations.Name.TheVariants as name
 use Rattle.fam_words.specs.Dups.{dup_app}
+use Rattle.fam_words.specs.Mails.{mail_app}
 use Rattle.fam_words.specs.Shadows.{shadow_app}
 
 mkfs_simple : is_simple_and_free mkfs_app ≡ true
@@ -61,6 +62,10 @@ shadow_simple = refl
 pub dup_simple : is_simple_and_free dup_app ≡ true
 unfolding clap_on_literals dup_app word_rule option_rule flag_rule plain_app
 dup_simple = refl
+
+pub mail_simple : is_simple_and_free mail_app ≡ true
+unfolding clap_on_literals mail_app word_rule option_rule flag_rule plain_app
+mail_simple = refl
 
 -- so it is of each command
 pub named_simple : (which : Name) → is_simple_and_free (app_named which) ≡ true

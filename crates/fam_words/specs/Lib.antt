@@ -4,3 +4,4 @@ pub mod Values
 pub mod Calls
 pub mod Shadows
 pub mod Dups
+pub mod Mails

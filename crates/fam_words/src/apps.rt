@@ -4,6 +4,7 @@ ghost use Rattle.std.specs.Prelude.{◌≡◌, fold, IfOk};
 ghost use Rattle.clap.specs.Words.{app_of, with_rule};
 ghost use Rattle.fam_words.specs.Apps.{mkfs_app, logplay_app, mkdir_app, creat_app, cp_app, verify_app, read_app, check_app, fsck_app, script_app, storm_app, owner_rules, stripe_rules};
 ghost use Rattle.fam_words.specs.Dups.{dup_app};
+ghost use Rattle.fam_words.specs.Mails.{mail_app};
 ghost use Rattle.fam_words.specs.Shadows.{shadow_app};
 
 use crate::simple::{flag, long_option, needed_option, option, plain, word};
@@ -164,6 +165,16 @@ pub(crate) fn script<'a>(alloc: Global) -> Result<Command<'a>, OutOfMemory>
     let command = plain(alloc, "script");
     let command = word(alloc, command, "file")?;
     word(alloc, command, "image")
+}
+
+/// The command mail.
+pub(crate) fn mail<'a>(alloc: Global) -> Result<Command<'a>, OutOfMemory>
+    ensures { IfOk result (λ c. app_of c ≡ mail_app) }
+{
+    let command = plain(alloc, "mail");
+    let command = word(alloc, command, "file")?;
+    let command = word(alloc, command, "image")?;
+    word(alloc, command, "path")
 }
 
 /// The command storm.

@@ -42,6 +42,17 @@ pub struct DupCall {
     pub system: Option<Uuid>,
 }
 
+/// A script over the mailbox that a file of an image holds.
+#[derive(Drop)]
+pub struct MailCall {
+    /// The name of the script's file.
+    pub script: NameText,
+    /// The name of the image's file. It may be empty.
+    pub image: NameText,
+    /// The path of the file on the image.
+    pub path: Path,
+}
+
 /// What is to be done with the image.
 #[derive(Drop)]
 pub enum Invocation {

@@ -4,22 +4,28 @@
 //! Lines behind the gate's are read ahead for a reader that goes upward, and each of them is given once. The gate's
 //! line, and those before it, are always read by themselves, and then all that was read ahead is forgotten. So what is
 //! given of slots and files after a gate was read is never older than that gate.
+//!
+//! A run of lines is read or written by one call for each page of it, through the same page: what was read ahead is
+//! forgotten then.
 
-ghost use Rattle.std.specs.Prelude.{◌≡◌, ◌≤◌, ◌<◌, ◌+◌, ◌-◌, ◌*◌, ◌↔◌, IsTrue, IfSome, None, vec_len};
+ghost use Rattle.std.specs.Prelude.{◌≡◌, ◌≤◌, ◌<◌, ◌+◌, ◌-◌, ◌*◌, ◌↔◌, IsTrue, IfErr, IfSome, None, length, vec_len};
 ghost use Rattle.fam_media.specs.Causes.{HasCause};
 ghost use Rattle.fam_media.specs.declared.media.TheConstants.{MOST_LINES};
 
 use byteorder::{ByteOrder, LittleEndian};
 use fam_base::{Line, LineNo};
 use fam_format::{GATE_LINE, LINE_BYTES};
-use fam_media::{Failed, MOST_LINES, Media};
+use fam_media::{Failed, MOST_LINES, Media, RunFailed};
 use std::alloc::Global;
 use std::fs::File;
-use std::io::{Seek, SeekFrom};
+use std::io::{ErrorKind, Seek, SeekFrom};
 use std::os::unix::fs::FileExt;
 
 /// The bytes that are read ahead at most.
 const PAGE_BYTES: usize = 65536;
+
+/// The lines that are read or written by one call at most: those of a page.
+const PAGE_LINES: usize = 1024;
 
 /// The bytes that are read ahead where no line before this one was given.
 const FIRST_BYTES: usize = 4096;
@@ -84,6 +90,109 @@ fn read_lines(file: &File, page: &mut Vec<u8>, wanted: usize, line: u64) -> Opti
         Ok(got) => Some(got as u64 / LINE_BYTES),
         Err(_) => None,
     }
+}
+
+/// Reads bytes from a line on, by as many calls as the file asks for, and says how many were read: all of them unless one
+/// failed or found the end.
+fn read_bytes(file: &File, bytes: &mut [u8], line: u64) -> usize
+    requires within { line < MOST_LINES }
+    requires few { length bytes.old ≤ PAGE_BYTES }
+    ensures few { result ≤ length bytes.old }
+    ensures len { length bytes.new ≡ length bytes.old }
+{
+    let mut done = 0;
+    for _ in 0..u64::MAX {
+        if done == bytes.len() {
+            return done;
+        }
+        match file.read_at(&mut bytes[done..], byte_of(line) + done as u64) {
+            Ok(0) => return done,
+            Ok(more) => done += more,
+            Err(fault) => {
+                if fault.kind() != ErrorKind::Interrupted {
+                    return done;
+                }
+            }
+        }
+    }
+    done
+}
+
+/// Writes bytes from a line on, by as many calls as the file asks for, and says how many were written: all of them unless
+/// one failed.
+fn write_bytes(file: &File, bytes: &[u8], line: u64) -> usize
+    requires within { line < MOST_LINES }
+    requires few { length bytes.now ≤ PAGE_BYTES }
+    ensures few { result ≤ length bytes.now }
+{
+    let mut done = 0;
+    for _ in 0..u64::MAX {
+        if done == bytes.len() {
+            return done;
+        }
+        match file.write_at(&bytes[done..], byte_of(line) + done as u64) {
+            Ok(0) => return done,
+            Ok(more) => done += more,
+            Err(fault) => {
+                if fault.kind() != ErrorKind::Interrupted {
+                    return done;
+                }
+            }
+        }
+    }
+    done
+}
+
+/// The words of lines, of which the bytes have all.
+fn put_words(bytes: &[u8], lines: &mut [Line])
+    requires enough { 64 * length lines.old ≤ length bytes.now }
+    requires few { length lines.old ≤ PAGE_LINES }
+    ensures len { length lines.new ≡ length lines.old }
+{
+    for k in 0..lines.len() {
+        let mut words = [0; 8];
+        LittleEndian::read_u64_into(&bytes[64 * k..64 * k + 64], &mut words);
+        lines[k] = words;
+    }
+}
+
+/// The bytes of lines, for which there is room.
+fn put_bytes(lines: &[Line], bytes: &mut [u8])
+    requires enough { 64 * length lines.now ≤ length bytes.old }
+    requires few { length lines.now ≤ PAGE_LINES }
+    ensures len { length bytes.new ≡ length bytes.old }
+{
+    for k in 0..lines.len() {
+        let words = lines[k];
+        LittleEndian::write_u64_into(&words, &mut bytes[64 * k..64 * k + 64]);
+    }
+}
+
+/// Reads lines by one call but for short reads, through a page, and says how many were read.
+fn read_page(file: &File, page: &mut Vec<u8>, first: u64, lines: &mut [Line]) -> usize
+    requires within { first < MOST_LINES }
+    requires few { length lines.old ≤ PAGE_LINES }
+    requires room { PAGE_BYTES ≤ vec_len page.old }
+    ensures few { result ≤ length lines.old }
+    ensures len { length lines.new ≡ length lines.old }
+    ensures page { vec_len page.new ≡ vec_len page.old }
+{
+    let done = read_bytes(file, &mut page[..64 * lines.len()], first) / 64;
+    put_words(&page[..64 * done], &mut lines[..done]);
+    done
+}
+
+/// Writes lines by one call but for short writes, through a page, and says how many were written whole.
+fn write_page(file: &File, page: &mut Vec<u8>, first: u64, lines: &[Line]) -> usize
+    requires within { first < MOST_LINES }
+    requires few { length lines.now ≤ PAGE_LINES }
+    requires room { PAGE_BYTES ≤ vec_len page.old }
+    ensures few { result ≤ length lines.now }
+    ensures page { vec_len page.new ≡ vec_len page.old }
+{
+    let end = 64 * lines.len();
+    put_bytes(lines, &mut page[..end]);
+    write_bytes(file, &page[..end], first) / 64
 }
 
 impl FileMedia {
@@ -173,6 +282,75 @@ impl FileMedia {
         self.read_one(line)
     }
 
+    /// Reads lines by one call, and says how many were read. What was read ahead is forgotten.
+    fn read_together(&mut self, first: u64, lines: &mut [Line]) -> usize
+        requires within { first + length lines.old ≤ self.old.lines }
+        requires few { length lines.old ≤ PAGE_LINES }
+        requires some { 0 < length lines.old }
+        requires room { PAGE_BYTES ≤ vec_len self.old.page }
+        ensures few { result ≤ length lines.old }
+        ensures len { length lines.new ≡ length lines.old }
+        ensures page { vec_len self.new.page ≡ vec_len self.old.page }
+        ensures lines { self.new.lines ≡ self.old.lines }
+        ensures faults { self.new.faults ≡ self.old.faults }
+    {
+        self.end = 0;
+        match &self.file {
+            Some(file) => read_page(file, &mut self.page, first, lines),
+            None => 0,
+        }
+    }
+
+    /// Writes lines by one call, and says how many were written whole. What was read ahead is forgotten.
+    fn write_together(&mut self, first: u64, lines: &[Line]) -> usize
+        requires within { first + length lines.now ≤ self.old.lines }
+        requires few { length lines.now ≤ PAGE_LINES }
+        requires some { 0 < length lines.now }
+        requires room { PAGE_BYTES ≤ vec_len self.old.page }
+        ensures few { result ≤ length lines.now }
+        ensures page { vec_len self.new.page ≡ vec_len self.old.page }
+        ensures lines { self.new.lines ≡ self.old.lines }
+        ensures faults { self.new.faults ≡ self.old.faults }
+    {
+        self.end = 0;
+        match &self.file {
+            Some(file) => write_page(file, &mut self.page, first, lines),
+            None => 0,
+        }
+    }
+
+    /// Reads lines one by one.
+    fn read_each(&mut self, first: u64, lines: &mut [Line]) -> Result<(), RunFailed>
+        requires within { first + length lines.old ≤ self.old.lines }
+        ensures before { IfErr result (λ failed. failed.done < length lines.old) }
+        ensures len { length lines.new ≡ length lines.old }
+        ensures lines { self.new.lines ≡ self.old.lines }
+        ensures cause { HasCause self.old.faults self.new.faults result }
+    {
+        for k in 0..lines.len() {
+            match self.read(LineNo(first + k as u64)) {
+                Ok(words) => lines[k] = words,
+                Err(_) => return Err(RunFailed { done: k }),
+            }
+        }
+        Ok(())
+    }
+
+    /// Writes lines one by one.
+    fn write_each(&mut self, first: u64, lines: &[Line]) -> Result<(), RunFailed>
+        requires within { first + length lines.now ≤ self.old.lines }
+        ensures before { IfErr result (λ failed. failed.done < length lines.now) }
+        ensures lines { self.new.lines ≡ self.old.lines }
+        ensures cause { HasCause self.old.faults self.new.faults result }
+    {
+        for k in 0..lines.len() {
+            if self.write(LineNo(first + k as u64), &lines[k]).is_err() {
+                return Err(RunFailed { done: k });
+            }
+        }
+        Ok(())
+    }
+
     /// Reads a line by itself.
     fn read_one(&mut self, line: u64) -> Result<(), Failed>
         requires within { line < MOST_LINES }
@@ -226,5 +404,42 @@ impl Media for FileMedia {
         }
         self.faults = self.faults.saturating_add(1);
         Err(Failed)
+    }
+
+    /// By one call for the lines of a page. Those up to the gate's, and lines where there is no page, are read one by one.
+    fn read_run(&mut self, first: LineNo, lines: &mut [Line]) -> Result<(), RunFailed> {
+        if first.0 <= GATE_LINE || self.page.len() < PAGE_BYTES {
+            return self.read_each(first.0, lines);
+        }
+        let mut from = 0;
+        while from < lines.len() {
+            let count = PAGE_LINES.min(lines.len() - from);
+            let done = self.read_together(first.0 + from as u64, &mut lines[from..from + count]);
+            if done < count {
+                self.faults = self.faults.saturating_add(1);
+                return Err(RunFailed { done: from + done });
+            }
+            from += count;
+        }
+        Ok(())
+    }
+
+    /// By one call for the lines of a page, or one by one where there is none. Where a call fails behind so many bytes,
+    /// the line that has the next one is the one that failed, and no line is written again.
+    fn write_run(&mut self, first: LineNo, lines: &[Line]) -> Result<(), RunFailed> {
+        if self.page.len() < PAGE_BYTES {
+            return self.write_each(first.0, lines);
+        }
+        let mut from = 0;
+        while from < lines.len() {
+            let count = PAGE_LINES.min(lines.len() - from);
+            let done = self.write_together(first.0 + from as u64, &lines[from..from + count]);
+            if done < count {
+                self.faults = self.faults.saturating_add(1);
+                return Err(RunFailed { done: from + done });
+            }
+            from += count;
+        }
+        Ok(())
     }
 }

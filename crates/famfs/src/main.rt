@@ -9,7 +9,7 @@ mod std_sink;
 
 use fam_base::{NameText, OutOfMemory};
 use fam_outcomes::Status;
-use fam_top::{dup_of, famfs, famfs_dup, famfs_shadow, image_of, shadow_of};
+use fam_top::{dup_of, famfs, famfs_dup, famfs_mail, famfs_shadow, image_of, mail_of, shadow_of};
 use file_media::FileMedia;
 use file_shelf::FileShelf;
 use folder_shade::FolderShade;
@@ -105,6 +105,15 @@ fn run_dup(rt: &HostRuntime, words: &Vec<String>, from: NameText, to: NameText) 
     )
 }
 
+/// Runs a script over the mailbox that a file of the image holds.
+fn run_mail(rt: &HostRuntime, words: &Vec<String>, image: NameText) -> Status {
+    let file = opened(rt, image.text());
+    let mut media = FileMedia::new(rt.alloc(), file);
+    let mut shelf = FileShelf::new(rt);
+    let mut out = StdSink::new(rt.stdout());
+    famfs_mail(rt.alloc(), words, &mut media, &mut shelf, &mut out)
+}
+
 /// Runs the command that the words name on the image that they name. Where the numbers of the standard streams can't be
 /// held, no image is opened, and the output counts as failed.
 fn run(rt: &HostRuntime, words: &Vec<String>) -> Result<Status, OutOfMemory> {
@@ -116,6 +125,9 @@ fn run(rt: &HostRuntime, words: &Vec<String>) -> Result<Status, OutOfMemory> {
     }
     if let Some((from, to)) = dup_of(rt.alloc(), words)? {
         return Ok(run_dup(rt, words, from, to));
+    }
+    if let Some(image) = mail_of(rt.alloc(), words)? {
+        return Ok(run_mail(rt, words, image));
     }
     let file = match image_of(rt.alloc(), words)? {
         Some(name) => opened(rt, name.text()),

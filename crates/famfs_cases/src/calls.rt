@@ -4,7 +4,9 @@ use crate::bytes::copied;
 use crate::state::State;
 use crate::stop::Stop;
 use crate::words::Words;
-use fam_top::{dup_of, famfs, famfs_dup, famfs_shadow, shadow_of};
+use fam_media::{MemShelf, MemSink};
+use fam_outcomes::Status;
+use fam_top::{dup_of, famfs, famfs_dup, famfs_mail, famfs_shadow, mail_of, shadow_of};
 use std::alloc::Global;
 
 /// What came of a call: the text that it put, and its status.
@@ -12,6 +14,28 @@ use std::alloc::Global;
 pub struct Outcome {
     pub text: Vec<u8>,
     pub status: u8,
+}
+
+/// Calls the program with words that name one image alone, and no folder.
+fn call_on_image(
+    alloc: Global,
+    state: &mut State,
+    texts: &Vec<String>,
+    shelf: &mut MemShelf,
+    sink: &mut MemSink,
+) -> Result<Status, Stop> {
+    if mail_of(alloc, texts)?.is_some() {
+        return Ok(famfs_mail(alloc, texts, &mut state.media, shelf, sink));
+    }
+    Ok(famfs(
+        alloc,
+        texts,
+        state.host,
+        state.random,
+        &mut state.media,
+        shelf,
+        sink,
+    ))
 }
 
 /// Calls the program with the words that are left, on the image, the shelf, the folder or the other image, and a new
@@ -39,15 +63,7 @@ pub fn call(alloc: Global, state: &mut State, words: &mut Words<'_>) -> Result<O
             &mut state.other,
             &mut sink,
         ),
-        (None, None) => famfs(
-            alloc,
-            &texts,
-            state.host,
-            state.random,
-            &mut state.media,
-            &mut shelf,
-            &mut sink,
-        ),
+        (None, None) => call_on_image(alloc, state, &texts, &mut shelf, &mut sink)?,
     };
     Ok(Outcome {
         text: copied(alloc, sink.bytes())?,

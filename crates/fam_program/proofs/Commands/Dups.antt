@@ -4,7 +4,7 @@ use Rattle.std.specs.Prelude.{◌&&◌, Bool, true, false, IfErr}
 use Rattle.std.proofs.lemmas.Bool.{false≢true}
 use Rattle.fam_base.specs.declared.entry.Params.{Params}
 use Rattle.fam_dup.specs.declared.fault.DupFault.{DupFault}
-use Rattle.fam_dup.specs.Ends.{AreAsked, DupEnds, IsCaused}
+use Rattle.fam_dup.specs.Ends.{AreAsked, DupEnds, IsCaused, NamesLine}
 use Rattle.fam_format.specs.Params.{is_log_length, is_unit}
 use Rattle.fam_journal.specs.declared.refusal.Refusal.TheVariants as why
 use Rattle.fam_machine.specs.declared.request.MkfsRequest.{MkfsRequest}
@@ -58,15 +58,17 @@ module _ (copy : CopyAsked) (out : CopyOutside) (given : Status) (good : is_geom
   pub copy_tried : (ended : Result ℕ DupFault)
       → OfImages out (λ source old new. DupEnds source old new p copy.request.force ended)
       → IfErr ended (λ fault. IsCaused out.from.old.faults out.from.new.faults out.to.old.faults out.to.new.faults fault)
+      → IfErr ended (λ fault. NamesLine out.from_lines out.lines fault)
       → PutDup ended out.sink given
       → out.from.new.image ≡ out.from.old.image → out.from.old.faults ≤ out.from.new.faults → out.to.old.faults ≤ out.to.new.faults → out.sink.old.faults ≤ out.sink.new.faults
       → DupTop (Some copy) out given
-  copy_tried ended ends caused put same from to sink = record {
+  copy_tried ended ends caused named put same from to sink = record {
     shows = inr record {
       good = good;
       ended = ended;
       ends = subst (λ (q : Params). OfImages out (λ source old new. DupEnds source old new q copy.request.force ended)) is ends;
       caused = caused;
+      named = named;
       put = put;
     };
     same = same;

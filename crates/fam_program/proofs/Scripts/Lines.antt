@@ -1,81 +1,15 @@
--- The events of a script's lines, one behind another.
-use Rattle.std.proofs.Common.{◌≡◌, ℕ, ◌+◌, ◌<◌, ◌≤◌, get_or, arith, length, List, [], ◌∷◌, ◌++◌, drop, Some, None, Result, Ok, Err, refl, ap, sym, ◌∙◌}
-use Rattle.std.specs.List.{slice_split}
-use Rattle.std.specs.Prelude.{count_by}
-use Rattle.std.proofs.lemmas.List.{append-nil, append_assoc, at_drop_more}
-use Rattle.std.proofs.lemmas.List.Splits.{length-slice_split}
-use Rattle.std.proofs.lemmas.List.Sums.{count_by-le-length}
+-- A script's events are sound.
+use Rattle.std.proofs.Common.{◌≡◌, ℕ, List, [], ◌∷◌, ◌++◌, refl}
 use Rattle.fam_journal.specs.declared.event.Event.{Event}
-use Rattle.fam_grammar.specs.declared.fault.LineFault.{LineFault}
-use Rattle.fam_grammar.specs.declared.fault.LineFault.TheVariants.{BadLine, OutOfMemory}
-use Rattle.fam_grammar.specs.Scripts.{IsBadLine, LineReading, events_from, is_line_feed, line_reads, script_events, with_line}
+use Rattle.fam_grammar.specs.Scripts.{events_in, line_reads, script_events}
 use Rattle.fam_grammar.specs.Sound.{IsSoundEvent}
 use Rattle.fam_program.specs.Far.{AreSoundEvents}
-use Rattle.fam_program.specs.Reading.{IsBadScript}
-
--- events before the others, unless a line is bad
-abbrev pub behind_events : List Event → Result (List Event) (ℕ × ℕ) → Result (List Event) (ℕ × ℕ)
-behind_events events (Ok more) = Ok (events ++ more)
-behind_events events (Err bad) = Err bad
-
-pub none_behind : (said : Result (List Event) (ℕ × ℕ)) → said ≡ behind_events [] said
-none_behind (Ok more) = refl
-none_behind (Err bad) = refl
-
-pub one_more : (events : List Event) (event : Event) (number : ℕ) (rest : Result (List Event) (ℕ × ℕ)) → behind_events events (with_line (Ok (Some event)) number rest) ≡ behind_events (events ++ event ∷ []) rest
-one_more events event number (Ok more) = ap Ok (sym (append_assoc events (event ∷ []) more))
-one_more events event number (Err bad) = refl
 
 pub sound_more : (events : List Event) (event : Event) → AreSoundEvents events → IsSoundEvent event → AreSoundEvents (events ++ event ∷ [])
 sound_more [] event all one = (one, tt)
 sound_more (e ∷ events) event all one = (all.0, sound_more events event all.1 one)
 
--- The lines of a script.
-
-abbrev pub lines_of : List ℕ → List (List ℕ)
-lines_of bytes = slice_split is_line_feed bytes
-
-count_few : (bytes : List ℕ) → count_by is_line_feed bytes ≤ length bytes
-count_few bytes = count_by-le-length is_line_feed bytes
-
--- they are no more than its bytes and one
-pub lines_few : (bytes : List ℕ) → length (lines_of bytes) ≤ length bytes + 1
-lines_few bytes = let count = length-slice_split is_line_feed bytes in let few = count_few bytes in omega (arith, count, few)
-
--- what was read so far: these events, from the first `n` lines
-abbrev pub HasRead : List ℕ → ℕ → List Event → Type 0
-HasRead bytes n events = script_events bytes ≡ behind_events events (events_from (n + 1) (drop n (lines_of bytes)))
-
-pub none_read : (bytes : List ℕ) → HasRead bytes 0 []
+-- they are those of its lines
+pub script_is : (bytes : List ℕ) → script_events bytes ≡ events_in line_reads bytes
 unfolding script_events
-none_read bytes = none_behind (events_from 1 (lines_of bytes))
-
-module _ (bytes : List ℕ) (n : ℕ) (events : List Event) (so_far : HasRead bytes n events) (line : List ℕ) (within : n < length (lines_of bytes)) (is : line ≡ get_or (lines_of bytes) n line) where
-  next_line : drop n (lines_of bytes) ≡ line ∷ drop (n + 1) (lines_of bytes)
-  next_line = at_drop_more (λ (l : List (List ℕ)). l) (lines_of bytes) n line within ∙ ap (λ (x : List ℕ). x ∷ drop (n + 1) (lines_of bytes)) (sym is)
-
-  by_line : (said : LineReading) → line_reads line ≡ said → script_events bytes ≡ behind_events events (with_line said (n + 1) (events_from (n + 1 + 1) (drop (n + 1) (lines_of bytes))))
-  by_line said says =
-      so_far
-      ∙ ap (λ (ls : List (List ℕ)). behind_events events (events_from (n + 1) ls)) next_line
-      ∙ ap (λ (r : LineReading). behind_events events (with_line r (n + 1) (events_from (n + 1 + 1) (drop (n + 1) (lines_of bytes))))) says
-
-  -- a line without an event
-  pub read_none : line_reads line ≡ Ok None → HasRead bytes (n + 1) events
-  read_none says = by_line (Ok None) says
-
-  -- one more event
-  pub read_one : (event : Event) (more : List Event) → line_reads line ≡ Ok (Some event) → more ≡ events ++ event ∷ [] → HasRead bytes (n + 1) more
-  read_one event more says more_is =
-      by_line (Ok (Some event)) says
-      ∙ one_more events event (n + 1) (events_from (n + 1 + 1) (drop (n + 1) (lines_of bytes)))
-      ∙ ap (λ (es : List Event). behind_events es (events_from (n + 1 + 1) (drop (n + 1) (lines_of bytes)))) (sym more_is)
-
-  -- a bad line
-  pub read_bad : (fault : LineFault) → IsBadLine (n + 1) (line_reads line) fault → IsBadScript (script_events bytes) fault
-  read_bad (BadLine at column) bad = by_line (Err column) bad.1 ∙ ap (λ (k : ℕ). Err (k, column)) (sym bad.0)
-  read_bad OutOfMemory bad = tt
-
--- all lines
-pub read_all : (bytes : List ℕ) (n : ℕ) (events : List Event) → HasRead bytes n events → drop n (lines_of bytes) ≡ [] → script_events bytes ≡ Ok events
-read_all bytes n events so_far none = so_far ∙ ap (λ (ls : List (List ℕ)). behind_events events (events_from (n + 1) ls)) none ∙ ap Ok (append-nil events)
+script_is bytes = refl

@@ -1,17 +1,18 @@
-use Rattle.std.proofs.Common.{◌≡◌, ℕ, ◌<◌, ◌++◌, ◌∷◌, [], List, Some, Ok, length, get_or, arith, rules, tests, refl, ap, subst, sym, ◌∙◌}
+use Rattle.std.proofs.Common.{◌≡◌, ℕ, ◌<◌, ◌++◌, ◌∷◌, [], List, Some, Ok, Result, length, get_or, arith, rules, tests, refl, ap, subst, sym, ◌∙◌}
 use Rattle.std.proofs.lemmas.Iterator.Consumers.{YieldsList-at, YieldsList-end, YieldsList-turn}
 use Rattle.std.proofs.lemmas.Iterator.Splits.{YieldsList-from_slice_split}
 use Rattle.std.proofs.lemmas.List.{drop_all, length_push}
 use Rattle.fam_journal.specs.declared.event.Event.{Event}
-use Rattle.fam_grammar.specs.Scripts.{is_line_feed}
+use Rattle.fam_grammar.specs.Scripts.{IsBadScript, is_line_feed, line_reads, lines_of}
 use Rattle.fam_program.specs.Far.{AreSoundEvents}
-use Rattle.fam_program.proofs.Scripts.Lines.{HasRead, lines_few, lines_of, none_read, read_all, read_bad, read_none, read_one, sound_more}
+use Rattle.fam_grammar.proofs.LinesRead.{HasRead, lines_few, none_read, read_all, read_bad, read_none, read_one}
+use Rattle.fam_program.proofs.Scripts.Lines.{script_is, sound_more}
 use Rattle.fam_program.proofs.read.read_script.Goals as goal
 
 pub loop-line-init : goal.loop-line-init
 loop-line-init c = record {
   number = refl;
-  read = subst (λ (es : List Event). HasRead c.args.bytes.now 0 es) (sym c.new-events.ensures.items) (none_read c.args.bytes.now);
+  read = subst (λ (es : List Event). HasRead line_reads c.args.bytes.now 0 es) (sym c.new-events.ensures.items) (none_read line_reads c.args.bytes.now);
   sound = subst AreSoundEvents (sym c.new-events.ensures.items) tt;
 }
 
@@ -31,7 +32,7 @@ loop-line-preserved-in-Ok-None c =
     subst (λ (k : ℕ). (k < length (lines_of c.args.bytes.now)) × (c.in-Some.line.now ≡ get_or (lines_of c.args.bytes.now) k c.in-Some.line.now)) (sym c.loop-line.invariant.number) t in
     record {
       number = let n = length_push c.loop-line.yielded c.in-Some.line in let m = c.loop-line.invariant.number in omega (arith, n, m);
-      read = read_none c.args.bytes.now c.loop-line.number c.loop-line.events.items c.loop-line.invariant.read c.in-Some.line.now here.0 here.1 (c.in-Ok-None.ensures.value ∙ ap Ok c.in-Ok-None.field-0-is);
+      read = read_none line_reads c.args.bytes.now c.loop-line.number c.loop-line.events.items c.loop-line.invariant.read c.in-Some.line.now here.0 here.1 (c.in-Ok-None.ensures.value ∙ ap Ok c.in-Ok-None.field-0-is);
       sound = c.loop-line.invariant.sound;
     }
 
@@ -44,7 +45,7 @@ loop-line-preserved c =
     let pushed : c.push.new.self.items ≡ c.loop-line.events.items ++ c.in-Ok-Some.event ∷ [] = search rules in
     record {
       number = let n = length_push c.loop-line.yielded c.in-Some.line in let m = c.loop-line.invariant.number in omega (arith, n, m);
-      read = read_one c.args.bytes.now c.loop-line.number c.loop-line.events.items c.loop-line.invariant.read c.in-Some.line.now here.0 here.1 c.in-Ok-Some.event c.push.new.self.items says pushed;
+      read = read_one line_reads c.args.bytes.now c.loop-line.number c.loop-line.events.items c.loop-line.invariant.read c.in-Some.line.now here.0 here.1 c.in-Ok-Some.event c.push.new.self.items says pushed;
       sound = subst AreSoundEvents (sym pushed) (sound_more c.loop-line.events.items c.in-Ok-Some.event c.loop-line.invariant.sound (c.what_reads_is_sound.ensures c.in-Some.line.now (Some c.in-Ok-Some.event) says));
     }
 
@@ -53,9 +54,10 @@ returns-in-Err-clause-bad c =
     let t = YieldsList-turn (YieldsList-at c.into_iter-line-iterator.ensures.into_iter_gives (YieldsList-from_slice_split _ is_line_feed c.args.bytes.now c.split-line-items.ensures.rest c.split-line-items.ensures.done c.split-line-items.ensures.closure (λ x b q k. search (rules, tests)))) c.loop-line.yielded _ c.loop-line.yielded_by _ _ c.in-Some.line c.in-Some.is c.next.ensures.steps in
     let here : (c.loop-line.number < length (lines_of c.args.bytes.now)) × (c.in-Some.line.now ≡ get_or (lines_of c.args.bytes.now) c.loop-line.number c.in-Some.line.now) =
     subst (λ (k : ℕ). (k < length (lines_of c.args.bytes.now)) × (c.in-Some.line.now ≡ get_or (lines_of c.args.bytes.now) k c.in-Some.line.now)) (sym c.loop-line.invariant.number) t in
-    read_bad c.args.bytes.now c.loop-line.number c.loop-line.events.items c.loop-line.invariant.read c.in-Some.line.now here.0 here.1 c.in-Err.fault c.in-Err.ensures.bad
+    subst (λ (said : Result (List Event) (ℕ × ℕ)). IsBadScript said c.in-Err.fault) (sym (script_is c.args.bytes.now))
+    (read_bad line_reads c.args.bytes.now c.loop-line.number c.loop-line.events.items c.loop-line.invariant.read c.in-Some.line.now here.0 here.1 c.in-Err.fault c.in-Err.ensures.bad)
 
 pub returns-clause-read : goal.returns-clause-read
 returns-clause-read c =
     let all = YieldsList-end (YieldsList-at c.into_iter-line-iterator.ensures.into_iter_gives (YieldsList-from_slice_split _ is_line_feed c.args.bytes.now c.split-line-items.ensures.rest c.split-line-items.ensures.done c.split-line-items.ensures.closure (λ x b q k. search (rules, tests)))) c.loop-line.yielded _ c.loop-line.yielded_by _ _ c.in-None.is c.next.ensures.steps in
-    read_all c.args.bytes.now c.loop-line.number c.loop-line.events.items c.loop-line.invariant.read (drop_all c.loop-line.number (lines_of c.args.bytes.now) (let n = c.loop-line.invariant.number in let m = all.1 in omega (arith, n, m)))
+    script_is c.args.bytes.now ∙ read_all line_reads c.args.bytes.now c.loop-line.number c.loop-line.events.items c.loop-line.invariant.read (drop_all c.loop-line.number (lines_of c.args.bytes.now) (let n = c.loop-line.invariant.number in let m = all.1 in omega (arith, n, m)))

@@ -2,7 +2,7 @@ use Rattle.std.proofs.Common.{◌≡◌, ℕ, List, Ok, Result, ap, subst, sym, 
 use Rattle.std.specs.Prelude.{IfOk}
 use Rattle.fam_grammar.specs.Scripts.{script_events}
 use Rattle.fam_journal.specs.declared.event.Event.{Event}
-use Rattle.fam_program.specs.Reading.{IsBadScript}
+use Rattle.fam_grammar.specs.Scripts.{IsBadScript}
 use Rattle.fam_storm.specs.Events.{ReadNoSource}
 use Rattle.fam_program.proofs.storms.storm_events.Goals as goal
 

@@ -3,7 +3,7 @@ use Rattle.fam_media.specs.States.{change}
 use Rattle.fam_outcomes.specs.Runs.{NoneFalls, Outside}
 use Rattle.fam_program.specs.Runs.{outside_of}
 use Rattle.fam_words.specs.declared.wanted.Invocation.{Invocation}
-use Rattle.fam_top.specs.Calls.{CallEnds, HasUuids, command_of}
+use Rattle.fam_top.specs.Calls.{CallEnds, HasCommandUuids, command_of}
 use Rattle.fam_top.specs.Words.{invocation_named}
 use Rattle.fam_top.proofs.Endings.{no_command, no_memory}
 use Rattle.fam_top.proofs.Uuids.{named_uuids}
@@ -17,7 +17,7 @@ returns-in-Ok-Some-clause-ends g c =
     (record {
       ends = c.run_invocation.ensures.ends;
       image = c.is_image.ensures;
-      uuids = subst (λ (o : Option Invocation). IfSome (option_map (command_of c.args.me c.args.random) o) HasUuids) (sym c.in-Ok-Some.ensures.value ∙ c.in-Ok-Some.field-0-is)
+      uuids = subst (λ (o : Option Invocation). IfSome (option_map (command_of c.args.me c.args.random) o) HasCommandUuids) (sym c.in-Ok-Some.ensures.value ∙ c.in-Ok-Some.field-0-is)
           (named_uuids c.args.me c.args.random c.is_uuid.ensures c.has_uuid.ensures _);
     })
 

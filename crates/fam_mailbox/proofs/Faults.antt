@@ -1,0 +1,116 @@
+-- Why no event is run, by what was read.
+use Rattle.std.proofs.Common.{◌≡◌, ℕ, ◌+◌, ◌≤◌, ◌<◌, List, length, Option, Some, Result, Ok, Err, inl, inr, arith}
+use Rattle.std.specs.Prelude.{IfErr, IfOk}
+use Rattle.std.specs.FinMap as map
+use Rattle.fam_base.specs.Image.{Image, line_at}
+use Rattle.fam_base.specs.declared.entry.Entry.{Entry}
+use Rattle.fam_base.specs.declared.entry.Kind.TheVariants as kind
+use Rattle.fam_base.specs.declared.entry.Params.{Params}
+use Rattle.fam_dup.specs.Findings.{FaultInLog, FaultInSlot, FaultInSuper, Finding, SmallFrom, from_or}
+use Rattle.fam_dup.proofs.Failing.{rose_later}
+use Rattle.fam_format.specs.declared.faults.LogFault.{LogFault}
+use Rattle.fam_format.specs.declared.faults.Reason.{Reason}
+use Rattle.fam_format.specs.declared.faults.SuperFault.{SuperFault}
+use Rattle.fam_format.specs.Layout.{least_lines}
+use Rattle.fam_format.specs.Reading as read
+use Rattle.fam_format.specs.Reading.{Reading, reading}
+use Rattle.fam_format.specs.Tree.{replay}
+use Rattle.fam_mail.specs.Boxes.{box_of, capacity_of}
+use Rattle.fam_mail.specs.Checks.{IfFailed, IfWrong, IsReadLine}
+use Rattle.fam_mail.specs.declared.check.BoxFault.{BoxFault}
+use Rattle.fam_mail.specs.declared.check.BoxFault.TheVariants as check
+use Rattle.fam_mail.specs.declared.check.WrongBox.TheVariants as wrong
+use Rattle.fam_media.specs.Causes.{Rose}
+use Rattle.fam_media.specs.Outside.{IfModelled}
+use Rattle.fam_media.specs.States.{MediaChange}
+use Rattle.fam_rules.specs.Written.{file_line}
+use Rattle.fam_mailbox.specs.declared.fault.LookFault.{LookFault}
+use Rattle.fam_mailbox.specs.declared.fault.LookFault.TheVariants as fault
+use Rattle.fam_mailbox.specs.Lookups.{HasEntries, HasFile, IsLookCaused, IsNoFile, IsSo, look_of}
+
+-- What an image reads as.
+
+pub in_super : (r : Reading) (f : SuperFault) → ((rest : List Entry → Finding) → from_or r rest ≡ FaultInSuper f) → r ≡ read.NoSuperblock f
+in_super (read.NoSuperblock g) f told = let e = told (λ l. SmallFrom 0) in cc
+in_super (read.BadHeader g) f told = let e = told (λ l. SmallFrom 0) in absurd cc
+in_super (read.BadSlot i reason) f told = let e = told (λ l. SmallFrom 0) in absurd cc
+in_super (read.Sound p entries) f told = let e = told (λ l. SmallFrom 0) in absurd cc
+
+pub in_log : (r : Reading) (f : LogFault) → ((rest : List Entry → Finding) → from_or r rest ≡ FaultInLog f) → r ≡ read.BadHeader f
+in_log (read.NoSuperblock g) f told = let e = told (λ l. SmallFrom 0) in absurd cc
+in_log (read.BadHeader g) f told = let e = told (λ l. SmallFrom 0) in cc
+in_log (read.BadSlot i reason) f told = let e = told (λ l. SmallFrom 0) in absurd cc
+in_log (read.Sound p entries) f told = let e = told (λ l. SmallFrom 0) in absurd cc
+
+pub in_slot : (r : Reading) (seq : ℕ) (reason : Reason) → ((rest : List Entry → Finding) → from_or r rest ≡ FaultInSlot seq reason) → r ≡ read.BadSlot seq reason
+in_slot (read.NoSuperblock g) seq reason told = let e = told (λ l. SmallFrom 0) in absurd cc
+in_slot (read.BadHeader g) seq reason told = let e = told (λ l. SmallFrom 0) in absurd cc
+in_slot (read.BadSlot i other) seq reason told = let e = told (λ l. SmallFrom 0) in cc
+in_slot (read.Sound p entries) seq reason told = let e = told (λ l. SmallFrom 0) in absurd cc
+
+-- What stands at a path.
+
+pub no_file_so : (path : List ℕ) (image : Image) (params : Params) (entries : List Entry) (f : LookFault) → least_lines ≤ length image → reading image ≡ read.Sound params entries → IsNoFile entries path f → IsSo path image f
+no_file_so path image params entries (fault.ImageSmall n) enough reads none = absurd none
+no_file_so path image params entries (fault.NoSuper word) enough reads none = absurd none
+no_file_so path image params entries (fault.BadSuper field found wanted) enough reads none = absurd none
+no_file_so path image params entries (fault.BadLog field found wanted) enough reads none = absurd none
+no_file_so path image params entries (fault.BadEntry seq reason) enough reads none = absurd none
+no_file_so path image params entries (fault.NotFound m) enough reads none = record { params = params; entries = entries; has = record { enough = enough; reads = reads }; count = none.0; none = none.1 }
+no_file_so path image params entries (fault.IsDirectory m) enough reads (count, entry, there, directory) =
+    record { params = params; entries = entries; has = record { enough = enough; reads = reads }; count = count; entry = entry; there = there; directory = directory }
+no_file_so path image params entries (fault.BoxSmall size) enough reads none = absurd none
+no_file_so path image params entries (fault.BadBox gate capacity) enough reads none = absurd none
+no_file_so path image params entries (fault.BadRecord i) enough reads none = absurd none
+no_file_so path image params entries (fault.MediaFault at) enough reads none = absurd none
+no_file_so path image params entries fault.OutOfMemory enough reads none = absurd none
+
+-- where the image is modelled
+pub files_found : (path : List ℕ) (told : Option Image) (params : Params) (entries : List Entry) (r : Result Entry LookFault) → IfModelled told (λ image. HasEntries image params entries)
+    → IfOk r (λ e. map.get (replay entries) path ≡ Some e) → IfOk r (λ e. e.kind ≡ kind.File) → IfOk r (λ e. IfModelled told (λ image. HasFile path image e))
+files_found path told params entries (Ok e) has there file = λ image is. record { params = params; entries = entries; has = has image is; there = there; file = file }
+files_found path told params entries (Err f) has there file = tt
+
+pub no_files : (path : List ℕ) (told : Option Image) (params : Params) (entries : List Entry) (r : Result Entry LookFault) → IfModelled told (λ image. HasEntries image params entries)
+    → IfErr r (IsNoFile entries path) → IfErr r (λ f. IfModelled told (λ image. IsSo path image f))
+no_files path told params entries (Ok e) has none = tt
+no_files path told params entries (Err f) has none = λ image is. let h = has image is in no_file_so path image params entries f h.enough h.reads none
+
+pub no_file_caused : (lines : ℕ) (media : MediaChange) (path : List ℕ) (entries : List Entry) (f : LookFault) → IsNoFile entries path f → IsLookCaused lines media f
+no_file_caused lines media path entries (fault.ImageSmall n) none = tt
+no_file_caused lines media path entries (fault.NoSuper word) none = tt
+no_file_caused lines media path entries (fault.BadSuper field found wanted) none = tt
+no_file_caused lines media path entries (fault.BadLog field found wanted) none = tt
+no_file_caused lines media path entries (fault.BadEntry seq reason) none = tt
+no_file_caused lines media path entries (fault.NotFound m) none = tt
+no_file_caused lines media path entries (fault.IsDirectory m) none = tt
+no_file_caused lines media path entries (fault.BoxSmall size) none = tt
+no_file_caused lines media path entries (fault.BadBox gate capacity) none = tt
+no_file_caused lines media path entries (fault.BadRecord i) none = tt
+no_file_caused lines media path entries (fault.MediaFault at) none = absurd none
+no_file_caused lines media path entries fault.OutOfMemory none = tt
+
+-- The box.
+
+pub box_so : (path : List ℕ) (image : Image) (told : Option Image) (entry : Entry) (f : BoxFault) → told ≡ Some image → HasFile path image entry → 128 ≤ entry.size
+    → IfWrong f (λ w. IfModelled told (λ i. box_of (file_line entry) (capacity_of entry.size) (line_at i) ≡ Err w)) → IsSo path image (look_of f)
+box_so path image told entry (check.Wrong (wrong.BadBox gate capacity)) is file room none = record { entry = entry; file = file; room = room; wrong_is = none image is }
+box_so path image told entry (check.Wrong (wrong.BadRecord i)) is file room none = record { entry = entry; file = file; room = room; wrong_is = none image is }
+box_so path image told entry (check.MediaFault line) is file room none = tt
+
+-- a line that is read is the media's
+read_within : (place : ℕ → ℕ) (capacity line lines : ℕ) (told : Option Image) → ((j : ℕ) → j ≤ capacity → place j < lines) → IsReadLine place capacity told line → line < lines
+read_within place capacity line lines told within (inl gate) = let below = within 0 (omega arith) in omega (arith, gate, below)
+read_within place capacity line lines told within (inr r) =
+    let a = r.below in
+    let b = r.room in
+    let below = within (1 + r.number) (omega (arith, a, b)) in
+    let is = r.line_is in
+    omega (arith, is, below)
+
+pub box_caused : (lines : ℕ) (media : MediaChange) (before : ℕ) (place : ℕ → ℕ) (capacity : ℕ) (told : Option Image) (f : BoxFault) → media.old.faults ≤ before → ((j : ℕ) → j ≤ capacity → place j < lines)
+    → IfFailed f (λ line. Rose before media.new.faults) → IfFailed f (λ line. IsReadLine place capacity told line.0) → IsLookCaused lines media (look_of f)
+box_caused lines media before place capacity told (check.Wrong (wrong.BadBox gate most)) later within rose read = tt
+box_caused lines media before place capacity told (check.Wrong (wrong.BadRecord i)) later within rose read = tt
+box_caused lines media before place capacity told (check.MediaFault line) later within rose read =
+    (rose_later media.old.faults before media.new.faults later rose, read_within place capacity line.0 lines told within read)

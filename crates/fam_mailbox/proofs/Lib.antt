@@ -1,0 +1,6 @@
+pub mod Found
+pub mod Faults
+pub mod Rendering
+pub mod Running
+pub mod Mailing
+pub mod Leaving

@@ -1,0 +1,145 @@
+//! The file at a path of an image, and the box in it.
+
+ghost use Rattle.std.specs.Prelude.{◌≡◌, ◌≤◌, ℕ, IfErr, IfOk, List, Ok, Some, length};
+ghost use Rattle.std.specs.FinMap as map;
+ghost use Rattle.fam_base.specs.Image.{Image, line_at};
+ghost use Rattle.fam_base.specs.declared.entry.Entry.{Entry as EntryValue};
+ghost use Rattle.fam_base.specs.declared.entry.Kind.TheVariants as kind;
+ghost use Rattle.fam_dup.specs.Ends.{IsCausedByFrom, NamesLine};
+ghost use Rattle.fam_dup.specs.Findings.{Finding, Names, class_of, from_or};
+ghost use Rattle.fam_format.specs.Layout.{least_lines};
+ghost use Rattle.fam_format.specs.Reading.{reading};
+ghost use Rattle.fam_format.specs.Tree.{replay};
+ghost use Rattle.fam_mail.specs.Boxes.{IsBox, capacity_of};
+ghost use Rattle.fam_media.specs.Causes.{IsSteady};
+ghost use Rattle.fam_media.specs.Outside.{IfModelled};
+ghost use Rattle.fam_media.specs.States.{MediaChange, change};
+ghost use Rattle.fam_rules.specs.Written.{file_line};
+ghost use Rattle.fam_mailbox.specs.Lookups.{HasFile, IsLookCaused, IsNoFile, IsPlaced, IsPlacedIn, IsSo, look_of};
+
+use crate::fault::LookFault;
+use fam_base::{Entry, Kind, Path};
+use fam_dup::{DupFault, read_source};
+use fam_format::LEAST_LINES;
+use fam_mail::{BoxFault, WrongBox, check_box};
+use fam_media::Media;
+use fam_plan::Plan;
+use std::alloc::Global;
+
+/// The fewest bytes of a box: a gate, and one record.
+const LEAST_BOX: u64 = 128;
+
+/// A fault of the lines that tell an image's entries.
+fn entries_fault(fault: DupFault) -> LookFault
+    requires alone { (before : ℕ) × (now : ℕ) × IsCausedByFrom before now (class_of fault) }
+    ensures is { (path : List ℕ) (image : Image) → least_lines ≤ length image
+        → ((rest : List EntryValue → Finding) → Names (class_of fault) (from_or (reading image) rest)) → IsSo path image result }
+    ensures cause { (lines : ℕ) (media : MediaChange) → IsCausedByFrom media.old.faults media.new.faults (class_of fault)
+        → NamesLine lines 0 fault → IsLookCaused lines media result }
+{
+    match fault {
+        DupFault::NoSuper(word) => LookFault::NoSuper(word),
+        DupFault::BadSuper {
+            field,
+            found,
+            wanted,
+        } => LookFault::BadSuper {
+            field,
+            found,
+            wanted,
+        },
+        DupFault::BadLog {
+            field,
+            found,
+            wanted,
+        } => LookFault::BadLog {
+            field,
+            found,
+            wanted,
+        },
+        DupFault::BadEntry { seq, reason } => LookFault::BadEntry { seq, reason },
+        DupFault::FromFault(line) => LookFault::MediaFault(line),
+        DupFault::OutOfMemory => LookFault::OutOfMemory,
+        DupFault::ImageSmall(_)
+        | DupFault::TooSmall { .. }
+        | DupFault::HasSuper(_)
+        | DupFault::Stopped { .. }
+        | DupFault::ToFault(_) => unreachable!(),
+    }
+}
+
+/// The file at a path of entries, or why there is none: `NotFound` and `IsDirectory`, with the number of entries.
+fn file_in(plan: &Plan, path: &Path) -> Result<Entry, LookFault>
+    ensures there { IfOk result (λ entry. map.get (replay plan.now.entries) path.now ≡ Some entry) }
+    ensures file { IfOk result (λ entry. entry.kind ≡ kind.File) }
+    ensures placed { IfOk result (IsPlacedIn plan.now.params) }
+    ensures none { IfErr result (IsNoFile plan.now.entries path.now) }
+{
+    plan.each_entry_joins();
+    let m = plan.count();
+    match plan.tree().get(path) {
+        None => Err(LookFault::NotFound(m)),
+        Some(entry) => match entry.kind {
+            Kind::Directory => Err(LookFault::IsDirectory(m)),
+            Kind::File => Ok(entry),
+        },
+    }
+}
+
+/// The entry of the file at a path of an image, whose log is read once.
+fn find_file<M: Media>(alloc: Global, media: &mut M, path: &Path) -> Result<Entry, LookFault>
+    ensures found { IfOk result (λ entry. IfModelled (M.state media.old).image (λ image. HasFile path.now image entry)) }
+    ensures placed { IfOk result (IsPlaced (M.size media.old)) }
+    ensures fault { IfErr result (λ fault. IfModelled (M.state media.old).image (λ image. IsSo path.now image fault)) }
+    ensures cause { IfErr result (IsLookCaused (M.size media.old) (change M.state media.old media.new)) }
+    ensures same { (M.state media.new).image ≡ (M.state media.old).image }
+    ensures steady { IsSteady M.size M.state media.old media.new }
+{
+    let lines = media.lines();
+    if lines < LEAST_LINES {
+        return Err(LookFault::ImageSmall(lines));
+    }
+    match read_source(alloc, media) {
+        Ok(plan) => file_in(&plan, path),
+        Err(fault) => Err(entries_fault(fault)),
+    }
+}
+
+/// A fault of a box.
+fn box_fault(fault: BoxFault) -> LookFault
+    ensures { result ≡ look_of fault }
+{
+    match fault {
+        BoxFault::Wrong(WrongBox::BadBox { gate, capacity }) => {
+            LookFault::BadBox { gate, capacity }
+        }
+        BoxFault::Wrong(WrongBox::BadRecord(i)) => LookFault::BadRecord(i),
+        BoxFault::MediaFault(line) => LookFault::MediaFault(line),
+    }
+}
+
+/// The entry of the file at a path of an image, in which a box stands: the log is read once, and then the gate and the records
+/// below it. The first fault that is so comes, unless the media fails or no memory is left; the image is as it was.
+pub fn find_box<M: Media>(alloc: Global, media: &mut M, path: &Path) -> Result<Entry, LookFault>
+    ensures found { IfOk result (λ entry. IfModelled (M.state media.old).image (λ image. HasFile path.now image entry)) }
+    ensures room { IfOk result (λ entry. 128 ≤ entry.size) }
+    ensures placed { IfOk result (IsPlaced (M.size media.old)) }
+    ensures read { IfOk result (λ entry. IfModelled (M.state media.old).image (λ image.
+        IsBox (file_line entry) (capacity_of entry.size) (line_at image))) }
+    ensures fault { IfErr result (λ fault. IfModelled (M.state media.old).image (λ image. IsSo path.now image fault)) }
+    ensures cause { IfErr result (IsLookCaused (M.size media.old) (change M.state media.old media.new)) }
+    ensures same { (M.state media.new).image ≡ (M.state media.old).image }
+    ensures steady { IsSteady M.size M.state media.old media.new }
+{
+    let entry = match find_file(alloc, media, path) {
+        Ok(entry) => entry,
+        Err(fault) => return Err(fault),
+    };
+    if entry.size < LEAST_BOX {
+        return Err(LookFault::BoxSmall(entry.size));
+    }
+    match check_box(media, &entry) {
+        Ok(()) => Ok(entry),
+        Err(fault) => Err(box_fault(fault)),
+    }
+}

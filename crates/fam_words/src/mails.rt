@@ -1,0 +1,60 @@
+//! Words that ask for a script over a mailbox.
+
+ghost use Rattle.std.specs.Prelude.{◌≡◌, IfOk, map, string_bytes};
+ghost use Rattle.clap.specs.Words.{found_of, rows_of};
+ghost use Rattle.fam_words.specs.Mails.{mail_behind, mail_call, mail_in};
+
+use crate::apps;
+use crate::simple::{matches, value};
+use crate::values::{name_of, path_of};
+use crate::wanted::MailCall;
+use clap::ArgMatches;
+use fam_base::{NameText, OutOfMemory};
+use std::alloc::Global;
+
+/// The script, the image and the path that the words name.
+#[tactic(auto, unfolding(crate::specs::Mails::mail_in))]
+fn named(alloc: Global, found: &ArgMatches<'_>) -> Result<Option<MailCall>, OutOfMemory>
+    ensures { IfOk result (λ call. call ≡ mail_in (rows_of (found_of found.now))) }
+{
+    let Some(script) = name_of(alloc, value(found, "file"))? else {
+        return Ok(None);
+    };
+    let Some(image) = value(found, "image") else {
+        return Ok(None);
+    };
+    let Some(path) = path_of(value(found, "path")) else {
+        return Ok(None);
+    };
+    Ok(Some(MailCall {
+        script,
+        image: NameText::new(alloc, image)?,
+        path,
+    }))
+}
+
+/// The words behind the command's name.
+fn behind(alloc: Global, words: &[String]) -> Result<Option<MailCall>, OutOfMemory>
+    ensures { IfOk result (λ call. call ≡ mail_behind (map string_bytes words.now)) }
+{
+    let command = apps::mail(alloc)?;
+    let Some(found) = matches(command, words)? else {
+        return Ok(None);
+    };
+    named(alloc, &found)
+}
+
+/// What the words after the program's name ask for, where that is a script over a mailbox, and `None` exactly where it
+/// isn't.
+#[tactic(auto, unfolding(crate::specs::Mails::mail_call))]
+pub fn read_mail_words(alloc: Global, words: &[String]) -> Result<Option<MailCall>, OutOfMemory>
+    ensures { IfOk result (λ call. call ≡ mail_call (map string_bytes words.now)) }
+{
+    let [first, rest @ ..] = words else {
+        return Ok(None);
+    };
+    if first.as_str() == "mail" {
+        return behind(alloc, rest);
+    }
+    Ok(None)
+}

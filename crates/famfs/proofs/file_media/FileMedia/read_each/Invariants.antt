@@ -1,0 +1,9 @@
+use Rattle.std.proofs.Common.{◌≡◌, ◌≤◌, length}
+use Rattle.famfs.proofs.file_media.FileMedia.read_each.Given as goal
+
+abbrev pub invariant-loop-k : goal.invariant-loop-k
+invariant-loop-k l = record {
+  len : length l.lines ≡ length l.fn.lines;
+  size : l.self.lines ≡ l.fn.self.lines;
+  later : l.fn.self.faults ≤ l.self.faults;
+}

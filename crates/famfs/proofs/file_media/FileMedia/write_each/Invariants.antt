@@ -1,0 +1,8 @@
+use Rattle.std.proofs.Common.{◌≡◌, ◌≤◌}
+use Rattle.famfs.proofs.file_media.FileMedia.write_each.Given as goal
+
+abbrev pub invariant-loop-k : goal.invariant-loop-k
+invariant-loop-k l = record {
+  size : l.self.lines ≡ l.fn.self.lines;
+  later : l.fn.self.faults ≤ l.self.faults;
+}
