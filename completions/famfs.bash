@@ -27,7 +27,7 @@ _famfs_places() {
     case $1 in
         mkfs | logplay | fsck) echo "file" ;;
         mkdir | creat | verify) echo "file path" ;;
-        cp) echo "file file path" ;;
+        cp | mail) echo "file file path" ;;
         read) echo "file path none none" ;;
         check | script | dup) echo "file file" ;;
         storm) echo "none none file" ;;
@@ -45,13 +45,14 @@ _famfs() {
     COMPREPLY=()
     if [ "$name" = famfs ]; then
         if [ "$COMP_CWORD" = 1 ]; then
-            mapfile -t COMPREPLY < <(compgen -W "mkfs logplay mkdir creat cp verify read check fsck dup script storm" -- "$word")
+            mapfile -t COMPREPLY < <(compgen -W "mkfs logplay mkdir creat cp verify read check fsck dup script mail storm" -- "$word")
             return
         fi
         command=${COMP_WORDS[1]}
         first=2
     fi
-    local at given="" place=0 waits="" behind="" image="" pair
+    local at given="" place=0 waits="" behind="" image="" image_place=0 pair
+    [ "$command" != mail ] || image_place=1
     for ((at = first; at < COMP_CWORD; at++)); do
         local before=${COMP_WORDS[at]}
         if [ -n "$waits" ] && [ "$before" != = ]; then
@@ -64,7 +65,7 @@ _famfs() {
             given="$given $before"
             _famfs_is_flag "$command" "$before" || waits=$before
         else
-            [ $place != 0 ] || image=$before
+            [ $place != $image_place ] || image=$before
             place=$((place + 1))
         fi
     done
