@@ -1,8 +1,8 @@
 -- Writes of lines and of masked words, seen by eight words of each line.
-use Rattle.std.proofs.Common.{◌≡◌, ℕ, zero, suc, ◌<◌, List, [], ◌∷◌, Some, length, get_or, map, set, refl, sym, ap, ◌∙◌}
+use Rattle.std.proofs.Common.{◌≡◌, ℕ, zero, suc, ◌<◌, List, [], ◌∷◌, Option, Some, None, length, get_or, map, set, refl, sym, ap, ◌∙◌, arith}
 use Rattle.std.proofs.lemmas.List.{map-set, get_or_default}
-use Rattle.fam_base.specs.Image.{Image, eight, line_at, with_line, masked, with_masked}
-use Rattle.fam_base.proofs.ImageLemmas.{eight-masked, line_at-map_eight}
+use Rattle.fam_base.specs.Image.{Image, IsNormal, eight, line_at, with_line, masked, with_masked}
+use Rattle.fam_base.proofs.ImageLemmas.{eight-masked, line_at-map_eight, with_masked-none}
 use Rattle.fam_media.specs.Outside.{IsTorn, masks}
 use Rattle.fam_media.specs.MemoryMedia.{blank}
 
@@ -43,6 +43,17 @@ module _ (image now : Image) (at : ℕ) (words : List ℕ) where
     fits = fits;
     written = ap (λ (i : Image). Some (map eight i)) is ∙ ap Some (eight-with_masked image at words mask);
   }
+
+-- A write of which no word came through.
+
+-- a line is torn where nothing changed
+pub untouched_torn : (modelled : Option Image) → IsNormal modelled → (line : ℕ) (words : List ℕ) → IsTorn modelled modelled line words
+untouched_torn None normal line words = record { mask = 0; fits = omega arith; written = refl }
+untouched_torn (Some image) normal line words = record {
+  mask = 0;
+  fits = omega arith;
+  written = ap Some (sym (with_masked-none image normal line words));
+}
 
 -- blank lines have eight words
 pub eight-blank : (lines : ℕ) → map eight (blank lines) ≡ blank lines

@@ -6,5 +6,6 @@ pub mod Files
 pub mod States
 pub mod Plans
 pub mod MemoryMedia
+pub mod Frail
 pub mod MemorySink
 pub mod MemoryShelf

@@ -7,6 +7,7 @@
 //! the laws of `Media` by `specs/Modelled.antt`.
 #![tactic(auto)]
 
+mod frail;
 mod media;
 mod memory_media;
 mod memory_shelf;
@@ -15,6 +16,7 @@ mod plan;
 mod shelf;
 mod sink;
 
+pub use frail::Frail;
 pub use media::{Failed, MOST_LINES, Media, RunFailed};
 pub use memory_media::MemMedia;
 pub use memory_shelf::MemShelf;

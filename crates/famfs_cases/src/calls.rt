@@ -16,7 +16,7 @@ pub struct Outcome {
     pub status: u8,
 }
 
-/// Calls the program with words that name one image alone, and no folder.
+/// Calls the program with words that name one image alone, and no folder. Some of its lines may fail.
 fn call_on_image(
     alloc: Global,
     state: &mut State,
@@ -24,18 +24,23 @@ fn call_on_image(
     shelf: &mut MemShelf,
     sink: &mut MemSink,
 ) -> Result<Status, Stop> {
-    if mail_of(alloc, texts)?.is_some() {
-        return Ok(famfs_mail(alloc, texts, &mut state.media, shelf, sink));
-    }
-    Ok(famfs(
-        alloc,
-        texts,
-        state.host,
-        state.random,
-        &mut state.media,
-        shelf,
-        sink,
-    ))
+    let is_mail = mail_of(alloc, texts)?.is_some();
+    let mut media = state.take_frail(alloc)?;
+    let status = if is_mail {
+        famfs_mail(alloc, texts, &mut media, shelf, sink)
+    } else {
+        famfs(
+            alloc,
+            texts,
+            state.host,
+            state.random,
+            &mut media,
+            shelf,
+            sink,
+        )
+    };
+    state.media = media.into_media();
+    Ok(status)
 }
 
 /// Calls the program with the words that are left, on the image, the shelf, the folder or the other image, and a new

@@ -3,7 +3,7 @@
 use crate::state::State;
 use crate::stop::Stop;
 use crate::words::Words;
-use fam_base::Mask;
+use fam_base::{LineNo, Mask};
 use std::alloc::Global;
 
 /// The most room of a sink: 64 MiB.
@@ -40,6 +40,21 @@ fn short(alloc: Global, state: &mut State, words: &mut Words<'_>) -> Result<(), 
     let at = words.number()?;
     words.ended()?;
     state.cut_file(name, at)
+}
+
+/// A line that fails from now on.
+fn poison(state: &mut State, words: &mut Words<'_>) -> Result<(), Stop> {
+    let line = words.number()?;
+    words.ended()?;
+    state.poison(LineNo(line))
+}
+
+/// A line that fails no more.
+fn heal(state: &mut State, words: &mut Words<'_>) -> Result<(), Stop> {
+    let line = words.number()?;
+    words.ended()?;
+    state.heal(LineNo(line));
+    Ok(())
 }
 
 /// A call that is to fail.
@@ -82,6 +97,8 @@ pub fn plan(
         b"room" => room(state, words)?,
         b"short" => short(alloc, state, words)?,
         b"fail" => fail(state, words)?,
+        b"poison" => poison(state, words)?,
+        b"heal" => heal(state, words)?,
         _ => return Ok(false),
     }
     Ok(true)

@@ -4,8 +4,9 @@ use crate::bytes::{copied, copied_text, push};
 use crate::folder::Folder;
 use crate::stop::Stop;
 use fam_base::{Line, LineNo, Mask};
-use fam_media::{Media, MemMedia, MemShelf, MemSink};
+use fam_media::{Frail, Media, MemMedia, MemShelf, MemSink};
 use std::alloc::Global;
+use std::mem::replace;
 use uuid::Uuid;
 
 /// The host of a case that names no other: 00000000-0000-0000-0000-000000000001.
@@ -54,6 +55,8 @@ pub struct State {
     pub folder: Folder,
     files: Vec<File>,
     cuts: Vec<Cut>,
+    /// The lines of the image that fail.
+    poisoned: Vec<LineNo>,
     media_failures: Vec<MediaFailure>,
     other_failures: Vec<MediaFailure>,
     shelf_failures: Vec<u64>,
@@ -133,6 +136,7 @@ impl State {
             folder: Folder::new(alloc),
             files: Vec::new(alloc),
             cuts: Vec::new(alloc),
+            poisoned: Vec::new(alloc),
             media_failures: Vec::new(alloc),
             other_failures: Vec::new(alloc),
             shelf_failures: Vec::new(alloc),
@@ -151,6 +155,7 @@ impl State {
             folder: self.folder.renewed(alloc)?,
             files: copied_files(alloc, &self.files)?,
             cuts: copied_cuts(alloc, &self.cuts)?,
+            poisoned: Vec::from_slice(alloc, self.poisoned.as_slice())?,
             media_failures: Vec::from_slice(alloc, self.media_failures.as_slice())?,
             other_failures: Vec::from_slice(alloc, self.other_failures.as_slice())?,
             shelf_failures: Vec::from_slice(alloc, self.shelf_failures.as_slice())?,
@@ -197,6 +202,26 @@ impl State {
     /// A put of the next run will fail, and keep at most so many bytes.
     pub fn fail_sink(&mut self, call: u64, kept: u64) -> Result<(), Stop> {
         push(&mut self.sink_failures, SinkFailure { call, kept })
+    }
+
+    /// Each access to a line of the image fails from now on, where the run is on this image alone.
+    pub fn poison(&mut self, line: LineNo) -> Result<(), Stop> {
+        push(&mut self.poisoned, line)
+    }
+
+    /// Accesses to a line fail no more.
+    pub fn heal(&mut self, line: LineNo) {
+        self.poisoned.retain(|l| *l != line);
+    }
+
+    /// Takes the image, with the lines that fail; its place has one without lines.
+    pub fn take_frail(&mut self, alloc: Global) -> Result<Frail<MemMedia>, Stop> {
+        let empty = MemMedia::new(alloc, 0)?;
+        let mut frail = Frail::new(alloc, replace(&mut self.media, empty));
+        for line in self.poisoned.iter() {
+            frail.poison(*line)?;
+        }
+        Ok(frail)
     }
 
     /// Hands both images the calls that are to fail.
