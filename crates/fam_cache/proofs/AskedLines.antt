@@ -1,143 +1,128 @@
--- The lines that a fence sends, among the places.
-use Rattle.std.proofs.Common.{◌≡◌, ℕ, zero, suc, ◌+◌, ◌<◌, ◌≤◌, Bool, true, false, cond, [], ◌∷◌, ◌++◌, List, length, get_or, set, take, drop, map, refl, sym, ap, ◌∙◌, arith}
+-- The lines that a fence sends: the first of them, and the others once it is clean.
+use Rattle.std.proofs.Common.{◌≡◌, ◌≢◌, ℕ, ◌+◌, ◌<◌, ◌≤◌, Bool, true, false, cond, inl, inr, List, [], ◌∷◌, map, Option, Some, None, refl, sym, ap, subst, ◌∙◌, arith}
 use Rattle.std.specs.List.{filter}
-use Rattle.std.proofs.lemmas.List.{get_or_default, take-append-drop, take_more, take_more_set, take_all, drop_more, drop-set-lt}
-use Rattle.std.specs.Ordering.{nat_cmp}
-use Rattle.std.specs.FinMap.{is_sorted}
+use Rattle.std.proofs.lemmas.Bool.{false≢true, and_parts, cases_eq, cases_order}
+use Rattle.std.specs.Ordering.{nat_cmp, is_lt}
+use Rattle.std.specs.Cmp.{nat_cmp_total}
+use Rattle.std.specs.FinMap.{entries, entries-insert, entries_sorted, find, get-entries, is_sorted, put}
+use Rattle.std.specs.FinMap.Entries.{below_all}
 use Rattle.fam_machine.specs.declared.cell.Cell.{Cell}
 use Rattle.fam_machine.specs.declared.cell.Cell.TheVariants.{Absent, Clean, Dirty}
-use Rattle.fam_machine.specs.Caches.{CachedLine, asked_lines, is_marked_asked}
-use Rattle.fam_machine.specs.OneLine.{cleaned, is_asked}
-use Rattle.fam_machine.proofs.DirtyLemmas.{Lines}
-use Rattle.fam_cache.specs.Places.{IsPlaceOf, Places, normal, cache_of, copy_in_place, no_place}
-use Rattle.fam_cache.proofs.InOrder.{stands_here}
-use Rattle.fam_cache.proofs.CountLemmas.{entries_of, lines_behind, lines_of}
+use Rattle.fam_machine.specs.Caches.{Cache, CachedLine, Mark, asked, asked_lines, cell_at, cell_changed, cell_marked, cell_of, clean, dirty, is_marked_asked, with_cell}
+use Rattle.fam_machine.specs.Fences.{IsAmong}
+use Rattle.fam_machine.specs.OneLine.{IsAsked, cleaned, is_asked}
+use Rattle.fam_machine.proofs.CacheLemmas.{equal, greater, less, other_key, same_key}
+use Rattle.fam_machine.proofs.DirtyLemmas.{Lines, below_none, true_of}
+use Rattle.fam_machine.proofs.FenceLemmas.{among_is_asked}
+use Rattle.fam_cache.specs.Blocks.{AskedWithin, IsFirstAsked, NoneAsked}
+use Rattle.fam_cache.proofs.InOrder.{lt_of_less}
 
--- the numbers of those places that are asked
-pub asked_of : Places → List ℕ
-asked_of [] = []
-asked_of (e ∷ es) = cond (is_asked e.1) (e.0 ∷ asked_of es) (asked_of es)
-
--- of no places
-pub none_of_none : asked_of [] ≡ []
-unfolding asked_of
-none_of_none = refl
-
--- the numbers of those lines that are asked
 asked_in : Lines → List ℕ
 asked_in lines = map (λ (e : ℕ × CachedLine). e.0) (filter (λ (e : ℕ × CachedLine). is_marked_asked e.1.mark) lines)
 
-asked_behind : (k : ℕ) (c : Cell) (rest : Lines) → asked_in (lines_behind k c rest) ≡ cond (is_asked c) (k ∷ asked_in rest) (asked_in rest)
-unfolding asked_in lines_behind
-asked_behind k Absent rest = refl
-asked_behind k (Clean words) rest = refl
-asked_behind k (Dirty false words) rest = refl
-asked_behind k (Dirty true words) rest = refl
+asked_marked : (mark : Mark) (words : List ℕ) → is_asked (cell_marked mark words) ≡ is_marked_asked mark
+asked_marked clean words = refl
+asked_marked dirty words = refl
+asked_marked asked words = refl
 
-asked_counted : (es : Places) → asked_in (lines_of es) ≡ asked_of es
-unfolding asked_in lines_of asked_of
-asked_counted [] = refl
-asked_counted (e ∷ es) = asked_behind e.0 e.1 (lines_of es) ∙ ap (λ (ls : List ℕ). cond (is_asked e.1) (e.0 ∷ ls) ls) (asked_counted es)
+found_here : (e : ℕ × CachedLine) (rest : Lines) (q : ℕ) → q ≡ e.0 → is_asked (cell_of (find nat_cmp q (e ∷ rest))) ≡ is_marked_asked e.1.mark
+found_here e rest q same = ap (λ (b : Bool). is_asked (cell_of (cond b (Some e.1) (find nat_cmp q rest)))) (same_key q e.0 same) ∙ asked_marked e.1.mark e.1.words
 
--- a fence sends the lines whose places are asked
-pub asked_places : (es : Places) → is_sorted nat_cmp es ≡ true → asked_lines (cache_of es) ≡ asked_of es
+found_later : (e : ℕ × CachedLine) (rest : Lines) (q : ℕ) → q ≢ e.0 → is_asked (cell_of (find nat_cmp q (e ∷ rest))) ≡ is_asked (cell_of (find nat_cmp q rest))
+found_later e rest q other = ap (λ (b : Bool). is_asked (cell_of (cond b (Some e.1) (find nat_cmp q rest)))) (other_key q e.0 other)
+
+below_too : (x y : ℕ) (lines : Lines) → x < y → below_all nat_cmp y lines ≡ true → below_all nat_cmp x lines ≡ true
+below_too x y [] less_than below = refl
+below_too x y (e ∷ lines) less_than below =
+    let both = and_parts (is_lt (nat_cmp y e.0)) (below_all nat_cmp y lines) below in
+    let h : x < e.0 = omega (arith, less_than, lt_of_less y e.0 both.0) in
+    rw (less x e.0 h) (below_too x y lines less_than both.1)
+
+-- one that is asked comes first, and one that isn't is left out
+with_first : (b : Bool) (e : ℕ × CachedLine) (rest : Lines) → b ≡ true → map (λ (e : ℕ × CachedLine). e.0) (cond b (e ∷ rest) rest) ≡ e.0 ∷ map (λ (e : ℕ × CachedLine). e.0) rest
+with_first true e rest is = refl
+with_first false e rest is = absurd (false≢true is)
+
+without_first : (b : Bool) (e : ℕ × CachedLine) (rest : Lines) → (b ≡ true → ⊥) → map (λ (e : ℕ × CachedLine). e.0) (cond b (e ∷ rest) rest) ≡ map (λ (e : ℕ × CachedLine). e.0) rest
+without_first true e rest not = absurd (not refl)
+without_first false e rest not = refl
+
+module _ (l : ℕ) (words : List ℕ) where
+  abbrev sent_line : CachedLine
+  sent_line = record { words = words; mark = clean }
+
+  first_in : (lines : Lines) → is_sorted nat_cmp lines ≡ true → is_asked (cell_of (find nat_cmp l lines)) ≡ true → ((q : ℕ) → q < l → is_asked (cell_of (find nat_cmp q lines)) ≡ true → ⊥) → asked_in lines ≡ l ∷ asked_in (put nat_cmp l sent_line lines)
+  unfolding asked_in
+  first_in [] sorted is none = absurd (false≢true is)
+  first_in (e ∷ lines) sorted is none =
+      let both = and_parts (below_all nat_cmp e.0 lines) (is_sorted nat_cmp lines) sorted in
+      let others : Lines = filter (λ (e : ℕ × CachedLine). is_marked_asked e.1.mark) lines in
+      elim (cases_order l e.0) [
+        | inl same ↦
+            with_first (is_marked_asked e.1.mark) e others (sym (found_here e lines l same) ∙ is)
+            ∙ ap (λ (k : ℕ). k ∷ asked_in lines) (sym same)
+            ∙ ap (λ (ls : Lines). l ∷ asked_in ls) (sym (put_same e lines same))
+        | inr d ↦ elim d [
+          | inl up ↦ absurd (false≢true (sym (ap (λ (o : Option CachedLine). is_asked (cell_of o)) (below_none l lines (below_too l e.0 lines up both.0))) ∙ sym (found_later e lines l (λ same. omega (arith, up, same))) ∙ is))
+          | inr down ↦
+              let unasked : is_marked_asked e.1.mark ≡ true → ⊥ = λ marked. none e.0 down (found_here e lines e.0 refl ∙ marked) in
+              without_first (is_marked_asked e.1.mark) e others unasked
+              ∙ first_in lines both.1 (sym (found_later e lines l (λ same. omega (arith, down, same))) ∙ is)
+              (λ q before found. elim (cases_eq q e.0) [
+                | inl same ↦ false≢true (sym (ap (λ (o : Option CachedLine). is_asked (cell_of o)) (ap (λ (k : ℕ). find nat_cmp k lines) same ∙ below_none e.0 lines both.0)) ∙ found)
+                | inr other ↦ none q before (found_later e lines q other ∙ found)
+              ])
+              ∙ ap (λ (ls : List ℕ). l ∷ ls) (sym (ap asked_in (put_later e lines down) ∙ without_first (is_marked_asked e.1.mark) e (filter (λ (e : ℕ × CachedLine). is_marked_asked e.1.mark) (put nat_cmp l sent_line lines)) unasked))
+        ]
+      ]
+    where
+      put_same : (e : ℕ × CachedLine) (lines : Lines) → l ≡ e.0 → put nat_cmp l sent_line (e ∷ lines) ≡ (e.0, sent_line) ∷ lines
+      put_same e lines same = rw (equal l e.0 same) refl
+
+      put_later : (e : ℕ × CachedLine) (lines : Lines) → e.0 < l → put nat_cmp l sent_line (e ∷ lines) ≡ e ∷ put nat_cmp l sent_line lines
+      put_later e lines down = rw (greater l e.0 down) refl
+
+cleaned_lines_in : (cache : Cache) (l : ℕ) (cell : Cell) → IsAsked cell → is_asked (cell_of (find nat_cmp l (entries cache))) ≡ true → ((q : ℕ) → q < l → is_asked (cell_of (find nat_cmp q (entries cache))) ≡ true → ⊥) →
+    asked_in (entries cache) ≡ l ∷ asked_lines (with_cell l (cleaned cell) cache)
 unfolding asked_in asked_lines
-asked_places es sorted = ap asked_in (entries_of es sorted) ∙ asked_counted es
+cleaned_lines_in cache l Absent is_so is none = absurd (false≢true is_so)
+cleaned_lines_in cache l (Clean words) is_so is none = absurd (false≢true is_so)
+cleaned_lines_in cache l (Dirty a words) is_so is none =
+    first_in l words (entries cache) (true_of _ (entries_sorted cache)) is none ∙ ap (λ (ls : Lines). l ∷ asked_in ls) (sym (entries-insert nat_cmp_total cache l _))
 
--- of places one after another
-append_first : (b : Bool) (x : ℕ) (us vs ws : List ℕ) → us ≡ vs ++ ws → cond b (x ∷ us) us ≡ cond b (x ∷ vs) vs ++ ws
-append_first true x us vs ws same = ap (λ (ls : List ℕ). x ∷ ls) same
-append_first false x us vs ws same = same
+at_entries : (cache : Cache) (q : ℕ) → is_asked (cell_at cache q) ≡ is_asked (cell_of (find nat_cmp q (entries cache)))
+at_entries cache q = ap (λ (o : Option CachedLine). is_asked (cell_of o)) (get-entries cache q)
 
-asked_append : (es fs : Places) → asked_of (es ++ fs) ≡ asked_of es ++ asked_of fs
-unfolding asked_of
-asked_append [] fs = refl
-asked_append (e ∷ es) fs = append_first (is_asked e.1) e.0 (asked_of (es ++ fs)) (asked_of es) (asked_of fs) (asked_append es fs)
+-- the first asked line is the first that a fence sends
+pub first_line : (cache : Cache) (l : ℕ) → IsAsked (cell_at cache l) → ((q : ℕ) → q < l → IsAsked (cell_at cache q) → ⊥) → asked_lines cache ≡ l ∷ asked_lines (cell_changed l cleaned cache)
+unfolding asked_in asked_lines
+first_line cache l is none =
+    cleaned_lines_in cache l (cell_at cache l) is (sym (at_entries cache l) ∙ is) (λ q before found. none q before (at_entries cache q ∙ found))
 
-pub asked_split : (es : Places) (at : ℕ) → asked_of (take at es) ≡ [] → asked_of es ≡ asked_of (drop at es)
-asked_split es at none =
-    sym (ap asked_of (take-append-drop at es)) ∙ asked_append (take at es) (drop at es) ∙ ap (λ (ls : List ℕ). ls ++ asked_of (drop at es)) none
+-- where none is asked it sends none
+pub none_left : (cache : Cache) → ((q : ℕ) → IsAsked (cell_at cache q) → ⊥) → asked_lines cache ≡ []
+none_left cache none = by (asked_lines cache) refl
+  where
+    by : (lines : List ℕ) → asked_lines cache ≡ lines → lines ≡ []
+    by [] is = refl
+    by (x ∷ lines) is = absurd (none x (among_is_asked cache x (subst (IsAmong x) (sym is) (inl refl))))
 
-alone : (e : ℕ × Cell) → is_asked e.1 ≡ false → asked_of (e ∷ []) ≡ []
-unfolding asked_of
-alone e not = ap (λ (b : Bool). cond b (e.0 ∷ []) []) not
+-- What a walk over the asked lines finds.
+module _ (cache : Cache) (from last : ℕ) (within : AskedWithin from last cache) where
+  -- nothing more
+  pub none_more : NoneAsked from (last + 1) cache → asked_lines cache ≡ []
+  none_more none = none_left cache (λ q is. none q (within.low q is) (omega (arith, within.high q is)) is)
 
-first_of : (e : ℕ × Cell) (es : Places) → is_asked e.1 ≡ true → asked_of (e ∷ es) ≡ e.0 ∷ asked_of es
-unfolding asked_of
-first_of e es asked = ap (λ (b : Bool). cond b (e.0 ∷ asked_of es) (asked_of es)) asked
+  -- the next one, and the others behind it
+  module _ (line : ℕ) (first : IsFirstAsked cache from line) where
+    none_first : (q : ℕ) → q < line → IsAsked (cell_at cache q) → ⊥
+    none_first q below is = first.none q (within.low q is) below is
 
-none_more : (es : Places) (at : ℕ) (x : ℕ × Cell) → take (at + 1) es ≡ take at es ++ x ∷ [] → is_asked x.1 ≡ false → asked_of (take at es) ≡ [] → asked_of (take (at + 1) es) ≡ []
-none_more es at x more not none = ap asked_of more ∙ asked_append (take at es) (x ∷ []) ∙ ap (λ (ls : List ℕ). ls ++ asked_of (x ∷ [])) none ∙ alone x not
+    pub next_line : asked_lines cache ≡ line ∷ asked_lines (cell_changed line cleaned cache)
+    next_line = first_line cache line first.asked none_first
 
-module _ (es : Places) (at : ℕ) (x : ℕ × Cell) (within : at < length es) (none : asked_of (take at es) ≡ []) where
-  -- none is asked up to this place
-  pub none_up_to : x ≡ get_or es at x → is_asked x.1 ≡ false → asked_of (take (at + 1) es) ≡ []
-  none_up_to read not = none_more es at x (take_more es at x within ∙ ap (λ (e : ℕ × Cell). take at es ++ e ∷ []) (sym read)) not none
-
-  -- this is the first that is asked
-  pub first_asked : x ≡ get_or es at x → is_asked x.1 ≡ true → asked_of es ≡ x.0 ∷ asked_of (drop (at + 1) es)
-  first_asked read asked =
-      asked_split es at none ∙ ap asked_of (drop_more es at x within ∙ ap (λ (e : ℕ × Cell). e ∷ drop (at + 1) es) (sym read)) ∙ first_of x (drop (at + 1) es) asked
-
-  -- its place is set, and isn't asked then
-  pub none_set : (y : ℕ × Cell) → is_asked y.1 ≡ false → asked_of (take (at + 1) (set es at y)) ≡ []
-  none_set y not =
-      ap asked_of (take_more_set es at y within) ∙ asked_append (take at es) (y ∷ []) ∙ ap (λ (ls : List ℕ). ls ++ asked_of (y ∷ [])) none ∙ alone y not
-
-  -- and the others behind it are the same
-  pub rest_set : (y : ℕ × Cell) → is_asked y.1 ≡ false → asked_of (set es at y) ≡ asked_of (drop (at + 1) es)
-  rest_set y not = asked_split (set es at y) (at + 1) (none_set y not) ∙ ap asked_of (drop-set-lt (at + 1) es at y (omega arith))
-
--- none is asked at all
-pub none_at_all : (es : Places) (at : ℕ) → length es ≤ at → asked_of (take at es) ≡ [] → asked_of es ≡ []
-none_at_all es at past none = sym (ap asked_of (take_all at es past)) ∙ none
-
--- What the code reads of a place that is asked.
-module _ (es : Places) (at : ℕ) (y : ℕ × Cell) (sorted : is_sorted nat_cmp es ≡ true) (within : at < length es) (read : y ≡ get_or es at y) where
-  pub stands_at : IsPlaceOf es at y.0
-  stands_at = stands_here es sorted at y.0 (within, sym (ap (λ (e : ℕ × Cell). e.0) (read ∙ get_or_default es at y no_place within)))
-
-  -- its line is the first that a fence sends
-  pub first_line : (x : ℕ × Cell) → asked_of (take at es) ≡ [] → x ≡ get_or es at x → is_asked x.1 ≡ true → asked_lines (cache_of es) ≡ y.0 ∷ asked_of (drop (at + 1) es)
-  first_line x none reads asked =
-      asked_places es sorted
-      ∙ first_asked es at x within none reads asked
-      ∙ ap (λ (e : ℕ × Cell). e.0 ∷ asked_of (drop (at + 1) es)) (reads ∙ get_or_default es at x y within ∙ sym read)
-
-cleaned_unasked : (c : Cell) → is_asked (cleaned c) ≡ false
-cleaned_unasked Absent = refl
-cleaned_unasked (Clean words) = refl
-cleaned_unasked (Dirty a words) = refl
-
--- Once its copy is clean.
-module _ (es new : Places) (at : ℕ) (y : ℕ × Cell) (copy : Cell) (within : at < length es) (none : asked_of (take at es) ≡ []) (set_is : new ≡ set es at (y.0, cleaned copy)) where
-  pub none_then : asked_of (take (at + 1) new) ≡ []
-  none_then = ap (λ (fs : Places). asked_of (take (at + 1) fs)) set_is ∙ none_set es at y within none (y.0, cleaned copy) (cleaned_unasked copy)
-
-  pub rest_then : is_sorted nat_cmp new ≡ true → asked_lines (cache_of new) ≡ asked_of (drop (at + 1) es)
-  rest_then sorted = asked_places new sorted ∙ ap asked_of set_is ∙ rest_set es at y within none (y.0, cleaned copy) (cleaned_unasked copy)
-
--- behind the last place no line is asked
-pub none_left : (es : Places) (at : ℕ) → is_sorted nat_cmp es ≡ true → length es ≤ at → asked_of (take at es) ≡ [] → asked_lines (cache_of es) ≡ []
-none_left es at sorted past none = asked_places es sorted ∙ none_at_all es at past none
-
--- Where the copies aren't asked, in some places.
-
-none_in : (es : Places) → ((j : ℕ) → j < length es → is_asked (copy_in_place es j) ≡ false) → asked_of es ≡ []
-unfolding asked_of
-none_in [] all = refl
-none_in (e ∷ es) all =
-    ap (λ (b : Bool). cond b (e.0 ∷ asked_of es) (asked_of es)) (all 0 (omega arith)) ∙ none_in es (λ j inside. all (suc j) (omega (arith, inside)))
-
-pub none_before : (es : Places) (at : ℕ) → ((j : ℕ) → j < at → j < length es → is_asked (copy_in_place es j) ≡ false) → asked_of (take at es) ≡ []
-unfolding asked_of
-none_before es zero all = refl
-none_before [] (suc at) all = refl
-none_before (e ∷ es) (suc at) all =
-    ap (λ (b : Bool). cond b (e.0 ∷ asked_of (take at es)) (asked_of (take at es))) (all 0 (omega arith) (omega arith))
-    ∙ none_before es at (λ j up inside. all (suc j) (omega (arith, up)) (omega (arith, inside)))
-
-pub none_behind : (es : Places) (at : ℕ) → ((j : ℕ) → at ≤ j → j < length es → is_asked (copy_in_place es j) ≡ false) → asked_of (drop at es) ≡ []
-none_behind es zero all = none_in es (λ j inside. all j (omega arith) inside)
-none_behind [] (suc at) all = none_of_none
-none_behind (e ∷ es) (suc at) all = none_behind es at (λ j from inside. all (suc j) (omega (arith, from)) (omega (arith, inside)))
+    pub low_then : (q : ℕ) → IsAsked (cell_at cache q) → line ≤ q
+    low_then q is = elim (cases_order q line) [
+      | inl e ↦ omega (arith, e)
+      | inr d ↦ elim d [ inl up ↦ absurd (none_first q up is) | inr down ↦ omega (arith, down) ]
+    ]

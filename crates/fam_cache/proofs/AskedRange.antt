@@ -15,11 +15,9 @@ use Rattle.fam_machine.proofs.CacheLemmas.{cell_at-empty, cell_at-with_cell_othe
 use Rattle.fam_machine.proofs.FenceLemmas.{none_asked}
 use Rattle.fam_cache.specs.Effects.{FromMemory}
 use Rattle.fam_cache.specs.Operations.{CleansSome, cleaned_lines}
-use Rattle.fam_cache.specs.Places.{AskedWithin, IsPlaceOf, Places, cache_of, copy_in_place, normal, number_at}
-use Rattle.fam_cache.proofs.AskedLines.{asked_of, asked_places, asked_split, none_before, none_behind}
+use Rattle.fam_cache.specs.Blocks.{AskedWithin, IsFirstAsked}
+use Rattle.fam_cache.proofs.AskedLines.{low_then}
 use Rattle.fam_cache.proofs.Fenced.{sent_cleaned}
-use Rattle.fam_cache.proofs.HeldLemmas.{cell_placed}
-use Rattle.fam_cache.proofs.InOrder.{all_from, stands_here}
 
 -- Where no line is asked that wasn't.
 
@@ -112,35 +110,12 @@ pub within_sent : (first last : ℕ) (old new : Cache) → new ≡ cleaned_lines
 within_sent first last old new is =
     within_none first last new (λ l asked. none_asked (machine [] old) l (subst (λ (c : Cache). IsAsked (cell_at c l)) (is ∙ sym (sent_cleaned (asked_lines old) (machine [] old))) asked))
 
--- Places.
-
-normal_asked : (copy : Cell) → is_asked (normal copy) ≡ is_asked copy
-normal_asked Absent = refl
-normal_asked (Clean words) = refl
-normal_asked (Dirty a words) = refl
-
-module _ (es : Places) (sorted : is_sorted nat_cmp es ≡ true) (first last : ℕ) (within : AskedWithin first last (cache_of es)) where
-  -- a place outside isn't asked
-  outside : (j : ℕ) → j < length es → (number_at es j < first) ⊎ (last < number_at es j) → is_asked (copy_in_place es j) ≡ false
-  outside j below out = by (is_asked (copy_in_place es j)) refl
-    where
-      asked : is_asked (copy_in_place es j) ≡ true → IsAsked (cell_at (cache_of es) (number_at es j))
-      asked is = ap is_asked (cell_placed es (number_at es j) sorted j (stands_here es sorted j (number_at es j) (below, refl))) ∙ normal_asked (copy_in_place es j) ∙ is
-
-      none : IsAsked (cell_at (cache_of es) (number_at es j)) → (number_at es j < first) ⊎ (last < number_at es j) → ⊥
-      none is (inl less) = absurd (let low = within.low (number_at es j) is in omega (arith, low, less))
-      none is (inr more) = absurd (let high = within.high (number_at es j) is in omega (arith, high, more))
-
-      by : (b : Bool) → is_asked (copy_in_place es j) ≡ b → b ≡ false
-      by false is = refl
-      by true is = absurd (none (asked is) out)
-
-  -- no place before the first line's is asked
-  pub none_to : (at : ℕ) → at ≤ length es → ((j : ℕ) → j < at → number_at es j < first) → asked_of (take at es) ≡ []
-  none_to at below before = none_before es at (λ j up inside. outside j inside (inl (before j up)))
-
-  -- and none from one on that lies behind the last line
-  pub none_from : (at : ℕ) → at < length es → last < number_at es at → asked_of (take at es) ≡ [] → asked_lines (cache_of es) ≡ []
-  none_from at below past none =
-      asked_places es sorted ∙ asked_split es at none
-      ∙ none_behind es at (λ j from inside. outside j inside (inr (let more = all_from es sorted at (suc last) below (omega (arith, past)) j from inside in omega (arith, more))))
+-- in a fence: once a line was sent, the others are behind it
+pub within_next : (from last line : ℕ) (old new : Cache) → AskedWithin from last old → IsFirstAsked old from line → new ≡ cell_changed line cleaned old → AskedWithin line last new
+within_next from last line old new within first is = record {
+  low = λ q asked. low_then old from last within line first q (was q asked);
+  high = λ q asked. within.high q (was q asked);
+}
+  where
+    was : (q : ℕ) → IsAsked (cell_at new q) → IsAsked (cell_at old q)
+    was q asked = changed line (cleaned (cell_at old line)) old new is (cleaned_asked (cell_at old line)) q asked

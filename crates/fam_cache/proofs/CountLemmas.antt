@@ -1,101 +1,155 @@
--- Dirty places are as many as dirty lines.
-use Rattle.std.proofs.Common.{◌≡◌, ℕ, ◌+◌, true, false, cond, [], ◌∷◌, length, refl, sym, ap, ◌∙◌, arith}
+-- Dirty marks are as many as dirty lines.
+use Rattle.std.proofs.Common.{◌≡◌, ◌≢◌, ℕ, zero, suc, ◌+◌, ◌*◌, ◌/◌, ◌<◌, ◌≤◌, Bool, true, false, cond, inl, inr, List, [], ◌∷◌, ◌++◌, length, get_or, take, Option, Some, None, refl, sym, ap, ap₂, subst, ◌∙◌, arith}
 use Rattle.std.specs.Prelude.{count_by}
-use Rattle.std.proofs.lemmas.Bool.{and_parts}
+use Rattle.std.proofs.lemmas.Bool.{cases_order}
+use Rattle.std.proofs.lemmas.List.{get_or-take, length-take-le, take_all, take_more}
 use Rattle.std.proofs.lemmas.List.Sums.{sum_by-cons}
-use Rattle.std.specs.Ordering.{nat_cmp, is_lt}
-use Rattle.std.specs.declared.cmp.Ordering.{Ordering}
-use Rattle.std.specs.declared.cmp.Ordering.TheVariants.{Less, Equal, Greater}
+use Rattle.std.specs.Ordering.{nat_cmp}
 use Rattle.std.specs.Cmp.{nat_cmp_total}
 use Rattle.std.specs.FinMap as finite
-use Rattle.std.specs.FinMap.{is_sorted, put, entries-insert, len-entries, len-empty}
-use Rattle.std.specs.FinMap.Entries.{below_all, by_order}
+use Rattle.std.specs.FinMap.{entries, entries-insert, find, get-entries, len-entries, len-empty, put}
 use Rattle.fam_machine.specs.declared.cell.Cell.{Cell}
 use Rattle.fam_machine.specs.declared.cell.Cell.TheVariants.{Absent, Clean, Dirty}
+use Rattle.fam_machine.specs.Caches.{Cache, CachedLine, cell_at, cell_of, dirty_count, is_marked_dirty, unsent_mark, with_cell}
 use Rattle.fam_machine.specs.OneLine.{is_dirty}
-use Rattle.fam_machine.specs.Caches.{clean, unsent_mark, CachedLine, with_cell, dirty_count}
-use Rattle.fam_machine.proofs.CacheLemmas.{with_cell_own}
-use Rattle.fam_base.specs.Image.{eight}
-use Rattle.fam_cache.specs.Places.{Places, normal, cache_of, IsGap}
-use Rattle.fam_cache.proofs.HeldLemmas.{cell_gap}
-use Rattle.fam_machine.proofs.DirtyLemmas.{Lines, count_lines, count_first}
-use Rattle.fam_cache.proofs.InOrder.{below_at}
+use Rattle.fam_machine.proofs.CacheLemmas.{equal, greater, less, same_key, other_key, with_cell_own}
+use Rattle.fam_machine.proofs.DirtyLemmas.{Lines, count_first, count_lines}
+use Rattle.fam_cache.specs.declared.blocks.Block.{Block}
+use Rattle.fam_cache.specs.declared.blocks.Mark.{Mark}
+use Rattle.fam_cache.specs.declared.blocks.Mark.TheVariants.{Empty, Fresh, Stored, Asked}
+use Rattle.fam_cache.specs.Blocks.{HasNone, IsWhole, block_at, cache_of, cell_in, is_dirty_by, marked, no_block, number_at, with_lines}
+use Rattle.fam_cache.proofs.BlockLemmas.{cell_none, lines_other}
 
--- the lines that places hold, in order
-unfoldable pub lines_behind : ℕ → Cell → Lines → Lines
-lines_behind k Absent rest = rest
-lines_behind k (Clean words) rest = (k, record { words = eight words; mark = clean }) ∷ rest
-lines_behind k (Dirty a words) rest = (k, record { words = eight words; mark = unsent_mark a }) ∷ rest
+-- one more line, which isn't there, counts where it is dirty
+not_found : (v : CachedLine) → Some v ≡ None → ⊥
+not_found v e = absurd cc
 
-unfoldable pub lines_of : Places → Lines
-lines_of [] = []
-lines_of (e ∷ es) = lines_behind e.0 e.1 (lines_of es)
+count_put : (l : ℕ) (v : CachedLine) (lines : Lines) → find nat_cmp l lines ≡ None → count_lines (put nat_cmp l v lines) ≡ cond (is_marked_dirty v.mark) 1 0 + count_lines lines
+count_put l v [] none = count_first (l, v) []
+count_put l v (e ∷ lines) none =
+    elim (cases_order l e.0) [
+      | inl same ↦ absurd (not_found e.1 (sym (ap (λ (b : Bool). cond b (Some e.1) (find nat_cmp l lines)) (same_key l e.0 same)) ∙ none))
+      | inr d ↦ elim d [
+        | inl up ↦ rw (less l e.0 up) (count_first (l, v) (e ∷ lines))
+        | inr down ↦
+            let later : find nat_cmp l lines ≡ None = sym (ap (λ (b : Bool). cond b (Some e.1) (find nat_cmp l lines)) (other_key l e.0 (λ same. omega (arith, down, same)))) ∙ none in
+            let rest = count_put l v lines later in
+            rw (greater l e.0 down) (count_first e (put nat_cmp l v lines) ∙ (let sum : cond (is_marked_dirty e.1.mark) 1 0 + count_lines (put nat_cmp l v lines) ≡ cond (is_marked_dirty v.mark) 1 0 + count_lines (e ∷ lines) = omega (arith, rest, count_first e lines) in sum))
+      ]
+    ]
 
-below_behind : (x k : ℕ) (c : Cell) (rest : Lines) → is_lt (nat_cmp x k) ≡ true → below_all nat_cmp x rest ≡ true → below_all nat_cmp x (lines_behind k c rest) ≡ true
-unfolding lines_behind
-below_behind x k Absent rest first behind = behind
-below_behind x k (Clean words) rest first behind = rw first behind
-below_behind x k (Dirty a words) rest first behind = rw first behind
+nothing_of : (o : Option CachedLine) → cell_of o ≡ Absent → o ≡ None
+nothing_of None is = refl
+nothing_of (Some copy) is = absurd (marked_there copy.mark is)
+  where
+    marked_there : (mark : Rattle.fam_machine.specs.Caches.Mark) → Rattle.fam_machine.specs.Caches.cell_marked mark copy.words ≡ Absent → ⊥
+    marked_there Rattle.fam_machine.specs.Caches.clean is = absurd cc
+    marked_there Rattle.fam_machine.specs.Caches.dirty is = absurd cc
+    marked_there Rattle.fam_machine.specs.Caches.asked is = absurd cc
 
-below_lines : (x : ℕ) (es : Places) → below_all nat_cmp x es ≡ true → below_all nat_cmp x (lines_of es) ≡ true
-unfolding lines_of
-below_lines x [] h = refl
-below_lines x (e ∷ es) h =
-    let both = and_parts (is_lt (nat_cmp x e.0)) (below_all nat_cmp x es) h in
-    below_behind x e.0 e.1 (lines_of es) both.0 (below_lines x es both.1)
+count_marked : (a : Bool) → is_marked_dirty (unsent_mark a) ≡ true
+count_marked true = refl
+count_marked false = refl
 
-less_of : (o : Ordering) → is_lt o ≡ true → o ≡ Less
-less_of Less h = refl
-less_of Equal h = absurd cc
-less_of Greater h = absurd cc
-
--- a line below all others is put at the front
-put_prefix : (k : ℕ) (v : CachedLine) (rest : Lines) → below_all nat_cmp k rest ≡ true → put nat_cmp k v rest ≡ (k, v) ∷ rest
-put_prefix k v [] h = refl
-put_prefix k v (e ∷ rest) h =
-    ap (λ (o : Ordering). by_order o ((k, v) ∷ e ∷ rest) ((e.0, v) ∷ rest) (e ∷ put nat_cmp k v rest))
-    (less_of _ (and_parts (is_lt (nat_cmp k e.0)) (below_all nat_cmp k rest) h).0)
-
-first_gap : (k : ℕ) (es : Places) → below_all nat_cmp k es ≡ true → IsGap es 0 k
-first_gap k es h = record {
-  within = omega arith;
-  before = λ j below. absurd (omega arith);
-  after = below_at k es h 0;
-}
-
-entries_with : (k : ℕ) (c : Cell) (es : Places) → is_sorted nat_cmp es ≡ true → below_all nat_cmp k es ≡ true →
-    finite.entries (cache_of es) ≡ lines_of es → finite.entries (with_cell k (normal c) (cache_of es)) ≡ lines_behind k c (lines_of es)
-unfolding lines_behind
-entries_with k Absent es sorted below same =
-    ap finite.entries (ap (λ (c : Cell). with_cell k c (cache_of es)) (sym (cell_gap es k sorted 0 (first_gap k es below))) ∙ with_cell_own k (cache_of es)) ∙ same
-entries_with k (Clean words) es sorted below same =
-    entries-insert nat_cmp_total (cache_of es) k _ ∙ ap (put nat_cmp k (record { words = eight words; mark = clean })) same ∙ put_prefix k _ (lines_of es) (below_lines k es below)
-entries_with k (Dirty a words) es sorted below same =
-    entries-insert nat_cmp_total (cache_of es) k _ ∙ ap (put nat_cmp k (record { words = eight words; mark = unsent_mark a })) same ∙ put_prefix k _ (lines_of es) (below_lines k es below)
-
-none_of : (lines : Lines) → length lines ≡ 0 → lines ≡ []
-none_of [] is = refl
-none_of (e ∷ lines) is = absurd (omega arith)
-
-pub entries_of : (es : Places) → is_sorted nat_cmp es ≡ true → finite.entries (cache_of es) ≡ lines_of es
-unfolding lines_of
-entries_of [] sorted = none_of _ (sym (len-entries finite.empty) ∙ len-empty nat_cmp CachedLine)
-entries_of (e ∷ es) sorted =
-    let both = and_parts (below_all nat_cmp e.0 es) (is_sorted nat_cmp es) sorted in
-    entries_with e.0 e.1 es both.1 both.0 (entries_of es both.1)
-
-count_behind : (k : ℕ) (c : Cell) (rest : Lines) → count_lines (lines_behind k c rest) ≡ cond (is_dirty c) 1 0 + count_lines rest
-unfolding lines_behind
-count_behind k Absent rest = omega arith
-count_behind k (Clean words) rest = count_first (k, _) rest
-count_behind k (Dirty false words) rest = count_first (k, _) rest
-count_behind k (Dirty true words) rest = count_first (k, _) rest
-
-count_of : (es : Places) → count_lines (lines_of es) ≡ count_by (λ (e : ℕ × Cell). is_dirty e.1) es
-unfolding lines_of count_lines
-count_of [] = refl
-count_of (e ∷ es) = count_behind e.0 e.1 (lines_of es) ∙ ap (λ (n : ℕ). cond (is_dirty e.1) 1 0 + n) (count_of es) ∙ sym (sum_by-cons {X = ℕ × Cell} (λ x. cond (is_dirty x.1) 1 0) e es)
-
-pub dirty_counted : (es : Places) → is_sorted nat_cmp es ≡ true → count_by (λ (e : ℕ × Cell). is_dirty e.1) es ≡ dirty_count (cache_of es)
+dirty_with : (cache : Cache) (l : ℕ) (cell : Cell) → cell_at cache l ≡ Absent → dirty_count (with_cell l cell cache) ≡ cond (is_dirty cell) 1 0 + dirty_count cache
 unfolding count_lines
-dirty_counted es sorted = sym (ap count_lines (entries_of es sorted) ∙ count_of es)
+dirty_with cache l Absent none =
+    let same : dirty_count (with_cell l Absent cache) ≡ dirty_count cache = ap dirty_count (sym (ap (λ (c : Cell). with_cell l c cache) none) ∙ with_cell_own l cache) in
+    omega (arith, same)
+dirty_with cache l (Clean words) none =
+    ap count_lines (entries-insert nat_cmp_total cache l _) ∙ count_put l _ (entries cache) (sym (get-entries cache l) ∙ nothing_of (finite.get cache l) none)
+dirty_with cache l (Dirty a words) none =
+    ap count_lines (entries-insert nat_cmp_total cache l _) ∙ count_put l _ (entries cache) (sym (get-entries cache l) ∙ nothing_of (finite.get cache l) none)
+    ∙ ap (λ (b : Bool). cond b 1 0 + dirty_count cache) (count_marked a)
+
+dirty_empty : dirty_count finite.empty ≡ 0
+unfolding count_lines
+dirty_empty = ap count_lines (none_of _ (sym (len-entries finite.empty) ∙ len-empty nat_cmp CachedLine))
+  where
+    none_of : (lines : Lines) → length lines ≡ 0 → lines ≡ []
+    none_of [] is = refl
+    none_of (e ∷ lines) is = absurd (omega arith)
+
+-- The lines of one block.
+
+dirty_marked : (mark : Mark) (words : List ℕ) → is_dirty (marked mark words) ≡ is_dirty_by mark
+dirty_marked Empty words = refl
+dirty_marked Fresh words = refl
+dirty_marked Stored words = refl
+dirty_marked Asked words = refl
+
+count_append : (m : Mark) (ms : List Mark) → count_by is_dirty_by (ms ++ m ∷ []) ≡ cond (is_dirty_by m) 1 0 + count_by is_dirty_by ms
+count_append m [] = sum_by-cons {X = Mark} (λ x. cond (is_dirty_by x) 1 0) m []
+count_append m (x ∷ ms) =
+    let all = sum_by-cons {X = Mark} (λ x. cond (is_dirty_by x) 1 0) x (ms ++ m ∷ []) in
+    let these = sum_by-cons {X = Mark} (λ x. cond (is_dirty_by x) 1 0) x ms in
+    omega (arith, all, these, count_append m ms)
+
+lines_counted : (b : Block) (cache : Cache) → IsWhole b → ((i : ℕ) → i < 16 → cell_at cache (16 * b.number + i) ≡ Absent) → (n : ℕ) → n ≤ 16 → dirty_count (with_lines b n cache) ≡ count_by is_dirty_by (take n b.marks) + dirty_count cache
+unfolding with_lines cell_in
+lines_counted b cache whole none zero few =
+    let nothing : count_by is_dirty_by (take 0 b.marks) ≡ 0 = refl in
+    omega (arith, nothing)
+lines_counted b cache whole none (suc n) few =
+    let mark : Mark = get_or b.marks n Empty in
+    let one = dirty_with (with_lines b n cache) (16 * b.number + n) (marked mark (get_or b.words n [])) (lines_other b n cache (16 * b.number + n) (λ i below e. omega (arith, below, e)) ∙ none n (omega (arith, few))) in
+    let test : cond {A = ℕ} (is_dirty (marked mark (get_or b.words n []))) 1 0 ≡ cond {A = ℕ} (is_dirty_by mark) 1 0 = ap (λ (t : Bool). cond t 1 0) (dirty_marked mark (get_or b.words n [])) in
+    let rest = lines_counted b cache whole none n (omega (arith, few)) in
+    let more : count_by is_dirty_by (take (suc n) b.marks) ≡ cond (is_dirty_by mark) 1 0 + count_by is_dirty_by (take n b.marks) =
+    ap (λ (k : ℕ). count_by is_dirty_by (take k b.marks)) (let step : suc n ≡ n + 1 = omega arith in step) ∙ ap (count_by is_dirty_by) (take_more b.marks n Empty (omega (arith, few, whole.marks))) ∙ count_append mark (take n b.marks) in
+    omega (arith, one, test, rest, more)
+
+-- The blocks.
+
+pub dirty_of : List Block → ℕ
+dirty_of [] = 0
+dirty_of (b ∷ bs) = count_by is_dirty_by b.marks + dirty_of bs
+
+blocks_counted : (bs : List Block) → ((j : ℕ) → j < length bs → IsWhole (block_at bs j)) → ((i j : ℕ) → i < length bs → j < length bs → number_at bs i ≡ number_at bs j → i ≡ j) → dirty_count (cache_of bs) ≡ dirty_of bs
+unfolding cache_of dirty_of
+blocks_counted [] whole alone = dirty_empty
+blocks_counted (b ∷ bs) whole alone =
+    let first : IsWhole b = whole 0 (omega arith) in
+    let none : HasNone bs b.number = λ j below e. (let at : suc j ≡ 0 = alone (suc j) 0 (omega (arith, below)) (omega arith) e in omega (arith, at)) in
+    lines_counted b (cache_of bs) first
+    (λ i few. cell_none bs (16 * b.number + i) (λ j below e. (let quotient : (16 * b.number + i) / 16 ≡ b.number = omega (arith, few) in none j below (e ∙ quotient))))
+    16 (omega arith)
+    ∙ ap₂ (λ (x y : ℕ). x + y) (ap (count_by is_dirty_by) (take_all 16 b.marks (omega (arith, first.marks))))
+    (blocks_counted bs (λ j below. whole (suc j) (omega (arith, below))) (λ i j at_i at_j e. (let same : suc i ≡ suc j = alone (suc i) (suc j) (omega (arith, at_i)) (omega (arith, at_j)) e in omega (arith, same))))
+
+pub dirty_counted : (bs : List Block) → ((j : ℕ) → j < length bs → IsWhole (block_at bs j)) → ((i j : ℕ) → i < length bs → j < length bs → number_at bs i ≡ number_at bs j → i ≡ j) → dirty_of bs ≡ dirty_count (cache_of bs)
+dirty_counted bs whole alone = sym (blocks_counted bs whole alone)
+
+count_few : (ms : List Mark) → count_by is_dirty_by ms ≤ length ms
+count_few [] = omega arith
+count_few (m ∷ ms) = one_more (is_dirty_by m) (count_by is_dirty_by (m ∷ ms)) (count_by is_dirty_by ms) (length ms) (sum_by-cons {X = Mark} (λ x. cond (is_dirty_by x) 1 0) m ms) (count_few ms)
+  where
+    one_more : (b : Bool) (all some long : ℕ) → all ≡ cond b 1 0 + some → some ≤ long → all ≤ suc long
+    one_more true all some long is few = omega (arith, is, few)
+    one_more false all some long is few = omega (arith, is, few)
+
+-- of so many blocks, the next one's dirty lines are counted too
+dirty_append : (bs : List Block) (b : Block) → dirty_of (bs ++ b ∷ []) ≡ dirty_of bs + count_by is_dirty_by b.marks
+unfolding dirty_of
+dirty_append [] b = omega arith
+dirty_append (x ∷ bs) b = omega (arith, dirty_append bs b)
+
+pub dirty_none : dirty_of [] ≡ 0
+unfolding dirty_of
+dirty_none = refl
+
+pub dirty_more : (bs : List Block) (i : ℕ) (b : Block) → i < length bs → b ≡ get_or bs i b → dirty_of (take (i + 1) bs) ≡ dirty_of (take i bs) + count_by is_dirty_by b.marks
+dirty_more bs i b within read = ap dirty_of (take_more bs i b within ∙ ap (λ (x : Block). take i bs ++ x ∷ []) (sym read)) ∙ dirty_append (take i bs) b
+
+dirty_few_of : (bs : List Block) → ((j : ℕ) → j < length bs → IsWhole (block_at bs j)) → dirty_of bs ≤ 16 * length bs
+unfolding dirty_of
+dirty_few_of [] whole = omega arith
+dirty_few_of (b ∷ bs) whole = omega (arith, count_few b.marks, (whole 0 (omega arith)).marks, dirty_few_of bs (λ j below. whole (suc j) (omega (arith, below))))
+
+pub dirty_few : (bs : List Block) (i : ℕ) → ((j : ℕ) → j < length bs → IsWhole (block_at bs j)) → i ≤ length bs → dirty_of (take i bs) ≤ 16 * i
+dirty_few bs i whole within =
+    let long : length (take i bs) ≡ i = length-take-le i bs within in
+    omega (arith, long, dirty_few_of (take i bs) (λ j below. subst IsWhole (sym (get_or-take i bs j no_block (omega (arith, below, long)))) (whole j (omega (arith, below, long, within)))))
+
+pub dirty_whole : (bs : List Block) (i : ℕ) → length bs ≤ i → dirty_of (take i bs) ≡ dirty_of bs
+dirty_whole bs i past = ap dirty_of (take_all i bs past)

@@ -1,6 +1,7 @@
 pub mod InOrder
-pub mod HeldLemmas
+pub mod BlockLemmas
 pub mod CountLemmas
+pub mod AskedBlocks
 pub mod AskedLines
 pub mod Fenced
 pub mod AskedRange

@@ -10,7 +10,7 @@ use Rattle.fam_machine.proofs.CacheLemmas.{cell_at-with_cell_same, with_cell_own
 use Rattle.fam_machine.specs.OneLine.{IsHeld, IsDirty, brought, fetched, leaked, failed_send, failed_leak}
 use Rattle.fam_media.specs.Outside.{IfModelled, IsTorn}
 use Rattle.fam_cache.specs.Effects.{FromMemory, FailsTo}
-use Rattle.fam_cache.specs.Places.{normal}
+use Rattle.fam_cache.specs.Blocks.{normal}
 
 -- an image that is modelled is the one
 modelled_is_one : (a b : Image) (P : Image → Type 0) → P a → Some a ≡ Some b → P b

@@ -1,17 +1,14 @@
 -- Spots that need room, and those that don't.
-use Rattle.std.proofs.Common.{◌≡◌, ℕ, true, false, List, Result, Ok, Err, refl, sym, ap, ◌∙◌}
+use Rattle.std.proofs.Common.{◌≡◌, ℕ, ◌/◌, true, false, List, Option, Some, None, Result, Ok, Err, refl, sym, ap, ◌∙◌}
 use Rattle.std.specs.Prelude.{OnErr, is_err}
 use Rattle.std.proofs.lemmas.Bool.{false≢true}
-use Rattle.std.specs.Ordering.{nat_cmp}
-use Rattle.std.specs.FinMap.{is_sorted}
 use Rattle.fam_machine.specs.declared.cell.Cell.{Cell}
 use Rattle.fam_machine.specs.declared.cell.Cell.TheVariants.{Absent, Clean, Dirty}
 use Rattle.fam_machine.specs.Caches.{cell_at}
-use Rattle.fam_machine.specs.OneLine.{is_held, IsHeld, IsDirty, brought}
-use Rattle.fam_cache.specs.declared.places.Spot.{Spot}
-use Rattle.fam_cache.specs.declared.places.Spot.TheVariants.{Place, Gap}
-use Rattle.fam_cache.specs.Places.{Places, cache_of, is_gap, IsSpot}
-use Rattle.fam_cache.proofs.HeldLemmas.{cell_gap}
+use Rattle.fam_machine.specs.OneLine.{is_held, IsHeld, IsDirty}
+use Rattle.fam_cache.specs.declared.blocks.Block.{Block}
+use Rattle.fam_cache.specs.Blocks.{IsSpot, cache_of, is_gap}
+use Rattle.fam_cache.proofs.BlockLemmas.{cell_none}
 
 -- what holds of an error holds where there is one
 pub when_err : {T E : Type 0} (r : Result T E) (P : Type 0) → OnErr r P → is_err r ≡ true → P
@@ -24,17 +21,12 @@ dirty_held Absent is = is
 dirty_held (Clean words) is = refl
 dirty_held (Dirty a words) is = refl
 
-module _ (es : Places) (k : ℕ) (sorted : is_sorted nat_cmp es ≡ true) where
-  -- a line that is held has its place, and needs no room
-  pub held_placed : (spot : Spot) → IsSpot es spot k → IsHeld (cell_at (cache_of es) k) → is_gap spot ≡ false
-  held_placed (Place at) stands held = refl
-  held_placed (Gap at) gap held = absurd (false≢true (sym (ap is_held (cell_gap es k sorted at gap)) ∙ held))
+module _ (bs : List Block) (line : ℕ) where
+  -- a line that is held has its block, and needs no room
+  pub held_placed : (spot : Option ℕ) → IsSpot bs spot (line / 16) → IsHeld (cell_at (cache_of bs) line) → is_gap spot ≡ false
+  held_placed (Some at) stands held = refl
+  held_placed None none held = absurd (false≢true (sym (ap is_held (cell_none bs line none)) ∙ held))
 
-  -- a line in a gap isn't held
-  pub gap_unheld : (spot : Spot) → IsSpot es spot k → is_gap spot ≡ true → IsHeld (cell_at (cache_of es) k) → ⊥
+  -- a line without a block isn't held
+  pub gap_unheld : (spot : Option ℕ) → IsSpot bs spot (line / 16) → is_gap spot ≡ true → IsHeld (cell_at (cache_of bs) line) → ⊥
   gap_unheld spot is gap held = false≢true (sym (held_placed spot is held) ∙ gap)
-
-brought_held : (memory : List ℕ) (cell : Cell) → IsHeld (brought memory cell)
-brought_held memory Absent = refl
-brought_held memory (Clean words) = refl
-brought_held memory (Dirty a words) = refl

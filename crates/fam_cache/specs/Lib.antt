@@ -1,4 +1,4 @@
-pub mod Places
+pub mod Blocks
 pub mod Effects
 pub mod States
 pub mod Faults

@@ -1,10 +1,8 @@
 //! A host's cache, as a task and the machine use it.
 
-ghost use Rattle.std.specs.Prelude.{ℕ, ◌≡◌, ◌+◌, ◌-◌, ◌<◌, ◌≤◌, IsTrue, IsOk, IfErr, IfOk, IfSome, OnOk, OnErr, IsErrOf, None, length, slice_index, slice_set, vec_len, vec_capacity, true, false};
+ghost use Rattle.std.specs.Prelude.{ℕ, ◌≡◌, ◌+◌, ◌/◌, ◌<◌, ◌≤◌, IsOk, IfErr, IfOk, IfSome, OnOk, OnErr, IsErrOf, None, length, slice_index, true, false};
 ghost use Rattle.std.specs.Option.{option_map};
-ghost use Rattle.std.specs.Ordering.{nat_cmp};
 ghost use Rattle.std.specs.FinMap as map;
-ghost use Rattle.std.specs.FinMap.{is_sorted};
 ghost use Rattle.fam_base.specs.Image.{eight, line_at, with_line};
 ghost use Rattle.fam_machine.specs.declared.cell.Cell.{Cell};
 ghost use Rattle.fam_machine.specs.Caches.{asked_lines, cell_at, cell_changed, dirty_count, line_changed, with_cell};
@@ -16,16 +14,16 @@ ghost use Rattle.fam_media.specs.Causes.{HasCause, IsSteady, Rose};
 ghost use Rattle.fam_media.specs.Outside.{IfModelled, IsTorn};
 ghost use Rattle.fam_cache.specs.Effects.{FailsTo, FromMemory};
 ghost use Rattle.fam_cache.specs.Operations.{CleansSome, cleaned_lines, rest_stored};
-ghost use Rattle.fam_cache.specs.Places.{AskedWithin, IsPlaceOf, IsSpot, cache_of, copy_in_place};
+ghost use Rattle.fam_cache.specs.Blocks.{AskedWithin, IsBlockOf, IsKept, IsSpot, lines_of};
 
+use crate::blocks::{
+    Blocks, ask_copy, clean_line, copy, dirty_lines_of, drop_copy, empty, held_at, held_line,
+    held_word, lose_all, make_room, next_asked, next_place, put_copy, reserve, seek, set_rest,
+    set_word, word_at,
+};
 use crate::copies::{fetch_copy, leak_copy, send_copy};
 use crate::fault::{CacheFault, FenceFailed};
-use crate::places::{
-    Spot, ask_copy, bisect, clean_place, copy, dirty_lines_of, drop_copy, held_at, held_line,
-    held_word, is_asked_copy, make_room, place_of, put_copy, seek, seek_next, set_rest, set_word,
-    word_at,
-};
-use crate::renewal::{bring_to_gap, renew_in_place};
+use crate::renewal::{bring_block, renew_in_place};
 use fam_base::{Line, LineNo, Mask, OutOfMemory};
 use fam_machine::Cell;
 use fam_media::{Failed, Media};
@@ -35,35 +33,32 @@ use std::marker::Model;
 /// The place of an absent line, which is brought from memory. Room is taken first.
 #[inline(always)]
 fn bring_absent<M: Media>(
-    places: &mut Vec<(u64, Cell)>,
-    spot: Spot,
+    places: &mut Blocks,
+    spot: Option<usize>,
     media: &mut M,
     line: LineNo,
 ) -> Result<usize, CacheFault>
-    requires sorted { IsTrue (is_sorted nat_cmp places.old.items) }
-    requires spot { IsSpot places.old.items spot line.0 }
-    requires absent { cell_at (cache_of places.old.items) line.0 ≡ Cell.Absent }
+    requires kept { IsKept places.old }
+    requires spot { IsSpot places.old.blocks.items spot (line.0 / 16) }
+    requires absent { cell_at (lines_of places.old) line.0 ≡ Cell.Absent }
     requires within { line.0 < M.size media.old }
 
     ensures cache { OnOk result (FromMemory (M.state media.old).image line.0
-        (λ memory. cache_of places.new.items ≡ cell_changed line.0 (brought memory) (cache_of places.old.items))) }
-    ensures stands { IfOk result (λ at. IsPlaceOf places.new.items at line.0) }
-    ensures held { OnOk result (IsHeld (cell_at (cache_of places.new.items) line.0)) }
-    ensures err { OnErr result (cache_of places.new.items ≡ cache_of places.old.items) }
+        (λ memory. lines_of places.new ≡ cell_changed line.0 (brought memory) (lines_of places.old))) }
+    ensures stands { IfOk result (λ at. IsBlockOf places.new.blocks.items at (line.0 / 16)) }
+    ensures held { OnOk result (IsHeld (cell_at (lines_of places.new) line.0)) }
+    ensures err { OnErr result (lines_of places.new ≡ lines_of places.old) }
 
     ensures failed { IsErrOf result CacheFault.Failed → Rose (M.state media.old).faults (M.state media.new).faults }
-    ensures full { IsErrOf result CacheFault.OutOfMemory →
-        vec_capacity places.old ≤ vec_len places.old }
+    ensures full { IsErrOf result CacheFault.OutOfMemory → places.old.room ≡ 0 }
     ensures undone { IsErrOf result CacheFault.OutOfMemory → media.new ≡ media.old }
-    ensures unmoved { IsErrOf result CacheFault.OutOfMemory →
-        vec_capacity places.new ≡ vec_capacity places.old }
+    ensures unmoved { IsErrOf result CacheFault.OutOfMemory → places.new.room ≡ places.old.room }
 
     ensures image { (M.state media.new).image ≡ (M.state media.old).image }
     ensures steady { IsSteady M.size M.state media.old media.new }
-    ensures sorted { IsTrue (is_sorted nat_cmp places.new.items) }
-    ensures capacity { vec_capacity places.old ≤ vec_capacity places.new }
-    ensures one { vec_len places.new ≤ vec_len places.old + 1 }
-    ensures kept { OnErr result (vec_len places.new ≡ vec_len places.old) }
+    ensures kept { IsKept places.new }
+    ensures one { places.old.room ≤ places.new.room + 1 }
+    ensures kept_room { OnErr result (places.new.room ≡ places.old.room) }
 {
     if make_room(places, spot).is_err() {
         return Err(CacheFault::OutOfMemory);
@@ -76,37 +71,33 @@ fn bring_absent<M: Media>(
 
 /// The place of a line, which is brought from memory where it is absent. Room is taken first.
 fn bring<M: Media>(
-    places: &mut Vec<(u64, Cell)>,
+    places: &mut Blocks,
     last: usize,
     media: &mut M,
     line: LineNo,
 ) -> Result<usize, CacheFault>
-    requires sorted { IsTrue (is_sorted nat_cmp places.old.items) }
+    requires kept { IsKept places.old }
     requires within { line.0 < M.size media.old }
 
     ensures cache { OnOk result (FromMemory (M.state media.old).image line.0
-        (λ memory. cache_of places.new.items ≡ cell_changed line.0 (brought memory) (cache_of places.old.items))) }
-    ensures stands { IfOk result (λ at. IsPlaceOf places.new.items at line.0) }
-    ensures held { OnOk result (IsHeld (cell_at (cache_of places.new.items) line.0)) }
-    ensures err { OnErr result (cache_of places.new.items ≡ cache_of places.old.items) }
+        (λ memory. lines_of places.new ≡ cell_changed line.0 (brought memory) (lines_of places.old))) }
+    ensures stands { IfOk result (λ at. IsBlockOf places.new.blocks.items at (line.0 / 16)) }
+    ensures held { OnOk result (IsHeld (cell_at (lines_of places.new) line.0)) }
+    ensures err { OnErr result (lines_of places.new ≡ lines_of places.old) }
 
-    ensures idle { IsHeld (cell_at (cache_of places.old.items) line.0) → IsOk result }
-    ensures same { IsHeld (cell_at (cache_of places.old.items) line.0) → media.new ≡ media.old }
+    ensures idle { IsHeld (cell_at (lines_of places.old) line.0) → IsOk result }
+    ensures same { IsHeld (cell_at (lines_of places.old) line.0) → media.new ≡ media.old }
     ensures failed { IsErrOf result CacheFault.Failed → Rose (M.state media.old).faults (M.state media.new).faults }
-    ensures full { IsErrOf result CacheFault.OutOfMemory →
-        vec_capacity places.old ≤ vec_len places.old }
+    ensures full { IsErrOf result CacheFault.OutOfMemory → places.old.room ≡ 0 }
     ensures undone { IsErrOf result CacheFault.OutOfMemory → media.new ≡ media.old }
-    ensures unmoved { IsErrOf result CacheFault.OutOfMemory →
-        vec_capacity places.new ≡ vec_capacity places.old }
+    ensures unmoved { IsErrOf result CacheFault.OutOfMemory → places.new.room ≡ places.old.room }
 
     ensures image { (M.state media.new).image ≡ (M.state media.old).image }
     ensures steady { IsSteady M.size M.state media.old media.new }
-    ensures sorted { IsTrue (is_sorted nat_cmp places.new.items) }
-    ensures capacity { vec_capacity places.old ≤ vec_capacity places.new }
-    ensures one { vec_len places.new ≤ vec_len places.old + 1 }
-    ensures none { IsHeld (cell_at (cache_of places.old.items) line.0) →
-        vec_len places.new ≡ vec_len places.old }
-    ensures kept { OnErr result (vec_len places.new ≡ vec_len places.old) }
+    ensures kept { IsKept places.new }
+    ensures one { places.old.room ≤ places.new.room + 1 }
+    ensures none { IsHeld (cell_at (lines_of places.old) line.0) → places.new.room ≡ places.old.room }
+    ensures kept_room { OnErr result (places.new.room ≡ places.old.room) }
 {
     let spot = seek(places, last, line.0);
     match held_at(places, spot, line.0) {
@@ -117,38 +108,34 @@ fn bring<M: Media>(
 
 /// The place of a line after an early fetch. Room is taken first.
 fn refresh<M: Media>(
-    places: &mut Vec<(u64, Cell)>,
+    places: &mut Blocks,
     last: usize,
     media: &mut M,
     line: LineNo,
     mask: Mask,
 ) -> Result<usize, CacheFault>
-    requires sorted { IsTrue (is_sorted nat_cmp places.old.items) }
+    requires kept { IsKept places.old }
     requires within { line.0 < M.size media.old }
 
     ensures cache { OnOk result (FromMemory (M.state media.old).image line.0
-        (λ memory. cache_of places.new.items ≡ cell_changed line.0 (fetched mask.0 memory) (cache_of places.old.items))) }
-    ensures err { OnErr result (cache_of places.new.items ≡ cache_of places.old.items) }
+        (λ memory. lines_of places.new ≡ cell_changed line.0 (fetched mask.0 memory) (lines_of places.old))) }
+    ensures err { OnErr result (lines_of places.new ≡ lines_of places.old) }
 
-    ensures idle { IsDirty (cell_at (cache_of places.old.items) line.0) → IsOk result }
-    ensures same { IsDirty (cell_at (cache_of places.old.items) line.0) → media.new ≡ media.old }
+    ensures idle { IsDirty (cell_at (lines_of places.old) line.0) → IsOk result }
+    ensures same { IsDirty (cell_at (lines_of places.old) line.0) → media.new ≡ media.old }
     ensures failed { IsErrOf result CacheFault.Failed → Rose (M.state media.old).faults (M.state media.new).faults }
-    ensures full { IsErrOf result CacheFault.OutOfMemory →
-        vec_capacity places.old ≤ vec_len places.old }
+    ensures full { IsErrOf result CacheFault.OutOfMemory → places.old.room ≡ 0 }
     ensures absent { IsErrOf result CacheFault.OutOfMemory →
-        ¬ (IsHeld (cell_at (cache_of places.old.items) line.0)) }
+        ¬ (IsHeld (cell_at (lines_of places.old) line.0)) }
     ensures undone { IsErrOf result CacheFault.OutOfMemory → media.new ≡ media.old }
-    ensures unmoved { IsErrOf result CacheFault.OutOfMemory →
-        vec_capacity places.new ≡ vec_capacity places.old }
+    ensures unmoved { IsErrOf result CacheFault.OutOfMemory → places.new.room ≡ places.old.room }
 
     ensures image { (M.state media.new).image ≡ (M.state media.old).image }
     ensures steady { IsSteady M.size M.state media.old media.new }
-    ensures sorted { IsTrue (is_sorted nat_cmp places.new.items) }
-    ensures capacity { vec_capacity places.old ≤ vec_capacity places.new }
-    ensures one { vec_len places.new ≤ vec_len places.old + 1 }
-    ensures none { IsHeld (cell_at (cache_of places.old.items) line.0) →
-        vec_len places.new ≡ vec_len places.old }
-    ensures kept { OnErr result (vec_len places.new ≡ vec_len places.old) }
+    ensures kept { IsKept places.new }
+    ensures one { places.old.room ≤ places.new.room + 1 }
+    ensures none { IsHeld (cell_at (lines_of places.old) line.0) → places.new.room ≡ places.old.room }
+    ensures kept_room { OnErr result (places.new.room ≡ places.old.room) }
 {
     let spot = seek(places, last, line.0);
     if make_room(places, spot).is_err() {
@@ -163,37 +150,34 @@ fn refresh<M: Media>(
 
 /// Sends the copy in a line's place to memory, if it is dirty, and it is clean then.
 fn send_place<M: Media>(
-    places: &mut Vec<(u64, Cell)>,
+    places: &mut Blocks,
     at: usize,
     media: &mut M,
     line: LineNo,
 ) -> Result<(), Failed>
-    requires sorted { IsTrue (is_sorted nat_cmp places.old.items) }
-    requires stands { IsPlaceOf places.old.items at line.0 }
+    requires kept { IsKept places.old }
+    requires stands { IsBlockOf places.old.blocks.items at (line.0 / 16) }
     requires within { line.0 < M.size media.old }
 
     ensures cache { OnOk result
-        (cache_of places.new.items ≡ cell_changed line.0 cleaned (cache_of places.old.items)) }
-    ensures items { OnOk result (places.new.items
-        ≡ slice_set places.old.items at (line.0, cleaned (copy_in_place places.old.items at))) }
+        (lines_of places.new ≡ cell_changed line.0 cleaned (lines_of places.old)) }
     ensures memory { OnOk result ((M.state media.new).image ≡ option_map
-        (line_changed line.0 (λ memory. sent memory (cell_at (cache_of places.old.items) line.0)))
+        (line_changed line.0 (λ memory. sent memory (cell_at (lines_of places.old) line.0)))
         (M.state media.old).image) }
-    ensures err { OnErr result (places.new.items ≡ places.old.items) }
+    ensures err { OnErr result (lines_of places.new ≡ lines_of places.old) }
     ensures torn { OnErr result (IfModelled (M.state media.old).image (λ image. FailsTo line.0
-        (λ through memory. failed_send through memory (cell_at (cache_of places.old.items) line.0))
+        (λ through memory. failed_send through memory (cell_at (lines_of places.old) line.0))
         image (M.state media.new).image)) }
 
     ensures cause { HasCause (M.state media.old).faults (M.state media.new).faults result }
     ensures size { M.size media.new ≡ M.size media.old }
-    ensures sorted { IsTrue (is_sorted nat_cmp places.new.items) }
-    ensures capacity { vec_capacity places.new ≡ vec_capacity places.old }
-    ensures len { vec_len places.new ≡ vec_len places.old }
+    ensures kept { IsKept places.new }
+    ensures room { places.new.room ≡ places.old.room }
 {
-    let held = places[at].1;
+    let held = copy(places, Some(at), line.0);
     match send_copy(held, media, line) {
         Ok(()) => {
-            clean_place(places, at, line.0);
+            clean_line(places, at, line.0);
             Ok(())
         }
         Err(fault) => Err(fault),
@@ -203,85 +187,77 @@ fn send_place<M: Media>(
 /// Sends each line that was asked for, in the order of their numbers: none of them lies before `first` or behind `last`.
 /// Where the media fails, those before that line were sent.
 fn send_asked<M: Media>(
-    places: &mut Vec<(u64, Cell)>,
+    places: &mut Blocks,
     media: &mut M,
     first: u64,
     last: u64,
 ) -> Result<(), FenceFailed>
-    requires sorted { IsTrue (is_sorted nat_cmp places.old.items) }
-    requires range { AskedWithin first last (cache_of places.old.items) }
-    requires within { (line : ℕ) → IsAsked (cell_at (cache_of places.old.items) line) → line < M.size media.old }
+    requires kept { IsKept places.old }
+    requires range { AskedWithin first last (lines_of places.old) }
+    requires within { (line : ℕ) → IsAsked (cell_at (lines_of places.old) line) → line < M.size media.old }
 
     ensures operated { OnOk result (IfModelled (M.state media.old).image (λ image. IsMachine
-        (operated Op.Fence (machine image (cache_of places.old.items)))
-        (M.state media.new).image (cache_of places.new.items))) }
-    ensures cache { OnOk result (cache_of places.new.items
-        ≡ cleaned_lines (asked_lines (cache_of places.old.items)) (cache_of places.old.items)) }
+        (operated Op.Fence (machine image (lines_of places.old)))
+        (M.state media.new).image (lines_of places.new))) }
+    ensures cache { OnOk result (lines_of places.new
+        ≡ cleaned_lines (asked_lines (lines_of places.old)) (lines_of places.old)) }
     ensures failed { IfErr result (λ fault. IfModelled (M.state media.old).image (λ image. HasFailed Op.Fence
-        (machine image (cache_of places.old.items)) fault.0 (M.state media.new).image (cache_of places.new.items))) }
-    ensures err { OnErr result (CleansSome (cache_of places.old.items) (cache_of places.new.items)) }
-    ensures line { IfErr result (λ fault. IsAsked (cell_at (cache_of places.old.items) fault.0.0)) }
+        (machine image (lines_of places.old)) fault.0 (M.state media.new).image (lines_of places.new))) }
+    ensures err { OnErr result (CleansSome (lines_of places.old) (lines_of places.new)) }
+    ensures line { IfErr result (λ fault. IsAsked (cell_at (lines_of places.old) fault.0.0)) }
 
-    ensures idle { ((line : ℕ) → ¬ (IsAsked (cell_at (cache_of places.old.items) line))) → IsOk result }
-    ensures same { ((line : ℕ) → ¬ (IsAsked (cell_at (cache_of places.old.items) line))) →
+    ensures idle { ((line : ℕ) → ¬ (IsAsked (cell_at (lines_of places.old) line))) → IsOk result }
+    ensures same { ((line : ℕ) → ¬ (IsAsked (cell_at (lines_of places.old) line))) →
         media.new ≡ media.old }
     ensures cause { HasCause (M.state media.old).faults (M.state media.new).faults result }
     ensures size { M.size media.new ≡ M.size media.old }
-    ensures sorted { IsTrue (is_sorted nat_cmp places.new.items) }
-    ensures capacity { vec_capacity places.new ≡ vec_capacity places.old }
-    ensures len { vec_len places.new ≡ vec_len places.old }
+    ensures kept { IsKept places.new }
+    ensures room { places.new.room ≡ places.old.room }
 {
-    let mut at = bisect(places, first);
-    while at < places.len() {
-        if last < places[at].0 {
-            return Ok(());
+    let mut from = first;
+    while let Some((at, number)) = next_asked(places, from, last) {
+        match send_place(places, at, media, LineNo(number)) {
+            Ok(()) => {}
+            Err(_) => return Err(FenceFailed(LineNo(number))),
         }
-        if is_asked_copy(&places[at].1) {
-            let line = LineNo(places[at].0);
-            match send_place(places, at, media, line) {
-                Ok(()) => {}
-                Err(_) => return Err(FenceFailed(line)),
-            }
-        }
-        at += 1;
+        from = number;
     }
     Ok(())
 }
 
 /// Sends a dirty line to memory, and makes the line absent. Returns the place to remember.
 fn drop_line<M: Media>(
-    places: &mut Vec<(u64, Cell)>,
+    places: &mut Blocks,
     last: usize,
     media: &mut M,
     line: LineNo,
 ) -> Result<usize, Failed>
-    requires sorted { IsTrue (is_sorted nat_cmp places.old.items) }
+    requires kept { IsKept places.old }
     requires within { line.0 < M.size media.old }
 
     ensures cache { OnOk result
-        (cache_of places.new.items ≡ with_cell line.0 Cell.Absent (cache_of places.old.items)) }
+        (lines_of places.new ≡ with_cell line.0 Cell.Absent (lines_of places.old)) }
     ensures memory { OnOk result ((M.state media.new).image ≡ option_map
-        (line_changed line.0 (λ memory. sent memory (cell_at (cache_of places.old.items) line.0)))
+        (line_changed line.0 (λ memory. sent memory (cell_at (lines_of places.old) line.0)))
         (M.state media.old).image) }
-    ensures err { OnErr result (cache_of places.new.items ≡ cache_of places.old.items) }
+    ensures err { OnErr result (lines_of places.new ≡ lines_of places.old) }
     ensures torn { OnErr result (IfModelled (M.state media.old).image (λ image. FailsTo line.0
-        (λ through memory. failed_send through memory (cell_at (cache_of places.old.items) line.0))
+        (λ through memory. failed_send through memory (cell_at (lines_of places.old) line.0))
         image (M.state media.new).image)) }
 
-    ensures idle { ¬ (IsDirty (cell_at (cache_of places.old.items) line.0)) → IsOk result }
-    ensures same { ¬ (IsDirty (cell_at (cache_of places.old.items) line.0)) → media.new ≡ media.old }
+    ensures idle { ¬ (IsDirty (cell_at (lines_of places.old) line.0)) → IsOk result }
+    ensures same { ¬ (IsDirty (cell_at (lines_of places.old) line.0)) → media.new ≡ media.old }
     ensures cause { HasCause (M.state media.old).faults (M.state media.new).faults result }
     ensures size { M.size media.new ≡ M.size media.old }
-    ensures sorted { IsTrue (is_sorted nat_cmp places.new.items) }
-    ensures capacity { vec_capacity places.new ≡ vec_capacity places.old }
-    ensures len { vec_len places.new ≤ vec_len places.old }
+    ensures kept { IsKept places.new }
+    ensures room { places.new.room ≡ places.old.room }
 {
     let spot = seek(places, last, line.0);
     let held = copy(places, spot, line.0);
     match send_copy(held, media, line) {
         Ok(()) => {
             drop_copy(places, spot, line.0);
-            Ok(place_of(spot).min(places.len().saturating_sub(1)))
+            Ok(spot.unwrap_or(last))
         }
         Err(fault) => Err(fault),
     }
@@ -289,40 +265,40 @@ fn drop_line<M: Media>(
 
 /// Sends masked words of a dirty line to memory. Returns the place to remember.
 fn leak_line<M: Media>(
-    places: &Vec<(u64, Cell)>,
+    places: &Blocks,
     last: usize,
     media: &mut M,
     line: LineNo,
     mask: Mask,
 ) -> Result<usize, Failed>
-    requires sorted { IsTrue (is_sorted nat_cmp places.now.items) }
+    requires kept { IsKept places.now }
     requires within { line.0 < M.size media.old }
 
     ensures memory { OnOk result ((M.state media.new).image ≡ option_map
-        (line_changed line.0 (λ memory. leaked mask.0 memory (cell_at (cache_of places.now.items) line.0)))
+        (line_changed line.0 (λ memory. leaked mask.0 memory (cell_at (lines_of places.now) line.0)))
         (M.state media.old).image) }
     ensures torn { OnErr result (IfModelled (M.state media.old).image (λ image. FailsTo line.0
-        (λ through memory. failed_leak mask.0 through memory (cell_at (cache_of places.now.items) line.0))
+        (λ through memory. failed_leak mask.0 through memory (cell_at (lines_of places.now) line.0))
         image (M.state media.new).image)) }
 
-    ensures idle { ¬ (IsDirty (cell_at (cache_of places.now.items) line.0)) → IsOk result }
-    ensures same { ¬ (IsDirty (cell_at (cache_of places.now.items) line.0)) → media.new ≡ media.old }
+    ensures idle { ¬ (IsDirty (cell_at (lines_of places.now) line.0)) → IsOk result }
+    ensures same { ¬ (IsDirty (cell_at (lines_of places.now) line.0)) → media.new ≡ media.old }
     ensures cause { HasCause (M.state media.old).faults (M.state media.new).faults result }
     ensures size { M.size media.new ≡ M.size media.old }
 {
     let spot = seek(places, last, line.0);
     let held = copy(places, spot, line.0);
     match leak_copy(held, media, line, mask) {
-        Ok(()) => Ok(place_of(spot)),
+        Ok(()) => Ok(spot.unwrap_or(last)),
         Err(fault) => Err(fault),
     }
 }
 
-/// A host's cache: copies of lines, in places by the lines' numbers.
+/// A host's cache: copies of lines, in blocks.
 #[derive(Drop)]
 pub struct HostCache {
-    places: Vec<(u64, Cell)>,
-    /// The place of the last access, or any number: the next line is looked for there first.
+    places: Blocks,
+    /// The place of the block of the last access, or any number: the next line is looked for there first.
     last: usize,
     /// No line before this one is asked for, and none behind the other one.
     first_asked: u64,
@@ -330,20 +306,16 @@ pub struct HostCache {
 }
 
 impl Model for HostCache {
-    ghost use Rattle.std.specs.Prelude.{IsTrue, ◌-◌, vec_len, vec_capacity};
-    ghost use Rattle.std.specs.Ordering.{nat_cmp};
-    ghost use Rattle.std.specs.FinMap.{is_sorted};
-    ghost use Rattle.fam_cache.specs.Places.{AskedWithin, cache_of};
+    ghost use Rattle.fam_cache.specs.Blocks.{AskedWithin, IsKept, lines_of};
     ghost use Rattle.fam_cache.specs.States.{CacheState, state_code};
 
     ghost Value = { CacheState };
 
     ghost coded = { state_code };
 
-    ghost view = { λ c. record { lines = cache_of c.places.items; spare = vec_capacity c.places - vec_len c.places } };
+    ghost view = { λ c. record { lines = lines_of c.places; spare = c.places.room } };
 
-    ghost invariant = { λ c. (IsTrue (is_sorted nat_cmp c.places.items))
-        × (AskedWithin c.first_asked c.last_asked (cache_of c.places.items)) };
+    ghost invariant = { λ c. (IsKept c.places) × (AskedWithin c.first_asked c.last_asked (lines_of c.places)) };
 }
 
 impl HostCache {
@@ -352,7 +324,7 @@ impl HostCache {
         ensures lines { result.lines ≡ map.empty }
     {
         HostCache {
-            places: Vec::new(alloc),
+            places: empty(alloc),
             last: 0,
             first_asked: u64::MAX,
             last_asked: 0,
@@ -367,10 +339,7 @@ impl HostCache {
         ensures lines { self.new.lines ≡ self.old.lines }
         ensures kept { self.old.spare ≤ self.new.spare }
     {
-        match self.places.reserve(lines as usize) {
-            Ok(()) => Ok(()),
-            Err(_) => Err(OutOfMemory),
-        }
+        reserve(&mut self.places, lines as usize)
     }
 
     /// Makes every line absent. Words that memory lacks are lost.
@@ -378,7 +347,7 @@ impl HostCache {
         ensures lines { self.new.lines ≡ map.empty }
         ensures spare { self.old.spare ≤ self.new.spare }
     {
-        self.places.clear();
+        lose_all(&mut self.places);
     }
 
     /// Gives a word of a line. An absent line is brought from memory.
@@ -463,7 +432,7 @@ impl HostCache {
         Ok(())
     }
 
-    /// The words of the line of the last access, where it is this line and is held. It asks nothing of memory.
+    /// The words of a line, where it is held and lies in the block of the last access. It asks nothing of memory.
     #[inline]
     pub fn held(&self, line: LineNo) -> Option<Line>
         ensures held { IfSome result (λ words. IsHeld (cell_at self.now.lines line.0)) }
@@ -472,7 +441,7 @@ impl HostCache {
         held_line(&self.places, self.last, line.0)
     }
 
-    /// Sets the words behind the first one of the line of the last access, where it is this line and is held: the line
+    /// Sets the words behind the first one of a line, where it is held and lies in the block of the last access: the line
     /// is dirty then. It asks nothing of memory. Of another line nothing is done, and the answer is that.
     #[inline]
     pub fn store_rest(&mut self, line: LineNo, words: &Line) -> bool
@@ -529,17 +498,17 @@ impl HostCache {
         ensures spare { self.old.spare ≤ self.new.spare + 1 }
         ensures err_spare { OnErr result (self.old.spare ≤ self.new.spare) }
     {
-        match seek_next(&self.places, self.last, line.0) {
-            Spot::Place(at) => {
+        match seek(&self.places, self.last, line.0) {
+            Some(at) => {
                 self.last = at;
                 match renew_in_place(&mut self.places, at, media, line) {
                     Ok(words) => Ok(words),
                     Err(_) => Err(CacheFault::Failed),
                 }
             }
-            Spot::Gap(at) => {
-                self.last = at;
-                match bring_to_gap(&mut self.places, at, media, line) {
+            None => {
+                self.last = next_place(&self.places);
+                match bring_block(&mut self.places, media, line) {
                     Ok(words) => Ok(Some(words)),
                     Err(fault) => Err(fault),
                 }
@@ -597,7 +566,7 @@ impl HostCache {
         }
         match media.write(line, words) {
             Ok(()) => {
-                self.last = place_of(spot);
+                self.last = spot.unwrap_or(self.last);
                 Ok(true)
             }
             Err(_) => {
@@ -660,7 +629,7 @@ impl HostCache {
     {
         let spot = seek(&self.places, self.last, line.0);
         ask_copy(&mut self.places, spot, line.0);
-        self.last = place_of(spot);
+        self.last = spot.unwrap_or(self.last);
         self.first_asked = self.first_asked.min(line.0);
         self.last_asked = self.last_asked.max(line.0);
     }

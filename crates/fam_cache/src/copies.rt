@@ -7,7 +7,7 @@ ghost use Rattle.fam_machine.specs.OneLine.{IsDirty, IsHeld, brought, failed_lea
 ghost use Rattle.fam_media.specs.Causes.{HasCause};
 ghost use Rattle.fam_media.specs.Outside.{IfModelled};
 ghost use Rattle.fam_cache.specs.Effects.{FailsTo, FromMemory};
-ghost use Rattle.fam_cache.specs.Places.{normal};
+ghost use Rattle.fam_cache.specs.Blocks.{normal};
 
 use fam_base::{LineNo, Mask, masked_line};
 use fam_machine::Cell;

@@ -9,11 +9,11 @@
 //! those that a task asks for.
 #![tactic(auto)]
 
+mod blocks;
 mod cache;
 mod copies;
 mod fault;
 mod perform;
-mod places;
 mod renewal;
 
 pub use cache::HostCache;

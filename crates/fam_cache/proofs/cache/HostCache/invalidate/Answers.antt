@@ -6,4 +6,4 @@ pub returns-in_err-self-inside-clause-torn : goal.returns-in_err-self-inside-cla
 returns-in_err-self-inside-clause-torn g c = rw (← c.self.view_is) (on_err_too c.from_residual.result c.in_err-self-inside.ensures.torn)
 
 pub invariant_of-self-2 : goal.invariant_of-self-2
-invariant_of-self-2 g c = (c.drop_line.ensures.sorted, within_absent _ _ _ _ c.self.invariant.1 c.args.line.0 c.in_ok-self-inside.ensures.cache)
+invariant_of-self-2 g c = (c.drop_line.ensures.kept, within_absent _ _ _ _ c.self.invariant.1 c.args.line.0 c.in_ok-self-inside.ensures.cache)

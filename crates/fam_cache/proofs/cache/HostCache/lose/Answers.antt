@@ -1,8 +1,5 @@
-use Rattle.std.proofs.Common.{refl, sym, subst}
-use Rattle.std.specs.Ordering.{nat_cmp}
-use Rattle.std.specs.FinMap.{is_sorted}
-use Rattle.std.specs.Prelude.{IsTrue}
-use Rattle.fam_cache.specs.Places.{AskedWithin, Places, cache_of}
+use Rattle.std.proofs.Common.{sym, subst}
+use Rattle.fam_cache.specs.Blocks.{AskedWithin}
 use Rattle.fam_cache.proofs.AskedRange.{within_empty}
 use Rattle.fam_cache.proofs.cache.HostCache.lose.Goals as goal
 
@@ -10,4 +7,4 @@ pub invariant_of-self : goal.invariant_of-self
 invariant_of-self c =
     let first = c.self.inside.first_asked in
     let last = c.self.inside.last_asked in
-    subst (λ (es : Places). (IsTrue (is_sorted nat_cmp es)) × (AskedWithin first last (cache_of es))) (sym c.clear.ensures.items) (refl, within_empty first last)
+    (c.lose_all.ensures.kept, subst (AskedWithin first last) (sym c.lose_all.ensures.lines) (within_empty first last))
