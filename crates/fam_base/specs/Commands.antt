@@ -3,7 +3,7 @@ use Rattle.std.specs.Prelude.{ℕ, ◌≤◌, ⊤, List, map}
 use Rattle.std.specs.List.Sorted.{IsStrictlySortedBy}
 use Rattle.fam_base.specs.declared.cmd.Attr.{Attr}
 use Rattle.fam_base.specs.declared.cmd.Cmd.{Cmd}
-use Rattle.fam_base.specs.declared.cmd.Cmd.TheVariants.{Logplay, Mkdir, Creat, Cp, Verify, Read, Check, Fsck}
+use Rattle.fam_base.specs.declared.cmd.Cmd.TheVariants.{Logplay, Mount, Mkdir, Creat, Cp, Verify, Read, Check, Fsck}
 use Rattle.fam_base.specs.declared.entry.Entry.{Entry}
 use Rattle.fam_base.specs.PathOrder.{path_cmp}
 
@@ -26,6 +26,7 @@ IsSoundAttr attr = attr.mode ≤ mode_limit
 -- a command whose mode, count and listing are within these limits
 abbrev pub IsSoundCmd : Cmd → Type 0
 IsSoundCmd Logplay = ⊤
+IsSoundCmd Mount = ⊤
 IsSoundCmd (Mkdir path attr) = IsSoundAttr attr
 IsSoundCmd (Creat path size attr stripe fill) = IsSoundAttr attr
 IsSoundCmd (Cp path attr stripe bytes) = IsSoundAttr attr

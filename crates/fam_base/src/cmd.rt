@@ -39,6 +39,8 @@ pub struct Attr {
 pub enum Cmd {
     /// Replay the log and list its tree.
     Logplay,
+    /// Replay the log, so that the host keeps what it read.
+    Mount,
     /// Append a directory.
     Mkdir {
         path: Path,
@@ -156,6 +158,7 @@ impl Cmd {
     {
         match self {
             Cmd::Logplay => Ok(Cmd::Logplay),
+            Cmd::Mount => Ok(Cmd::Mount),
             Cmd::Fsck => Ok(Cmd::Fsck),
             Cmd::Mkdir { path, attr } => Ok(Cmd::Mkdir {
                 path: *path,

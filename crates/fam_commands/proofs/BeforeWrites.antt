@@ -3,7 +3,7 @@ use Rattle.std.proofs.Common.{ℕ, ◌≡◌, ◌+◌, ◌*◌, Bool, true, fals
 use Rattle.std.specs.Prelude.{⊤, ◌==◌, nat_lt, nat_le, if◌then◌else◌, Result}
 use Rattle.std.specs.FinMap as finmap
 use Rattle.fam_base.specs.declared.cmd.Cmd.{Cmd}
-use Rattle.fam_base.specs.declared.cmd.Cmd.TheVariants.{Logplay, Mkdir, Creat, Cp, Verify, Read, Check, Fsck}
+use Rattle.fam_base.specs.declared.cmd.Cmd.TheVariants.{Logplay, Mount, Mkdir, Creat, Cp, Verify, Read, Check, Fsck}
 use Rattle.fam_base.specs.declared.cmd.Content.{Content}
 use Rattle.fam_base.specs.declared.cmd.Content.TheVariants as content
 use Rattle.fam_base.specs.declared.entry.Params.{Params}
@@ -27,7 +27,7 @@ use Rattle.fam_commands.specs.Turns.{Turn, Goes, Marks, Finds, Writes, Ends, sup
 use Rattle.fam_rules.specs.declared.answers.Refused.{Refused}
 use Rattle.fam_rules.specs.Decide.{Wish, decide_wish, master_refusal, wish_of}
 use Rattle.fam_rules.specs.Place.{line_bytes}
-use Rattle.fam_rules.specs.Reply.{Reply, Appended, NotAppended, Reports, NoSuperblock, BadHeader, BadSlot, Played, Same, Differs, Length, Bytes, NotFound, IsDirectory, Checks}
+use Rattle.fam_rules.specs.Reply.{Reply, Appended, NotAppended, Reports, NoSuperblock, BadHeader, BadSlot, Played, Mounted, Same, Differs, Length, Bytes, NotFound, IsDirectory, Checks}
 use Rattle.fam_commands.specs.Appends.{IsBeforeWrites, HasWish}
 
 -- the superblock is read there
@@ -71,6 +71,7 @@ EndsAt p cmd (NoSuperblock fault) = cmd ≡ Fsck → ⊥
 EndsAt p cmd (BadHeader fault) = IsBehindSuper p × (cmd ≡ Fsck → ⊥)
 EndsAt p cmd (BadSlot i reason) = IsBehindSuper p × (cmd ≡ Fsck → ⊥)
 EndsAt p cmd (Played m tree) = ⊤
+EndsAt p cmd (Mounted m) = ⊤
 EndsAt p cmd (Same m) = ⊤
 EndsAt p cmd (Differs m offset found wanted) = ⊤
 EndsAt p cmd (Length m size wanted) = ⊤
@@ -191,6 +192,7 @@ module _ (p : Phase) (t : Task) where
 
   decide_says : (c : Cmd) → t.cmd ≡ c → SaysAt p t.cmd (decide_turn c t)
   decide_says Logplay is = tt
+  decide_says Mount is = tt
   decide_says (Check listing) is = tt
   decide_says Fsck is = is
   decide_says (Verify path against) is = found_says (finmap.get (replay t.entries) path) (λ e. verify_turn t e against) (λ e. verify_says e against)

@@ -11,3 +11,5 @@ pub mod Rows
 pub mod Steps
 pub mod Counted
 pub mod UpToStores
+pub mod TurnTells
+pub mod ReadTold

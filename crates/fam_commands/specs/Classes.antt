@@ -2,7 +2,7 @@
 -- here, once, and has no rows of its own but where it differs.
 use Rattle.std.specs.Prelude.{ℕ, ⊤, Bool, true, false, List}
 use Rattle.fam_base.specs.declared.cmd.Cmd.{Cmd}
-use Rattle.fam_base.specs.declared.cmd.Cmd.TheVariants.{Logplay, Mkdir, Creat, Cp, Verify, Read, Check, Fsck}
+use Rattle.fam_base.specs.declared.cmd.Cmd.TheVariants.{Logplay, Mount, Mkdir, Creat, Cp, Verify, Read, Check, Fsck}
 use Rattle.fam_base.specs.declared.cmd.Content.{Content}
 
 -- what a command does once it has read superblock and header
@@ -21,6 +21,7 @@ pub data Class : Type 0 where
 -- the class of a command
 abbrev pub class_of : Cmd → Class
 class_of Logplay = Replays
+class_of Mount = Replays
 class_of (Mkdir path attr) = Appends
 class_of (Creat path size attr stripe fill) = Appends
 class_of (Cp path attr stripe bytes) = Appends
@@ -80,6 +81,7 @@ LooksAtFile cmd = AreLooking (class_of cmd)
 -- a command that compares the tree with a listing
 abbrev pub IsCheck : Cmd → Type 0
 IsCheck Logplay = ⊥
+IsCheck Mount = ⊥
 IsCheck (Mkdir path attr) = ⊥
 IsCheck (Creat path size attr stripe fill) = ⊥
 IsCheck (Cp path attr stripe bytes) = ⊥

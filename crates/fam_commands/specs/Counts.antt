@@ -2,7 +2,7 @@
 use Rattle.std.specs.Prelude.{ℕ, ◌+◌, ◌-◌, ◌*◌, ◌/◌, List, length, Option, Some, None}
 use Rattle.std.specs.FinMap as finmap
 use Rattle.fam_base.specs.declared.cmd.Cmd.{Cmd}
-use Rattle.fam_base.specs.declared.cmd.Cmd.TheVariants.{Logplay, Mkdir, Creat, Cp, Verify, Read, Check, Fsck}
+use Rattle.fam_base.specs.declared.cmd.Cmd.TheVariants.{Logplay, Mount, Mkdir, Creat, Cp, Verify, Read, Check, Fsck}
 use Rattle.fam_base.specs.declared.entry.Entry.{Entry}
 use Rattle.fam_format.specs.declared.faults.SuperFault.{SuperFault}
 use Rattle.fam_format.specs.declared.faults.SuperFault.TheVariants as super_fault
@@ -20,7 +20,7 @@ use Rattle.fam_rules.specs.declared.answers.SuperState.TheVariants as superblock
 use Rattle.fam_rules.specs.declared.answers.LogState.{LogState}
 use Rattle.fam_rules.specs.declared.answers.LogState.TheVariants as log
 use Rattle.fam_rules.specs.Decide.{Wish, wish_of}
-use Rattle.fam_rules.specs.Reply.{Reply, Appended, NotAppended, Played, Same, Differs, Length, Bytes, NotFound, IsDirectory, Checks, Reports, NoSuperblock, BadHeader, BadSlot}
+use Rattle.fam_rules.specs.Reply.{Reply, Appended, NotAppended, Played, Mounted, Same, Differs, Length, Bytes, NotFound, IsDirectory, Checks, Reports, NoSuperblock, BadHeader, BadSlot}
 use Rattle.fam_rules.specs.Written.{lines_of}
 use Rattle.fam_commands.specs.Kept.{Kept, used}
 use Rattle.fam_commands.specs.Task.{no_params, size_of, wanted_lines}
@@ -107,6 +107,7 @@ steps_by g first n d (BadSlot i reason) = head_steps + slot_steps g * (i + 1 - f
 steps_by g first n d (NotAppended refused) = refused_steps g first n refused
 steps_by g first n d (Appended seq) = decided_steps g first n + append_steps g d
 steps_by g first n d (Played m tree) = decided_steps g first n
+steps_by g first n d (Mounted m) = decided_steps g first n
 steps_by g first n d (Checks m checked) = decided_steps g first n
 steps_by g first n d (NotFound m) = decided_steps g first n
 steps_by g first n d (IsDirectory m) = decided_steps g first n
@@ -127,6 +128,7 @@ abbrev pub file_lines : Cmd → List Entry → ℕ
 file_lines (Verify path against) entries = wanted_lines (Verify path against) (size_of (finmap.get (replay entries) path))
 file_lines (Read path offset count) entries = wanted_lines (Read path offset count) (size_of (finmap.get (replay entries) path))
 file_lines Logplay entries = 0
+file_lines Mount entries = 0
 file_lines (Mkdir path attr) entries = wish_lines (wish_of (Mkdir path attr))
 file_lines (Creat path size attr stripe fill) entries = wish_lines (wish_of (Creat path size attr stripe fill))
 file_lines (Cp path attr stripe bytes) entries = wish_lines (wish_of (Cp path attr stripe bytes))

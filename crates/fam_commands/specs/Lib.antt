@@ -5,6 +5,7 @@ pub mod Task
 pub mod Turns
 pub mod Table
 pub mod Stands
+pub mod Keeping
 pub mod Counts
 pub mod Solo
 pub mod Appends

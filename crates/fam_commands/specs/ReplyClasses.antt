@@ -3,7 +3,7 @@
 use Rattle.std.specs.Prelude.{ℕ}
 use Rattle.fam_rules.specs.declared.answers.Refused.{Refused}
 use Rattle.fam_rules.specs.declared.answers.Report.{Report}
-use Rattle.fam_rules.specs.Reply.{Reply, Appended, NotAppended, Played, Same, Differs, Length, Bytes, NotFound, IsDirectory, Checks, Reports, NoSuperblock, BadHeader, BadSlot}
+use Rattle.fam_rules.specs.Reply.{Reply, Appended, NotAppended, Played, Mounted, Same, Differs, Length, Bytes, NotFound, IsDirectory, Checks, Reports, NoSuperblock, BadHeader, BadSlot}
 
 -- what a reply tells
 pub data ReplyClass : Type 0 where
@@ -23,6 +23,7 @@ abbrev pub reply_class : Reply → ReplyClass
 reply_class (Appended seq) = Appending seq
 reply_class (NotAppended refused) = Declining refused
 reply_class (Played m tree) = Showing m
+reply_class (Mounted m) = Showing m
 reply_class (Same m) = Showing m
 reply_class (Differs m offset found wanted) = Showing m
 reply_class (Length m size wanted) = Showing m

@@ -4,7 +4,7 @@
 use Rattle.std.specs.Prelude.{ℕ, ◌+◌, ◌-◌, ◌*◌, ◌==◌, ◌&&◌, nat_lt, Bool, true, false, if◌then◌else◌, List, [], ◌∷◌, ◌++◌, length, map, drop, slice_index, slice_range, Option, Some, None, Result, Ok, Err}
 use Rattle.std.specs.List.{flat_map, range_with_len}
 use Rattle.fam_base.specs.declared.cmd.Cmd.{Cmd}
-use Rattle.fam_base.specs.declared.cmd.Cmd.TheVariants.{Logplay, Mkdir, Creat, Cp, Verify, Read, Check, Fsck}
+use Rattle.fam_base.specs.declared.cmd.Cmd.TheVariants.{Logplay, Mount, Mkdir, Creat, Cp, Verify, Read, Check, Fsck}
 use Rattle.fam_base.specs.declared.cmd.Content.{Content}
 use Rattle.fam_base.specs.declared.cmd.Content.TheVariants as content
 use Rattle.fam_base.specs.declared.entry.Params.{Params}
@@ -263,6 +263,7 @@ decision_note (Creat path size attr stripe fill) me words lines p first entries 
     append_note (length entries) (decide p me entries (Creat path size attr stripe fill))
 decision_note (Cp path attr stripe bytes) me words lines p first entries = append_note (length entries) (decide p me entries (Cp path attr stripe bytes))
 decision_note Logplay me words lines p first entries = asked_note Logplay words p first entries
+decision_note Mount me words lines p first entries = asked_note Mount words p first entries
 decision_note (Verify path against) me words lines p first entries = asked_note (Verify path against) words p first entries
 decision_note (Read path offset count) me words lines p first entries = asked_note (Read path offset count) words p first entries
 decision_note (Check listing) me words lines p first entries = asked_note (Check listing) words p first entries
@@ -273,6 +274,7 @@ early_reply_note end (reply.Differs m offset found wanted) = if nat_lt offset en
 early_reply_note end (reply.Appended seq) = Quiet
 early_reply_note end (reply.NotAppended refused) = Quiet
 early_reply_note end (reply.Played m tree) = Quiet
+early_reply_note end (reply.Mounted m) = Quiet
 early_reply_note end (reply.Same m) = Quiet
 early_reply_note end (reply.Length m size wanted) = Quiet
 early_reply_note end (reply.Bytes m bytes) = Quiet
@@ -336,6 +338,7 @@ last_rows (Creat path size attr stripe fill) me words p first entries =
 last_rows (Cp path attr stripe bytes) me words p first entries =
     append_rows (Cp path attr stripe bytes) p (length entries) (decide p me entries (Cp path attr stripe bytes))
 last_rows Logplay me words p first entries = asked_rows Logplay words p first entries
+last_rows Mount me words p first entries = asked_rows Mount words p first entries
 last_rows (Verify path against) me words p first entries = asked_rows (Verify path against) words p first entries
 last_rows (Read path offset count) me words p first entries = asked_rows (Read path offset count) words p first entries
 last_rows (Check listing) me words p first entries = asked_rows (Check listing) words p first entries

@@ -3,7 +3,7 @@ use Rattle.std.specs.Prelude.{ℕ, ◌+◌, ◌-◌, ◌*◌, ◌%◌, ◌==◌,
 use Rattle.std.specs.List.{range_with_len}
 use Rattle.std.specs.FinMap as finmap
 use Rattle.fam_base.specs.declared.cmd.Cmd.{Cmd}
-use Rattle.fam_base.specs.declared.cmd.Cmd.TheVariants.{Logplay, Mkdir, Creat, Cp, Verify, Read, Check, Fsck}
+use Rattle.fam_base.specs.declared.cmd.Cmd.TheVariants.{Logplay, Mount, Mkdir, Creat, Cp, Verify, Read, Check, Fsck}
 use Rattle.fam_base.specs.declared.cmd.Content.{Content}
 use Rattle.fam_base.specs.declared.cmd.Content.TheVariants as content
 use Rattle.fam_base.specs.declared.entry.Params.{Params}
@@ -23,7 +23,7 @@ use Rattle.fam_rules.specs.declared.answers.Refused.{Refused}
 use Rattle.fam_rules.specs.Checks.{checked}
 use Rattle.fam_rules.specs.Content.{byte_in, content_byte}
 use Rattle.fam_rules.specs.Decide.{Wish, wish_of, master_refusal, decide_wish}
-use Rattle.fam_rules.specs.Reply.{Reply, Appended, NotAppended, Played, Same, Differs, Length, Bytes, NotFound, IsDirectory, Checks, Reports, NoSuperblock, BadHeader, BadSlot}
+use Rattle.fam_rules.specs.Reply.{Reply, Appended, NotAppended, Played, Mounted, Same, Differs, Length, Bytes, NotFound, IsDirectory, Checks, Reports, NoSuperblock, BadHeader, BadSlot}
 use Rattle.fam_rules.specs.Reports.{survey_slot, report_by, super_report, log_report}
 use Rattle.fam_rules.specs.Written.{lines_of}
 use Rattle.fam_commands.specs.declared.phase.Part.{Part}
@@ -200,6 +200,7 @@ wish_turn t (Some w) = append_turn t (decide_wish t.params t.me t.entries w)
 -- all slots are read
 abbrev pub decide_turn : Cmd → Task → Turn
 decide_turn Logplay t = Ends (Played (length t.entries) (replay t.entries))
+decide_turn Mount t = Ends (Mounted (length t.entries))
 decide_turn (Check listing) t = Ends (Checks (length t.entries) (checked (replay t.entries) listing))
 decide_turn Fsck t = Ends (Reports (report_by t.params t.gate t.survey))
 decide_turn (Verify path against) t = found_turn t (finmap.get (replay t.entries) path) (λ e. verify_turn t e against)

@@ -16,5 +16,5 @@ pub use phase::{Part, Phase};
 pub use solo::a_solo_command_is_a_run_of_operations;
 pub use table::{
     a_task_keeps_what_its_host_kept, the_number_of_operations, the_table_has_the_next_operation,
-    the_table_has_the_note,
+    the_table_has_the_note, the_words_tell_what_is_kept,
 };

@@ -3,6 +3,7 @@
 ghost use Rattle.std.specs.Prelude.{◌≡◌, ◌+◌, ℕ, List, Option, Some, option_map, slice_get};
 ghost use Rattle.fam_base.specs.declared.cmd.Cmd.{Cmd};
 ghost use Rattle.fam_commands.specs.Counts.{steps_of};
+ghost use Rattle.fam_commands.specs.Keeping.{kept_after, kept_behind, read_told};
 ghost use Rattle.fam_commands.specs.Kept.{IsKept, Kept};
 ghost use Rattle.fam_commands.specs.Stands.{StandsFor, note_of, turn_given, with_given};
 ghost use Rattle.fam_machine.specs.Operations.{given_by};
@@ -35,6 +36,18 @@ pub fn the_table_has_the_note()
 pub fn a_task_keeps_what_its_host_kept()
     ensures { (kept : Option Kept) (cmd : Cmd) (me : List ℕ) (lines : ℕ) (t : Task) (words : List ℕ) (made : ℕ) →
         IsKept kept → StandsFor kept cmd me lines t words made → t.kept ≡ kept }
+{}
+
+/// What a host keeps behind an operation of its command is told by the words that the command's loads gave (`told`). It
+/// is a history, where what it kept was one (`joined`).
+pub fn the_words_tell_what_is_kept()
+    ensures told { (kept : Option Kept) (cmd : Cmd) (me : List ℕ) (lines : ℕ) (t : Task) (words : List ℕ) (made : ℕ) →
+        IsKept kept → StandsFor kept cmd me lines t words made → (word : ℕ) (before : Option Kept) →
+        kept_behind (note_of (turn_given t word)) (read_told kept cmd (with_given words (given_by (op_of t) word)) lines) before
+        ≡ kept_after (turn_given t word) t before }
+    ensures joined { (kept : Option Kept) (cmd : Cmd) (me : List ℕ) (lines : ℕ) (t : Task) (words : List ℕ) (made : ℕ) →
+        IsKept kept → StandsFor kept cmd me lines t words made → (word : ℕ) (before : Option Kept) →
+        IsKept before → IsKept (kept_after (turn_given t word) t before) }
 {}
 
 /// Where a task ends, the operations that it made, with the last one, are as many as its answer says: by the gate

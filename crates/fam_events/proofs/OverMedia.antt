@@ -14,7 +14,7 @@ use Rattle.fam_machine.specs.declared.request.MkfsRequest.{MkfsRequest}
 use Rattle.fam_journal.specs.declared.refusal.Refusal.{Refusal}
 use Rattle.fam_journal.specs.declared.refusal.Refusal.TheVariants as why
 use Rattle.fam_journal.specs.Calls as call
-use Rattle.fam_journal.specs.Calls.{Call, busy_refusal, cause_of, is_busy, number_of, on_host}
+use Rattle.fam_journal.specs.Calls.{Call, busy_refusal, cause_of, is_engaged, number_of, on_host}
 use Rattle.fam_journal.specs.CallRecords.{Adds, Answers, CallForm, CallKeeps, CallBreaks, CallParts, FinishOutOfMemory, FitsMedia, MakeCall, MediaCall, heading, refusal_noted}
 use Rattle.fam_journal.specs.Ends.{cause_faults}
 use Rattle.fam_journal.specs.Forms.{ActsForm, AtForm, BreaksForm, DoesForm, FormByRefusal, FreeForm, HostForm, IsFormed, OfHostForm, PartForm, forms_of, makes_told, refusal_told, shown_forms}
@@ -149,7 +149,7 @@ module _ (name : List ℕ) (request : MkfsRequest) (a : WorldChange) (formed : I
   told_clean : IfFaultless (refusal_told c a.lines forms)
   told_clean =
       let early = early_refusal request.unit request.log (line_bytes * length (shown_forms a.lines forms).memory) in
-      let busy = index_of is_busy (shown_forms a.lines forms).hosts in
+      let busy = index_of is_engaged (shown_forms a.lines forms).hosts in
       clean_on (number_of name (shown_forms a.lines forms)) (λ h. makes_told request.unit request.log (shown_forms a.lines forms)) (λ h. clean_or (option_map cause_of early) (busy_refusal busy) (clean_early early) (clean_busy busy))
 
   -- a fault is no row of its own

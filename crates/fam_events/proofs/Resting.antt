@@ -4,7 +4,7 @@ use Rattle.std.specs.Prelude.{IfOk, IfSome, IsErrOf, OnErr, OnOk, option_map, sl
 use Rattle.std.proofs.lemmas.Option.{same_Some}
 use Rattle.fam_base.specs.declared.cmd.Cmd.{Cmd}
 use Rattle.fam_commands.specs.FirstStore.{IsUnstored}
-use Rattle.fam_commands.specs.Task.{starting}
+use Rattle.fam_commands.specs.Task.{mounted}
 use Rattle.fam_journal.specs.declared.refusal.Refusal.{Refusal}
 use Rattle.fam_journal.specs.Calls as call
 use Rattle.fam_journal.specs.CallRecords.{IsUnstoredAt, WorldCall}
@@ -24,7 +24,7 @@ use Rattle.fam_events.specs.declared.fault.EventFault.{EventFault}
 -- a command that begins
 module _ (name : List ℕ) (cmd : Cmd) (lines : ℕ) (old new : WorldView) (begins : WorldCall (call.Begins name cmd) lines None old new) (rested : IsRested old) where
   abbrev with_task : HostView → HostView
-  with_task v = record v { task = Some (starting cmd v.uuid lines) }
+  with_task v = record v { task = Some (mounted v.kept cmd v.uuid lines) }
 
   hosts_are : (h : ℕ) → number_in name old ≡ Some h → new.hosts ≡ changed_at h with_task old.hosts
   hosts_are h number =

@@ -58,6 +58,7 @@ pub(crate) fn is_command(cmd: &Cmd)
             are_bytes(bytes);
         }
         Cmd::Logplay => {}
+        Cmd::Mount => {}
         Cmd::Verify { .. } => {}
         Cmd::Read { .. } => {}
         Cmd::Check { .. } => {}

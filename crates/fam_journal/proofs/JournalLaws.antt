@@ -5,7 +5,7 @@ use Rattle.fam_journal.specs.Calls as call
 use Rattle.fam_journal.specs.Calls.{BreaksOff, Call, Does}
 use Rattle.fam_journal.specs.Ends.{ReadsAs}
 use Rattle.fam_journal.specs.View.{WorldStands, WorldView, empty_world}
-use Rattle.fam_journal.specs.Kept.{Held, Kept}
+use Rattle.fam_journal.specs.Kept.{Held, Reached}
 use Rattle.fam_journal.specs.CallRecords.{DoesPart, IsSoundCall}
 use Rattle.fam_journal.specs.Laws.{IsImage, MaySayNext, TaskAt, turn_at}
 use Rattle.fam_journal.specs.Legal.{Legal}
@@ -27,17 +27,17 @@ begun image is = record {
 
 pub said : (at : TaskAt) → MaySayNext at → Bridged at.past at.host (turn_at at)
 said at says =
-    bridged at.past.start at.past.hosts at.host at.told at.is at.task.cmd at.task.me at.task at.words at.made at.word at.standing (turn_at at) refl at.was at.me says.hosts says.shared at.past.state says.bad says.stage says.says
+    bridged at.past.start at.past.hosts at.host at.told at.is at.kept at.task.cmd at.task.me at.task at.words at.made at.word at.joined at.standing (turn_at at) refl at.was at.me says.hosts says.shared at.past.state says.bad says.stage says.says
 
 pub kept_on : (start : Image) (state left : Machines) (old new : WorldView) (call : Call) (notes : List Note) → Held start state old state.memory → IsSoundCall call → Does call state notes left
     → WorldStands (length start) left new → new.journal ≡ old.journal ++ notes → Held start left new left.memory
 kept_on start state left old new call notes held sound does stands journal = record {
   memory = refl;
   stands = stands;
-  kept = subst (λ (z : List Note). Kept start left z) (sym journal) (does_kept start state old.journal held.kept notes left call sound does);
+  kept = subst (λ (z : List Note). Reached start left z) (sym journal) (does_kept start state old.journal held.kept notes left call sound does);
 }
 
-part_does : (start : Image) (state left : Machines) (journal notes : List Note) (call : Call) → Kept start state journal → DoesPart call state notes left → Kept start left (journal ++ notes)
+part_does : (start : Image) (state left : Machines) (journal notes : List Note) (call : Call) → Reached start state journal → DoesPart call state notes left → Reached start left (journal ++ notes)
 part_does start state left journal notes (call.Declares name uuid) kept x = kept_quiet start journal notes left state x.0 x.1 kept
 part_does start state left journal notes (call.Makes name request) kept x = kept_quiet start journal notes left state x.0 x.1 kept
 part_does start state left journal notes (call.Begins name cmd) kept x = kept_quiet start journal notes left state x.0 x.1 kept
@@ -54,7 +54,7 @@ pub part_on : (start : Image) (state left : Machines) (old new : WorldView) (cal
 part_on start state left old new call notes held does stands journal = record {
   memory = refl;
   stands = stands;
-  kept = subst (λ (z : List Note). Kept start left z) (sym journal) (part_does start state left old.journal notes call held.kept does);
+  kept = subst (λ (z : List Note). Reached start left z) (sym journal) (part_does start state left old.journal notes call held.kept does);
 }
 
 pub cut_legal : (start : Image) (state left : Machines) (old : WorldView) (call : Call) (notes : List Note) → Held start state old state.memory → BreaksOff call state notes left → Legal start (old.journal ++ notes)

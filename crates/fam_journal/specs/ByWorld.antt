@@ -1,7 +1,7 @@
 -- What a world tells by itself: the first refusal of a call, and all that a call makes of it that takes no media.
 use Rattle.std.specs.Prelude.{replicate, ℕ, ⊤, ◌≡◌, ◌⊎◌, Bool, List, [], ◌∷◌, ◌++◌, map, Option, Some, None}
 use Rattle.std.specs.FinMap as map_of_lines
-use Rattle.fam_commands.specs.Task.{Task, starting}
+use Rattle.fam_commands.specs.Task.{Task, mounted}
 use Rattle.fam_journal.specs.Calls as call
 use Rattle.fam_base.specs.declared.cmd.Cmd.TheVariants.{Logplay}
 use Rattle.fam_journal.specs.declared.refusal.Refusal.{Refusal}
@@ -16,11 +16,11 @@ use Rattle.fam_journal.specs.View.{HostView, WorldView, WorldStands}
 -- a task that runs shows that it runs, and nothing more
 abbrev pub shown_task : Option Task → Option TaskState
 shown_task None = None
-shown_task (Some t) = Some (task_begun Logplay [])
+shown_task (Some t) = Some (task_begun None Logplay [])
 
--- a host as refusals see it: whose it is, its cache, and whether it has a task
+-- a host as refusals see it: whose it is, its cache, whether it has a task, and what it keeps
 abbrev pub shown_host : HostView → HostState
-shown_host view = record { name = view.name; uuid = view.uuid; cache = view.cache; task = shown_task view.task }
+shown_host view = record { name = view.name; uuid = view.uuid; cache = view.cache; task = shown_task view.task; kept = view.kept }
 
 -- a world as refusals see it, over a memory of so many lines
 abbrev pub shown_state : WorldView → ℕ → Machines
@@ -52,14 +52,14 @@ with_host (Some h) change note world = record { hosts = changed_at h change worl
 -- the world behind a call that isn't refused and takes no media
 abbrev pub acted : Call → ℕ → WorldView → WorldView
 acted (call.Declares name uuid) lines world =
-    record { hosts = world.hosts ++ record { name = name; uuid = uuid; cache = map_of_lines.empty; task = None } ∷ []; journal = world.journal ++ Host name uuid ∷ [] }
+    record { hosts = world.hosts ++ record { name = name; uuid = uuid; cache = map_of_lines.empty; task = None; kept = None } ∷ []; journal = world.journal ++ Host name uuid ∷ [] }
 acted (call.Makes name request) lines world = world
 acted (call.Begins name cmd) lines world =
-    with_host (number_in name world) (λ v. record v { task = Some (starting cmd v.uuid lines) }) (λ h. Start h cmd) world
+    with_host (number_in name world) (λ v. record v { task = Some (mounted v.kept cmd v.uuid lines) }) (λ h. Start h cmd) world
 acted (call.Steps name) lines world = world
 acted (call.Finishes name) lines world = world
 acted (call.Stops name) lines world = with_host (number_in name world) (λ v. record v { task = None }) Stop world
-acted (call.Halts name) lines world = with_host (number_in name world) (λ v. record v { cache = map_of_lines.empty; task = None }) Halt world
+acted (call.Halts name) lines world = with_host (number_in name world) (λ v. record v { cache = map_of_lines.empty; task = None; kept = None }) Halt world
 acted (call.Moves name line move) lines world = world
 acted (call.Refuses name cause) lines world = with_notes (Refused name cause ∷ []) world
 

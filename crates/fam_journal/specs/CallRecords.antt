@@ -7,6 +7,7 @@ use Rattle.fam_machine.specs.OneLine.{IsHeld}
 use Rattle.fam_commands.specs.Task.{Task, op_of}
 use Rattle.fam_machine.specs.Operations.{Machine, given, operated}
 use Rattle.fam_commands.specs.FirstStore.{IsUnstored}
+use Rattle.fam_commands.specs.Keeping.{kept_after}
 use Rattle.fam_commands.specs.Stands.{note_of, task_after, turn_given}
 use Rattle.fam_commands.specs.Turns.{Turn}
 use Rattle.fam_journal.specs.Members.{changed_at}
@@ -282,7 +283,7 @@ own_turn image view t = turn_given t (unwrap_or (given (op_of t) (own_machine im
 -- the world behind one operation of a host's task, which the media served
 abbrev pub stepped_world : Image → ℕ → HostView → Task → WorldView → WorldView
 stepped_world image h view t world = record {
-  hosts = changed_at h (λ v. record v { cache = (operated (op_of t) (own_machine image view)).cache; task = task_after (own_turn image view t) }) world.hosts;
+  hosts = changed_at h (λ v. record v { cache = (operated (op_of t) (own_machine image view)).cache; task = task_after (own_turn image view t); kept = kept_after (own_turn image view t) t v.kept }) world.hosts;
   journal = world.journal ++ notes_of h (note_of (own_turn image view t));
 }
 

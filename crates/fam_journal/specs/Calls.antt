@@ -16,7 +16,7 @@ use Rattle.fam_journal.specs.declared.refusal.Refusal.{Refusal}
 use Rattle.fam_journal.specs.declared.refusal.Refusal.TheVariants as why
 use Rattle.fam_machine.specs.HostMoves.{Move, move_failed, moved}
 use Rattle.fam_machine.specs.Cuts.{Cuts}
-use Rattle.fam_journal.specs.Machines.{HostState, Machines, Operation, machine_of, task_begun, with_machine, with_memory, with_task}
+use Rattle.fam_journal.specs.Machines.{HostState, Machines, Operation, machine_of, task_begun, with_parts, with_machine, with_memory, with_task}
 use Rattle.fam_journal.specs.Members.{index_of}
 use Rattle.fam_machine.specs.Mkfs as early
 use Rattle.fam_machine.specs.Mkfs.{EarlyRefusal, asked, expected_ops, early_refusal, superblock_found, goes_on, mkfs_ops, read_ops}
@@ -61,6 +61,10 @@ number_of name m = index_of (has_name name) m.hosts
 abbrev pub is_busy : HostState → Bool
 is_busy host = is_some host.task
 
+-- the host has a task or keeps something of the log: no file system is made meanwhile
+abbrev pub is_engaged : HostState → Bool
+is_engaged host = is_some host.task || is_some host.kept
+
 -- host h is declared and has a task
 abbrev pub is_busy_host : Option HostState → Bool
 is_busy_host None = false
@@ -83,7 +87,7 @@ abbrev pub same_refusal : Option ℕ → Option Refusal
 same_refusal None = None
 same_refusal (Some h) = Some (why.SameHost (record { 0 = h }))
 
--- this host has a task
+-- this host has a task, or where a file system is to be made keeps something
 abbrev pub busy_refusal : Option ℕ → Option Refusal
 busy_refusal None = None
 busy_refusal (Some h) = Some (why.Busy (record { 0 = h }))
@@ -113,7 +117,7 @@ cause_of (early.TooSmall needed have) = why.TooSmall needed have
 abbrev pub makes_refusal : ℕ → ℕ → ℕ → Machines → Option Refusal
 makes_refusal unit log h m =
     or_else (option_map cause_of (early_refusal unit log (line_bytes * length m.memory)))
-    (or_else (busy_refusal (index_of is_busy m.hosts)) (dirty_refusal (dirty_from h 0 m.hosts)))
+    (or_else (busy_refusal (index_of is_engaged m.hosts)) (dirty_refusal (dirty_from h 0 m.hosts)))
 
 -- what may be asked of a declared host
 abbrev pub on_host : Option ℕ → (ℕ → Option Refusal) → Option Refusal
@@ -238,12 +242,12 @@ ActsAt (Declares name uuid) h host old notes new = ⊥
 ActsAt (Makes name request) h host old notes new =
     MakesFileSystem h (asked request host.uuid (length old.memory)) request.force host old notes new ⊎ Meets h (asked request host.uuid (length old.memory)) request.force name host old notes new
 ActsAt (Begins name cmd) h host old notes new =
-    (notes ≡ Start h cmd ∷ []) × (new ≡ with_task h (Some (task_begun cmd host.uuid)) old)
+    (notes ≡ Start h cmd ∷ []) × (new ≡ with_task h (Some (task_begun host.kept cmd host.uuid)) old)
 ActsAt (Steps name) h host old notes new = Operation h old notes new
 ActsAt (Finishes name) h host old notes new = Completes h old notes new
 ActsAt (Stops name) h host old notes new = (notes ≡ Stop h ∷ []) × (new ≡ with_task h None old)
 ActsAt (Halts name) h host old notes new =
-    (notes ≡ Halt h ∷ []) × (new ≡ with_machine h (record { image = old.memory; cache = map.empty }) None old)
+    (notes ≡ Halt h ∷ []) × (new ≡ with_parts h (record { image = old.memory; cache = map.empty }) None None old)
 ActsAt (Moves name line move) h host old notes new = Moved h line move host old notes new ⊎ MoveFails h line move name host old notes new
 ActsAt (Refuses name cause) h host old notes new = ⊥
 
@@ -259,7 +263,7 @@ ActsOf call old notes new = AtNumber (number_of (name_of call) old) old (λ h ho
 -- what a call does that isn't refused, and after which the run goes on; a host is declared behind the others
 abbrev pub Acts : Call → Machines → List Note → Machines → Type 0
 Acts (Declares name uuid) old notes new =
-    (notes ≡ Host name uuid ∷ []) × (new ≡ record old { hosts = old.hosts ++ record { name = name; uuid = uuid; cache = map.empty; task = None } ∷ [] })
+    (notes ≡ Host name uuid ∷ []) × (new ≡ record old { hosts = old.hosts ++ record { name = name; uuid = uuid; cache = map.empty; task = None; kept = None } ∷ [] })
 Acts (Refuses name cause) old notes new = (notes ≡ Refused name cause ∷ []) × (new ≡ old) × MayBeRefused name cause old
 Acts (Makes name request) old notes new = ActsOf (Makes name request) old notes new
 Acts (Begins name cmd) old notes new = ActsOf (Begins name cmd) old notes new

@@ -2,7 +2,7 @@
 -- doesn't refuse, unless the media fails, answers that it is done.
 use Rattle.std.specs.Prelude.{ℕ, ⊤, ◌≡◌, ◌≢◌, ◌⊎◌, ◌*◌, List, [], ◌∷◌, ◌++◌, length, take, slice_get, Option, Some, None, Err}
 use Rattle.fam_base.specs.declared.cmd.Cmd.{Cmd}
-use Rattle.fam_base.specs.declared.cmd.Cmd.TheVariants.{Logplay, Mkdir, Creat, Cp, Verify, Read, Check, Fsck}
+use Rattle.fam_base.specs.declared.cmd.Cmd.TheVariants.{Logplay, Mount, Mkdir, Creat, Cp, Verify, Read, Check, Fsck}
 use Rattle.fam_base.specs.declared.entry.Params.{Params}
 use Rattle.fam_base.specs.Image.{Image, line_at}
 use Rattle.fam_rules.specs.declared.answers.Refused.{Refused as Cause}
@@ -65,6 +65,7 @@ pub record IsReportAnswer (p : Params) (host : HostPast) (all : List File) (give
 -- an answer of the rules where the state is sound: of the command's own kind
 abbrev pub IsSoundAnswer : Params → List File → Option File → HostPast → Cmd → Reply → Type 0
 IsSoundAnswer p history pending host Logplay given = AsksPrefix host (with_pending history pending) Logplay given
+IsSoundAnswer p history pending host Mount given = AsksPrefix host (with_pending history pending) Mount given
 IsSoundAnswer p history pending host (Mkdir path attr) given = IsAppendAnswer p history pending host (Mkdir path attr) given
 IsSoundAnswer p history pending host (Creat path size attr stripe fill) given =
     IsAppendAnswer p history pending host (Creat path size attr stripe fill) given

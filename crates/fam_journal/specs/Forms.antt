@@ -3,15 +3,15 @@
 use Rattle.std.specs.Prelude.{replicate, ℕ, ◌*◌, ⊤, ◌≡◌, ◌≢◌, ◌⊎◌, ◌<◌, ◌≤◌, Bool, true, false, List, [], ◌∷◌, ◌++◌, length, map, slice_get, Option, Some, None, is_some, option_map}
 use Rattle.std.specs.FinMap as finmap
 use Rattle.fam_base.specs.declared.cmd.Cmd.{Cmd}
-use Rattle.fam_base.specs.declared.cmd.Cmd.TheVariants.{Logplay, Mkdir, Creat, Cp, Verify, Read, Check, Fsck}
+use Rattle.fam_base.specs.declared.cmd.Cmd.TheVariants.{Logplay, Mount, Mkdir, Creat, Cp, Verify, Read, Check, Fsck}
 use Rattle.fam_base.specs.declared.entry.Entry.{Entry}
 use Rattle.fam_format.specs.Stop.{or_else}
 use Rattle.fam_commands.specs.declared.phase.Part.TheVariants.{Superblock, Header, Slot, File}
 use Rattle.fam_commands.specs.declared.phase.Phase.{Phase}
 use Rattle.fam_commands.specs.declared.phase.Phase.TheVariants as at
 use Rattle.fam_machine.specs.Mkfs.{asked, early_refusal}
-use Rattle.fam_commands.specs.Stands.{StandsFor}
-use Rattle.fam_commands.specs.Task.{Task}
+use Rattle.fam_commands.specs.Kept.{IsKept, Kept}
+use Rattle.fam_commands.specs.Task.{Task, no_params}
 use Rattle.fam_commands.specs.Appends.{HasWish}
 use Rattle.fam_commands.specs.Classes.{IsCheck, IsRead, IsVerify}
 use Rattle.fam_rules.specs.declared.answers.Refused.{Refused as Cause}
@@ -23,12 +23,12 @@ use Rattle.fam_rules.specs.Reply.{Reply}
 use Rattle.fam_journal.specs.declared.refusal.Refusal.{Refusal}
 use Rattle.fam_journal.specs.declared.refusal.Refusal.TheVariants as why
 use Rattle.fam_journal.specs.Calls as call
-use Rattle.fam_journal.specs.Calls.{Call, IsOfSource, busy_refusal, cause_of, is_busy, may_begin, name_of, number_of, on_host, refusal_of}
+use Rattle.fam_journal.specs.Calls.{Call, IsOfSource, busy_refusal, cause_of, is_engaged, may_begin, name_of, number_of, on_host, refusal_of}
 use Rattle.fam_journal.specs.Machines.{HostState, Machines, TaskState, task_begun}
 use Rattle.fam_journal.specs.Members.{changed_at, index_of}
 use Rattle.fam_journal.specs.Notes.{Answer, Replied, MediaFault, Note, Host, Made, Start, Mark, Found, Writes, Answered, Stop, Halt, Refused}
 use Rattle.fam_journal.specs.Past.{reported_count}
-use Rattle.fam_journal.specs.View.{HostView, WorldView}
+use Rattle.fam_journal.specs.View.{HostView, StandsAs, WorldView}
 
 -- What a journal tells of the hosts alone.
 
@@ -47,11 +47,12 @@ pub record TaskForm : Type 0 where
   pub cmd : Cmd
   pub stage : CommandStage
 
--- a host with its running command, if any
+-- a host with its running command, if any, and whether it keeps something of the log
 pub record HostForm : Type 0 where
   pub name : List ℕ
   pub uuid : List ℕ
   pub task : Option TaskForm
+  pub keeps : Bool
 
 -- its command, if any, has come to a stage
 abbrev pub with_stage : CommandStage → HostForm → HostForm
@@ -59,7 +60,7 @@ with_stage stage host = record host { task = option_map (λ (t : TaskForm). reco
 
 -- the hosts after a note
 abbrev pub forms_after : List HostForm → Note → List HostForm
-forms_after hosts (Host name uuid) = hosts ++ record { name = name; uuid = uuid; task = None } ∷ []
+forms_after hosts (Host name uuid) = hosts ++ record { name = name; uuid = uuid; task = None; keeps = false } ∷ []
 forms_after hosts (Made h p) = hosts
 forms_after hosts (Start h cmd) = changed_at h (λ host. record host { task = Some (record { cmd = cmd; stage = Begun }) }) hosts
 forms_after hosts (Mark h) = changed_at h (with_stage Marked) hosts
@@ -67,7 +68,7 @@ forms_after hosts (Found h n) = changed_at h (with_stage (Met n)) hosts
 forms_after hosts (Writes h seq entry) = changed_at h (with_stage (Named seq)) hosts
 forms_after hosts (Answered h answer) = changed_at h (λ host. record host { task = None }) hosts
 forms_after hosts (Stop h) = changed_at h (λ host. record host { task = None }) hosts
-forms_after hosts (Halt h) = changed_at h (λ host. record host { task = None }) hosts
+forms_after hosts (Halt h) = changed_at h (λ host. record host { task = None; keeps = false }) hosts
 forms_after hosts (Refused name why) = hosts
 
 -- the hosts after some notes more
@@ -122,6 +123,7 @@ abbrev pub ReplyForm : List ℕ → Cmd → CommandStage → Reply → Type 0
 ReplyForm me cmd stage (reply.Appended seq) = stage ≡ Named seq
 ReplyForm me cmd stage (reply.NotAppended why) = HasWish cmd × CauseForm me stage why
 ReplyForm me cmd stage (reply.Played m tree) = (cmd ≡ Logplay) × (stage ≡ Marked)
+ReplyForm me cmd stage (reply.Mounted m) = (cmd ≡ Mount) × (stage ≡ Marked)
 ReplyForm me cmd stage (reply.Same m) = IsVerify cmd × (stage ≡ Marked)
 ReplyForm me cmd stage (reply.Differs m offset found wanted) = IsVerify cmd × (stage ≡ Marked)
 ReplyForm me cmd stage (reply.Length m size wanted) = IsVerify cmd × (stage ≡ Marked)
@@ -202,11 +204,16 @@ pub record UnfinishedForm (h : ℕ) (hosts : List HostForm) (notes : List Note) 
 -- a task that runs, as refusals see it
 abbrev pub shown_running : Option TaskForm → Option TaskState
 shown_running None = None
-shown_running (Some t) = Some (task_begun t.cmd [])
+shown_running (Some t) = Some (task_begun None t.cmd [])
+
+-- that something is kept, and nothing more
+abbrev pub shown_keeping : Bool → Option Kept
+shown_keeping true = Some (record { params = no_params; entries = [] })
+shown_keeping false = None
 
 -- a host as refusals see it, but its cache, of which notes tell nothing
 abbrev pub shown_form : HostForm → HostState
-shown_form host = record { name = host.name; uuid = host.uuid; cache = finmap.empty; task = shown_running host.task }
+shown_form host = record { name = host.name; uuid = host.uuid; cache = finmap.empty; task = shown_running host.task; kept = shown_keeping host.keeps }
 
 -- on a media of so many lines
 abbrev pub shown_forms : ℕ → List HostForm → Machines
@@ -214,7 +221,7 @@ shown_forms lines hosts = record { memory = replicate lines []; hosts = map show
 
 -- before any operation of making a file system: notes don't tell whose lines are dirty
 abbrev pub makes_told : ℕ → ℕ → Machines → Option Refusal
-makes_told unit log m = or_else (option_map cause_of (early_refusal unit log (line_bytes * length m.memory))) (busy_refusal (index_of is_busy m.hosts))
+makes_told unit log m = or_else (option_map cause_of (early_refusal unit log (line_bytes * length m.memory))) (busy_refusal (index_of is_engaged m.hosts))
 
 -- the first refusal that notes tell of a call; which caches are dirty they don't
 abbrev pub refusal_told : Call → ℕ → List HostForm → Option Refusal
@@ -386,6 +393,7 @@ pub record HostFormed (view : HostView) (form : HostForm) : Type 0 where
   pub name : form.name ≡ view.name
   pub uuid : form.uuid ≡ view.uuid
   pub task : TaskFormed view.uuid view.task form.task
+  pub keeps : form.keeps ≡ is_some view.kept
 
 -- two lists have as many members, and each two of a place are such
 abbrev pub Pairs : {A B : Type 0} → (A → B → Type 0) → List A → List B → Type 0
@@ -403,7 +411,7 @@ IsFormed world = Pairs HostFormed world.hosts (forms_of world.journal)
 -- a task of the machine stands for one whose notes tell where it is
 pub record IsStateTask (lines : ℕ) (me : List ℕ) (state : TaskState) (form : TaskForm) : Type 0 where
   pub task : Task
-  pub stands : StandsFor None state.cmd state.me lines task state.words state.made
+  pub stands : StandsAs lines state task
   pub is : IsTaskForm me task form
 
 -- a task of the machine is as notes tell it
@@ -418,6 +426,8 @@ pub record StateFormed (lines : ℕ) (host : HostState) (form : HostForm) : Type
   pub name : form.name ≡ host.name
   pub uuid : form.uuid ≡ host.uuid
   pub task : StateTaskFormed lines host.uuid host.task form.task
+  pub keeps : form.keeps ≡ is_some host.kept
+  pub joined : IsKept host.kept
 
 -- the machine has so many lines, and its hosts are as notes tell them
 pub record AreFormed (lines : ℕ) (m : Machines) (hosts : List HostForm) : Type 0 where

@@ -6,6 +6,7 @@ use Rattle.fam_format.specs.Reading.{Lines}
 use Rattle.fam_machine.specs.declared.cell.Cell.{Cell}
 use Rattle.fam_machine.specs.declared.cell.Cell.TheVariants.{Absent}
 use Rattle.fam_machine.specs.Caches.{cell_at}
+use Rattle.fam_commands.specs.Kept.{Kept}
 use Rattle.fam_commands.specs.Task.{Task}
 use Rattle.fam_rules.specs.Place.{line_bytes}
 use Rattle.fam_protocol.specs.After.{Run}
@@ -81,10 +82,15 @@ abbrev pub copy_at : Option HostView → ℕ → Cell
 copy_at None l = Absent
 copy_at (Some view) l = cell_at view.cache l
 
+-- what the host at one number keeps, or nothing
+abbrev pub kept_at : Option HostView → Option Kept
+kept_at None = None
+kept_at (Some view) = view.kept
+
 -- hosts as the protocol has them, by their numbers
 abbrev pub hosts_of : List HostView → List HostPast → Hosts
 hosts_of views told =
-    record { uuid = λ h. uuid_at (slice_get views h); run = λ h. run_at (slice_get views h) (slice_get told h); kept = λ h. None }
+    record { uuid = λ h. uuid_at (slice_get views h); run = λ h. run_at (slice_get views h) (slice_get told h); kept = λ h. kept_at (slice_get views h) }
 
 -- memory and copies as the protocol has them
 abbrev pub shared_of : Image → List HostView → SharedState
@@ -106,7 +112,7 @@ pub record Agrees (start : Image) (state : Machines) (world : WorldView) (image 
   pub invariant : Invariant (settled_of (past_of start world.journal).state) (length start) (hosts_of world.hosts (past_of start world.journal).hosts) (shared_of image world.hosts)
 
 -- of some tasks: those that stand for the state's
-pub record Kept (start : Image) (state : Machines) (journal : List Note) : Type 0 where
+pub record Reached (start : Image) (state : Machines) (journal : List Note) : Type 0 where
   pub views : List HostView
   pub held : Agrees start state (record { hosts = views; journal = journal }) state.memory
   pub uuids : (k : ℕ) (host : HostState) → slice_get state.hosts k ≡ Some host → IsUuid host.uuid
@@ -116,4 +122,4 @@ pub record Kept (start : Image) (state : Machines) (journal : List Note) : Type 
 pub record Held (start : Image) (state : Machines) (world : WorldView) (image : Image) : Type 0 where
   pub memory : state.memory ≡ image
   pub stands : WorldStands (length start) state world
-  pub kept : Kept start state world.journal
+  pub kept : Reached start state world.journal

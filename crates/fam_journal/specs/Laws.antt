@@ -1,9 +1,10 @@
 -- What laws say of journals.
-use Rattle.std.specs.Prelude.{ℕ, ⊤, ◌≡◌, ◌*◌, ◌≤◌, false, List, [], ◌∷◌, ◌++◌, length, map, slice_get, take, Some, None, Result}
+use Rattle.std.specs.Prelude.{ℕ, ⊤, ◌≡◌, ◌*◌, ◌≤◌, false, List, [], ◌∷◌, ◌++◌, length, map, slice_get, take, Option, Some, None, Result}
 use Rattle.fam_base.specs.declared.entry.Entry.{Entry}
 use Rattle.fam_journal.specs.Events.{Session}
 use Rattle.fam_tree.specs.Listings.{ListingSays}
 use Rattle.fam_base.specs.Image.{Image, eight}
+use Rattle.fam_commands.specs.Kept.{IsKept, Kept}
 use Rattle.fam_commands.specs.Stands.{StandsFor, turn_given}
 use Rattle.fam_commands.specs.Task.{Task}
 use Rattle.fam_commands.specs.Turns.{Turn}
@@ -120,7 +121,9 @@ pub record TaskAt : Type 0 where
   pub words : List ℕ
   pub made : ℕ
   pub word : ℕ
-  pub standing : StandsFor None task.cmd task.me (length past.start) task words made
+  pub kept : Option Kept
+  pub joined : IsKept kept
+  pub standing : StandsFor kept task.cmd task.me (length past.start) task words made
   pub was : TaskTold task told
   pub me : told.uuid ≡ task.me
 

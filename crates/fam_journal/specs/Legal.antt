@@ -145,6 +145,7 @@ abbrev pub ReplyAllowed : Reply → HostPast → State → Type 0
 ReplyAllowed (reply.Appended seq) host state = AppendedAllowed seq host (acknowledges seq state)
 ReplyAllowed (reply.NotAppended why) host state = CauseAllowed why host state
 ReplyAllowed (reply.Played m tree) host state = AskAllowed m (reply.Played m tree) host state
+ReplyAllowed (reply.Mounted m) host state = AskAllowed m (reply.Mounted m) host state
 ReplyAllowed (reply.Same m) host state = AskAllowed m (reply.Same m) host state
 ReplyAllowed (reply.Differs m offset found wanted) host state = AskAllowed m (reply.Differs m offset found wanted) host state
 ReplyAllowed (reply.Length m size wanted) host state = AskAllowed m (reply.Length m size wanted) host state

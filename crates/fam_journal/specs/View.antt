@@ -1,7 +1,8 @@
--- A world as it is seen: its hosts, each with its cache and the task that it runs, and its journal. Which states of the machine
--- it stands for.
+-- A world as it is seen: its hosts, each with its cache, the task that it runs and what it keeps of the log, and its journal.
+-- Which states of the machine it stands for.
 use Rattle.std.specs.Prelude.{ℕ, ⊤, ◌≡◌, List, [], slice_get, Option, Some, None}
 use Rattle.fam_machine.specs.Caches.{Cache}
+use Rattle.fam_commands.specs.Kept.{IsKept, Kept}
 use Rattle.fam_commands.specs.Stands.{StandsFor}
 use Rattle.fam_commands.specs.Task.{Task}
 use Rattle.fam_journal.specs.Machines.{HostState, Machines, TaskState}
@@ -13,6 +14,7 @@ pub record HostView : Type 0 where
   pub uuid : List ℕ
   pub cache : Cache
   pub task : Option Task
+  pub kept : Option Kept
 
 -- a world: its hosts in the order in which they were declared, and its journal
 pub record WorldView : Type 0 where
@@ -25,10 +27,16 @@ empty_world = record { hosts = []; journal = [] }
 
 -- The world stands for a state of the machine.
 
--- a task stands for its command, after the words that its loads gave and the operations that it made
+-- a task stands for a command on its way, on a host that kept a history when it began: it is the command's after the words
+-- that the loads gave and the operations that were made
+pub record StandsAs (lines : ℕ) (s : TaskState) (t : Task) : Type 0 where
+  pub joined : IsKept s.kept
+  pub stands : StandsFor s.kept s.cmd s.me lines t s.words s.made
+
+-- both have a task that stands so, or neither has one
 abbrev pub TaskStands : ℕ → Option TaskState → Option Task → Type 0
 TaskStands lines None None = ⊤
-TaskStands lines (Some s) (Some t) = StandsFor None s.cmd s.me lines t s.words s.made
+TaskStands lines (Some s) (Some t) = StandsAs lines s t
 TaskStands lines None (Some t) = ⊥
 TaskStands lines (Some s) None = ⊥
 
@@ -38,6 +46,8 @@ pub record HostStands (lines : ℕ) (state : HostState) (view : HostView) : Type
   pub uuid : state.uuid ≡ view.uuid
   pub cache : state.cache ≡ view.cache
   pub task : TaskStands lines state.task view.task
+  pub kept : state.kept ≡ view.kept
+  pub joined : IsKept view.kept
 
 -- both are declared, or neither is
 abbrev pub HostStandsAt : ℕ → Option HostState → Option HostView → Type 0

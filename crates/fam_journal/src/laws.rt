@@ -5,6 +5,7 @@ ghost use Rattle.fam_base.specs.declared.entry.Entry.{Entry};
 ghost use Rattle.fam_base.specs.Image.{Image};
 ghost use Rattle.fam_journal.specs.Calls.{busy_at, refusal_of, BreaksOff, Call, Completes, Does, Steps};
 ghost use Rattle.fam_journal.specs.CallRecords.{IsStepped, DoesPart, HasForm, IsSoundCall};
+ghost use Rattle.fam_commands.specs.Keeping.{kept_after};
 ghost use Rattle.fam_commands.specs.Task.{Task};
 ghost use Rattle.fam_journal.specs.Complete.{AreRuled, CanEnd, EndsInAnswer};
 ghost use Rattle.fam_journal.specs.Ends.{Ending, EventsDone, IsFaultless, ReadsAs};
@@ -13,7 +14,7 @@ ghost use Rattle.fam_journal.specs.EventForms.{EndsForm, FollowsForm};
 ghost use Rattle.fam_journal.specs.Follows.{Follows};
 ghost use Rattle.fam_journal.specs.Forms.{AreFormed, BreaksForm, DoesForm, HostForm, IsFormed, PartForm, forms_behind, forms_of};
 ghost use Rattle.fam_journal.specs.View.{HostView, WorldStands, WorldView, empty_world};
-ghost use Rattle.fam_journal.specs.Kept.{Held, Kept, settled_of};
+ghost use Rattle.fam_journal.specs.Kept.{Held, Reached, settled_of};
 ghost use Rattle.fam_journal.specs.ByWorld.{number_in, refusal_in, IsRow, TakesNoMedia, world_after};
 ghost use Rattle.fam_journal.specs.Laws.{AreSame, AreSound, IsFree, IsPrefix, NoneMade, MaySayNext, IsImage, IsSettled, TaskAt, TwoAnswers, first_entries, history_at, second_entries, turn_at};
 ghost use Rattle.fam_journal.specs.Legal.{Legal, LegalBehind};
@@ -111,7 +112,7 @@ pub fn every_answer_is_of_the_rules()
         → AreRuled (first_past start) journal }
     ensures ends { (files : Files) (name : List ℕ) (what : Ask) (old new : Session) (notes : List Note)
         → Continues Completes files name what old notes new → IsFaultless notes → EndsInAnswer notes }
-    ensures can { (start : Image) (state : Machines) (journal : List Note) (host : ℕ) → Kept start state journal
+    ensures can { (start : Image) (state : Machines) (journal : List Note) (host : ℕ) → Reached start state journal
         → busy_at host state ≡ true → CanEnd host state }
 {}
 
@@ -181,7 +182,7 @@ pub fn an_operation_has_its_form()
     ensures world { (world : WorldView) (h : ℕ) (view : HostView) (t : Task) (word : ℕ) (cache : Cache)
         → IsFormed world → slice_get world.hosts h ≡ Some view → view.task ≡ Some t
         → IsFormed (record {
-          hosts = changed_at h (λ (v : HostView). record v { cache = cache; task = task_after (turn_given t word) }) world.hosts;
+          hosts = changed_at h (λ (v : HostView). record v { cache = cache; task = task_after (turn_given t word); kept = kept_after (turn_given t word) t v.kept }) world.hosts;
           journal = world.journal ++ notes_of h (note_of (turn_given t word));
         }) }
 {}

@@ -15,6 +15,7 @@ use Rattle.fam_notes.specs.declared.note.Note.TheVariants as note
 abbrev pub answer_view : Given → Answer
 answer_view (given.Ok seq) = Replied (reply.Appended seq)
 answer_view (given.Played m tree) = Replied (reply.Played m tree)
+answer_view (given.Mounted m) = Replied (reply.Mounted m)
 answer_view (given.Same m) = Replied (reply.Same m)
 answer_view (given.Bytes m bytes) = Replied (reply.Bytes m bytes)
 answer_view (given.Checked m checked) = Replied (reply.Checks m checked)

@@ -53,6 +53,7 @@ reply_told : (given : Reply) → IsOrdinary (reply_status given)
 reply_told (reply.Appended seq) = tt
 reply_told (reply.NotAppended why) = tt
 reply_told (reply.Played m tree) = tt
+reply_told (reply.Mounted m) = tt
 reply_told (reply.Same m) = tt
 reply_told (reply.Differs m offset found wanted) = tt
 reply_told (reply.Length m size wanted) = tt

@@ -21,7 +21,7 @@ use Rattle.fam_journal.specs.declared.event.Event.TheVariants as event
 use Rattle.fam_journal.specs.declared.refusal.Refusal.{Refusal}
 use Rattle.fam_journal.specs.declared.refusal.Refusal.TheVariants as why
 use Rattle.fam_journal.specs.Calls as call
-use Rattle.fam_journal.specs.Calls.{Acts, ActsAt, AtNumber, ByRefusal, Call, Does, OnHost, DoesOperations, begins_refusal, busy_at, busy_refusal, cause_of, dirty_from, dirty_refusal, has_name, host_limit, idle_refusal, is_busy, is_same, line_refusal, makes_refusal, may_begin, name_of, number_of, on_host, refusal_of, same_refusal, when}
+use Rattle.fam_journal.specs.Calls.{Acts, ActsAt, AtNumber, ByRefusal, Call, Does, OnHost, DoesOperations, begins_refusal, busy_at, busy_refusal, cause_of, dirty_from, dirty_refusal, has_name, host_limit, idle_refusal, is_engaged, is_same, line_refusal, makes_refusal, may_begin, name_of, number_of, on_host, refusal_of, same_refusal, when}
 use Rattle.fam_journal.specs.Events.{BytesSay, DoesEvent, IsBegun, RefusesEvent, ListingIs, MayNotStep, Session, SourceSays, Sourced, Unfit, WithinSays, copy_limit}
 use Rattle.fam_journal.specs.Follows.{Follows}
 use Rattle.fam_journal.specs.Machines.{Done, Fails, HostState, Machines, Operation, Outcome, Passes, TaskState, cut, host_done, notes_of, op_done, operation, served, task_done}
@@ -145,7 +145,7 @@ module _ (m : Machines) where
   refusal_named (call.Makes name request) =
       names_on (length m.hosts) (number_of name m) (λ h. makes_refusal request.unit request.log h m) (number_below name) (λ h below.
       names_or (length m.hosts) _ _ (names_early (length m.hosts) (early_refusal request.unit request.log (line_bytes * length m.memory)))
-      (names_or (length m.hosts) _ _ (names_busy (length m.hosts) (index_of is_busy m.hosts) (place_below is_busy m.hosts 0 (length m.hosts) (omega arith)))
+      (names_or (length m.hosts) _ _ (names_busy (length m.hosts) (index_of is_engaged m.hosts) (place_below is_engaged m.hosts 0 (length m.hosts) (omega arith)))
       (names_dirty (length m.hosts) (dirty_from h 0 m.hosts) (dirty_below h m.hosts 0 (length m.hosts) (omega arith)))))
   refusal_named (call.Begins name cmd) =
       names_on (length m.hosts) (number_of name m) (λ h. begins_refusal h m) (number_below name) (λ h below.
@@ -347,7 +347,7 @@ module _ (old : Machines) (notes : List Note) (new : Machines) where
 
   acts_named : (c : Call) → CallNames old c → Acts c old notes new → Named old notes new
   acts_named (call.Declares name uuid) may x =
-      named_as old new _ notes _ x.0 x.1 (record { named = (tt, tt); count = length-append old.hosts (record { name = name; uuid = uuid; cache = finmap.empty; task = None } ∷ []) })
+      named_as old new _ notes _ x.0 x.1 (record { named = (tt, tt); count = length-append old.hosts (record { name = name; uuid = uuid; cache = finmap.empty; task = None; kept = None } ∷ []) })
   acts_named (call.Refuses name cause) may x = named_as old new _ notes _ x.0 x.1 (named_same old old _ refl (may, tt) refl)
   acts_named (call.Makes name request) may x = at_number_named (call.Makes name request) (number_of name old) x
   acts_named (call.Begins name cmd) may x = at_number_named (call.Begins name cmd) (number_of name old) x

@@ -56,6 +56,7 @@ abbrev pub reply_status : Reply → Status
 reply_status (reply.Appended seq) = status.Done
 reply_status (reply.NotAppended refused) = status.Refused
 reply_status (reply.Played m tree) = status.Done
+reply_status (reply.Mounted m) = status.Done
 reply_status (reply.Same m) = status.Done
 reply_status (reply.Differs m offset found wanted) = status.Damaged
 reply_status (reply.Length m size wanted) = status.Damaged

@@ -5,7 +5,7 @@ use Rattle.std.specs.List.{flat_map}
 use Rattle.uuid.specs.Text.{lower, hyphenated_text}
 use Rattle.fam_base.specs.declared.cmd.Attr.{Attr}
 use Rattle.fam_base.specs.declared.cmd.Cmd.{Cmd}
-use Rattle.fam_base.specs.declared.cmd.Cmd.TheVariants.{Logplay, Mkdir, Creat, Cp, Verify, Read, Check, Fsck}
+use Rattle.fam_base.specs.declared.cmd.Cmd.TheVariants.{Logplay, Mount, Mkdir, Creat, Cp, Verify, Read, Check, Fsck}
 use Rattle.fam_base.specs.declared.cmd.Content.{Content}
 use Rattle.fam_base.specs.declared.cmd.Content.TheVariants as content
 use Rattle.fam_base.specs.declared.cmd.Stripe.{Stripe}
@@ -145,6 +145,7 @@ against_text (content.Bytes bytes) = codes " bytes=" ++ decimal (length bytes)
 -- a command as it starts
 abbrev pub cmd_text : Cmd → List ℕ
 cmd_text Logplay = codes "logplay"
+cmd_text Mount = codes "mount"
 cmd_text Fsck = codes "fsck"
 cmd_text (Mkdir path attr) = codes "mkdir" ++ name_text path ++ attr_text attr
 cmd_text (Creat path size attr stripe fill) = codes "creat" ++ name_text path ++ number size ++ attr_text attr ++ seed_text fill ++ stripe_text stripe
@@ -228,6 +229,7 @@ abbrev pub reply_text : Reply → List ℕ
 reply_text (reply.Appended seq) = line (codes "ok" ++ number seq)
 reply_text (reply.NotAppended why) = line (cause_text why)
 reply_text (reply.Played m tree) = line (codes "played" ++ number m) ++ listing tree
+reply_text (reply.Mounted m) = line (codes "mounted" ++ number m)
 reply_text (reply.Same m) = line (codes "same" ++ number m)
 reply_text (reply.Differs m offset found wanted) = line (codes "differs" ++ number m ++ number offset ++ codes " " ++ byte_text found ++ codes " " ++ byte_text wanted)
 reply_text (reply.Length m size wanted) = line (codes "length differs" ++ number m ++ number size ++ number wanted)

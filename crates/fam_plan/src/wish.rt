@@ -72,8 +72,12 @@ impl Wish {
                 stripe,
                 bytes,
             } => Some(Wish::file(path, bytes.as_slice().len() as u64, *attr, *stripe)),
-            Cmd::Logplay | Cmd::Verify { .. } | Cmd::Read { .. } | Cmd::Check { .. } | Cmd::Fsck =>
-                { None }
+            Cmd::Logplay
+            | Cmd::Mount
+            | Cmd::Verify { .. }
+            | Cmd::Read { .. }
+            | Cmd::Check { .. }
+            | Cmd::Fsck => None,
         }
     }
 

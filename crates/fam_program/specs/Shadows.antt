@@ -45,6 +45,7 @@ abbrev pub replied_tree : Reply → Option (ℕ × Tree)
 replied_tree (reply.Appended seq) = None
 replied_tree (reply.NotAppended refused) = None
 replied_tree (reply.Played m tree) = Some (m, tree)
+replied_tree (reply.Mounted m) = None
 replied_tree (reply.Same m) = None
 replied_tree (reply.Differs m offset found wanted) = None
 replied_tree (reply.Length m size wanted) = None

@@ -45,6 +45,7 @@ fn answer_number(answer: &Answer) -> Option<NumberLine>
         Answer::Ok(seq) => Some(NumberLine::Appended(*seq)),
         Answer::MediaFault(line) => Some(NumberLine::Fault(line.0)),
         Answer::Played { .. } => None,
+        Answer::Mounted { .. } => None,
         Answer::Same { .. } => None,
         Answer::Bytes { .. } => None,
         Answer::Checked { .. } => None,

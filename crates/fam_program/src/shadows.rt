@@ -35,6 +35,7 @@ fn answered_tree(answer: &Answer) -> Option<(u64, &Tree)>
 {
     match answer {
         Answer::Played { m, tree } => Some((*m, tree)),
+        Answer::Mounted { .. } => None,
         Answer::Ok(_) => None,
         Answer::Same { .. } => None,
         Answer::Bytes { .. } => None,

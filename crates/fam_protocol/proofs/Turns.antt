@@ -9,6 +9,5 @@ pub mod FileLines
 pub mod Survey
 pub mod Turned
 pub mod Tell
-pub mod Keeps
 pub mod Moved
 pub mod PartWords

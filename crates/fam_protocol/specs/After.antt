@@ -17,7 +17,7 @@ use Rattle.fam_rules.specs.declared.answers.LogState.TheVariants as log
 use Rattle.fam_rules.specs.Asks.{File, entries_of, ask}
 use Rattle.fam_rules.specs.Content.{fill}
 use Rattle.fam_rules.specs.Decide.{decide}
-use Rattle.fam_rules.specs.Reply.{Reply, Appended, NotAppended, Played, Same, Differs, Length, Bytes, NotFound, IsDirectory, Checks, Reports, NoSuperblock, BadHeader, BadSlot}
+use Rattle.fam_rules.specs.Reply.{Reply, Appended, NotAppended, Played, Mounted, Same, Differs, Length, Bytes, NotFound, IsDirectory, Checks, Reports, NoSuperblock, BadHeader, BadSlot}
 use Rattle.fam_rules.specs.ReportLaws.{IsSoundReport}
 use Rattle.fam_protocol.specs.SharedState.{SharedState}
 use Rattle.fam_protocol.specs.Lines.{IsAtLeast, gate_of}
@@ -195,6 +195,7 @@ MayReply (NoSuperblock fault) sys r all settled = ⊥
 MayReply (BadHeader fault) sys r all settled = ⊥
 MayReply (BadSlot seq reason) sys r all settled = ⊥
 MayReply (Played m tree) sys r all settled = AnswersPrefix r.task r.floor all (Played m tree)
+MayReply (Mounted m) sys r all settled = AnswersPrefix r.task r.floor all (Mounted m)
 MayReply (Same m) sys r all settled = AnswersPrefix r.task r.floor all (Same m)
 MayReply (Differs m offset found wanted) sys r all settled = AnswersPrefix r.task r.floor all (Differs m offset found wanted)
 MayReply (Length m size wanted) sys r all settled = AnswersPrefix r.task r.floor all (Length m size wanted)

@@ -21,7 +21,7 @@ use Rattle.fam_commands.specs.Turns.{Turn, Goes, Marks, Finds, Writes, Ends, slo
 use Rattle.fam_rules.specs.declared.answers.Refused.TheVariants.{NotMaster, BadStripe, Exists, NoParent, ParentIsFile, LogFull, NoSpace}
 use Rattle.fam_rules.specs.Decide.{Wish, wish_of}
 use Rattle.fam_rules.specs.Place.{line_bytes}
-use Rattle.fam_rules.specs.Reply.{Reply, NotAppended, Reports, Appended, Played, Same, Differs, Length, Bytes, NotFound, IsDirectory, Checks}
+use Rattle.fam_rules.specs.Reply.{Reply, NotAppended, Reports, Appended, Played, Mounted, Same, Differs, Length, Bytes, NotFound, IsDirectory, Checks}
 use Rattle.fam_rules.specs.Reply as reply
 use Rattle.fam_rules.specs.Reports.{no_survey, report_of, report_by, survey_slots}
 use Rattle.fam_protocol.specs.SharedState.{SharedState}
@@ -148,6 +148,7 @@ MayReplyBad (reply.BadHeader fault) image have t = fault_of (reading_of image ha
 MayReplyBad (reply.BadSlot i reason) image have t = fault_of (reading_of image have) ≡ Some (reply.BadSlot i reason)
 MayReplyBad (Appended seq) image have t = ⊥
 MayReplyBad (Played m tree) image have t = ⊥
+MayReplyBad (Mounted m) image have t = ⊥
 MayReplyBad (Same m) image have t = ⊥
 MayReplyBad (Differs m offset found wanted) image have t = ⊥
 MayReplyBad (Length m size wanted) image have t = ⊥

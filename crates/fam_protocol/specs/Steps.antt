@@ -1,11 +1,10 @@
 -- One step of a run: a cache moves by itself, or a host's task does its operation and takes its turn.
 -- docs/MODEL.md, "The protocol".
-use Rattle.std.specs.Prelude.{ℕ, ◌≡◌, ◌≢◌, ◌*◌, List, Option, Some, None, option_map}
+use Rattle.std.specs.Prelude.{ℕ, ◌≡◌, ◌≢◌, ◌*◌, List, Option, Some, None}
 use Rattle.fam_base.specs.declared.entry.Params.{Params}
 use Rattle.fam_commands.specs.Stands.{turn_given}
-use Rattle.fam_commands.specs.Kept.{Kept}
+use Rattle.fam_commands.specs.Keeping.{kept_after}
 use Rattle.fam_commands.specs.Task.{Task, op_of}
-use Rattle.fam_rules.specs.Reply.{Reply, Appended, NotAppended, Played, Same, Differs, Length, Bytes, NotFound, IsDirectory, Checks, NoSuperblock, BadHeader, BadSlot, Reports}
 use Rattle.fam_commands.specs.Turns.{Turn, Goes, Marks, Finds, Writes, Ends}
 use Rattle.fam_rules.specs.Asks.{File}
 use Rattle.fam_rules.specs.Place.{line_bytes}
@@ -44,31 +43,6 @@ abbrev pub TurnSays : Turn → Run → Settled → ℕ → Hosts → Type 0
 TurnSays turn r (Small image) lines hosts = ⊥
 TurnSays turn r (Damaged image) lines hosts = MaySayBad turn image (line_bytes * lines) r.task
 TurnSays turn r (Known p all settled) lines hosts = MaySayOf turn r p all settled lines hosts
-
--- what a host keeps after an answer: where it keeps something, what a logplay read
-abbrev pub kept_by : Reply → Task → Option Kept → Option Kept
-kept_by (Played m tree) t kept = option_map (λ (k : Kept). record { params = t.params; entries = t.entries }) kept
-kept_by (Appended seq) t kept = kept
-kept_by (NotAppended refused) t kept = kept
-kept_by (Same m) t kept = kept
-kept_by (Differs m offset found wanted) t kept = kept
-kept_by (Length m size wanted) t kept = kept
-kept_by (Bytes m bytes) t kept = kept
-kept_by (NotFound m) t kept = kept
-kept_by (IsDirectory m) t kept = kept
-kept_by (Checks m checked) t kept = kept
-kept_by (Reports report) t kept = kept
-kept_by (NoSuperblock fault) t kept = kept
-kept_by (BadHeader fault) t kept = kept
-kept_by (BadSlot seq reason) t kept = kept
-
--- after a turn of this task
-abbrev pub kept_after : Turn → Task → Option Kept → Option Kept
-kept_after (Goes next) t kept = kept
-kept_after (Marks next) t kept = kept
-kept_after (Finds n next) t kept = kept
-kept_after (Writes seq e next) t kept = kept
-kept_after (Ends reply) t kept = kept_by reply t kept
 
 -- a host's task does its operation, which gave this word if it is a load, and takes its turn
 pub record Steps (host word : ℕ) (settled : Settled) (r : Run) (old new : Hosts) (s s' : SharedState) : Type 0 where

@@ -2,7 +2,7 @@
 use Rattle.std.specs.Prelude.{ℕ, ◌≡◌, ◌==◌, not, if◌then◌else◌, List, length, map, find, take, drop, slice_get, slice_index, Option, Some, None}
 use Rattle.std.specs.List.{range_with_len}
 use Rattle.fam_base.specs.declared.cmd.Cmd.{Cmd}
-use Rattle.fam_base.specs.declared.cmd.Cmd.TheVariants.{Logplay, Mkdir, Creat, Cp, Verify, Read, Check, Fsck}
+use Rattle.fam_base.specs.declared.cmd.Cmd.TheVariants.{Logplay, Mount, Mkdir, Creat, Cp, Verify, Read, Check, Fsck}
 use Rattle.fam_base.specs.declared.cmd.Content.{Content}
 use Rattle.fam_base.specs.declared.cmd.Content.TheVariants as content
 use Rattle.fam_base.specs.declared.entry.Entry.{Entry}
@@ -13,7 +13,7 @@ use Rattle.fam_base.specs.PathOrder.{path_eq}
 use Rattle.fam_format.specs.ReadingLaws.{Joins}
 use Rattle.fam_format.specs.Tree.{replay}
 use Rattle.fam_rules.specs.Content.{content_byte}
-use Rattle.fam_rules.specs.Reply.{Reply, Played, Same, Differs, Length, Bytes, NotFound, IsDirectory, Checks}
+use Rattle.fam_rules.specs.Reply.{Reply, Played, Mounted, Same, Differs, Length, Bytes, NotFound, IsDirectory, Checks}
 use Rattle.fam_rules.specs.Checks.{checked}
 
 -- an entry of the log, and the bytes of its file; a directory has none
@@ -71,6 +71,7 @@ of_file m (Some f) question = of_kind m f.entry.kind (question f.bytes)
 -- what a reading command answers. None: the command appends, or checks the whole image
 abbrev pub ask : List File → Cmd → Option Reply
 ask files Logplay = Some (Played (length files) (replay (entries_of files)))
+ask files Mount = Some (Mounted (length files))
 ask files (Check listing) = Some (Checks (length files) (checked (replay (entries_of files)) listing))
 ask files (Verify path against) = Some (of_file (length files) (file_at files path) (λ bytes. verified (length files) bytes against))
 ask files (Read path offset count) = Some (of_file (length files) (file_at files path) (λ bytes. Bytes (length files) (file_bytes_from offset count bytes)))

@@ -5,7 +5,7 @@ use Rattle.std.specs.Int.{div_ceil}
 use Rattle.fam_base.specs.declared.cmd.Attr.{Attr}
 use Rattle.fam_base.specs.declared.cmd.Stripe.{Stripe}
 use Rattle.fam_base.specs.declared.cmd.Cmd.{Cmd}
-use Rattle.fam_base.specs.declared.cmd.Cmd.TheVariants.{Logplay, Mkdir, Creat, Cp, Verify, Read, Check, Fsck}
+use Rattle.fam_base.specs.declared.cmd.Cmd.TheVariants.{Logplay, Mount, Mkdir, Creat, Cp, Verify, Read, Check, Fsck}
 use Rattle.fam_base.specs.declared.entry.Params.{Params}
 use Rattle.fam_base.specs.declared.entry.Entry.{Entry}
 use Rattle.fam_base.specs.declared.entry.Kind.{Kind}
@@ -36,6 +36,7 @@ pub record Wish : Type 0 where
 -- the commands that append, and what they want; the others want nothing
 abbrev pub wish_of : Cmd → Option Wish
 wish_of Logplay = None
+wish_of Mount = None
 wish_of (Mkdir path attr) = Some (record { kind = kind.Directory; path = path; size = 0; attr = attr; stripe = None })
 wish_of (Creat path size attr stripe fill) = Some (record { kind = kind.File; path = path; size = size; attr = attr; stripe = stripe })
 wish_of (Cp path attr stripe bytes) = Some (record { kind = kind.File; path = path; size = length bytes; attr = attr; stripe = stripe })

@@ -16,6 +16,8 @@ pub data Reply : Type 0 where
   NotAppended : (refused : Refused) → Reply
   -- the tree of the log
   Played : (m : ℕ) (tree : Tree) → Reply
+  -- the log is replayed, and its host keeps what was read
+  Mounted : (m : ℕ) → Reply
   -- the file has the bytes of the content
   Same : (m : ℕ) → Reply
   -- at the first offset that differs the file has the byte found

@@ -3,7 +3,7 @@
 use Rattle.std.specs.Prelude.{ℕ, ◌*◌, ◌/◌, ◌%◌, List, length, map, Option, Some, None, Result, Ok, Err, unwrap_or}
 use Rattle.std.specs.List.{range_with_len}
 use Rattle.fam_base.specs.declared.cmd.Cmd.{Cmd}
-use Rattle.fam_base.specs.declared.cmd.Cmd.TheVariants.{Logplay, Mkdir, Creat, Cp, Verify, Read, Check, Fsck}
+use Rattle.fam_base.specs.declared.cmd.Cmd.TheVariants.{Logplay, Mount, Mkdir, Creat, Cp, Verify, Read, Check, Fsck}
 use Rattle.fam_base.specs.declared.cmd.Content.{Content}
 use Rattle.fam_base.specs.declared.cmd.Content.TheVariants as content
 use Rattle.fam_base.specs.declared.entry.Params.{Params}
@@ -31,6 +31,7 @@ abbrev pub content_of : Cmd → Content
 content_of (Creat path size attr stripe fill) = fill
 content_of (Cp path attr stripe bytes) = content.Bytes bytes
 content_of Logplay = content.Zero
+content_of Mount = content.Zero
 content_of (Mkdir path attr) = content.Zero
 content_of (Verify path against) = content.Zero
 content_of (Read path offset count) = content.Zero
@@ -73,6 +74,7 @@ reply_to memory have me cmd = reply_unless (client_refusal (wish_of cmd) (super_
 abbrev pub reply_in : Lines → ℕ → List ℕ → Cmd → Reply
 reply_in memory have me Fsck = reply.Reports (report_of memory have)
 reply_in memory have me Logplay = reply_to memory have me Logplay
+reply_in memory have me Mount = reply_to memory have me Mount
 reply_in memory have me (Mkdir path attr) = reply_to memory have me (Mkdir path attr)
 reply_in memory have me (Creat path size attr stripe fill) = reply_to memory have me (Creat path size attr stripe fill)
 reply_in memory have me (Cp path attr stripe bytes) = reply_to memory have me (Cp path attr stripe bytes)

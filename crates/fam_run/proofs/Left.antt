@@ -5,7 +5,7 @@ use Rattle.std.specs.FinMap as finmap
 use Rattle.std.proofs.lemmas.Grind.{div_ceil_times}
 use Rattle.std.proofs.lemmas.Option.{same_Some}
 use Rattle.fam_base.specs.declared.cmd.Cmd.{Cmd}
-use Rattle.fam_base.specs.declared.cmd.Cmd.TheVariants.{Logplay, Mkdir, Creat, Cp, Verify, Read, Check, Fsck}
+use Rattle.fam_base.specs.declared.cmd.Cmd.TheVariants.{Logplay, Mount, Mkdir, Creat, Cp, Verify, Read, Check, Fsck}
 use Rattle.fam_base.specs.declared.cmd.Content.{Content}
 use Rattle.fam_base.specs.declared.cmd.Content.TheVariants as content
 use Rattle.fam_base.specs.declared.entry.Entry.{Entry}
@@ -145,6 +145,7 @@ file_keeps (Read path offset count) t j k looks small =
     either (reading part.File j k t) t (nat_lt (j + 1) (wanted_lines t.cmd (size_of t.entry))) _ _
     (next_line t _ j k refl refl refl refl small) tt
 file_keeps Logplay t j k looks small = absurd looks
+file_keeps Mount t j k looks small = absurd looks
 file_keeps (Mkdir path attr) t j k looks small = absurd looks
 file_keeps (Creat path size attr stripe fill) t j k looks small = absurd looks
 file_keeps (Cp path attr stripe bytes) t j k looks small = absurd looks
@@ -257,6 +258,7 @@ survey_keeps t i = record { lines = refl; falls = slot_falls _ (i + 1) (from_slo
 
 check_keeps : (cmd : Cmd) (t : Task) (i : ℕ) → Keeps (from_slot t (i + 1)) t (check_turn cmd t i)
 check_keeps Logplay t i = slot_keeps t i (entry_of t.params t.words i)
+check_keeps Mount t i = slot_keeps t i (entry_of t.params t.words i)
 check_keeps (Mkdir path attr) t i = slot_keeps t i (entry_of t.params t.words i)
 check_keeps (Creat path size attr stripe fill) t i = slot_keeps t i (entry_of t.params t.words i)
 check_keeps (Cp path attr stripe bytes) t i = slot_keeps t i (entry_of t.params t.words i)
@@ -328,6 +330,7 @@ found_keeps t (Some e) turn keeps = kind_keeps t e.kind (turn e) (keeps e)
 
 decide_keeps : (cmd : Cmd) (t : Task) → t.cmd ≡ cmd → Keeps behind_decision t (decide_turn cmd t)
 decide_keeps Logplay t is = tt
+decide_keeps Mount t is = tt
 decide_keeps (Mkdir path attr) t is = wish_keeps t _ (wish_of t.cmd) (ap wish_of is)
 decide_keeps (Creat path size attr stripe fill) t is = wish_keeps t _ (wish_of t.cmd) (ap wish_of is)
 decide_keeps (Cp path attr stripe bytes) t is = wish_keeps t _ (wish_of t.cmd) (ap wish_of is)

@@ -133,7 +133,7 @@ module _ (me fs : List ℕ) (is_uuid : IsUuid fs) (image : Image) (enough : need
     new_stands =
         subst (λ (n : ℕ). WorldStands n left new) lines_are
         (stands_changed 0 (host_m me finmap.empty None) old.hosts refl (λ v. record v { cache = with_cell 0 Absent finmap.empty }) (length state.memory) state.hosts host host_is (λ z. record z { cache = behind.cache; task = host.task })
-        record { name = mine.name; uuid = mine.uuid; cache = ap (with_cell 0 Absent) mine.cache; task = mine.task } stands)
+        record { name = mine.name; uuid = mine.uuid; cache = ap (with_cell 0 Absent) mine.cache; task = mine.task; kept = mine.kept; joined = mine.joined } stands)
 
     breaks : LeavesBroken start (Some image) (BreaksOff call state) old new
     breaks = record {

@@ -19,7 +19,7 @@ use Rattle.fam_journal.proofs.Forms.Operations.{forms_both}
 use Rattle.fam_samples.specs.Bodies.{host_m, world_m}
 
 abbrev pub form_m : List ℕ → HostForm
-form_m me = record { name = codes "m"; uuid = me; task = None }
+form_m me = record { name = codes "m"; uuid = me; task = None; keeps = false }
 
 no_task : (me : List ℕ) (o : Option TaskForm) → TaskFormed me None o → o ≡ None
 no_task me None is = refl
@@ -30,8 +30,8 @@ one_form me cache [] all = absurd all
 one_form me cache (f ∷ g ∷ forms) all = absurd all.1
 one_form me cache (f ∷ []) all =
     ap (λ (z : HostForm). z ∷ [])
-    (ap₂ (λ (n u : List ℕ). record { name = n; uuid = u; task = f.task }) all.0.name all.0.uuid
-    ∙ ap (λ (o : Option TaskForm). record { name = codes "m"; uuid = me; task = o }) (no_task me f.task all.0.task))
+    (ap₂ (λ (n u : List ℕ). record { name = n; uuid = u; task = f.task; keeps = f.keeps }) all.0.name all.0.uuid
+    ∙ ap₂ (λ (o : Option TaskForm) (k : Bool). record { name = codes "m"; uuid = me; task = o; keeps = k }) (no_task me f.task all.0.task) all.0.keeps)
 
 module _ (me : List ℕ) (journal : List Note) (cache now : Cache) (is : IsFormed (world_m me cache None journal)) where
   told_m : forms_of journal ≡ form_m me ∷ []
@@ -41,7 +41,7 @@ module _ (me : List ℕ) (journal : List Note) (cache now : Cache) (is : IsForme
   pub formed_m : (note : Note) → forms_after (forms_of journal) note ≡ forms_of journal → IsFormed (world_m me now None (journal ++ note ∷ []))
   formed_m note same =
       subst (λ (z : List HostForm). Pairs HostFormed (host_m me now None ∷ []) z) (sym (forms_both [] journal (note ∷ []) ∙ same ∙ told_m))
-      (record { name = refl; uuid = refl; task = tt }, tt)
+      (record { name = refl; uuid = refl; task = tt; keeps = refl }, tt)
 
   module _ (fs : List ℕ) (lines : ℕ) (enough : need 65536 4096 ≤ line_bytes * lines) where
     abbrev call : Call

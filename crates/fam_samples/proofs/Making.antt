@@ -206,7 +206,7 @@ module _ (me fs : List ℕ) (is_uuid : IsUuid fs) (image : Image) (enough : need
     new_stands =
         subst (λ (n : ℕ). WorldStands n left new) lines_are
         (stands_changed 0 (host_m me finmap.empty None) old.hosts refl (λ v. record v { cache = done.cache }) (length state.memory) state.hosts host host_is (λ z. record z { cache = behind.cache; task = host.task })
-        record { name = mine.name; uuid = mine.uuid; cache = ap (λ (z : Machine). (operated_all (mkfs_ops p) z).cache) machine_is; task = mine.task } stands)
+        record { name = mine.name; uuid = mine.uuid; cache = ap (λ (z : Machine). (operated_all (mkfs_ops p) z).cache) machine_is; task = mine.task; kept = mine.kept; joined = mine.joined } stands)
 
     moves : DoesRow start (Some done.image) (Does call state) old new
     moves = record {

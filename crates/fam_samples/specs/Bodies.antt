@@ -18,7 +18,7 @@ use Rattle.fam_journal.specs.View.{HostView, WorldView}
 
 -- host m with a cache and a task
 abbrev pub host_m : List ℕ → Cache → Option Task → HostView
-host_m me cache task = record { name = codes "m"; uuid = me; cache = cache; task = task }
+host_m me cache task = record { name = codes "m"; uuid = me; cache = cache; task = task; kept = None }
 
 -- it alone is declared
 abbrev pub world_m : List ℕ → Cache → Option Task → List Note → WorldView

@@ -119,7 +119,7 @@ report_of_log log = record {
 
 -- a declared host with an empty cache, and this task
 abbrev pub host_m : Option TaskState → HostState
-host_m task = record { name = codes "m"; uuid = master; cache = finmap.empty; task = task }
+host_m task = record { name = codes "m"; uuid = master; cache = finmap.empty; task = task; kept = None }
 
 -- an image of one line of zeros
 abbrev pub one_line : Image
@@ -131,7 +131,7 @@ one_host image task = record { memory = image; hosts = host_m task ∷ [] }
 
 -- it is to make a directory, and has done nothing yet
 abbrev pub beginning : TaskState
-beginning = task_begun (mkdir x) master
+beginning = task_begun None (mkdir x) master
 
 -- a machine, of whose sources nothing was read
 abbrev pub session : Machines → Session
@@ -171,7 +171,7 @@ ten_notes =
 
 -- host m, idle
 abbrev pub form_m : HostForm
-form_m = record { name = codes "m"; uuid = master; task = None }
+form_m = record { name = codes "m"; uuid = master; task = None; keeps = false }
 
 -- host m alone, idle
 abbrev pub idle_m : List HostForm

@@ -63,6 +63,7 @@ abbrev pub AnyReplyAllowed : Reply → HostPast → State → Type 0
 AnyReplyAllowed (reply.Appended seq) host state = CountsEntries seq (acknowledges seq state)
 AnyReplyAllowed (reply.NotAppended why) host state = ReplyAllowed (reply.NotAppended why) host state
 AnyReplyAllowed (reply.Played m tree) host state = ReplyAllowed (reply.Played m tree) host state
+AnyReplyAllowed (reply.Mounted m) host state = ReplyAllowed (reply.Mounted m) host state
 AnyReplyAllowed (reply.Same m) host state = ReplyAllowed (reply.Same m) host state
 AnyReplyAllowed (reply.Differs m offset found wanted) host state = ReplyAllowed (reply.Differs m offset found wanted) host state
 AnyReplyAllowed (reply.Length m size wanted) host state = ReplyAllowed (reply.Length m size wanted) host state

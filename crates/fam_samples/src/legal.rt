@@ -1,7 +1,7 @@
 //! Which notes are allowed: for each row one that is, and some that aren't.
 
 ghost use Rattle.std.specs.Prelude.{◌≡◌, ◌++◌, ℕ, [], ◌∷◌, Some, None, codes};
-ghost use Rattle.fam_base.specs.declared.cmd.Cmd.TheVariants.{Fsck, Logplay, Verify};
+ghost use Rattle.fam_base.specs.declared.cmd.Cmd.TheVariants.{Fsck, Logplay, Mount, Verify};
 ghost use Rattle.fam_base.specs.declared.cmd.Content.TheVariants.{Zero};
 ghost use Rattle.fam_base.specs.declared.entry.Kind.TheVariants.{Directory, File};
 ghost use Rattle.fam_format.specs.declared.faults.LogFault.{LogFault};
@@ -12,7 +12,7 @@ ghost use Rattle.fam_journal.specs.Notes.{Answered, Found, Mark, MediaFault, Not
 ghost use Rattle.fam_journal.specs.Past.{BadHeader, BadSlot, FewLines, NoSuperblock, Past};
 ghost use Rattle.fam_samples.specs.Scene.{behind, client, damaged, done, folder, found, made, master, mkdir, no_tree, report_of_log, tree_of, writing, x, y};
 ghost use Rattle.fam_rules.specs.Reply as reply;
-ghost use Rattle.fam_rules.specs.Reply.{Appended, NotAppended, NotFound, Played, Reports};
+ghost use Rattle.fam_rules.specs.Reply.{Appended, Mounted, NotAppended, NotFound, Played, Reports};
 ghost use Rattle.fam_rules.specs.declared.answers.LogState.TheVariants as log;
 ghost use Rattle.fam_rules.specs.declared.answers.Refused.TheVariants as cause;
 
@@ -74,6 +74,9 @@ pub fn answers_of_questions()
     ensures other_question { Allowed (behind (done ++ Start 1 Fsck ∷ Mark 1 ∷ [])) (Answered 1 (Replied (Played 1 (tree_of x)))) → ⊥ }
     ensures not_found { Allowed (behind (done ++ Start 1 (Verify y Zero) ∷ Mark 1 ∷ [])) (Answered 1 (Replied (NotFound 1))) }
     ensures found { Allowed (behind (done ++ Start 1 (Verify x Zero) ∷ Mark 1 ∷ [])) (Answered 1 (Replied (NotFound 1))) → ⊥ }
+    ensures mounted { Allowed (behind (done ++ Start 1 Mount ∷ Mark 1 ∷ [])) (Answered 1 (Replied (Mounted 1))) }
+    ensures mounted_too_few { Allowed (behind (done ++ Start 1 Mount ∷ Mark 1 ∷ [])) (Answered 1 (Replied (Mounted 0))) → ⊥ }
+    ensures mounted_by_no_mount { Allowed (behind (done ++ Start 1 Logplay ∷ Mark 1 ∷ [])) (Answered 1 (Replied (Mounted 1))) → ⊥ }
     ensures damage { Allowed (damaged (BadSlot 1 BadPath) 2) (Answered 1 (Replied (Played 0 no_tree))) → ⊥ }
 {}
 

@@ -283,6 +283,7 @@ pub printed : (c : Cmd) (column end : ℕ) → HasSpelling c → ask_line end (w
 unfolding ask_line command_word
 printed cmd.Logplay column end is =
     ap (ask_line end) (joined_words column (codes "logplay" ∷ []) ((refl, (refl, (refl, (refl, (refl, (refl, (refl, tt))))))), tt))
+printed cmd.Mount column end is = absurd is
 printed cmd.Fsck column end is =
     ap (ask_line end) (joined_words column (codes "fsck" ∷ []) ((refl, (refl, (refl, (refl, tt)))), tt))
 printed (cmd.Mkdir path attr) column end is = ap (ask_line end) (mkdir_words path attr is.0 is.1 column end) ∙ mkdir_read path attr is.0 is.1 column end

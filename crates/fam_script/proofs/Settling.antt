@@ -68,6 +68,7 @@ replied_told : (r : Reply) (state : State) â†’ summary (past.replied r state) â‰
 replied_told (reply.Appended seq) state = acknowledges_told seq state
 replied_told (reply.NotAppended refused) state = same state
 replied_told (reply.Played m tree) state = shows_told m state
+replied_told (reply.Mounted m) state = shows_told m state
 replied_told (reply.Same m) state = shows_told m state
 replied_told (reply.Differs m offset found wanted) state = shows_told m state
 replied_told (reply.Length m size wanted) state = shows_told m state

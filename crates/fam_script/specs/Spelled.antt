@@ -1,8 +1,9 @@
--- Commands that a line of a script can spell: those without given bytes or a listing, whose numbers fit their words.
+-- Commands that a line of a script can spell: those without given bytes or a listing, whose numbers fit their words. No
+-- line spells a mount.
 use Rattle.std.specs.Prelude.{ℕ, ⊤, ◌^◌, ◌<◌, ◌≤◌, Option, Some, None, IsTrue}
 use Rattle.fam_base.specs.declared.cmd.Attr.{Attr}
 use Rattle.fam_base.specs.declared.cmd.Cmd.{Cmd}
-use Rattle.fam_base.specs.declared.cmd.Cmd.TheVariants.{Logplay, Mkdir, Creat, Cp, Verify, Read, Check, Fsck}
+use Rattle.fam_base.specs.declared.cmd.Cmd.TheVariants.{Logplay, Mount, Mkdir, Creat, Cp, Verify, Read, Check, Fsck}
 use Rattle.fam_base.specs.declared.cmd.Content.{Content}
 use Rattle.fam_base.specs.declared.cmd.Content.TheVariants.{Zero, Seed, Bytes}
 use Rattle.fam_base.specs.declared.cmd.Stripe.{Stripe}
@@ -33,6 +34,7 @@ IsSpelledContent (Bytes bytes) = ⊥
 -- a line of a script can spell the command
 abbrev pub HasSpelling : Cmd → Type 0
 HasSpelling Logplay = ⊤
+HasSpelling Mount = ⊥
 HasSpelling Fsck = ⊤
 HasSpelling (Mkdir path attr) = IsTrue (is_path path) × IsSpelledAttr attr
 HasSpelling (Creat path size attr stripe fill) =

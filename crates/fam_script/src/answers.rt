@@ -149,6 +149,7 @@ pub fn answer_text(alloc: Global, answer: &Answer) -> Result<Vec<u8>, OutOfMemor
     match answer {
         Answer::Ok(seq) => line_of(alloc, format!(in alloc; "ok {seq}")),
         Answer::Played { m, tree } => played_lines(alloc, *m, tree),
+        Answer::Mounted { m } => line_of(alloc, format!(in alloc; "mounted {m}")),
         Answer::Same { m } => line_of(alloc, format!(in alloc; "same {m}")),
         Answer::Bytes { m, bytes } => bytes_line(alloc, *m, bytes.bytes()),
         Answer::Checked { m, checked } => checked_line(alloc, *m, checked),

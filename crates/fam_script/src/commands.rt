@@ -144,6 +144,7 @@ pub(crate) fn start_line(alloc: Global, cmd: &Cmd) -> Result<Vec<u8>, OutOfMemor
 {
     match cmd {
         Cmd::Logplay => line(alloc, "start logplay"),
+        Cmd::Mount => line(alloc, "start mount"),
         Cmd::Fsck => line(alloc, "start fsck"),
         Cmd::Mkdir { path, attr } => mkdir_line(alloc, path, *attr),
         Cmd::Creat {

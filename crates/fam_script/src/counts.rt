@@ -141,6 +141,7 @@ fn answered(settled: Settled, answer: &Answer) -> Settled
     match answer {
         Answer::Ok(seq) => acknowledges(settled, *seq),
         Answer::Played { m, .. } => shows(settled, *m),
+        Answer::Mounted { m } => shows(settled, *m),
         Answer::Same { m } => shows(settled, *m),
         Answer::Bytes { m, .. } => shows(settled, *m),
         Answer::Checked { m, .. } => shows(settled, *m),

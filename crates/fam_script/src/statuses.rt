@@ -37,6 +37,7 @@ fn answer_status(answer: &Answer) -> Status
     match answer {
         Answer::Ok(_) => Status::Done,
         Answer::Played { .. } => Status::Done,
+        Answer::Mounted { .. } => Status::Done,
         Answer::Same { .. } => Status::Done,
         Answer::Bytes { .. } => Status::Done,
         Answer::Checked { checked, .. } => sound_status(is_checked_equal(checked)),
@@ -110,6 +111,7 @@ fn answer_stops(answer: &Answer) -> bool
         Answer::Exists(Kind::Directory) => false,
         Answer::Exists(Kind::File) => true,
         Answer::Played { .. } => true,
+        Answer::Mounted { .. } => true,
         Answer::Same { .. } => true,
         Answer::Bytes { .. } => true,
         Answer::Checked { .. } => true,

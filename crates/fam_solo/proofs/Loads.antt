@@ -5,7 +5,7 @@ use Rattle.std.specs.FinMap as finmap
 use Rattle.std.proofs.lemmas.Bool.{cases_order}
 use Rattle.std.proofs.lemmas.Option.{same_Some}
 use Rattle.fam_base.specs.declared.cmd.Cmd.{Cmd}
-use Rattle.fam_base.specs.declared.cmd.Cmd.TheVariants.{Logplay, Mkdir, Creat, Cp, Verify, Read, Check, Fsck}
+use Rattle.fam_base.specs.declared.cmd.Cmd.TheVariants.{Logplay, Mount, Mkdir, Creat, Cp, Verify, Read, Check, Fsck}
 use Rattle.fam_base.specs.declared.cmd.Content.{Content}
 use Rattle.fam_base.specs.declared.cmd.Content.TheVariants as content
 use Rattle.fam_base.specs.declared.entry.Params.{Params}
@@ -181,6 +181,7 @@ module _ (o : Option ℕ) where
 
   decide_loads : (t : Task) → t.phase ≡ at.Decide → (c : Cmd) → Loads o (decide_turn c t)
   decide_loads t is Logplay = tt
+  decide_loads t is Mount = tt
   decide_loads t is (Check listing) = tt
   decide_loads t is Fsck = tt
   decide_loads t is (Verify path against) = found_loads t (finmap.get (replay t.entries) path) (λ e. verify_turn t e against) (λ e. verify_loads t e against)

@@ -4,7 +4,7 @@ use Rattle.std.specs.Prelude.{nat_le, min}
 use Rattle.std.proofs.lemmas.Bool.{leb-true}
 use Rattle.std.proofs.lemmas.Grind.{div_ceil_times}
 use Rattle.fam_base.specs.declared.cmd.Cmd.{Cmd}
-use Rattle.fam_base.specs.declared.cmd.Cmd.TheVariants.{Logplay, Mkdir, Creat, Cp, Verify, Read, Check, Fsck}
+use Rattle.fam_base.specs.declared.cmd.Cmd.TheVariants.{Logplay, Mount, Mkdir, Creat, Cp, Verify, Read, Check, Fsck}
 use Rattle.fam_base.specs.declared.entry.Entry.{Entry}
 use Rattle.fam_base.specs.declared.entry.Params.{Params}
 use Rattle.fam_base.specs.Commands.{IsSoundCmd}
@@ -24,6 +24,7 @@ use Rattle.fam_tasks.specs.Sound.{HasValidGate, IsAtLine, IsProperFor}
 -- the wanted bytes end where the file ends, or before
 pub end_within : (cmd : Cmd) (size : ℕ) → wanted_end cmd size ≤ size
 end_within Logplay size = omega arith
+end_within Mount size = omega arith
 end_within (Mkdir path attr) size = omega arith
 end_within (Creat path wished attr stripe fill) size = omega arith
 end_within (Cp path attr stripe bytes) size = omega arith
@@ -58,6 +59,7 @@ few_lines offset count size j false limit below = omega (arith, (div_ceil_times 
 -- so there is room for their words
 few_kept : (cmd : Cmd) (size j : ℕ) → IsSoundCmd cmd → j < wanted_lines cmd size → kept_of_file cmd j + 8 ≤ 520
 few_kept Logplay size j sound below = omega arith
+few_kept Mount size j sound below = omega arith
 few_kept (Mkdir path attr) size j sound below = omega arith
 few_kept (Creat path wished attr stripe fill) size j sound below = omega arith
 few_kept (Cp path attr stripe bytes) size j sound below = omega arith
@@ -84,6 +86,7 @@ wanted_line t j sound gate looks proper below = record {
 pub verify_looks : (cmd : Cmd) → IsVerify cmd → LooksAtFile cmd
 verify_looks (Verify path against) is = tt
 verify_looks Logplay is = absurd is
+verify_looks Mount is = absurd is
 verify_looks (Mkdir path attr) is = absurd is
 verify_looks (Creat path size attr stripe fill) is = absurd is
 verify_looks (Cp path attr stripe bytes) is = absurd is
@@ -94,6 +97,7 @@ verify_looks Fsck is = absurd is
 pub read_looks : (cmd : Cmd) → IsRead cmd → LooksAtFile cmd
 read_looks (Read path offset count) is = tt
 read_looks Logplay is = absurd is
+read_looks Mount is = absurd is
 read_looks (Mkdir path attr) is = absurd is
 read_looks (Creat path size attr stripe fill) is = absurd is
 read_looks (Cp path attr stripe bytes) is = absurd is
@@ -105,6 +109,7 @@ read_looks Fsck is = absurd is
 pub verify_some : (cmd : Cmd) (size : ℕ) → IsVerify cmd → 0 < size → 0 < wanted_lines cmd size
 verify_some (Verify path against) size is some = some_wanted (Verify path against) size some
 verify_some Logplay size is some = absurd is
+verify_some Mount size is some = absurd is
 verify_some (Mkdir path attr) size is some = absurd is
 verify_some (Creat path wished attr stripe fill) size is some = absurd is
 verify_some (Cp path attr stripe bytes) size is some = absurd is
@@ -115,6 +120,7 @@ verify_some Fsck size is some = absurd is
 -- no word is kept before the first line
 pub none_kept : (cmd : Cmd) → kept_of_file cmd 0 ≡ 0
 none_kept Logplay = refl
+none_kept Mount = refl
 none_kept (Mkdir path attr) = refl
 none_kept (Creat path size attr stripe fill) = refl
 none_kept (Cp path attr stripe bytes) = refl
@@ -127,6 +133,7 @@ none_kept Fsck = refl
 pub verify_kept : (cmd : Cmd) (j : ℕ) → IsVerify cmd → kept_of_file cmd j ≡ 0
 verify_kept (Verify path against) j is = refl
 verify_kept Logplay j is = refl
+verify_kept Mount j is = refl
 verify_kept (Mkdir path attr) j is = refl
 verify_kept (Creat path size attr stripe fill) j is = refl
 verify_kept (Cp path attr stripe bytes) j is = refl
@@ -137,6 +144,7 @@ verify_kept Fsck j is = refl
 pub read_kept : (cmd : Cmd) (j : ℕ) → IsRead cmd → kept_of_file cmd j ≡ 8 * j
 read_kept (Read path offset count) j is = refl
 read_kept Logplay j is = absurd is
+read_kept Mount j is = absurd is
 read_kept (Mkdir path attr) j is = absurd is
 read_kept (Creat path size attr stripe fill) j is = absurd is
 read_kept (Cp path attr stripe bytes) j is = absurd is
@@ -148,6 +156,7 @@ read_kept Fsck j is = absurd is
 pub verify_held : (cmd : Cmd) (t : Inside) (j : ℕ) → IsVerify cmd → t.contents.content ≡ content_used cmd → t.contents.taken ≡ j → HoldsFile cmd j t
 verify_held (Verify path against) t j is content taken = (content, taken)
 verify_held Logplay t j is content taken = absurd is
+verify_held Mount t j is content taken = absurd is
 verify_held (Mkdir path attr) t j is content taken = absurd is
 verify_held (Creat path size attr stripe fill) t j is content taken = absurd is
 verify_held (Cp path attr stripe bytes) t j is content taken = absurd is
@@ -158,6 +167,7 @@ verify_held Fsck t j is content taken = absurd is
 pub verify_holds : (cmd : Cmd) (t : Inside) (j : ℕ) → IsVerify cmd → HoldsFile cmd j t → (t.contents.content ≡ content_used cmd) × (t.contents.taken ≡ j)
 verify_holds (Verify path against) t j is holds = holds
 verify_holds Logplay t j is holds = absurd is
+verify_holds Mount t j is holds = absurd is
 verify_holds (Mkdir path attr) t j is holds = absurd is
 verify_holds (Creat path size attr stripe fill) t j is holds = absurd is
 verify_holds (Cp path attr stripe bytes) t j is holds = absurd is
@@ -169,6 +179,7 @@ verify_holds Fsck t j is holds = absurd is
 pub read_held : (cmd : Cmd) (t : Inside) (j : ℕ) → IsRead cmd → length t.room.items ≡ wanted_end cmd (size_of t.entry) - wanted_start cmd → HoldsFile cmd j t
 read_held (Read path offset count) t j is room = room
 read_held Logplay t j is room = absurd is
+read_held Mount t j is room = absurd is
 read_held (Mkdir path attr) t j is room = absurd is
 read_held (Creat path size attr stripe fill) t j is room = absurd is
 read_held (Cp path attr stripe bytes) t j is room = absurd is
@@ -179,6 +190,7 @@ read_held Fsck t j is room = absurd is
 pub read_holds : (cmd : Cmd) (t : Inside) (j : ℕ) → IsRead cmd → HoldsFile cmd j t → length t.room.items ≡ wanted_end cmd (size_of t.entry) - wanted_start cmd
 read_holds (Read path offset count) t j is holds = holds
 read_holds Logplay t j is holds = absurd is
+read_holds Mount t j is holds = absurd is
 read_holds (Mkdir path attr) t j is holds = absurd is
 read_holds (Creat path size attr stripe fill) t j is holds = absurd is
 read_holds (Cp path attr stripe bytes) t j is holds = absurd is
@@ -196,6 +208,7 @@ same_proper (Some e) t u params proper = subst (λ (p : Params). Proper p e) (sy
 pub same_turn : (cmd : Cmd) (t : Task) (j : ℕ) → IsVerify cmd → line_difference t (content_used cmd) j ≡ None → file_turn cmd t j ≡ line_or (record t { words = [] }) File j (Ends (Same (length t.entries)))
 same_turn (Verify path against) t j is none = ap (compare_turn t against j) none
 same_turn Logplay t j is none = absurd is
+same_turn Mount t j is none = absurd is
 same_turn (Mkdir path attr) t j is none = absurd is
 same_turn (Creat path size attr stripe fill) t j is none = absurd is
 same_turn (Cp path attr stripe bytes) t j is none = absurd is
@@ -206,6 +219,7 @@ same_turn Fsck t j is none = absurd is
 pub differs_turn : (cmd : Cmd) (t : Task) (j b : ℕ) → IsVerify cmd → line_difference t (content_used cmd) j ≡ Some b → file_turn cmd t j ≡ Ends (Differs (length t.entries) (64 * j + b) (byte_in t.words b) (content_byte (content_used cmd) (64 * j + b)))
 differs_turn (Verify path against) t j b is some = ap (compare_turn t against j) some
 differs_turn Logplay t j b is some = absurd is
+differs_turn Mount t j b is some = absurd is
 differs_turn (Mkdir path attr) t j b is some = absurd is
 differs_turn (Creat path size attr stripe fill) t j b is some = absurd is
 differs_turn (Cp path attr stripe bytes) t j b is some = absurd is
@@ -216,6 +230,7 @@ differs_turn Fsck t j b is some = absurd is
 pub read_turn : (cmd : Cmd) (t : Task) (j : ℕ) → IsRead cmd → file_turn cmd t j ≡ line_or t File j (Ends (Bytes (length t.entries) (loaded_bytes t (wanted_start cmd))))
 read_turn (Read path offset count) t j is = refl
 read_turn Logplay t j is = absurd is
+read_turn Mount t j is = absurd is
 read_turn (Mkdir path attr) t j is = absurd is
 read_turn (Creat path size attr stripe fill) t j is = absurd is
 read_turn (Cp path attr stripe bytes) t j is = absurd is

@@ -3,7 +3,7 @@ use Rattle.std.specs.Prelude.{Option, Some, None}
 use Rattle.fam_format.specs.declared.faults.SuperFault.TheVariants as super_fault
 use Rattle.fam_format.specs.declared.faults.LogFault.TheVariants as log_fault
 use Rattle.fam_rules.specs.declared.answers.Refused.TheVariants as refused
-use Rattle.fam_rules.specs.Reply.{Reply, Appended, NotAppended, Played, Same, Differs, Length, Bytes, NotFound, IsDirectory, Checks, Reports, NoSuperblock, BadHeader, BadSlot}
+use Rattle.fam_rules.specs.Reply.{Reply, Appended, NotAppended, Played, Mounted, Same, Differs, Length, Bytes, NotFound, IsDirectory, Checks, Reports, NoSuperblock, BadHeader, BadSlot}
 use Rattle.fam_tasks.specs.declared.answer.Answer.{Answer}
 use Rattle.fam_tasks.specs.declared.answer.Answer.TheVariants as answer
 
@@ -11,6 +11,7 @@ use Rattle.fam_tasks.specs.declared.answer.Answer.TheVariants as answer
 abbrev pub reply_of : Answer → Option Reply
 reply_of (answer.Ok seq) = Some (Appended seq)
 reply_of (answer.Played m tree) = Some (Played m tree)
+reply_of (answer.Mounted m) = Some (Mounted m)
 reply_of (answer.Same m) = Some (Same m)
 reply_of (answer.Bytes m bytes) = Some (Bytes m bytes)
 reply_of (answer.Checked m checked) = Some (Checks m checked)

@@ -1,7 +1,7 @@
 -- What a task asks of its command.
 use Rattle.std.specs.Prelude.{ℕ, ◌*◌, if◌then◌else◌}
 use Rattle.fam_base.specs.declared.cmd.Cmd.{Cmd}
-use Rattle.fam_base.specs.declared.cmd.Cmd.TheVariants.{Logplay, Mkdir, Creat, Cp, Verify, Read, Check, Fsck}
+use Rattle.fam_base.specs.declared.cmd.Cmd.TheVariants.{Logplay, Mount, Mkdir, Creat, Cp, Verify, Read, Check, Fsck}
 use Rattle.fam_base.specs.declared.cmd.Content.{Content}
 use Rattle.fam_base.specs.declared.cmd.Content.TheVariants as content
 use Rattle.fam_base.specs.declared.entry.Params.{Params}
@@ -17,6 +17,7 @@ content_used (Creat path size attr stripe fill) = fill
 content_used (Cp path attr stripe bytes) = content.Bytes bytes
 content_used (Verify path against) = against
 content_used Logplay = content.Zero
+content_used Mount = content.Zero
 content_used (Mkdir path attr) = content.Zero
 content_used (Read path offset count) = content.Zero
 content_used (Check listing) = content.Zero

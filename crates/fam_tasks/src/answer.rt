@@ -38,6 +38,10 @@ pub enum Answer {
         m: u64,
         tree: Tree,
     },
+    /// The log is replayed, and the host keeps what was read.
+    Mounted {
+        m: u64,
+    },
     /// The file has the bytes that it is compared with.
     Same {
         m: u64,

@@ -57,7 +57,7 @@ ends_same {out} {given} {own} {own'} {text} {text'} {left} {left'} ends t l o = 
 
 module _ (start : Image) (name me : List ℕ) where
   abbrev pub only : HostState
-  only = record { name = name; uuid = me; cache = finmap.empty; task = None }
+  only = record { name = name; uuid = me; cache = finmap.empty; task = None; kept = None }
 
   abbrev pub declared : Machines
   declared = record { memory = start; hosts = only ∷ [] }

@@ -14,6 +14,7 @@ use Rattle.fam_machine.specs.MkfsRequest.{mkfs_request}
 use Rattle.fam_format.specs.Layout.{device_limit, least_lines}
 use Rattle.fam_machine.specs.Caches.{Cache, IsClean, IsCleanCell, cell_at}
 use Rattle.fam_machine.specs.Operations.{Machine, machine, operated, operated_all}
+use Rattle.fam_commands.specs.Kept.{Kept}
 use Rattle.fam_commands.specs.Task.{op_of}
 use Rattle.fam_machine.proofs.CleanCaches.{clean_empty, clean_fetched, clean_leaked, clean_sent, clean_with}
 use Rattle.fam_media.specs.Files.{Files}
@@ -31,7 +32,7 @@ use Rattle.fam_journal.specs.Calls.{Acts, ActsAt, ByRefusal, Completes, Does, be
 use Rattle.fam_journal.specs.Ends.{IsFaultless as AreFaultless}
 use Rattle.fam_journal.specs.Events.{DoesEvent, Continues, Session, first_session}
 use Rattle.fam_journal.specs.Follows.{Follows}
-use Rattle.fam_journal.specs.Kept.{Kept}
+use Rattle.fam_journal.specs.Kept.{Reached}
 use Rattle.fam_journal.specs.Laws.{AreSound, IsImage, IsSoundEvent}
 use Rattle.fam_machine.specs.HostMoves.{Evict, Fetch, Leak, Move, moved, moved_cell, moved_words}
 use Rattle.fam_journal.specs.Machines.{HostState, Machines, machine_of, task_begun, unused, with_machine, with_task}
@@ -105,7 +106,7 @@ pub record EventExact (x : Past) (old new : Machines) (notes : List Note) : Type
   pub whole : AreWholeNotes x old.memory notes
   pub sure : HasNothingPending (past_behind x notes).state
 
-module _ (start : Image) (files : Files) (old : Machines) (journal : List Note) (kept : Kept start old journal) (rests : Rested old) (sure : HasNothingPending (past_of start journal).state) where
+module _ (start : Image) (files : Files) (old : Machines) (journal : List Note) (kept : Reached start old journal) (rests : Rested old) (sure : HasNothingPending (past_of start journal).state) where
   abbrev x : Past
   x = past_of start journal
 
@@ -118,14 +119,14 @@ module _ (start : Image) (files : Files) (old : Machines) (journal : List Note) 
 
   -- host h has this machine then, and the same task
   own : (h : ℕ) (host : HostState) → slice_get old.hosts h ≡ Some host → (m : Machine) → IsClean m.cache → Rested (with_machine h m host.task old)
-  own h host is m clean = rests_changed h _ old.memory m.image old.hosts rests (λ z at. record { clean = clean; idle = (rests h host is).idle })
+  own h host is m clean = rests_changed h _ old.memory m.image old.hosts rests (λ z at. record { clean = clean; idle = (rests h host is).idle; bare = (rests h z at).bare })
 
   declared_exact : (name uuid : List ℕ) (new : Machines) (notes : List Note) → Acts (call.Declares name uuid) old notes new → EventExact x old new notes
   declared_exact name uuid new notes acts =
       subst (λ (z : Machines). EventExact x old z notes) (sym acts.1)
       (subst (EventExact x old _) (sym acts.0)
       record {
-        rests = rests_more old.memory old.hosts (record { name = name; uuid = uuid; cache = finmap.empty; task = None }) rests (record { clean = clean_empty; idle = refl });
+        rests = rests_more old.memory old.hosts (record { name = name; uuid = uuid; cache = finmap.empty; task = None; kept = None }) rests (record { clean = clean_empty; idle = refl; bare = refl });
         image = refl;
         whole = (tt, tt);
         sure = sure;
@@ -180,7 +181,7 @@ module _ (start : Image) (files : Files) (old : Machines) (journal : List Note) 
       pub rest : List Note
       pub joined : notes ≡ Start h run.begun.cmd ∷ rest
       pub sure_then : HasNothingPending (past_of start (journal ++ Start h run.begun.cmd ∷ [])).state
-      pub ended : Ended start h old host is run.begun.cmd (journal ++ Start h run.begun.cmd ∷ []) sure_then new.machines rest
+      pub ended : Ended start h old host is (rests h host is).bare run.begun.cmd (journal ++ Start h run.begun.cmd ∷ []) sure_then new.machines rest
       pub enough : least_lines ≤ length old.memory
 
     abbrev cmd : Cmd
@@ -199,18 +200,19 @@ module _ (start : Image) (files : Files) (old : Machines) (journal : List Note) 
     through_host : (h : ℕ) (host : HostState) → number_of name old ≡ Some h → slice_get old.hosts h ≡ Some host → ActsAt (call.Begins name cmd) h host old run.first run.mid.machines → Through
     unfolding refusal_of
     through_host h host number is at =
-        let mid : Machines = with_task h (Some (task_begun cmd host.uuid)) old in
-        let mid_as : mid ≡ with_machine h (record { image = old.memory; cache = host.cache }) (Some (task_begun cmd host.uuid)) old =
-        ap (λ (hosts : List HostState). record { memory = old.memory; hosts = hosts }) (changed_same h (λ z. record z { task = Some (task_begun cmd host.uuid) }) (λ z. record z { cache = host.cache; task = Some (task_begun cmd host.uuid) }) old.hosts host is refl) in
-        let mid_is : run.mid.machines ≡ with_machine h (record { image = old.memory; cache = host.cache }) (Some (task_begun cmd host.uuid)) old = at.1 ∙ mid_as in
+        let bare : host.kept ≡ None = (rests h host is).bare in
+        let mid : Machines = with_task h (Some (task_begun host.kept cmd host.uuid)) old in
+        let mid_as : mid ≡ with_machine h (record { image = old.memory; cache = host.cache }) (Some (task_begun None cmd host.uuid)) old =
+        ap (λ (hosts : List HostState). record { memory = old.memory; hosts = hosts }) (changed_same h (λ z. record z { task = Some (task_begun host.kept cmd host.uuid) }) (λ z. record z { cache = host.cache; task = Some (task_begun None cmd host.uuid) }) old.hosts host is (ap (λ (k : Option Kept). record host { task = Some (task_begun k cmd host.uuid) }) bare)) in
+        let mid_is : run.mid.machines ≡ with_machine h (record { image = old.memory; cache = host.cache }) (Some (task_begun None cmd host.uuid)) old = at.1 ∙ mid_as in
         let numbers : run.host ≡ h =
-        same_Some run.host h (sym run.number ∙ ap (number_of name) at.1 ∙ place_same (has_name name) (λ z. record z { task = Some (task_begun cmd host.uuid) }) (λ z. refl) h 0 old.hosts ∙ number) in
-        let completes : Completes h (with_machine h (record { image = old.memory; cache = host.cache }) (Some (task_begun cmd host.uuid)) old) run.rest new.machines =
-        subst (λ (n : ℕ). Completes n (with_machine h (record { image = old.memory; cache = host.cache }) (Some (task_begun cmd host.uuid)) old) run.rest new.machines) numbers
+        same_Some run.host h (sym run.number ∙ ap (number_of name) at.1 ∙ place_same (has_name name) (λ z. record z { task = Some (task_begun host.kept cmd host.uuid) }) (λ z. refl) h 0 old.hosts ∙ number) in
+        let completes : Completes h (with_machine h (record { image = old.memory; cache = host.cache }) (Some (task_begun None cmd host.uuid)) old) run.rest new.machines =
+        subst (λ (n : ℕ). Completes n (with_machine h (record { image = old.memory; cache = host.cache }) (Some (task_begun None cmd host.uuid)) old) run.rest new.machines) numbers
         (subst (λ (z : Machines). Completes run.host z run.rest new.machines) mid_is run.does) in
-        let kept' : Kept start run.mid.machines (journal ++ run.first) = begun_kept start files name what s run.mid journal run.first (subst (λ (z : Machines). Kept start z journal) (sym same) kept) run.begun in
-        let kept_as : Kept start (with_machine h (record { image = old.memory; cache = host.cache }) (Some (task_begun cmd host.uuid)) old) (journal ++ Start h cmd ∷ []) =
-        subst (λ (z : Machines). Kept start z (journal ++ Start h cmd ∷ [])) mid_is (subst (λ (z : List Note). Kept start run.mid.machines (journal ++ z)) at.0 kept') in
+        let kept' : Reached start run.mid.machines (journal ++ run.first) = begun_kept start files name what s run.mid journal run.first (subst (λ (z : Machines). Reached start z journal) (sym same) kept) run.begun in
+        let kept_as : Reached start (with_machine h (record { image = old.memory; cache = host.cache }) (Some (task_begun None cmd host.uuid)) old) (journal ++ Start h cmd ∷ []) =
+        subst (λ (z : Machines). Reached start z (journal ++ Start h cmd ∷ [])) mid_is (subst (λ (z : List Note). Reached start run.mid.machines (journal ++ z)) at.0 kept') in
         record {
           h = h;
           host = host;
@@ -219,7 +221,7 @@ module _ (start : Image) (files : Files) (old : Machines) (journal : List Note) 
           rest = run.rest;
           joined = run.joined ∙ ap (λ (z : List Note). z ++ run.rest) at.0;
           sure_then = state_after h;
-          ended = run_solo start h old host is cmd (journal ++ Start h cmd ∷ []) (state_after h) completes.count new.machines run.rest kept_as completes.does (clean_rest run.first run.rest notes run.joined clean) completes.done;
+          ended = run_solo start h old host is bare cmd (journal ++ Start h cmd ∷ []) (state_after h) completes.count new.machines run.rest kept_as completes.does (clean_rest run.first run.rest notes run.joined clean) completes.done;
           enough = at_most least_lines (length old.memory) (no_when _ _ (or_first _ _ (sym (ap (λ (o : Option ℕ). on_host o (λ h. begins_refusal h old)) number) ∙ free)));
         }
 
@@ -241,11 +243,11 @@ module _ (start : Image) (files : Files) (old : Machines) (journal : List Note) 
             let settled : (past_of start j).state ≡ first_state old.memory = ap (λ (w : Past). w.state) past_is ∙ rest_state start old journal kept rests sure in
             let limit : line_bytes * length old.memory ≤ device_limit = subst (λ (n : ℕ). line_bytes * n ≤ device_limit) (sym kept.held.lines) kept.held.limit in
             let f : Finished old (past_of start j) t.rest new.machines (operated (op_of t.ended.t) t.ended.m) =
-            finished start t.h old t.host t.is cmd j t.sure_then settled t.enough limit normal (rests t.h t.host t.is).clean command new.machines t.rest t.ended in
+            finished start t.h old t.host t.is (rests t.h t.host t.is).bare cmd j t.sure_then settled t.enough limit normal (rests t.h t.host t.is).clean command new.machines t.rest t.ended in
             let g : Finished old (past_behind x (Start t.h cmd ∷ [])) t.rest new.machines (operated (op_of t.ended.t) t.ended.m) =
             subst (λ (w : Past). Finished old w t.rest new.machines (operated (op_of t.ended.t) t.ended.m)) past_is f in
             record {
-              rests = subst Rested (sym t.ended.state_is) (rests_changed t.h (λ z. record z { cache = (operated (op_of t.ended.t) t.ended.m).cache; task = None }) old.memory (operated (op_of t.ended.t) t.ended.m).image old.hosts rests (λ z at. record { clean = g.clean; idle = refl }));
+              rests = subst Rested (sym t.ended.state_is) (rests_changed t.h (λ z. record z { cache = (operated (op_of t.ended.t) t.ended.m).cache; task = None }) old.memory (operated (op_of t.ended.t) t.ended.m).image old.hosts rests (λ z at. record { clean = g.clean; idle = refl; bare = (rests t.h z at).bare }));
               image = g.image;
               whole = (tt, g.whole);
               sure = g.sure;
@@ -276,8 +278,8 @@ module _ (start : Image) (files : Files) (old : Machines) (journal : List Note) 
               notes_are =
                   t.joined
                   ∙ ap (λ (z : List Note). Start t.h cmd ∷ z) (t.ended.notes_are ∙ ap (λ (r : Reply). t.ended.before ++ Answered t.h (Replied r) ∷ [])
-                  (reply_is start t.h old t.host t.is cmd j t.sure_then settled t.enough limit normal (rests t.h t.host t.is).clean command new.machines t.rest t.ended));
-              left = left_is start t.h old t.host t.is cmd j t.sure_then settled t.enough limit normal (rests t.h t.host t.is).clean command new.machines t.rest t.ended;
+                  (reply_is start t.h old t.host t.is (rests t.h t.host t.is).bare cmd j t.sure_then settled t.enough limit normal (rests t.h t.host t.is).clean command new.machines t.rest t.ended));
+              left = left_is start t.h old t.host t.is (rests t.h t.host t.is).bare cmd j t.sure_then settled t.enough limit normal (rests t.h t.host t.is).clean command new.machines t.rest t.ended;
             }
 
   -- an event
@@ -311,7 +313,7 @@ module _ (start : Image) (files : Files) (old : Machines) (journal : List Note) 
 
 -- what holds between events
 pub record Between (start : Image) (s : Machines) (journal : List Note) : Type 0 where
-  pub kept : Kept start s journal
+  pub kept : Reached start s journal
   pub rests : Rested s
   pub sure : HasNothingPending (past_of start journal).state
   pub image : s.memory ≡ image_behind (first_past start) start journal

@@ -16,7 +16,7 @@ use Rattle.fam_rules.proofs.AskProofs.{member_from}
 use Rattle.fam_rules.proofs.ListPlaces.{bytes_apart, laid_apart}
 use Rattle.fam_protocol.specs.Core.{IsHistory}
 use Rattle.fam_protocol.specs.Invariant.{InvariantBy, IsKnown}
-use Rattle.fam_journal.specs.Kept.{Kept, hosts_of, settled_of, shared_of}
+use Rattle.fam_journal.specs.Kept.{Reached, hosts_of, settled_of, shared_of}
 use Rattle.fam_journal.specs.Past.{State, Bad, FewLines, Sound, first_state, past_of, state_read, with_pending}
 use Rattle.fam_journal.specs.Notes.{Note}
 use Rattle.fam_journal.specs.Machines.{Machines}
@@ -30,7 +30,7 @@ laid p all history i e at =
     (subst (λ (l : List Entry). Rattle.fam_rules.specs.Place.IsFreeAfter p l f.entry) (sym (take-map (λ (g : File). g.entry) i all))
     (record { proper = belongs.proper; units = (joins_from p (entries_of (take i all)) f.entry belongs.joins).units }))
 
-module _ (start : Image) (state : Machines) (journal : List Note) (kept : Kept start state journal) (p : Params) (history : List File) (pending : Option File) (is : (past_of start journal).state ≡ Sound p history pending) where
+module _ (start : Image) (state : Machines) (journal : List Note) (kept : Reached start state journal) (p : Params) (history : List File) (pending : Option File) (is : (past_of start journal).state ≡ Sound p history pending) where
   known : IsKnown p (with_pending history pending) (length history) (length start) (hosts_of kept.views (past_of start journal).hosts) (shared_of state.memory kept.views)
   known = subst (λ (s : State). InvariantBy (settled_of s) (length start) (hosts_of kept.views (past_of start journal).hosts) (shared_of state.memory kept.views)) is kept.held.invariant.stage
 

@@ -17,7 +17,7 @@ use Rattle.fam_rules.specs.Asks.{File, entries_of}
 use Rattle.fam_rules.specs.Content.{fill}
 use Rattle.fam_rules.specs.Decide.{decide}
 use Rattle.fam_rules.specs.Place.{line_bytes}
-use Rattle.fam_rules.specs.Reply.{Reply, Appended, NotAppended, Played, Same, Differs, Length, Bytes, NotFound, IsDirectory, Checks, Reports, NoSuperblock, BadHeader, BadSlot}
+use Rattle.fam_rules.specs.Reply.{Reply, Appended, NotAppended, Played, Mounted, Same, Differs, Length, Bytes, NotFound, IsDirectory, Checks, Reports, NoSuperblock, BadHeader, BadSlot}
 use Rattle.fam_protocol.specs.Tasks.{IsCommand}
 use Rattle.fam_solo.proofs.SoloLaws.{solo}
 use Rattle.fam_protocol.proofs.Hosts.Begins.{held_back}
@@ -42,6 +42,7 @@ replied_same : (image : Image) (state : State) (given : Reply) → HasNothingPen
 replied_same image state (Appended seq) sure = acknowledged_same image state seq sure
 replied_same image state (NotAppended why) sure = refl
 replied_same image state (Played n tree) sure = refl
+replied_same image state (Mounted n) sure = refl
 replied_same image state (Same n) sure = refl
 replied_same image state (Differs n offset found wanted) sure = refl
 replied_same image state (Length n size wanted) sure = refl
@@ -74,9 +75,9 @@ pub record Finished (base : Machines) (x : Past) (notes : List Note) (new : Mach
   pub sure : HasNothingPending (past_behind x notes).state
   pub clean : IsClean left.cache
 
-module _ (start : Image) (h : ℕ) (base : Machines) (host : HostState) (host_is : slice_get base.hosts h ≡ Some host) (cmd : Cmd) (journal : List Note) (sure : HasNothingPending (past_of start journal).state)
+module _ (start : Image) (h : ℕ) (base : Machines) (host : HostState) (host_is : slice_get base.hosts h ≡ Some host) (bare : host.kept ≡ None) (cmd : Cmd) (journal : List Note) (sure : HasNothingPending (past_of start journal).state)
     (settled : (past_of start journal).state ≡ first_state base.memory) (enough : least_lines ≤ length base.memory) (limit : line_bytes * length base.memory ≤ device_limit) (normal : map eight base.memory ≡ base.memory) (clean : IsClean host.cache) (command : IsCommand cmd)
-    (new : Machines) (notes : List Note) (end : Ended start h base host host_is cmd journal sure new notes) where
+    (new : Machines) (notes : List Note) (end : Ended start h base host host_is bare cmd journal sure new notes) where
   abbrev image : Image
   image = base.memory
 
@@ -110,7 +111,7 @@ module _ (start : Image) (h : ℕ) (base : Machines) (host : HostState) (host_is
     reply_whole : IsWholeReply end.reply y.state image
     sure_then : HasNothingPending (replied end.reply y.state)
 
-  says_late : OnLate start h base host host_is cmd journal sure end.t y → Says
+  says_late : OnLate start h base host host_is bare cmd journal sure end.t y → Says
   says_late late =
       let said = sound_read image late.p late.history (reading image) (sym late.was ∙ read_is) in
       let decides : decide late.p me said.0 cmd ≡ Some (Ok late.e) =
@@ -118,7 +119,7 @@ module _ (start : Image) (h : ℕ) (base : Machines) (host : HostState) (host_is
       let a = appends image me cmd late.p said.0 late.e said.1 decides in
       by_appends said.0 said.2 (solo_reply image me cmd) refl a late said.1 decides
     where
-      by_appends : (entries : List Entry) → late.history ≡ map (held_file (line_at image)) entries → (given : Reply) → solo_reply image me cmd ≡ given → Appends image me cmd → OnLate start h base host host_is cmd journal sure end.t y → reading image ≡ read.Sound late.p entries → decide late.p me entries cmd ≡ Some (Ok late.e) → Says
+      by_appends : (entries : List Entry) → late.history ≡ map (held_file (line_at image)) entries → (given : Reply) → solo_reply image me cmd ≡ given → Appends image me cmd → OnLate start h base host host_is bare cmd journal sure end.t y → reading image ≡ read.Sound late.p entries → decide late.p me entries cmd ≡ Some (Ok late.e) → Says
       by_appends entries history_is given given_is a late' sound decides =
           let sounds : read.Sound a.p a.entries ≡ read.Sound late.p entries = sym a.sound ∙ sound in
           let params : a.p ≡ late.p = cc in
@@ -163,7 +164,7 @@ module _ (start : Image) (h : ℕ) (base : Machines) (host : HostState) (host_is
   says : Says
   says = by_on end.on
     where
-      by_on : On start h base host host_is cmd journal sure end.t y → Says
+      by_on : On start h base host host_is bare cmd journal sure end.t y → Says
       by_on (inl same) = says_early same
       by_on (inr late) = says_late late
 

@@ -3,7 +3,7 @@ use Rattle.std.proofs.Common.{ℕ, ◌+◌, ◌*◌, Bool, true, false, [], leng
 use Rattle.std.specs.Prelude.{⊤, ◌==◌, nat_lt, nat_le, if◌then◌else◌, Result, Ok, Err}
 use Rattle.std.specs.FinMap as finmap
 use Rattle.fam_base.specs.declared.cmd.Cmd.{Cmd}
-use Rattle.fam_base.specs.declared.cmd.Cmd.TheVariants.{Logplay, Mkdir, Creat, Cp, Verify, Read, Check, Fsck}
+use Rattle.fam_base.specs.declared.cmd.Cmd.TheVariants.{Logplay, Mount, Mkdir, Creat, Cp, Verify, Read, Check, Fsck}
 use Rattle.fam_base.specs.declared.cmd.Content.{Content}
 use Rattle.fam_base.specs.declared.cmd.Content.TheVariants as content
 use Rattle.fam_base.specs.declared.entry.Entry.{Entry}
@@ -107,6 +107,7 @@ writes_slot t i (Ok e) = writes_join t i e (join_fault t.params t.entries e)
 
 writes_check : (cmd : Cmd) (t : Task) (i : ℕ) → WritesLate (check_turn cmd t i)
 writes_check Logplay t i = writes_slot t i (entry_of t.params t.words i)
+writes_check Mount t i = writes_slot t i (entry_of t.params t.words i)
 writes_check (Mkdir path attr) t i = writes_slot t i (entry_of t.params t.words i)
 writes_check (Creat path size attr stripe fill) t i = writes_slot t i (entry_of t.params t.words i)
 writes_check (Cp path attr stripe bytes) t i = writes_slot t i (entry_of t.params t.words i)
@@ -144,6 +145,7 @@ writes_found t (Some e) turn w = writes_kind t e.kind (turn e) (w e)
 
 writes_decide : (cmd : Cmd) (t : Task) → WritesLate (decide_turn cmd t)
 writes_decide Logplay t = tt
+writes_decide Mount t = tt
 writes_decide (Check listing) t = tt
 writes_decide Fsck t = tt
 writes_decide (Verify path against) t = writes_found t (finmap.get (replay t.entries) path) (λ e. verify_turn t e against) (λ e. writes_verify t e against)
@@ -163,6 +165,7 @@ writes_file : (cmd : Cmd) (t : Task) (j : ℕ) → WritesLate (file_turn cmd t j
 writes_file (Verify path against) t j = writes_compare t against j (line_difference t against j)
 writes_file (Read path offset count) t j = writes_or t File j _ tt
 writes_file Logplay t j = tt
+writes_file Mount t j = tt
 writes_file (Mkdir path attr) t j = tt
 writes_file (Creat path size attr stripe fill) t j = tt
 writes_file (Cp path attr stripe bytes) t j = tt

@@ -3,7 +3,7 @@ use Rattle.std.proofs.Common.{◌≡◌, ℕ, ◌*◌, ◌⊎◌, inl, inr, Bool
 use Rattle.std.specs.Prelude.{◌==◌, if◌then◌else◌, option_map, unwrap_or, Result, Ok, Err}
 use Rattle.std.proofs.lemmas.Option.{same_Some}
 use Rattle.fam_base.specs.declared.cmd.Cmd.{Cmd}
-use Rattle.fam_base.specs.declared.cmd.Cmd.TheVariants.{Logplay, Mkdir, Creat, Cp, Verify, Read, Check, Fsck}
+use Rattle.fam_base.specs.declared.cmd.Cmd.TheVariants.{Logplay, Mount, Mkdir, Creat, Cp, Verify, Read, Check, Fsck}
 use Rattle.fam_base.specs.declared.cmd.Content.{Content}
 use Rattle.fam_base.specs.declared.cmd.Content.TheVariants as content
 use Rattle.fam_base.specs.declared.entry.Entry.{Entry}
@@ -19,7 +19,7 @@ use Rattle.fam_rules.specs.Asks.{File, ask, compared, compared_at, file_at, firs
 use Rattle.fam_rules.specs.Content.{fill}
 use Rattle.fam_rules.specs.Decide.{Wish, decide, decide_wish, wish_of}
 use Rattle.fam_rules.specs.Place.{line_bytes}
-use Rattle.fam_rules.specs.Reply.{Reply, Appended, NotAppended, Played, Same, Differs, Length, Bytes, NotFound, IsDirectory, Checks, Reports, NoSuperblock, BadHeader, BadSlot}
+use Rattle.fam_rules.specs.Reply.{Reply, Appended, NotAppended, Played, Mounted, Same, Differs, Length, Bytes, NotFound, IsDirectory, Checks, Reports, NoSuperblock, BadHeader, BadSlot}
 use Rattle.fam_rules.specs.Reports.{report_of}
 use Rattle.fam_rules.specs.Written.{written}
 use Rattle.fam_solo.proofs.Replies.{decided}
@@ -32,6 +32,7 @@ abbrev IsOf : ℕ → Reply → Type 0
 IsOf n (Appended seq) = ⊥
 IsOf n (NotAppended why) = ⊥
 IsOf n (Played m tree) = m ≡ n
+IsOf n (Mounted m) = m ≡ n
 IsOf n (Same m) = m ≡ n
 IsOf n (Differs m offset found wanted) = m ≡ n
 IsOf n (Length m size wanted) = m ≡ n
@@ -68,6 +69,7 @@ of_found n (Some f) question each = by_kind f.entry.kind
 
 of_ask : (files : List File) (cmd : Cmd) (given : Reply) → ask files cmd ≡ Some given → IsOf (length files) given
 of_ask files Logplay given is = subst (IsOf (length files)) (same_Some _ given is) refl
+of_ask files Mount given is = subst (IsOf (length files)) (same_Some _ given is) refl
 of_ask files (Check listing) given is = subst (IsOf (length files)) (same_Some _ given is) refl
 of_ask files (Verify path against) given is = subst (IsOf (length files)) (same_Some _ given is) (of_found (length files) (file_at files path) _ (λ bytes. of_verified (length files) bytes against))
 of_ask files (Read path offset count) given is = subst (IsOf (length files)) (same_Some _ given is) (of_found (length files) (file_at files path) _ (λ bytes. refl))
@@ -81,6 +83,7 @@ module _ (image : Image) (state : State) where
   whole_of (Appended seq) is = absurd is
   whole_of (NotAppended why) is = absurd is
   whole_of (Played n tree) is = λ m e. sym (same_Some n m e) ∙ is
+  whole_of (Mounted n) is = λ m e. sym (same_Some n m e) ∙ is
   whole_of (Same n) is = λ m e. sym (same_Some n m e) ∙ is
   whole_of (Differs n offset found wanted) is = λ m e. sym (same_Some n m e) ∙ is
   whole_of (Length n size wanted) is = λ m e. sym (same_Some n m e) ∙ is
@@ -129,6 +132,7 @@ module _ (image : Image) (state : State) where
       by_cmd : (c : Cmd) → IsWholeReply (reply_in memory have me c) state image
       by_cmd Fsck = refl
       by_cmd Logplay = whole_unless (client_refusal (wish_of Logplay) (super_in memory have) me) _ (whole_read me Logplay (reading image) is)
+      by_cmd Mount = whole_unless (client_refusal (wish_of Mount) (super_in memory have) me) _ (whole_read me Mount (reading image) is)
       by_cmd (Mkdir path attr) = whole_unless (client_refusal (wish_of (Mkdir path attr)) (super_in memory have) me) _ (whole_read me (Mkdir path attr) (reading image) is)
       by_cmd (Creat path size attr stripe fill) = whole_unless (client_refusal (wish_of (Creat path size attr stripe fill)) (super_in memory have) me) _ (whole_read me (Creat path size attr stripe fill) (reading image) is)
       by_cmd (Cp path attr stripe bytes) = whole_unless (client_refusal (wish_of (Cp path attr stripe bytes)) (super_in memory have) me) _ (whole_read me (Cp path attr stripe bytes) (reading image) is)

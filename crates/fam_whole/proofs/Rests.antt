@@ -16,7 +16,7 @@ use Rattle.fam_protocol.specs.Invariant.{Hosts, Known, Owner, Invariant, settled
 use Rattle.fam_protocol.specs.Invariant as invariant
 use Rattle.fam_protocol.proofs.Hosts.Resting.{rests_settled}
 use Rattle.fam_journal.specs.View.{HostView, HostStandsAt, TaskStands}
-use Rattle.fam_journal.specs.Kept.{Kept, copy_at, hosts_of, run_at, run_with, shared_of, settled_of, uuid_at}
+use Rattle.fam_journal.specs.Kept.{Reached, copy_at, hosts_of, kept_at, run_at, run_with, shared_of, settled_of, uuid_at}
 use Rattle.fam_journal.specs.Machines.{HostState, Machines, TaskState}
 use Rattle.fam_journal.specs.Members.{index_of}
 use Rattle.fam_journal.specs.Notes.{Note}
@@ -32,23 +32,24 @@ use Rattle.fam_journal.specs.Ends.{ReadsAs}
 use Rattle.fam_whole.specs.Whole.{HasNothingPending}
 use Rattle.fam_whole.proofs.Folds.{first_sure}
 
--- no host has a task, and no cache has anything to send
+-- no host has a task or keeps anything, and no cache has anything to send
 pub record HostRests (host : HostState) : Type 0 where
   pub clean : IsClean host.cache
   pub idle : host.task ≡ None
+  pub bare : host.kept ≡ None
 
 abbrev pub Rested : Machines → Type 0
 Rested s = (k : ℕ) (host : HostState) → slice_get s.hosts k ≡ Some host → HostRests host
 
-module _ (start : Image) (s : Machines) (journal : List Note) (kept : Kept start s journal) (rests : Rested s) where
+module _ (start : Image) (s : Machines) (journal : List Note) (kept : Reached start s journal) (rests : Rested s) where
   abbrev hosts : Hosts
   hosts = hosts_of kept.views (past_of start journal).hosts
 
-  view_rests : (k : ℕ) (v : HostView) → slice_get kept.views k ≡ Some v → IsClean v.cache × (v.task ≡ None)
+  view_rests : (k : ℕ) (v : HostView) → slice_get kept.views k ≡ Some v → IsClean v.cache × (v.task ≡ None) × (v.kept ≡ None)
   view_rests k v is =
       let host = find_host (length start) v (slice_get s.hosts k) (subst (λ (o : Option HostView). HostStandsAt (length start) (slice_get s.hosts k) o) is (kept.held.stands k)) in
       let at = rests k host.0 host.1 in
-      (subst IsClean host.2.cache at.clean, none v.task (subst (λ (o : Option TaskState). TaskStands (length start) o v.task) at.idle host.2.task))
+      (subst IsClean host.2.cache at.clean, none v.task (subst (λ (o : Option TaskState). TaskStands (length start) o v.task) at.idle host.2.task), sym host.2.kept ∙ at.bare)
     where
       none : (o : Option Task) → TaskStands (length start) None o → o ≡ None
       none None stands = refl
@@ -60,6 +61,13 @@ module _ (start : Image) (s : Machines) (journal : List Note) (kept : Kept start
       by_view : (o : Option HostView) → slice_get kept.views h ≡ o → run_at o (slice_get (past_of start journal).hosts h) ≡ None
       by_view None is = refl
       by_view (Some v) is = ap (λ (t : Option Task). run_with t (slice_get (past_of start journal).hosts h)) (view_rests h v is).1
+
+  bare : (h : ℕ) → hosts.kept h ≡ None
+  bare h = by_view (slice_get kept.views h) refl
+    where
+      by_view : (o : Option HostView) → slice_get kept.views h ≡ o → kept_at o ≡ None
+      by_view None is = refl
+      by_view (Some v) is = (view_rests h v is).2
 
   clean : (h l : ℕ) → IsCleanCell (copy_at (slice_get kept.views h) l)
   clean h l = by_view (slice_get kept.views h) refl
@@ -96,7 +104,7 @@ module _ (start : Image) (s : Machines) (journal : List Note) (kept : Kept start
   owner id = record { host = index_of (has id) kept.views; is = owner_is id; only = owner_only id }
 
   at_rest : invariant.Rests hosts (shared_of s.memory kept.views)
-  at_rest = record { declared = kept.held.invariant.declared; owner = owner; idle = idle; bare = λ h. refl; clean = clean }
+  at_rest = record { declared = kept.held.invariant.declared; owner = owner; idle = idle; bare = bare; clean = clean }
 
   lines : length s.memory ≡ length start
   lines = kept.held.lines

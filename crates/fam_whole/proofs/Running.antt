@@ -11,6 +11,8 @@ use Rattle.fam_base.specs.Image.{Image}
 use Rattle.fam_machine.specs.declared.op.Op.{Op}
 use Rattle.fam_machine.specs.Operations.{Machine, given, operated, IsInImage}
 use Rattle.fam_commands.specs.Solo.{SoloRun, goes, notes_up_to, noted, starts, turn_on}
+use Rattle.fam_commands.specs.Keeping.{kept_after}
+use Rattle.fam_commands.specs.Kept.{Kept}
 use Rattle.fam_commands.specs.Stands.{StandsFor, note_of, task_after, with_given}
 use Rattle.fam_commands.specs.Table.{Row, table}
 use Rattle.fam_commands.specs.Task.{Task, op_of, starting}
@@ -25,17 +27,18 @@ use Rattle.fam_rules.specs.Reply.{Reply}
 use Rattle.fam_journal.specs.Calls.{DoesOperations, busy_at, is_busy_host}
 use Rattle.fam_journal.specs.Ends.{IsFaultless}
 use Rattle.fam_journal.specs.View.{TaskStands, HostView}
-use Rattle.fam_journal.specs.Kept.{IfRuns, Kept, TaskTold, hosts_of, run_at, run_of, run_with, shared_of, settled_of, copy_at}
+use Rattle.fam_journal.specs.Kept.{IfRuns, Reached, TaskTold, hosts_of, run_at, run_of, run_with, shared_of, settled_of, copy_at}
 use Rattle.fam_journal.specs.Legal.{AnswerAllowed, LegalBehind, OfHost, WritesAllowed}
 use Rattle.fam_journal.specs.Machines as machine
-use Rattle.fam_journal.specs.Machines.{Done, HostState, Machines, Operation, Passes, TaskState, notes_of, operation, task_on, with_machine}
+use Rattle.fam_journal.specs.Machines.{Done, HostState, Machines, Operation, Passes, TaskState, notes_of, operation, task_on, with_parts, with_machine}
 use Rattle.fam_journal.specs.Notes.{Note, Answered, Mark, Found, Writes as NoteWrites, Replied}
 use Rattle.fam_journal.specs.Past.{HostPast, Past, State, Bad, Sound, cmd_of, filled_bytes, finds, first_past, past_behind, past_of, pends}
 use Rattle.fam_journal.proofs.Runs.Following.{operation_kept}
 use Rattle.fam_machine.specs.Caches.{Cache, cell_at}
 use Rattle.fam_protocol.proofs.Hosts.Inside.{asks_inside}
 use Rattle.fam_journal.proofs.Settled.Journals.{legal_rest, past_both}
-use Rattle.fam_journal.proofs.Calls.Members.{changed_at_member}
+use Rattle.fam_journal.proofs.Calls.Members.{changed_alike, changed_at_member}
+use Rattle.fam_protocol.proofs.Hosts.Steps.{keeps_none}
 use Rattle.fam_journal.proofs.Calls.MkfsRows.{changed_twice}
 use Rattle.fam_journal.proofs.Calls.Rows.{Declared, declared}
 use Rattle.fam_journal.proofs.Calls.TaskRows.{row_served}
@@ -46,7 +49,7 @@ use Rattle.fam_protocol.specs.After.{HasNamed}
 use Rattle.fam_whole.proofs.Phases.{IsLateTurn, WritesLate, late_turn, writes_turn}
 
 -- from the moment at which host h of these machines has begun the command, behind this journal
-module _ (start : Image) (h : ℕ) (base : Machines) (host : HostState) (host_is : slice_get base.hosts h ≡ Some host) (cmd : Cmd) (journal : List Note) (sure : HasNothingPending (past_of start journal).state) where
+module _ (start : Image) (h : ℕ) (base : Machines) (host : HostState) (host_is : slice_get base.hosts h ≡ Some host) (bare : host.kept ≡ None) (cmd : Cmd) (journal : List Note) (sure : HasNothingPending (past_of start journal).state) where
   abbrev image : Image
   image = base.memory
 
@@ -60,7 +63,7 @@ module _ (start : Image) (h : ℕ) (base : Machines) (host : HostState) (host_is
   at m t = with_machine h m t base
 
   abbrev pub state_of : List ℕ → ℕ → TaskState
-  state_of words made = record { cmd = cmd; me = me; words = words; made = made }
+  state_of words made = record { cmd = cmd; me = me; kept = None; words = words; made = made }
 
   host_at : (m : Machine) (t : Option TaskState) → slice_get (at m t).hosts h ≡ Some (record host { cache = m.cache; task = t })
   host_at m t = changed_at_member h (λ z. record z { cache = m.cache; task = t }) base.hosts host host_is
@@ -69,6 +72,13 @@ module _ (start : Image) (h : ℕ) (base : Machines) (host : HostState) (host_is
   twice m n s t =
       ap (λ (hosts : List HostState). record { memory = n.image; hosts = hosts })
       (changed_twice h (λ z. record z { cache = n.cache; task = t }) (λ z. record z { cache = m.cache; task = s }) base.hosts)
+
+  -- what the host keeps is as before
+  bare_twice : (m n : Machine) (s t : Option TaskState) (kept : Option Kept) → kept ≡ host.kept → with_parts h n t kept (at m s) ≡ at n t
+  bare_twice m n s t kept same =
+      ap (λ (hosts : List HostState). record { memory = n.image; hosts = hosts })
+      (changed_twice h (λ z. record z { cache = n.cache; task = t; kept = kept }) (λ z. record z { cache = m.cache; task = s }) base.hosts
+      ∙ changed_alike h (λ z. record z { cache = n.cache; task = t; kept = kept }) (λ z. record z { cache = n.cache; task = t }) base.hosts host host_is (ap (λ (k : Option Kept). record host { cache = n.cache; task = t; kept = k }) same))
 
   -- One operation is the machine's row.
 
@@ -90,8 +100,8 @@ module _ (start : Image) (h : ℕ) (base : Machines) (host : HostState) (host_is
 
     row_is : operation Passes h (at m (Some s)) ≡ Some (record { notes = notes_of h (note_of turn); left = at after (machine.task_behind (note_of turn) (task_on s (given (op_of t) m))) })
     row_is =
-        row_served (at m (Some s)) h (record host { cache = m.cache; task = Some s }) (host_at m (Some s)) s refl (length image) count t standing m refl turn (same_turn t m)
-        ∙ ap (λ (z : Machines). Some (record { notes = notes_of h (note_of turn); left = z })) (twice m after (Some s) (machine.task_behind (note_of turn) (task_on s (given (op_of t) m))))
+        row_served (at m (Some s)) h (record host { cache = m.cache; task = Some s }) (host_at m (Some s)) s refl (length image) count t record { joined = tt; stands = standing } m refl turn (same_turn t m)
+        ∙ ap (λ (z : Machines). Some (record { notes = notes_of h (note_of turn); left = z })) (bare_twice m after (Some s) (machine.task_behind (note_of turn) (task_on s (given (op_of t) m))) (kept_after turn t host.kept) (ap (kept_after turn t) bare ∙ keeps_none turn t ∙ sym bare))
 
     -- What the journal and the protocol say of the task.
 
@@ -102,7 +112,7 @@ module _ (start : Image) (h : ℕ) (base : Machines) (host : HostState) (host_is
       uuid_is : told.uuid ≡ me
       inside : IsInImage (op_of t) m
 
-    now_of : (j : List Note) (kept : Kept start (at m (Some s)) j) → Declared start (at m (Some s)) (record { hosts = kept.views; journal = j }) h → Now j
+    now_of : (j : List Note) (kept : Reached start (at m (Some s)) j) → Declared start (at m (Some s)) (record { hosts = kept.views; journal = j }) h → Now j
     now_of j kept d = by_task d.view.task refl
       where
         same : d.host ≡ record host { cache = m.cache; task = Some s }
@@ -117,7 +127,7 @@ module _ (start : Image) (h : ℕ) (base : Machines) (host : HostState) (host_is
         by_task : (o : Option Task) → d.view.task ≡ o → Now j
         by_task None none = absurd (stands None none)
         by_task (Some z) runs =
-            let other : StandsFor None cmd me (length start) z words made = stands (Some z) runs in
+            let other : StandsFor None cmd me (length start) z words made = (stands (Some z) runs).stands in
             let told_task : TaskTold z d.told = subst (λ (o : Option Task). IfRuns o d.told) runs d.host_told.task in
             let ops : op_of z ≡ op_of t =
             same_Some (op_of z) (op_of t)
@@ -135,7 +145,7 @@ module _ (start : Image) (h : ℕ) (base : Machines) (host : HostState) (host_is
                   record { memory = λ l. refl; copies = λ l. ap (λ (o : Option HostView). copy_at o l) d.view_is ∙ ap (λ (c : Cache). cell_at c l) (sym d.stands.cache ∙ ap (λ (y : HostState). y.cache) same) } kept.held.lines);
             }
 
-    now : (j : List Note) → Kept start (at m (Some s)) j → Now j
+    now : (j : List Note) → Reached start (at m (Some s)) j → Now j
     now j kept = now_of j kept (declared start (at m (Some s)) (record { hosts = kept.views; journal = j }) m.image kept.held h (record host { cache = m.cache; task = Some s }) (host_at m (Some s)))
 
   -- What the journal settles meanwhile: what was settled, or that and the entry that the task writes.
@@ -304,10 +314,10 @@ module _ (start : Image) (h : ℕ) (base : Machines) (host : HostState) (host_is
     })
 
   -- one operation more
-  step : (state mid : Machines) (notes first : List Note) → Along state notes → Kept start state (journal ++ notes) → Operation h state first mid → IsFaultless first → Along mid (notes ++ first) ⊎ Ended mid (notes ++ first)
+  step : (state mid : Machines) (notes first : List Note) → Along state notes → Reached start state (journal ++ notes) → Operation h state first mid → IsFaultless first → Along mid (notes ++ first) ⊎ Ended mid (notes ++ first)
   step state mid notes first along kept op clean =
       let s : TaskState = state_of along.words along.made in
-      let kept' : Kept start (at along.m (Some s)) (journal ++ notes) = subst (λ (z : Machines). Kept start z (journal ++ notes)) along.state_is kept in
+      let kept' : Reached start (at along.m (Some s)) (journal ++ notes) = subst (λ (z : Machines). Reached start z (journal ++ notes)) along.state_is kept in
       let op' : Operation h (at along.m (Some s)) first mid = subst (λ (z : Machines). Operation h z first mid) along.state_is op in
       let info = now along.t along.words along.made along.m along.ran (journal ++ notes) kept' in
       let turn : Turn = turn_on along.t along.m in
@@ -329,14 +339,14 @@ module _ (start : Image) (h : ℕ) (base : Machines) (host : HostState) (host_is
   rests (suc count) state new rest idle (inl o) = (o.1, o.2)
   rests (suc count) state new rest idle (inr o) = absurd (let b = o.0 in cc)
 
-  run : (count : ℕ) (state new : Machines) (notes rest : List Note) → Along state notes → Kept start state (journal ++ notes) → DoesOperations h count state rest new → IsFaultless rest → busy_at h new ≡ false → Ended new (notes ++ rest)
+  run : (count : ℕ) (state new : Machines) (notes rest : List Note) → Along state notes → Reached start state (journal ++ notes) → DoesOperations h count state rest new → IsFaultless rest → busy_at h new ≡ false → Ended new (notes ++ rest)
   run zero state new notes rest along kept o clean done = absurd (let b = busy state notes along in let same = ap (busy_at h) o.1 in cc)
   run (suc count) state new notes rest along kept (inl o) clean done = absurd (let b = busy state notes along in let f = o.0 in cc)
   run (suc count) state new notes rest along kept (inr o) clean done =
       let first_clean : IsFaultless o.2 = clean_prefix o.2 o.3 rest o.6 clean in
       let rest_clean : IsFaultless o.3 = clean_rest o.2 o.3 rest o.6 clean in
       let joined : (notes ++ o.2) ++ o.3 ≡ notes ++ rest = append_assoc notes o.2 o.3 ∙ ap (λ (z : List Note). notes ++ z) (sym o.6) in
-      let kept' : Kept start o.1 (journal ++ (notes ++ o.2)) = subst (λ (z : List Note). Kept start o.1 z) (append_assoc journal notes o.2) (operation_kept start h state (journal ++ notes) kept o.2 o.1 o.4) in
+      let kept' : Reached start o.1 (journal ++ (notes ++ o.2)) = subst (λ (z : List Note). Reached start o.1 z) (append_assoc journal notes o.2) (operation_kept start h state (journal ++ notes) kept o.2 o.1 o.4) in
       elim (step state o.1 notes o.2 along kept o.4 first_clean) [
         | inl more ↦ subst (Ended new) joined (run count o.1 new (notes ++ o.2) o.3 more kept' o.5 rest_clean done)
         | inr ended ↦
@@ -346,7 +356,7 @@ module _ (start : Image) (h : ℕ) (base : Machines) (host : HostState) (host_is
       ]
 
   -- all operations of the command
-  pub run_solo : (count : ℕ) (new : Machines) (notes : List Note) → Kept start (at (record { image = image; cache = host.cache }) (Some (state_of [] 0))) journal → DoesOperations h count (at (record { image = image; cache = host.cache }) (Some (state_of [] 0))) notes new → IsFaultless notes → busy_at h new ≡ false → Ended new notes
+  pub run_solo : (count : ℕ) (new : Machines) (notes : List Note) → Reached start (at (record { image = image; cache = host.cache }) (Some (state_of [] 0))) journal → DoesOperations h count (at (record { image = image; cache = host.cache }) (Some (state_of [] 0))) notes new → IsFaultless notes → busy_at h new ≡ false → Ended new notes
   run_solo count new notes kept o clean done =
       run count (at (record { image = image; cache = host.cache }) (Some (state_of [] 0))) new [] notes
       record {
@@ -361,4 +371,4 @@ module _ (start : Image) (h : ℕ) (base : Machines) (host : HostState) (host_is
         same = refl;
         whole = tt;
       }
-      (subst (λ (z : List Note). Kept start (at (record { image = image; cache = host.cache }) (Some (state_of [] 0))) z) (sym (append-nil journal)) kept) o clean done
+      (subst (λ (z : List Note). Reached start (at (record { image = image; cache = host.cache }) (Some (state_of [] 0))) z) (sym (append-nil journal)) kept) o clean done

@@ -113,6 +113,7 @@ alike (a ∷ xs) (b ∷ ys) p rx ry = (
     uuid = p.0.uuid;
     dirty = none_dirty a.cache (rx 0 a refl).clean ∙ sym (none_dirty b.cache (ry 0 b refl).clean);
     busy = ap is_some (rx 0 a refl).idle ∙ sym (ap is_some (ry 0 b refl).idle);
+    keeps = ap is_some (rx 0 a refl).bare ∙ sym (ap is_some (ry 0 b refl).bare);
   },
   alike xs ys p.1 (λ k host is. rx (suc k) host is) (λ k host is. ry (suc k) host is),
 )
@@ -197,7 +198,7 @@ module _ (start : Image) (files : Files) where
     pub host_same : (name uuid : List ℕ) → Acts (call.Declares name uuid) s a m → Acts (call.Declares name uuid) t b n → Same a b m n
     host_same name uuid x y = record {
       notes = x.0 ∙ sym y.0;
-      machines = subst (λ (z : Machines). Twins z n) (sym x.1) (subst (λ (z : Machines). Twins (record s { hosts = s.hosts ++ record { name = name; uuid = uuid; cache = finmap.empty; task = None } ∷ [] }) z) (sym y.1)
+      machines = subst (λ (z : Machines). Twins z n) (sym x.1) (subst (λ (z : Machines). Twins (record s { hosts = s.hosts ++ record { name = name; uuid = uuid; cache = finmap.empty; task = None; kept = None } ∷ [] }) z) (sym y.1)
           record { memory = twins.memory; hosts = same_more s.hosts t.hosts _ _ twins.hosts (record { name = refl; uuid = refl }) });
     }
 
@@ -304,7 +305,7 @@ module _ (start : Image) (files : Files) (name : List ℕ) (what : Ask) where
 
     memory_then : new.machines.memory ≡ solo_image s.machines.memory go.host.uuid run.begun.cmd
     memory_then =
-        left_is start go.h s.machines go.host go.is run.begun.cmd journal go.sure_then
+        left_is start go.h s.machines go.host go.is (between.rests go.h go.host go.is).bare run.begun.cmd journal go.sure_then
         (ap (λ (w : Past). w.state) (past_both (Rattle.fam_journal.specs.Past.first_past start) j (Start go.h run.begun.cmd ∷ [])) ∙ rest_state start s.machines j between.kept between.rests between.sure)
         go.enough (subst (λ (n : ℕ). line_bytes * n ≤ device_limit) (sym between.kept.held.lines) between.kept.held.limit) between.kept.held.normal (between.rests go.h go.host go.is).clean command new.machines go.rest go.ended
 

@@ -105,6 +105,7 @@ IsWholeReply (reply.Reports report) state image = report ≡ report_of (line_at 
 IsWholeReply (reply.Appended seq) state image = IsOfAll (reply.Appended seq) state
 IsWholeReply (reply.NotAppended refused) state image = IsOfAll (reply.NotAppended refused) state
 IsWholeReply (reply.Played m tree) state image = IsOfAll (reply.Played m tree) state
+IsWholeReply (reply.Mounted m) state image = IsOfAll (reply.Mounted m) state
 IsWholeReply (reply.Same m) state image = IsOfAll (reply.Same m) state
 IsWholeReply (reply.Differs m offset found wanted) state image = IsOfAll (reply.Differs m offset found wanted) state
 IsWholeReply (reply.Length m size wanted) state image = IsOfAll (reply.Length m size wanted) state

@@ -14,7 +14,7 @@ use Rattle.fam_machine.specs.Mkfs.{EarlyRefusal, early_refusal}
 use Rattle.fam_journal.specs.declared.refusal.Refusal.{Refusal}
 use Rattle.fam_journal.specs.declared.refusal.Refusal.TheVariants as why
 use Rattle.fam_journal.specs.Calls as call
-use Rattle.fam_journal.specs.Calls.{Call, busy_refusal, cause_of, dirty_from, dirty_refusal, has_name, host_limit, is_busy, is_busy_host, is_same, on_host, refusal_of, same_refusal, when}
+use Rattle.fam_journal.specs.Calls.{Call, busy_refusal, cause_of, dirty_from, dirty_refusal, has_name, host_limit, is_busy, is_busy_host, is_engaged, is_same, on_host, refusal_of, same_refusal, when}
 use Rattle.fam_journal.specs.Ends.{cause_faults}
 use Rattle.fam_journal.specs.Names.{NamesCause}
 use Rattle.fam_journal.specs.Members.{index_of}
@@ -52,11 +52,11 @@ module _ (hosts : List HostView) (journal : List Note) (name : List ℕ) (lines 
       ∙ ap (λ (n : ℕ). on_host o (λ h. or_else (when (nat_lt n least_lines) (why.ImageSmall n)) (when (is_busy_host (slice_get (map shown_host hosts) h)) (why.Busy (record { 0 = h }))))) (length-replicate lines [])
 
   pub makes_first : (request : MkfsRequest) → refusal_in (call.Makes name request) w lines
-      ≡ on_host o (λ h. or_else (option_map cause_of (early_refusal request.unit request.log (line_bytes * lines))) (or_else (busy_refusal (index_of is_busy (map shown_host hosts))) (dirty_refusal (dirty_from h 0 (map shown_host hosts)))))
+      ≡ on_host o (λ h. or_else (option_map cause_of (early_refusal request.unit request.log (line_bytes * lines))) (or_else (busy_refusal (index_of is_engaged (map shown_host hosts))) (dirty_refusal (dirty_from h 0 (map shown_host hosts)))))
   unfolding refusal_of
   makes_first request =
       ap (λ (n : Option ℕ). on_host n (λ h. call.makes_refusal request.unit request.log h (shown_state w lines))) number
-      ∙ ap (λ (n : ℕ). on_host o (λ h. or_else (option_map cause_of (early_refusal request.unit request.log (line_bytes * n))) (or_else (busy_refusal (index_of is_busy (map shown_host hosts))) (dirty_refusal (dirty_from h 0 (map shown_host hosts)))))) (length-replicate lines [])
+      ∙ ap (λ (n : ℕ). on_host o (λ h. or_else (option_map cause_of (early_refusal request.unit request.log (line_bytes * n))) (or_else (busy_refusal (index_of is_engaged (map shown_host hosts))) (dirty_refusal (dirty_from h 0 (map shown_host hosts)))))) (length-replicate lines [])
 
 pub declares_first : (hosts : List HostView) (journal : List Note) (name uuid : List ℕ) (lines : ℕ) (o : Option ℕ) → index_of (is_same name uuid) (map shown_host hosts) ≡ o
     → refusal_in (call.Declares name uuid) (record { hosts = hosts; journal = journal }) lines ≡ or_else (same_refusal o) (when (nat_le host_limit (length (map shown_host hosts))) why.TooManyHosts)

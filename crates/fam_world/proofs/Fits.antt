@@ -8,7 +8,7 @@ use Rattle.fam_machine.specs.declared.cell.Cell.TheVariants.{Absent}
 use Rattle.fam_machine.specs.Caches.{cell_at}
 use Rattle.fam_machine.specs.OneLine.{IsHeld}
 use Rattle.fam_machine.proofs.CacheLemmas.{cell_at-empty}
-use Rattle.fam_commands.specs.Task.{starting}
+use Rattle.fam_commands.specs.Task.{mounted}
 use Rattle.fam_journal.specs.declared.refusal.Refusal.{Refusal}
 use Rattle.fam_journal.specs.Calls as call
 use Rattle.fam_journal.specs.Calls.{Call}
@@ -57,10 +57,10 @@ world_fits c lines old all = by_refusal c (refusal_in c old lines)
     by_refusal c (Some cause) = all
     by_refusal (call.Declares name uuid) None = fits_last lines old.hosts _ (record { task = tt; cache = λ l held. none_held l (l < lines) held }) all
     by_refusal (call.Makes name request) None = all
-    by_refusal (call.Begins name cmd) None = fits_hosted lines (number_in name old) (λ v. record v { task = Some (starting cmd v.uuid lines) }) _ old (λ v was. record { task = refl; cache = was.cache }) all
+    by_refusal (call.Begins name cmd) None = fits_hosted lines (number_in name old) (λ v. record v { task = Some (mounted v.kept cmd v.uuid lines) }) _ old (λ v was. record { task = refl; cache = was.cache }) all
     by_refusal (call.Steps name) None = all
     by_refusal (call.Finishes name) None = all
     by_refusal (call.Stops name) None = fits_hosted lines (number_in name old) (λ v. record v { task = None }) _ old (λ v was. record { task = tt; cache = was.cache }) all
-    by_refusal (call.Halts name) None = fits_hosted lines (number_in name old) (λ v. record v { cache = finmap.empty; task = None }) _ old (λ v was. record { task = tt; cache = λ l held. none_held l (l < lines) held }) all
+    by_refusal (call.Halts name) None = fits_hosted lines (number_in name old) (λ v. record v { cache = finmap.empty; task = None; kept = None }) _ old (λ v was. record { task = tt; cache = λ l held. none_held l (l < lines) held }) all
     by_refusal (call.Moves name line move) None = all
     by_refusal (call.Refuses name cause) None = all

@@ -11,14 +11,15 @@ use Rattle.fam_commands.specs.Task.{Task}
 use Rattle.fam_journal.specs.declared.refusal.Refusal.{Refusal}
 use Rattle.fam_journal.specs.declared.refusal.Refusal.TheVariants as why
 use Rattle.fam_journal.specs.Calls as call
-use Rattle.fam_journal.specs.Calls.{busy_refusal, cause_of, dirty_from, dirty_refusal, is_busy, number_of, on_host, refusal_of}
+use Rattle.fam_journal.specs.Calls.{busy_refusal, cause_of, dirty_from, dirty_refusal, is_engaged, number_of, on_host, refusal_of}
 use Rattle.fam_journal.specs.CallRecords.{CallForm}
 use Rattle.fam_journal.specs.Forms.{ActsForm, AtForm, FormByRefusal, FreeForm, HostForm, HostFormed, IsFormed, OfHostForm, Pairs, TaskForm, TaskFormed, forms_of, makes_told, refusal_told, shown_form, shown_forms, shown_running}
 use Rattle.fam_journal.specs.Members.{index_of}
 use Rattle.fam_journal.specs.Notes.{Note, Refused}
 use Rattle.fam_journal.specs.View.{HostView, WorldView}
 use Rattle.fam_journal.specs.ByWorld.{number_in, refusal_in, shown_host, shown_state, shown_task}
-use Rattle.fam_journal.proofs.Forms.Pairs.{Looks, busy_place, dirty_other, pairs_at, pairs_length}
+use Rattle.fam_journal.proofs.Forms.Pairs.{Looks, engaged_place, dirty_other, pairs_at, pairs_length}
+use Rattle.fam_journal.proofs.Forms.Operations.{shown_keeps}
 use Rattle.fam_journal.proofs.Forms.Views.{number_formed}
 
 view_looks : (me : List ℕ) (t : Option Task) (f : Option TaskForm) → TaskFormed me t f → is_some (shown_task t) ≡ is_some (shown_running f)
@@ -32,7 +33,7 @@ views_look [] [] all = tt
 views_look [] (f ∷ forms) all = absurd all
 views_look (v ∷ views) [] all = absurd all
 views_look (v ∷ views) (f ∷ forms) all =
-    (record { name = sym all.0.name; uuid = sym all.0.uuid; busy = view_looks v.uuid v.task f.task all.0.task }, views_look views forms all.1)
+    (record { name = sym all.0.name; uuid = sym all.0.uuid; busy = view_looks v.uuid v.task f.task all.0.task; keeps = sym all.0.keeps ∙ sym (shown_keeps f.keeps) }, views_look views forms all.1)
 
 module _ (name : List ℕ) (request : MkfsRequest) (lines : ℕ) (world : WorldView) (is : IsFormed world) where
   abbrev c : call.Call
@@ -45,13 +46,13 @@ module _ (name : List ℕ) (request : MkfsRequest) (lines : ℕ) (world : WorldV
   early = option_map cause_of (early_refusal request.unit request.log (line_bytes * length (shown_state world lines).memory))
 
   abbrev busy : Option Refusal
-  busy = busy_refusal (index_of is_busy (map shown_host world.hosts))
+  busy = busy_refusal (index_of is_engaged (map shown_host world.hosts))
 
   told_number : number_of name (shown_forms lines forms) ≡ number_in name world
   told_number = sym (number_formed lines world is name)
 
-  told_busy : busy_refusal (index_of is_busy (shown_forms lines forms).hosts) ≡ busy
-  told_busy = ap busy_refusal (sym (busy_place (shown_state world lines) (shown_forms lines forms) (views_look world.hosts forms is) refl))
+  told_busy : busy_refusal (index_of is_engaged (shown_forms lines forms).hosts) ≡ busy
+  told_busy = ap busy_refusal (sym (engaged_place (shown_state world lines) (shown_forms lines forms) (views_look world.hosts forms is) refl))
 
   -- what the journal tells, by the world's parts
   told_by : refusal_told c lines forms ≡ on_host (number_in name world) (λ h. or_else early busy)

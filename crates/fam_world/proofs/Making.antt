@@ -135,7 +135,7 @@ module _ (name : List ℕ) (request : MkfsRequest) (is_uuid : IsUuid request.fs)
         free_answers c lines faults faults_now answered old new notes joined counted later named
         (ap (λ (vs : List HostView). map heading vs) hosts ∙ map_kept heading (with_cache cache) (λ v. refl) at old.hosts)
         (λ was. subst (FitsMedia lines) (sym hosts) (fits_kept lines at (with_cache cache) old.hosts view view_is fits was))
-        (formed_same old new notes same joined (λ forms all. subst (λ (vs : List HostView). Pairs HostFormed vs forms) (sym hosts) (forms_kept (with_cache cache) (λ v f is. record { name = is.name; uuid = is.uuid; task = is.task }) at old.hosts forms all)))
+        (formed_same old new notes same joined (λ forms all. subst (λ (vs : List HostView). Pairs HostFormed vs forms) (sym hosts) (forms_kept (with_cache cache) (λ v f is. record { name = is.name; uuid = is.uuid; task = is.task; keeps = is.keeps }) at old.hosts forms all)))
         said free late form
 
     count_is : length new.hosts ≡ length old.hosts
@@ -162,7 +162,7 @@ module _ (name : List ℕ) (request : MkfsRequest) (is_uuid : IsUuid request.fs)
       stands z same k =
           subst (λ (vs : List HostView). HostStandsAt (length start) (slice_get (left_by z).hosts k) (slice_get vs k)) (sym hosts)
           (stands_changed at view old.hosts view_is (with_cache cache) (length start) state.hosts host.0 host.1 (λ s. record s { cache = z.cache; task = host.0.task })
-          record { name = host.2.name; uuid = host.2.uuid; cache = sym same; task = host.2.task } held.stands k)
+          record { name = host.2.name; uuid = host.2.uuid; cache = sym same; task = host.2.task; kept = host.2.kept; joined = host.2.joined } held.stands k)
 
     -- it is made
     module _ (journal : new.journal ≡ old.journal ++ Made at p ∷ []) (made : IsMadeAsAsked p request.force (over told view.cache) (over now cache)) where

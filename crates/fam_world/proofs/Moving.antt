@@ -64,7 +64,7 @@ module _ (name : List ℕ) (line at : ℕ) (move : Move) (lines : ℕ) (old : Wo
           free_answers c lines faults faults_now None old new [] joined (omega (arith, later)) later tt
           (ap (λ (vs : List HostView). Rattle.std.proofs.Common.map heading vs) hosts ∙ map_kept heading (with_cache cache) (λ v. refl) at old.hosts)
           (λ was. subst (Rattle.fam_journal.specs.CallRecords.FitsMedia lines) (sym hosts) (fits_kept lines at (with_cache cache) old.hosts view view_is (cache_fits lines line cache view below held) was))
-          (formed_same old new [] refl joined (λ forms all. subst (λ (vs : List HostView). Pairs HostFormed vs forms) (sym hosts) (forms_kept (with_cache cache) (λ v f is. record { name = is.name; uuid = is.uuid; task = is.task }) at old.hosts forms all)))
+          (formed_same old new [] refl joined (λ forms all. subst (λ (vs : List HostView). Pairs HostFormed vs forms) (sym hosts) (forms_kept (with_cache cache) (λ v f is. record { name = is.name; uuid = is.uuid; task = is.task; keeps = is.keeps }) at old.hosts forms all)))
           refl free (λ cause e. absurd cc)
           (hosted_form c lines old tt at view number view_is free [] (λ f. inl refl) (λ x. x))
 
@@ -77,7 +77,7 @@ module _ (name : List ℕ) (line at : ℕ) (move : Move) (lines : ℕ) (old : Wo
           let stands : WorldStands (length start) left new = λ k.
           subst (λ (vs : List HostView). HostStandsAt (length start) (slice_get left.hosts k) (slice_get vs k)) (sym hosts)
           (stands_changed at view old.hosts view_is (with_cache cache) (length start) state.hosts host.0 host.1 (λ s. record s { cache = (moved move line (machine_of state host.0)).cache; task = host.0.task })
-          record { name = host.2.name; uuid = host.2.uuid; cache = ap (λ (x : Machine). (moved move line x).cache) same ∙ sym m.cache; task = host.2.task } held.stands k) in
+          record { name = host.2.name; uuid = host.2.uuid; cache = ap (λ (x : Machine). (moved move line x).cache) same ∙ sym m.cache; task = host.2.task; kept = host.2.kept; joined = host.2.joined } held.stands k) in
           row_kept start state old held c lines (modelled state.memory told_is) at view number free view_is new now [] left (λ x. x) (inl (record { notes_are = refl; left = refl })) tt
           (m.image ∙ ap (λ (x : Machine). Some (moved move line x).image) (sym same)) joined stands
 

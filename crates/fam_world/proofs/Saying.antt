@@ -21,6 +21,7 @@ use Rattle.fam_commands.specs.Stands.{note_of, task_after, turn_given}
 use Rattle.fam_commands.specs.Task.{Task, op_of}
 use Rattle.fam_commands.specs.Turns as turns
 use Rattle.fam_commands.specs.Turns.{turn_of}
+use Rattle.fam_rules.specs.Reply as replies
 use Rattle.fam_rules.specs.Reply.{Reply}
 use Rattle.fam_tasks.specs.declared.answer.Answer.{Answer}
 use Rattle.fam_tasks.specs.declared.answer.Answer.TheVariants as answer
@@ -38,6 +39,8 @@ use Rattle.fam_journal.specs.Notes.{Answered, MediaFault, Note, Replied}
 use Rattle.fam_journal.specs.Notes as journal
 use Rattle.fam_world.specs.Steps.{HostChange, IsStep}
 use Rattle.fam_world.specs.Turns.{is_done, kept_by, turn_notes}
+use Rattle.fam_commands.specs.Keeping as keeping
+use Rattle.fam_commands.specs.Keeping.{kept_after, read_by}
 
 -- Words.
 
@@ -92,6 +95,7 @@ lines_held Digest lines told old new within leaves l held = inr (subst (λ (c : 
 pub answer_told : (a : Answer) (reply : Reply) → reply_of a ≡ Some reply → answer_view a ≡ Replied reply
 answer_told (answer.Ok seq) reply is = cc
 answer_told (answer.Played m tree) reply is = cc
+answer_told (answer.Mounted m) reply is = cc
 answer_told (answer.Same m) reply is = cc
 answer_told (answer.Bytes m bytes) reply is = cc
 answer_told (answer.Checked m checked) reply is = cc
@@ -137,6 +141,19 @@ told_by at (turn.Done given) next (turns.Ends reply) tells = record {
 
 -- An operation that was done.
 
+-- a host that keeps nothing keeps nothing behind a turn
+keeps_none : (told : turns.Turn) (t : Task) → kept_after told t None ≡ None
+keeps_none (turns.Goes next) t = refl
+keeps_none (turns.Marks next) t = refl
+keeps_none (turns.Finds n next) t = refl
+keeps_none (turns.Writes seq e next) t = refl
+keeps_none (turns.Ends reply) t = by_reply reply
+  where
+    by_reply : (r : Reply) → keeping.kept_by r (read_by t) None ≡ None
+    by_reply (replies.Played m tree) = refl
+    by_reply (replies.Mounted m) = refl
+    by_reply other = refl
+
 module _ (at : ℕ) (t next : Task) (said : Turn) (a : HostChange) (over : Bool) (goes : GoesOn t a.new.cache said next) where
   abbrev word : ℕ
   word = unwrap_or (word_of (op_of t) a.new.cache) 0
@@ -152,10 +169,10 @@ module _ (at : ℕ) (t next : Task) (said : Turn) (a : HostChange) (over : Bool)
   fits_on (turn.Note note) keeps = keeps refl
   fits_on (turn.Done given) keeps = tt
 
-  pub step_served : (mid : Option Task) → mid ≡ Some next → a.new.task ≡ kept_by said mid → a.after ≡ a.before ++ turn_notes at said → heading a.new ≡ heading a.old → a.media.old.faults ≤ a.media.new.faults → over ≡ is_done said
+  pub step_served : a.old.kept ≡ None → a.new.kept ≡ None → (mid : Option Task) → mid ≡ Some next → a.new.task ≡ kept_by said mid → a.after ≡ a.before ++ turn_notes at said → heading a.new ≡ heading a.old → a.media.old.faults ≤ a.media.new.faults → over ≡ is_done said
       → IfModelled a.media.old.image (λ image. HasTurned t (machine image a.old.cache) said next a.media.new.image a.new.cache) → KeepsLines said t next → LeavesCache (op_of t) a.media.old.image a.old.cache a.new.cache → IsWithin t.lines (op_of t) → t.lines ≡ a.lines
       → IsStep at t a over
-  step_served mid mid_is task joined host later over_is turned keeps leaves within lines =
+  step_served was_bare bare mid mid_is task joined host later over_is turned keeps leaves within lines =
       let task_is : a.new.task ≡ kept_by said (Some next) = task ∙ ap (kept_by said) mid_is in
       record {
         notes = turn_notes at said;
@@ -166,6 +183,7 @@ module _ (at : ℕ) (t next : Task) (said : Turn) (a : HostChange) (over : Bool)
           word = word;
           notes_are = told.notes;
           task = task_is ∙ told.task;
+          kept = bare ∙ sym (ap (kept_after (turn_given t word) t) was_bare ∙ keeps_none (turn_given t word) t);
           done = λ image is. (turned image is).is;
           own = λ image is.
               let m : Machine = machine image a.old.cache in
@@ -178,12 +196,12 @@ module _ (at : ℕ) (t next : Task) (said : Turn) (a : HostChange) (over : Bool)
       }
 
 -- the media failed in it
-pub step_cut : (at : ℕ) (t : Task) (a : HostChange) (line : LineNo) → a.after ≡ a.before ++ Answered at (MediaFault line.0) ∷ [] → heading a.new ≡ heading a.old → a.media.old.faults ≤ a.media.new.faults → a.new.task ≡ None → ((l : ℕ) → IsHeld (cell_at a.new.cache l) → IsHeld (cell_at a.old.cache l))
+pub step_cut : (at : ℕ) (t : Task) (a : HostChange) (line : LineNo) → a.new.kept ≡ a.old.kept → a.after ≡ a.before ++ Answered at (MediaFault line.0) ∷ [] → heading a.new ≡ heading a.old → a.media.old.faults ≤ a.media.new.faults → a.new.task ≡ None → ((l : ℕ) → IsHeld (cell_at a.new.cache l) → IsHeld (cell_at a.old.cache l))
     → IfModelled a.media.old.image (λ image. HasFailed (op_of t) (machine image a.old.cache) line a.media.new.image a.new.cache) → Rose a.media.old.faults a.media.new.faults → IsStep at t a true
-step_cut at t a line joined host later task kept failed rose = record {
+step_cut at t a line same joined host later task kept failed rose = record {
   notes = Answered at (MediaFault line.0) ∷ [];
   joined = joined;
   host = host;
   later = later;
-  how = inr record { line = line; notes_are = refl; task = task; held = kept; failed = failed; rose = rose; over_is = refl };
+  how = inr record { line = line; notes_are = refl; task = task; kept = same; held = kept; failed = failed; rose = rose; over_is = refl };
 }

@@ -1,6 +1,6 @@
 -- An operation of a task at a declared host meets what the call promises.
 use Rattle.std.proofs.Common.{◌≡◌, ◌⊎◌, ℕ, ◌<◌, ◌≤◌, inl, inr, Bool, false, List, [], ◌∷◌, ◌++◌, length, map, Option, Some, None, refl, ap, ap₂, sym, ◌∙◌, subst, arith}
-use Rattle.std.specs.Prelude.{slice_get}
+use Rattle.std.specs.Prelude.{slice_get, is_some}
 use Rattle.std.specs.List.{list_any}
 use Rattle.fam_base.specs.declared.line.LineNo.{LineNo}
 use Rattle.fam_base.specs.Image.{Image}
@@ -11,11 +11,13 @@ use Rattle.fam_machine.specs.Caches.{Cache, cell_at}
 use Rattle.fam_machine.specs.Cuts.{HasFailed, IsMachine}
 use Rattle.fam_machine.specs.OneLine.{IsHeld}
 use Rattle.fam_machine.specs.Operations.{Breaking, Machine, failed, machine, operated}
-use Rattle.fam_commands.specs.Stands.{StandsFor, note_of, task_after, turn_given}
+use Rattle.fam_commands.specs.Keeping.{kept_after}
+use Rattle.fam_commands.specs.Kept.{IsKept, Kept}
+use Rattle.fam_commands.specs.Stands.{note_of, task_after, turn_given}
 use Rattle.fam_commands.specs.Table as row
 use Rattle.fam_commands.specs.Task.{Task, op_of}
 use Rattle.fam_commands.specs.Turns.{Turn}
-use Rattle.fam_commands.proofs.Steps.Standing.{operation_from_start}
+use Rattle.fam_commands.proofs.Steps.Standing.{next_operation}
 use Rattle.fam_journal.specs.declared.refusal.Refusal.{Refusal}
 use Rattle.fam_journal.specs.Calls as call
 use Rattle.fam_journal.specs.CallRecords.{Answers, CallForm, CallKeeps, FitsMedia, HostFits, IsLate, MediaCall, StepCall, TaskFits, heading, own_turn, refusal_noted, stepped_world}
@@ -26,7 +28,7 @@ use Rattle.fam_journal.specs.Machines.{Fails, HostState, Machines, Operation, Ta
 use Rattle.fam_journal.specs.Members.{changed_at}
 use Rattle.fam_journal.specs.Names.{AreNamed}
 use Rattle.fam_journal.specs.Notes.{Answered, MediaFault, Note}
-use Rattle.fam_journal.specs.View.{HostStandsAt, HostView, TaskStands, WorldStands, WorldView}
+use Rattle.fam_journal.specs.View.{HostStandsAt, HostView, StandsAs, TaskStands, WorldStands, WorldView}
 use Rattle.fam_journal.specs.ByWorld.{number_in, refusal_in}
 use Rattle.fam_journal.proofs.Calls.Hosts.{stands_changed}
 use Rattle.fam_journal.proofs.Calls.Members.{changed_alike}
@@ -77,9 +79,9 @@ step_refused name lines old new cause told faults first x = record {
 }
 
 -- the media failed in the operation of a task
-module _ (state : Machines) (h : ℕ) (host : HostState) (host_is : slice_get state.hosts h ≡ Some host) (s : TaskState) (s_is : host.task ≡ Some s) (t : Task) (standing : StandsFor None s.cmd s.me (length state.memory) t s.words s.made) where
+module _ (state : Machines) (h : ℕ) (host : HostState) (host_is : slice_get state.hosts h ≡ Some host) (s : TaskState) (s_is : host.task ≡ Some s) (t : Task) (standing : StandsAs (length state.memory) s t) where
   op_is : next_op s (length state.memory) ≡ Some (op_of t)
-  op_is = operation_from_start s.cmd s.me (length state.memory) t s.words s.made standing
+  op_is = next_operation s.kept s.cmd s.me (length state.memory) t s.words s.made standing.joined standing.stands
 
   pub row_cut : (through : Breaking) (line : LineNo) (left : Machine) → failed through (op_of t) (machine_of state host) ≡ Some (record { line = line; left = left })
       → operation (Fails through) h state ≡ Some (record { notes = Answered h (MediaFault line.0) ∷ []; left = with_machine h left None state })
@@ -122,15 +124,15 @@ module _ (name : List ℕ) (at lines : ℕ) (old : WorldView) (view : HostView) 
         abbrev own_notes : List Note
         own_notes = notes_of at (note_of z)
 
-        hosts_are : new.hosts ≡ changed_at at (λ v. record v { cache = next.cache; task = task_after z }) old.hosts
+        hosts_are : new.hosts ≡ changed_at at (λ v. record v { cache = next.cache; task = task_after z; kept = kept_after z t v.kept }) old.hosts
         hosts_are =
-            hosts ∙ changed_alike at (λ v. next) (λ v. record v { cache = next.cache; task = task_after z }) old.hosts view view_is
-            (ap₂ (λ (n u : List ℕ). record { name = n; uuid = u; cache = next.cache; task = next.task }) name_is uuid_is ∙ ap (λ (o : Option Task). record view { cache = next.cache; task = o }) x.task)
+            hosts ∙ changed_alike at (λ v. next) (λ v. record v { cache = next.cache; task = task_after z; kept = kept_after z t v.kept }) old.hosts view view_is
+            (ap₂ (λ (n u : List ℕ). record { name = n; uuid = u; cache = next.cache; task = next.task; kept = next.kept }) name_is uuid_is ∙ ap₂ (λ (o : Option Task) (k : Option Kept). record view { cache = next.cache; task = o; kept = k }) x.task x.kept)
 
         joined_own : new.journal ≡ old.journal ++ own_notes
         joined_own = joined ∙ ap (λ (n : List Note). old.journal ++ n) x.notes_are
 
-        world_is : new ≡ record { hosts = changed_at at (λ v. record v { cache = next.cache; task = task_after z }) old.hosts; journal = old.journal ++ own_notes }
+        world_is : new ≡ record { hosts = changed_at at (λ v. record v { cache = next.cache; task = task_after z; kept = kept_after z t v.kept }) old.hosts; journal = old.journal ++ own_notes }
         world_is = ap₂ (λ (vs : List HostView) (j : List Note). record { hosts = vs; journal = j }) hosts_are joined_own
 
         host_fits : HostFits lines view → HostFits lines next
@@ -164,7 +166,7 @@ module _ (name : List ℕ) (at lines : ℕ) (old : WorldView) (view : HostView) 
             let done : IsMachine (operated (op_of t) (machine state.memory view.cache)) now next.cache = x.done state.memory told_is in
             let turn : own_turn state.memory view t ≡ z = sym (x.own state.memory told_is) in
             let same_world : stepped_world state.memory at view t old ≡ new =
-            ap₂ (λ (k : Cache) (y : Turn). record { hosts = changed_at at (λ v. record v { cache = k; task = task_after y }) old.hosts; journal = old.journal ++ notes_of at (note_of y) }) (sym done.cache) turn ∙ sym world_is in
+            ap₂ (λ (k : Cache) (y : Turn). record { hosts = changed_at at (λ v. record v { cache = k; task = task_after y; kept = kept_after y t v.kept }) old.hosts; journal = old.journal ++ notes_of at (note_of y) }) (sym done.cache) turn ∙ sym world_is in
             let stands : WorldStands (length start) step.left new = subst (λ (w : WorldView). WorldStands (length start) step.left w) same_world (subst (λ (n : ℕ). WorldStands n step.left (stepped_world state.memory at view t old)) lines_are step.stands) in
             let own : List Note = notes_of at (note_of (own_turn state.memory view t)) in
             let all : new.journal ≡ old.journal ++ own = joined_own ∙ ap (λ (y : Turn). old.journal ++ notes_of at (note_of y)) (sym turn) in
@@ -208,7 +210,7 @@ module _ (name : List ℕ) (at lines : ℕ) (old : WorldView) (view : HostView) 
             subst (λ (vs : List HostView). Pairs HostFormed vs (forms_of new.journal)) (sym hosts)
             (subst (λ (fs : List HostForm). Pairs HostFormed (changed_at at (λ v. next) old.hosts) fs) (sym (ap forms_of joined_fault ∙ forms_both [] old.journal (fault ∷ [])))
             (pairs_changed HostFormed old.hosts forms at view f.0 (λ v. next) (λ host. record host { task = None }) is view_is f.1
-            (record { name = f.2.name ∙ sym name_is; uuid = f.2.uuid ∙ sym uuid_is; task = subst (λ (o : Option Task). Rattle.fam_journal.specs.Forms.TaskFormed next.uuid o None) (sym x.task) tt })))
+            (record { name = f.2.name ∙ sym name_is; uuid = f.2.uuid ∙ sym uuid_is; task = subst (λ (o : Option Task). Rattle.fam_journal.specs.Forms.TaskFormed next.uuid o None) (sym x.task) tt; keeps = f.2.keeps ∙ ap (λ (k : Option Kept). is_some k) (sym x.kept) })))
 
         fault_form : IsFormed old → CallForm c lines (forms_of old.journal) (fault ∷ [])
         fault_form is = inl (fault_formed_step name at lines old view t number free view_is runs x.line.0 is)
@@ -230,13 +232,13 @@ module _ (name : List ℕ) (at lines : ℕ) (old : WorldView) (view : HostView) 
             let left : Machines = with_machine at f.left None state in
             let op : Operation at state (fault ∷ []) left = record {
               outcome = Fails f.fails.through;
-              is = row_cut state at h.0 h.1 s.0 s.1 t (subst (λ (n : ℕ). StandsFor None s.0.cmd s.0.me n t s.0.words s.0.made) (sym lines_are) s.2) f.fails.through x.line f.left
+              is = row_cut state at h.0 h.1 s.0 s.1 t (subst (λ (n : ℕ). StandsAs n s.0 t) (sym lines_are) s.2) f.fails.through x.line f.left
                   (ap (λ (y : Machine). failed f.fails.through (op_of t) y) same ∙ f.fails.is);
             } in
             let stands : WorldStands (length start) left new = λ k.
             subst (λ (vs : List HostView). HostStandsAt (length start) (slice_get left.hosts k) (slice_get vs k)) (sym hosts)
             (stands_changed at view old.hosts view_is (λ v. next) (length start) state.hosts h.0 h.1 (λ y. record y { cache = f.left.cache; task = None })
-            record { name = h.2.name ∙ sym name_is; uuid = h.2.uuid ∙ sym uuid_is; cache = sym f.is.cache; task = subst (λ (o : Option Task). TaskStands (length start) None o) (sym x.task) tt } held.stands k) in
+            record { name = h.2.name ∙ sym name_is; uuid = h.2.uuid ∙ sym uuid_is; cache = sym f.is.cache; task = subst (λ (o : Option Task). TaskStands (length start) None o) (sym x.task) tt; kept = h.2.kept ∙ sym x.kept; joined = subst IsKept (sym x.kept) h.2.joined } held.stands k) in
             row_kept start state old held c lines (modelled state.memory told_is) at view number free view_is new now (fault ∷ []) left (λ y. y) op tt f.is.image joined_fault stands
 
         pub fault_call : StepCall name lines None over (media_change told faults now faults_now) old new

@@ -27,9 +27,9 @@ use Rattle.fam_world.specs.declared.fault.Moved.{Moved}
 use Rattle.fam_world.specs.declared.fault.Moved.TheVariants as moved
 use Rattle.fam_world.proofs.Saying.{step_cut, step_served}
 
--- a host that runs this task, if any, on this cache, with these notes, and what the media tells
+-- a host that runs this task, if any, on this cache and keeps nothing, with these notes, and what the media tells
 abbrev pub standing_at : HostView → Option Task → Cache → List Note → MediaState → HostStanding
-standing_at view task held notes media = record { host = record view { task = task; cache = held }; notes = notes; media = media }
+standing_at view task held notes media = record { host = record view { task = task; cache = held; kept = None }; notes = notes; media = media }
 
 -- What a result of operations tells, once it is noted.
 
@@ -67,8 +67,8 @@ module _ (at lines : ℕ) (view : HostView) where
       → HostStep at lines (is_done said) (standing_at view (Some b.task) b.old notes b.media.old) (standing_at view (kept_by said (Some b.next)) b.new notes_now b.media.new)
   done_step b said notes notes_now x modelled fits later noted =
       let a : HostChange = record {
-        old = record view { task = Some b.task; cache = b.old };
-        new = record view { task = kept_by said (Some b.next); cache = b.new };
+        old = record view { task = Some b.task; cache = b.old; kept = None };
+        new = record view { task = kept_by said (Some b.next); cache = b.new; kept = None };
         before = notes;
         after = notes_now;
         lines = lines;
@@ -78,7 +78,7 @@ module _ (at lines : ℕ) (view : HostView) where
         task = b.task;
         runs = refl;
         modelled = modelled;
-        step = step_served at b.task b.next said a (is_done said) x.goes (Some b.next) refl refl noted refl later refl x.turned x.keeps x.leaves x.within fits;
+        step = step_served at b.task b.next said a (is_done said) x.goes refl refl (Some b.next) refl refl noted refl later refl x.turned x.keeps x.leaves x.within fits;
       }
 
   -- the media failed in it
@@ -86,8 +86,8 @@ module _ (at lines : ℕ) (view : HostView) where
       → HostStep at lines true (standing_at view (Some b.task) b.old notes b.media.old) (standing_at view None b.new notes_now b.media.new)
   broken_step b line notes notes_now x modelled later noted =
       let a : HostChange = record {
-        old = record view { task = Some b.task; cache = b.old };
-        new = record view { task = None; cache = b.new };
+        old = record view { task = Some b.task; cache = b.old; kept = None };
+        new = record view { task = None; cache = b.new; kept = None };
         before = notes;
         after = notes_now;
         lines = lines;
@@ -97,7 +97,7 @@ module _ (at lines : ℕ) (view : HostView) where
         task = b.task;
         runs = refl;
         modelled = modelled;
-        step = step_cut at b.task a line noted refl later refl (left_held (op_of b.task) b.old b.new x.copies) x.failed x.rose;
+        step = step_cut at b.task a line refl noted refl later refl (left_held (op_of b.task) b.old b.new x.copies) x.failed x.rose;
       }
 
   -- operations that leave memory's image
@@ -149,8 +149,8 @@ module _ (at lines : ℕ) (view : HostView) where
       → Reached (standing_at view (Some b.task) b.old notes b.media.old) true (standing_at view None b.new notes_now b.media.new)
   broken_reached b line notes notes_now x modelled fits later noted =
       let a : HostChange = record {
-        old = record view { task = Some x.task; cache = x.held };
-        new = record view { task = None; cache = b.new };
+        old = record view { task = Some x.task; cache = x.held; kept = None };
+        new = record view { task = None; cache = b.new; kept = None };
         before = notes;
         after = notes_now;
         lines = lines;
@@ -163,7 +163,7 @@ module _ (at lines : ℕ) (view : HostView) where
           task = x.task;
           runs = refl;
           modelled = modelled;
-          step = step_cut at x.task a line noted refl later refl (left_held (op_of x.task) x.held b.new x.copies) x.failed x.rose;
+          step = step_cut at x.task a line refl noted refl later refl (left_held (op_of x.task) x.held b.new x.copies) x.failed x.rose;
         };
       }
 

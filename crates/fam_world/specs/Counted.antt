@@ -68,10 +68,10 @@ pub record HostStanding : Type 0 where
 abbrev pub host_standing : {M : Type 0} → (M → MediaState) → M → HostView → List Note → HostStanding
 host_standing state media host notes = record { host = host; notes = notes; media = state media }
 
--- with this media, of a host that runs this task, if any, on this cache
+-- with this media, of a host that runs this task, if any, on this cache, and keeps nothing of the log
 abbrev pub task_standing : {M : Type 0} → (M → MediaState) → M → HostView → Option Task → CacheState → List Note → HostStanding
 task_standing state media view task cache notes =
-    record { host = record view { task = task; cache = cache.lines }; notes = notes; media = state media }
+    record { host = record view { task = task; cache = cache.lines; kept = None }; notes = notes; media = state media }
 
 -- the task that the host has behind operations of this one
 abbrev pub task_left : Result Moved OutOfMemory → Option Task → Option Task

@@ -10,6 +10,7 @@ use Rattle.fam_machine.specs.Caches.{cell_at}
 use Rattle.fam_machine.specs.Cuts.{HasFailed, IsMachine}
 use Rattle.fam_machine.specs.OneLine.{IsHeld}
 use Rattle.fam_machine.specs.Operations.{machine, operated}
+use Rattle.fam_commands.specs.Keeping.{kept_after}
 use Rattle.fam_commands.specs.Stands.{note_of, task_after, turn_given}
 use Rattle.fam_commands.specs.Task.{Task, op_of}
 use Rattle.fam_journal.specs.CallRecords.{TaskFits, heading, own_turn}
@@ -36,6 +37,7 @@ pub record IsServed (at : ℕ) (t : Task) (a : HostChange) (notes : List Note) (
   pub word : ℕ
   pub notes_are : notes ≡ notes_of at (note_of (turn_given t word))
   pub task : a.new.task ≡ task_after (turn_given t word)
+  pub kept : a.new.kept ≡ kept_after (turn_given t word) t a.old.kept
   pub done : IfModelled a.media.old.image (λ image. IsMachine (operated (op_of t) (machine image a.old.cache)) a.media.new.image a.new.cache)
   pub own : IfModelled a.media.old.image (λ image. turn_given t word ≡ own_turn image a.old t)
   pub held : (l : ℕ) → IsHeld (cell_at a.new.cache l) → (l < a.lines) ⊎ IsHeld (cell_at a.old.cache l)
@@ -47,6 +49,7 @@ pub record IsCut (at : ℕ) (t : Task) (a : HostChange) (notes : List Note) (ove
   pub line : LineNo
   pub notes_are : notes ≡ Answered at (MediaFault line.0) ∷ []
   pub task : a.new.task ≡ None
+  pub kept : a.new.kept ≡ a.old.kept
   pub held : (l : ℕ) → IsHeld (cell_at a.new.cache l) → IsHeld (cell_at a.old.cache l)
   pub failed : IfModelled a.media.old.image (λ image. HasFailed (op_of t) (machine image a.old.cache) line a.media.new.image a.new.cache)
   pub rose : Rose a.media.old.faults a.media.new.faults

@@ -1,5 +1,5 @@
 -- A world's own hosts and notes, as contracts see them. docs/MODEL.md, "The journal".
-use Rattle.std.specs.Prelude.{ℕ, ◌==◌, ◌&&◌, not, nat_lt, Bool, List, map}
+use Rattle.std.specs.Prelude.{ℕ, ◌==◌, ◌&&◌, not, nat_lt, Bool, List, map, None}
 use Rattle.fam_machine.specs.Caches.{dirty_count}
 use Rattle.fam_journal.specs.ByWorld.{shown_host}
 use Rattle.fam_journal.specs.Machines.{HostState}
@@ -8,9 +8,9 @@ use Rattle.fam_notes.specs.declared.note.Note.{Note as Kept}
 pub use Rattle.fam_notes.specs.Notes.{note_view, notes_view}
 use Rattle.fam_world.specs.declared.hosts.Host.{Host}
 
--- a host: its task is the one that it runs
+-- a host: its task is the one that it runs; it keeps nothing of the log
 abbrev pub host_view : Host → HostView
-host_view h = record { name = h.name; uuid = h.uuid; cache = h.cache.lines; task = h.task }
+host_view h = record { name = h.name; uuid = h.uuid; cache = h.cache.lines; task = h.task; kept = None }
 
 -- all hosts
 abbrev pub views : List Host → List HostView

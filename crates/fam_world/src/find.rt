@@ -5,7 +5,7 @@ ghost use Rattle.fam_base.specs.PathOrder.{path_eq};
 ghost use Rattle.fam_base.specs.declared.cmd.Cmd.{Cmd};
 ghost use Rattle.fam_format.specs.Layout.{least_lines};
 ghost use Rattle.fam_machine.specs.HostMoves.{Move};
-ghost use Rattle.fam_journal.specs.Calls.{Begins, Declares, Halts, Moves, Steps, dirty_from, has_name, is_busy, is_same};
+ghost use Rattle.fam_journal.specs.Calls.{Begins, Declares, Halts, Moves, Steps, dirty_from, has_name, is_busy, is_engaged, is_same};
 ghost use Rattle.fam_journal.specs.ByWorld.{refusal_in, shown_host};
 ghost use Rattle.fam_journal.specs.Members.{index_of};
 ghost use Rattle.fam_journal.specs.Notes.{Note};
@@ -43,6 +43,7 @@ fn is_same(host: &Host, name: &HostName, uuid: &Uuid) -> bool
 /// Whether a host has a task.
 fn is_busy(host: &Host) -> bool
     ensures busy { result ≡ is_busy (shown_host (host_view host.now)) }
+    ensures engaged { result ≡ is_engaged (shown_host (host_view host.now)) }
     ensures task { result ≡ is_some host.now.task }
 {
     match host.task {
@@ -86,7 +87,7 @@ fn same_host(hosts: &Vec<Host>, name: &HostName, uuid: &Uuid) -> Option<usize>
 
 /// The first host that has a task.
 pub(crate) fn busy_host(hosts: &Vec<Host>) -> Option<usize>
-    ensures is { result ≡ index_of is_busy (shown hosts.now.items) }
+    ensures is { result ≡ index_of is_engaged (shown hosts.now.items) }
     ensures within { IfSome result (λ at. at < vec_len hosts.now) }
 {
     for at in 0..hosts.len() {

@@ -3,7 +3,7 @@
 ghost use Rattle.std.specs.Prelude.{◌≡◌, ◌<◌, ◌≤◌, None, Some, vec_len};
 ghost use Rattle.std.specs.FinMap as map;
 ghost use Rattle.fam_journal.specs.Members.{changed_at};
-ghost use Rattle.fam_commands.specs.Task.{starting};
+ghost use Rattle.fam_commands.specs.Task.{mounted};
 ghost use Rattle.fam_format.specs.Layout.{least_lines};
 ghost use Rattle.fam_base.specs.Commands.{IsSoundCmd};
 ghost use Rattle.fam_tasks.specs.Sound.{most_lines};
@@ -45,7 +45,7 @@ fn begin_on(alloc: Global, host: &mut Host, lines: u64, cmd: Cmd)
     requires command { IsSoundCmd cmd }
     requires least { least_lines ≤ lines }
     requires most { lines ≤ most_lines }
-    ensures { host_view host.new ≡ record (host_view host.old) { task = Some (starting cmd host.old.uuid lines) } }
+    ensures { host_view host.new ≡ record (host_view host.old) { task = Some (mounted (host_view host.old).kept cmd host.old.uuid lines) } }
 {
     let mut task = Task::new(alloc, cmd, host.uuid, lines);
     if host.has_begun {
@@ -69,7 +69,7 @@ pub(crate) fn begin_task(alloc: Global, hosts: &mut Vec<Host>, at: usize, lines:
     requires least { least_lines ≤ lines }
     requires most { lines ≤ most_lines }
     ensures views { views hosts.new.items
-        ≡ changed_at at (λ v. record v { task = Some (starting cmd v.uuid lines) }) (views hosts.old.items) }
+        ≡ changed_at at (λ v. record v { task = Some (mounted v.kept cmd v.uuid lines) }) (views hosts.old.items) }
     ensures len { vec_len hosts.new ≡ vec_len hosts.old }
 {
     begin_on(alloc, &mut hosts[at], lines, cmd);
@@ -88,7 +88,7 @@ pub(crate) fn end_task(hosts: &mut Vec<Host>, at: usize)
 pub(crate) fn lose(hosts: &mut Vec<Host>, at: usize)
     requires within { at < vec_len hosts.old }
     ensures views { views hosts.new.items
-        ≡ changed_at at (λ v. record v { cache = map.empty; task = None }) (views hosts.old.items) }
+        ≡ changed_at at (λ v. record v { cache = map.empty; task = None; kept = None }) (views hosts.old.items) }
     ensures len { vec_len hosts.new ≡ vec_len hosts.old }
 {
     let host = &mut hosts[at];

@@ -3,7 +3,7 @@ use Rattle.std.proofs.Common.{ℕ, suc, ◌≡◌, ◌<◌, ◌≤◌, ◌+◌, 
 use Rattle.std.specs.Prelude.{slice_get}
 use Rattle.std.proofs.lemmas.Bool.{cases_lt}
 use Rattle.fam_base.specs.declared.cmd.Cmd.{Cmd}
-use Rattle.fam_base.specs.declared.cmd.Cmd.TheVariants.{Fsck, Logplay, Mkdir, Creat, Cp, Verify, Read, Check}
+use Rattle.fam_base.specs.declared.cmd.Cmd.TheVariants.{Fsck, Logplay, Mount, Mkdir, Creat, Cp, Verify, Read, Check}
 use Rattle.fam_base.specs.declared.entry.Params.{Params}
 use Rattle.fam_base.specs.declared.entry.Entry.{Entry}
 use Rattle.fam_format.specs.Layout.{slot_line}
@@ -28,6 +28,7 @@ use Rattle.fam_commands.proofs.Steps.Ties.{AreRead, SlotsKnown, TaskSlots, note_
 abbrev pub ReadsLog : Cmd → Type 0
 ReadsLog Fsck = ⊥
 ReadsLog Logplay = Unit {0}
+ReadsLog Mount = Unit {0}
 ReadsLog (Mkdir path attr) = Unit {0}
 ReadsLog (Creat path size attr stripe fill) = Unit {0}
 ReadsLog (Cp path attr stripe bytes) = Unit {0}

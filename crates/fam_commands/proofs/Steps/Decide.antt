@@ -6,7 +6,7 @@ use Rattle.std.proofs.lemmas.Bool.{cases_lt, cases_eq, cases_Bool, eq-eqb, ne_eq
 use Rattle.std.proofs.lemmas.List.{length-map, drop_all, nil_from_length}
 use Rattle.std.proofs.lemmas.List.FromFn.{length-map-range_with_len}
 use Rattle.fam_base.specs.declared.cmd.Cmd.{Cmd}
-use Rattle.fam_base.specs.declared.cmd.Cmd.TheVariants.{Logplay, Mkdir, Creat, Cp, Verify, Read, Check, Fsck}
+use Rattle.fam_base.specs.declared.cmd.Cmd.TheVariants.{Logplay, Mount, Mkdir, Creat, Cp, Verify, Read, Check, Fsck}
 use Rattle.fam_base.specs.declared.cmd.Content.{Content}
 use Rattle.fam_base.specs.declared.cmd.Content.TheVariants as content
 use Rattle.fam_base.specs.declared.entry.Entry.{Entry}
@@ -195,6 +195,12 @@ module _ (t : Task) (words : List ℕ) (made : ℕ) (at_made : made ≡ decided_
       ∙ ap (λ (l : List Entry). Answer (reply.Played (length t.entries) (replay l))) (entries_of_files Logplay words t.params (first_in t) t.entries))
       at_made
 
+  mount_by : AreRead t.params (used_in t) t.entries words t.gate → Outcome t (decide_turn Mount t) (decision_note Mount t.me words t.lines t.params (first_in t) t.entries) words made
+  mount_by read =
+      ends t (reply.Mounted (length t.entries)) _ words made
+      (ap (λ (n : ℕ). Answer (reply.Mounted n)) (count_of_files Mount words t.params (first_in t) t.entries))
+      at_made
+
   check_by : (listing : List Entry) → Outcome t (decide_turn (Check listing) t) (decision_note (Check listing) t.me words t.lines t.params (first_in t) t.entries) words made
   check_by listing =
       ends t (reply.Checks (length t.entries) (checked (replay t.entries) listing)) _ words made
@@ -257,6 +263,8 @@ decide_as Fsck t words made (h, long, is) =
     (fsck_decides (record t { cmd = Fsck }) words (made + 1) (omega arith) h.gated h.known)
 decide_as Logplay t words made (h, long, is) =
     outcome_as (record t { cmd = Logplay }) _ _ _ _ words (made + 1) refl (ap (decision_note Logplay t.me words t.lines t.params (length (used t.kept Logplay t.params t.gate))) (entries_now Logplay t words t.gate tt refl h)) (logplay_by (record t { cmd = Logplay }) words (made + 1) (decided_at (first_told (record t { cmd = Logplay }) words) (first_in (record t { cmd = Logplay })) (fed_gate words) t.gate (made + 1) (first_told_is (record t { cmd = Logplay }) words t.gate h) h.gated.gate_is (omega arith)) h.known)
+decide_as Mount t words made (h, long, is) =
+    outcome_as (record t { cmd = Mount }) _ _ _ _ words (made + 1) refl (ap (decision_note Mount t.me words t.lines t.params (length (used t.kept Mount t.params t.gate))) (entries_now Mount t words t.gate tt refl h)) (mount_by (record t { cmd = Mount }) words (made + 1) (decided_at (first_told (record t { cmd = Mount }) words) (first_in (record t { cmd = Mount })) (fed_gate words) t.gate (made + 1) (first_told_is (record t { cmd = Mount }) words t.gate h) h.gated.gate_is (omega arith)) h.known)
 decide_as (Check listing) t words made (h, long, is) =
     outcome_as (record t { cmd = Check listing }) _ _ _ _ words (made + 1) refl (ap (decision_note (Check listing) t.me words t.lines t.params (length (used t.kept (Check listing) t.params t.gate))) (entries_now (Check listing) t words t.gate tt refl h)) (check_by (record t { cmd = Check listing }) words (made + 1) (decided_at (first_told (record t { cmd = Check listing }) words) (first_in (record t { cmd = Check listing })) (fed_gate words) t.gate (made + 1) (first_told_is (record t { cmd = Check listing }) words t.gate h) h.gated.gate_is (omega arith)) listing)
 decide_as (Mkdir path attr) t words made (h, long, is) =

@@ -3,7 +3,7 @@ use Rattle.std.proofs.Common.{ℕ, ◌≡◌, ◌<◌, ◌≤◌, ◌+◌, ◌-�
 use Rattle.std.specs.Prelude.{find, slice_index, nat_lt, if◌then◌else◌, ◌==◌}
 use Rattle.std.specs.FinMap as finmap
 use Rattle.fam_base.specs.declared.cmd.Cmd.{Cmd}
-use Rattle.fam_base.specs.declared.cmd.Cmd.TheVariants.{Verify, Read, Fsck, Logplay, Mkdir, Creat, Cp, Check}
+use Rattle.fam_base.specs.declared.cmd.Cmd.TheVariants.{Verify, Read, Fsck, Logplay, Mount, Mkdir, Creat, Cp, Check}
 use Rattle.fam_base.specs.declared.cmd.Content.{Content}
 use Rattle.fam_base.specs.declared.entry.Params.{Params}
 use Rattle.fam_base.specs.declared.entry.Entry.{Entry}
@@ -69,6 +69,7 @@ pub record AreRead (p : Params) (used entries : List Entry) (words : List ℕ) (
 abbrev pub SlotsKnown : Cmd → Params → ℕ → List Entry → List Entry → Survey → List ℕ → ℕ → Type 0
 SlotsKnown Fsck p gate used entries survey words i = survey ≡ survey_slots (fed p 0 words) p gate 0 i no_survey
 SlotsKnown Logplay p gate used entries survey words i = AreRead p used entries words i
+SlotsKnown Mount p gate used entries survey words i = AreRead p used entries words i
 SlotsKnown (Mkdir path attr) p gate used entries survey words i = AreRead p used entries words i
 SlotsKnown (Creat path size attr stripe fill) p gate used entries survey words i = AreRead p used entries words i
 SlotsKnown (Cp path attr stripe bytes) p gate used entries survey words i = AreRead p used entries words i
@@ -116,6 +117,7 @@ FileKnown (Verify path against) f gate entries entry words j =
     (e : Entry) × IsChosen (Verify path against) path entries entry e × IsSame against e (drop (head_words + first_format.words * (gate - f)) words) j × (head_words + first_format.words * (gate - f) + line_words * j ≤ length words)
 FileKnown (Read path offset count) f gate entries entry words j = (e : Entry) × IsChosen (Read path offset count) path entries entry e
 FileKnown Logplay f gate entries entry words j = ⊥
+FileKnown Mount f gate entries entry words j = ⊥
 FileKnown (Mkdir path attr) f gate entries entry words j = ⊥
 FileKnown (Creat path size attr stripe fill) f gate entries entry words j = ⊥
 FileKnown (Cp path attr stripe bytes) f gate entries entry words j = ⊥
@@ -150,6 +152,7 @@ part_made t File = decided_and t.params (first_in t) t.gate 0
 abbrev pub done_with : Part → Cmd → ℕ → ℕ
 done_with File (Verify path against) j = line_words * j
 done_with File Logplay j = 0
+done_with File Mount j = 0
 done_with File (Mkdir path attr) j = 0
 done_with File (Creat path size attr stripe fill) j = 0
 done_with File (Cp path attr stripe bytes) j = 0

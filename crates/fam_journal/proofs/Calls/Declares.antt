@@ -12,7 +12,7 @@ use Rattle.fam_protocol.specs.SharedState.{SharedState}
 use Rattle.fam_protocol.specs.Invariant.{Invariant}
 use Rattle.fam_protocol.proofs.Hosts.Events.{invariant_declared}
 use Rattle.fam_journal.specs.View.{HostView, HostStandsAt, WorldView}
-use Rattle.fam_journal.specs.Kept.{Agrees, ToldAt, copy_at, hosts_of, run_at, shared_of, settled_of, uuid_at}
+use Rattle.fam_journal.specs.Kept.{Agrees, ToldAt, copy_at, hosts_of, kept_at, run_at, shared_of, settled_of, uuid_at}
 use Rattle.fam_journal.specs.Machines.{HostState, Machines}
 use Rattle.fam_journal.specs.Members.{index_from}
 use Rattle.fam_journal.specs.Notes.{Host}
@@ -60,10 +60,10 @@ module _ (start : Image) (state : Machines) (world : WorldView) (held : Agrees s
   x = past_of start world.journal
 
   abbrev new_view : HostView
-  new_view = record { name = name; uuid = uuid; cache = finmap.empty; task = None }
+  new_view = record { name = name; uuid = uuid; cache = finmap.empty; task = None; kept = None }
 
   abbrev new_state : HostState
-  new_state = record { name = name; uuid = uuid; cache = finmap.empty; task = None }
+  new_state = record { name = name; uuid = uuid; cache = finmap.empty; task = None; kept = None }
 
   abbrev views : List HostView
   views = world.hosts ++ new_view ∷ []
@@ -114,6 +114,15 @@ module _ (start : Image) (state : Machines) (world : WorldView) (held : Agrees s
         | inr ne ↦ ap₂ run_at (member_before world.hosts new_view k ne) (told_before k ne)
       ]
 
+  keeps : (k : ℕ) → kept_at (slice_get views k) ≡ kept_at (slice_get world.hosts k)
+  keeps k =
+      elim (cases_eq k n) [
+        | inl e ↦
+            subst (λ (i : ℕ). kept_at (slice_get views i) ≡ kept_at (slice_get world.hosts i)) (sym e)
+            (ap kept_at (member_last world.hosts new_view) ∙ ap kept_at (sym view_past))
+        | inr ne ↦ ap kept_at (member_before world.hosts new_view k ne)
+      ]
+
   pub declared_held : Agrees start (record { memory = state.memory; hosts = state.hosts ++ new_state ∷ [] }) (record { hosts = views; journal = world.journal ++ Host name uuid ∷ [] }) state.memory
   declared_held =
       held_with start state world state.memory held (record { memory = state.memory; hosts = state.hosts ++ new_state ∷ [] }) views (Host name uuid ∷ []) held.lines held.normal (tt, tt) stands told
@@ -125,7 +134,7 @@ module _ (start : Image) (state : Machines) (world : WorldView) (held : Agrees s
         is = ap uuid_at (member_last world.hosts new_view);
         uuids = λ k ne. ap uuid_at (member_before world.hosts new_view k ne);
         runs = runs;
-        kept = λ k. refl;
+        kept = keeps;
       }))
     where
       stands : (k : ℕ) → HostStandsAt (length start) (slice_get (state.hosts ++ new_state ∷ []) k) (slice_get views k)
@@ -135,7 +144,7 @@ module _ (start : Image) (state : Machines) (world : WorldView) (held : Agrees s
                 subst (λ (i : ℕ). HostStandsAt (length start) (slice_get (state.hosts ++ new_state ∷ []) i) (slice_get views i)) (sym e)
                 (subst (λ (o : Option HostState). HostStandsAt (length start) o (slice_get views n)) (sym state_last)
                 (subst (λ (o : Option HostView). HostStandsAt (length start) (Some new_state) o) (sym (member_last world.hosts new_view))
-                record { name = refl; uuid = refl; cache = refl; task = tt }))
+                record { name = refl; uuid = refl; cache = refl; task = tt; kept = refl; joined = tt }))
             | inr ne ↦
                 subst (λ (o : Option HostState). HostStandsAt (length start) o (slice_get views k)) (sym (state_before k ne))
                 (subst (λ (o : Option HostView). HostStandsAt (length start) (slice_get state.hosts k) o) (sym (member_before world.hosts new_view k ne)) (held.stands k))

@@ -5,7 +5,7 @@ use Rattle.std.proofs.lemmas.Bool.{cases_eq}
 use Rattle.fam_base.specs.Image.{Image, eight}
 use Rattle.fam_protocol.specs.Invariant.{Invariant}
 use Rattle.fam_journal.specs.View.{HostStands, HostView, HostStandsAt, WorldView}
-use Rattle.fam_journal.specs.Kept.{Agrees, HostTold, ToldAt, hosts_of, run_at, shared_of, settled_of, uuid_at}
+use Rattle.fam_journal.specs.Kept.{Agrees, HostTold, ToldAt, hosts_of, kept_at, run_at, shared_of, settled_of, uuid_at}
 use Rattle.fam_journal.specs.Legal.{LegalBehind}
 use Rattle.fam_journal.specs.Machines.{HostState, Machines}
 use Rattle.fam_journal.specs.Members.{changed_at}
@@ -70,6 +70,23 @@ module _ (h : ℕ) (view : HostView) (views : List HostView) (view_is : slice_ge
             subst (λ (n : ℕ). uuid_at (slice_get (changed_at h f views) n) ≡ uuid_at (slice_get views n)) (sym e)
             (ap uuid_at (changed_at_member h f views view view_is) ∙ ap Some same ∙ ap uuid_at (sym view_is))
         | inr ne ↦ ap uuid_at (changed_other h k f views ne)
+      ]
+
+  -- what hosts keep
+  pub kept_here : kept_at (slice_get (changed_at h f views) h) ≡ (f view).kept
+  kept_here = ap kept_at (changed_at_member h f views view view_is)
+
+  pub kept_was : kept_at (slice_get views h) ≡ view.kept
+  kept_was = ap kept_at view_is
+
+  pub kept_else : (k : ℕ) → k ≢ h → kept_at (slice_get (changed_at h f views) k) ≡ kept_at (slice_get views k)
+  kept_else k ne = ap kept_at (changed_other h k f views ne)
+
+  pub kept_same : (f view).kept ≡ view.kept → (k : ℕ) → kept_at (slice_get (changed_at h f views) k) ≡ kept_at (slice_get views k)
+  kept_same same k =
+      elim (cases_eq k h) [
+        | inl e ↦ subst (λ (n : ℕ). kept_at (slice_get (changed_at h f views) n) ≡ kept_at (slice_get views n)) (sym e) (kept_here ∙ same ∙ sym kept_was)
+        | inr ne ↦ kept_else k ne
       ]
 
   pub runs_else : (old new : List HostPast) → ((k : ℕ) → k ≢ h → slice_get new k ≡ slice_get old k) → (k : ℕ) → k ≢ h

@@ -27,14 +27,14 @@ use Rattle.fam_rules.specs.Written.{format_puts, formatted}
 use Rattle.fam_rules.specs.WrittenLaws.{IsFormatted}
 use Rattle.fam_rules.proofs.FormattedProofs.{lines_formatted}
 use Rattle.fam_journal.specs.View.{HostView, WorldView}
-use Rattle.fam_journal.specs.Kept.{Agrees, copy_at, settled_of, hosts_of, run_at, run_with, shared_of, uuid_at}
+use Rattle.fam_journal.specs.Kept.{Agrees, copy_at, settled_of, hosts_of, kept_at, run_at, run_with, shared_of, uuid_at}
 use Rattle.fam_journal.specs.Machines.{HostState, Machines, with_machine}
 use Rattle.fam_journal.specs.Members.{changed_at}
 use Rattle.fam_machine.specs.Mkfs.{mkfs_ops, read_ops, drop_lines}
 use Rattle.fam_journal.specs.declared.refusal.Refusal.{Refusal}
 use Rattle.fam_journal.specs.Notes.{Made, Refused}
 use Rattle.fam_journal.specs.Past.{HostPast, Past, past_of}
-use Rattle.fam_journal.proofs.Calls.Hosts.{held_with, stands_changed, told_changed, uuids_same}
+use Rattle.fam_journal.proofs.Calls.Hosts.{held_with, kept_same, stands_changed, told_changed, uuids_same}
 use Rattle.fam_journal.proofs.Calls.Members.{changed_at_member, changed_other}
 use Rattle.fam_machine.specs.EightWords.{HasEightWords}
 use Rattle.fam_machine.proofs.MkfsOps.{made_dirty, all_left, formatted_normal, prefix_dropped, gate_dropped, header_dropped, magic_dropped, read_in_turn, read_length, read_normal, rest_dropped, whole_left}
@@ -61,7 +61,7 @@ module _ (start : Image) (state : Machines) (world : WorldView) (held : Agrees s
 
   -- A file system is made.
 
-  module _ (p : Params) (sound : SoundParams p) (device : p.device ≡ line_bytes * length state.memory) (mine : d.view.uuid ≡ p.master) (idle : (k : ℕ) (v : HostView) → slice_get world.hosts k ≡ Some v → v.task ≡ None) (clean : (k : ℕ) (v : HostView) → k ≢ h → slice_get world.hosts k ≡ Some v → (l : ℕ) → IsDirty (cell_at v.cache l) → ⊥) where
+  module _ (p : Params) (sound : SoundParams p) (device : p.device ≡ line_bytes * length state.memory) (mine : d.view.uuid ≡ p.master) (idle : (k : ℕ) (v : HostView) → slice_get world.hosts k ≡ Some v → v.task ≡ None) (bare : (k : ℕ) (v : HostView) → slice_get world.hosts k ≡ Some v → v.kept ≡ None) (clean : (k : ℕ) (v : HostView) → k ≢ h → slice_get world.hosts k ≡ Some v → (l : ℕ) → IsDirty (cell_at v.cache l) → ⊥) where
     abbrev done : Machine
     done = operated_all (mkfs_ops p) m
 
@@ -140,12 +140,19 @@ module _ (start : Image) (state : Machines) (world : WorldView) (held : Agrees s
               ∙ no_run (slice_get world.hosts k) (slice_get x.hosts k) (idle k)
         ]
 
+    none_kept : (k : ℕ) (o : Option HostView) → slice_get world.hosts k ≡ o → kept_at o ≡ None
+    none_kept k None is = refl
+    none_kept k (Some v) is = bare k v is
+
+    keep_none : (k : ℕ) → kept_at (slice_get views k) ≡ None
+    keep_none k = kept_same h d.view world.hosts d.view_is makes refl k ∙ none_kept k (slice_get world.hosts k) refl
+
     are : AreHosts (hosts_of views x.hosts) (shared_of state.memory world.hosts)
     are = record {
       apart = λ a b id is_a is_b. held.invariant.declared.apart a b id (sym (uuids_same h d.view world.hosts d.view_is makes refl a) ∙ is_a) (sym (uuids_same h d.view world.hosts d.view_is makes refl b) ∙ is_b);
       absent = λ k l none. held.invariant.declared.absent k l (sym (uuids_same h d.view world.hosts d.view_is makes refl k) ∙ none);
       idle = λ k none. run_same k;
-      bare = λ k none. refl;
+      bare = λ k none. keep_none k;
     }
 
     never_dirty : (k l : ℕ) → k ≢ h → (o : Option HostView) → slice_get world.hosts k ≡ o → IsDirty (copy_at o l) → ⊥
@@ -158,7 +165,7 @@ module _ (start : Image) (state : Machines) (world : WorldView) (held : Agrees s
       device = omega (arith, device, held.lines);
       maker_is = ap uuid_at (changed_at_member h makes world.hosts d.view d.view_is) ∙ ap Some mine;
       idle = run_same;
-      bare = λ k. refl;
+      bare = keep_none;
       clean = λ k l ne dirty. never_dirty k l ne (slice_get world.hosts k) refl dirty;
       inside = λ l dirty. dirty_inside (settled_of x.state) (length start) (hosts_of world.hosts x.hosts) (shared_of state.memory world.hosts) held.invariant.stage h l dirty;
     }
@@ -168,7 +175,7 @@ module _ (start : Image) (state : Machines) (world : WorldView) (held : Agrees s
         held_with start state world state.memory held (with_machine h left d.host.task state) views (Made h p ∷ [])
         (form.count ∙ read_length m ∙ held.lines) (formatted_normal p (operated_all read_ops m).image (read_normal m held.normal)) (tt, tt)
         (stands_changed h d.view world.hosts d.view_is makes (length start) state.hosts d.host d.host_is (λ z. record z { cache = left.cache; task = d.host.task })
-        record { name = d.stands.name; uuid = d.stands.uuid; cache = refl; task = d.stands.task } held.stands)
+        record { name = d.stands.name; uuid = d.stands.uuid; cache = refl; task = d.stands.task; kept = d.stands.kept; joined = d.stands.joined } held.stands)
         (told_changed h d.view world.hosts d.view_is makes x.hosts x.hosts d.told d.told_is (λ k ne. refl)
         record { name = d.host_told.name; uuid = d.host_told.uuid; task = d.host_told.task } held.told)
         (invariant_formatted h p (length start) (hosts_of views x.hosts) (shared_of state.memory world.hosts) (shared_of left.image views) may formats are wide)
@@ -223,7 +230,7 @@ module _ (start : Image) (state : Machines) (world : WorldView) (h : ℕ) (d : D
     view_is = changed_at_member h (λ (v : HostView). record v { cache = z.cache }) world.hosts d.view d.view_is;
     host = record d.host { cache = z.cache };
     host_is = changed_at_member h (λ (s : HostState). record s { cache = z.cache; task = d.host.task }) state.hosts d.host d.host_is;
-    stands = record { name = d.stands.name; uuid = d.stands.uuid; cache = refl; task = d.stands.task };
+    stands = record { name = d.stands.name; uuid = d.stands.uuid; cache = refl; task = d.stands.task; kept = d.stands.kept; joined = d.stands.joined };
     told = d.told;
     told_is = d.told_is;
     host_told = record { name = d.host_told.name; uuid = d.host_told.uuid; task = d.host_told.task };

@@ -3,7 +3,9 @@ use Rattle.std.proofs.Common.{◌≡◌, ℕ, Bool, true, List, length, Option, 
 use Rattle.std.specs.Prelude.{slice_get, unwrap_or, is_some, not}
 use Rattle.fam_machine.specs.Caches.{Cache}
 use Rattle.fam_machine.specs.Operations.{Machine, given, operated}
-use Rattle.fam_commands.specs.Stands.{StandsFor, note_of, task_after, turn_given}
+use Rattle.fam_commands.specs.Keeping.{kept_after}
+use Rattle.fam_commands.specs.Kept.{IsKept, Kept}
+use Rattle.fam_commands.specs.Stands.{note_of, task_after, turn_given}
 use Rattle.fam_commands.specs.Task.{Task, op_of}
 use Rattle.fam_commands.specs.Turns.{Turn}
 use Rattle.fam_journal.specs.declared.refusal.Refusal.{Refusal}
@@ -12,14 +14,14 @@ use Rattle.fam_journal.specs.Calls as call
 use Rattle.fam_journal.specs.Calls.{ActsAt, Acts, AtNumber, ByRefusal, OnHost, busy_at, is_busy_host, number_of, on_host, refusal_of, when}
 use Rattle.fam_journal.specs.CallRecords.{IsStepped}
 use Rattle.fam_journal.specs.Machines as machine
-use Rattle.fam_journal.specs.Machines.{HostState, Machines, Passes, TaskState, machine_of, notes_of, task_on, with_machine}
+use Rattle.fam_journal.specs.Machines.{HostState, Machines, Passes, TaskState, machine_of, notes_of, task_on, with_parts}
 use Rattle.fam_journal.specs.Notes.{Note}
-use Rattle.fam_journal.specs.View.{HostStands, HostView, HostStandsAt, TaskStands, WorldStands, WorldView}
+use Rattle.fam_journal.specs.View.{HostStands, HostView, HostStandsAt, StandsAs, TaskStands, WorldStands, WorldView}
 use Rattle.fam_journal.specs.ByWorld.{number_in}
 use Rattle.fam_journal.proofs.Calls.Hosts.{stands_changed}
 use Rattle.fam_journal.proofs.Calls.Shown.{number_shown}
 use Rattle.fam_journal.proofs.Calls.Stepped.{find_host, find_task}
-use Rattle.fam_journal.proofs.Calls.TaskRows.{row_served, task_stands}
+use Rattle.fam_journal.proofs.Calls.TaskRows.{kept_joined, row_served, task_stands}
 
 module _ (state : Machines) (world : WorldView) (stands : WorldStands (length state.memory) state world) (name : List ℕ) (h : ℕ) (number : number_in name world ≡ Some h) (view : HostView) (view_is : slice_get world.hosts h ≡ Some view) (t : Task) (runs : view.task ≡ Some t) where
   abbrev lines : ℕ
@@ -37,12 +39,12 @@ module _ (state : Machines) (world : WorldView) (stands : WorldStands (length st
   abbrev turn : Turn
   turn = turn_given t word
 
-  module _ (host : HostState) (host_is : slice_get state.hosts h ≡ Some host) (mine : HostStands lines host view) (s : TaskState) (s_is : host.task ≡ Some s) (standing : StandsFor None s.cmd s.me lines t s.words s.made) where
+  module _ (host : HostState) (host_is : slice_get state.hosts h ≡ Some host) (mine : HostStands lines host view) (s : TaskState) (s_is : host.task ≡ Some s) (standing : StandsAs lines s t) where
     abbrev notes : List Note
     notes = notes_of h (note_of turn)
 
     abbrev left : Machines
-    left = with_machine h after (machine.task_behind (note_of turn) (task_on s (given (op_of t) m))) state
+    left = with_parts h after (machine.task_behind (note_of turn) (task_on s (given (op_of t) m))) (kept_after turn t host.kept) state
 
     machine_is : machine_of state host ≡ m
     machine_is = ap (λ (c : Cache). record { image = state.memory; cache = c }) mine.cache
@@ -62,13 +64,18 @@ module _ (state : Machines) (world : WorldView) (stands : WorldStands (length st
         subst (λ (o : Option ℕ). AtNumber o state (λ h host. ActsAt (call.Steps name) h host state notes left)) (sym number_is)
         (subst (λ (o : Option HostState). OnHost o (λ host. ActsAt (call.Steps name) h host state notes left)) (sym host_is) record { outcome = Passes; is = row_served state h host host_is s s_is lines refl t standing m machine_is turn refl })
 
+    joined : IsKept (kept_after turn t view.kept)
+    joined =
+        subst (λ (k : Option Kept). IsKept (kept_after turn t k)) mine.kept
+        (kept_joined state h host host_is s s_is lines refl t standing m machine_is turn refl (subst IsKept (sym mine.kept) mine.joined))
+
     stepped : IsStepped name h view t state world
     stepped = record {
       left = left;
       row = subst (λ (o : Option Refusal). ByRefusal name o notes state left (Acts (call.Steps name) state notes left)) (sym free) acts;
       memory = refl;
-      stands = stands_changed h view world.hosts view_is (λ v. record v { cache = after.cache; task = task_after turn }) lines state.hosts host host_is (λ z. record z { cache = after.cache; task = machine.task_behind (note_of turn) (task_on s (given (op_of t) m)) })
-          record { name = mine.name; uuid = mine.uuid; cache = refl; task = task_stands state h host host_is s s_is lines refl t standing m machine_is turn refl } stands;
+      stands = stands_changed h view world.hosts view_is (λ v. record v { cache = after.cache; task = task_after turn; kept = kept_after turn t v.kept }) lines state.hosts host host_is (λ z. record z { cache = after.cache; task = machine.task_behind (note_of turn) (task_on s (given (op_of t) m)); kept = kept_after turn t host.kept })
+          record { name = mine.name; uuid = mine.uuid; cache = refl; task = task_stands state h host host_is s s_is lines refl t standing m machine_is turn refl; kept = ap (kept_after turn t) mine.kept; joined = joined } stands;
     }
 
   pub own_step : IsStepped name h view t state world

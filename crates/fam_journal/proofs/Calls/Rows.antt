@@ -14,7 +14,8 @@ use Rattle.fam_machine.specs.Caches.{cell_at, with_cell}
 use Rattle.fam_machine.specs.Moves.{Transfers}
 use Rattle.fam_machine.specs.Operations.{machine}
 use Rattle.fam_commands.specs.Stands as standing
-use Rattle.fam_commands.specs.Task.{starting}
+use Rattle.fam_commands.specs.Kept.{Kept}
+use Rattle.fam_commands.specs.Task.{mounted}
 use Rattle.fam_machine.proofs.CacheLemmas.{cell_at-empty}
 use Rattle.fam_protocol.specs.After.{Run}
 use Rattle.fam_protocol.specs.Events.{Stops}
@@ -25,12 +26,12 @@ use Rattle.fam_protocol.proofs.Hosts.Events.{invariant_begun, invariant_halted, 
 use Rattle.fam_protocol.proofs.Hosts.Steps.{invariant_transferred}
 use Rattle.fam_journal.specs.declared.refusal.Refusal.{Refusal}
 use Rattle.fam_journal.specs.View.{HostStands, HostView, HostStandsAt, TaskStands, WorldView}
-use Rattle.fam_journal.specs.Kept.{Agrees, HostTold, ToldAt, copy_at, hosts_of, run_at, shared_of, settled_of, uuid_at}
-use Rattle.fam_journal.specs.Machines.{HostState, Machines, task_begun, with_machine, with_task}
+use Rattle.fam_journal.specs.Kept.{Agrees, HostTold, ToldAt, copy_at, hosts_of, kept_at, run_at, shared_of, settled_of, uuid_at}
+use Rattle.fam_journal.specs.Machines.{HostState, Machines, task_begun, with_parts, with_machine, with_task}
 use Rattle.fam_journal.specs.Members.{changed_at}
 use Rattle.fam_journal.specs.Notes.{Halt, Refused, Start, Stop}
 use Rattle.fam_journal.specs.Past.{HostPast, Past, past_behind, past_of}
-use Rattle.fam_journal.proofs.Calls.Hosts.{held_with, run_here, runs_else, stands_changed, told_changed, uuids_same}
+use Rattle.fam_journal.proofs.Calls.Hosts.{held_with, kept_else, kept_here, kept_same, kept_was, run_here, runs_else, stands_changed, told_changed, uuids_same}
 use Rattle.fam_protocol.proofs.Hosts.Acts.{transfers_by}
 use Rattle.fam_journal.proofs.Calls.Views.{acts_at}
 use Rattle.fam_journal.proofs.Calls.Members.{changed_at_member, changed_other}
@@ -101,7 +102,7 @@ module _ (start : Image) (state : Machines) (world : WorldView) (held : Agrees s
 
   module _ (cmd : Cmd) (command : IsCommand cmd) (enough : least_lines ≤ length start) where
     abbrev begins : HostView → HostView
-    begins v = record v { task = Some (starting cmd d.view.uuid (length start)) }
+    begins v = record v { task = Some (mounted d.view.kept cmd d.view.uuid (length start)) }
 
     abbrev told_begun : HostPast
     told_begun = record d.told { cmd = Some cmd; floor = None; wrote = None }
@@ -118,15 +119,18 @@ module _ (start : Image) (state : Machines) (world : WorldView) (held : Agrees s
     begun_shared : shared_of state.memory (changed_at h begins world.hosts) ≡ shared_of state.memory world.hosts
     begun_shared = cache_kept begins (λ l. refl) state.memory
 
-    pub begun_held : Agrees start (with_task h (Some (task_begun cmd d.host.uuid)) state) (record { hosts = changed_at h begins world.hosts; journal = world.journal ++ Start h cmd ∷ [] }) state.memory
+    pub begun_held : Agrees start (with_task h (Some (task_begun d.host.kept cmd d.host.uuid)) state) (record { hosts = changed_at h begins world.hosts; journal = world.journal ++ Start h cmd ∷ [] }) state.memory
     begun_held =
-        held_with start state world state.memory held (with_task h (Some (task_begun cmd d.host.uuid)) state) (changed_at h begins world.hosts) (Start h cmd ∷ []) held.lines held.normal (tt, tt)
-        (stands_changed h d.view world.hosts d.view_is begins (length start) state.hosts d.host d.host_is (λ z. record z { task = Some (task_begun cmd d.host.uuid) })
+        held_with start state world state.memory held (with_task h (Some (task_begun d.host.kept cmd d.host.uuid)) state) (changed_at h begins world.hosts) (Start h cmd ∷ []) held.lines held.normal (tt, tt)
+        (stands_changed h d.view world.hosts d.view_is begins (length start) state.hosts d.host d.host_is (λ z. record z { task = Some (task_begun d.host.kept cmd d.host.uuid) })
         record {
           name = d.stands.name;
           uuid = d.stands.uuid;
           cache = d.stands.cache;
-          task = subst (λ (id : List ℕ). TaskStands (length start) (Some (task_begun cmd id)) (Some (starting cmd d.view.uuid (length start)))) (sym d.stands.uuid) standing.starts;
+          task = subst (λ (k : Option Kept). TaskStands (length start) (Some (task_begun k cmd d.host.uuid)) (Some (mounted d.view.kept cmd d.view.uuid (length start)))) (sym d.stands.kept)
+              (subst (λ (id : List ℕ). TaskStands (length start) (Some (task_begun d.view.kept cmd id)) (Some (mounted d.view.kept cmd d.view.uuid (length start)))) (sym d.stands.uuid) record { joined = d.stands.joined; stands = standing.starts });
+          kept = d.stands.kept;
+          joined = d.stands.joined;
         } held.stands)
         (told_changed h d.view world.hosts d.view_is begins x.hosts y.hosts told_begun begun_told_is begun_told_else
         record { name = d.host_told.name; uuid = d.host_told.uuid; task = record { cmd = refl } } held.told)
@@ -136,10 +140,12 @@ module _ (start : Image) (state : Machines) (world : WorldView) (held : Agrees s
           me = d.view.uuid;
           declared = ap uuid_at d.view_is;
           command = command;
-          is = run_here h d.view world.hosts d.view_is begins y.hosts told_begun begun_told_is;
+          is =
+              run_here h d.view world.hosts d.view_is begins y.hosts told_begun begun_told_is
+              ∙ ap (λ (k : Option Kept). Some (record { task = mounted k cmd d.view.uuid (length start); floor = None; named = None })) (sym (kept_was h d.view world.hosts d.view_is begins));
           uuids = uuids_same h d.view world.hosts d.view_is begins refl;
           runs = runs_else h d.view world.hosts d.view_is begins x.hosts y.hosts begun_told_else;
-          kept = λ k. refl;
+          kept = kept_same h d.view world.hosts d.view_is begins refl;
         }))
 
   -- A task is dropped, and the cache stays.
@@ -155,14 +161,14 @@ module _ (start : Image) (state : Machines) (world : WorldView) (held : Agrees s
     is = run_here h d.view world.hosts d.view_is drops x.hosts d.told d.told_is;
     uuids = uuids_same h d.view world.hosts d.view_is drops refl;
     runs = runs_else h d.view world.hosts d.view_is drops x.hosts x.hosts (λ k ne. refl);
-    mine = inl refl;
-    kept = λ k ne. refl;
+    mine = inl (kept_same h d.view world.hosts d.view_is drops refl h);
+    kept = λ k ne. kept_else h d.view world.hosts d.view_is drops k ne;
   }
 
   pub drops_stands : (k : ℕ) → HostStandsAt (length start) (slice_get (changed_at h (λ (z : HostState). record z { task = None }) state.hosts) k) (slice_get (changed_at h drops world.hosts) k)
   drops_stands =
       stands_changed h d.view world.hosts d.view_is drops (length start) state.hosts d.host d.host_is (λ z. record z { task = None })
-      record { name = d.stands.name; uuid = d.stands.uuid; cache = d.stands.cache; task = tt } held.stands
+      record { name = d.stands.name; uuid = d.stands.uuid; cache = d.stands.cache; task = tt; kept = d.stands.kept; joined = d.stands.joined } held.stands
 
   pub drops_told : (k : ℕ) → ToldAt (slice_get (changed_at h drops world.hosts) k) (slice_get x.hosts k)
   drops_told =
@@ -178,13 +184,13 @@ module _ (start : Image) (state : Machines) (world : WorldView) (held : Agrees s
   -- A task and its host's cache are lost.
 
   abbrev halts : HostView → HostView
-  halts v = record v { cache = finmap.empty; task = None }
+  halts v = record v { cache = finmap.empty; task = None; kept = None }
 
-  pub halted_held : Agrees start (with_machine h (record { image = state.memory; cache = finmap.empty }) None state) (record { hosts = changed_at h halts world.hosts; journal = world.journal ++ Halt h ∷ [] }) state.memory
+  pub halted_held : Agrees start (with_parts h (record { image = state.memory; cache = finmap.empty }) None None state) (record { hosts = changed_at h halts world.hosts; journal = world.journal ++ Halt h ∷ [] }) state.memory
   halted_held =
-      held_with start state world state.memory held (with_machine h (record { image = state.memory; cache = finmap.empty }) None state) (changed_at h halts world.hosts) (Halt h ∷ []) held.lines held.normal (tt, tt)
-      (stands_changed h d.view world.hosts d.view_is halts (length start) state.hosts d.host d.host_is (λ z. record z { cache = finmap.empty; task = None })
-      record { name = d.stands.name; uuid = d.stands.uuid; cache = refl; task = tt } held.stands)
+      held_with start state world state.memory held (with_parts h (record { image = state.memory; cache = finmap.empty }) None None state) (changed_at h halts world.hosts) (Halt h ∷ []) held.lines held.normal (tt, tt)
+      (stands_changed h d.view world.hosts d.view_is halts (length start) state.hosts d.host d.host_is (λ z. record z { cache = finmap.empty; task = None; kept = None })
+      record { name = d.stands.name; uuid = d.stands.uuid; cache = refl; task = tt; kept = refl; joined = tt } held.stands)
       (told_changed h d.view world.hosts d.view_is halts x.hosts x.hosts d.told d.told_is (λ k ne. refl)
       record { name = d.host_told.name; uuid = d.host_told.uuid; task = tt } held.told)
       (invariant_halted settled (length start) h (hosts_of world.hosts x.hosts) (hosts_of (changed_at h halts world.hosts) x.hosts) (shared_of state.memory world.hosts) (shared_of state.memory (changed_at h halts world.hosts)) held.invariant
@@ -192,8 +198,8 @@ module _ (start : Image) (state : Machines) (world : WorldView) (held : Agrees s
         is = run_here h d.view world.hosts d.view_is halts x.hosts d.told d.told_is;
         uuids = uuids_same h d.view world.hosts d.view_is halts refl;
         runs = runs_else h d.view world.hosts d.view_is halts x.hosts x.hosts (λ k ne. refl);
-        mine = inl refl;
-        kept = λ k ne. refl;
+        mine = inr (kept_here h d.view world.hosts d.view_is halts);
+        kept = λ k ne. kept_else h d.view world.hosts d.view_is halts k ne;
       }
       record {
         memory = λ l. refl;
@@ -218,7 +224,8 @@ module _ (start : Image) (state : Machines) (world : WorldView) (held : Agrees s
     -- the same tasks
     moved_runs : hosts_of (changed_at h moves world.hosts) x.hosts ≡ hosts_of world.hosts x.hosts
     moved_runs =
-        ap₂ (λ (u : ℕ → Option (List ℕ)) (r : ℕ → Option Run). record { uuid = u; run = r; kept = λ k. None }) (fun_ext (uuids_same h d.view world.hosts d.view_is moves refl)) (fun_ext same)
+        ap₂ (λ (u : ℕ → Option (List ℕ)) (r : ℕ → Option Run). record { uuid = u; run = r; kept = λ k. kept_at (slice_get (changed_at h moves world.hosts) k) }) (fun_ext (uuids_same h d.view world.hosts d.view_is moves refl)) (fun_ext same)
+        ∙ ap (λ (keeps : ℕ → Option Kept). record { uuid = λ k. uuid_at (slice_get world.hosts k); run = λ k. run_at (slice_get world.hosts k) (slice_get x.hosts k); kept = keeps }) (fun_ext (kept_same h d.view world.hosts d.view_is moves refl))
       where
         same : (k : ℕ) → run_at (slice_get (changed_at h moves world.hosts) k) (slice_get x.hosts k) ≡ run_at (slice_get world.hosts k) (slice_get x.hosts k)
         same k =
@@ -244,7 +251,7 @@ module _ (start : Image) (state : Machines) (world : WorldView) (held : Agrees s
       first = held.first;
       limit = held.limit;
       stands = stands_changed h d.view world.hosts d.view_is moves (length start) state.hosts d.host d.host_is (λ z. record z { cache = with_cell line cell d.view.cache; task = d.host.task })
-          record { name = d.stands.name; uuid = d.stands.uuid; cache = refl; task = d.stands.task } held.stands;
+          record { name = d.stands.name; uuid = d.stands.uuid; cache = refl; task = d.stands.task; kept = d.stands.kept; joined = d.stands.joined } held.stands;
       told = told_changed h d.view world.hosts d.view_is moves x.hosts x.hosts d.told d.told_is (λ k ne. refl)
           record { name = d.host_told.name; uuid = d.host_told.uuid; task = d.host_told.task } held.told;
       legal = held.legal;

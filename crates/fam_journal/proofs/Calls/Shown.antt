@@ -1,17 +1,18 @@
 -- A refusal is told by the world that stands for the state.
 use Prim.Native.Nat.{zero, suc}
 use Rattle.std.proofs.Common.{◌≡◌, ℕ, ◌+◌, ◌*◌, Bool, List, [], ◌∷◌, length, map, Option, Some, None, refl, ap, ap₂, sym, ◌∙◌}
-use Rattle.std.specs.Prelude.{⊤, slice_get, is_some, not, option_map, ◌==◌, ◌&&◌, nat_lt, if◌then◌else◌}
+use Rattle.std.specs.Prelude.{⊤, slice_get, is_some, not, option_map, ◌==◌, ◌&&◌, ◌||◌, nat_lt, if◌then◌else◌}
 use Rattle.std.proofs.lemmas.List.{length-replicate}
 use Rattle.fam_format.specs.Stop.{or_else}
 use Rattle.fam_machine.specs.Caches.{dirty_count}
+use Rattle.fam_commands.specs.Kept.{Kept}
 use Rattle.fam_commands.specs.Task.{Task}
 use Rattle.fam_rules.specs.Place.{line_bytes}
 use Rattle.fam_machine.specs.Mkfs.{early_refusal}
 use Rattle.fam_journal.specs.declared.refusal.Refusal.{Refusal}
 use Rattle.fam_journal.specs.declared.refusal.Refusal.TheVariants as why
 use Rattle.fam_journal.specs.Calls as call
-use Rattle.fam_journal.specs.Calls.{Call, begins_refusal, busy_refusal, cause_of, dirty_from, dirty_refusal, has_name, host_limit, idle_refusal, is_busy, is_busy_host, is_same, line_refusal, makes_refusal, number_of, on_host, refusal_of, same_refusal, when}
+use Rattle.fam_journal.specs.Calls.{Call, begins_refusal, busy_refusal, cause_of, dirty_from, dirty_refusal, has_name, host_limit, idle_refusal, is_busy_host, is_engaged, is_same, line_refusal, makes_refusal, number_of, on_host, refusal_of, same_refusal, when}
 use Rattle.fam_journal.specs.View.{HostStands, HostView, HostStandsAt, TaskStands, WorldStands, WorldView}
 use Rattle.fam_journal.specs.ByWorld.{refusal_in, shown_host, shown_state, shown_task}
 use Rattle.fam_journal.specs.Machines.{HostState, Machines, TaskState}
@@ -23,6 +24,7 @@ pub record Alike (a b : HostState) : Type 0 where
   pub uuid : a.uuid ≡ b.uuid
   pub dirty : dirty_count a.cache ≡ dirty_count b.cache
   pub busy : is_some a.task ≡ is_some b.task
+  pub keeps : is_some a.kept ≡ is_some b.kept
 
 abbrev pub AreAlike : List HostState → List HostState → Type 0
 AreAlike [] [] = ⊤
@@ -72,7 +74,7 @@ module _ (a b : Machines) (alike : AreAlike a.hosts b.hosts) (lines : length a.m
   makes_same : (unit log h : ℕ) → makes_refusal unit log h a ≡ makes_refusal unit log h b
   makes_same unit log h =
       ap₂ (λ (n : ℕ) (o : Option Refusal). or_else (option_map cause_of (early_refusal unit log (line_bytes * n))) o) lines
-      (ap₂ (λ (x y : Option ℕ). or_else (busy_refusal x) (dirty_refusal y)) (phases is_busy (λ x y same. same.busy) a.hosts b.hosts 0 alike) (dirty_same h a.hosts b.hosts 0 alike))
+      (ap₂ (λ (x y : Option ℕ). or_else (busy_refusal x) (dirty_refusal y)) (phases is_engaged (λ x y same. ap₂ (λ (t k : Bool). t || k) same.busy same.keeps) a.hosts b.hosts 0 alike) (dirty_same h a.hosts b.hosts 0 alike))
 
   begins_same : (h : ℕ) → begins_refusal h a ≡ begins_refusal h b
   begins_same h =
@@ -112,7 +114,7 @@ all_shown lines [] (v ∷ views) stands = absurd (stands 0)
 all_shown lines (s ∷ states) [] stands = absurd (stands 0)
 all_shown lines (s ∷ states) (v ∷ views) stands =
     let here : HostStands lines s v = stands 0 in
-    (record { name = here.name; uuid = here.uuid; dirty = ap dirty_count here.cache; busy = task_shown lines s.task v.task here.task }, all_shown lines states views (λ k. stands (suc k)))
+    (record { name = here.name; uuid = here.uuid; dirty = ap dirty_count here.cache; busy = task_shown lines s.task v.task here.task; keeps = ap (λ (k : Option Kept). is_some k) here.kept }, all_shown lines states views (λ k. stands (suc k)))
 
 pub refusal_shown : (lines : ℕ) (state : Machines) (world : WorldView) (c : Call) → WorldStands lines state world → refusal_of c state ≡ refusal_in c world (length state.memory)
 refusal_shown lines state world c stands =

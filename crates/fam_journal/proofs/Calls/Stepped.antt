@@ -7,6 +7,8 @@ use Rattle.fam_base.specs.declared.cmd.Cmd.{Cmd}
 use Rattle.fam_base.specs.Image.{Image, line_at}
 use Rattle.fam_machine.specs.Caches.{Cache}
 use Rattle.fam_machine.specs.Operations.{Machine, given, operated, IsInImage}
+use Rattle.fam_commands.specs.Keeping.{kept_after}
+use Rattle.fam_commands.specs.Kept.{IsKept, Kept}
 use Rattle.fam_commands.specs.Stands.{StandsFor, note_of, task_after, turn_given}
 use Rattle.fam_commands.specs.Task.{Task, op_of}
 use Rattle.fam_commands.specs.Turns.{Turn, Goes, Marks, Finds, Writes, Ends}
@@ -15,10 +17,10 @@ use Rattle.fam_protocol.specs.SharedState.{SharedState}
 use Rattle.fam_protocol.specs.Steps.{StepHolds, Steps, TurnSays, run_after, settled_count, turn_settles}
 use Rattle.fam_protocol.specs.Invariant.{Hosts, Settled, Small, Damaged, Known, InvariantBy, Invariant}
 use Rattle.fam_machine.proofs.OneOperation.{operated_length, operated_normal}
-use Rattle.fam_protocol.proofs.Hosts.Steps.{keeps_none, invariant_stepped}
+use Rattle.fam_protocol.proofs.Hosts.Steps.{invariant_stepped}
 use Rattle.fam_rules.specs.Asks.{File}
 use Rattle.fam_rules.specs.Place.{line_bytes}
-use Rattle.fam_journal.specs.View.{HostStands, HostView, HostStandsAt, TaskStands, WorldView}
+use Rattle.fam_journal.specs.View.{HostStands, HostView, HostStandsAt, StandsAs, TaskStands, WorldView}
 use Rattle.fam_journal.specs.Kept.{Agrees, HostTold, IfRuns, TaskTold, ToldAt, hosts_of, run_at, run_of, run_with, shared_of, settled_of, uuid_at}
 use Rattle.fam_base.specs.declared.entry.Entry.{Entry}
 use Rattle.fam_base.specs.declared.entry.Params.{Params}
@@ -29,7 +31,7 @@ use Rattle.fam_protocol.specs.Bad.{MaySayBad}
 use Rattle.fam_journal.specs.Laws.{IsOwn}
 use Rattle.fam_journal.specs.Legal.{LegalBehind}
 use Rattle.fam_journal.specs.Machines as machine
-use Rattle.fam_journal.specs.Machines.{HostState, Machines, Passes, TaskState, machine_of, notes_of, operation, task_on, with_machine}
+use Rattle.fam_journal.specs.Machines.{HostState, Machines, Passes, TaskState, machine_of, notes_of, operation, task_on, with_parts}
 use Rattle.fam_journal.specs.Members.{changed_at}
 use Rattle.fam_journal.specs.Notes.{Note}
 use Rattle.fam_journal.specs.Past as past
@@ -39,7 +41,8 @@ use Rattle.fam_journal.proofs.Settled.DamagedTurns.{bad_settles, damaged_legal}
 use Rattle.fam_journal.proofs.Settled.Journals.{legal_both, past_both}
 use Rattle.fam_journal.proofs.Calls.Members.{changed_at_member, changed_other}
 use Rattle.fam_journal.proofs.Settled.SoundTurns.{KeepsCommand, sound_legal, sound_settles}
-use Rattle.fam_journal.proofs.Calls.TaskRows.{row_served, task_stands}
+use Rattle.fam_journal.proofs.Calls.TaskRows.{kept_joined, row_served, task_stands}
+use Rattle.fam_journal.proofs.Calls.Hosts.{kept_else, kept_here, kept_was}
 use Rattle.fam_journal.proofs.Settled.TaskTurns.{next_command, run_same, settled_same, task_told, told_here, told_name, told_other, told_uuid}
 use Rattle.fam_protocol.proofs.Hosts.Acts.{operates_by}
 use Rattle.fam_journal.proofs.Calls.Views.{acts_at}
@@ -50,12 +53,12 @@ pub record Bridged (x : Past) (h : ℕ) (turn : Turn) : Type 0 where
   pub legal : LegalBehind x (notes_of h (note_of turn))
   pub settles : settled_of (past_behind x (notes_of h (note_of turn))).state ≡ turn_settles turn (settled_of x.state)
 
-module _ (start : Image) (hosts : List HostPast) (h : ℕ) (told : HostPast) (host_is : slice_get hosts h ≡ Some told) (cmd : Cmd) (uuid : List ℕ) (t : Task) (words : List ℕ) (made word : ℕ) (standing : StandsFor None cmd uuid (length start) t words made) (turn : Turn) (is : turn_given t word ≡ turn) (was : TaskTold t told) (me : told.uuid ≡ t.me) (all_hosts : Hosts) (shared : SharedState) where
+module _ (start : Image) (hosts : List HostPast) (h : ℕ) (told : HostPast) (host_is : slice_get hosts h ≡ Some told) (kept : Option Kept) (cmd : Cmd) (uuid : List ℕ) (t : Task) (words : List ℕ) (made word : ℕ) (joined : IsKept kept) (standing : StandsFor kept cmd uuid (length start) t words made) (turn : Turn) (is : turn_given t word ≡ turn) (was : TaskTold t told) (me : told.uuid ≡ t.me) (all_hosts : Hosts) (shared : SharedState) where
   keeps_command : (p : Params) (history : List File) (pending : Option File) (have : ℕ) (uuids : ℕ → Option (List ℕ)) (master : Option ℕ) (x : Turn) → turn ≡ x → KeepsCommand p history pending start hosts h told host_is t was.cmd me have uuids master x
   keeps_command p history pending have uuids master (Goes next) e = tt
   keeps_command p history pending have uuids master (Marks next) e = tt
   keeps_command p history pending have uuids master (Finds n next) e = tt
-  keeps_command p history pending have uuids master (Writes seq entry next) e = next_command cmd uuid (length start) t words made word standing turn is next (ap task_after e)
+  keeps_command p history pending have uuids master (Writes seq entry next) e = next_command kept cmd uuid (length start) t words made word joined standing turn is next (ap task_after e)
   keeps_command p history pending have uuids master (Ends given) e = tt
 
   -- a damaged image has as many lines as the one that was handed in
@@ -86,7 +89,7 @@ pub find_host : (lines : ℕ) (view : HostView) (o : Option HostState) → HostS
 find_host lines view None stands = absurd stands
 find_host lines view (Some x) stands = (x, refl, stands)
 
-pub find_task : (lines : ℕ) (t : Task) (o : Option TaskState) → TaskStands lines o (Some t) → (s : TaskState) × (o ≡ Some s) × StandsFor None s.cmd s.me lines t s.words s.made
+pub find_task : (lines : ℕ) (t : Task) (o : Option TaskState) → TaskStands lines o (Some t) → (s : TaskState) × (o ≡ Some s) × StandsAs lines s t
 find_task lines t None stands = absurd stands
 find_task lines t (Some s) stands = (s, refl, stands)
 
@@ -109,12 +112,12 @@ module _ (start : Image) (state : Machines) (world : WorldView) (held : Agrees s
   abbrev x : Past
   x = past_of start world.journal
 
-  module _ (told : HostPast) (told_is : slice_get x.hosts h ≡ Some told) (host_told : HostTold view told) (host : HostState) (host_is : slice_get state.hosts h ≡ Some host) (host_stands : HostStands (length start) host view) (s : TaskState) (s_is : host.task ≡ Some s) (standing : StandsFor None s.cmd s.me (length start) t s.words s.made) (turn : Turn) (is : turn_given t word ≡ turn) where
+  module _ (told : HostPast) (told_is : slice_get x.hosts h ≡ Some told) (host_told : HostTold view told) (host : HostState) (host_is : slice_get state.hosts h ≡ Some host) (host_stands : HostStands (length start) host view) (s : TaskState) (s_is : host.task ≡ Some s) (standing : StandsAs (length start) s t) (turn : Turn) (is : turn_given t word ≡ turn) where
     abbrev notes : List Note
     notes = notes_of h (note_of turn)
 
     abbrev changed : HostView → HostView
-    changed v = record v { cache = after.cache; task = task_after turn }
+    changed v = record v { cache = after.cache; task = task_after turn; kept = kept_after turn t v.kept }
 
     abbrev views : List HostView
     views = changed_at h changed world.hosts
@@ -123,7 +126,7 @@ module _ (start : Image) (state : Machines) (world : WorldView) (held : Agrees s
     y = past_behind x notes
 
     abbrev next_state : Machines
-    next_state = with_machine h after (machine.task_behind (note_of turn) (task_on s (given (op_of t) m))) state
+    next_state = with_parts h after (machine.task_behind (note_of turn) (task_on s (given (op_of t) m))) (kept_after turn t host.kept) state
 
     abbrev next_world : WorldView
     next_world = record { hosts = views; journal = world.journal ++ notes }
@@ -170,8 +173,11 @@ module _ (start : Image) (state : Machines) (world : WorldView) (held : Agrees s
           ∙ ap (λ (n : ℕ). run_after turn n (run_of t told)) (sym (settled_same x.state))
           ∙ ap (λ (z : Turn). run_after z (settled_count settled) (run_of t told)) (sym is);
       runs = λ k ne. ap₂ run_at (changed_other h k changed world.hosts ne) (told_other x h turn k ne);
-      keeps = sym (keeps_none (turn_given t word) t);
-      kept = λ k ne. refl;
+      keeps =
+          kept_here h view world.hosts view_is changed
+          ∙ ap (λ (z : Turn). kept_after z t view.kept) (sym is)
+          ∙ ap (kept_after (turn_given t word) t) (sym (kept_was h view world.hosts view_is changed));
+      kept = λ k ne. kept_else h view world.hosts view_is changed k ne;
     }
 
     step_holds : StepHolds settled (length start) word (run_of t told) old_hosts (hosts_of views y.hosts) (shared_of after.image views)
@@ -188,7 +194,7 @@ module _ (start : Image) (state : Machines) (world : WorldView) (held : Agrees s
     bridge : Bridged x h turn
     bridge =
         subst (λ (i : Image). Bridged (record { start = i; state = x.state; hosts = x.hosts }) h turn) (sym (start_kept world.journal (first_past start)))
-        (bridged start x.hosts h told told_is s.cmd s.me t s.words s.made word standing turn is task_was me_is old_hosts (shared_of state.memory world.hosts) x.state
+        (bridged start x.hosts h told told_is s.kept s.cmd s.me t s.words s.made word standing.joined standing.stands turn is task_was me_is old_hosts (shared_of state.memory world.hosts) x.state
         (λ i d g e. bad_own start i d g world.journal e) held.invariant.stage
         (subst (λ (z : Turn). TurnSays z (run_of t told) settled (length start) old_hosts) is step_holds.says))
 
@@ -201,7 +207,12 @@ module _ (start : Image) (state : Machines) (world : WorldView) (held : Agrees s
     -- The world again.
 
     abbrev host_on : HostState → HostState
-    host_on z = record z { cache = after.cache; task = machine.task_behind (note_of turn) (task_on s (given (op_of t) m)) }
+    host_on z = record z { cache = after.cache; task = machine.task_behind (note_of turn) (task_on s (given (op_of t) m)); kept = kept_after turn t host.kept }
+
+    keeps_history : IsKept (kept_after turn t view.kept)
+    keeps_history =
+        subst (λ (k : Option Kept). IsKept (kept_after turn t k)) host_stands.kept
+        (kept_joined state h host host_is s s_is (length start) lines_are t standing m machine_is turn is (subst IsKept (sym host_stands.kept) host_stands.joined))
 
     stands_on : (k : ℕ) → HostStandsAt (length start) (slice_get next_state.hosts k) (slice_get views k)
     stands_on k =
@@ -214,7 +225,7 @@ module _ (start : Image) (state : Machines) (world : WorldView) (held : Agrees s
         mine =
             subst (λ (o : Option HostState). HostStandsAt (length start) o (slice_get views h)) (sym (changed_at_member h host_on state.hosts host host_is))
             (subst (λ (o : Option HostView). HostStandsAt (length start) (Some (host_on host)) o) (sym (changed_at_member h changed world.hosts view view_is))
-            record { name = host_stands.name; uuid = host_stands.uuid; cache = refl; task = task_stands state h host host_is s s_is (length start) lines_are t standing m machine_is turn is })
+            record { name = host_stands.name; uuid = host_stands.uuid; cache = refl; task = task_stands state h host host_is s s_is (length start) lines_are t standing m machine_is turn is; kept = ap (kept_after turn t) host_stands.kept; joined = keeps_history })
 
         other : k ≢ h → HostStandsAt (length start) (slice_get next_state.hosts k) (slice_get views k)
         other ne =
@@ -235,7 +246,7 @@ module _ (start : Image) (state : Machines) (world : WorldView) (held : Agrees s
             record {
               name = told_name turn (settled_length x.state) told ∙ host_told.name;
               uuid = told_uuid turn (settled_length x.state) told ∙ host_told.uuid;
-              task = task_told s.cmd s.me (length start) t s.words s.made word standing turn is told task_was turn (settled_length x.state) refl;
+              task = task_told s.kept s.cmd s.me (length start) t s.words s.made word standing.joined standing.stands turn is told task_was turn (settled_length x.state) refl;
             })
 
         other : k ≢ h → ToldAt (slice_get views k) (slice_get y.hosts k)

@@ -24,7 +24,7 @@ use Rattle.fam_journal.specs.Machines.{Machines, with_machine, with_memory}
 use Rattle.fam_journal.specs.Members.{changed_at}
 use Rattle.fam_journal.specs.Notes.{Answered, MediaFault, Refused}
 use Rattle.fam_journal.specs.Past.{HostPast, Past, past_of}
-use Rattle.fam_journal.proofs.Calls.Hosts.{held_with, run_here, runs_else, stands_changed, told_changed, uuids_same}
+use Rattle.fam_journal.proofs.Calls.Hosts.{held_with, kept_else, kept_same, run_here, runs_else, stands_changed, told_changed, uuids_same}
 use Rattle.fam_journal.proofs.Calls.Views.{acts_at}
 use Rattle.fam_journal.proofs.Calls.Rows.{Declared, moved_held}
 
@@ -112,7 +112,7 @@ module _ (start : Image) (state : Machines) (world : WorldView) (held : Agrees s
         (breaks_length own failure breaks ∙ held.lines) (breaks_normal own failure breaks held.normal)
         (subst (λ (o : Option HostPast). OfHost o (λ z. ⊤)) (sym d.told_is) tt, tt)
         (stands_changed h d.view world.hosts d.view_is fails (length start) state.hosts d.host d.host_is (λ z. record z { cache = failure.left.cache; task = None })
-        record { name = d.stands.name; uuid = d.stands.uuid; cache = refl; task = tt } held.stands)
+        record { name = d.stands.name; uuid = d.stands.uuid; cache = refl; task = tt; kept = d.stands.kept; joined = d.stands.joined } held.stands)
         (told_changed h d.view world.hosts d.view_is fails x.hosts x.hosts d.told d.told_is (λ k ne. refl)
         record { name = d.host_told.name; uuid = d.host_told.uuid; task = tt } held.told)
         (invariant_stopped settled (length start) h (hosts_of world.hosts x.hosts) (hosts_of views x.hosts) (shared_of failure.left.image views) broken_invariant
@@ -120,6 +120,6 @@ module _ (start : Image) (state : Machines) (world : WorldView) (held : Agrees s
           is = run_here h d.view world.hosts d.view_is fails x.hosts d.told d.told_is;
           uuids = uuids_same h d.view world.hosts d.view_is fails refl;
           runs = runs_else h d.view world.hosts d.view_is fails x.hosts x.hosts (λ k ne. refl);
-          mine = inl refl;
-          kept = λ k ne. refl;
+          mine = inl (kept_same h d.view world.hosts d.view_is fails refl h);
+          kept = λ k ne. kept_else h d.view world.hosts d.view_is fails k ne;
         })

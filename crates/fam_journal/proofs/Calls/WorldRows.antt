@@ -6,14 +6,15 @@ use Rattle.std.specs.FinMap as finmap
 use Rattle.std.proofs.lemmas.Option.{same_Some}
 use Rattle.fam_base.specs.declared.cmd.Cmd.TheVariants.{Logplay}
 use Rattle.fam_commands.specs.Stands as standing
-use Rattle.fam_commands.specs.Task.{starting}
+use Rattle.fam_commands.specs.Kept.{Kept}
+use Rattle.fam_commands.specs.Task.{mounted}
 use Rattle.fam_journal.specs.declared.refusal.Refusal.{Refusal}
 use Rattle.fam_journal.specs.declared.refusal.Refusal.TheVariants as why
 use Rattle.fam_journal.specs.Calls as call
 use Rattle.fam_journal.specs.Calls.{Acts, ActsAt, ActsOf, AtNumber, ByRefusal, Call, Does, MayBeRefused, OnHost, begins_refusal, has_name, idle_refusal, name_of, number_of, on_host, refusal_of}
 use Rattle.fam_journal.specs.View.{HostStands, HostView, HostStandsAt, TaskStands, WorldStands, WorldView}
 use Rattle.fam_journal.specs.ByWorld.{IsRow, TakesNoMedia, acted, acted_by, number_in, refusal_in, with_host, world_after}
-use Rattle.fam_journal.specs.Machines.{HostState, Machines, task_begun, with_machine, with_task}
+use Rattle.fam_journal.specs.Machines.{HostState, Machines, task_begun, with_parts, with_task}
 use Rattle.fam_journal.specs.Members.{changed_at, index_from}
 use Rattle.fam_journal.specs.Notes.{Halt, Host, Note, Refused, Start, Stop}
 use Rattle.fam_journal.proofs.Calls.Hosts.{stands_changed}
@@ -94,31 +95,34 @@ module _ (state : Machines) (world : WorldView) (stands : WorldStands (length st
   acts : (c : Call) → TakesNoMedia c lines world → refusal_of c state ≡ None → IsRow c lines state world (acted c lines world)
   unfolding refusal_of
   acts (call.Declares name uuid) takes free = record {
-    left = record state { hosts = state.hosts ++ record { name = name; uuid = uuid; cache = finmap.empty; task = None } ∷ [] };
+    left = record state { hosts = state.hosts ++ record { name = name; uuid = uuid; cache = finmap.empty; task = None; kept = None } ∷ [] };
     notes = Host name uuid ∷ [];
     row = by_none (call.Declares name uuid) _ _ free (refl, refl);
     memory = refl;
-    stands = more_stands lines state.hosts world.hosts _ _ (record { name = refl; uuid = refl; cache = refl; task = tt }) stands;
+    stands = more_stands lines state.hosts world.hosts _ _ (record { name = refl; uuid = refl; cache = refl; task = tt; kept = refl; joined = tt }) stands;
     joined = refl;
   }
   acts (call.Makes name request) takes free = absurd takes
   acts (call.Begins name cmd) takes free = by_number (number_in name world) refl
     where
-      by_number : (o : Option ℕ) → number_in name world ≡ o → IsRow (call.Begins name cmd) lines state world (with_host o (λ v. record v { task = Some (starting cmd v.uuid lines) }) (λ h. Start h cmd) world)
+      by_number : (o : Option ℕ) → number_in name world ≡ o → IsRow (call.Begins name cmd) lines state world (with_host o (λ v. record v { task = Some (mounted v.kept cmd v.uuid lines) }) (λ h. Start h cmd) world)
       by_number None is = absurd (let e : on_host (number_of name state) (λ h. begins_refusal h state) ≡ Some why.NoHost = ap (λ (o : Option ℕ). on_host o (λ h. begins_refusal h state)) (number_shown lines state world name stands ∙ is) in cc)
       by_number (Some h) is =
           let p = placed name h is in
           record {
-            left = with_task h (Some (task_begun cmd p.host.uuid)) state;
+            left = with_task h (Some (task_begun p.host.kept cmd p.host.uuid)) state;
             notes = Start h cmd ∷ [];
             row = by_none (call.Begins name cmd) _ _ free (acts_at (call.Begins name cmd) _ _ h p (refl, refl));
             memory = refl;
-            stands = changed h name p (λ z. record z { task = Some (task_begun cmd p.host.uuid) }) (λ v. record v { task = Some (starting cmd v.uuid lines) })
+            stands = changed h name p (λ z. record z { task = Some (task_begun p.host.kept cmd p.host.uuid) }) (λ v. record v { task = Some (mounted v.kept cmd v.uuid lines) })
                 record {
                   name = p.mine.name;
                   uuid = p.mine.uuid;
                   cache = p.mine.cache;
-                  task = subst (λ (id : List ℕ). TaskStands lines (Some (task_begun cmd id)) (Some (starting cmd p.view.uuid lines))) (sym p.mine.uuid) standing.starts;
+                  task = subst (λ (k : Option Kept). TaskStands lines (Some (task_begun k cmd p.host.uuid)) (Some (mounted p.view.kept cmd p.view.uuid lines))) (sym p.mine.kept)
+                      (subst (λ (id : List ℕ). TaskStands lines (Some (task_begun p.view.kept cmd id)) (Some (mounted p.view.kept cmd p.view.uuid lines))) (sym p.mine.uuid) record { joined = p.mine.joined; stands = standing.starts });
+                  kept = p.mine.kept;
+                  joined = p.mine.joined;
                 };
             joined = refl;
           }
@@ -135,21 +139,21 @@ module _ (state : Machines) (world : WorldView) (stands : WorldStands (length st
             notes = Stop h ∷ [];
             row = by_none (call.Stops name) _ _ free (acts_at (call.Stops name) _ _ h p (refl, refl));
             memory = refl;
-            stands = changed h name p (λ z. record z { task = None }) (λ v. record v { task = None }) record { name = p.mine.name; uuid = p.mine.uuid; cache = p.mine.cache; task = tt };
+            stands = changed h name p (λ z. record z { task = None }) (λ v. record v { task = None }) record { name = p.mine.name; uuid = p.mine.uuid; cache = p.mine.cache; task = tt; kept = p.mine.kept; joined = p.mine.joined };
             joined = refl;
           }
   acts (call.Halts name) takes free = by_number (number_in name world) refl
     where
-      by_number : (o : Option ℕ) → number_in name world ≡ o → IsRow (call.Halts name) lines state world (with_host o (λ v. record v { cache = finmap.empty; task = None }) Halt world)
+      by_number : (o : Option ℕ) → number_in name world ≡ o → IsRow (call.Halts name) lines state world (with_host o (λ v. record v { cache = finmap.empty; task = None; kept = None }) Halt world)
       by_number None is = absurd (let e : on_host (number_of name state) (λ h. None) ≡ Some why.NoHost = ap (λ (o : Option ℕ). on_host o (λ h. None)) (number_shown lines state world name stands ∙ is) in cc)
       by_number (Some h) is =
           let p = placed name h is in
           record {
-            left = with_machine h (record { image = state.memory; cache = finmap.empty }) None state;
+            left = with_parts h (record { image = state.memory; cache = finmap.empty }) None None state;
             notes = Halt h ∷ [];
             row = by_none (call.Halts name) _ _ free (acts_at (call.Halts name) _ _ h p (refl, refl));
             memory = refl;
-            stands = changed h name p (λ z. record z { cache = finmap.empty; task = None }) (λ v. record v { cache = finmap.empty; task = None }) record { name = p.mine.name; uuid = p.mine.uuid; cache = refl; task = tt };
+            stands = changed h name p (λ z. record z { cache = finmap.empty; task = None; kept = None }) (λ v. record v { cache = finmap.empty; task = None; kept = None }) record { name = p.mine.name; uuid = p.mine.uuid; cache = refl; task = tt; kept = refl; joined = tt };
             joined = refl;
           }
   acts (call.Moves name line move) takes free = absurd takes

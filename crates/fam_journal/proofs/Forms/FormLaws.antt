@@ -1,9 +1,10 @@
 -- The laws of forms, from what stands below.
 use Prim.Native.Nat.{suc}
-use Rattle.std.proofs.Common.{◌≡◌, inl, inr, ℕ, List, [], ◌∷◌, length, Option, Some, None, refl, sym, ◌∙◌, subst}
-use Rattle.std.specs.Prelude.{slice_get}
+use Rattle.std.proofs.Common.{◌≡◌, inl, inr, ℕ, List, [], ◌∷◌, length, Option, Some, None, refl, ap, sym, ◌∙◌, subst}
+use Rattle.std.specs.Prelude.{slice_get, is_some}
 use Rattle.fam_base.specs.Image.{Image}
 use Rattle.fam_media.specs.Files.{Files}
+use Rattle.fam_commands.specs.Kept.{IsKept, Kept}
 use Rattle.fam_commands.specs.Task.{Task}
 use Rattle.fam_journal.specs.declared.event.Event.{Event}
 use Rattle.fam_journal.specs.Calls as call
@@ -35,6 +36,8 @@ host_formed lines state view form stands is = record {
   name = is.name ∙ sym stands.name;
   uuid = is.uuid ∙ sym stands.uuid;
   task = task_formed lines state.uuid view.uuid stands.uuid state.task view.task form.task stands.task is.task;
+  keeps = is.keeps ∙ ap (λ (k : Option Kept). is_some k) (sym stands.kept);
+  joined = subst IsKept (sym stands.kept) stands.joined;
 }
 
 all_formed : (lines : ℕ) (states : List HostState) (views : List HostView) (forms : List HostForm) → ((h : ℕ) → HostStandsAt lines (slice_get states h) (slice_get views h)) → Pairs HostFormed views forms → Pairs (StateFormed lines) states forms

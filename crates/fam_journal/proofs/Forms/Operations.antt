@@ -1,6 +1,6 @@
 -- Operations of a task on the machine add notes of its form, and leave hosts that are what notes tell.
 use Prim.Native.Nat.{zero, suc}
-use Rattle.std.proofs.Common.{◌≡◌, ℕ, ◌+◌, ◌≤◌, inl, inr, List, [], ◌∷◌, ◌++◌, length, map, Option, Some, None, refl, ap, sym, ◌∙◌, subst, arith, take, drop}
+use Rattle.std.proofs.Common.{◌≡◌, ℕ, ◌+◌, ◌≤◌, inl, inr, Bool, true, false, List, [], ◌∷◌, ◌++◌, length, map, Option, Some, None, refl, ap, sym, ◌∙◌, subst, arith, take, drop}
 use Rattle.std.specs.Prelude.{slice_get, unwrap_or, is_some, option_map}
 use Rattle.std.proofs.lemmas.List.{length-append}
 use Rattle.std.proofs.lemmas.Option.{same_Some}
@@ -15,20 +15,25 @@ use Rattle.fam_machine.specs.Caches.{asked_lines, cell_at}
 use Rattle.fam_machine.specs.HostMoves.{Move, move_failed}
 use Rattle.fam_machine.specs.OneLine.{failed_send}
 use Rattle.fam_machine.specs.Operations.{Breaking, first_not_sent, line_no, send_lines, Failure, Machine, failed, given, not_brought, operated, operated_all, torn_at, given_by}
+use Rattle.fam_commands.specs.Keeping.{kept_after, kept_by, read_by}
+use Rattle.fam_commands.specs.Kept.{IsKept, Kept}
 use Rattle.fam_commands.specs.Stands.{StandsFor, note_of, task_after, turn_given, with_given}
 use Rattle.fam_commands.specs.Task.{Task, op_of}
 use Rattle.fam_commands.specs.Turns.{Turn, Goes, Marks, Finds, Writes, Ends}
 use Rattle.fam_machine.proofs.FenceLemmas.{send_lines_length}
 use Rattle.fam_machine.proofs.OneOperation.{operated_length, same_given}
-use Rattle.fam_commands.proofs.Steps.Standing.{note_from_start, operation_from_start}
+use Rattle.fam_commands.proofs.Steps.Standing.{next_note, next_operation}
+use Rattle.fam_commands.proofs.ReadTold.{kept_joins, kept_told}
 use Rattle.fam_commands.specs.Appends.{HasWish}
+use Rattle.fam_rules.specs.Reply as reply
 use Rattle.fam_rules.specs.Reply.{Reply}
 use Rattle.fam_base.specs.declared.cmd.Cmd.{Cmd}
 use Rattle.fam_journal.specs.Calls.{DoesOperations, is_busy_host}
-use Rattle.fam_journal.specs.Forms.{AreFormed, EntryForm, HostForm, IsStateTask, IsTaskForm, Marked, Met, Named, OfRunning, OfTask, OperationsForm, Pairs, ReplyForm, CommandStage, StateFormed, StateTaskFormed, TaskForm, TaskNote, forms_after, forms_behind, runs_form, shown_form, shown_running, stage_of, with_stage}
+use Rattle.fam_journal.specs.Forms.{AreFormed, EntryForm, HostForm, IsStateTask, IsTaskForm, Marked, Met, Named, OfRunning, OfTask, OperationsForm, Pairs, ReplyForm, CommandStage, StateFormed, StateTaskFormed, TaskForm, TaskNote, forms_after, forms_behind, runs_form, shown_form, shown_keeping, shown_running, stage_of, with_stage}
 use Rattle.fam_journal.specs.Machines as machine
-use Rattle.fam_journal.specs.Machines.{Done, Fails, HostState, Machines, Operation, Outcome, Passes, TaskState, cut, host_done, machine_of, next_op, notes_of, op_done, operation, served, task_done, task_on, with_machine}
+use Rattle.fam_journal.specs.Machines.{Done, Fails, HostState, Machines, Operation, Outcome, Passes, TaskState, cut, host_done, host_keeps, machine_of, next_op, notes_of, op_done, operation, served, task_done, task_on, with_parts, with_machine}
 use Rattle.fam_journal.specs.Members.{changed_at}
+use Rattle.fam_journal.specs.View.{StandsAs}
 use Rattle.fam_journal.specs.Notes as note
 use Rattle.fam_journal.specs.Notes.{Note}
 use Rattle.fam_journal.proofs.Forms.Pairs.{Looks, pairs_at, pairs_changed, pairs_moved}
@@ -75,6 +80,25 @@ pub forms_both : (hosts : List HostForm) (a b : List Note) → forms_behind host
 forms_both hosts [] b = refl
 forms_both hosts (n ∷ a) b = forms_both (forms_after hosts n) a b
 
+-- a host keeps something behind a turn where it did before
+pub keeps_some : (z : Turn) (t : Task) (k : Option Kept) → is_some (kept_after z t k) ≡ is_some k
+keeps_some (Goes n) t k = refl
+keeps_some (Marks n) t k = refl
+keeps_some (Finds count n) t k = refl
+keeps_some (Writes seq e n) t k = refl
+keeps_some (Ends given) t k = by_reply given k
+  where
+    by_reply : (r : Reply) (o : Option Kept) → is_some (kept_by r (read_by t) o) ≡ is_some o
+    by_reply (reply.Played m tree) None = refl
+    by_reply (reply.Played m tree) (Some x) = refl
+    by_reply (reply.Mounted m) None = refl
+    by_reply (reply.Mounted m) (Some x) = refl
+    by_reply other o = refl
+
+pub shown_keeps : (b : Bool) → is_some (shown_keeping b) ≡ b
+shown_keeps true = refl
+shown_keeps false = refl
+
 task_looks : (lines : ℕ) (me : List ℕ) (s : Option TaskState) (f : Option TaskForm) → StateTaskFormed lines me s f → is_some s ≡ is_some (shown_running f)
 task_looks lines me None None is = refl
 task_looks lines me None (Some f) is = absurd is
@@ -92,7 +116,7 @@ all_look lines [] [] all = tt
 all_look lines [] (y ∷ ys) all = absurd all
 all_look lines (x ∷ xs) [] all = absurd all
 all_look lines (x ∷ xs) (y ∷ ys) all =
-    (record { name = sym all.0.name; uuid = sym all.0.uuid; busy = task_looks lines x.uuid x.task y.task all.0.task }, all_look lines xs ys all.1)
+    (record { name = sym all.0.name; uuid = sym all.0.uuid; busy = task_looks lines x.uuid x.task y.task all.0.task; keeps = sym all.0.keeps ∙ sym (shown_keeps y.keeps) }, all_look lines xs ys all.1)
 
 pub runs_same : (lines h : ℕ) (xs : List HostState) (ys : List HostForm) → Pairs (StateFormed lines) xs ys → is_busy_host (slice_get xs h) ≡ runs_form (slice_get ys h)
 runs_same lines h [] [] all = refl
@@ -109,10 +133,16 @@ pub record Operated (lines h count : ℕ) (hosts : List HostForm) (notes : List 
 
 module _ (lines : ℕ) (m : Machines) (hosts : List HostForm) (formed : AreFormed lines m hosts) (h : ℕ) (host : HostState) (host_is : slice_get m.hosts h ≡ Some host) (f : HostForm) (f_is : slice_get hosts h ≡ Some f) (is : StateFormed lines host f) where
   -- one host changes
-  pub form_changed : (x : Machine) (task : Option TaskState) (k : HostForm → HostForm) → length x.image ≡ length m.memory → StateFormed lines (record host { cache = x.cache; task = task }) (k f) → AreFormed lines (with_machine h x task m) (changed_at h k hosts)
-  form_changed x task k same here = record {
+  pub form_changed : (x : Machine) (task : Option TaskState) (kept : Option Kept) (k : HostForm → HostForm) → length x.image ≡ length m.memory → StateFormed lines (record host { cache = x.cache; task = task; kept = kept }) (k f) → AreFormed lines (with_parts h x task kept m) (changed_at h k hosts)
+  form_changed x task kept k same here = record {
     lines_are = same ∙ formed.lines_are;
-    formed = pairs_changed (StateFormed lines) m.hosts hosts h host f (λ z. record z { cache = x.cache; task = task }) k formed.formed host_is f_is here;
+    formed = pairs_changed (StateFormed lines) m.hosts hosts h host f (λ z. record z { cache = x.cache; task = task; kept = kept }) k formed.formed host_is f_is here;
+  }
+
+  pub form_went : (x : Machine) (task : Option TaskState) (kept : Option Kept) → length x.image ≡ length m.memory → StateFormed lines (record host { cache = x.cache; task = task; kept = kept }) f → AreFormed lines (with_parts h x task kept m) hosts
+  form_went x task kept same here = record {
+    lines_are = same ∙ formed.lines_are;
+    formed = pairs_moved (StateFormed lines) m.hosts hosts h host f (λ z. record z { cache = x.cache; task = task; kept = kept }) formed.formed host_is f_is here;
   }
 
   pub form_moved : (x : Machine) (task : Option TaskState) → length x.image ≡ length m.memory → StateFormed lines (record host { cache = x.cache; task = task }) f → AreFormed lines (with_machine h x task m) hosts
@@ -121,11 +151,19 @@ module _ (lines : ℕ) (m : Machines) (hosts : List HostForm) (formed : AreForme
     formed = pairs_moved (StateFormed lines) m.hosts hosts h host f (λ z. record z { cache = x.cache; task = task }) formed.formed host_is f_is here;
   }
 
-  -- its task is over
+  -- its task was cut
   pub form_ended : (x : Machine) → length x.image ≡ length m.memory → AreFormed lines (with_machine h x None m) (changed_at h (λ z. record z { task = None }) hosts)
-  form_ended x same = form_changed x None (λ z. record z { task = None }) same record { name = is.name; uuid = is.uuid; task = tt }
+  form_ended x same = record {
+    lines_are = same ∙ formed.lines_are;
+    formed = pairs_changed (StateFormed lines) m.hosts hosts h host f (λ z. record z { cache = x.cache; task = None }) (λ z. record z { task = None }) formed.formed host_is f_is
+        record { name = is.name; uuid = is.uuid; task = tt; keeps = is.keeps; joined = is.joined };
+  }
 
-  module _ (s : TaskState) (s_is : host.task ≡ Some s) (g : TaskForm) (g_is : f.task ≡ Some g) (t : Task) (stands : StandsFor None s.cmd s.me lines t s.words s.made) (where_it_is : IsTaskForm host.uuid t g) where
+  -- it halted
+  pub form_halted : (x : Machine) → length x.image ≡ length m.memory → AreFormed lines (with_parts h x None None m) (changed_at h (λ z. record z { task = None; keeps = false }) hosts)
+  form_halted x same = form_changed x None None (λ z. record z { task = None; keeps = false }) same record { name = is.name; uuid = is.uuid; task = tt; keeps = refl; joined = tt }
+
+  module _ (s : TaskState) (s_is : host.task ≡ Some s) (g : TaskForm) (g_is : f.task ≡ Some g) (t : Task) (stands : StandsAs lines s t) (where_it_is : IsTaskForm host.uuid t g) where
     running : (note : Note) → TaskNote h f.uuid g note → OfRunning (slice_get hosts h) (λ me t. TaskNote h me t note)
     running note p =
         subst (λ (o : Option HostForm). OfRunning o (λ me t. TaskNote h me t note)) (sym f_is)
@@ -141,32 +179,48 @@ module _ (lines : ℕ) (m : Machines) (hosts : List HostForm) (formed : AreForme
         (subst (λ (at : CommandStage). ReplyForm t.me t.cmd at given) (sym where_it_is.stage) form))
 
     module _ (word : ℕ) (got : Option ℕ) (got_is : given_by (op_of t) word ≡ got) (x : Machine) (same : length x.image ≡ length m.memory) where
+      abbrev keeps : Turn → Option Kept
+      keeps z = kept_after z t host.kept
+
+      keeps_told : (z : Turn) → f.keeps ≡ is_some (keeps z)
+      keeps_told z = is.keeps ∙ sym (keeps_some z t host.kept)
+
+      keeps_joined : (z : Turn) → turn_given t word ≡ z → IsKept (keeps z)
+      keeps_joined z e = subst (λ (y : Turn). IsKept (keeps y)) e (kept_joins s.kept s.cmd s.me lines t s.words s.made stands.joined stands.stands word host.kept is.joined)
+
       goes_on : (z : Turn) (n : Task) (stage : CommandStage) → turn_given t word ≡ z → task_after z ≡ Some n → IsNext t.me t.cmd stage n → IsStateTask lines host.uuid (task_on s got) (record { cmd = g.cmd; stage = stage })
       goes_on z n stage e goes next = record {
         task = n;
-        stands = subst (λ (o : Option ℕ). StandsFor None s.cmd s.me lines n (with_given s.words o) (s.made + 1)) got_is
-            (next_stands s.cmd s.me lines t s.words s.made word stands (turn_given t word) refl n (ap task_after e ∙ goes));
+        stands = record {
+          joined = stands.joined;
+          stands = subst (λ (o : Option ℕ). StandsFor s.kept s.cmd s.me lines n (with_given s.words o) (s.made + 1)) got_is
+              (next_stands s.kept s.cmd s.me lines t s.words s.made word stands.joined stands.stands (turn_given t word) refl n (ap task_after e ∙ goes));
+        };
         is = record { cmd = where_it_is.cmd ∙ sym next.cmd_is; me_is = next.me_is ∙ where_it_is.me_is; stage = sym next.stage_is };
       }
 
-      staged : (z : Turn) (n : Task) (stage : CommandStage) → turn_given t word ≡ z → task_after z ≡ Some n → IsNext t.me t.cmd stage n → AreFormed lines (with_machine h x (Some (task_on s got)) m) (changed_at h (with_stage stage) hosts)
+      staged : (z : Turn) (n : Task) (stage : CommandStage) → turn_given t word ≡ z → task_after z ≡ Some n → IsNext t.me t.cmd stage n → AreFormed lines (with_parts h x (Some (task_on s got)) (keeps z) m) (changed_at h (with_stage stage) hosts)
       staged z n stage e goes next =
-          form_changed x (Some (task_on s got)) (with_stage stage) same
+          form_changed x (Some (task_on s got)) (keeps z) (with_stage stage) same
           record {
             name = is.name;
             uuid = is.uuid;
             task = subst (λ (o : Option TaskForm). StateTaskFormed lines host.uuid (Some (task_on s got)) (option_map (λ (y : TaskForm). record y { stage = stage }) o)) (sym g_is) (goes_on z n stage e goes next);
+            keeps = keeps_told z;
+            joined = keeps_joined z e;
           }
 
-      turned : (z : Turn) → turn_given t word ≡ z → TurnForm t.me t.cmd (stage_of t) z → Operated lines h 1 hosts (notes_of h (note_of z)) (with_machine h x (machine.task_behind (note_of z) (task_on s got)) m)
+      turned : (z : Turn) → turn_given t word ≡ z → TurnForm t.me t.cmd (stage_of t) z → Operated lines h 1 hosts (notes_of h (note_of z)) (with_parts h x (machine.task_behind (note_of z) (task_on s got)) (keeps z) m)
       turned (Goes n) e next = record {
         form = tt;
         within = omega arith;
-        next = form_moved x (Some (task_on s got)) same
+        next = form_went x (Some (task_on s got)) (keeps (Goes n)) same
             record {
               name = is.name;
               uuid = is.uuid;
               task = subst (λ (o : Option TaskForm). StateTaskFormed lines host.uuid (Some (task_on s got)) o) (sym (g_is ∙ ap (λ (at : CommandStage). Some (record { cmd = g.cmd; stage = at })) where_it_is.stage)) (goes_on (Goes n) n (stage_of t) e refl next);
+              keeps = keeps_told (Goes n);
+              joined = keeps_joined (Goes n) e;
             };
       }
       turned (Marks n) e next = record {
@@ -187,7 +241,7 @@ module _ (lines : ℕ) (m : Machines) (hosts : List HostForm) (formed : AreForme
       turned (Ends given) e next = record {
         form = (running (note.Answered h (note.Replied given)) (refl, reply_form given next), tt);
         within = omega arith;
-        next = form_ended x same;
+        next = form_changed x None (keeps (Ends given)) (λ z. record z { task = None }) same record { name = is.name; uuid = is.uuid; task = tt; keeps = keeps_told (Ends given); joined = keeps_joined (Ends given) e };
       }
 
     abbrev own : Machine
@@ -197,17 +251,25 @@ module _ (lines : ℕ) (m : Machines) (hosts : List HostForm) (formed : AreForme
     word = unwrap_or (given (op_of t) own) 0
 
     op_is : next_op s (length m.memory) ≡ Some (op_of t)
-    op_is = ap (next_op s) formed.lines_are ∙ operation_from_start s.cmd s.me lines t s.words s.made stands
+    op_is = ap (next_op s) formed.lines_are ∙ next_operation s.kept s.cmd s.me lines t s.words s.made stands.joined stands.stands
 
     note_is : machine.next_note s (length m.memory) (given (op_of t) own) ≡ Some (note_of (turn_given t word))
     note_is =
         ap (λ (n : ℕ). machine.next_note s n (given (op_of t) own)) formed.lines_are
         ∙ ap (machine.next_note s lines) (sym (same_given (op_of t) own))
-        ∙ note_from_start s.cmd s.me lines t s.words s.made stands word
+        ∙ next_note s.kept s.cmd s.me lines t s.words s.made stands.joined stands.stands word
+
+    -- what the host keeps is told by the words
+    keeps_is : host_keeps (note_of (turn_given t word)) (task_on s (given (op_of t) own)) (length m.memory) host.kept ≡ kept_after (turn_given t word) t host.kept
+    keeps_is =
+        ap (λ (n : ℕ). host_keeps (note_of (turn_given t word)) (task_on s (given (op_of t) own)) n host.kept) formed.lines_are
+        ∙ ap (λ (o : Option ℕ). host_keeps (note_of (turn_given t word)) (task_on s o) lines host.kept) (sym (same_given (op_of t) own))
+        ∙ kept_told s.kept s.cmd s.me lines t s.words s.made stands.joined stands.stands word host.kept
 
     served_form : (d : Done) → served h m host s (op_of t) (Some (note_of (turn_given t word))) ≡ Some d → Operated lines h 1 hosts d.notes d.left
     served_form d done =
-        subst (λ (z : Done). Operated lines h 1 hosts z.notes z.left) (same_Some _ d done)
+        subst (λ (z : Done). Operated lines h 1 hosts z.notes z.left)
+        (ap (λ (k : Option Kept). record { notes = notes_of h (note_of (turn_given t word)); left = with_parts h (operated (op_of t) own) (machine.task_behind (note_of (turn_given t word)) (task_on s (given (op_of t) own))) k m }) (sym keeps_is) ∙ same_Some _ d done)
         (turned word (given (op_of t) own) (same_given (op_of t) own) (operated (op_of t) own) (operated_length (op_of t) own) (turn_given t word) refl (turn_form t word))
 
     cut_form : (o : Option Failure) → ((x : Failure) → o ≡ Some x → length x.left.image ≡ length m.memory) → (d : Done) → cut h m o ≡ Some d → Operated lines h 1 hosts d.notes d.left

@@ -2,14 +2,14 @@
 -- at names, UUIDs and who has a task are the same for both.
 use Prim.Native.Nat.{zero, suc}
 use Rattle.std.proofs.Common.{◌≡◌, ◌≢◌, ℕ, ◌+◌, ◌<◌, Bool, true, false, List, [], ◌∷◌, ◌++◌, length, Option, Some, None, refl, ap, ap₂, sym, ◌∙◌, subst, arith}
-use Rattle.std.specs.Prelude.{⊤, slice_get, is_some, not, ◌==◌, ◌&&◌, nat_lt, nat_le, if◌then◌else◌}
+use Rattle.std.specs.Prelude.{⊤, slice_get, is_some, not, ◌==◌, ◌&&◌, ◌||◌, nat_lt, nat_le, if◌then◌else◌}
 use Rattle.std.proofs.lemmas.Bool.Decides.{nat_tests}
 use Rattle.std.proofs.lemmas.Option.{same_Some}
 use Rattle.fam_base.specs.PathOrder.{path_eq}
 use Rattle.fam_journal.specs.declared.refusal.Refusal.{Refusal}
 use Rattle.fam_journal.specs.declared.refusal.Refusal.TheVariants as why
 use Rattle.fam_journal.specs.Calls as call
-use Rattle.fam_journal.specs.Calls.{Call, begins_refusal, dirty_from, has_name, host_limit, idle_refusal, is_busy, is_busy_host, is_same, line_refusal, number_of, on_host, refusal_of, same_refusal, when}
+use Rattle.fam_journal.specs.Calls.{Call, begins_refusal, dirty_from, has_name, host_limit, idle_refusal, is_busy_host, is_engaged, is_same, line_refusal, number_of, on_host, refusal_of, same_refusal, when}
 use Rattle.fam_format.specs.Stop.{or_else}
 use Rattle.fam_format.specs.Layout.{least_lines}
 use Rattle.fam_machine.specs.Caches.{dirty_count}
@@ -58,11 +58,12 @@ module _ {A B : Type 0} (P : A → B → Type 0) where
 
 -- Refusals.
 
--- two hosts have the same name and UUID, and a task both or neither
+-- two hosts have the same name and UUID, and a task both or neither, and both or neither keeps something
 pub record Looks (a b : HostState) : Type 0 where
   pub name : a.name ≡ b.name
   pub uuid : a.uuid ≡ b.uuid
   pub busy : is_some a.task ≡ is_some b.task
+  pub keeps : is_some a.kept ≡ is_some b.kept
 
 phases : (test : HostState → Bool) → ((a b : HostState) → Looks a b → test a ≡ test b) → (xs bs : List HostState) (i : ℕ) → Pairs Looks xs bs → index_from i test xs ≡ index_from i test bs
 phases test same [] [] i alike = refl
@@ -94,8 +95,8 @@ module _ (a b : Machines) (alike : Pairs Looks a.hosts b.hosts) (lines : length 
   pub number_same : (name : List ℕ) → number_of name a ≡ number_of name b
   number_same name = phases (has_name name) (λ x y same. ap (λ (n : List ℕ). path_eq n name) same.name) a.hosts b.hosts 0 alike
 
-  pub busy_place : index_from 0 is_busy a.hosts ≡ index_from 0 is_busy b.hosts
-  busy_place = phases is_busy (λ x y same. same.busy) a.hosts b.hosts 0 alike
+  pub engaged_place : index_from 0 is_engaged a.hosts ≡ index_from 0 is_engaged b.hosts
+  engaged_place = phases is_engaged (λ x y same. ap₂ (λ (t k : Bool). t || k) same.busy same.keeps) a.hosts b.hosts 0 alike
 
   on_same : (f g : ℕ → Option Refusal) (name : List ℕ) → ((h : ℕ) → f h ≡ g h) → on_host (number_of name a) f ≡ on_host (number_of name b) g
   on_same f g name each = ap (λ (o : Option ℕ). on_host o f) (number_same name) ∙ by_number (number_of name b)

@@ -12,18 +12,18 @@ use Rattle.fam_machine.specs.Caches.{cell_at}
 use Rattle.fam_machine.specs.HostMoves.{moved_words}
 use Rattle.fam_machine.specs.Operations.{Machine}
 use Rattle.fam_commands.specs.Stands as standing
-use Rattle.fam_commands.specs.Task.{starting}
+use Rattle.fam_commands.specs.Task.{mounted}
 use Rattle.fam_rules.specs.Place.{line_bytes}
 use Rattle.fam_journal.specs.declared.refusal.Refusal.{Refusal}
 use Rattle.fam_journal.specs.declared.refusal.Refusal.TheVariants as why
 use Rattle.fam_journal.specs.Calls as call
-use Rattle.fam_journal.specs.Calls.{Acts, ActsAt, AtNumber, BreaksOff, ByRefusal, Call, CutsAt, Does, MayBeRefused, OnHost, Unfinished, busy_refusal, cause_of, dirty_from, dirty_refusal, is_busy, makes_refusal, may_begin, name_of, number_of, on_host, refusal_of}
+use Rattle.fam_journal.specs.Calls.{Acts, ActsAt, AtNumber, BreaksOff, ByRefusal, Call, CutsAt, Does, MayBeRefused, OnHost, Unfinished, busy_refusal, cause_of, dirty_from, dirty_refusal, is_engaged, makes_refusal, may_begin, name_of, number_of, on_host, refusal_of}
 use Rattle.fam_journal.specs.Forms.{ActsForm, AreFormed, AtForm, BreaksForm, DirtyForm, DoesForm, FaultForm, FormByRefusal, FreeForm, HostActsForm, HostForm, OfHostForm, Pairs, StateFormed, UnfinishedForm, forms_behind, makes_told, refusal_told, shown_forms}
 use Rattle.fam_journal.specs.Machines.{HostState, Machines, machine_of, with_machine}
 use Rattle.fam_journal.specs.Members.{index_of}
 use Rattle.fam_journal.specs.Notes.{Note, Made, Refused}
-use Rattle.fam_journal.proofs.Forms.Operations.{all_length, all_look, form_ended, form_moved, move_length, operates_form, operation_form, runs_same}
-use Rattle.fam_journal.proofs.Forms.Pairs.{Looks, busy_place, dirty_other, may_same, number_same, pairs_at, pairs_changed, pairs_last, pairs_length, refusal_looks, step_same}
+use Rattle.fam_journal.proofs.Forms.Operations.{all_length, all_look, form_halted, form_moved, move_length, operates_form, operation_form, runs_same}
+use Rattle.fam_journal.proofs.Forms.Pairs.{Looks, engaged_place, dirty_other, may_same, number_same, pairs_at, pairs_changed, pairs_last, pairs_length, refusal_looks, step_same}
 
 -- notes have a form, and the hosts behind them are what notes tell
 pub record Formed (P : List Note → Type 0) (lines : ℕ) (hosts : List HostForm) (notes : List Note) (new : Machines) : Type 0 where
@@ -69,7 +69,7 @@ module _ (lines : ℕ) (m : Machines) (hosts : List HostForm) (formed : AreForme
     stays : (notes : List Note) (x : Machine) → forms_behind hosts notes ≡ hosts → length x.image ≡ length m.memory → AreFormed lines (with_machine h x host.task m) (forms_behind hosts notes)
     stays notes x quiet same =
         subst (λ (z : List HostForm). AreFormed lines (with_machine h x host.task m) z) (sym quiet)
-        (form_moved lines m hosts formed h host host_is f f_is is x host.task same record { name = is.name; uuid = is.uuid; task = is.task })
+        (form_moved lines m hosts formed h host host_is f f_is is x host.task same record { name = is.name; uuid = is.uuid; task = is.task; keeps = is.keeps; joined = is.joined })
 
     act_form : (c : Call) (notes : List Note) (new : Machines) → ActsAt c h host m notes new → Formed (ActsForm c h f lines hosts) lines hosts notes new
     act_form (call.Declares name uuid) notes new x = absurd x
@@ -95,7 +95,9 @@ module _ (lines : ℕ) (m : Machines) (hosts : List HostForm) (formed : AreForme
                 record {
                   name = is.name;
                   uuid = is.uuid;
-                  task = record { task = starting cmd host.uuid lines; stands = standing.starts; is = record { cmd = refl; me_is = refl; stage = refl } };
+                  task = record { task = mounted host.kept cmd host.uuid lines; stands = record { joined = is.joined; stands = standing.starts }; is = record { cmd = refl; me_is = refl; stage = refl } };
+                  keeps = is.keeps;
+                  joined = is.joined;
                 };
           };
         }
@@ -113,12 +115,12 @@ module _ (lines : ℕ) (m : Machines) (hosts : List HostForm) (formed : AreForme
           form = refl;
           next = record {
             lines_are = formed.lines_are;
-            formed = pairs_changed (StateFormed lines) m.hosts hosts h host f _ _ formed.formed host_is f_is record { name = is.name; uuid = is.uuid; task = tt };
+            formed = pairs_changed (StateFormed lines) m.hosts hosts h host f _ _ formed.formed host_is f_is record { name = is.name; uuid = is.uuid; task = tt; keeps = is.keeps; joined = is.joined };
           };
         }
     act_form (call.Halts name) notes new x =
         formed_as (ActsForm (call.Halts name) h f lines hosts) lines hosts notes _ new _ x.0 x.1
-        record { form = refl; next = form_ended lines m hosts formed h host host_is f f_is is (record { image = m.memory; cache = finmap.empty }) refl }
+        record { form = refl; next = form_halted lines m hosts formed h host host_is f f_is is (record { image = m.memory; cache = finmap.empty }) refl }
     act_form (call.Moves name line move) notes new (inl x) =
         formed_as (ActsForm (call.Moves name line move) h f lines hosts) lines hosts notes [] new _ x.notes_are x.left
         record { form = inl refl; next = stays [] _ refl (length-with_line m.memory line (moved_words move (line_at m.memory line) (cell_at host.cache line))) }
@@ -162,7 +164,7 @@ module _ (lines : ℕ) (m : Machines) (hosts : List HostForm) (formed : AreForme
         formed_as (FreeForm (call.Declares name uuid) lines hosts) lines hosts notes _ new _ x.0 x.1
         record {
           form = refl;
-          next = record { lines_are = formed.lines_are; formed = pairs_last (StateFormed lines) m.hosts hosts _ _ formed.formed record { name = refl; uuid = refl; task = tt } };
+          next = record { lines_are = formed.lines_are; formed = pairs_last (StateFormed lines) m.hosts hosts _ _ formed.formed record { name = refl; uuid = refl; task = tt; keeps = refl; joined = tt } };
         }
     acts_form (call.Refuses name cause) x = noted (FreeForm (call.Refuses name cause) lines hosts) name cause (refl, may_refuse name cause x.2) x.0 x.1
     acts_form (call.Makes name request) x = let a = acts_of (call.Makes name request) x in record { form = inl a.form; next = a.next }
@@ -196,13 +198,13 @@ module _ (lines : ℕ) (m : Machines) (hosts : List HostForm) (formed : AreForme
       early_same : option_map cause_of (early_refusal request.unit request.log (line_bytes * length m.memory)) ≡ option_map cause_of (early_refusal request.unit request.log (line_bytes * length told.memory))
       early_same = ap (λ (n : ℕ). option_map cause_of (early_refusal request.unit request.log (line_bytes * n))) same_lines
 
-      busy_told : busy_refusal (index_of is_busy m.hosts) ≡ busy_refusal (index_of is_busy told.hosts)
-      busy_told = ap busy_refusal (busy_place m told look same_lines)
+      busy_told : busy_refusal (index_of is_engaged m.hosts) ≡ busy_refusal (index_of is_engaged told.hosts)
+      busy_told = ap busy_refusal (engaged_place m told look same_lines)
 
-      told_is : (h : ℕ) → number_of name told ≡ Some h → (e b : Option Refusal) → option_map cause_of (early_refusal request.unit request.log (line_bytes * length told.memory)) ≡ e → busy_refusal (index_of is_busy told.hosts) ≡ b → refusal_told makes lines hosts ≡ or_else e b
+      told_is : (h : ℕ) → number_of name told ≡ Some h → (e b : Option Refusal) → option_map cause_of (early_refusal request.unit request.log (line_bytes * length told.memory)) ≡ e → busy_refusal (index_of is_engaged told.hosts) ≡ b → refusal_told makes lines hosts ≡ or_else e b
       told_is h n e b e_is b_is = ap (λ (o : Option ℕ). on_host o (λ h. makes_told request.unit request.log told)) n ∙ ap₂ or_else e_is b_is
 
-      refusal_is : (h : ℕ) → number_of name told ≡ Some h → (e b d : Option Refusal) → option_map cause_of (early_refusal request.unit request.log (line_bytes * length told.memory)) ≡ e → busy_refusal (index_of is_busy told.hosts) ≡ b → dirty_refusal (dirty_from h 0 m.hosts) ≡ d → refusal_of makes m ≡ or_else e (or_else b d)
+      refusal_is : (h : ℕ) → number_of name told ≡ Some h → (e b d : Option Refusal) → option_map cause_of (early_refusal request.unit request.log (line_bytes * length told.memory)) ≡ e → busy_refusal (index_of is_engaged told.hosts) ≡ b → dirty_refusal (dirty_from h 0 m.hosts) ≡ d → refusal_of makes m ≡ or_else e (or_else b d)
       unfolding refusal_of
       refusal_is h n e b d e_is b_is d_is =
           ap (λ (o : Option ℕ). on_host o (λ h. makes_refusal request.unit request.log h m)) (number_told name ∙ n)
@@ -230,7 +232,7 @@ module _ (lines : ℕ) (m : Machines) (hosts : List HostForm) (formed : AreForme
               let below = other.1 in
               record { maker = h; number = n; dirty = k; declared = omega (arith, below, pairs_length (StateFormed lines) m.hosts hosts formed.formed); other = other.0; notes_are = refl }
 
-      of_maker : (h : ℕ) → number_of name told ≡ Some h → (e b : Option Refusal) → option_map cause_of (early_refusal request.unit request.log (line_bytes * length told.memory)) ≡ e → busy_refusal (index_of is_busy told.hosts) ≡ b → Does makes m notes new → Formed Form lines hosts notes new
+      of_maker : (h : ℕ) → number_of name told ≡ Some h → (e b : Option Refusal) → option_map cause_of (early_refusal request.unit request.log (line_bytes * length told.memory)) ≡ e → busy_refusal (index_of is_engaged told.hosts) ≡ b → Does makes m notes new → Formed Form lines hosts notes new
       of_maker h n (Some e) b e_is b_is x = by_told (Some e) (refusal_is h n (Some e) b (dirty_refusal (dirty_from h 0 m.hosts)) e_is b_is refl) (told_is h n (Some e) b e_is b_is) x
       of_maker h n None (Some b) e_is b_is x = by_told (Some b) (refusal_is h n None (Some b) (dirty_refusal (dirty_from h 0 m.hosts)) e_is b_is refl) (told_is h n None (Some b) e_is b_is) x
       of_maker h n None None e_is b_is x =
@@ -242,7 +244,7 @@ module _ (lines : ℕ) (m : Machines) (hosts : List HostForm) (formed : AreForme
 
       by_maker : (o : Option ℕ) → number_of name told ≡ o → Does makes m notes new → Formed Form lines hosts notes new
       by_maker None n x = by_told (Some why.NoHost) (no_maker n) (ap (λ (o : Option ℕ). on_host o (λ h. makes_told request.unit request.log told)) n) x
-      by_maker (Some h) n x = of_maker h n (option_map cause_of (early_refusal request.unit request.log (line_bytes * length told.memory))) (busy_refusal (index_of is_busy told.hosts)) refl refl x
+      by_maker (Some h) n x = of_maker h n (option_map cause_of (early_refusal request.unit request.log (line_bytes * length told.memory))) (busy_refusal (index_of is_engaged told.hosts)) refl refl x
 
       makes_form : Does makes m notes new → Formed Form lines hosts notes new
       makes_form x = by_maker (number_of name told) refl x
@@ -251,14 +253,14 @@ module _ (lines : ℕ) (m : Machines) (hosts : List HostForm) (formed : AreForme
       free_told : refusal_of makes m ≡ None → refusal_told makes lines hosts ≡ None
       free_told none = by_number (number_of name told) refl
         where
-          at_maker : (h : ℕ) → number_of name told ≡ Some h → (e b : Option Refusal) → option_map cause_of (early_refusal request.unit request.log (line_bytes * length told.memory)) ≡ e → busy_refusal (index_of is_busy told.hosts) ≡ b → refusal_told makes lines hosts ≡ None
+          at_maker : (h : ℕ) → number_of name told ≡ Some h → (e b : Option Refusal) → option_map cause_of (early_refusal request.unit request.log (line_bytes * length told.memory)) ≡ e → busy_refusal (index_of is_engaged told.hosts) ≡ b → refusal_told makes lines hosts ≡ None
           at_maker h n (Some e) b e_is b_is = absurd (let some = sym none ∙ refusal_is h n (Some e) b (dirty_refusal (dirty_from h 0 m.hosts)) e_is b_is refl in cc)
           at_maker h n None (Some b) e_is b_is = absurd (let some = sym none ∙ refusal_is h n None (Some b) (dirty_refusal (dirty_from h 0 m.hosts)) e_is b_is refl in cc)
           at_maker h n None None e_is b_is = told_is h n None None e_is b_is
 
           by_number : (o : Option ℕ) → number_of name told ≡ o → refusal_told makes lines hosts ≡ None
           by_number None n = absurd (let some = sym none ∙ no_maker n in cc)
-          by_number (Some h) n = at_maker h n (option_map cause_of (early_refusal request.unit request.log (line_bytes * length told.memory))) (busy_refusal (index_of is_busy told.hosts)) refl refl
+          by_number (Some h) n = at_maker h n (option_map cause_of (early_refusal request.unit request.log (line_bytes * length told.memory))) (busy_refusal (index_of is_engaged told.hosts)) refl refl
 
       cut_host : (h : ℕ) (o : Option HostState) → OnHost o (λ host. CutsAt makes h host m notes new) → FaultForm name notes
       cut_host h None x = absurd x

@@ -5,7 +5,7 @@ use Rattle.std.proofs.lemmas.Bool.Decides.{Decides-eqb}
 use Rattle.std.specs.Prelude.{⊤, unwrap_or, ◌==◌, nat_lt, nat_le, if◌then◌else◌, Result}
 use Rattle.std.specs.FinMap as finmap
 use Rattle.fam_base.specs.declared.cmd.Cmd.{Cmd}
-use Rattle.fam_base.specs.declared.cmd.Cmd.TheVariants.{Logplay, Mkdir, Creat, Cp, Verify, Read, Check, Fsck}
+use Rattle.fam_base.specs.declared.cmd.Cmd.TheVariants.{Logplay, Mount, Mkdir, Creat, Cp, Verify, Read, Check, Fsck}
 use Rattle.fam_base.specs.declared.cmd.Content.{Content}
 use Rattle.fam_base.specs.declared.cmd.Content.TheVariants as content
 use Rattle.fam_base.specs.declared.entry.Params.{Params}
@@ -172,6 +172,7 @@ module _ (me : List ℕ) (cmd : Cmd) (stage : CommandStage) where
       by_cmd : (c : Cmd) → ReplyForm me c stage (super_fault_reply c fault)
       by_cmd Fsck = (refl, tt)
       by_cmd Logplay = ((λ e. absurd cc), at)
+      by_cmd Mount = ((λ e. absurd cc), at)
       by_cmd (Mkdir path attr) = ((λ e. absurd cc), at)
       by_cmd (Creat path size attr stripe fill) = ((λ e. absurd cc), at)
       by_cmd (Cp path attr stripe bytes) = ((λ e. absurd cc), at)
@@ -188,6 +189,7 @@ module _ (me : List ℕ) (cmd : Cmd) (stage : CommandStage) where
       by_cmd : (c : Cmd) → ReplyForm me c stage (log_fault_reply c fault)
       by_cmd Fsck = (refl, no_count fault)
       by_cmd Logplay = ((λ e. absurd cc), head)
+      by_cmd Mount = ((λ e. absurd cc), head)
       by_cmd (Mkdir path attr) = ((λ e. absurd cc), head)
       by_cmd (Creat path size attr stripe fill) = ((λ e. absurd cc), head)
       by_cmd (Cp path attr stripe bytes) = ((λ e. absurd cc), head)
@@ -273,6 +275,7 @@ module _ (t : Task) where
       by_cmd : (c : Cmd) → t.cmd ≡ c → TurnForm t.me t.cmd reads (check_turn c t i)
       by_cmd Fsck is = record { cmd_is = refl; me_is = refl; stage_is = slot_stage t _ (i + 1) }
       by_cmd Logplay is = reads_slot (λ e. absurd cc)
+      by_cmd Mount is = reads_slot (λ e. absurd cc)
       by_cmd (Mkdir path attr) is = reads_slot (λ e. absurd cc)
       by_cmd (Creat path size attr stripe fill) is = reads_slot (λ e. absurd cc)
       by_cmd (Cp path attr stripe bytes) is = reads_slot (λ e. absurd cc)
@@ -328,6 +331,7 @@ module _ (t : Task) where
 
     decide_form : (c : Cmd) → t.cmd ≡ c → TurnForm t.me t.cmd reads (decide_turn c t)
     decide_form Logplay is = (is, marked (ap wish_of is))
+    decide_form Mount is = (is, marked (ap wish_of is))
     decide_form (Check listing) is = (subst IsCheck (sym is) tt, marked (ap wish_of is))
     decide_form Fsck is = (is, fsck_count)
       where
@@ -369,6 +373,7 @@ file_form t j k phase c is = by_cmd c is
     by_cmd (Read path offset count) is =
         line_or_form t (reading_stage (wish_of t.cmd) t.gate) File j _ refl (subst IsRead (sym is) tt, ap (λ (z : Cmd). reading_stage (wish_of z) t.gate) is)
     by_cmd Logplay is = stays
+    by_cmd Mount is = stays
     by_cmd (Mkdir path attr) is = stays
     by_cmd (Creat path size attr stripe fill) is = stays
     by_cmd (Cp path attr stripe bytes) is = stays

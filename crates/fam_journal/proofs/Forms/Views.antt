@@ -4,6 +4,7 @@ use Rattle.std.proofs.Common.{◌≡◌, ℕ, ◌≤◌, List, [], ◌∷◌, �
 use Rattle.std.specs.Prelude.{slice_get, is_some, option_map}
 use Rattle.fam_base.specs.declared.cmd.Cmd.{Cmd}
 use Rattle.fam_machine.specs.Caches.{Cache}
+use Rattle.fam_commands.specs.Keeping.{kept_after}
 use Rattle.fam_commands.specs.Stands.{note_of, task_after, turn_given}
 use Rattle.fam_commands.specs.Task.{Task}
 use Rattle.fam_commands.specs.Turns.{Turn, Goes, Marks, Finds, Writes, Ends}
@@ -19,7 +20,7 @@ use Rattle.fam_journal.specs.Notes as note
 use Rattle.fam_journal.specs.Notes.{Note}
 use Rattle.fam_journal.specs.View.{HostView, WorldView}
 use Rattle.fam_journal.specs.ByWorld.{number_in, refusal_in, shown_host, shown_state, shown_task}
-use Rattle.fam_journal.proofs.Forms.Operations.{forms_both}
+use Rattle.fam_journal.proofs.Forms.Operations.{forms_both, keeps_some, shown_keeps}
 use Rattle.fam_journal.proofs.Forms.Pairs.{IsNoMake, Looks, number_same, pairs_at, pairs_changed, pairs_moved, refusal_looks}
 use Rattle.fam_journal.proofs.Forms.Tasks.{IsNext, TurnForm, turn_form}
 
@@ -36,7 +37,7 @@ views_look [] [] all = tt
 views_look [] (f ∷ forms) all = absurd all
 views_look (v ∷ views) [] all = absurd all
 views_look (v ∷ views) (f ∷ forms) all =
-    (record { name = sym all.0.name; uuid = sym all.0.uuid; busy = view_looks v.uuid v.task f.task all.0.task }, views_look views forms all.1)
+    (record { name = sym all.0.name; uuid = sym all.0.uuid; busy = view_looks v.uuid v.task f.task all.0.task; keeps = sym all.0.keeps ∙ sym (shown_keeps f.keeps) }, views_look views forms all.1)
 
 module _ (lines : ℕ) (world : WorldView) (is : IsFormed world) where
   -- the first refusal that the world has is the one that its journal tells
@@ -53,7 +54,7 @@ module _ (world : WorldView) (is : IsFormed world) (h : ℕ) (view : HostView) (
   forms = forms_of world.journal
 
   abbrev after : Turn → HostView → HostView
-  after z v = record v { cache = cache; task = task_after z }
+  after z v = record v { cache = cache; task = task_after z; kept = kept_after z t v.kept }
 
   module _ (f : HostForm) (f_is : slice_get forms h ≡ Some f) (host : HostFormed view f) (g : TaskForm) (g_is : f.task ≡ Some g) (at : IsTaskForm view.uuid t g) where
     running : (note : Note) → TaskNote h f.uuid g note → OfRunning (slice_get forms h) (λ me t. TaskNote h me t note)
@@ -67,6 +68,9 @@ module _ (world : WorldView) (is : IsFormed world) (h : ℕ) (view : HostView) (
         (subst (λ (c : Cmd). ReplyForm t.me c g.stage given) (sym at.cmd)
         (subst (λ (s : CommandStage). ReplyForm t.me t.cmd s given) (sym at.stage) form))
 
+    keeps_told : (z : Turn) → f.keeps ≡ is_some (kept_after z t view.kept)
+    keeps_told z = host.keeps ∙ sym (keeps_some z t view.kept)
+
     goes_on : (n : Task) (stage : CommandStage) → IsNext t.me t.cmd stage n → IsTaskForm view.uuid n (record { cmd = g.cmd; stage = stage })
     goes_on n stage next = record { cmd = at.cmd ∙ sym next.cmd_is; me_is = next.me_is ∙ at.me_is; stage = sym next.stage_is }
 
@@ -78,6 +82,7 @@ module _ (world : WorldView) (is : IsFormed world) (h : ℕ) (view : HostView) (
           uuid = host.uuid;
           task = subst (λ (o : Option Task). TaskFormed view.uuid o (with_stage stage f).task) (sym goes)
               (subst (λ (o : Option TaskForm). TaskFormed view.uuid (Some n) (option_map (λ (y : TaskForm). record y { stage = stage }) o)) (sym g_is) (goes_on n stage next));
+          keeps = keeps_told z;
         }
 
     turned : (z : Turn) → TurnForm t.me t.cmd (stage_of t) z → OperationsForm h forms (notes_of h (note_of z)) × Pairs HostFormed (changed_at h (after z) world.hosts) (forms_behind forms (notes_of h (note_of z)))
@@ -88,6 +93,7 @@ module _ (world : WorldView) (is : IsFormed world) (h : ℕ) (view : HostView) (
             name = host.name;
             uuid = host.uuid;
             task = subst (λ (o : Option TaskForm). TaskFormed view.uuid (Some n) o) (sym (g_is ∙ ap (λ (s : CommandStage). Some (record { cmd = g.cmd; stage = s })) at.stage)) (goes_on n (stage_of t) next);
+            keeps = keeps_told (Goes n);
           },
     )
     turned (Marks n) next = ((running (note.Mark h) (refl, at.stage ∙ next.0), tt), staged (Marks n) n Marked refl next.1)
@@ -96,7 +102,7 @@ module _ (world : WorldView) (is : IsFormed world) (h : ℕ) (view : HostView) (
         ((running (note.Writes h seq entry) (refl, subst (λ (c : Cmd). EntryForm c entry) (sym at.cmd) next.0, at.stage ∙ next.1), tt), staged (Writes seq entry n) n (Named seq) refl next.2)
     turned (Ends given) next = (
       (running (note.Answered h (note.Replied given)) (refl, reply_form given next), tt),
-      pairs_changed HostFormed world.hosts forms h view f (after (Ends given)) (λ z. record z { task = None }) is view_is f_is record { name = host.name; uuid = host.uuid; task = tt },
+      pairs_changed HostFormed world.hosts forms h view f (after (Ends given)) (λ z. record z { task = None }) is view_is f_is record { name = host.name; uuid = host.uuid; task = tt; keeps = keeps_told (Ends given) },
     )
 
   by_task : (f : HostForm) → slice_get forms h ≡ Some f → HostFormed view f → (p : Option TaskForm) → f.task ≡ p → TaskFormed view.uuid (Some t) p
@@ -118,7 +124,7 @@ module _ (world : WorldView) (is : IsFormed world) (h : ℕ) (view : HostView) (
   short (Ends given) = omega arith
 
   -- the world again
-  pub world_formed : IsFormed (record { hosts = changed_at h (λ v. record v { cache = cache; task = task_after (turn_given t word) }) world.hosts; journal = world.journal ++ notes_of h (note_of (turn_given t word)) })
+  pub world_formed : IsFormed (record { hosts = changed_at h (λ v. record v { cache = cache; task = task_after (turn_given t word); kept = kept_after (turn_given t word) t v.kept }) world.hosts; journal = world.journal ++ notes_of h (note_of (turn_given t word)) })
   world_formed =
       subst (λ (z : List HostForm). Pairs HostFormed (changed_at h (after (turn_given t word)) world.hosts) z) (sym (forms_both [] world.journal (notes_of h (note_of (turn_given t word))))) both.1
 

@@ -4,7 +4,7 @@ use Rattle.std.proofs.Common.{◌⊎◌, inl, inr, ◌≡◌, ℕ, ◌+◌, Bool
 use Rattle.std.specs.Prelude.{slice_get, if◌then◌else◌}
 use Rattle.fam_journal.specs.declared.refusal.Refusal.{Refusal}
 use Rattle.fam_base.specs.declared.cmd.Cmd.TheVariants.{Logplay}
-use Rattle.fam_commands.specs.Task.{starting}
+use Rattle.fam_commands.specs.Task.{mounted}
 use Rattle.std.specs.FinMap as finmap
 use Rattle.fam_journal.specs.declared.refusal.Refusal.TheVariants as why
 use Rattle.fam_journal.specs.Calls as call
@@ -96,22 +96,22 @@ module _ (lines : ℕ) (world : WorldView) (is : IsFormed world) where
     notes = note.Host name uuid ∷ [];
     joined = refl;
     form = freed (call.Declares name uuid) (note.Host name uuid ∷ []) (told_of (call.Declares name uuid) tt ∙ free) refl;
-    formed = added _ (note.Host name uuid) (pairs_last HostFormed world.hosts forms _ _ is record { name = refl; uuid = refl; task = tt });
+    formed = added _ (note.Host name uuid) (pairs_last HostFormed world.hosts forms _ _ is record { name = refl; uuid = refl; task = tt; keeps = refl });
   }
   acted_form (call.Makes name request) takes free = absurd takes
   acted_form (call.Begins name cmd) takes free =
-      hosted (call.Begins name cmd) (λ v. record v { task = Some (starting cmd v.uuid lines) }) (λ h. note.Start h cmd) (number_in name world) refl (λ h none. no_host name _ free none) (λ h x. x) (λ h f. refl)
-      (λ h. pairs_any HostFormed _ _ (λ v f at. record { name = at.name; uuid = at.uuid; task = record { cmd = refl; me_is = refl; stage = refl } }) h world.hosts forms is)
+      hosted (call.Begins name cmd) (λ v. record v { task = Some (mounted v.kept cmd v.uuid lines) }) (λ h. note.Start h cmd) (number_in name world) refl (λ h none. no_host name _ free none) (λ h x. x) (λ h f. refl)
+      (λ h. pairs_any HostFormed _ _ (λ v f at. record { name = at.name; uuid = at.uuid; task = record { cmd = refl; me_is = refl; stage = refl }; keeps = at.keeps }) h world.hosts forms is)
       (told_of (call.Begins name cmd) tt ∙ free)
   acted_form (call.Steps name) takes free = absurd takes
   acted_form (call.Finishes name) takes free = absurd takes
   acted_form (call.Stops name) takes free =
       hosted (call.Stops name) (λ v. record v { task = None }) note.Stop (number_in name world) refl (λ h none. no_host name _ free none) (λ h x. x) (λ h f. refl)
-      (λ h. pairs_any HostFormed _ _ (λ v f at. record { name = at.name; uuid = at.uuid; task = tt }) h world.hosts forms is)
+      (λ h. pairs_any HostFormed _ _ (λ v f at. record { name = at.name; uuid = at.uuid; task = tt; keeps = at.keeps }) h world.hosts forms is)
       (told_of (call.Stops name) tt ∙ free)
   acted_form (call.Halts name) takes free =
-      hosted (call.Halts name) (λ v. record v { cache = finmap.empty; task = None }) note.Halt (number_in name world) refl (λ h none. no_host name _ free none) (λ h x. x) (λ h f. refl)
-      (λ h. pairs_any HostFormed _ _ (λ v f at. record { name = at.name; uuid = at.uuid; task = tt }) h world.hosts forms is)
+      hosted (call.Halts name) (λ v. record v { cache = finmap.empty; task = None; kept = None }) note.Halt (number_in name world) refl (λ h none. no_host name _ free none) (λ h x. x) (λ h f. refl)
+      (λ h. pairs_any HostFormed _ _ (λ v f at. record { name = at.name; uuid = at.uuid; task = tt; keeps = refl }) h world.hosts forms is)
       (told_of (call.Halts name) tt ∙ free)
   acted_form (call.Moves name line move) takes free = absurd takes
   acted_form (call.Refuses name cause) takes free = record {

@@ -11,7 +11,8 @@ use Rattle.fam_machine.specs.declared.op.Op.{Op}
 use Rattle.fam_machine.specs.Operations.{Machine, given, operated}
 use Rattle.fam_commands.specs.Stands.{turn_given}
 use Rattle.fam_commands.specs.Task.{Task}
-use Rattle.fam_commands.proofs.Steps.Standing.{bare_tied}
+use Rattle.fam_commands.proofs.Steps.Standing.{standing_tied}
+use Rattle.fam_commands.specs.Kept.{Kept}
 use Rattle.fam_protocol.specs.SharedState.{SharedState}
 use Rattle.fam_protocol.specs.Invariant.{Hosts}
 use Rattle.fam_commands.specs.Table as row
@@ -26,11 +27,11 @@ use Rattle.fam_journal.specs.Complete.{AreRuled, EndsInAnswer}
 use Rattle.fam_journal.specs.Ends.{IsFaultless}
 use Rattle.fam_journal.specs.Events.{DoesEvent, Continues, Session, first_session}
 use Rattle.fam_journal.specs.Follows.{Follows}
-use Rattle.fam_journal.specs.Kept.{Kept, hosts_of, run_at, run_of, run_with, shared_of, settled_of, uuid_at}
+use Rattle.fam_journal.specs.Kept.{Reached, hosts_of, run_at, run_of, run_with, shared_of, settled_of, uuid_at}
 use Rattle.fam_journal.specs.Laws.{AreSound, IsImage, IsSoundEvent}
 use Rattle.fam_journal.specs.Legal.{LegalBehind}
 use Rattle.fam_machine.specs.HostMoves.{Evict, Fetch, Leak}
-use Rattle.fam_journal.specs.Machines.{Done, HostState, Machines, Operation, Passes, TaskState, host_done, machine_of, next_note, next_op, op_done, operation, served, task_begun, task_done, task_on, with_machine}
+use Rattle.fam_journal.specs.Machines.{Done, HostState, Machines, Operation, Passes, TaskState, host_done, machine_of, next_note, next_op, op_done, operation, served, task_begun, task_done, task_on, with_parts}
 use Rattle.fam_journal.specs.Notes.{Answered, MediaFault, Note, Refused, Replied}
 use Rattle.fam_journal.specs.Past.{Past, first_past, past_of}
 use Rattle.fam_journal.proofs.Calls.Cases.{by_host, place_same}
@@ -52,13 +53,13 @@ ruled_parts start journal a b notes is first rest =
 
 module _ (start : Image) where
   -- the protocol's hosts, and what they see
-  abbrev hosts_kept : (state : Machines) (journal : List Note) → Kept start state journal → Hosts
+  abbrev hosts_kept : (state : Machines) (journal : List Note) → Reached start state journal → Hosts
   hosts_kept state journal kept = hosts_of kept.views (past_of start journal).hosts
 
-  abbrev shared_kept : (state : Machines) (journal : List Note) → Kept start state journal → SharedState
+  abbrev shared_kept : (state : Machines) (journal : List Note) → Reached start state journal → SharedState
   shared_kept state journal kept = shared_of state.memory kept.views
 
-  operation_ruled : (h : ℕ) (state : Machines) (journal : List Note) → Kept start state journal → (notes : List Note) (new : Machines) → Operation h state notes new → AreRuled (past_of start journal) notes
+  operation_ruled : (h : ℕ) (state : Machines) (journal : List Note) → Reached start state journal → (notes : List Note) (new : Machines) → Operation h state notes new → AreRuled (past_of start journal) notes
   unfolding operation
   operation_ruled h state journal kept notes new op = by_host (slice_get state.hosts h) refl
     where
@@ -76,9 +77,9 @@ module _ (start : Image) where
       by_turn : (d : Declared start state (record { hosts = kept.views; journal = journal }) h) → Turned start state journal kept h d notes ⊎ ((line : ℕ) × (notes ≡ Answered h (MediaFault line) ∷ [])) → AreRuled (past_of start journal) notes
       by_turn d (inl t) =
           subst (AreRuled (past_of start journal)) (sym t.notes_are)
-          (turn_ruled (past_of start journal) h (turn_given t.t t.word) d.told t.s.cmd d.told_is t.cmd_is (turn_fits t.s.cmd t.s.me (length start) t.t t.s.words t.s.made t.word t.standing)
+          (turn_ruled (past_of start journal) h (turn_given t.t t.word) d.told t.s.cmd d.told_is t.cmd_is (turn_fits t.s.kept t.s.cmd t.s.me (length start) t.t t.s.words t.s.made t.word t.standing.joined t.standing.stands)
           (λ given is. owns_fault (length start) (hosts_kept state journal kept) (shared_kept state journal kept) h (run_of t.t d.told) (runs d t) t.s.cmd d.told
-          (bare_tied t.s.cmd t.s.me (length start) t.t t.s.words t.s.made t.standing).cmd_is (mine d t)
+          (standing_tied t.s.kept t.s.cmd t.s.me (length start) t.t t.s.words t.s.made t.standing.joined t.standing.stands).cmd_is (mine d t)
           (past_of start journal).state (λ i g n e. bad_own start i g n journal e) kept.held.invariant.stage t.word given is)
           (subst (LegalBehind (past_of start journal)) t.notes_are legal))
       by_turn d (inr fault) = subst (AreRuled (past_of start journal)) (sym fault.1) (tt, tt)
@@ -87,7 +88,7 @@ module _ (start : Image) where
       by_host None none = absurd (let e : Rattle.fam_journal.specs.Machines.host_done op.outcome h state (slice_get state.hosts h) ≡ None = ap (Rattle.fam_journal.specs.Machines.host_done op.outcome h state) none in let f = op.is in cc)
       by_host (Some host) is = let d = declared_at start state journal kept h host is in by_turn d (turned start state journal kept h d notes new op)
 
-  operates_ruled : (h count : ℕ) (state : Machines) (journal : List Note) → Kept start state journal → (notes : List Note) (new : Machines) → DoesOperations h count state notes new → AreRuled (past_of start journal) notes
+  operates_ruled : (h count : ℕ) (state : Machines) (journal : List Note) → Reached start state journal → (notes : List Note) (new : Machines) → DoesOperations h count state notes new → AreRuled (past_of start journal) notes
   operates_ruled h zero state journal kept notes new o = subst (AreRuled (past_of start journal)) (sym o.0) tt
   operates_ruled h (suc count) state journal kept notes new (inl o) = subst (AreRuled (past_of start journal)) (sym o.1) tt
   operates_ruled h (suc count) state journal kept notes new (inr o) =
@@ -95,7 +96,7 @@ module _ (start : Image) where
       (operates_ruled h count o.1 (journal ++ o.2) (operation_kept start h state journal kept o.2 o.1 o.4) o.3 new o.5)
 
   -- one note that is no answer
-  module _ (state : Machines) (journal : List Note) (kept : Kept start state journal) (notes : List Note) (new : Machines) where
+  module _ (state : Machines) (journal : List Note) (kept : Reached start state journal) (notes : List Note) (new : Machines) where
     act_ruled : (c : Call) (h : ℕ) (host : HostState) → ActsAt c h host state notes new → AreRuled (past_of start journal) notes
     act_ruled (call.Declares name uuid) h host x = absurd x
     act_ruled (call.Makes name request) h host (inl x) = subst (AreRuled (past_of start journal)) (sym x.notes_are) (tt, tt)
@@ -139,7 +140,7 @@ module _ (start : Image) where
     refusal_ruled name cause is = subst (AreRuled (past_of start journal)) (sym is) (tt, tt)
 
   module _ (files : Files) where
-    event_ruled : (e : Event) → IsSoundEvent e → (old new : Session) (journal notes : List Note) → Kept start old.machines journal → DoesEvent files e old notes new → AreRuled (past_of start journal) notes
+    event_ruled : (e : Event) → IsSoundEvent e → (old new : Session) (journal notes : List Note) → Reached start old.machines journal → DoesEvent files e old notes new → AreRuled (past_of start journal) notes
     event_ruled (event.Host name uuid) sound old new journal notes kept x = does_ruled old.machines journal kept notes new.machines (call.Declares name uuid) x.0
     event_ruled (event.Mkfs name fs unit log force) sound old new journal notes kept x = does_ruled old.machines journal kept notes new.machines (call.Makes name (mkfs_request fs unit log force)) x.0
     event_ruled (event.Begin name what) sound old new journal notes kept (inl x) = does_ruled old.machines journal kept notes new.machines (call.Begins name x.cmd) x.does
@@ -159,7 +160,7 @@ module _ (start : Image) where
     event_ruled (event.Leak name line mask) sound old new journal notes kept x = does_ruled old.machines journal kept notes new.machines (call.Moves name line.0 (Leak mask.0)) x.0
     event_ruled (event.Fetch name line mask) sound old new journal notes kept x = does_ruled old.machines journal kept notes new.machines (call.Moves name line.0 (Fetch mask.0)) x.0
 
-    follows_ruled : (events : List Event) → AreSound events → (old new : Session) (journal notes : List Note) → Kept start old.machines journal → Follows files events old notes new → AreRuled (past_of start journal) notes
+    follows_ruled : (events : List Event) → AreSound events → (old new : Session) (journal notes : List Note) → Reached start old.machines journal → Follows files events old notes new → AreRuled (past_of start journal) notes
     follows_ruled [] sound old new journal notes kept x = subst (AreRuled (past_of start journal)) (sym x.0) tt
     follows_ruled (e ∷ events) sound old new journal notes kept x =
         ruled_parts start journal x.1 x.2 notes x.5 (event_ruled e sound.0 old x.0 journal x.1 kept x.3)
@@ -172,19 +173,19 @@ module _ (start : Image) where
 
 module _ (h : ℕ) where
   -- the host's task after an operation that the media served
-  busy_after : (m : Machines) (host : HostState) (x : Machine) (task : Option TaskState) → slice_get m.hosts h ≡ Some host → busy_at h (with_machine h x task m) ≡ is_some task
-  busy_after m host x task is = ap is_busy_host (changed_at_member h (λ z. record z { cache = x.cache; task = task }) m.hosts host is)
+  busy_after : (m : Machines) (host : HostState) (x : Machine) (task : Option TaskState) (kept : Option Kept) → slice_get m.hosts h ≡ Some host → busy_at h (with_parts h x task kept m) ≡ is_some task
+  busy_after m host x task kept is = ap is_busy_host (changed_at_member h (λ z. record z { cache = x.cache; task = task; kept = kept }) m.hosts host is)
 
   note_ends : (m : Machines) (host : HostState) (s : TaskState) (op : Op) (note : row.RowNote) (x : Done) → slice_get m.hosts h ≡ Some host → served h m host s op (Some note) ≡ Some x → busy_at h x.left ≡ false → (given : Reply) × (x.notes ≡ Answered h (Replied given) ∷ [])
   note_ends m host s op (row.Answer given) x is served done = (given, sym (ap (λ (z : Done). z.notes) (same_Some _ x served)))
   note_ends m host s op row.Quiet x is served done =
-      absurd (let busy = sym (ap (λ (z : Done). busy_at h z.left) (same_Some _ x served)) ∙ busy_after m host (operated op (machine_of m host)) (Some (task_on s (given op (machine_of m host)))) is in cc)
+      absurd (let busy = sym (ap (λ (z : Done). busy_at h z.left) (same_Some _ x served)) ∙ busy_after m host (operated op (machine_of m host)) (Some (task_on s (given op (machine_of m host)))) _ is in cc)
   note_ends m host s op row.Mark x is served done =
-      absurd (let busy = sym (ap (λ (z : Done). busy_at h z.left) (same_Some _ x served)) ∙ busy_after m host (operated op (machine_of m host)) (Some (task_on s (given op (machine_of m host)))) is in cc)
+      absurd (let busy = sym (ap (λ (z : Done). busy_at h z.left) (same_Some _ x served)) ∙ busy_after m host (operated op (machine_of m host)) (Some (task_on s (given op (machine_of m host)))) _ is in cc)
   note_ends m host s op (row.Found n) x is served done =
-      absurd (let busy = sym (ap (λ (z : Done). busy_at h z.left) (same_Some _ x served)) ∙ busy_after m host (operated op (machine_of m host)) (Some (task_on s (given op (machine_of m host)))) is in cc)
+      absurd (let busy = sym (ap (λ (z : Done). busy_at h z.left) (same_Some _ x served)) ∙ busy_after m host (operated op (machine_of m host)) (Some (task_on s (given op (machine_of m host)))) _ is in cc)
   note_ends m host s op (row.Writing seq e) x is served done =
-      absurd (let busy = sym (ap (λ (z : Done). busy_at h z.left) (same_Some _ x served)) ∙ busy_after m host (operated op (machine_of m host)) (Some (task_on s (given op (machine_of m host)))) is in cc)
+      absurd (let busy = sym (ap (λ (z : Done). busy_at h z.left) (same_Some _ x served)) ∙ busy_after m host (operated op (machine_of m host)) (Some (task_on s (given op (machine_of m host)))) _ is in cc)
 
   served_ends : (m : Machines) (host : HostState) (s : TaskState) (op : Op) (o : Option row.RowNote) (x : Done) → slice_get m.hosts h ≡ Some host → served h m host s op o ≡ Some x → busy_at h x.left ≡ false → (given : Reply) × (x.notes ≡ Answered h (Replied given) ∷ [])
   served_ends m host s op None x is served done = absurd cc
@@ -242,8 +243,8 @@ run_ends files name what old new notes x clean =
     begun : (h : ℕ) (host : HostState) → number_of name old.machines ≡ Some h → slice_get old.machines.hosts h ≡ Some host → ActsAt (call.Begins name x.begun.cmd) h host old.machines x.first x.mid.machines → EndsInAnswer notes
     begun h host number is at =
         let numbers : x.host ≡ h =
-        same_Some x.host h (sym x.number ∙ ap (number_of name) at.1 ∙ place_same (has_name name) (λ z. record z { task = Some (task_begun x.begun.cmd host.uuid) }) (λ z. refl) h 0 old.machines.hosts ∙ number) in
+        same_Some x.host h (sym x.number ∙ ap (number_of name) at.1 ∙ place_same (has_name name) (λ z. record z { task = Some (task_begun host.kept x.begun.cmd host.uuid) }) (λ z. refl) h 0 old.machines.hosts ∙ number) in
         let busy : busy_at x.host x.mid.machines ≡ true =
-        ap (λ (n : ℕ). busy_at n x.mid.machines) numbers ∙ ap (busy_at h) at.1 ∙ ap is_busy_host (changed_at_member h (λ z. record z { task = Some (task_begun x.begun.cmd host.uuid) }) old.machines.hosts host is) in
+        ap (λ (n : ℕ). busy_at n x.mid.machines) numbers ∙ ap (busy_at h) at.1 ∙ ap is_busy_host (changed_at_member h (λ z. record z { task = Some (task_begun host.kept x.begun.cmd host.uuid) }) old.machines.hosts host is) in
         let end = operates_end x.host x.does.count x.mid.machines new.machines x.rest busy x.does.does x.does.done (clean_rest x.first x.rest notes x.joined clean) in
         record { prefix = x.first ++ end.prefix; host = end.host; given = end.given; is = x.joined ∙ ap (λ (z : List Note). x.first ++ z) end.is ∙ sym (append_assoc x.first end.prefix (Answered end.host (Replied end.given) ∷ [])) }

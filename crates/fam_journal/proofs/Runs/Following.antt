@@ -18,11 +18,11 @@ use Rattle.fam_journal.specs.Calls.{ActsAt, ActsOf, Acts, AtNumber, BreaksOff, B
 use Rattle.fam_journal.specs.Ends.{AllDone, Ending, EventsDone, MkfsFails, EndsOutOfMemory, EndsOutOfMemoryBroken, ReadsAs, SinkFails, SourceFails}
 use Rattle.fam_journal.specs.Events.{BreaksEvent, DoesEvent, Continues, IsBegun, RefusesEvent, MayNotStep, PartOf, Session, first_session}
 use Rattle.fam_journal.specs.Follows.{Follows, FollowsBroken}
-use Rattle.fam_journal.specs.Kept.{Kept}
+use Rattle.fam_journal.specs.Kept.{Reached}
 use Rattle.fam_journal.specs.CallRecords.{IsSoundCall}
 use Rattle.fam_journal.specs.Laws.{AreSound, IsImage, IsSettled, IsSoundEvent}
 use Rattle.fam_journal.specs.Legal.{Legal}
-use Rattle.fam_journal.specs.Machines.{HostState, Machines, Operation, host_done, operation, unused, with_machine, with_task}
+use Rattle.fam_journal.specs.Machines.{HostState, Machines, Operation, host_done, operation, unused, with_parts, with_machine, with_task}
 use Rattle.fam_journal.specs.Notes.{Halt, Note, Refused, Stop}
 use Rattle.fam_journal.specs.Past.{first_past, past_of}
 use Rattle.fam_journal.proofs.Calls.Begin.{held_first}
@@ -33,29 +33,29 @@ use Rattle.fam_journal.proofs.Calls.Rows.{Declared, declared, halted_held, stopp
 use Rattle.fam_journal.proofs.Calls.Tests.{below_of, no_when}
 
 -- notes behind a journal, in two parts
-pub kept_both : (start : Image) (state : Machines) (journal a b notes : List Note) → notes ≡ a ++ b → Kept start state ((journal ++ a) ++ b) → Kept start state (journal ++ notes)
+pub kept_both : (start : Image) (state : Machines) (journal a b notes : List Note) → notes ≡ a ++ b → Reached start state ((journal ++ a) ++ b) → Reached start state (journal ++ notes)
 kept_both start state journal a b notes is kept =
-    subst (λ (z : List Note). Kept start state z) (append_assoc journal a b ∙ ap (λ (z : List Note). journal ++ z) (sym is)) kept
+    subst (λ (z : List Note). Reached start state z) (append_assoc journal a b ∙ ap (λ (z : List Note). journal ++ z) (sym is)) kept
 
 -- no notes
-pub kept_quiet : (start : Image) (journal notes : List Note) (new left : Machines) → notes ≡ [] → new ≡ left → Kept start left journal → Kept start new (journal ++ notes)
+pub kept_quiet : (start : Image) (journal notes : List Note) (new left : Machines) → notes ≡ [] → new ≡ left → Reached start left journal → Reached start new (journal ++ notes)
 kept_quiet start journal notes new left e f kept =
-    kept_as start journal notes [] new left e f (subst (λ (z : List Note). Kept start left z) (sym (append-nil journal)) kept)
+    kept_as start journal notes [] new left e f (subst (λ (z : List Note). Reached start left z) (sym (append-nil journal)) kept)
 
 -- An operation of any host.
 
-pub declared_at : (start : Image) (state : Machines) (journal : List Note) (kept : Kept start state journal) (h : ℕ) (host : HostState) → slice_get state.hosts h ≡ Some host → Declared start state (record { hosts = kept.views; journal = journal }) h
+pub declared_at : (start : Image) (state : Machines) (journal : List Note) (kept : Reached start state journal) (h : ℕ) (host : HostState) → slice_get state.hosts h ≡ Some host → Declared start state (record { hosts = kept.views; journal = journal }) h
 declared_at start state journal kept h host is = declared start state (record { hosts = kept.views; journal = journal }) state.memory kept.held h host is
 
-pub operation_kept : (start : Image) (h : ℕ) (state : Machines) (journal : List Note) → Kept start state journal → (notes : List Note) (new : Machines) → Operation h state notes new → Kept start new (journal ++ notes)
+pub operation_kept : (start : Image) (h : ℕ) (state : Machines) (journal : List Note) → Reached start state journal → (notes : List Note) (new : Machines) → Operation h state notes new → Reached start new (journal ++ notes)
 unfolding operation
 operation_kept start h state journal kept notes new op = by_host (slice_get state.hosts h) refl
   where
-    by_host : (o : Option HostState) → slice_get state.hosts h ≡ o → Kept start new (journal ++ notes)
+    by_host : (o : Option HostState) → slice_get state.hosts h ≡ o → Reached start new (journal ++ notes)
     by_host None none = absurd (let e : host_done op.outcome h state (slice_get state.hosts h) ≡ None = ap (host_done op.outcome h state) none in let f = op.is in cc)
     by_host (Some host) is = operation_at start state journal kept h (declared_at start state journal kept h host is) notes new op
 
-pub operates_kept : (start : Image) (h count : ℕ) (state : Machines) (journal : List Note) → Kept start state journal → (notes : List Note) (new : Machines) → DoesOperations h count state notes new → Kept start new (journal ++ notes)
+pub operates_kept : (start : Image) (h count : ℕ) (state : Machines) (journal : List Note) → Reached start state journal → (notes : List Note) (new : Machines) → DoesOperations h count state notes new → Reached start new (journal ++ notes)
 operates_kept start h zero state journal kept notes new o = kept_quiet start journal notes new state o.0 o.1 kept
 operates_kept start h (suc count) state journal kept notes new (inl o) = kept_quiet start journal notes new state o.1 o.2 kept
 operates_kept start h (suc count) state journal kept notes new (inr o) =
@@ -64,9 +64,9 @@ operates_kept start h (suc count) state journal kept notes new (inr o) =
 
 -- Calls.
 
-module _ (start : Image) (state : Machines) (journal : List Note) (kept : Kept start state journal) (notes : List Note) (new : Machines) where
+module _ (start : Image) (state : Machines) (journal : List Note) (kept : Reached start state journal) (notes : List Note) (new : Machines) where
   -- of a declared host
-  act_kept : (c : Call) → IsSoundCall c → refusal_of c state ≡ None → (h : ℕ) → number_of (name_of c) state ≡ Some h → (d : Declared start state (record { hosts = kept.views; journal = journal }) h) → ActsAt c h d.host state notes new → Kept start new (journal ++ notes)
+  act_kept : (c : Call) → IsSoundCall c → refusal_of c state ≡ None → (h : ℕ) → number_of (name_of c) state ≡ Some h → (d : Declared start state (record { hosts = kept.views; journal = journal }) h) → ActsAt c h d.host state notes new → Reached start new (journal ++ notes)
   unfolding refusal_of
   act_kept (call.Declares name uuid) sound free h number d x = absurd x
   act_kept (call.Makes name request) sound free h number d (inl x) =
@@ -84,7 +84,7 @@ module _ (start : Image) (state : Machines) (journal : List Note) (kept : Kept s
       kept_as start journal notes (Stop h ∷ []) new (with_task h None state) x.0 x.1
       record { views = _; held = stopped_held start state (record { hosts = kept.views; journal = journal }) kept.held h d; uuids = uuids_kept h _ (λ z. refl) state.hosts kept.uuids }
   act_kept (call.Halts name) sound free h number d x =
-      kept_as start journal notes (Halt h ∷ []) new (with_machine h (record { image = state.memory; cache = finmap.empty }) None state) x.0 x.1
+      kept_as start journal notes (Halt h ∷ []) new (with_parts h (record { image = state.memory; cache = finmap.empty }) None None state) x.0 x.1
       record { views = _; held = halted_held start state (record { hosts = kept.views; journal = journal }) kept.held h d; uuids = uuids_kept h _ (λ z. refl) state.hosts kept.uuids }
   act_kept (call.Moves name line move) sound free h number d (inl x) =
       let may : line_refusal line state ≡ None = sym (ap (λ (o : Option ℕ). on_host o (λ h. line_refusal line state)) number) ∙ free in
@@ -95,20 +95,20 @@ module _ (start : Image) (state : Machines) (journal : List Note) (kept : Kept s
       (move_failed_kept start state journal kept h d move line x.through x.image name (why.MediaFault (record { 0 = line })) (below_of (length state.memory) line (no_when _ (why.NoLine line (length state.memory)) may)) x.fails)
   act_kept (call.Refuses name cause) sound free h number d x = absurd x
 
-  acts_of_kept : (c : Call) → IsSoundCall c → refusal_of c state ≡ None → ActsOf c state notes new → Kept start new (journal ++ notes)
+  acts_of_kept : (c : Call) → IsSoundCall c → refusal_of c state ≡ None → ActsOf c state notes new → Reached start new (journal ++ notes)
   acts_of_kept c sound free x = by_number (number_of (name_of c) state) refl x
     where
-      by_host : (h : ℕ) → number_of (name_of c) state ≡ Some h → (o : Option HostState) → slice_get state.hosts h ≡ o → OnHost o (λ host. ActsAt c h host state notes new) → Kept start new (journal ++ notes)
+      by_host : (h : ℕ) → number_of (name_of c) state ≡ Some h → (o : Option HostState) → slice_get state.hosts h ≡ o → OnHost o (λ host. ActsAt c h host state notes new) → Reached start new (journal ++ notes)
       by_host h number None is x = absurd x
       by_host h number (Some host) is x =
           let d = declared_at start state journal kept h host is in
           act_kept c sound free h number d (subst (λ (z : HostState). ActsAt c h z state notes new) (same_Some host d.host (sym is ∙ d.host_is)) x)
 
-      by_number : (o : Option ℕ) → number_of (name_of c) state ≡ o → AtNumber o state (λ h host. ActsAt c h host state notes new) → Kept start new (journal ++ notes)
+      by_number : (o : Option ℕ) → number_of (name_of c) state ≡ o → AtNumber o state (λ h host. ActsAt c h host state notes new) → Reached start new (journal ++ notes)
       by_number None is x = absurd x
       by_number (Some h) is x = by_host h is (slice_get state.hosts h) refl x
 
-  acts_kept : (c : Call) → IsSoundCall c → refusal_of c state ≡ None → Acts c state notes new → Kept start new (journal ++ notes)
+  acts_kept : (c : Call) → IsSoundCall c → refusal_of c state ≡ None → Acts c state notes new → Reached start new (journal ++ notes)
   acts_kept (call.Declares name uuid) sound free x = kept_as start journal notes _ new _ x.0 x.1 (declared_kept start state journal kept name uuid sound free)
   acts_kept (call.Refuses name cause) sound free x = kept_as start journal notes _ new _ x.0 x.1 (refused_kept start state journal kept name cause)
   acts_kept (call.Makes name request) sound free x = acts_of_kept (call.Makes name request) sound free x
@@ -120,42 +120,42 @@ module _ (start : Image) (state : Machines) (journal : List Note) (kept : Kept s
   acts_kept (call.Moves name line move) sound free x = acts_of_kept (call.Moves name line move) sound free x
 
   -- a row of a call keeps what is held
-  pub does_kept : (c : Call) → IsSoundCall c → Does c state notes new → Kept start new (journal ++ notes)
+  pub does_kept : (c : Call) → IsSoundCall c → Does c state notes new → Reached start new (journal ++ notes)
   does_kept c sound does = by_refusal (refusal_of c state) refl does
     where
-      by_refusal : (o : Option Refusal) → refusal_of c state ≡ o → ByRefusal (name_of c) o notes state new (Acts c state notes new) → Kept start new (journal ++ notes)
+      by_refusal : (o : Option Refusal) → refusal_of c state ≡ o → ByRefusal (name_of c) o notes state new (Acts c state notes new) → Reached start new (journal ++ notes)
       by_refusal (Some cause) is x = kept_as start journal notes _ new _ x.0 x.1 (refused_kept start state journal kept (name_of c) cause)
       by_refusal None is x = acts_kept c sound is x
 
 -- Events.
 
 module _ (start : Image) (files : Files) where
-  pub begun_kept : (name : List ℕ) (what : Ask) (old new : Session) (journal notes : List Note) → Kept start old.machines journal → IsBegun files name what old notes new → Kept start new.machines (journal ++ notes)
+  pub begun_kept : (name : List ℕ) (what : Ask) (old new : Session) (journal notes : List Note) → Reached start old.machines journal → IsBegun files name what old notes new → Reached start new.machines (journal ++ notes)
   begun_kept name what old new journal notes kept x =
       does_kept start old.machines journal kept notes new.machines (call.Begins name x.cmd) x.fits x.does
 
-  refused_event_kept : (name : List ℕ) (what : Ask) (old new : Session) (journal notes : List Note) → Kept start old.machines journal → RefusesEvent files name what old notes new → Kept start new.machines (journal ++ notes)
+  refused_event_kept : (name : List ℕ) (what : Ask) (old new : Session) (journal notes : List Note) → Reached start old.machines journal → RefusesEvent files name what old notes new → Reached start new.machines (journal ++ notes)
   refused_event_kept name what old new journal notes kept (inl x) =
       kept_as start journal notes _ new.machines _ x.notes_are (ap (λ (s : Session). s.machines) x.same) (refused_kept start old.machines journal kept name x.cause)
   refused_event_kept name what old new journal notes kept (inr x) = does_kept start old.machines journal kept notes new.machines (call.Refuses name x.cause) tt x.does
 
-  goes_kept : (P : ℕ → Machines → List Note → Machines → Type 0) → ((h : ℕ) (state : Machines) (journal : List Note) → Kept start state journal → (notes : List Note) (new : Machines) → P h state notes new → Kept start new (journal ++ notes))
-      → (name : List ℕ) (what : Ask) (old new : Session) (journal notes : List Note) → Kept start old.machines journal → Continues P files name what old notes new → Kept start new.machines (journal ++ notes)
+  goes_kept : (P : ℕ → Machines → List Note → Machines → Type 0) → ((h : ℕ) (state : Machines) (journal : List Note) → Reached start state journal → (notes : List Note) (new : Machines) → P h state notes new → Reached start new (journal ++ notes))
+      → (name : List ℕ) (what : Ask) (old new : Session) (journal notes : List Note) → Reached start old.machines journal → Continues P files name what old notes new → Reached start new.machines (journal ++ notes)
   goes_kept P keeps name what old new journal notes kept x =
       kept_both start new.machines journal x.first x.rest notes x.joined
       (keeps x.host x.mid.machines (journal ++ x.first) (begun_kept name what old x.mid journal x.first kept x.begun) x.rest new.machines x.does)
 
-  not_step_kept : (name : List ℕ) (old new : Session) (journal notes : List Note) → Kept start old.machines journal → MayNotStep name old notes new → Kept start new.machines (journal ++ notes)
+  not_step_kept : (name : List ℕ) (old new : Session) (journal notes : List Note) → Reached start old.machines journal → MayNotStep name old notes new → Reached start new.machines (journal ++ notes)
   not_step_kept name old new journal notes kept x =
       kept_as start journal notes _ new.machines _ x.notes_are (ap (λ (s : Session). s.machines) x.same) (refused_kept start old.machines journal kept name x.cause)
 
-  completes_kept : (h : ℕ) (state : Machines) (journal : List Note) → Kept start state journal → (notes : List Note) (new : Machines) → Completes h state notes new → Kept start new (journal ++ notes)
+  completes_kept : (h : ℕ) (state : Machines) (journal : List Note) → Reached start state journal → (notes : List Note) (new : Machines) → Completes h state notes new → Reached start new (journal ++ notes)
   completes_kept h state journal kept notes new x = operates_kept start h x.count state journal kept notes new x.does
 
-  unfinished_kept : (h : ℕ) (state : Machines) (journal : List Note) → Kept start state journal → (notes : List Note) (new : Machines) → Unfinished h state notes new → Kept start new (journal ++ notes)
+  unfinished_kept : (h : ℕ) (state : Machines) (journal : List Note) → Reached start state journal → (notes : List Note) (new : Machines) → Unfinished h state notes new → Reached start new (journal ++ notes)
   unfinished_kept h state journal kept notes new x = operates_kept start h x.count state journal kept notes new x.does
 
-  pub event_kept : (e : Event) → IsSoundEvent e → (old new : Session) (journal notes : List Note) → Kept start old.machines journal → DoesEvent files e old notes new → Kept start new.machines (journal ++ notes)
+  pub event_kept : (e : Event) → IsSoundEvent e → (old new : Session) (journal notes : List Note) → Reached start old.machines journal → DoesEvent files e old notes new → Reached start new.machines (journal ++ notes)
   event_kept (event.Host name uuid) sound old new journal notes kept x = does_kept start old.machines journal kept notes new.machines (call.Declares name uuid) sound x.0
   event_kept (event.Mkfs name fs unit log force) sound old new journal notes kept x = does_kept start old.machines journal kept notes new.machines (call.Makes name (mkfs_request fs unit log force)) sound x.0
   event_kept (event.Begin name what) sound old new journal notes kept (inl x) = begun_kept name what old new journal notes kept x
@@ -171,7 +171,7 @@ module _ (start : Image) (files : Files) where
   event_kept (event.Leak name line mask) sound old new journal notes kept x = does_kept start old.machines journal kept notes new.machines (call.Moves name line.0 (Rattle.fam_machine.specs.HostMoves.Leak mask.0)) tt x.0
   event_kept (event.Fetch name line mask) sound old new journal notes kept x = does_kept start old.machines journal kept notes new.machines (call.Moves name line.0 (Rattle.fam_machine.specs.HostMoves.Fetch mask.0)) tt x.0
 
-  part_kept : (e : Event) → IsSoundEvent e → (old new : Session) (journal notes : List Note) → Kept start old.machines journal → PartOf files e old notes new → Kept start new.machines (journal ++ notes)
+  part_kept : (e : Event) → IsSoundEvent e → (old new : Session) (journal notes : List Note) → Reached start old.machines journal → PartOf files e old notes new → Reached start new.machines (journal ++ notes)
   part_kept (event.Host name uuid) sound old new journal notes kept x = absurd x
   part_kept (event.Mkfs name fs unit log force) sound old new journal notes kept x = absurd x
   part_kept (event.Begin name what) sound old new journal notes kept x = absurd x
@@ -184,7 +184,7 @@ module _ (start : Image) (files : Files) where
   part_kept (event.Leak name line mask) sound old new journal notes kept x = absurd x
   part_kept (event.Fetch name line mask) sound old new journal notes kept x = absurd x
 
-  pub follows_kept : (events : List Event) → AreSound events → (old new : Session) (journal notes : List Note) → Kept start old.machines journal → Follows files events old notes new → Kept start new.machines (journal ++ notes)
+  pub follows_kept : (events : List Event) → AreSound events → (old new : Session) (journal notes : List Note) → Reached start old.machines journal → Follows files events old notes new → Reached start new.machines (journal ++ notes)
   follows_kept [] sound old new journal notes kept x = kept_quiet start journal notes new.machines old.machines x.0 (ap (λ (s : Session). s.machines) x.1) kept
   follows_kept (e ∷ events) sound old new journal notes kept x =
       kept_both start new.machines journal x.1 x.2 notes x.5
@@ -227,14 +227,14 @@ cut_notes c old new notes x = by_number (number_of (name_of c) old) x.1
 -- Whole runs.
 
 module _ (start : Image) (image : IsImage start) (files : Files) (events : List Event) (sound : AreSound events) where
-  pub first_kept : Kept start (unused start) []
+  pub first_kept : Reached start (unused start) []
   first_kept = record { views = []; held = held_first start image.limit image.normal; uuids = λ k host none. absurd cc }
 
   -- a state that is kept is settled
-  settled : (state : Machines) (journal : List Note) → Kept start state journal → Legal start journal × ReadsAs (past_of start journal).state state.memory
+  settled : (state : Machines) (journal : List Note) → Reached start state journal → Legal start journal × ReadsAs (past_of start journal).state state.memory
   settled state journal kept = (kept.held.legal, held_reads start state (record { hosts = kept.views; journal = journal }) state.memory kept.held)
 
-  whole_kept : (count : ℕ) (journal : List Note) (last : Session) → Follows files (take count events) (first_session start) journal last → Kept start last.machines journal
+  whole_kept : (count : ℕ) (journal : List Note) (last : Session) → Follows files (take count events) (first_session start) journal last → Reached start last.machines journal
   whole_kept count journal last follows = follows_kept start files (take count events) (prefix_sound start files count events sound) (first_session start) last [] journal first_kept follows
 
   broken_notes : (e : Event) (old new : Session) (notes : List Note) → BreaksEvent e old notes new → (name : List ℕ) × (cause : Refusal) × (notes ≡ Refused name cause ∷ [])
@@ -266,7 +266,7 @@ module _ (start : Image) (image : IsImage start) (files : Files) (events : List 
   run_settled SinkFails journal last x =
       let before = whole_kept x.count x.whole_notes x.mid x.whole in
       let after = event_kept start files x.event (one_sound start files events x.count x.event sound x.is) x.mid last x.whole_notes x.part_notes before x.part in
-      let s = settled last.machines journal (subst (λ (z : List Note). Kept start last.machines z) (sym x.joined) after) in
+      let s = settled last.machines journal (subst (λ (z : List Note). Reached start last.machines z) (sym x.joined) after) in
       record { legal = s.0; reads = s.1 }
   run_settled (SourceFails end) journal last x =
       let s = settled last.machines journal (whole_kept x.count journal last x.follows) in
@@ -277,5 +277,5 @@ module _ (start : Image) (image : IsImage start) (files : Files) (events : List 
   run_settled EndsOutOfMemory journal last (inr x) =
       let before = whole_kept x.count x.whole_notes x.mid x.whole in
       let after = part_kept start files x.event (one_sound start files events x.count x.event sound x.is) x.mid last x.whole_notes x.part_notes before x.part in
-      let s = settled last.machines journal (subst (λ (z : List Note). Kept start last.machines z) (sym x.joined) after) in
+      let s = settled last.machines journal (subst (λ (z : List Note). Reached start last.machines z) (sym x.joined) after) in
       record { legal = s.0; reads = s.1 }

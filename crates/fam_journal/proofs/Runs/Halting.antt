@@ -6,7 +6,7 @@ use Rattle.std.specs.FinMap as finmap
 use Rattle.std.proofs.lemmas.Bool.Decides.{nat_tests}
 use Rattle.std.proofs.lemmas.Option.{same_Some}
 use Rattle.fam_base.specs.declared.cmd.Cmd.{Cmd}
-use Rattle.fam_base.specs.declared.cmd.Cmd.TheVariants.{Logplay, Mkdir, Creat, Cp, Verify, Read, Check, Fsck}
+use Rattle.fam_base.specs.declared.cmd.Cmd.TheVariants.{Logplay, Mount, Mkdir, Creat, Cp, Verify, Read, Check, Fsck}
 use Rattle.fam_base.specs.declared.cmd.Content.{Content}
 use Rattle.fam_base.specs.declared.cmd.Content.TheVariants as content
 use Rattle.fam_base.specs.declared.entry.Entry.{Entry}
@@ -26,8 +26,8 @@ use Rattle.fam_commands.specs.declared.phase.Part.TheVariants.{Superblock, Heade
 use Rattle.fam_commands.specs.declared.phase.Phase.{Phase}
 use Rattle.fam_commands.specs.declared.phase.Phase.TheVariants as at
 use Rattle.fam_commands.specs.Stands.{task_after}
-use Rattle.fam_commands.specs.Kept.{first_slot, used}
-use Rattle.fam_commands.specs.Task.{Task, part_count, size_of, starting, wanted_end}
+use Rattle.fam_commands.specs.Kept.{Kept, first_slot, used}
+use Rattle.fam_commands.specs.Task.{Task, part_count, size_of, mounted, wanted_end}
 use Rattle.fam_commands.specs.Turns.{Turn, Goes, Marks, Finds, Writes, Ends, append_turn, check_turn, compare_turn, decide_turn, file_turn, finds_or_goes, found_turn, gate_turn, header_turn, host_refusal, host_turn, join_turn, kind_turn, line_difference, line_turn, magic_turn, slot_or_decide, slot_turn, slots_read, super_turn, turn_at, verify_lines, verify_turn, wish_turn, gate_loaded}
 use Rattle.fam_commands.specs.Classes.{LooksAtFile}
 use Rattle.fam_rules.specs.declared.answers.Refused.{Refused}
@@ -142,6 +142,7 @@ file_line j t reads next = by_cmd t.cmd refl reads
     by_cmd (Verify path against) is reads = by_found against (line_difference t against j)
     by_cmd (Read path offset count) is reads = pick (nat_lt (j + 1) (part_count t File)) _ _ (λ is. next t refl refl is) (λ is. tt)
     by_cmd Logplay is reads = absurd reads
+    by_cmd Mount is reads = absurd reads
     by_cmd (Mkdir path attr) is reads = absurd reads
     by_cmd (Creat path size attr stripe fill) is reads = absurd reads
     by_cmd (Cp path attr stripe bytes) is reads = absurd reads
@@ -191,6 +192,7 @@ decide_halts s = halting (record s { phase = at.Decide }) (λ word. by_cmd s.cmd
   where
     by_cmd : (c : Cmd) → s.cmd ≡ c → HaltsTurn (decide_turn c (record s { phase = at.Decide }))
     by_cmd Logplay is = tt
+    by_cmd Mount is = tt
     by_cmd (Check listing) is = tt
     by_cmd Fsck is = tt
     by_cmd (Verify path against) is = decides_found (record s { phase = at.Decide }) (finmap.get (replay s.entries) path) _ (λ e. decides_verify (record s { phase = at.Decide }) e against (subst LooksAtFile (sym is) tt))
@@ -222,6 +224,7 @@ check_halts n i s next left = halting (record s { phase = at.Check i }) (λ word
     by_cmd : (c : Cmd) → s.cmd ≡ c → HaltsTurn (check_turn c (record s { phase = at.Check i }) i)
     by_cmd Fsck is = next (i + 1) (record s { survey = survey_slot s.params s.gate i s.words s.survey; words = [] }) left
     by_cmd Logplay is = by_slot (entry_of s.params s.words i)
+    by_cmd Mount is = by_slot (entry_of s.params s.words i)
     by_cmd (Check listing) is = by_slot (entry_of s.params s.words i)
     by_cmd (Verify path against) is = by_slot (entry_of s.params s.words i)
     by_cmd (Read path offset count) is = by_slot (entry_of s.params s.words i)
@@ -295,5 +298,5 @@ magic_halts t = halting (record t { phase = at.Magic }) (λ word. by_fault (magi
     by_fault None = super_first (record t { words = [] })
 
 -- a command before its first operation
-pub begin_halts : (cmd : Cmd) (me : List ℕ) (lines : ℕ) → Halts (starting cmd me lines)
-begin_halts cmd me lines = halting (starting cmd me lines) (λ word. magic_halts (starting cmd me lines))
+pub begin_halts : (kept : Option Kept) (cmd : Cmd) (me : List ℕ) (lines : ℕ) → Halts (mounted kept cmd me lines)
+begin_halts kept cmd me lines = halting (mounted kept cmd me lines) (λ word. magic_halts (mounted kept cmd me lines))

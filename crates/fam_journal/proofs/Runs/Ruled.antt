@@ -3,7 +3,7 @@ use Rattle.std.proofs.Common.{◌≡◌, ℕ, ◌⊎◌, inl, inr, List, [], ◌
 use Rattle.std.specs.Prelude.{⊤, slice_get, unwrap_or, Err}
 use Rattle.std.proofs.lemmas.Option.{same_Some}
 use Rattle.fam_base.specs.declared.cmd.Cmd.{Cmd}
-use Rattle.fam_base.specs.declared.cmd.Cmd.TheVariants.{Logplay, Mkdir, Creat, Cp, Verify, Read, Check, Fsck}
+use Rattle.fam_base.specs.declared.cmd.Cmd.TheVariants.{Logplay, Mount, Mkdir, Creat, Cp, Verify, Read, Check, Fsck}
 use Rattle.fam_base.specs.declared.entry.Params.{Params}
 use Rattle.fam_base.specs.Image.{Image}
 use Rattle.fam_commands.specs.declared.phase.Phase.{Phase}
@@ -12,7 +12,8 @@ use Rattle.fam_commands.specs.Stands.{StandsFor, goes, note_of, starts, task_aft
 use Rattle.fam_machine.specs.Operations.{given_by}
 use Rattle.fam_commands.specs.Task.{Task, op_of}
 use Rattle.fam_commands.specs.Turns.{Turn, Goes, Marks, Finds, Writes, Ends, turn_at}
-use Rattle.fam_commands.proofs.Steps.Standing.{bare_tied}
+use Rattle.fam_commands.proofs.Steps.Standing.{standing_tied}
+use Rattle.fam_commands.specs.Kept.{IsKept, Kept}
 use Rattle.fam_commands.specs.Appends.{HasWish, IsBeforeWrites}
 use Rattle.fam_commands.proofs.BeforeWrites.{EndsAt, SaysAt, turn_says}
 use Rattle.fam_rules.specs.declared.answers.Refused.{Refused as Cause}
@@ -38,6 +39,7 @@ Fits cmd (reply.NoSuperblock fault) = cmd ≡ Fsck → ⊥
 Fits cmd (reply.BadHeader fault) = cmd ≡ Fsck → ⊥
 Fits cmd (reply.BadSlot i reason) = cmd ≡ Fsck → ⊥
 Fits cmd (reply.Played m tree) = ⊤
+Fits cmd (reply.Mounted m) = ⊤
 Fits cmd (reply.Same m) = ⊤
 Fits cmd (reply.Differs m offset found wanted) = ⊤
 Fits cmd (reply.Length m size wanted) = ⊤
@@ -61,6 +63,7 @@ ends_fit p cmd (reply.NoSuperblock fault) ends = ends
 ends_fit p cmd (reply.BadHeader fault) ends = ends.1
 ends_fit p cmd (reply.BadSlot i reason) ends = ends.1
 ends_fit p cmd (reply.Played n tree) ends = tt
+ends_fit p cmd (reply.Mounted n) ends = tt
 ends_fit p cmd (reply.Same n) ends = tt
 ends_fit p cmd (reply.Differs n offset found wanted) ends = tt
 ends_fit p cmd (reply.Length n size wanted) ends = tt
@@ -115,10 +118,10 @@ late_fits at.SendGate t word late wish = tt
 late_fits at.FenceGate t word late wish = wish
 
 -- a task that stores is of a command that appends
-late_wish : (cmd : Cmd) (me : List ℕ) (lines : ℕ) (t : Task) (words : List ℕ) (made : ℕ) → StandsFor None cmd me lines t words made → (IsBeforeWrites t.phase → ⊥) → HasWish cmd
-late_wish cmd me lines t words made starts late = absurd (late tt)
-late_wish cmd me lines next _ _ (goes {t = t} {words = words} {made = made} word before is) late = elim (before_or t.phase) [
-  | inr stores ↦ late_wish cmd me lines t words made before stores
+late_wish : (kept : Option Kept) (cmd : Cmd) (me : List ℕ) (lines : ℕ) (t : Task) (words : List ℕ) (made : ℕ) → IsKept kept → StandsFor kept cmd me lines t words made → (IsBeforeWrites t.phase → ⊥) → HasWish cmd
+late_wish kept cmd me lines t words made joined starts late = absurd (late tt)
+late_wish kept cmd me lines next _ _ joined (goes {t = t} {words = words} {made = made} word before is) late = elim (before_or t.phase) [
+  | inr stores ↦ late_wish kept cmd me lines t words made joined before stores
   | inl reads ↦ by_turn (turn_given t word) (turn_says t.phase t (unwrap_or (given_by (op_of t) word) 0) reads refl) is
 ]
   where
@@ -126,16 +129,16 @@ late_wish cmd me lines next _ _ (goes {t = t} {words = words} {made = made} word
     by_turn (Goes n) says goes_is = absurd (late (subst (λ (x : Task). IsBeforeWrites x.phase) (same_Some n next goes_is) says))
     by_turn (Marks n) says goes_is = absurd (late (subst (λ (x : Task). IsBeforeWrites x.phase) (same_Some n next goes_is) says))
     by_turn (Finds k n) says goes_is = absurd (late (subst (λ (x : Task). IsBeforeWrites x.phase) (same_Some n next goes_is) says))
-    by_turn (Writes seq e n) says goes_is = subst HasWish (bare_tied cmd me lines t words made before).cmd_is says.wish
+    by_turn (Writes seq e n) says goes_is = subst HasWish (standing_tied kept cmd me lines t words made joined before).cmd_is says.wish
     by_turn (Ends given) says goes_is = absurd cc
 
-pub turn_fits : (cmd : Cmd) (me : List ℕ) (lines : ℕ) (t : Task) (words : List ℕ) (made word : ℕ) → StandsFor None cmd me lines t words made → FitsTurn cmd (turn_given t word)
-turn_fits cmd me lines t words made word standing =
-    let cmds : t.cmd ≡ cmd = (bare_tied cmd me lines t words made standing).cmd_is in
+pub turn_fits : (kept : Option Kept) (cmd : Cmd) (me : List ℕ) (lines : ℕ) (t : Task) (words : List ℕ) (made word : ℕ) → IsKept kept → StandsFor kept cmd me lines t words made → FitsTurn cmd (turn_given t word)
+turn_fits kept cmd me lines t words made word joined standing =
+    let cmds : t.cmd ≡ cmd = (standing_tied kept cmd me lines t words made joined standing).cmd_is in
     subst (λ (c : Cmd). FitsTurn c (turn_given t word)) cmds
     (elim (before_or t.phase) [
       | inl reads ↦ says_fit t.phase t.cmd (turn_given t word) (turn_says t.phase t (unwrap_or (given_by (op_of t) word) 0) reads refl)
-      | inr stores ↦ late_fits t.phase t (unwrap_or (given_by (op_of t) word) 0) stores (subst HasWish (sym cmds) (late_wish cmd me lines t words made standing stores))
+      | inr stores ↦ late_fits t.phase t (unwrap_or (given_by (op_of t) word) 0) stores (subst HasWish (sym cmds) (late_wish kept cmd me lines t words made joined standing stores))
     ])
 
 -- What fits and is allowed is of the rules.
@@ -143,6 +146,7 @@ turn_fits cmd me lines t words made word standing =
 module _ (p : Params) (history : List File) (pending : Option File) (host : HostPast) where
   append_case : (cmd : Cmd) (given : Reply) → HasWish cmd → IsAppendAnswer p history pending host cmd given → IsSoundAnswer p history pending host cmd given
   append_case Logplay given wish is = absurd (let none = wish.1 in cc)
+  append_case Mount given wish is = absurd (let none = wish.1 in cc)
   append_case (Mkdir path attr) given wish is = is
   append_case (Creat path size attr stripe fill) given wish is = is
   append_case (Cp path attr stripe bytes) given wish is = is
@@ -160,6 +164,7 @@ module _ (p : Params) (history : List File) (pending : Option File) (host : Host
 
   ask_case : (cmd : Cmd) (given : Reply) → AsksPrefix host (with_pending history pending) cmd given → IsSoundAnswer p history pending host cmd given
   ask_case Logplay given is = is
+  ask_case Mount given is = is
   ask_case (Mkdir path attr) given is = absurd (let none = is.is in cc)
   ask_case (Creat path size attr stripe fill) given is = absurd (let none = is.is in cc)
   ask_case (Cp path attr stripe bytes) given is = absurd (let none = is.is in cc)
@@ -190,6 +195,7 @@ module _ (p : Params) (history : List File) (pending : Option File) (host : Host
   sound_ruled cmd (reply.Appended seq) told fits says = append_case cmd (reply.Appended seq) fits tt
   sound_ruled cmd (reply.NotAppended why) told fits says = append_case cmd (reply.NotAppended why) fits (refused why cmd told says)
   sound_ruled cmd (reply.Played m tree) told fits says = ask_case cmd (reply.Played m tree) (asked m cmd (reply.Played m tree) told says)
+  sound_ruled cmd (reply.Mounted m) told fits says = ask_case cmd (reply.Mounted m) (asked m cmd (reply.Mounted m) told says)
   sound_ruled cmd (reply.Same m) told fits says = ask_case cmd (reply.Same m) (asked m cmd (reply.Same m) told says)
   sound_ruled cmd (reply.Differs m offset found wanted) told fits says = ask_case cmd (reply.Differs m offset found wanted) (asked m cmd (reply.Differs m offset found wanted) told says)
   sound_ruled cmd (reply.Length m size wanted) told fits says = ask_case cmd (reply.Length m size wanted) (asked m cmd (reply.Length m size wanted) told says)
@@ -206,6 +212,7 @@ module _ (p : Params) (history : List File) (pending : Option File) (host : Host
 module _ (image : Image) (damage : Damage) (host : HostPast) where
   fault_case : (cmd : Cmd) (given : Reply) → (cmd ≡ Fsck → ⊥) → IsFaultAnswer damage given → (HasWish cmd → (master : List ℕ) → damaged_master image damage ≡ Some master → host.uuid ≡ master) → IsDamagedAnswer image damage host cmd given
   fault_case Logplay given other is owns = is
+  fault_case Mount given other is owns = is
   fault_case (Mkdir path attr) given other is owns = inl record { is = is; own = owns (_, refl) }
   fault_case (Creat path size attr stripe fill) given other is owns = inl record { is = is; own = owns (_, refl) }
   fault_case (Cp path attr stripe bytes) given other is owns = inl record { is = is; own = owns (_, refl) }
@@ -216,6 +223,7 @@ module _ (image : Image) (damage : Damage) (host : HostPast) where
 
   client_case : (cmd : Cmd) (given : Reply) → HasWish cmd → IsDamagedClient image damage host given → IsDamagedAnswer image damage host cmd given
   client_case Logplay given wish is = absurd (let none = wish.1 in cc)
+  client_case Mount given wish is = absurd (let none = wish.1 in cc)
   client_case (Mkdir path attr) given wish is = inr is
   client_case (Creat path size attr stripe fill) given wish is = inr is
   client_case (Cp path attr stripe bytes) given wish is = inr is
@@ -243,6 +251,7 @@ module _ (image : Image) (damage : Damage) (host : HostPast) where
   damaged_ruled gate cmd (reply.NotAppended (cause.LogFull slots)) fits owns says = absurd says
   damaged_ruled gate cmd (reply.NotAppended (cause.NoSpace units)) fits owns says = absurd says
   damaged_ruled gate cmd (reply.Played m tree) fits owns says = absurd says
+  damaged_ruled gate cmd (reply.Mounted m) fits owns says = absurd says
   damaged_ruled gate cmd (reply.Same m) fits owns says = absurd says
   damaged_ruled gate cmd (reply.Differs m offset found wanted) fits owns says = absurd says
   damaged_ruled gate cmd (reply.Length m size wanted) fits owns says = absurd says

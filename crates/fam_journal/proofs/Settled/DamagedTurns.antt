@@ -99,6 +99,7 @@ module _ (first start : Image) (state : State) (hosts : List HostPast) (h : ℕ)
   reply_legal (reply.BadSlot i reason) a = super_fault (reading_of (line_at start) have) (reply.BadSlot i reason) refl a
   reply_legal (reply.Appended seq) a = absurd a
   reply_legal (reply.Played m tree) a = absurd a
+  reply_legal (reply.Mounted m) a = absurd a
   reply_legal (reply.Same m) a = absurd a
   reply_legal (reply.Differs m offset found wanted) a = absurd a
   reply_legal (reply.Length m size wanted) a = absurd a

@@ -8,7 +8,7 @@ use Rattle.fam_base.specs.declared.entry.Params.{Params}
 use Rattle.fam_base.specs.Image.{Image}
 use Rattle.fam_rules.specs.Asks.{File, entries_of}
 use Rattle.fam_protocol.proofs.Settled.Lists.{entries_count}
-use Rattle.fam_rules.specs.Reply.{Reply, Appended, NotAppended, Played, Same, Differs, Length, Bytes, NotFound, IsDirectory, Checks, Reports, NoSuperblock, BadHeader, BadSlot}
+use Rattle.fam_rules.specs.Reply.{Reply, Appended, NotAppended, Played, Mounted, Same, Differs, Length, Bytes, NotFound, IsDirectory, Checks, Reports, NoSuperblock, BadHeader, BadSlot}
 use Rattle.fam_journal.proofs.Settled.DamagedTurns.{replied_bad}
 use Rattle.fam_journal.proofs.Settled.ReplyCases.{replied_by}
 use Rattle.fam_journal.specs.Laws.{IsFree, IsPrefix, NoneMade, TwoAnswers, entries_at, first_entries, history_at, second_entries}
@@ -115,6 +115,7 @@ module _ (p : Params) (history : List File) (pending : Option File) where
   -- of a legal answer in a sound state
   bound : (told : HostPast) (given : Reply) (m : ℕ) → ReplyAllowed given told (Sound p history pending) → count_of given ≡ Some m → m ≤ length (with_pending history pending)
   bound told (Played n tree) m a is = subst (λ k. k ≤ length (with_pending history pending)) (Rattle.std.proofs.lemmas.Option.same_Some n m is) a.bounds.high
+  bound told (Mounted n) m a is = subst (λ k. k ≤ length (with_pending history pending)) (Rattle.std.proofs.lemmas.Option.same_Some n m is) a.bounds.high
   bound told (Same n) m a is = subst (λ k. k ≤ length (with_pending history pending)) (Rattle.std.proofs.lemmas.Option.same_Some n m is) a.bounds.high
   bound told (Differs n offset found wanted) m a is = subst (λ k. k ≤ length (with_pending history pending)) (Rattle.std.proofs.lemmas.Option.same_Some n m is) a.bounds.high
   bound told (Length n size wanted) m a is = subst (λ k. k ≤ length (with_pending history pending)) (Rattle.std.proofs.lemmas.Option.same_Some n m is) a.bounds.high
@@ -154,6 +155,7 @@ module _ (p : Params) (history : List File) (pending : Option File) where
 -- every counted reply shows its count
 counted : (given : Reply) (m : ℕ) (s : State) → count_of given ≡ Some m → replied given s ≡ shows m s
 counted (Played n tree) m s is = ap (λ k. shows k s) (Rattle.std.proofs.lemmas.Option.same_Some n m is)
+counted (Mounted n) m s is = ap (λ k. shows k s) (Rattle.std.proofs.lemmas.Option.same_Some n m is)
 counted (Same n) m s is = ap (λ k. shows k s) (Rattle.std.proofs.lemmas.Option.same_Some n m is)
 counted (Differs n offset found wanted) m s is = ap (λ k. shows k s) (Rattle.std.proofs.lemmas.Option.same_Some n m is)
 counted (Length n size wanted) m s is = ap (λ k. shows k s) (Rattle.std.proofs.lemmas.Option.same_Some n m is)

@@ -1,7 +1,7 @@
 -- What a reply settles is nothing, what so many entries show, or an entry that is acknowledged. So what holds of these
 -- three holds of every reply.
 use Rattle.std.proofs.Common.{ℕ, Option, Some, None}
-use Rattle.fam_rules.specs.Reply.{Reply, Appended, NotAppended, Played, Same, Differs, Length, Bytes, NotFound, IsDirectory, Checks, Reports, NoSuperblock, BadHeader, BadSlot}
+use Rattle.fam_rules.specs.Reply.{Reply, Appended, NotAppended, Played, Mounted, Same, Differs, Length, Bytes, NotFound, IsDirectory, Checks, Reports, NoSuperblock, BadHeader, BadSlot}
 use Rattle.fam_journal.specs.Past.{State, acknowledges, replied, reported_count, shows, shows_count}
 
 module _ (P : (State → State) → Type 0) (nothing : P (λ s. s)) (shown : (m : ℕ) → P (shows m)) (acknowledged : (seq : ℕ) → P (acknowledges seq)) where
@@ -13,6 +13,7 @@ module _ (P : (State → State) → Type 0) (nothing : P (λ s. s)) (shown : (m 
   replied_by (Appended seq) = acknowledged seq
   replied_by (NotAppended why) = nothing
   replied_by (Played m tree) = shown m
+  replied_by (Mounted m) = shown m
   replied_by (Same m) = shown m
   replied_by (Differs m offset found wanted) = shown m
   replied_by (Length m size wanted) = shown m

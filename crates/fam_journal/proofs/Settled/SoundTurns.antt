@@ -16,7 +16,7 @@ use Rattle.fam_rules.specs.Asks.{File, entries_of}
 use Rattle.fam_protocol.proofs.Settled.Lists.{entries_count}
 use Rattle.fam_rules.specs.Content.{fill}
 use Rattle.fam_rules.specs.Decide.{decide}
-use Rattle.fam_rules.specs.Reply.{Reply, Appended, NotAppended, Played, Same, Differs, Length, Bytes, NotFound, IsDirectory, Checks, Reports, NoSuperblock, BadHeader, BadSlot}
+use Rattle.fam_rules.specs.Reply.{Reply, Appended, NotAppended, Played, Mounted, Same, Differs, Length, Bytes, NotFound, IsDirectory, Checks, Reports, NoSuperblock, BadHeader, BadSlot}
 use Rattle.fam_protocol.specs.After.{AnswersPrefix, ReportsPrefix, MayRefuse, MayReply, MaySay, new_file, read_by_log, shown_by}
 use Rattle.fam_protocol.specs.Core.{System}
 use Rattle.fam_protocol.specs.Lines.{IsAtLeast}
@@ -45,6 +45,7 @@ module _ (p : Params) (history : List File) (pending : Option File) (start : Ima
   reply_settles (Appended seq) a = acknowledges_settles p history seq pending a.count
   reply_settles (NotAppended why) a = ap (Known p all) (omega arith)
   reply_settles (Played m tree) a = shows_settles p history m pending a.high
+  reply_settles (Mounted m) a = shows_settles p history m pending a.high
   reply_settles (Same m) a = shows_settles p history m pending a.high
   reply_settles (Differs m offset found wanted) a = shows_settles p history m pending a.high
   reply_settles (Length m size wanted) a = shows_settles p history m pending a.high
@@ -134,6 +135,7 @@ module _ (p : Params) (history : List File) (pending : Option File) (start : Ima
       record { entry = a.file.entry; named = a.named; count = a.count; last = ap (option_map (λ (f : File). f.entry)) a.last }
   reply_allowed (NotAppended why) a = cause_allowed why a
   reply_allowed (Played m tree) a = asked (Played m tree) a
+  reply_allowed (Mounted m) a = asked (Mounted m) a
   reply_allowed (Same m) a = asked (Same m) a
   reply_allowed (Differs m offset found wanted) a = asked (Differs m offset found wanted) a
   reply_allowed (Length m size wanted) a = asked (Length m size wanted) a

@@ -1,13 +1,14 @@
 -- What a turn changes of what the journal has of its host, and of the host's run.
-use Rattle.std.proofs.Common.{◌≡◌, ◌≢◌, ℕ, ◌+◌, List, Some, None, refl, ap, sym, ◌∙◌}
+use Rattle.std.proofs.Common.{◌≡◌, ◌≢◌, ℕ, ◌+◌, List, Option, Some, None, refl, ap, sym, ◌∙◌}
 use Rattle.std.specs.Prelude.{slice_get}
 use Rattle.fam_base.specs.declared.cmd.Cmd.{Cmd}
+use Rattle.fam_commands.specs.Kept.{IsKept, Kept}
 use Rattle.fam_commands.specs.Stands.{StandsFor, note_of, task_after, turn_given, with_given}
 use Rattle.fam_machine.specs.Operations.{given_by}
 use Rattle.fam_commands.specs.Stands as stands
 use Rattle.fam_commands.specs.Task.{Task, op_of}
 use Rattle.fam_commands.specs.Turns.{Turn, Goes, Marks, Finds, Writes, Ends}
-use Rattle.fam_commands.proofs.Steps.Standing.{bare_tied}
+use Rattle.fam_commands.proofs.Steps.Standing.{standing_tied}
 use Rattle.fam_protocol.specs.Steps.{run_after, settled_count}
 use Rattle.fam_journal.specs.Kept.{IfRuns, TaskTold, run_of, run_with, settled_of}
 use Rattle.fam_journal.specs.Machines.{notes_of}
@@ -68,14 +69,14 @@ settled_same (Bad image (past.NoSuperblock fault) gate) = refl
 settled_same (Bad image (past.BadHeader fault) gate) = refl
 settled_same (Bad image (past.BadSlot i reason) gate) = refl
 
-module _ (cmd : Cmd) (me : List ℕ) (lines : ℕ) (t : Task) (words : List ℕ) (made word : ℕ) (standing : StandsFor None cmd me lines t words made) (turn : Turn) (is : turn_given t word ≡ turn) where
+module _ (kept : Option Kept) (cmd : Cmd) (me : List ℕ) (lines : ℕ) (t : Task) (words : List ℕ) (made word : ℕ) (joined : IsKept kept) (standing : StandsFor kept cmd me lines t words made) (turn : Turn) (is : turn_given t word ≡ turn) where
   -- the task that goes on stands for the command too
-  pub next_stands : (next : Task) → task_after turn ≡ Some next → StandsFor None cmd me lines next (with_given words (given_by (op_of t) word)) (made + 1)
+  pub next_stands : (next : Task) → task_after turn ≡ Some next → StandsFor kept cmd me lines next (with_given words (given_by (op_of t) word)) (made + 1)
   next_stands next goes = stands.goes word standing (ap task_after is ∙ goes)
 
   pub next_command : (next : Task) → task_after turn ≡ Some next → next.cmd ≡ t.cmd
   next_command next goes =
-      (bare_tied cmd me lines next (with_given words (given_by (op_of t) word)) (made + 1) (next_stands next goes)).cmd_is ∙ sym (bare_tied cmd me lines t words made standing).cmd_is
+      (standing_tied kept cmd me lines next (with_given words (given_by (op_of t) word)) (made + 1) joined (next_stands next goes)).cmd_is ∙ sym (standing_tied kept cmd me lines t words made joined standing).cmd_is
 
   -- the journal has of the task what it should
   pub task_told : (told : HostPast) → TaskTold t told → (x : Turn) (n : ℕ) → turn ≡ x → IfRuns (task_after x) (told_after x n told)

@@ -21,7 +21,7 @@ abbrev id : List ℕ
 id = 0 ∷ 0 ∷ 0 ∷ 0 ∷ 0 ∷ 0 ∷ 0 ∷ 0 ∷ 0 ∷ 0 ∷ 0 ∷ 0 ∷ 0 ∷ 0 ∷ 0 ∷ 1 ∷ []
 
 abbrev host_m : HostState
-host_m = record { name = codes "m"; uuid = id; cache = finmap.empty; task = None }
+host_m = record { name = codes "m"; uuid = id; cache = finmap.empty; task = None; kept = None }
 
 abbrev with_m : Session
 with_m = record { machines = record { memory = []; hosts = host_m ∷ [] }; copied = 0 }
@@ -54,7 +54,7 @@ sink_fails files = record {
 }
 
 -- a host is declared, once
-declares : world_after (call.Declares (codes "m") id) 0 empty_world ≡ record { hosts = record { name = codes "m"; uuid = id; cache = finmap.empty; task = None } ∷ []; journal = Host (codes "m") id ∷ [] }
+declares : world_after (call.Declares (codes "m") id) 0 empty_world ≡ record { hosts = record { name = codes "m"; uuid = id; cache = finmap.empty; task = None; kept = None } ∷ []; journal = Host (codes "m") id ∷ [] }
 unfolding refusal_of
 declares = refl
 

@@ -120,7 +120,7 @@ abbrev notes : List Note
 notes = Host (codes "m") id ∷ Refused (codes "m") why.Idle ∷ []
 
 abbrev with_m : Session
-with_m = record { machines = record { memory = []; hosts = record { name = codes "m"; uuid = id; cache = finmap.empty; task = None } ∷ [] }; copied = 0 }
+with_m = record { machines = record { memory = []; hosts = record { name = codes "m"; uuid = id; cache = finmap.empty; task = None; kept = None } ∷ [] }; copied = 0 }
 
 module _ (script : List ℕ) (within : length script ≤ script_limit) (files : Files) (has : finmap.get files (codes "f") ≡ Some script) where
   abbrev out : Outside

@@ -35,7 +35,7 @@ rested_of lines state world stands clean h view is =
   where
     by_host : (o : Option HostState) → slice_get state.hosts h ≡ o → HostStandsAt lines o (Some view) → IsClean view.cache
     by_host None at here = absurd here
-    by_host (Some host) at here = subst IsClean here.cache (clean h host at)
+    by_host (Some host) at here = subst IsClean here.cache (clean h host at).0
 
 module _ (b : Base) (one : IsOneRun b.events) where
   -- up to so many events

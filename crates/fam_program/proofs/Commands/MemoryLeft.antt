@@ -24,10 +24,12 @@ use Rattle.fam_commands.specs.declared.phase.Phase.{Phase}
 use Rattle.fam_commands.specs.declared.phase.Phase.TheVariants as at
 use Rattle.fam_commands.specs.Appends.{IsBeforeWrites}
 use Rattle.fam_commands.specs.FirstStore.{IsUpToStore}
+use Rattle.fam_commands.specs.Keeping.{kept_after}
+use Rattle.fam_commands.specs.Kept.{IsKept}
 use Rattle.fam_commands.specs.Stands.{StandsFor, goes, note_of, starts, task_after, turn_given, with_given}
-use Rattle.fam_commands.specs.Task.{Task, op_at, op_of, size_of, starting}
+use Rattle.fam_commands.specs.Task.{Task, op_at, mounted, op_of, size_of}
 use Rattle.fam_commands.specs.Turns.{Turn, Goes, Marks, Finds, Writes, Ends, turn_at}
-use Rattle.fam_commands.proofs.Steps.Standing.{operation_from_start}
+use Rattle.fam_commands.proofs.Steps.Standing.{next_operation}
 use Rattle.fam_commands.proofs.UpToStores.{up_to_next}
 use Rattle.fam_journal.specs.declared.event.Ask.{Ask}
 use Rattle.fam_journal.specs.declared.event.Event.{Event}
@@ -38,7 +40,8 @@ use Rattle.fam_journal.specs.Calls.{Acts, ActsAt, ByRefusal, Completes, Does, Do
 use Rattle.fam_journal.specs.Events.{Continues, DoesEvent, Session, first_session}
 use Rattle.fam_journal.specs.Follows.{Follows}
 use Rattle.fam_journal.specs.Machines as machine
-use Rattle.fam_journal.specs.Machines.{Fails, HostState, Machines, Outcome, Passes, TaskState, cut, machine_of, notes_of, operation, task_begun, task_on, unused, with_machine, with_task}
+use Rattle.fam_journal.specs.Machines.{Fails, HostState, Machines, Outcome, Passes, TaskState, cut, machine_of, notes_of, operation, task_begun, task_on, unused, with_parts, with_machine, with_task}
+use Rattle.fam_journal.specs.View.{StandsAs}
 use Rattle.fam_journal.specs.Notes.{Answered, MediaFault, Note, Replied}
 use Rattle.fam_outcomes.specs.Programs.{last_passes}
 use Rattle.fam_journal.proofs.Calls.Cases.{by_host, by_refusal, place_same}
@@ -135,7 +138,7 @@ module _ (h : ℕ) where
     host_is : slice_get state.hosts h ≡ Some host
     s : TaskState
     s_is : host.task ≡ Some s
-    standing : StandsFor None s.cmd s.me (length state.memory) t s.words s.made
+    standing : StandsAs (length state.memory) s t
 
   -- nothing comes behind the answer
   none_behind : (count : ℕ) (state new : Machines) (rest : List Note) → busy_at h state ≡ false → DoesOperations h count state rest new → (rest ≡ []) × (new ≡ state)
@@ -157,7 +160,7 @@ module _ (h : ℕ) where
     on = task_on here.s (given (op_of t) m)
 
     abbrev left : Turn → Machines
-    left z = with_machine h (operated (op_of t) m) (machine.task_behind (note_of z) on) state
+    left z = with_parts h (operated (op_of t) m) (machine.task_behind (note_of z) on) (kept_after z t here.host.kept) state
 
     busy : busy_at h state ≡ true
     busy = ap is_busy_host here.host_is ∙ ap (λ (o : Option TaskState). is_some o) here.s_is
@@ -173,8 +176,8 @@ module _ (h : ℕ) where
     passed first mid is =
         let same = same_Some passes (record { notes = first; left = mid }) (sym row ∙ is) in (ap (λ (z : machine.Done). z.notes) same, ap (λ (z : machine.Done). z.left) same)
 
-    host_left : (z : Turn) → slice_get (left z).hosts h ≡ Some (record here.host { cache = (operated (op_of t) m).cache; task = machine.task_behind (note_of z) on })
-    host_left z = changed_at_member h (λ y. record y { cache = (operated (op_of t) m).cache; task = machine.task_behind (note_of z) on }) state.hosts here.host here.host_is
+    host_left : (z : Turn) → slice_get (left z).hosts h ≡ Some (record here.host { cache = (operated (op_of t) m).cache; task = machine.task_behind (note_of z) on; kept = kept_after z t here.host.kept })
+    host_left z = changed_at_member h (λ y. record y { cache = (operated (op_of t) m).cache; task = machine.task_behind (note_of z) on; kept = kept_after z t here.host.kept }) state.hosts here.host here.host_is
 
     idle_left : (z : Turn) → machine.task_behind (note_of z) on ≡ None → busy_at h (left z) ≡ false
     idle_left z none = ap is_busy_host (host_left z) ∙ ap (λ (o : Option TaskState). is_some o) none
@@ -182,13 +185,15 @@ module _ (h : ℕ) where
     -- the task that goes on
     abbrev next_at : (z : Turn) (n : Task) → task_after turn ≡ Some n → machine.task_behind (note_of z) on ≡ Some on → At (left z) n
     next_at z n next task = record {
-      host = record here.host { cache = (operated (op_of t) m).cache; task = machine.task_behind (note_of z) on };
+      host = record here.host { cache = (operated (op_of t) m).cache; task = machine.task_behind (note_of z) on; kept = kept_after z t here.host.kept };
       host_is = host_left z;
       s = on;
       s_is = task;
-      standing =
-          subst (λ (k : ℕ). StandsFor None here.s.cmd here.s.me k n (with_given here.s.words (given (op_of t) m)) (here.s.made + 1)) (sym (operated_length (op_of t) m))
-          (subst (λ (o : Option ℕ). StandsFor None here.s.cmd here.s.me (length state.memory) n (with_given here.s.words o) (here.s.made + 1)) (same_given (op_of t) m) (goes word here.standing next));
+      standing = record {
+        joined = here.standing.joined;
+        stands = subst (λ (k : ℕ). StandsFor here.s.kept here.s.cmd here.s.me k n (with_given here.s.words (given (op_of t) m)) (here.s.made + 1)) (sym (operated_length (op_of t) m))
+            (subst (λ (o : Option ℕ). StandsFor here.s.kept here.s.cmd here.s.me (length state.memory) n (with_given here.s.words o) (here.s.made + 1)) (same_given (op_of t) m) (goes word here.standing.stands next));
+      };
     }
 
     -- the media failed in it
@@ -197,7 +202,7 @@ module _ (h : ℕ) where
     cut_row through =
         ap (machine.host_done (Fails through) h state) here.host_is
         ∙ ap (machine.task_done (Fails through) h state here.host) here.s_is
-        ∙ ap (machine.op_done (Fails through) h state here.host here.s) (operation_from_start here.s.cmd here.s.me (length state.memory) t here.s.words here.s.made here.standing)
+        ∙ ap (machine.op_done (Fails through) h state here.host here.s) (next_operation here.s.kept here.s.cmd here.s.me (length state.memory) t here.s.words here.s.made here.standing.joined here.standing.stands)
 
     record IsCutAt (through : Breaking) (first : List Note) (mid : Machines) : Type 0 where
       failure : Failure
@@ -314,10 +319,10 @@ module _ (h : ℕ) where
           ∙ fails_same through (m state t here) clean c.failure t.phase t before c.fails
           )
 
--- A run of a command, of a host whose cache has nothing to send.
+-- A run of a command, of a host whose cache has nothing to send and which keeps a history or nothing.
 
 abbrev pub AreClean : Machines → Type 0
-AreClean state = (h : ℕ) (host : HostState) → slice_get state.hosts h ≡ Some host → IsClean host.cache
+AreClean state = (h : ℕ) (host : HostState) → slice_get state.hosts h ≡ Some host → IsClean host.cache × IsKept host.kept
 
 abbrev pub IsSparedBy : Session → Session → List Note → Type 0
 IsSparedBy old new notes = (last_passes is_short notes ≡ true) ⊎ (new.machines.memory ≡ old.machines.memory)
@@ -335,7 +340,7 @@ module _ (files : Files) (name : List ℕ) (what : Ask) (old new : Session) (not
 
       begun : (h : ℕ) (host : HostState) → number_of name old.machines ≡ Some h → slice_get old.machines.hosts h ≡ Some host → ActsAt (call.Begins name x.begun.cmd) h host old.machines x.first x.mid.machines → IsSparedBy old new notes
       begun h host number is acts =
-          let task : TaskState = task_begun x.begun.cmd host.uuid in
+          let task : TaskState = task_begun host.kept x.begun.cmd host.uuid in
           let mid : Machines = with_task h (Some task) old.machines in
           let numbers : x.host ≡ h =
           same_Some x.host h (sym x.number ∙ ap (number_of name) acts.1 ∙ place_same (has_name name) (λ z. record z { task = Some task }) (λ z. refl) h 0 old.machines.hosts ∙ number) in
@@ -343,14 +348,14 @@ module _ (files : Files) (name : List ℕ) (what : Ask) (old new : Session) (not
           subst (λ (k : ℕ). DoesOperations k x.does.count mid x.rest new.machines) numbers
           (subst (λ (y : Machines). DoesOperations x.host x.does.count y x.rest new.machines) acts.1 x.does.does) in
           let done : busy_at h new.machines ≡ false = subst (λ (k : ℕ). busy_at k new.machines ≡ false) numbers x.does.done in
-          let here : At h mid (starting x.begun.cmd host.uuid (length old.machines.memory)) = record {
+          let here : At h mid (mounted host.kept x.begun.cmd host.uuid (length old.machines.memory)) = record {
             host = record host { task = Some task };
             host_is = changed_at_member h (λ z. record z { task = Some task }) old.machines.hosts host is;
             s = task;
             s_is = refl;
-            standing = starts;
+            standing = record { joined = (clean h host is).1; stands = starts };
           } in
-          joined (reads_end h x.does.count mid new.machines x.rest (starting x.begun.cmd host.uuid (length old.machines.memory)) here tt (clean h host is) normal does done)
+          joined (reads_end h x.does.count mid new.machines x.rest (mounted host.kept x.begun.cmd host.uuid (length old.machines.memory)) here tt (clean h host is).0 normal does done)
 
   pub run_spares : DoesEvent files (event.Run name what) old notes new → IsSparedBy old new notes
   run_spares (inl x) = begun_spares x
@@ -374,8 +379,8 @@ module _ (files : Files) (start : Image) (name me : List ℕ) where
   none_clean : AreClean (unused start)
   none_clean h host is = absurd cc
 
-  one_clean : AreClean (record (unused start) { hosts = record { name = name; uuid = me; cache = map_of_lines.empty; task = None } ∷ [] })
-  one_clean zero host is = subst (λ (z : HostState). IsClean z.cache) (same_Some _ host is) clean_empty
+  one_clean : AreClean (record (unused start) { hosts = record { name = name; uuid = me; cache = map_of_lines.empty; task = None; kept = None } ∷ [] })
+  one_clean zero host is = subst (λ (z : HostState). IsClean z.cache × IsKept z.kept) (same_Some _ host is) (clean_empty, tt)
   one_clean (suc h) host is = absurd cc
 
   pub declared : (notes : List Note) (new : Machines) → Does (call.Declares name me) (unused start) notes new → (new.memory ≡ start) × AreClean new

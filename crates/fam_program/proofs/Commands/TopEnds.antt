@@ -61,6 +61,7 @@ reply_told : (r : Reply) → is_lost (reply_status r) ≡ false
 reply_told (reply.Appended seq) = refl
 reply_told (reply.NotAppended refused) = refl
 reply_told (reply.Played m tree) = refl
+reply_told (reply.Mounted m) = refl
 reply_told (reply.Same m) = refl
 reply_told (reply.Differs m offset found wanted) = refl
 reply_told (reply.Length m size wanted) = refl

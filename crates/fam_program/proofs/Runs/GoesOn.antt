@@ -1,6 +1,6 @@
 -- A run goes on by an event.
 use Prim.Native.Nat.{zero, suc}
-use Rattle.std.proofs.Common.{◌≡◌, ℕ, List, [], ◌∷◌, ◌++◌, length, take, Some, None, refl, ap, sym, ◌∙◌, subst, arith}
+use Rattle.std.proofs.Common.{◌≡◌, ℕ, false, List, [], ◌∷◌, ◌++◌, length, take, Some, None, refl, ap, sym, ◌∙◌, subst, arith}
 use Rattle.std.specs.Prelude.{slice_get}
 use Rattle.fam_media.specs.Outside.{IfModelled}
 use Rattle.fam_journal.specs.declared.event.Event.{Event}
@@ -50,7 +50,7 @@ changed_length (suc h) f (x ∷ xs) = ap suc (changed_length h f xs)
 
 after_count : (hosts : List HostForm) (names : List (List ℕ)) (note : Note) → length hosts ≡ length names → length (forms_after hosts note) ≡ length (names_after names note)
 after_count hosts names (Host name uuid) same =
-    let a = Rattle.std.proofs.lemmas.List.length-append hosts (record { name = name; uuid = uuid; task = None } ∷ []) in
+    let a = Rattle.std.proofs.lemmas.List.length-append hosts (record { name = name; uuid = uuid; task = None; keeps = false } ∷ []) in
     let b = Rattle.std.proofs.lemmas.List.length-append names (name ∷ []) in
     omega (arith, a, b, same)
 after_count hosts names (Made host p) same = same

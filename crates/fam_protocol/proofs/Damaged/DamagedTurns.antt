@@ -336,6 +336,7 @@ module _ (image : Lines) (have : ℕ) (t t' : Task) (same : t.me ≡ t'.me) wher
   reply_moved (NotAppended (refused.NoSpace units)) a = a
   reply_moved (reply.Appended seq) a = a
   reply_moved (reply.Played m tree) a = a
+  reply_moved (reply.Mounted m) a = a
   reply_moved (reply.Same m) a = a
   reply_moved (reply.Differs m offset found wanted) a = a
   reply_moved (reply.Length m size wanted) a = a

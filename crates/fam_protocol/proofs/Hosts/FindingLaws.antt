@@ -25,7 +25,7 @@ use Rattle.fam_rules.specs.Asks.{File, entries_of}
 use Rattle.fam_rules.specs.Content.{byte_in}
 use Rattle.fam_rules.specs.Decide.{decide}
 use Rattle.fam_rules.specs.Place.{line_bytes}
-use Rattle.fam_rules.specs.Reply.{Reply, Appended, NotAppended, Played, Same, Differs, Length, Bytes, NotFound, IsDirectory, Checks, Reports, NoSuperblock, BadHeader, BadSlot}
+use Rattle.fam_rules.specs.Reply.{Reply, Appended, NotAppended, Played, Mounted, Same, Differs, Length, Bytes, NotFound, IsDirectory, Checks, Reports, NoSuperblock, BadHeader, BadSlot}
 use Rattle.fam_rules.specs.Reports.{report_of}
 use Rattle.fam_rules.specs.Written.{file_line}
 use Rattle.fam_protocol.specs.After.{Run, Named, HasNamed, HoldsNamed, AppendsNamed, AnswersPrefix, RefusesWhole, ReportsPrefix, IsClient, MayRefuse, MayReply}
@@ -138,6 +138,7 @@ module _ (sys : System) (host : ℕ) (floor : Option ℕ) (t : Task) (s : Shared
 module _ (sys : System) (r : Run) (all : List File) (settled : ℕ) where
   asked_by : (reply : Reply) → IsOfEntries reply → MayReply reply sys r all settled → AnswersPrefix r.task r.floor all reply
   asked_by (Played m tree) has may = may
+  asked_by (Mounted m) has may = may
   asked_by (Same m) has may = may
   asked_by (Differs m offset found wanted) has may = may
   asked_by (Length m size wanted) has may = may
@@ -171,6 +172,7 @@ module _ (image : Lines) (have : ℕ) (t : Task) where
 
   no_entries_by : (reply : Reply) → MayReplyBad reply image have t → IsOfEntries reply → ⊥
   no_entries_by (Played m tree) may has = may
+  no_entries_by (Mounted m) may has = may
   no_entries_by (Same m) may has = may
   no_entries_by (Differs m offset found wanted) may has = may
   no_entries_by (Length m size wanted) may has = may

@@ -3,7 +3,7 @@ use Rattle.std.proofs.Common.{◌≡◌, ℕ, ◌+◌, ◌*◌, ◌<◌, ◌≤�
 use Rattle.std.specs.Prelude.{⊤, slice_get, slice_index}
 use Rattle.std.proofs.Math.Nat.{div-mul-le_self}
 use Rattle.fam_base.specs.declared.cmd.Cmd.{Cmd}
-use Rattle.fam_base.specs.declared.cmd.Cmd.TheVariants.{Logplay, Mkdir, Creat, Cp, Verify, Read, Check, Fsck}
+use Rattle.fam_base.specs.declared.cmd.Cmd.TheVariants.{Logplay, Mount, Mkdir, Creat, Cp, Verify, Read, Check, Fsck}
 use Rattle.fam_base.specs.declared.entry.Entry.{Entry}
 use Rattle.fam_base.specs.declared.entry.Params.{Params}
 use Rattle.fam_format.specs.Layout.{device_limit, gate_line, geometry, least_lines, slot_line}
@@ -71,6 +71,7 @@ module _ (lines : ℕ) (enough : least_lines ≤ lines) (p : Params) (sound : So
     where
       by_cmd : (cmd : Cmd) → slots_of_cmd cmd t.params t.gate ≤ p.slots
       by_cmd Logplay = gate
+      by_cmd Mount = gate
       by_cmd (Mkdir path attr) = gate
       by_cmd (Creat path size attr stripe fill) = gate
       by_cmd (Cp path attr stripe bytes) = gate

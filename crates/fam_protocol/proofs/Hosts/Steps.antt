@@ -21,10 +21,10 @@ use Rattle.fam_protocol.specs.Core.{System, IsWide}
 use Rattle.fam_protocol.specs.Tasks.{KeepsPrefix, TaskHolds}
 use Rattle.fam_commands.specs.Kept.{Kept}
 use Rattle.fam_commands.specs.Task.{Task}
-use Rattle.fam_rules.specs.Reply.{Reply, Played}
-use Rattle.fam_protocol.specs.Steps.{kept_after, kept_by}
+use Rattle.fam_rules.specs.Reply.{Reply, Played, Mounted}
+use Rattle.fam_commands.specs.Keeping.{kept_after, kept_by, read_by}
 use Rattle.fam_protocol.proofs.Settled.Keeps.{keeps_changed, played_keeps}
-use Rattle.fam_protocol.proofs.Turns.Keeps.{ReplyTells, Tells, turn_tells}
+use Rattle.fam_commands.proofs.TurnTells.{ReplyTells, Tells, turn_tells}
 use Rattle.fam_protocol.specs.After.{Run, After, TaskContinues, MaySay, floor_after, list_after, settled_after}
 use Rattle.fam_protocol.specs.Bad.{BadTaskHolds, GoesOnBad, MaySayBad}
 use Rattle.fam_protocol.specs.Invariant.{AreHosts, Hosts, IsDamaged, IsKnown, Settled, Small, Damaged, Known, InvariantBy, Invariant}
@@ -139,8 +139,9 @@ keeps_none (Finds n next) t = refl
 keeps_none (Writes seq e next) t = refl
 keeps_none (Ends reply) t = by_reply reply
   where
-    by_reply : (r : Reply) → kept_by r t None ≡ None
+    by_reply : (r : Reply) → kept_by r (read_by t) None ≡ None
     by_reply (Played m tree) = refl
+    by_reply (Mounted m) = refl
     by_reply other = refl
 
 -- So do lines that are sent, and the media's failure behind them.
@@ -220,7 +221,7 @@ module _ (lines host word : ℕ) (r : Run) (old new : Hosts) (s s' : SharedState
         turn_is : turn_given r.task word ≡ turn_at r.task.phase r.task word
         turn_is = given_turn r.task.phase r.task word refl
 
-        -- what a logplay lists is the history's front
+        -- what a logplay lists and what a mount has read is the history's front
         listed : (k : Option Kept) (turn' : Turn) → turn_at r.task.phase r.task word ≡ turn' → Tells r.task r.task.phase turn' → KeepsPrefix p (list_after turn' all) (settled_after turn' settled) k → KeepsPrefix p (list_after turn' all) (settled_after turn' settled) (kept_after turn' r.task k)
         listed k (Goes next) at tells keeps = keeps
         listed k (Marks next) at tells keeps = keeps
@@ -228,9 +229,11 @@ module _ (lines host word : ℕ) (r : Run) (old new : Hosts) (s s' : SharedState
         listed k (Writes seq e' next) at tells keeps = keeps
         listed k (Ends reply) at tells keeps = by_reply reply k at tells keeps
           where
-            by_reply : (reply' : Reply) (k' : Option Kept) → turn_at r.task.phase r.task word ≡ Ends reply' → ReplyTells r.task r.task.phase reply' → KeepsPrefix p all (settled_after (Ends reply') settled) k' → KeepsPrefix p all (settled_after (Ends reply') settled) (kept_by reply' r.task k')
+            by_reply : (reply' : Reply) (k' : Option Kept) → turn_at r.task.phase r.task word ≡ Ends reply' → ReplyTells r.task r.task.phase reply' → KeepsPrefix p all (settled_after (Ends reply') settled) k' → KeepsPrefix p all (settled_after (Ends reply') settled) (kept_by reply' (read_by r.task) k')
             by_reply (Played m tree) None at' tells' keeps' = tt
+            by_reply (Mounted m) None at' tells' keeps' = tt
             by_reply (Played m tree) (Some k') at' tells' keeps' = played_keeps sys host r.floor r.task s all settled m tells' (is.tasks host r steps.is).phase
+            by_reply (Mounted m) (Some k') at' tells' keeps' = played_keeps sys host r.floor r.task s all settled m tells' (is.tasks host r steps.is).phase
             by_reply other k' at' tells' keeps' = keeps'
 
         kept : (h : ℕ) → Same h host → KeepsPrefix p (list_after (turn_at r.task.phase r.task word) all) (settled_after (turn_at r.task.phase r.task word) settled) (new.kept h)

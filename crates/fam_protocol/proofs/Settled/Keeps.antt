@@ -2,18 +2,18 @@
 use Rattle.std.proofs.Common.{ℕ, ◌≡◌, List, length, take, Option, Some, None, inl, inr, ◌∙◌, sym, ap, subst, arith}
 use Rattle.std.specs.Prelude.{max}
 use Rattle.std.proofs.lemmas.List.{length-map, length-take, take_min}
-use Rattle.fam_base.specs.declared.cmd.Cmd.{Cmd}
 use Rattle.fam_base.specs.declared.entry.Entry.{Entry}
 use Rattle.fam_commands.specs.declared.phase.Phase.{Phase}
 use Rattle.fam_commands.specs.declared.phase.Phase.TheVariants as at
+use Rattle.fam_commands.specs.Classes.{Class}
 use Rattle.fam_commands.specs.Task.{Task}
 use Rattle.fam_commands.specs.Turns.{slots_read}
-use Rattle.fam_protocol.proofs.Turns.Keeps.{Lists}
+use Rattle.fam_commands.proofs.TurnTells.{Lists}
 use Rattle.fam_commands.specs.Kept.{Kept}
 use Rattle.fam_rules.specs.Asks.{File, entries_of}
 use Rattle.fam_protocol.specs.SharedState.{SharedState}
 use Rattle.fam_protocol.specs.Core.{System, Core}
-use Rattle.fam_protocol.specs.Tasks.{AtPhase, HasRead, IsKeptPrefix, KeepsPrefix}
+use Rattle.fam_protocol.specs.Tasks.{AtPhase, HasReadIn, IsKeptPrefix, KeepsPrefix}
 use Rattle.fam_protocol.specs.After.{Changes, Relists}
 
 module _ (sys : System) (s : SharedState) (all : List File) (settled : ℕ) (core : Core sys s all settled) where
@@ -37,11 +37,11 @@ module _ (sys : System) (s : SharedState) (all : List File) (settled : ℕ) (cor
   keeps_changed host all' settled' kept (inl c) keeps = keeps_relisted all' settled' c.1 kept keeps
   keeps_changed host all' settled' kept (inr c) keeps = rw (c.same, c.is) (keeps_raised c.m kept keeps)
 
--- what a logplay has read, where it lists its tree
+-- what a logplay or a mount has read, where it decides
 pub played_keeps : (sys : System) (host : ℕ) (floor : Option ℕ) (t : Task) (s : SharedState) (all : List File) (settled m : ℕ) → Lists t t.phase m → AtPhase t.phase sys host floor t s all settled → IsKeptPrefix sys.params all (max settled m) (record { params = t.params; entries = t.entries })
 played_keeps sys host floor t s all settled m lists holds =
     let here : AtPhase at.Decide sys host floor t s all settled = subst (λ (p : Phase). AtPhase p sys host floor t s all settled) lists.phase holds in
-    let read : t.entries ≡ entries_of (take (slots_read t) all) = subst (λ (c : Cmd). HasRead c (slots_read t) t all) lists.cmd here.1.read in
+    let read : t.entries ≡ entries_of (take (slots_read t) all) = subst (λ (c : Class). HasReadIn c (slots_read t) t all) lists.class here.1.read in
     record {
       params = here.0.params;
       few = omega (arith, lists.count);

@@ -3,7 +3,7 @@ use Rattle.std.proofs.Common.{ℕ, ◌≤◌, ◌≡◌, ◌≢◌, inl, inr, Li
 use Rattle.std.specs.Prelude.{Some, Option}
 use Rattle.std.proofs.lemmas.Option.{same_Some}
 use Rattle.fam_base.specs.declared.cmd.Cmd.{Cmd}
-use Rattle.fam_base.specs.declared.cmd.Cmd.TheVariants.{Logplay, Mkdir, Creat, Cp, Verify, Read, Check, Fsck}
+use Rattle.fam_base.specs.declared.cmd.Cmd.TheVariants.{Logplay, Mount, Mkdir, Creat, Cp, Verify, Read, Check, Fsck}
 use Rattle.fam_format.specs.Layout.{gate_line}
 use Rattle.fam_commands.specs.declared.phase.Part.{Part}
 use Rattle.fam_commands.specs.declared.phase.Part.TheVariants.{Superblock, Header, Slot, File as FileLines}
@@ -105,6 +105,7 @@ module _ (sys : System) (s : SharedState) (all : List File) (settled : ℕ) (cor
         go : (c : Cmd) → t.cmd ≡ c → HasRead c i t all → HasRead c i t all'
         go Fsck e v = surveyed v
         go Logplay e v = played (below (rw e refl)) v
+        go Mount e v = played (below (rw e refl)) v
         go (Mkdir path attr) e v = played (below (rw e refl)) v
         go (Creat path size attr stripe fill) e v = played (below (rw e refl)) v
         go (Cp path attr stripe bytes) e v = played (below (rw e refl)) v

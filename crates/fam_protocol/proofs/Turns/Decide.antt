@@ -5,7 +5,7 @@ use Rattle.std.specs.Option.{option_map}
 use Rattle.std.proofs.lemmas.Bool.Decides.{nat_tests}
 use Rattle.std.proofs.lemmas.List.{length-map, length-take-le, take_all, take-append-le}
 use Rattle.fam_base.specs.declared.cmd.Cmd.{Cmd}
-use Rattle.fam_base.specs.declared.cmd.Cmd.TheVariants.{Logplay, Check}
+use Rattle.fam_base.specs.declared.cmd.Cmd.TheVariants.{Logplay, Mount, Check}
 use Rattle.fam_base.specs.declared.entry.Params.{Params}
 use Rattle.fam_base.specs.declared.entry.Entry.{Entry}
 use Rattle.fam_format.specs.Layout.{geometry, gate_line}
@@ -20,7 +20,7 @@ use Rattle.fam_rules.specs.Asks.{File, entries_of}
 use Rattle.fam_rules.specs.Checks.{checked}
 use Rattle.fam_rules.specs.Decide.{Wish, wish_of, decide_wish, decide}
 use Rattle.fam_rules.specs.DecideLaws.{MayAppend}
-use Rattle.fam_rules.specs.Reply.{NotAppended, Played, Checks}
+use Rattle.fam_rules.specs.Reply.{NotAppended, Played, Mounted, Checks}
 use Rattle.fam_rules.proofs.ContentLines.{length_of_fill}
 use Rattle.fam_rules.proofs.DecideProofs.{may_append}
 use Rattle.fam_protocol.specs.SharedState.{SharedState}
@@ -74,6 +74,13 @@ module _ (sys : System) (host : ℕ) (floor : Option ℕ) (named : Option Named)
         high = h.high;
         is = ap (λ (k : ℕ). Some (Played k (replay (entries_of (take m all))))) h.prefix ∙ ap (λ (l : List Entry). Some (Played m (replay l))) h.entries;
       }) h.shared
+
+  -- the entries are counted
+  pub decide_mount : (log : ReadsLog Mount) (t : Task) → AtPhase at.Decide sys host floor (commanded t Mount) s all settled → After (decide_turn Mount (commanded t Mount)) sys host floor named (commanded t Mount) s all settled
+  decide_mount log t g =
+      let h = has_first sys host floor s all settled core Mount log t g.1 in
+      ends sys host floor named s all settled core (commanded t Mount) (Mounted (length t.entries))
+      (record { low = h.low; high = h.high; is = ap (λ (k : ℕ). Some (Mounted k)) h.prefix }) h.shared
 
   -- the tree is checked beside a listing
   pub decide_check : (listing : List Entry) (log : ReadsLog (Check listing)) (t : Task) → AtPhase at.Decide sys host floor (commanded t (Check listing)) s all settled → After (decide_turn (Check listing) (commanded t (Check listing))) sys host floor named (commanded t (Check listing)) s all settled

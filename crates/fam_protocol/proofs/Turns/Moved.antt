@@ -9,7 +9,7 @@ use Rattle.fam_commands.specs.declared.phase.Phase.{Phase}
 use Rattle.fam_commands.specs.Task.{Task, part_count, part_line}
 use Rattle.fam_commands.specs.Turns.{slots_read, Turn, Goes, Marks, Finds, Writes, Ends}
 use Rattle.fam_rules.specs.Asks.{File}
-use Rattle.fam_rules.specs.Reply.{Reply, Appended, NotAppended, Played, Same, Differs, Length, Bytes, NotFound, IsDirectory, Checks, Reports, NoSuperblock, BadHeader, BadSlot}
+use Rattle.fam_rules.specs.Reply.{Reply, Appended, NotAppended, Played, Mounted, Same, Differs, Length, Bytes, NotFound, IsDirectory, Checks, Reports, NoSuperblock, BadHeader, BadSlot}
 use Rattle.fam_rules.specs.declared.answers.Refused.{Refused}
 use Rattle.fam_rules.specs.declared.answers.Refused.TheVariants as refused
 use Rattle.fam_rules.specs.Place.{line_bytes}
@@ -130,6 +130,7 @@ module _ (t : Task) (p : Phase) (w : List ℕ) where
     may_reply_moved (BadHeader fault) h = h
     may_reply_moved (BadSlot seq reason) h = h
     may_reply_moved (Played m tree) h = asked_moved (Played m tree) h
+    may_reply_moved (Mounted m) h = asked_moved (Mounted m) h
     may_reply_moved (Same m) h = asked_moved (Same m) h
     may_reply_moved (Differs m offset found wanted) h = asked_moved (Differs m offset found wanted) h
     may_reply_moved (Length m size wanted) h = asked_moved (Length m size wanted) h

@@ -3,7 +3,7 @@ use Rattle.std.proofs.Common.{ℕ, refl, [], ◌∷◌, ◌++◌, ◌+◌, ◌*�
 use Rattle.std.specs.Prelude.{Option, Some, None}
 use Rattle.std.proofs.lemmas.Bool.Decides.{nat_tests}
 use Rattle.fam_base.specs.declared.cmd.Cmd.{Cmd}
-use Rattle.fam_base.specs.declared.cmd.Cmd.TheVariants.{Logplay, Mkdir, Creat, Cp, Verify, Read, Check, Fsck}
+use Rattle.fam_base.specs.declared.cmd.Cmd.TheVariants.{Logplay, Mount, Mkdir, Creat, Cp, Verify, Read, Check, Fsck}
 use Rattle.fam_commands.specs.declared.phase.Part.{Part}
 use Rattle.fam_commands.specs.declared.phase.Part.TheVariants.{Superblock, Header, Slot, File as FileLines}
 use Rattle.fam_commands.specs.declared.phase.Phase.{Phase}
@@ -24,7 +24,7 @@ use Rattle.fam_protocol.proofs.Turns.Head.{drop_magic, magic, drop, drop_gate, n
 use Rattle.fam_protocol.proofs.Turns.Stores.{store_data, send_data, store_slot, send_slot, fence_slot, store_gate, send_gate, fence_gate}
 use Rattle.fam_protocol.proofs.Turns.Gate.{gate}
 use Rattle.fam_protocol.proofs.Turns.Slots.{commanded, reads_log, slot_checked}
-use Rattle.fam_protocol.proofs.Turns.Decide.{decide_logplay, decide_check, decide_append}
+use Rattle.fam_protocol.proofs.Turns.Decide.{decide_logplay, decide_mount, decide_check, decide_append}
 use Rattle.fam_protocol.proofs.Turns.Ask.{decide_verify, decide_read}
 use Rattle.fam_protocol.proofs.Turns.FileLines.{verify_line, read_line}
 use Rattle.fam_protocol.proofs.Turns.Survey.{survey_checked, survey_told}
@@ -36,6 +36,7 @@ module _ (sys : System) (host : ℕ) (floor : Option ℕ) (named : Option Named)
 
   decide_by : (cmd : Cmd) (t : Task) → IsTask sys host (commanded t cmd) → AtPhase at.Decide sys host floor (commanded t cmd) s all settled → After (decide_turn cmd (commanded t cmd)) sys host floor named (commanded t cmd) s all settled
   decide_by Logplay t is g = decide_logplay sys host floor named s all settled core (reads_log Logplay (λ e. cc)) t g
+  decide_by Mount t is g = decide_mount sys host floor named s all settled core (reads_log Mount (λ e. cc)) t g
   decide_by (Mkdir path attr) t is g = decide_append sys host floor named s all settled core (Mkdir path attr) (reads_log (Mkdir path attr) (λ e. cc)) _ refl t is g
   decide_by (Creat path size attr stripe fill) t is g = decide_append sys host floor named s all settled core (Creat path size attr stripe fill) (reads_log (Creat path size attr stripe fill) (λ e. cc)) _ refl t is g
   decide_by (Cp path attr stripe bytes) t is g = decide_append sys host floor named s all settled core (Cp path attr stripe bytes) (reads_log (Cp path attr stripe bytes) (λ e. cc)) _ refl t is g
@@ -52,6 +53,7 @@ module _ (sys : System) (host : ℕ) (floor : Option ℕ) (named : Option Named)
   file_by (Verify path against) j t is on within has = verify_line sys host floor named s all settled core t path against (reads_log (Verify path against) (λ e. cc)) j is on.0 on.1 within has
   file_by (Read path offset count) j t is on within has = read_line sys host floor named s all settled core t path offset count (reads_log (Read path offset count) (λ e. cc)) j is on.0 on.1 within has
   file_by Logplay j t is on within has = absurd (no_file Logplay on.1.file.path refl on.1.file.wanted)
+  file_by Mount j t is on within has = absurd (no_file Mount on.1.file.path refl on.1.file.wanted)
   file_by (Mkdir path attr) j t is on within has = absurd (no_file (Mkdir path attr) on.1.file.path refl on.1.file.wanted)
   file_by (Creat path size attr stripe fill) j t is on within has = absurd (no_file (Creat path size attr stripe fill) on.1.file.path refl on.1.file.wanted)
   file_by (Cp path attr stripe bytes) j t is on within has = absurd (no_file (Cp path attr stripe bytes) on.1.file.path refl on.1.file.wanted)

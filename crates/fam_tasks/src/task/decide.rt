@@ -126,6 +126,7 @@ impl Task {
     {
         match self.cmd {
             Cmd::Logplay => Ok(self.play()),
+            Cmd::Mount => Ok(self.mount()),
             Cmd::Mkdir { .. } => self.append(),
             Cmd::Creat { .. } => self.append(),
             Cmd::Cp { .. } => self.append(),
@@ -146,6 +147,16 @@ impl Task {
         let tree = self.history.take_tree();
         let answer = Answer::Played { m, tree };
         done(&mut self.phase, answer)
+    }
+
+    /// Answers how many entries were read.
+    fn mount(&mut self) -> Turn
+        requires phase { self.old.phase ≡ at.Decide }
+        requires mount { self.old.cmd ≡ cmd.Mount }
+        ensures { Tells (turns.decide_turn cmd.Mount self.old) result self.new }
+    {
+        let m = self.history.count();
+        done(&mut self.phase, Answer::Mounted { m })
     }
 
     /// Answers how the tree of all entries differs from the listing.

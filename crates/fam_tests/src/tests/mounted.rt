@@ -129,6 +129,48 @@ fn played(
     }
 }
 
+/// How many operations a mount makes on a host that keeps this or nothing, and how many entries it has read.
+fn mounted(
+    alloc: Global,
+    kept: Option<Kept>,
+    params: &Params,
+    entries: &[Entry],
+) -> Result<Option<(u64, u64)>, Fail> {
+    let own = Uuid::from_bytes(OWN);
+    let mut task = match kept {
+        Some(kept) => Task::mounted(alloc, Cmd::Mount, own, LINES, kept),
+        None => Task::new(alloc, Cmd::Mount, own, LINES),
+    };
+    match run(&mut task, params, entries)? {
+        Some((made, Answer::Mounted { m })) => Ok(Some((made, m))),
+        _ => Ok(None),
+    }
+}
+
+#[test]
+fn a_mount_reads_as_a_logplay_does(rt: HostRuntime) -> Result<(), Fail> {
+    let alloc = rt.alloc();
+    let params = small_log();
+    let mut plan = Plan::new(alloc, &params)?;
+    let first = append(&mut plan, &mkdir(b"a")?)?;
+    let kept = Kept::of(plan.copy(alloc)?);
+    let second = append(&mut plan, &mkdir(b"a/b")?)?;
+    let log = [first, second];
+    assert!(rt;
+        mounted(alloc, None, &params, &log)? == Some((178, 2)),
+        "it keeps nothing"
+    );
+    assert!(rt;
+        mounted(alloc, None, &params, &[])? == Some((32, 0)),
+        "an empty log"
+    );
+    assert!(rt;
+        mounted(alloc, Some(kept), &params, &log)? == Some((105, 2)),
+        "one is new"
+    );
+    Ok(())
+}
+
 #[test]
 fn a_mounted_host_reads_the_new_slots_alone(rt: HostRuntime) -> Result<(), Fail> {
     let alloc = rt.alloc();

@@ -20,3 +20,6 @@ returns-in-LogFull c = rw c.in-LogFull.is (c.line_of-in-LogFull.ensures _ c.form
 
 pub returns-in-NoSpace : goal.returns-in-NoSpace
 returns-in-NoSpace c = rw c.in-NoSpace.is (c.line_of-in-NoSpace.ensures _ c.format-in-NoSpace.ensures.ok)
+
+pub returns-in-Mounted : goal.returns-in-Mounted
+returns-in-Mounted c = rw c.in-Mounted.is (c.line_of-in-Mounted.ensures _ c.format-in-Mounted.ensures.ok)

@@ -1,7 +1,7 @@
 use Rattle.std.proofs.Common.{◌∙◌, sym, refl, length, arith}
 use Rattle.std.proofs.lemmas.List.{length-map}
 use Rattle.std.proofs.lemmas.Option.{slice_get_read}
-use Rattle.fam_journal.specs.Calls.{is_busy}
+use Rattle.fam_journal.specs.Calls.{is_engaged}
 use Rattle.fam_journal.specs.ByWorld.{shown_host}
 use Rattle.fam_world.specs.View.{host_view, shown, views}
 use Rattle.fam_world.proofs.Members.{map_at}
@@ -12,23 +12,23 @@ pub returns-then-is_busy-clause-is : goal.returns-then-is_busy-clause-is
 returns-then-is_busy-clause-is c =
     let items = c.args.hosts.now.items in
     let at_is = slice_get_read items (length items) c.loop-at.at c.index.result.now refl (omega (arith, c.loop-at-test.true, c.len-at-end.ensures)) c.index.ensures in
-    sym (place_here (is_busy) (shown items) c.loop-at.at c.loop-at.at _
+    sym (place_here (is_engaged) (shown items) c.loop-at.at c.loop-at.at _
     (map_at shown_host (views items) c.loop-at.at (host_view c.index.result.now) (map_at host_view items c.loop-at.at c.index.result.now at_is))
-    (sym c.is_busy.ensures.busy ∙ c.if-is_busy.true))
+    (sym c.is_busy.ensures.engaged ∙ c.if-is_busy.true))
     ∙ c.loop-at.invariant
 
 pub loop-at-preserved : goal.loop-at-preserved
 loop-at-preserved c =
     let items = c.args.hosts.now.items in
     let at_is = slice_get_read items (length items) c.loop-at.at c.index.result.now refl (omega (arith, c.loop-at-test.true, c.len-at-end.ensures)) c.index.ensures in
-    sym (place_next (is_busy) (shown items) c.loop-at.at c.loop-at.at _
+    sym (place_next (is_engaged) (shown items) c.loop-at.at c.loop-at.at _
     (map_at shown_host (views items) c.loop-at.at (host_view c.index.result.now) (map_at host_view items c.loop-at.at c.index.result.now at_is))
-    (sym c.is_busy.ensures.busy ∙ c.if-is_busy.false))
+    (sym c.is_busy.ensures.engaged ∙ c.if-is_busy.false))
     ∙ c.loop-at.invariant
 
 pub returns-clause-is : goal.returns-clause-is
 returns-clause-is c =
     let items = c.args.hosts.now.items in
-    sym (place_past (is_busy) (shown items) c.loop-at.at c.loop-at.at
+    sym (place_past (is_engaged) (shown items) c.loop-at.at c.loop-at.at
     (omega (arith, c.loop-at-test.false, c.len-at-end.ensures, length-map (views items) shown_host, length-map items host_view)))
     ∙ c.loop-at.invariant

@@ -1,7 +1,7 @@
 use Rattle.std.proofs.Common.{length, refl, arith, Some}
 use Rattle.std.proofs.lemmas.Option.{slice_get_read}
 use Rattle.fam_journal.specs.View.{HostView}
-use Rattle.fam_commands.specs.Task.{starting}
+use Rattle.fam_commands.specs.Task.{mounted}
 use Rattle.fam_world.specs.View.{host_view}
 use Rattle.fam_world.proofs.Members.{map_set}
 use Rattle.fam_world.proofs.hosts.begin_task.Goals as goal
@@ -10,4 +10,4 @@ pub returns-clause-views : goal.returns-clause-views
 returns-clause-views c =
     let items = c.args.hosts.now.items in
     let at_is = slice_get_read items (length items) c.args.at c.index_mut.result.now refl (omega (arith, c.requires.within)) c.index_mut.ensures.value in
-    map_set host_view (λ (v : HostView). record v { task = Some (starting c.args.cmd v.uuid c.args.lines) }) items c.args.at _ c.index_mut.result.now at_is c.begin_on.ensures
+    map_set host_view (λ (v : HostView). record v { task = Some (mounted v.kept c.args.cmd v.uuid c.args.lines) }) items c.args.at _ c.index_mut.result.now at_is c.begin_on.ensures

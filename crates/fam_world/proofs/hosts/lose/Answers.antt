@@ -11,6 +11,6 @@ pub returns-clause-views : goal.returns-clause-views
 returns-clause-views c =
     let items = c.args.hosts.now.items in
     let at_is = slice_get_read items (length items) c.args.at c.index_mut-host.result.now refl (omega (arith, c.requires.within)) c.index_mut-host.ensures.value in
-    map_set host_view (λ (v : HostView). record v { cache = finmap.empty; task = None }) items c.args.at _ c.index_mut-host.result.now at_is
+    map_set host_view (λ (v : HostView). record v { cache = finmap.empty; task = None; kept = None }) items c.args.at _ c.index_mut-host.result.now at_is
     (ap (λ (v : HostView). record v { cache = c.lose.new.self.lines }) c.end_on.ensures
-    ∙ ap (λ (k : Cache). record (host_view c.index_mut-host.result.now) { cache = k; task = None }) c.lose.ensures.lines)
+    ∙ ap (λ (k : Cache). record (host_view c.index_mut-host.result.now) { cache = k; task = None; kept = None }) c.lose.ensures.lines)

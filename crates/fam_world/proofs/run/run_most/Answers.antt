@@ -63,7 +63,7 @@ operations-preserved g c =
     let held : (view : HostView) → Iterated (HostStep at size false) (mid view) (end view) k = λ view.
     held_steps at size view notes_now (m.state c.operate.new.media) (g.met.M.Media.normal c.operate.new.media) (λ i told. g.met.M.Media.modelled c.operate.new.media i told ∙ same_size)
     c.operate.new.task z.task c.operate.new.cache.lines z.cache.lines c.operate_cached-done.ensures.run fits in
-    let nobody : HostView = record { name = []; uuid = []; cache = c.operations.cache.lines; task = None } in
+    let nobody : HostView = record { name = []; uuid = []; cache = c.operations.cache.lines; task = None; kept = None } in
     let most_left = c.operate_cached-done.ensures.most in
     let less = c.operations-test.true in
     let count : suc c.operations.done + k ≡ c.operations.done + 1 + k = omega arith in

@@ -87,7 +87,7 @@ operations-preserved g c =
     let held : (view : HostView) → Iterated (HostStep at size false) (mid view) (end view) c.operate_cached.result = λ view.
     held_steps at size view notes_now (m.state next.media) (g.met.M.Media.normal next.media) (λ i told. g.met.M.Media.modelled next.media i told ∙ same_size)
     next.task z.task next.cache.lines z.cache.lines c.operate_cached.ensures.run fits in
-    let nobody : HostView = record { name = []; uuid = []; cache = c.operations.cache.lines; task = None } in
+    let nobody : HostView = record { name = []; uuid = []; cache = c.operations.cache.lines; task = None; kept = None } in
     let places : PlacesMade c.operations.task c.operations.cache next.task next.cache (Ok w.said) = subst (PlacesMade c.operations.task c.operations.cache next.task next.cache) w.is c.advance.ensures.places in
     record {
       far = λ view.

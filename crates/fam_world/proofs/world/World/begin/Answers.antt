@@ -2,7 +2,7 @@ use Rattle.std.proofs.Common.{◌++◌, ◌∷◌, [], List, Some, refl, ap, ap�
 use Rattle.fam_journal.specs.Calls as call
 use Rattle.fam_journal.specs.Notes.{Refused, Start}
 use Rattle.fam_base.specs.declared.cmd.Cmd.{Cmd}
-use Rattle.fam_commands.specs.Task.{starting}
+use Rattle.fam_commands.specs.Task.{mounted}
 use Rattle.fam_journal.specs.Members.{changed_at}
 use Rattle.fam_journal.specs.View.{HostView, WorldView}
 use Rattle.fam_notes.specs.declared.note.Note.{Note as Kept}
@@ -29,6 +29,6 @@ returns-clause-answered c =
     let free = c.in-Ok.ensures.placed c.args.cmd.now old.journal in
     subst (λ (w : WorldView). WorldCall (call.Begins c.args.name.now c.args.cmd.now) c.args.lines None w new) c.self.view_is
     (quiet_done (call.Begins c.args.name.now c.args.cmd.now) c.args.lines old new free.free
-    (hosted c.args.name.now at (λ (v : HostView). record v { task = Some (starting c.args.cmd.now v.uuid c.args.lines) }) (λ h. Start h c.args.cmd.now) old new free.number
-    (c.begin_task.ensures.views ∙ ap (λ (k : Cmd). changed_at at (λ (v : HostView). record v { task = Some (starting k v.uuid c.args.lines) }) old.hosts) c.in-Ok-two_copies.ensures.own)
+    (hosted c.args.name.now at (λ (v : HostView). record v { task = Some (mounted v.kept c.args.cmd.now v.uuid c.args.lines) }) (λ h. Start h c.args.cmd.now) old new free.number
+    (c.begin_task.ensures.views ∙ ap (λ (k : Cmd). changed_at at (λ (v : HostView). record v { task = Some (mounted v.kept k v.uuid c.args.lines) }) old.hosts) c.in-Ok-two_copies.ensures.own)
     (c.add.ensures ∙ ap₂ (λ (xs : List Kept) (k : Cmd). notes_view xs ++ Start at k ∷ []) c.make_room.ensures.same c.in-Ok-two_copies.ensures.noted)))

@@ -27,5 +27,5 @@ returns-in-Ok-clause-answered c = λ lines.
     let free = c.in-Ok.ensures.placed lines old.journal in
     subst (λ (w : WorldView). WorldCall (call.Halts c.args.name.now) lines None w new) c.self.view_is
     (quiet_done (call.Halts c.args.name.now) lines old new free.free
-    (hosted c.args.name.now at (λ (v : HostView). record v { cache = finmap.empty; task = None }) Halt old new free.number c.lose.ensures.views
+    (hosted c.args.name.now at (λ (v : HostView). record v { cache = finmap.empty; task = None; kept = None }) Halt old new free.number c.lose.ensures.views
     (c.add.ensures ∙ ap (λ (xs : List Kept). notes_view xs ++ Halt at ∷ []) c.make_room.ensures.same)))

@@ -6,7 +6,7 @@ use Rattle.fam_rules.specs.Place.{line_bytes}
 use Rattle.fam_machine.specs.Mkfs.{early_refusal}
 use Rattle.fam_journal.specs.declared.refusal.Refusal.{Refusal}
 use Rattle.fam_journal.specs.Calls as call
-use Rattle.fam_journal.specs.Calls.{busy_refusal, cause_of, dirty_from, dirty_refusal, is_busy}
+use Rattle.fam_journal.specs.Calls.{busy_refusal, cause_of, dirty_from, dirty_refusal, is_engaged}
 use Rattle.fam_journal.specs.Members.{index_of}
 use Rattle.fam_world.specs.View.{host_view, shown, views}
 use Rattle.fam_world.proofs.Deciding.{early_known, makes_first, nobody}
@@ -24,7 +24,7 @@ returns-in-Some-early_cause-clause-placed c = λ journal.
     let known = early_known (length (views items)) (early_refusal c.args.request.now.unit c.args.request.now.log (line_bytes * c.args.lines)) c.in-Some-early_cause.cause early in
     record {
       first = makes_first (views items) journal c.args.name.now c.args.lines _ (sym c.number.ensures.is ∙ c.in-Some.is) c.args.request.now
-          ∙ ap (λ (e : Option Refusal). or_else e (or_else (busy_refusal (index_of is_busy (shown items))) (dirty_refusal (dirty_from c.in-Some.at 0 (shown items))))) early;
+          ∙ ap (λ (e : Option Refusal). or_else e (or_else (busy_refusal (index_of is_engaged (shown items))) (dirty_refusal (dirty_from c.in-Some.at 0 (shown items))))) early;
       plain = c.in-Some-early_cause.ensures.plain;
       named = known.0;
       faultless = known.1;

@@ -1,9 +1,9 @@
--- A task keeps what its host kept; and what a logplay lists are the entries that it has.
-use Rattle.std.proofs.Common.{ℕ, ◌≡◌, ◌+◌, [], length, Bool, true, false, Option, Some, None, Result, Ok, Err, refl, nat_lt}
+-- A task keeps what its host kept; and what a logplay lists, or a mount counts, are the entries that it has.
+use Rattle.std.proofs.Common.{ℕ, ◌≡◌, ◌+◌, [], length, Bool, true, false, Option, Some, None, Result, Ok, Err, refl, ap, nat_lt}
 use Rattle.std.specs.Prelude.{⊤, ◌*◌, if◌then◌else◌, nat_le, ◌==◌}
 use Rattle.std.specs.FinMap as finmap
 use Rattle.fam_base.specs.declared.cmd.Cmd.{Cmd}
-use Rattle.fam_base.specs.declared.cmd.Cmd.TheVariants.{Logplay, Mkdir, Creat, Cp, Verify, Read, Check, Fsck}
+use Rattle.fam_base.specs.declared.cmd.Cmd.TheVariants.{Logplay, Mount, Mkdir, Creat, Cp, Verify, Read, Check, Fsck}
 use Rattle.fam_base.specs.declared.cmd.Content.{Content}
 use Rattle.fam_base.specs.declared.cmd.Content.TheVariants as content
 use Rattle.fam_base.specs.declared.entry.Params.{Params}
@@ -20,22 +20,24 @@ use Rattle.fam_format.specs.Super.{magic_fault, super_body_of}
 use Rattle.fam_format.specs.Tree.{join_fault, replay}
 use Rattle.fam_rules.specs.declared.answers.Refused.{Refused}
 use Rattle.fam_rules.specs.Decide.{Wish, wish_of, decide_wish}
-use Rattle.fam_rules.specs.Reply.{Reply, Appended, NotAppended, Played, Same, Differs, Length, Bytes, NotFound, IsDirectory, Checks, NoSuperblock, BadHeader, BadSlot, Reports}
+use Rattle.fam_rules.specs.Reply.{Reply, Appended, NotAppended, Played, Mounted, Same, Differs, Length, Bytes, NotFound, IsDirectory, Checks, NoSuperblock, BadHeader, BadSlot, Reports}
 use Rattle.fam_commands.specs.declared.phase.Part.{Part}
 use Rattle.fam_commands.specs.declared.phase.Part.TheVariants.{Superblock, Header, Slot, File}
 use Rattle.fam_commands.specs.declared.phase.Phase.{Phase}
 use Rattle.fam_commands.specs.declared.phase.Phase.TheVariants as at
+use Rattle.fam_commands.specs.Classes.{class_of, Replays}
 use Rattle.fam_commands.specs.Task.{Task, part_count, wanted_end}
 use Rattle.fam_commands.specs.Turns.{Turn, Goes, Marks, Finds, Writes, Ends, append_turn, bytes_turn, check_turn, compare_turn, decide_turn, file_turn, finds_or_goes, found_turn, gate_loaded, gate_turn, header_turn, host_refusal, host_turn, join_turn, kind_turn, line_difference, line_or, line_turn, log_fault_reply, magic_turn, slot_turn, super_fault_reply, super_turn, turn_at, verify_lines, verify_turn, wish_turn, with_word, word_turn}
 
--- a logplay decided, and lists all its entries
+-- a logplay or a mount decided, and tells of all its entries
 pub record Lists (t : Task) (p : Phase) (m : ℕ) : Type 0 where
   pub phase : p ≡ at.Decide
-  pub cmd : t.cmd ≡ Logplay
+  pub class : class_of t.cmd ≡ Replays
   pub count : m ≡ length t.entries
 
 abbrev pub ReplyTells : Task → Phase → Reply → Type 0
 ReplyTells t p (Played m tree) = Lists t p m
+ReplyTells t p (Mounted m) = Lists t p m
 ReplyTells t p (Appended seq) = ⊤
 ReplyTells t p (NotAppended refused) = ⊤
 ReplyTells t p (Same m) = ⊤
@@ -135,7 +137,8 @@ module _ (p : Phase) (t : Task) where
   wish_tells (Some w) = append_tells (decide_wish t.params t.me t.entries w)
 
   decide_tells : p ≡ at.Decide → (c : Cmd) → t.cmd ≡ c → Tells t p (decide_turn c t)
-  decide_tells at_decide Logplay is = record { phase = at_decide; cmd = is; count = refl }
+  decide_tells at_decide Logplay is = record { phase = at_decide; class = ap class_of is; count = refl }
+  decide_tells at_decide Mount is = record { phase = at_decide; class = ap class_of is; count = refl }
   decide_tells at_decide (Check listing) is = tt
   decide_tells at_decide Fsck is = tt
   decide_tells at_decide (Verify path against) is = found_tells (finmap.get (replay t.entries) path) (λ e. verify_turn t e against) (λ e. verify_tells e against)
@@ -171,7 +174,8 @@ as_before p t word (Writes seq e next) tells = tells
 as_before p t word (Ends reply) tells = by_reply reply tells
   where
     by_reply : (r : Reply) → ReplyTells (with_word t word) p r → ReplyTells t p r
-    by_reply (Played m tree) h = record { phase = h.phase; cmd = h.cmd; count = h.count }
+    by_reply (Played m tree) h = record { phase = h.phase; class = h.class; count = h.count }
+    by_reply (Mounted m) h = record { phase = h.phase; class = h.class; count = h.count }
     by_reply other h = tt
 
 word_tells : (p : Phase) (t : Task) (part : Part) (j k word : ℕ) → Tells t p (word_turn (with_word t word) part j k)
