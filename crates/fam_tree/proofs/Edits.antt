@@ -1,7 +1,8 @@
 -- What becomes of a run's places.
-use Rattle.std.proofs.Common.{◌≡◌, ℕ, zero, suc, ◌+◌, ◌<◌, List, [], ◌∷◌, ◌++◌, length, get_or, set, map as list_map, take, drop, Some, refl, sym, ap, subst, ◌∙◌, arith, length-append}
+use Rattle.std.proofs.Common.{◌≡◌, ℕ, zero, suc, ◌+◌, ◌<◌, ◌⊎◌, ⊎_elim, Bool, true, false, Vec, Global, List, [], ◌∷◌, ◌++◌, length, get_or, set, map as list_map, take, drop, Some, refl, sym, ap, subst, ◌∙◌, arith, length-append}
 use Rattle.std.specs.Prelude.{option_map}
-use Rattle.std.specs.List.{AllByRecursion, insert, remove}
+use Rattle.std.specs.Bool.{OnTrue, OnFalse}
+use Rattle.std.specs.List.{AllByRecursion, AllZip, insert, remove}
 use Rattle.std.proofs.Math.Seq.{get_or-append_seam}
 use Rattle.std.proofs.lemmas.List.{drop-map, map-append, take-append-drop, take-map}
 use Rattle.fam_base.specs.declared.entry.Entry.{Entry}
@@ -95,3 +96,24 @@ module _ (es more : List Entry) (xs ys : List ℕ) (i : ℕ) (e : Entry) (within
 
 pub taken_is : (es : List Entry) (xs ys : List ℕ) (q : List ℕ) (i : ℕ) → ys ≡ remove xs i → IsAt (run_of es xs) q i → IsTaken (run_of es xs) (run_of es ys) q
 taken_is es xs ys q i is at = record { place = i; here = at; less = ap (run_of es) is ∙ map_remove (entry_at es) xs i }
+
+-- ---- what is written once it is a run's own
+
+copied : (xs ys : List ℕ) → AllZip (λ x y. y ≡ x) xs ys → ys ≡ xs
+copied [] [] each = refl
+copied [] (y ∷ ys) each = absurd each
+copied (x ∷ xs) [] each = absurd each
+copied (x ∷ xs) (y ∷ ys) each = cc (each.0, copied xs ys each.1)
+
+-- what is the same value or a copy has the same items
+pub same_items : {L : Type 0} (old now : Vec ℕ Global) → (now ≡ old) ⊎ (AllZip (λ x y. y ≡ x) old.items now.items × L) → now.items ≡ old.items
+same_items old now is = ⊎_elim (λ e. ap (λ (v : Vec ℕ Global). v.items) e) (λ c. copied old.items now.items c.0) is
+
+-- where a test holds, what follows from two facts
+pub where_true : {P Q R : Type 0} (t : Bool) → OnTrue t P → OnTrue t Q → (P → Q → R) → OnTrue t R
+where_true true p q f = f p q
+where_true false p q f = tt
+
+pub where_false : {P Q : Type 0} (t : Bool) → OnFalse t P → (P → Q) → OnFalse t Q
+where_false true p f = tt
+where_false false p f = f p

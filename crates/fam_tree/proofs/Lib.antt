@@ -4,8 +4,8 @@ pub mod Places
 pub mod Edits
 pub mod Nested
 pub mod Search
+pub mod ChunkPlaces
 pub mod RunPlaces
-pub mod TakenBack
 pub mod Words
 pub mod Printed
 pub mod Cutting

@@ -1,5 +1,5 @@
 -- The words of a line are read back.
-use Rattle.std.proofs.Common.{◌≡◌, ◌≢◌, ℕ, ◌+◌, ◌*◌, ◌/◌, ◌%◌, ◌<◌, ◌≤◌, true, false, List, [], ◌∷◌, ◌++◌, length, inl, inr, refl, ap, sym, subst, ◌∙◌, arith, append-nil, append_assoc, length-append}
+use Rattle.std.proofs.Common.{◌≡◌, ◌≢◌, ℕ, ◌<◌, ◌≤◌, true, false, List, [], ◌∷◌, ◌++◌, length, inl, inr, refl, ap, sym, subst, ◌∙◌, arith, append-nil, append_assoc, length-append}
 use Rattle.std.specs.Prelude.{◌==◌, Option, Some, slice_index}
 use Rattle.std.specs.Fmt.{decimal}
 use Rattle.std.specs.List.{join_with_byte}
@@ -18,7 +18,7 @@ use Rattle.fam_base.specs.ExtentLists.{extent_limit}
 use Rattle.fam_base.specs.Paths.{is_path}
 use Rattle.fam_base.proofs.PathLemmas.{parts_of_path}
 use Rattle.fam_tree.specs.Cuts.{front, back}
-use Rattle.fam_tree.specs.Lines.{colon, comma, plus, space, octal_digit, extent_text, extents_text, kind_letter, mode_text, map_text, entry_words, entry_line}
+use Rattle.fam_tree.specs.Lines.{colon, comma, plus, space, extent_text, extents_text, kind_letter, mode_text, map_text, entry_words, entry_line}
 use Rattle.fam_tree.specs.Listings.{AreWordExtents, IsListed, IsWord, IsWordExtent, MapListed}
 use Rattle.fam_tree.proofs.Cutting.{back_found, back_joined, back_none, front_found, front_joined, front_none}
 use Rattle.fam_tree.proofs.Printed.{No, Fit, Words, decimal_first, decimal_no, extent_no, extents_first, extents_no, fit_head, out_colon, out_comma, out_plus, path_fits, words_no}

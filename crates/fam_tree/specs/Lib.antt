@@ -1,4 +1,5 @@
 pub mod Runs
+pub mod Chunks
 pub mod Lines
 pub mod NextExtent
 pub mod Faults

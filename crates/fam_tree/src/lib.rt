@@ -5,8 +5,10 @@
 //! its parent is the root or a directory of the tree. `specs/Lines.antt` says how an entry is printed.
 #![tactic(auto)]
 
+mod beside;
+mod chunk;
+mod chunks;
 mod fault;
-mod laws;
 mod line_words;
 mod lines;
 mod listings;
@@ -15,8 +17,8 @@ mod runs;
 mod tree;
 mod tree_iter;
 
+pub use beside::Beside;
 pub use fault::{ApplyFault, ListingFault};
-pub use laws::take_back_undoes_apply;
 pub use lines::{print_entry, print_listing};
 pub use listings::read_listing;
 pub use tree::Tree;

@@ -1,19 +1,23 @@
 //! Some entries that follow one another in a tree, by their places in the list of all entries.
 
-ghost use Rattle.std.specs.Prelude.{◌≡◌, ◌<◌, ◌≤◌, ◌++◌, ◌∷◌, [], IfOk, IfErr, OnOk, OnErr, OnSome, IfSome, IfNone, length};
+ghost use Rattle.std.specs.Prelude.{◌≡◌, ◌<◌, ◌≤◌, ◌++◌, ◌∷◌, [], IfOk, IfErr, OnOk, OnErr, IfSome, IfNone, length, vec_len};
+ghost use Rattle.std.specs.List.{insert};
 ghost use Rattle.std.specs.Bool.{OnTrue, OnFalse};
-ghost use Rattle.fam_tree.specs.Runs.{AreWithin, InOrder, IsAbsent, IsAt, IsFound, IsGap, IsPut, IsTaken, ends_before, entry_at, place_cmp, run_of};
+ghost use Rattle.fam_tree.specs.Runs.{AreWithin, InOrder, IsAbsent, IsAt, IsFound, IsGap, IsPut, ends_before, place_cmp, run_of};
 
+use crate::beside::Beside;
+use crate::chunks::Chunks;
 use fam_base::{Entry, OutOfMemory, Path};
 use std::alloc::{AllocError, Global};
 use std::cmp::Ordering;
 use std::marker::Model;
+use std::rc::Rc;
 
 /// Where entries stand in the list of all entries, in byte order of their paths, so that to make room among them moves no
-/// entry.
+/// entry. Copies share the places until one of them changes.
 #[derive(Drop)]
 pub(crate) struct Run {
-    places: Vec<usize>,
+    places: Rc<Vec<usize>>,
 }
 
 impl Model for Run {
@@ -24,7 +28,7 @@ impl Model for Run {
 
     ghost coded = { coded_list coded_ℕ };
 
-    ghost view = { λ r. r.places.items };
+    ghost view = { λ r. r.places.value.items };
 }
 
 impl Clone for Run {
@@ -38,7 +42,7 @@ impl Clone for Run {
 
 /// The order of the path of the entry at a place and another.
 #[inline(always)]
-fn order_at(entries: &[Entry], place: usize, path: &Path) -> Ordering
+fn order_at(entries: &Chunks, place: usize, path: &Path) -> Ordering
     ensures { result ≡ place_cmp entries.now path.now place }
 {
     match entries.get(place) {
@@ -47,13 +51,54 @@ fn order_at(entries: &[Entry], place: usize, path: &Path) -> Ordering
     }
 }
 
+/// Inserts the place of an entry that is put behind all entries, where something else grows by it. Else, and if there is no
+/// memory, nothing changes.
+fn insert<B: Beside>(
+    places: &mut Vec<usize>,
+    i: usize,
+    entries: &mut Chunks,
+    entry: &Entry,
+    beside: &mut B,
+) -> bool
+    requires within { i ≤ vec_len places.old }
+    requires beside { B.may_grow beside.old entry.now }
+    ensures places { OnTrue result (places.new.items ≡ insert places.old.items i (length entries.old)) }
+    ensures entries { OnTrue result (entries.new ≡ entries.old ++ entry.now ∷ []) }
+    ensures grown { OnTrue result (B.grown beside.old entry.now beside.new) }
+    ensures run { OnFalse result (places.new.items ≡ places.old.items) }
+    ensures kept { OnFalse result (entries.new ≡ entries.old) }
+    ensures same { OnFalse result (beside.new ≡ beside.old) }
+{
+    let place = entries.len();
+    if places.reserve(1).is_err() || !entries.push(entry, beside) {
+        return false;
+    }
+    let _ = places.insert(i, place);
+    true
+}
+
+/// Some places, shared anew.
+fn shared(alloc: Global, places: &[usize]) -> Result<Rc<Vec<usize>>, OutOfMemory>
+    ensures { IfOk result (λ shared. shared.value.items ≡ places.now) }
+{
+    let mut own = Vec::new(alloc);
+    if own.extend_from_slice(places).is_err() {
+        return Err(OutOfMemory);
+    }
+    match Rc::new(alloc, own) {
+        Ok(shared) => Ok(shared),
+        Err(_) => Err(OutOfMemory),
+    }
+}
+
 impl Run {
     /// No entries.
-    pub(crate) fn new(alloc: Global) -> Run
-        ensures { result ≡ [] }
+    pub(crate) fn new(alloc: Global) -> Result<Run, OutOfMemory>
+        ensures { IfOk result (λ run. run ≡ []) }
     {
-        Run {
-            places: Vec::new(alloc),
+        match Rc::new(alloc, Vec::new(alloc)) {
+            Ok(places) => Ok(Run { places }),
+            Err(_) => Err(OutOfMemory),
         }
     }
 
@@ -68,12 +113,12 @@ impl Run {
     pub(crate) fn places(&self) -> &[usize]
         ensures { result.now ≡ self.now }
     {
-        &self.places
+        self.places.as_slice()
     }
 
     /// Whether the last entry is below a path.
     #[inline]
-    pub(crate) fn is_below(&self, entries: &[Entry], path: &Path) -> bool
+    pub(crate) fn is_below(&self, entries: &Chunks, path: &Path) -> bool
         ensures { result ≡ ends_before entries.now path.now self.now }
     {
         match self.places.last() {
@@ -84,7 +129,7 @@ impl Run {
 
     /// Where the place of the entry at a path stands, or else where it would.
     #[inline]
-    fn seek(&self, entries: &[Entry], path: &Path) -> Result<usize, usize>
+    fn seek(&self, entries: &Chunks, path: &Path) -> Result<usize, usize>
         requires order { InOrder (run_of entries.now self.now) }
         requires inside { AreWithin (length entries.now) self.now }
         ensures found { IfOk result (λ i. IsAt (run_of entries.now self.now) path.now i) }
@@ -97,7 +142,7 @@ impl Run {
     }
 
     /// The entry at a path.
-    pub(crate) fn get<'a>(&self, entries: &'a [Entry], path: &Path) -> Option<&'a Entry>
+    pub(crate) fn get<'a>(&self, entries: &'a Chunks, path: &Path) -> Option<&'a Entry>
         requires order { InOrder (run_of entries.now self.now) }
         requires inside { AreWithin (length entries.now) self.now }
         ensures found { IfSome result (λ entry. IsFound (run_of entries.now self.now) path.now entry.now) }
@@ -109,50 +154,36 @@ impl Run {
         }
     }
 
-    /// Adds an entry where none has its path: to the end of the list, and its place to the run. Else, and if there is no
-    /// memory, nothing changes.
-    pub(crate) fn add(&mut self, entries: &mut Vec<Entry>, entry: &Entry) -> bool
-        requires order { InOrder (run_of entries.old.items self.old) }
-        requires inside { AreWithin (length entries.old.items) self.old }
-        ensures added { OnTrue result
-            (IsPut (run_of entries.old.items self.old) (run_of entries.new.items self.new) entry.now) }
-        ensures entries { OnTrue result (entries.new.items ≡ entries.old.items ++ entry.now ∷ []) }
-        ensures inside { OnTrue result (AreWithin (length entries.new.items) self.new) }
-        ensures same { OnFalse result (self.new ≡ self.old) }
-        ensures kept { OnFalse result (entries.new.items ≡ entries.old.items) }
+    /// Adds an entry where none has its path and something else grows by it: to the end of the list, and its place to the
+    /// run. Else, and if there is no memory, nothing changes.
+    pub(crate) fn add<B: Beside>(
+        &mut self,
+        entries: &mut Chunks,
+        entry: &Entry,
+        beside: &mut B,
+    ) -> bool
+        requires order { InOrder (run_of entries.old self.old) }
+        requires inside { AreWithin (length entries.old) self.old }
+        requires beside { B.may_grow beside.old entry.now }
+        ensures added { OnTrue result (IsPut (run_of entries.old self.old) (run_of entries.new self.new) entry.now) }
+        ensures entries { OnTrue result (entries.new ≡ entries.old ++ entry.now ∷ []) }
+        ensures inside { OnTrue result (AreWithin (length entries.new) self.new) }
+        ensures grown { OnTrue result (B.grown beside.old entry.now beside.new) }
+        ensures run { OnFalse result (self.new ≡ self.old) }
+        ensures kept { OnFalse result (entries.new ≡ entries.old) }
+        ensures same { OnFalse result (beside.new ≡ beside.old) }
     {
         let Err(i) = self.seek(entries, &entry.path) else {
             return false;
         };
-        let place = entries.len();
-        if entries.push(*entry).is_err() {
+        let Ok(places) = Rc::make_mut(&mut self.places) else {
             return false;
-        }
-        if self.places.insert(i, place).is_ok() {
-            return true;
-        }
-        let _ = entries.pop();
-        false
-    }
-
-    /// Takes the entry at a path out of the run, and says at which place it stands among all entries.
-    pub(crate) fn take_out(&mut self, entries: &[Entry], path: &Path) -> Option<usize>
-        requires order { InOrder (run_of entries.now self.old) }
-        requires inside { AreWithin (length entries.now) self.old }
-        ensures gone { OnSome result (IsTaken (run_of entries.now self.old) (run_of entries.now self.new) path.now) }
-        ensures own { IfSome result (λ place. (entry_at entries.now place).path ≡ path.now) }
-        ensures inside { AreWithin (length entries.now) self.new }
-        ensures same { IfNone result (self.new ≡ self.old) }
-        ensures absent { IfNone result (IsAbsent (run_of entries.now self.old) path.now) }
-    {
-        let Ok(i) = self.seek(entries, path) else {
-            return None;
         };
-        Some(self.places.remove(i))
+        insert(places, i, entries, entry, beside)
     }
 
     /// Cuts the upper half off. If there is no memory, nothing changes.
-    pub(crate) fn split(&mut self) -> Result<Run, OutOfMemory>
+    pub(crate) fn split(&mut self, alloc: Global) -> Result<Run, OutOfMemory>
         requires { 2 ≤ length self.old }
         ensures cut { IfOk result (λ upper. self.new ++ upper ≡ self.old) }
         ensures lower { OnOk result (1 ≤ length self.new) }
@@ -160,9 +191,9 @@ impl Run {
         ensures same { OnErr result (self.new ≡ self.old) }
     {
         let half = self.places.len() / 2;
-        let Ok(places) = self.places.split_off(half) else {
-            return Err(OutOfMemory);
-        };
-        Ok(Run { places })
+        let lower = shared(alloc, &self.places[..half])?;
+        let upper = shared(alloc, &self.places[half..])?;
+        self.places = lower;
+        Ok(Run { places: upper })
     }
 }

@@ -14,9 +14,11 @@ ghost use Rattle.fam_tree.specs.Iter.{tree_iter_rest};
 ghost use Rattle.fam_tree.specs.Keyed.{IsKeyed, paths_of};
 ghost use Rattle.fam_tree.specs.Parents as parents;
 
+use crate::beside::{Beside, Nothing};
+use crate::chunks::Chunks;
 use crate::fault::ApplyFault;
 use crate::run::Run;
-use crate::runs::{drop_from, entry_in, put};
+use crate::runs::{entry_in, put};
 use crate::tree_iter::TreeIter;
 use fam_base::{Entry, Kind, OutOfMemory, Path};
 use std::alloc::Global;
@@ -27,8 +29,8 @@ use std::marker::Model;
 #[derive(Drop)]
 pub struct Tree {
     alloc: Global,
-    /// In the order in which they were added, with some that were taken back.
-    entries: Vec<Entry>,
+    /// In the order in which they were added.
+    entries: Chunks,
     runs: Vec<Run>,
     count: u64,
 }
@@ -46,9 +48,9 @@ impl Model for Tree {
 
     ghost coded = { map.code (coded_list coded_ℕ) entry_type.the_row.coded };
 
-    ghost view = { λ t. tree_of (listed t.entries.items t.runs.items) };
+    ghost view = { λ t. tree_of (listed t.entries t.runs.items) };
 
-    ghost invariant = { λ t. IsTree t.entries.items t.runs.items t.count };
+    ghost invariant = { λ t. IsTree t.entries t.runs.items t.count };
 }
 
 impl Tree {
@@ -58,7 +60,7 @@ impl Tree {
     {
         Tree {
             alloc,
-            entries: Vec::new(alloc),
+            entries: Chunks::new(alloc),
             runs: Vec::new(alloc),
             count: 0,
         }
@@ -146,6 +148,25 @@ impl Tree {
         ensures cause { IfErr result (λ fault. reason_of fault ≡ tree_fault self.old entry.now) }
         ensures same { OnErr result (self.new ≡ self.old) }
     {
+        self.apply_beside(entry, &mut Nothing)
+    }
+
+    /// Adds an entry as `apply` does, where something else grows by it, and else says that memory is out. What the tree wants
+    /// of memory is found before the other part grows, so that either both change or neither.
+    pub fn apply_beside<B: Beside>(
+        &mut self,
+        entry: &Entry,
+        beside: &mut B,
+    ) -> Result<(), ApplyFault>
+        requires { B.may_grow beside.old entry.now }
+        ensures joins { OnOk result (tree_fault self.old entry.now ≡ None) }
+        ensures added { OnOk result (self.new ≡ with_entry self.old entry.now) }
+        ensures grown { OnOk result (B.grown beside.old entry.now beside.new) }
+
+        ensures cause { IfErr result (λ fault. reason_of fault ≡ tree_fault self.old entry.now) }
+        ensures same { OnErr result (self.new ≡ self.old) }
+        ensures beside { OnErr result (beside.new ≡ beside.old) }
+    {
         // What stands at the path is found out first.
         if let Some(fault) = self.parent_fault(entry) {
             return Err(self.fault_at(&entry.path, fault));
@@ -153,30 +174,18 @@ impl Tree {
         let Some(count) = self.count.checked_add(1) else {
             return Err(self.fault_at(&entry.path, ApplyFault::OutOfMemory));
         };
-        if put(&mut self.entries, &mut self.runs, self.alloc, entry) {
+        if put(&mut self.entries, &mut self.runs, self.alloc, entry, beside) {
             self.count = count;
             return Ok(());
         }
         Err(self.fault_at(&entry.path, ApplyFault::OutOfMemory))
     }
 
-    /// Removes the entry at a path, so that what `apply` added is taken back. Entries below it stay, so a
-    /// caller takes back no parent of others. Where nothing stands at the path, nothing changes.
-    pub fn take_back(&mut self, path: &Path)
-        ensures { self.new ≡ map.remove self.old path.now }
-    {
-        if drop_from(&mut self.entries, &mut self.runs, path) {
-            self.count -= 1;
-        }
-    }
-
-    /// An equal tree.
+    /// An equal tree. The two share all but the last entries until one of them changes.
     pub fn copy(&self, alloc: Global) -> Result<Tree, OutOfMemory>
         ensures { IfOk result (λ tree. tree ≡ self.now) }
     {
-        let Ok(entries) = self.entries.clone() else {
-            return Err(OutOfMemory);
-        };
+        let entries = self.entries.copy(alloc)?;
         match self.runs.clone() {
             Ok(runs) => Ok(Tree {
                 alloc,

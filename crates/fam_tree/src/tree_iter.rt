@@ -5,13 +5,14 @@ ghost use Rattle.std.specs.Iterator.{YieldsFirstRef, item_count};
 ghost use Rattle.std.proofs.Props.{props};
 ghost use Rattle.fam_tree.specs.Runs.{AreFilled, AreWithin, RunsWithin, runs_of};
 
+use crate::chunks::Chunks;
 use crate::run::Run;
 use fam_base::Entry;
 
 /// The entries of a tree, in byte order of their paths.
 #[derive(Drop)]
 pub struct TreeIter<'a> {
-    pub(crate) entries: &'a [Entry],
+    pub(crate) entries: &'a Chunks,
     pub(crate) run: &'a [usize],
     pub(crate) runs: &'a [Run],
     ghost filled: { AreFilled (runs_of entries.now runs.now) } by { Prim.hlevel props },
@@ -39,6 +40,6 @@ impl<'a> Iterator for TreeIter<'a> {
             return None;
         };
         self.run = rest;
-        Some(&self.entries[*first])
+        Some(self.entries.at(*first))
     }
 }

@@ -1,0 +1,167 @@
+//! The list of the entries of a tree, in chunks that its copies share. `specs/Chunks.antt` says how.
+
+ghost use Rattle.std.specs.Prelude.{◌≡◌, ◌<◌, ◌++◌, ◌∷◌, [], IfOk, OnOk, OnErr, length, vec_len, option_map, slice_get};
+ghost use Rattle.std.specs.Bool.{OnTrue, OnFalse};
+ghost use Rattle.fam_tree.specs.Chunks.{AreFull, entries_of};
+ghost use Rattle.fam_tree.specs.Runs.{entry_at};
+
+use crate::beside::Beside;
+use crate::chunk::Chunk;
+use fam_base::{Entry, OutOfMemory};
+use std::alloc::Global;
+use std::marker::Model;
+use std::mem::replace;
+
+/// How many entries a chunk has.
+pub(crate) const CHUNK: usize = 128;
+
+/// Entries in the order in which they were added. The last of them stand in a chunk of their own, which is shared once it
+/// is full, so that one more changes no chunk that another list has.
+#[derive(Drop)]
+pub(crate) struct Chunks {
+    alloc: Global,
+    full: Vec<Chunk>,
+    last: Vec<Entry>,
+    len: usize,
+}
+
+impl Model for Chunks {
+    ghost use Rattle.std.specs.Prelude.{List};
+    ghost use Rattle.std.specs.Coded.{coded_list};
+    ghost use Rattle.fam_base.specs.declared.entry.Entry.{Entry};
+    ghost use Rattle.fam_base.specs.contracts.entry.Entry as entry_type;
+    ghost use Rattle.fam_tree.specs.Chunks.{AreChunks, entries_of};
+
+    ghost Value = { List Entry };
+
+    ghost coded = { coded_list entry_type.the_row.coded };
+
+    ghost view = { λ c. entries_of c.full.items c.last.items };
+
+    ghost invariant = { λ c. AreChunks c.full.items c.last.items c.len };
+}
+
+/// Makes a chunk of the last entries, so that the next ones have room of their own.
+fn close(full: &mut Vec<Chunk>, last: &mut Vec<Entry>, alloc: Global) -> Result<(), OutOfMemory>
+    requires full { AreFull full.old.items }
+    requires last { vec_len last.old ≡ CHUNK }
+    ensures full { AreFull full.new.items }
+    ensures entries { entries_of full.new.items last.new.items ≡ entries_of full.old.items last.old.items }
+{
+    let Ok(next) = Vec::with_capacity(alloc, CHUNK) else {
+        return Err(OutOfMemory);
+    };
+    if full.reserve(1).is_err() {
+        return Err(OutOfMemory);
+    }
+    match Chunk::new(alloc, replace(last, next)) {
+        Ok(chunk) => {
+            let _ = full.push(chunk);
+            Ok(())
+        }
+        Err(back) => {
+            *last = back;
+            Err(OutOfMemory)
+        }
+    }
+}
+
+/// Puts an entry behind the last ones, beside which something grows, or does neither.
+#[inline(always)]
+fn append<B: Beside>(last: &mut Vec<Entry>, entry: &Entry, beside: &mut B) -> bool
+    requires { B.may_grow beside.old entry.now }
+    ensures added { OnTrue result (last.new.items ≡ last.old.items ++ entry.now ∷ []) }
+    ensures grown { OnTrue result (B.grown beside.old entry.now beside.new) }
+    ensures kept { OnFalse result (last.new.items ≡ last.old.items) }
+    ensures same { OnFalse result (beside.new ≡ beside.old) }
+{
+    if last.reserve(1).is_err() || !beside.grow(entry) {
+        return false;
+    }
+    let _ = last.push(*entry);
+    true
+}
+
+impl Chunks {
+    /// No entries.
+    pub(crate) fn new(alloc: Global) -> Chunks
+        ensures { result ≡ [] }
+    {
+        Chunks {
+            alloc,
+            full: Vec::new(alloc),
+            last: Vec::new(alloc),
+            len: 0,
+        }
+    }
+
+    /// How many entries there are.
+    pub(crate) fn len(&self) -> usize
+        ensures { result ≡ length self.now }
+    {
+        self.len
+    }
+
+    /// The entry at a place, if there is one.
+    #[inline(always)]
+    pub(crate) fn get(&self, place: usize) -> Option<&Entry>
+        ensures { option_map (λ entry. entry.now) result ≡ slice_get self.now place }
+    {
+        match self.full.get(place / CHUNK) {
+            Some(chunk) => chunk.entries().get(place % CHUNK),
+            None => self.last.get(place - CHUNK * self.full.len()),
+        }
+    }
+
+    /// The entry at a place.
+    #[inline(always)]
+    pub(crate) fn at(&self, place: usize) -> &Entry
+        requires { place < length self.now }
+        ensures { result.now ≡ entry_at self.now place }
+    {
+        let chunk = place / CHUNK;
+        if chunk < self.full.len() {
+            return &self.full[chunk].entries()[place % CHUNK];
+        }
+        &self.last[place - CHUNK * self.full.len()]
+    }
+
+    /// Puts an entry behind the others, where something else grows by it. Else, and if there is no memory, nothing changes.
+    pub(crate) fn push<B: Beside>(&mut self, entry: &Entry, beside: &mut B) -> bool
+        requires { B.may_grow beside.old entry.now }
+        ensures added { OnTrue result (self.new ≡ self.old ++ entry.now ∷ []) }
+        ensures grown { OnTrue result (B.grown beside.old entry.now beside.new) }
+        ensures kept { OnFalse result (self.new ≡ self.old) }
+        ensures same { OnFalse result (beside.new ≡ beside.old) }
+    {
+        let Some(len) = self.len.checked_add(1) else {
+            return false;
+        };
+        if self.last.len() == CHUNK && close(&mut self.full, &mut self.last, self.alloc).is_err() {
+            return false;
+        }
+        if !append(&mut self.last, entry, beside) {
+            return false;
+        }
+        self.len = len;
+        true
+    }
+
+    /// An equal list, which shares the full chunks.
+    pub(crate) fn copy(&self, alloc: Global) -> Result<Chunks, OutOfMemory>
+        ensures { IfOk result (λ chunks. chunks ≡ self.now) }
+    {
+        let Ok(full) = self.full.clone() else {
+            return Err(OutOfMemory);
+        };
+        match self.last.clone() {
+            Ok(last) => Ok(Chunks {
+                alloc,
+                full,
+                last,
+                len: self.len,
+            }),
+            Err(_) => Err(OutOfMemory),
+        }
+    }
+}
