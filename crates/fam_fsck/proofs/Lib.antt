@@ -5,6 +5,5 @@ pub mod Least
 pub mod Merged
 pub mod MergeRoom
 pub mod Pairs
-pub mod Taken
 pub mod Surveys
 pub mod Slots

@@ -1,6 +1,5 @@
 -- Entries that read, and what a survey says of them.
 use Rattle.std.specs.Prelude.{ℕ, Bool, true, false, List, [], ◌∷◌, ◌++◌, map, filter, Option, Some, None}
-use Rattle.std.specs.FinMap as finmap
 use Rattle.fam_base.specs.declared.entry.Entry.{Entry}
 use Rattle.fam_base.specs.declared.entry.Params.{Params}
 use Rattle.fam_alloc.specs.Taken.{LieWithin}
@@ -37,11 +36,6 @@ tree_after (Some reason) tree e = tree
 -- the entry as it was found
 abbrev pub found_as : ℕ → Entry → Option Reason → Found
 found_as number e fault = record { number = number; entry = e; applies = applies_where fault }
-
--- the tree before it
-abbrev pub tree_before : Option Reason → Tree → List ℕ → Tree
-tree_before None tree path = finmap.remove tree path
-tree_before (Some reason) tree path = tree
 
 -- the entries that were found
 abbrev pub entries_of : List Found → List Entry

@@ -3,10 +3,10 @@
 ghost use Rattle.std.specs.Prelude.{◌≡◌, [], ◌∷◌, ◌++◌, None, Some, IfOk, OnErr};
 ghost use Rattle.fam_format.specs.Tree.{tree_fault};
 ghost use Rattle.fam_tree.specs.Faults.{reason_of};
-ghost use Rattle.fam_fsck.specs.Found.{applies_where, found_as, tree_after, tree_before};
+ghost use Rattle.fam_fsck.specs.Found.{applies_where, found_as, tree_after};
 
 use crate::found::Found;
-use fam_base::{Entry, OutOfMemory, Path};
+use fam_base::{Entry, OutOfMemory};
 use fam_format::Reason;
 use fam_tree::{ApplyFault, Tree};
 
@@ -41,16 +41,6 @@ fn apply(tree: &mut Tree, entry: &Entry) -> Result<Option<Reason>, OutOfMemory>
     }
 }
 
-/// Takes back what `apply` did.
-fn take_back(tree: &mut Tree, fault: &Option<Reason>, path: &Path)
-    ensures { tree.new ≡ tree_before fault.now tree.old path.now }
-{
-    match fault {
-        None => tree.take_back(path),
-        Some(_) => {}
-    }
-}
-
 /// The entry as it is found.
 #[inline(always)]
 fn found_entry(number: u64, entry: &Entry, fault: &Option<Reason>) -> Found
@@ -77,12 +67,11 @@ pub fn join(
     ensures err_tree { OnErr result (tree.new ≡ tree.old) }
     ensures err_found { OnErr result (found.new.items ≡ found.old.items) }
 {
-    let fault = apply(tree, entry)?;
-    match found.push(found_entry(number, entry, &fault)) {
-        Ok(()) => Ok(fault),
-        Err(_) => {
-            take_back(tree, &fault, &entry.path);
-            Err(OutOfMemory)
-        }
+    if found.reserve(1).is_err() {
+        return Err(OutOfMemory);
     }
+    let fault = apply(tree, entry)?;
+    // There is room.
+    let _ = found.push(found_entry(number, entry, &fault));
+    Ok(fault)
 }
