@@ -1,6 +1,5 @@
 -- Histories, one entry more in them, and their tree and units.
-use Rattle.std.proofs.Common.{◌≡◌, ℕ, ◌+◌, ◌*◌, ◌<◌, ◌≤◌, ◌||◌, Bool, nat_lt, List, [], ◌∷◌, ◌++◌, length, take, get_or, Option, Some, None, refl, sym, ap, subst, ◌∙◌, inl, inr, arith}
-use Rattle.std.specs.FinMap as finmap
+use Rattle.std.proofs.Common.{◌≡◌, ℕ, ◌+◌, ◌*◌, ◌<◌, ◌≤◌, ◌||◌, Bool, nat_lt, List, [], ◌∷◌, ◌++◌, length, take, get_or, Option, Some, None, sym, ap, subst, ◌∙◌, inl, inr, arith}
 use Rattle.std.specs.List.{slice_get}
 use Rattle.std.proofs.lemmas.Bool.{cases_lt}
 use Rattle.std.proofs.lemmas.List.{append-nil, get_or_append_left, take-append-le, length-append}
@@ -13,7 +12,6 @@ use Rattle.fam_base.specs.declared.entry.Params.{Params}
 use Rattle.fam_base.specs.declared.entry.Entry.{Entry}
 use Rattle.fam_format.specs.EntryLaws.{IsInDevice}
 use Rattle.fam_format.specs.Layout.{device_units, head_units}
-use Rattle.fam_format.specs.Params.{SoundParams}
 use Rattle.fam_format.specs.declared.faults.Reason.{Reason}
 use Rattle.fam_format.specs.Slot.{Proper}
 use Rattle.fam_format.specs.Stop.{or_else}
@@ -26,7 +24,7 @@ use Rattle.fam_rules.proofs.FilePlaces.{unit_some}
 use Rattle.fam_rules.proofs.ListPlaces.{laid_apart}
 use Rattle.fam_alloc.specs.Taken.{is_taken, holds, LieWithin}
 use Rattle.fam_alloc.proofs.MapLemmas.{overlap_same_on, units_below}
-use Rattle.fam_alloc.proofs.OverlapLemmas.{holds-append, or_false}
+use Rattle.fam_alloc.proofs.OverlapLemmas.{holds-append}
 use Rattle.fam_plan.specs.State.{PlanState, IsAdded, IsHistory, IsPlan}
 
 -- No unit stands twice.

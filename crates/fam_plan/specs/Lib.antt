@@ -3,3 +3,5 @@ pub mod Faults
 pub mod Wishes
 pub mod Needs
 pub mod Pieces
+pub mod Parts
+pub mod Ledgers

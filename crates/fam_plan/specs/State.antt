@@ -59,7 +59,8 @@ abbrev pub paths_in : List Entry → List (List ℕ)
 paths_in list = map (λ e. e.path) list
 
 -- a plan's fields, where its entries are those of the tree at these paths, each under its own
-pub record IsPlanAt (s : PlanState) (tree : Tree) (order : List (List ℕ)) (map : List Bool) : Type 0 where
+pub record IsPlanAt (s : PlanState) (tree : Tree) (order : List (List ℕ)) (map : List Bool) (unit : ℕ) : Type 0 where
   pub plan : IsPlan s tree map
   pub held : AreHeld tree order
   pub own : paths_in s.entries ≡ order
+  pub units : unit ≡ s.params.unit

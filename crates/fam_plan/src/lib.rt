@@ -10,9 +10,13 @@ mod decide;
 mod fault;
 mod first;
 mod laws;
+mod ledger;
 mod order;
+mod part;
+mod paths;
 mod plan;
 mod room;
+mod used;
 mod wish;
 
 pub use fam_rules::Refused;

@@ -1,62 +1,64 @@
 //! The order in which the entries of a plan were added, told by their paths.
 //!
-//! A contract sees an `Order` as the list of the paths, each of them as its bytes. `specs/Pieces.antt` has how bytes in
-//! a row are cut into paths.
+//! A contract sees an `Order` as the list of the paths, each of them as its bytes. They stand in parts, which its copies
+//! share. `specs/Parts.antt` says how.
 
-ghost use Rattle.std.specs.Prelude.{◌≡◌, ◌≤◌, ◌++◌, ◌∷◌, [], None, IfOk, IfSome, IsTrue, OnOk, OnErr, length, slice_get, slice_index};
-ghost use Rattle.std.specs.List.{between};
-ghost use Rattle.fam_base.specs.Paths.{is_path};
-ghost use Rattle.fam_plan.specs.Pieces.{IsPathAt};
+ghost use Rattle.std.specs.Prelude.{◌≡◌, ◌++◌, ◌∷◌, [], IfOk, length, slice_get};
+ghost use Rattle.std.specs.Bool.{OnTrue, OnFalse};
+ghost use Rattle.fam_plan.specs.Parts.{AreFull, paths_of};
 
-use fam_base::{OutOfMemory, PATH_LIMIT, Path};
+use crate::part::Part;
+use crate::paths::Paths;
+use fam_base::{Entry, OutOfMemory, Path};
+use fam_tree::Beside;
 use std::alloc::Global;
 use std::marker::Model;
+use std::mem::replace;
 
-/// Paths in the order in which their entries were added: their bytes stand in a row, with the place where each one ends.
+/// How many paths a part has.
+pub(crate) const PART: usize = 512;
+
+/// Paths in the order in which their entries were added. The last of them stand in a part of their own, which is shared
+/// once it is full, so that one more changes no part that another order has.
 #[derive(Drop)]
 pub(crate) struct Order {
-    bytes: Vec<u8>,
-    /// Where each path ends, in bytes from the front: how many stand up to its last one.
-    ends: Vec<usize>,
+    alloc: Global,
+    full: Vec<Part>,
+    last: Paths,
+    len: usize,
 }
 
 impl Model for Order {
     ghost use Rattle.std.specs.Prelude.{ℕ, List};
-    ghost use Rattle.fam_plan.specs.Pieces.{pieces, ArePaths};
+    ghost use Rattle.fam_plan.specs.Parts.{AreParts, paths_of};
 
     ghost Value = { List (List ℕ) };
 
-    ghost view = { λ o. pieces o.bytes.items 0 o.ends.items };
+    ghost view = { λ o. paths_of o.full.items o.last };
 
-    ghost invariant = { λ o. ArePaths o.bytes.items 0 o.ends.items };
+    ghost invariant = { λ o. AreParts o.full.items o.last o.len };
 }
 
-/// Where path `i` starts, in bytes from the front: where the one before it ends. There are `i` paths or more.
-fn start_of(ends: &[usize], i: usize) -> usize
-    requires { i ≤ length ends.now }
-    ensures { result ≡ slice_index (0 ∷ ends.now) i }
+/// Makes a part of the last paths.
+fn close(full: &mut Vec<Part>, last: &mut Paths, alloc: Global) -> bool
+    requires full { AreFull full.old.items }
+    requires last { length last.old ≡ PART }
+    ensures full { AreFull full.new.items }
+    ensures paths { paths_of full.new.items last.new ≡ paths_of full.old.items last.old }
 {
-    if i == 0 { 0 } else { ends[i - 1] }
-}
-
-/// The path of bytes that are one. They are copied, and not looked at.
-#[tactic(auto, unfolding(fam_base::specs::Paths::is_path))]
-fn path_of(bytes: &[u8]) -> Path
-    requires { IsTrue (is_path bytes.now) }
-    ensures { result ≡ bytes.now }
-{
-    let len = bytes.len();
-    let mut field = [0; PATH_LIMIT];
-    field[..len].copy_from_slice(bytes);
-    Path::in_field(&field, len)
-}
-
-/// The path that stands from byte `start` up to byte `end`.
-fn path_between(bytes: &[u8], start: usize, end: usize) -> Path
-    requires { IsPathAt bytes.now start end }
-    ensures { result ≡ between start end bytes.now }
-{
-    path_of(&bytes[start..end])
+    if full.reserve(1).is_err() {
+        return false;
+    }
+    match Part::new(alloc, replace(last, Paths::new(alloc))) {
+        Ok(part) => {
+            let _ = full.push(part);
+            true
+        }
+        Err(back) => {
+            *last = back;
+            false
+        }
+    }
 }
 
 impl Order {
@@ -65,20 +67,25 @@ impl Order {
         ensures { result ≡ [] }
     {
         Order {
-            bytes: Vec::new(alloc),
-            ends: Vec::new(alloc),
+            alloc,
+            full: Vec::new(alloc),
+            last: Paths::new(alloc),
+            len: 0,
         }
     }
 
-    /// The same paths, in memory of their own.
-    pub(crate) fn copy(&self) -> Result<Order, OutOfMemory>
+    /// The same paths. The two share all but the last ones.
+    pub(crate) fn copy(&self, alloc: Global) -> Result<Order, OutOfMemory>
         ensures { IfOk result (λ order. order ≡ self.now) }
     {
-        let Ok(bytes) = self.bytes.clone() else {
-            return Err(OutOfMemory);
-        };
-        match self.ends.clone() {
-            Ok(ends) => Ok(Order { bytes, ends }),
+        let last = self.last.copy()?;
+        match self.full.clone() {
+            Ok(full) => Ok(Order {
+                alloc,
+                full,
+                last,
+                len: self.len,
+            }),
             Err(_) => Err(OutOfMemory),
         }
     }
@@ -87,48 +94,39 @@ impl Order {
     pub(crate) fn len(&self) -> u64
         ensures { result ≡ length self.now }
     {
-        self.ends.len() as u64
+        self.len as u64
     }
 
     /// Path `i`, from 0.
     pub(crate) fn at(&self, i: u64) -> Option<Path>
         ensures { result ≡ slice_get self.now i }
     {
-        let ends = self.ends.as_slice();
         let i = i as usize;
-        if i >= ends.len() {
-            return None;
+        match self.full.get(i / PART) {
+            Some(part) => part.paths().at(i % PART),
+            None => self.last.at(i - PART * self.full.len()),
         }
-        let start = start_of(ends, i);
-        Some(path_between(self.bytes.as_slice(), start, ends[i]))
     }
 
-    /// Puts a path behind the others. It takes memory for the path's own bytes, and not for those of the longest path.
-    pub(crate) fn push(&mut self, path: &Path) -> Result<(), OutOfMemory>
-        ensures added { OnOk result (self.new ≡ self.old ++ path.now ∷ []) }
-        ensures err { OnErr result (self.new ≡ self.old) }
+    /// Puts an entry's path behind the others, where something else grows by the entry. Else, and if there is no memory,
+    /// nothing changes.
+    pub(crate) fn push<B: Beside>(&mut self, entry: &Entry, beside: &mut B) -> bool
+        requires { B.may_grow beside.old entry.now }
+        ensures added { OnTrue result (self.new ≡ self.old ++ entry.now.path ∷ []) }
+        ensures grown { OnTrue result (B.grown beside.old entry.now beside.new) }
+        ensures kept { OnFalse result (self.new ≡ self.old) }
+        ensures same { OnFalse result (beside.new ≡ beside.old) }
     {
-        let start = self.bytes.len();
-        if self.bytes.extend_from_slice(path.bytes()).is_err() {
-            return Err(OutOfMemory);
+        let Some(len) = self.len.checked_add(1) else {
+            return false;
+        };
+        if self.last.len() == PART && !close(&mut self.full, &mut self.last, self.alloc) {
+            return false;
         }
-        if self.ends.push(self.bytes.len()).is_err() {
-            self.bytes.truncate(start);
-            return Err(OutOfMemory);
+        if !self.last.push(entry, beside) {
+            return false;
         }
-        Ok(())
-    }
-
-    /// The last path, which is taken away.
-    pub(crate) fn pop(&mut self) -> Option<Path>
-        ensures some { IfSome result (λ path. self.old ≡ self.new ++ path ∷ []) }
-        ensures none { result ≡ None → self.new ≡ self.old }
-        ensures empty { result ≡ None → self.old ≡ [] }
-    {
-        let end = self.ends.pop()?;
-        let start = start_of(self.ends.as_slice(), self.ends.len());
-        let path = path_between(self.bytes.as_slice(), start, end);
-        self.bytes.truncate(start);
-        Some(path)
+        self.len = len;
+        true
     }
 }

@@ -13,22 +13,23 @@ ghost use Rattle.fam_plan.specs.Faults.{reason_of};
 ghost use Rattle.fam_plan.specs.State.{IsHistory};
 
 use crate::fault::AddFault;
+use crate::ledger::Ledger;
 use crate::order::Order;
-use fam_alloc::{AllocMap, TakeFault};
+use crate::used::Used;
+use fam_alloc::AllocMap;
 use fam_base::{Entry, OutOfMemory, Params};
 use fam_format::LOG_OFFSET;
 use fam_tree::{ApplyFault, Tree};
 use std::alloc::Global;
 use std::marker::Model;
 
-/// The entries of a log in their tree, the order of their paths and the units that they use. A contract sees the
+/// The entries of a log in their tree, with the order of their paths and the units that they use. A contract sees the
 /// parameters of the file system and the list of entries, in which each entry joins those before it.
 #[derive(Drop)]
 pub struct Plan {
     pub(crate) params: Params,
     pub(crate) tree: Tree,
-    pub(crate) order: Order,
-    pub(crate) used: AllocMap,
+    pub(crate) ledger: Ledger,
 }
 
 impl Model for Plan {
@@ -38,10 +39,10 @@ impl Model for Plan {
 
     ghost coded = { state_code };
 
-    ghost view = { λ p. record { params = p.params; entries = entries_at p.tree p.order } };
+    ghost view = { λ p. record { params = p.params; entries = entries_at p.tree p.ledger.order } };
 
-    ghost invariant = { λ p. IsPlanAt (record { params = p.params; entries = entries_at p.tree p.order })
-        p.tree p.order p.used };
+    ghost invariant = { λ p. IsPlanAt (record { params = p.params; entries = entries_at p.tree p.ledger.order })
+        p.tree p.ledger.order p.ledger.used.map p.ledger.used.unit };
 }
 
 /// The overlap that keeps an entry from joining, and out of memory where there is none.
@@ -72,53 +73,6 @@ fn first_fault(fault: ApplyFault, used: &AllocMap, entry: &Entry, unit: u64) -> 
     }
 }
 
-/// Takes the units of an entry.
-fn take_units(used: &mut AllocMap, entry: &Entry, unit: u64) -> Result<(), AddFault>
-    requires unit { 0 < unit }
-    requires within { LieWithin unit (length used.old) entry.now.extents }
-    ensures fits { OnOk result
-        (overlap_fault (first_overlap (is_taken used.old) (units_in unit entry.now.extents)) ≡ None) }
-    ensures taken { OnOk result ((u : ℕ) →
-        is_taken used.new u ≡ (is_taken used.old u || holds (units_in unit entry.now.extents) u)) }
-    ensures cause { IfErr result (λ fault. reason_of fault
-        ≡ overlap_fault (first_overlap (is_taken used.old) (units_in unit entry.now.extents))) }
-    ensures err { OnErr result (used.new ≡ used.old) }
-    ensures units { length used.new ≡ length used.old }
-{
-    match used.take(&entry.extents, unit) {
-        Ok(()) => Ok(()),
-        Err(TakeFault::Overlap(taken)) => Err(AddFault::Overlap(taken)),
-        Err(TakeFault::OutOfMemory) => Err(AddFault::OutOfMemory),
-    }
-}
-
-/// Puts an entry's path behind others and takes its units, or does neither.
-fn append(order: &mut Order, used: &mut AllocMap, entry: &Entry, unit: u64) -> Result<(), AddFault>
-    requires unit { 0 < unit }
-    requires within { LieWithin unit (length used.old) entry.now.extents }
-    ensures added { OnOk result (order.new ≡ order.old ++ entry.now.path ∷ []) }
-    ensures fits { OnOk result
-        (overlap_fault (first_overlap (is_taken used.old) (units_in unit entry.now.extents)) ≡ None) }
-    ensures taken { OnOk result ((u : ℕ) →
-        is_taken used.new u ≡ (is_taken used.old u || holds (units_in unit entry.now.extents) u)) }
-    ensures cause { IfErr result (λ fault. reason_of fault
-        ≡ overlap_fault (first_overlap (is_taken used.old) (units_in unit entry.now.extents))) }
-    ensures list { OnErr result (order.new ≡ order.old) }
-    ensures map { OnErr result (used.new ≡ used.old) }
-    ensures units { length used.new ≡ length used.old }
-{
-    if order.push(&entry.path).is_err() {
-        return Err(overlap_or_memory(used, entry, unit));
-    }
-    match take_units(used, entry, unit) {
-        Ok(()) => Ok(()),
-        Err(fault) => {
-            let _ = order.pop();
-            Err(fault)
-        }
-    }
-}
-
 impl Plan {
     /// No entries, on a device whose superblock and log are used.
     pub fn new(alloc: Global, params: &Params) -> Result<Plan, OutOfMemory>
@@ -128,24 +82,28 @@ impl Plan {
     {
         let units = params.device / params.unit;
         let head = (LOG_OFFSET + params.log_length) / params.unit;
-        let used = AllocMap::new(alloc, units, head)?;
+        let map = AllocMap::new(alloc, units, head)?;
         Ok(Plan {
             params: *params,
             tree: Tree::new(alloc),
-            order: Order::new(alloc),
-            used,
+            ledger: Ledger {
+                order: Order::new(alloc),
+                used: Used {
+                    map,
+                    unit: params.unit,
+                },
+            },
         })
     }
 
-    /// The same plan, in memory of its own.
+    /// The same plan. The two share most of what they have until one of them changes.
     pub fn copy(&self, alloc: Global) -> Result<Plan, OutOfMemory>
         ensures { IfOk result (λ plan. plan ≡ self.now) }
     {
         Ok(Plan {
             params: self.params,
             tree: self.tree.copy(alloc)?,
-            order: self.order.copy()?,
-            used: self.used.copy(alloc)?,
+            ledger: self.ledger.copy(alloc)?,
         })
     }
 
@@ -166,17 +124,10 @@ impl Plan {
         ensures params { self.new.params ≡ self.old.params }
         ensures once { IsOnce (list_units self.new.params.unit self.new.entries) }
     {
-        match self.tree.apply(entry) {
-            Ok(()) => {}
-            Err(fault) => return Err(first_fault(fault, &self.used, entry, self.params.unit)),
+        if let Err(fault) = self.tree.apply_beside(entry, &mut self.ledger) {
+            return Err(first_fault(fault, &self.ledger.used.map, entry, self.params.unit));
         }
-        match append(&mut self.order, &mut self.used, entry, self.params.unit) {
-            Ok(()) => Ok(()),
-            Err(fault) => {
-                self.tree.take_back(&entry.path);
-                Err(fault)
-            }
-        }
+        Ok(())
     }
 
     /// What stands at each path.
@@ -205,14 +156,14 @@ impl Plan {
         ensures count { result ≡ length self.now.entries }
         ensures few { length self.now.entries ≤ self.now.params.slots }
     {
-        self.order.len()
+        self.ledger.order.len()
     }
 
     /// Entry `i`, from 0, in the order in which they were added.
     pub fn at(&self, i: u64) -> Option<Entry>
         ensures { result ≡ slice_get self.now.entries i }
     {
-        match self.order.at(i) {
+        match self.ledger.order.at(i) {
             Some(path) => self.tree.get(&path),
             None => None,
         }

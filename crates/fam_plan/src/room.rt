@@ -78,7 +78,7 @@ impl Plan {
     {
         let unit = self.params.unit;
         let count = units_of(size, unit);
-        let Some(start) = self.used.find(count) else {
+        let Some(start) = self.ledger.used.map.find(count) else {
             return Err(Refused::NoSpace(count));
         };
         Ok(Room {
@@ -97,7 +97,9 @@ impl Plan {
         let count = strip_units(size, unit, stripe.chunk, stripe.nstrips);
         let seq = self.count();
         let Some(starts) = self
+            .ledger
             .used
+            .map
             .find_strips(count, stripe.nstrips, stripe.nbuckets, seq)
         else {
             return Err(Refused::NoSpace(count));

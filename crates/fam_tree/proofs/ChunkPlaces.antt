@@ -1,66 +1,69 @@
--- The entry at a place, in one of many chunks or behind them.
+-- What stands at a place, in one of many chunks or behind them.
 use Rattle.std.proofs.Common.{◌≡◌, ℕ, zero, suc, ◌+◌, ◌-◌, ◌*◌, ◌<◌, ◌≤◌, List, [], ◌∷◌, ◌++◌, length, get_or, Option, None, Some, Bor, refl, sym, ap, ◌∙◌, arith, length-append}
 use Rattle.std.specs.Prelude.{option_map, slice_get}
 use Rattle.std.specs.Slice.{IsItemAt}
 use Rattle.std.proofs.lemmas.Option.{slice_get-get_or, slice_get_past}
-use Rattle.std.specs.List.{AllByRecursion}
+use Rattle.std.specs.List.{AllByRecursion, flat_map}
 use Rattle.std.proofs.lemmas.List.{append_assoc}
-use Rattle.fam_base.specs.declared.entry.Entry.{Entry}
-use Rattle.fam_tree.specs.Runs.{entries_in}
 use Rattle.fam_tree.proofs.Edits.{all_at}
 
-front : (a b : List Entry) (i : ℕ) → i < length a → slice_get (a ++ b) i ≡ slice_get a i
-front [] b i within = absurd (omega arith)
-front (x ∷ a) b zero within = refl
-front (x ∷ a) b (suc i) within = front a b i (omega arith)
-
-behind : (a b : List Entry) (n i : ℕ) → length a ≡ n → slice_get (a ++ b) (n + i) ≡ slice_get b i
-behind [] b n i is = ap (slice_get b) (omega (arith, is))
-behind (x ∷ a) b zero i is = absurd (omega (arith, is))
-behind (x ∷ a) b (suc n) i is =
-    let step : suc n + i ≡ suc (n + i) = omega arith in
-    ap (slice_get (x ∷ (a ++ b))) step ∙ behind a b n i (omega (arith, is))
-
--- what a list gives at a place
+-- what a slice gives at a place
 pub told : {X : Type 0} (xs : List X) (i : ℕ) (o : Option (Bor X)) → IsItemAt xs i o → option_map (λ x. x.now) o ≡ slice_get xs i
 told xs i None got = sym (slice_get_past xs i got.3)
 told xs i (Some x) got = ap (λ y. Some y) (got.3.1 x.now) ∙ sym (slice_get-get_or xs i x.now got.3.0)
 
--- each chunk has as many
-pub chunk_size : (size : ℕ) (full : List (List Entry)) (n : ℕ) (chunk : List Entry) → AllByRecursion (λ c. length c ≡ size) full → n < length full
-    → chunk ≡ get_or full n chunk → length chunk ≡ size
-chunk_size size full n chunk each within is = ap length is ∙ all_at (λ c. length c ≡ size) full n chunk each within
+module _ {X : Type 0} where
+  front : (a b : List X) (i : ℕ) → i < length a → slice_get (a ++ b) i ≡ slice_get a i
+  front [] b i within = absurd (omega arith)
+  front (x ∷ a) b zero within = refl
+  front (x ∷ a) b (suc i) within = front a b i (omega arith)
 
-module _ (size : ℕ) (last : List Entry) where
-  -- that of a chunk
-  pub in_chunk : (full : List (List Entry)) (n r : ℕ) (chunk : List Entry) → AllByRecursion (λ c. length c ≡ size) full → n < length full → r < size
-      → chunk ≡ get_or full n chunk → slice_get (entries_in full ++ last) (size * n + r) ≡ slice_get chunk r
-  in_chunk [] n r chunk each within below is = absurd (omega arith)
-  in_chunk (x ∷ full) zero r chunk each within below is =
-      let there : slice_get (x ++ (entries_in full ++ last)) r ≡ slice_get x r = front x (entries_in full ++ last) r (omega (arith, each.0)) in
-      ap (λ (l : List Entry). slice_get l (size * 0 + r)) (append_assoc x (entries_in full) last)
-      ∙ ap (slice_get (x ++ (entries_in full ++ last))) (omega arith) ∙ there ∙ ap (λ (l : List Entry). slice_get l r) (sym is)
-  in_chunk (x ∷ full) (suc n) r chunk each within below is =
-      ap (λ (l : List Entry). slice_get l (size * suc n + r)) (append_assoc x (entries_in full) last)
-      ∙ ap (slice_get (x ++ (entries_in full ++ last))) (omega arith)
-      ∙ behind x (entries_in full ++ last) size (size * n + r) each.0
-      ∙ in_chunk full n r chunk each.1 (omega arith) below is
+  behind : (a b : List X) (n i : ℕ) → length a ≡ n → slice_get (a ++ b) (n + i) ≡ slice_get b i
+  behind [] b n i is = ap (slice_get b) (omega (arith, is))
+  behind (x ∷ a) b zero i is = absurd (omega (arith, is))
+  behind (x ∷ a) b (suc n) i is =
+      let step : suc n + i ≡ suc (n + i) = omega arith in
+      ap (slice_get (x ∷ (a ++ b))) step ∙ behind a b n i (omega (arith, is))
 
-  -- that of one of the last entries
-  pub in_last : (full : List (List Entry)) (i : ℕ) → AllByRecursion (λ c. length c ≡ size) full → size * length full ≤ i
-      → slice_get (entries_in full ++ last) i ≡ slice_get last (i - size * length full)
-  in_last [] i each past = ap (slice_get last) (omega arith)
-  in_last (x ∷ full) i each past =
-      let more : size * length full ≤ i - size = omega (arith, past) in
-      ap (λ (l : List Entry). slice_get l i) (append_assoc x (entries_in full) last)
-      ∙ ap (slice_get (x ++ (entries_in full ++ last))) (omega (arith, past))
-      ∙ behind x (entries_in full ++ last) size (i - size) each.0
-      ∙ in_last full (i - size) each.1 more
-      ∙ ap (slice_get last) (omega arith)
+  -- all chunks, one behind another
+  abbrev pub joined_chunks : List (List X) → List X
+  joined_chunks full = flat_map (λ c. c) full
 
-  -- how many entries there are
-  pub count_of : (full : List (List Entry)) → AllByRecursion (λ c. length c ≡ size) full → length (entries_in full ++ last) ≡ size * length full + length last
-  count_of [] each = omega arith
-  count_of (x ∷ full) each =
-      ap length (append_assoc x (entries_in full) last) ∙ length-append x (entries_in full ++ last)
-      ∙ omega (arith, each.0, count_of full each.1)
+  -- each chunk has as many
+  pub chunk_size : (size : ℕ) (full : List (List X)) (n : ℕ) (chunk : List X) → AllByRecursion (λ c. length c ≡ size) full → n < length full
+      → chunk ≡ get_or full n chunk → length chunk ≡ size
+  chunk_size size full n chunk each within is = ap length is ∙ all_at (λ c. length c ≡ size) full n chunk each within
+
+  module _ (size : ℕ) (last : List X) where
+    -- that of a chunk
+    pub in_chunk : (full : List (List X)) (n r : ℕ) (chunk : List X) → AllByRecursion (λ c. length c ≡ size) full → n < length full → r < size
+        → chunk ≡ get_or full n chunk → slice_get (joined_chunks full ++ last) (size * n + r) ≡ slice_get chunk r
+    in_chunk [] n r chunk each within below is = absurd (omega arith)
+    in_chunk (x ∷ full) zero r chunk each within below is =
+        let there : slice_get (x ++ (joined_chunks full ++ last)) r ≡ slice_get x r = front x (joined_chunks full ++ last) r (omega (arith, each.0)) in
+        ap (λ (l : List X). slice_get l (size * 0 + r)) (append_assoc x (joined_chunks full) last)
+        ∙ ap (slice_get (x ++ (joined_chunks full ++ last))) (omega arith) ∙ there ∙ ap (λ (l : List X). slice_get l r) (sym is)
+    in_chunk (x ∷ full) (suc n) r chunk each within below is =
+        ap (λ (l : List X). slice_get l (size * suc n + r)) (append_assoc x (joined_chunks full) last)
+        ∙ ap (slice_get (x ++ (joined_chunks full ++ last))) (omega arith)
+        ∙ behind x (joined_chunks full ++ last) size (size * n + r) each.0
+        ∙ in_chunk full n r chunk each.1 (omega arith) below is
+
+    -- one of the last
+    pub in_last : (full : List (List X)) (i : ℕ) → AllByRecursion (λ c. length c ≡ size) full → size * length full ≤ i
+        → slice_get (joined_chunks full ++ last) i ≡ slice_get last (i - size * length full)
+    in_last [] i each past = ap (slice_get last) (omega arith)
+    in_last (x ∷ full) i each past =
+        let more : size * length full ≤ i - size = omega (arith, past) in
+        ap (λ (l : List X). slice_get l i) (append_assoc x (joined_chunks full) last)
+        ∙ ap (slice_get (x ++ (joined_chunks full ++ last))) (omega (arith, past))
+        ∙ behind x (joined_chunks full ++ last) size (i - size) each.0
+        ∙ in_last full (i - size) each.1 more
+        ∙ ap (slice_get last) (omega arith)
+
+    -- how many there are
+    pub count_of : (full : List (List X)) → AllByRecursion (λ c. length c ≡ size) full → length (joined_chunks full ++ last) ≡ size * length full + length last
+    count_of [] each = omega arith
+    count_of (x ∷ full) each =
+        ap length (append_assoc x (joined_chunks full) last) ∙ length-append x (joined_chunks full ++ last)
+        ∙ omega (arith, each.0, count_of full each.1)

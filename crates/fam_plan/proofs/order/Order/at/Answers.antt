@@ -1,24 +1,33 @@
-use Rattle.std.proofs.Common.{◌<◌, ◌≤◌, ℕ, List, length, sym, ap, ◌∙◌, arith}
+use Rattle.std.proofs.Common.{◌≡◌, ◌<◌, ◌≤◌, ◌*◌, ◌/◌, ◌%◌, ◌-◌, ℕ, List, length, get_or, sym, ap, ◌∙◌, arith}
 use Rattle.std.specs.List.{slice_get}
-use Rattle.fam_plan.proofs.PieceLemmas.{no_piece, path_at, piece_at}
+use Rattle.std.proofs.Math.Nat.{div-add-mod}
+use Rattle.fam_tree.proofs.ChunkPlaces.{in_chunk, in_last}
+use Rattle.fam_plan.specs.Parts.{paths_of}
 use Rattle.fam_plan.proofs.order.Order.at.Goals as goal
 
-pub returns-then-i-ends : goal.returns-then-i-ends
-returns-then-i-ends c =
-    let own = c.self.inside in
-    let past : length own.ends.items ≤ c.args.i = omega (arith, c.if-i-ends.true, ap (λ (l : List ℕ). length l) c.as_slice-ends.ensures.value) in
-    sym (no_piece own.bytes.items own.ends.items c.args.i past) ∙ ap (λ (l : List (List ℕ)). slice_get l c.args.i) c.self.view_is
+pub returns-in-Some : goal.returns-in-Some
+returns-in-Some c =
+    let full = c.self.inside.full.items in
+    let last = c.self.inside.last in
+    let i = c.args.i in
+    let part = c.in-Some.part.now in
+    let found = c.in-Some.ensures.lookup in
+    let below : i / 512 < length full = rw (← c.deref.ensures.value) found.3.0 in
+    let is : part ≡ get_or full (i / 512) part = rw (← c.deref.ensures.value) (found.3.1 part) in
+    c.at.ensures
+    ∙ ap (λ (l : List (List ℕ)). slice_get l (i % 512)) c.paths.ensures
+    ∙ sym (in_chunk 512 last full (i / 512) (i % 512) part c.self.invariant.each below (omega arith) is)
+    ∙ ap (slice_get (paths_of full last)) (div-add-mod i 512)
+    ∙ ap (λ (l : List (List ℕ)). slice_get l i) c.self.view_is
 
-pub path_between-requires : goal.path_between-requires
-path_between-requires c =
-    let own = c.self.inside in
-    let below : c.args.i < length own.ends.items = omega (arith, c.if-i-ends.false, ap (λ (l : List ℕ). length l) c.as_slice-ends.ensures.value) in
-    rw (c.as_slice.ensures.value, c.start_of-start.ensures, c.as_slice-ends.ensures.value)
-    (path_at own.bytes.items 0 own.ends.items c.args.i below c.self.invariant)
-
-pub returns : goal.returns
-returns c =
-    let own = c.self.inside in
-    let below : c.args.i < length own.ends.items = omega (arith, c.if-i-ends.false, ap (λ (l : List ℕ). length l) c.as_slice-ends.ensures.value) in
-    rw (c.path_between.ensures, c.as_slice.ensures.value, c.start_of-start.ensures, c.as_slice-ends.ensures.value)
-    (sym (piece_at own.bytes.items 0 own.ends.items c.args.i below) ∙ ap (λ (l : List (List ℕ)). slice_get l c.args.i) c.self.view_is)
+pub returns-in-None : goal.returns-in-None
+returns-in-None c =
+    let full = c.self.inside.full.items in
+    let last = c.self.inside.last in
+    let i = c.args.i in
+    let past : length full ≤ i / 512 = rw (← c.deref.ensures.value) c.in-None.ensures.lookup.3 in
+    let count : c.len.result ≡ length full = c.len.ensures ∙ c.self.inside.full.ok.0 in
+    c.at-in-None.ensures
+    ∙ ap (λ (n : ℕ). slice_get last (i - 512 * n)) count
+    ∙ sym (in_last 512 last full i c.self.invariant.each (omega (arith, past)))
+    ∙ ap (λ (l : List (List ℕ)). slice_get l i) c.self.view_is

@@ -1,6 +1,6 @@
 use Rattle.std.proofs.Common.{ℕ, List, length, sym, ap, ◌∙◌}
 use Rattle.fam_plan.proofs.PieceLemmas.{length-pieces}
-use Rattle.fam_plan.proofs.order.Order.len.Goals as goal
+use Rattle.fam_plan.proofs.paths.Paths.len.Goals as goal
 
 pub returns : goal.returns
 returns c =

@@ -1,0 +1,24 @@
+//! The units that the entries of a plan use.
+
+use fam_alloc::AllocMap;
+use fam_base::Entry;
+use fam_tree::Beside;
+
+/// Which units are used, and how many bytes a unit has.
+#[derive(Drop)]
+pub(crate) struct Used {
+    pub(crate) map: AllocMap,
+    pub(crate) unit: u64,
+}
+
+impl Beside for Used {
+    ghost use Rattle.fam_plan.specs.Ledgers.{MayTake, HasTaken};
+
+    ghost may_grow = { MayTake };
+
+    ghost grown = { HasTaken };
+
+    fn grow(&mut self, entry: &Entry) -> bool {
+        self.map.take(&entry.extents, self.unit).is_ok()
+    }
+}
