@@ -76,7 +76,7 @@ module _ (image : Lines) (have : ℕ) (t : Task) (phase : Phase) (words : List �
 
   -- nor that no slot is read
   pub none_moved : IsBare t → IsBare moved
-  none_moved n = record { entries = n.entries; survey = n.survey; kept = n.kept }
+  none_moved n = record { entries = n.entries; survey = n.survey; unused = n.unused }
 
   count_moved : slots_read moved ≡ slots_read t
   count_moved = slots_alike moved t refl refl refl
@@ -122,7 +122,7 @@ module _ (image : Lines) (have : ℕ) (uuid : ℕ → Option (List ℕ)) (host :
       goes master = record {
         me = me;
         lines = lines;
-        phase = ((record { entries = none.entries; survey = none.survey; kept = none.kept }, record { super = super; master = master }), omega arith, is_loaded image next Header tt 0 0 refl);
+        phase = ((record { entries = none.entries; survey = none.survey; unused = none.unused }, record { super = super; master = master }), omega arith, is_loaded image next Header tt 0 0 refl);
       }
 
       test : (b : Bool) → path_eq t.me p.master ≡ b → Turned (host_turn t p (cond b None (Some (NotMaster t.me p.master))))
@@ -184,7 +184,7 @@ module _ (image : Lines) (have : ℕ) (uuid : ℕ → Option (List ℕ)) (host :
           all_below = omega arith
 
           none_used : used t.kept t.cmd t.params word ≡ []
-          none_used = ap (λ (k : Option Kept). used k t.cmd t.params word) none.kept ∙ used_none t.cmd t.params word
+          none_used = none.unused t.params word
 
           remains : Remains t.cmd image have 0 (gate_loaded t word)
           remains = elim (fsck_or_plays t.cmd) [
