@@ -11,7 +11,7 @@ use Rattle.fam_journal.specs.declared.refusal.Refusal.{Refusal}
 use Rattle.fam_journal.specs.declared.refusal.Refusal.TheVariants as why
 use Rattle.fam_outcomes.specs.declared.status.Status.{Status}
 use Rattle.fam_outcomes.specs.declared.status.Status.TheVariants as status
-use Rattle.fam_journal.specs.Notes.{Answer, Replied, MediaFault, Note, Refused}
+use Rattle.fam_journal.specs.Notes.{Answer, Replied, MediaFault, Note}
 use Rattle.fam_outcomes.specs.Texts.{is_sound_report}
 use Rattle.fam_journal.specs.NoteClasses.{NoteClass, note_class, Declared, Formatted, Going, Answering, Refusing}
 use Rattle.fam_commands.specs.ReplyClasses.{ReplyClass, reply_class, Appending, Declining, Showing, Reporting, Faulty}
@@ -86,6 +86,8 @@ cause_status (why.Busy host) = status.Refused
 cause_status (why.Dirty host) = status.Refused
 cause_status (why.HasSuper uuid) = status.Refused
 cause_status why.Idle = status.Refused
+cause_status why.Mounted = status.Refused
+cause_status why.NotMounted = status.Refused
 cause_status (why.NoLine at lines) = status.Refused
 cause_status (why.NoFile name) = status.Refused
 cause_status (why.CopyLimit sum) = status.Refused

@@ -20,7 +20,7 @@ use Rattle.fam_journal.specs.Ends.{AllDone, Ending, EndsOutOfMemory, IsFaultless
 use Rattle.fam_journal.specs.Events.{DoesEvent, PartOf, Session, first_session}
 use Rattle.fam_journal.specs.Follows.{Follows}
 use Rattle.fam_journal.specs.Legal.{OfHost}
-use Rattle.fam_journal.specs.Notes.{Answer, Replied, MediaFault, Note, Host, Stop, Halt}
+use Rattle.fam_journal.specs.Notes.{Answer, Replied, MediaFault, Note}
 use Rattle.fam_journal.specs.Past.{HostPast, Past, State, Bad, Sound, count_of, first_past, first_state, past_after, past_of, settled_length}
 use Rattle.fam_outcomes.specs.Programs.{Command, EndsEarly, Grammar, ScriptPuts, Storms, script_status}
 use Rattle.fam_outcomes.specs.Runs.{IsPut, Outside}
@@ -39,6 +39,7 @@ IsWholeEvent (event.Step name count) = ⊥
 IsWholeEvent (event.Finish name) = ⊥
 IsWholeEvent (event.Stop name) = ⊥
 IsWholeEvent (event.Halt name) = ⊥
+IsWholeEvent (event.Umount name) = ⊤
 IsWholeEvent (event.Evict name line) = ⊤
 IsWholeEvent (event.Leak name line mask) = ⊤
 IsWholeEvent (event.Fetch name line mask) = ⊤
@@ -174,6 +175,7 @@ is_move (event.Step name count) = false
 is_move (event.Finish name) = false
 is_move (event.Stop name) = false
 is_move (event.Halt name) = false
+is_move (event.Umount name) = false
 is_move (event.Evict name line) = true
 is_move (event.Leak name line mask) = true
 is_move (event.Fetch name line mask) = true
