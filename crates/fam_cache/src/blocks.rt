@@ -53,6 +53,8 @@ pub struct Blocks {
     areas: Vec<(u64, [usize; 64])>,
     /// So many more lines fit with no allocation, if not more of them.
     room: usize,
+    /// No block has a number above this one, so that a line behind all others is looked for nowhere.
+    greatest: u64,
 }
 
 /// Blocks that hold no line.
@@ -64,6 +66,7 @@ pub(crate) fn empty(alloc: Global) -> Blocks
         blocks: Vec::new(alloc),
         areas: Vec::new(alloc),
         room: 0,
+        greatest: 0,
     }
 }
 
@@ -167,6 +170,9 @@ pub(crate) fn seek(cache: &Blocks, last: usize, line: u64) -> Option<usize>
     let number = line / 16;
     if stands(&cache.blocks, last, number) {
         return Some(last);
+    }
+    if number > cache.greatest {
+        return None;
     }
     find(cache, number)
 }
@@ -417,6 +423,7 @@ fn add_block(cache: &mut Blocks, number: u64) -> usize
         words: [[0; 8]; 16],
     });
     cache.room = cache.room.saturating_sub(1);
+    cache.greatest = cache.greatest.max(number);
     place
 }
 
