@@ -186,8 +186,7 @@ module _ (kept : Option Kept) (cmd : Cmd) (me : List ℕ) (lines : ℕ) (t : Tas
         by_reply : (r : Reply) (b : Option Kept) → ReplyTells t t.phase r → IsKept b → IsKept (kept_by r (read_by t) b)
         by_reply (Played m tree) None lists is' = tt
         by_reply (Played m tree) (Some k) lists is' = decided_joins lists.phase (replay_reads t.cmd lists.class)
-        by_reply (Mounted m) None lists is' = tt
-        by_reply (Mounted m) (Some k) lists is' = decided_joins lists.phase (replay_reads t.cmd lists.class)
+        by_reply (Mounted m) b lists is' = decided_joins lists.phase (replay_reads t.cmd lists.class)
         by_reply other b tells' is' = is'
 
     pub kept_joins : IsKept before → IsKept (kept_after (turn_given t word) t before)

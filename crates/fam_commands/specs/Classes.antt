@@ -78,6 +78,18 @@ AreLooking Surveys = ⊥
 abbrev pub LooksAtFile : Cmd → Type 0
 LooksAtFile cmd = AreLooking (class_of cmd)
 
+-- a command behind whose answer its host keeps what it read
+abbrev pub is_mount : Cmd → Bool
+is_mount Logplay = false
+is_mount Mount = true
+is_mount (Mkdir path attr) = false
+is_mount (Creat path size attr stripe fill) = false
+is_mount (Cp path attr stripe bytes) = false
+is_mount (Verify path against) = false
+is_mount (Read path offset count) = false
+is_mount (Check listing) = false
+is_mount Fsck = false
+
 -- a command that compares the tree with a listing
 abbrev pub IsCheck : Cmd → Type 0
 IsCheck Logplay = ⊥

@@ -1,7 +1,7 @@
--- What a host keeps behind an operation of its command: a host that keeps something keeps what a logplay or a
--- mount read.
+-- What a host keeps behind an operation of its command: what a mount read; and where it keeps something already, what a
+-- logplay read.
 -- docs/MODEL.md, "What a host keeps".
-use Rattle.std.specs.Prelude.{ℕ, List, Option, option_map}
+use Rattle.std.specs.Prelude.{ℕ, List, Option, Some, option_map}
 use Rattle.fam_base.specs.declared.cmd.Cmd.{Cmd}
 use Rattle.fam_rules.specs.Reply.{Reply, Appended, NotAppended, Played, Mounted, Same, Differs, Length, Bytes, NotFound, IsDirectory, Checks, NoSuperblock, BadHeader, BadSlot, Reports}
 use Rattle.fam_commands.specs.Counts.{told_entries, used_told}
@@ -22,7 +22,7 @@ read_told kept cmd words lines =
 -- what a host keeps behind a reply, of what was read and of what it kept
 abbrev pub kept_by : Reply → Kept → Option Kept → Option Kept
 kept_by (Played m tree) read kept = option_map (λ (k : Kept). read) kept
-kept_by (Mounted m) read kept = option_map (λ (k : Kept). read) kept
+kept_by (Mounted m) read kept = Some read
 kept_by (Appended seq) read kept = kept
 kept_by (NotAppended refused) read kept = kept
 kept_by (Same m) read kept = kept

@@ -3,12 +3,13 @@ use Rattle.std.specs.Prelude.{replicate, ℕ, ⊤, ◌≡◌, ◌⊎◌, Bool, L
 use Rattle.std.specs.FinMap as map_of_lines
 use Rattle.fam_commands.specs.Task.{Task, mounted}
 use Rattle.fam_journal.specs.Calls as call
+use Rattle.fam_base.specs.declared.cmd.Cmd.{Cmd}
 use Rattle.fam_base.specs.declared.cmd.Cmd.TheVariants.{Logplay}
 use Rattle.fam_journal.specs.declared.refusal.Refusal.{Refusal}
 use Rattle.fam_journal.specs.Calls.{refusal_of, Call, Does, IsOfSource, busy_at, name_of, number_of}
 use Rattle.fam_journal.specs.Machines.{task_begun, HostState, Machines, TaskState}
 use Rattle.fam_journal.specs.Members.{changed_at}
-use Rattle.fam_journal.specs.Notes.{Note, Host, Start, Stop, Halt, Refused}
+use Rattle.fam_journal.specs.Notes.{Note, Host, Start, Stop, Halt, Umount, Refused}
 use Rattle.fam_journal.specs.View.{HostView, WorldView, WorldStands}
 
 -- What a world's own hosts show of a refusal: names, UUIDs, caches, and who has a task. On an image of so many lines.
@@ -60,6 +61,7 @@ acted (call.Steps name) lines world = world
 acted (call.Finishes name) lines world = world
 acted (call.Stops name) lines world = with_host (number_in name world) (λ v. record v { task = None }) Stop world
 acted (call.Halts name) lines world = with_host (number_in name world) (λ v. record v { cache = map_of_lines.empty; task = None; kept = None }) Halt world
+acted (call.Umounts name) lines world = with_host (number_in name world) (λ v. record v { kept = None }) Umount world
 acted (call.Moves name line move) lines world = world
 acted (call.Refuses name cause) lines world = with_notes (Refused name cause ∷ []) world
 
@@ -72,7 +74,7 @@ acted_by None c lines world = acted c lines world
 abbrev pub world_after : Call → ℕ → WorldView → WorldView
 world_after c lines world = acted_by (refusal_in c world lines) c lines world
 
--- these calls take none; a cause that is handed in is one of a source, or what keeps a command from beginning
+-- these calls take none; a cause that is handed in is one of a source, or what keeps some command from beginning
 abbrev pub TakesNoMedia : Call → ℕ → WorldView → Type 0
 TakesNoMedia (call.Declares name uuid) lines world = ⊤
 TakesNoMedia (call.Makes name request) lines world = ⊥
@@ -81,8 +83,10 @@ TakesNoMedia (call.Steps name) lines world = ⊥
 TakesNoMedia (call.Finishes name) lines world = ⊥
 TakesNoMedia (call.Stops name) lines world = ⊤
 TakesNoMedia (call.Halts name) lines world = ⊤
+TakesNoMedia (call.Umounts name) lines world = ⊤
 TakesNoMedia (call.Moves name line move) lines world = ⊥
-TakesNoMedia (call.Refuses name cause) lines world = IsOfSource cause ⊎ (refusal_in (call.Begins name Logplay) world lines ≡ Some cause)
+TakesNoMedia (call.Refuses name cause) lines world =
+    IsOfSource cause ⊎ ((cmd : Cmd) × (refusal_in (call.Begins name cmd) world lines ≡ Some cause))
 
 -- so it is what the call's row says, of the state that the world stands for
 pub record IsRow (c : Call) (lines : ℕ) (state : Machines) (old new : WorldView) : Type 0 where

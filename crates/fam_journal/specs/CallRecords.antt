@@ -72,6 +72,7 @@ DoesPart (call.Steps name) state notes left = (notes ≡ []) × (left ≡ state)
 DoesPart (call.Finishes name) state notes left = FinishPart name state notes left
 DoesPart (call.Stops name) state notes left = (notes ≡ []) × (left ≡ state)
 DoesPart (call.Halts name) state notes left = (notes ≡ []) × (left ≡ state)
+DoesPart (call.Umounts name) state notes left = (notes ≡ []) × (left ≡ state)
 DoesPart (call.Moves name line move) state notes left = (notes ≡ []) × (left ≡ state)
 DoesPart (call.Refuses name cause) state notes left = (notes ≡ []) × (left ≡ state)
 
@@ -100,6 +101,7 @@ IsSoundCall (call.Steps name) = ⊤
 IsSoundCall (call.Finishes name) = ⊤
 IsSoundCall (call.Stops name) = ⊤
 IsSoundCall (call.Halts name) = ⊤
+IsSoundCall (call.Umounts name) = ⊤
 IsSoundCall (call.Moves name line move) = ⊤
 IsSoundCall (call.Refuses name cause) = ⊤
 
@@ -197,6 +199,7 @@ IsLate (call.Steps name) cause = ⊥
 IsLate (call.Finishes name) cause = ⊥
 IsLate (call.Stops name) cause = ⊥
 IsLate (call.Halts name) cause = ⊥
+IsLate (call.Umounts name) cause = ⊥
 IsLate (call.Moves name line move) cause = IsLateMove cause
 IsLate (call.Refuses name own) cause = cause ≡ own
 
@@ -217,7 +220,7 @@ pub record AnswersStep (name : List ℕ) (lines : ℕ) (answered : Option Refusa
 
 -- Calls and their answers: one record for each, which a contract cites. `answered` is the refusal that the call gave, if any.
 
--- host, begin, stop, halt, refuse: the world alone tells what becomes of it, and what is answered
+-- host, begin, stop, halt, umount, refuse: the world alone tells what becomes of it, and what is answered
 pub record WorldCall (c : Call) (lines : ℕ) (answered : Option Refusal) (old new : WorldView) : Type 0 where
   pub after : new ≡ world_after c lines old
   pub said : answered ≡ refusal_in c old lines

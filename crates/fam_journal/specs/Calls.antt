@@ -5,6 +5,7 @@ use Rattle.std.specs.FinMap as map
 use Rattle.fam_base.specs.declared.cmd.Cmd.{Cmd}
 use Rattle.fam_base.specs.declared.entry.Params.{Params}
 use Rattle.fam_base.specs.PathOrder.{path_eq}
+use Rattle.fam_commands.specs.Classes.{is_mount}
 use Rattle.fam_format.specs.Layout.{least_lines}
 use Rattle.fam_format.specs.Stop.{or_else}
 use Rattle.fam_base.specs.declared.line.LineNo.{LineNo}
@@ -16,11 +17,11 @@ use Rattle.fam_journal.specs.declared.refusal.Refusal.{Refusal}
 use Rattle.fam_journal.specs.declared.refusal.Refusal.TheVariants as why
 use Rattle.fam_machine.specs.HostMoves.{Move, move_failed, moved}
 use Rattle.fam_machine.specs.Cuts.{Cuts}
-use Rattle.fam_journal.specs.Machines.{HostState, Machines, Operation, machine_of, task_begun, with_parts, with_machine, with_memory, with_task}
+use Rattle.fam_journal.specs.Machines.{HostState, Machines, Operation, machine_of, task_begun, with_kept, with_parts, with_machine, with_memory, with_task}
 use Rattle.fam_journal.specs.Members.{index_of}
 use Rattle.fam_machine.specs.Mkfs as early
 use Rattle.fam_machine.specs.Mkfs.{EarlyRefusal, asked, expected_ops, early_refusal, superblock_found, goes_on, mkfs_ops, read_ops}
-use Rattle.fam_journal.specs.Notes.{Note, Host, Made, Start, Stop, Halt, Refused}
+use Rattle.fam_journal.specs.Notes.{Note, Host, Made, Start, Stop, Halt, Umount, Refused}
 use Rattle.fam_journal.specs.RefusalClasses.{RefusalClass, refusal_class, AtOnce, ByHost, ByImage, BySource, ByFault}
 
 -- what the world is asked for, of the host of a name
@@ -32,6 +33,7 @@ pub data Call : Type 0 where
   Finishes : (name : List ℕ) → Call
   Stops : (name : List ℕ) → Call
   Halts : (name : List ℕ) → Call
+  Umounts : (name : List ℕ) → Call
   Moves : (name : List ℕ) (line : ℕ) (move : Move) → Call
   Refuses : (name : List ℕ) (cause : Refusal) → Call
 
@@ -44,6 +46,7 @@ name_of (Steps name) = name
 name_of (Finishes name) = name
 name_of (Stops name) = name
 name_of (Halts name) = name
+name_of (Umounts name) = name
 name_of (Moves name line move) = name
 name_of (Refuses name cause) = name
 
@@ -73,6 +76,15 @@ is_busy_host (Some host) = is_busy host
 -- host h is declared and has a task, as a test
 abbrev pub busy_at : ℕ → Machines → Bool
 busy_at h m = is_busy_host (slice_get m.hosts h)
+
+-- host h is declared and keeps something of the log
+abbrev pub is_kept_host : Option HostState → Bool
+is_kept_host None = false
+is_kept_host (Some host) = is_some host.kept
+
+-- host h is declared and keeps something of the log, as a test
+abbrev pub keeps_at : ℕ → Machines → Bool
+keeps_at h m = is_kept_host (slice_get m.hosts h)
 
 -- the most hosts of a run
 abbrev pub host_limit : ℕ
@@ -124,18 +136,24 @@ abbrev pub on_host : Option ℕ → (ℕ → Option Refusal) → Option Refusal
 on_host None next = Some why.NoHost
 on_host (Some h) next = next h
 
--- a command may begin: the image has a gate, and the host no task
-abbrev pub begins_refusal : ℕ → Machines → Option Refusal
-begins_refusal h m =
-    or_else (when (nat_lt (length m.memory) least_lines) (why.ImageSmall (length m.memory))) (when (busy_at h m) (why.Busy (record { 0 = h })))
+-- a command may begin, a mount or another one: the image has a gate, and the host no task; and where a mount begins the
+-- host keeps nothing of the log
+abbrev pub begins_refusal : ℕ → Bool → Machines → Option Refusal
+begins_refusal h mount m =
+    or_else (when (nat_lt (length m.memory) least_lines) (why.ImageSmall (length m.memory)))
+    (or_else (when (busy_at h m) (why.Busy (record { 0 = h }))) (when (mount && keeps_at h m) why.Mounted))
 
--- by a host's name: why nothing may begin there
-abbrev pub may_begin : List ℕ → Machines → Option Refusal
-may_begin name m = on_host (number_of name m) (λ h. begins_refusal h m)
+-- by a host's name: why a mount, or another command, may not begin there
+abbrev pub may_begin : List ℕ → Bool → Machines → Option Refusal
+may_begin name mount m = on_host (number_of name m) (λ h. begins_refusal h mount m)
 
 -- the host has no task
 abbrev pub idle_refusal : ℕ → Machines → Option Refusal
 idle_refusal h m = when (not (busy_at h m)) why.Idle
+
+-- the host has a task, or keeps nothing that it could forget
+abbrev pub umounts_refusal : ℕ → Machines → Option Refusal
+umounts_refusal h m = or_else (when (busy_at h m) (why.Busy (record { 0 = h }))) (when (not (keeps_at h m)) why.NotMounted)
 
 -- the image has no such line
 abbrev pub line_refusal : ℕ → Machines → Option Refusal
@@ -146,11 +164,12 @@ unfoldable pub refusal_of : Call → Machines → Option Refusal
 refusal_of (Declares name uuid) m =
     or_else (same_refusal (index_of (is_same name uuid) m.hosts)) (when (nat_le host_limit (length m.hosts)) why.TooManyHosts)
 refusal_of (Makes name request) m = on_host (number_of name m) (λ h. makes_refusal request.unit request.log h m)
-refusal_of (Begins name cmd) m = on_host (number_of name m) (λ h. begins_refusal h m)
+refusal_of (Begins name cmd) m = on_host (number_of name m) (λ h. begins_refusal h (is_mount cmd) m)
 refusal_of (Steps name) m = on_host (number_of name m) (λ h. idle_refusal h m)
 refusal_of (Finishes name) m = on_host (number_of name m) (λ h. idle_refusal h m)
 refusal_of (Stops name) m = on_host (number_of name m) (λ h. idle_refusal h m)
 refusal_of (Halts name) m = on_host (number_of name m) (λ h. None)
+refusal_of (Umounts name) m = on_host (number_of name m) (λ h. umounts_refusal h m)
 refusal_of (Moves name line move) m = on_host (number_of name m) (λ h. line_refusal line m)
 refusal_of (Refuses name cause) m = None
 
@@ -168,9 +187,9 @@ IsOfSourceIn (ByFault at) = ⊥
 abbrev pub IsOfSource : Refusal → Type 0
 IsOfSource cause = IsOfSourceIn (refusal_class cause)
 
--- a refusal that may be handed in: a source's, or that of a host that may not begin
+-- a refusal that may be handed in: a source's, or that of a host that may not begin a mount or another command
 abbrev pub MayBeRefused : List ℕ → Refusal → Machines → Type 0
-MayBeRefused name cause m = IsOfSource cause ⊎ (may_begin name m ≡ Some cause)
+MayBeRefused name cause m = IsOfSource cause ⊎ ((mount : Bool) × (may_begin name mount m ≡ Some cause))
 
 -- Rows.
 
@@ -248,6 +267,7 @@ ActsAt (Finishes name) h host old notes new = Completes h old notes new
 ActsAt (Stops name) h host old notes new = (notes ≡ Stop h ∷ []) × (new ≡ with_task h None old)
 ActsAt (Halts name) h host old notes new =
     (notes ≡ Halt h ∷ []) × (new ≡ with_parts h (record { image = old.memory; cache = map.empty }) None None old)
+ActsAt (Umounts name) h host old notes new = (notes ≡ Umount h ∷ []) × (new ≡ with_kept h None old)
 ActsAt (Moves name line move) h host old notes new = Moved h line move host old notes new ⊎ MoveFails h line move name host old notes new
 ActsAt (Refuses name cause) h host old notes new = ⊥
 
@@ -271,6 +291,7 @@ Acts (Steps name) old notes new = ActsOf (Steps name) old notes new
 Acts (Finishes name) old notes new = ActsOf (Finishes name) old notes new
 Acts (Stops name) old notes new = ActsOf (Stops name) old notes new
 Acts (Halts name) old notes new = ActsOf (Halts name) old notes new
+Acts (Umounts name) old notes new = ActsOf (Umounts name) old notes new
 Acts (Moves name line move) old notes new = ActsOf (Moves name line move) old notes new
 
 -- a refused call leaves its note, and nothing else
@@ -291,6 +312,7 @@ CutsAt (Steps name) h host old notes new = ⊥
 CutsAt (Finishes name) h host old notes new = ⊥
 CutsAt (Stops name) h host old notes new = ⊥
 CutsAt (Halts name) h host old notes new = ⊥
+CutsAt (Umounts name) h host old notes new = ⊥
 CutsAt (Moves name line move) h host old notes new = ⊥
 CutsAt (Refuses name cause) h host old notes new = ⊥
 

@@ -1,5 +1,5 @@
 -- The form of a whole run's journal: which notes each event may add whatever the media holds, and how the run may end.
-use Rattle.std.specs.Prelude.{ℕ, ⊤, ◌≡◌, ◌⊎◌, ◌≤◌, List, [], ◌∷◌, ◌++◌, length, take, slice_get, Some, None}
+use Rattle.std.specs.Prelude.{ℕ, ⊤, ◌≡◌, ◌⊎◌, ◌≤◌, false, List, [], ◌∷◌, ◌++◌, length, take, slice_get, Some, None}
 use Rattle.fam_base.specs.declared.cmd.Cmd.{Cmd}
 use Rattle.fam_base.specs.declared.cmd.Cmd.TheVariants as cmd
 use Rattle.fam_base.specs.declared.cmd.Content.TheVariants as content
@@ -15,7 +15,7 @@ use Rattle.fam_journal.specs.declared.refusal.Refusal.TheVariants as why
 use Rattle.fam_journal.specs.Calls as call
 use Rattle.fam_journal.specs.Calls.{idle_refusal, may_begin, number_of, on_host}
 use Rattle.fam_journal.specs.Ends.{AllDone, Ending, MkfsFails, EndsOutOfMemory, EndsOutOfMemoryBroken, SinkFails, SourceFails}
-use Rattle.fam_journal.specs.Events.{event_source, source_of}
+use Rattle.fam_journal.specs.Events.{event_source, mounts, source_of}
 use Rattle.fam_journal.specs.Forms.{BreaksForm, CompletesForm, DoesForm, FormByRefusal, HostForm, OperationsForm, SomeForm, UnfinishedForm, forms_after, forms_behind, shown_forms}
 use Rattle.fam_journal.specs.Notes.{Note, Start, Refused}
 
@@ -47,6 +47,8 @@ UnfitForm what (why.Busy host) = ⊥
 UnfitForm what (why.Dirty host) = ⊥
 UnfitForm what (why.HasSuper uuid) = ⊥
 UnfitForm what why.Idle = ⊥
+UnfitForm what why.Mounted = ⊥
+UnfitForm what why.NotMounted = ⊥
 UnfitForm what (why.NoLine at lines) = ⊥
 UnfitForm what (why.NoFile name) = source_of what ≡ Some name
 UnfitForm what (why.CopyLimit sum) = (name : List ℕ) × (source_of what ≡ Some name)
@@ -71,10 +73,10 @@ pub record StartForm (Q : ℕ → List HostForm → List Note → Type 0) (name 
   pub notes_are : notes ≡ Start host cmd ∷ rest
   pub follow : Q host (forms_after hosts (Start host cmd)) rest
 
--- nothing may begin there; or the source is none; or a command begins
+-- it may not begin there; or the source is none; or a command begins
 abbrev pub BeginForm : (ℕ → List HostForm → List Note → Type 0) → List ℕ → Ask → ℕ → List HostForm → List Note → Type 0
 BeginForm Q name what lines hosts notes =
-    FormByRefusal name (may_begin name (shown_forms lines hosts)) notes (UnfitNotes name what notes ⊎ StartForm Q name what lines hosts notes)
+    FormByRefusal name (may_begin name (mounts what) (shown_forms lines hosts)) notes (UnfitNotes name what notes ⊎ StartForm Q name what lines hosts notes)
 
 -- no note more
 abbrev pub NoMore : ℕ → List HostForm → List Note → Type 0
@@ -102,6 +104,7 @@ EventForm (event.Step name count) lines hosts notes = StepForm count name lines 
 EventForm (event.Finish name) lines hosts notes = DoesForm (call.Finishes name) lines hosts notes
 EventForm (event.Stop name) lines hosts notes = DoesForm (call.Stops name) lines hosts notes
 EventForm (event.Halt name) lines hosts notes = DoesForm (call.Halts name) lines hosts notes
+EventForm (event.Umount name) lines hosts notes = DoesForm (call.Umounts name) lines hosts notes
 EventForm (event.Evict name line) lines hosts notes = DoesForm (call.Moves name line.0 Evict) lines hosts notes
 EventForm (event.Leak name line mask) lines hosts notes = DoesForm (call.Moves name line.0 (Leak mask.0)) lines hosts notes
 EventForm (event.Fetch name line mask) lines hosts notes = DoesForm (call.Moves name line.0 (Fetch mask.0)) lines hosts notes
@@ -116,6 +119,7 @@ EventBreaksForm (event.Step name count) lines hosts notes = ⊥
 EventBreaksForm (event.Finish name) lines hosts notes = ⊥
 EventBreaksForm (event.Stop name) lines hosts notes = ⊥
 EventBreaksForm (event.Halt name) lines hosts notes = ⊥
+EventBreaksForm (event.Umount name) lines hosts notes = ⊥
 EventBreaksForm (event.Evict name line) lines hosts notes = ⊥
 EventBreaksForm (event.Leak name line mask) lines hosts notes = ⊥
 EventBreaksForm (event.Fetch name line mask) lines hosts notes = ⊥
@@ -130,6 +134,7 @@ EventPartForm (event.Step name count) lines hosts notes = SomeForm name lines ho
 EventPartForm (event.Finish name) lines hosts notes = SomeForm name lines hosts notes
 EventPartForm (event.Stop name) lines hosts notes = ⊥
 EventPartForm (event.Halt name) lines hosts notes = ⊥
+EventPartForm (event.Umount name) lines hosts notes = ⊥
 EventPartForm (event.Evict name line) lines hosts notes = ⊥
 EventPartForm (event.Leak name line mask) lines hosts notes = ⊥
 EventPartForm (event.Fetch name line mask) lines hosts notes = ⊥
@@ -166,7 +171,7 @@ pub record FormToSource (lines : ℕ) (events : List Event) (hosts : List HostFo
   pub host : List ℕ
   pub source : List ℕ
   pub reads : event_source event ≡ Some (host, source)
-  pub free : may_begin host (shown_forms lines (forms_behind hosts journal)) ≡ None
+  pub free : may_begin host false (shown_forms lines (forms_behind hosts journal)) ≡ None
   pub follows : FollowsForm lines (take count events) hosts journal
 
 -- by how the run ends

@@ -6,6 +6,7 @@ use Rattle.fam_base.specs.declared.cmd.Cmd.TheVariants as cmd
 use Rattle.fam_base.specs.declared.cmd.Content.TheVariants as content
 use Rattle.fam_base.specs.declared.entry.Entry.{Entry}
 use Rattle.fam_base.specs.Image.{Image}
+use Rattle.fam_commands.specs.Classes.{is_mount}
 use Rattle.fam_machine.specs.MkfsRequest.{mkfs_request}
 use Rattle.fam_media.specs.Files.{Files}
 use Rattle.fam_protocol.specs.Tasks.{IsCommand}
@@ -73,22 +74,29 @@ source_of (ask.Cp source path attr stripe) = Some source
 source_of (ask.VerifySource path source) = Some source
 source_of (ask.Check source) = Some source
 
+-- an ask of a mount
+abbrev pub mounts : Ask → Bool
+mounts (ask.Plain c) = is_mount c
+mounts (ask.Cp source path attr stripe) = false
+mounts (ask.VerifySource path source) = false
+mounts (ask.Check source) = false
+
 -- Events.
 
 -- a call, which reads no source
 abbrev pub Calls : Call → Session → List Note → Session → Type 0
 Calls c old notes new = Does c old.machines notes new.machines × (new.copied ≡ old.copied)
 
--- nothing may begin there; or the source is none
-pub record MayNot (name : List ℕ) (old : Session) (notes : List Note) (new : Session) : Type 0 where
+-- what is asked for may not begin there
+pub record MayNot (name : List ℕ) (what : Ask) (old : Session) (notes : List Note) (new : Session) : Type 0 where
   pub cause : Refusal
-  pub first : may_begin name old.machines ≡ Some cause
+  pub first : may_begin name (mounts what) old.machines ≡ Some cause
   pub notes_are : notes ≡ Refused name cause ∷ []
   pub same : new ≡ old
 
 -- a host that may begin is refused what it is asked for, since its source doesn't fit; what was read of it counts
 pub record HasNoSource (files : Files) (name : List ℕ) (what : Ask) (old : Session) (notes : List Note) (new : Session) : Type 0 where
-  pub free : may_begin name old.machines ≡ None
+  pub free : may_begin name (mounts what) old.machines ≡ None
   pub cause : Refusal
   pub copied : ℕ
   pub says : SourceSays files old.copied what (Unfit cause copied)
@@ -97,11 +105,11 @@ pub record HasNoSource (files : Files) (name : List ℕ) (what : Ask) (old : Ses
 
 -- an ask is refused: its host may not begin, or its source doesn't fit
 abbrev pub RefusesEvent : Files → List ℕ → Ask → Session → List Note → Session → Type 0
-RefusesEvent files name what old notes new = MayNot name old notes new ⊎ HasNoSource files name what old notes new
+RefusesEvent files name what old notes new = MayNot name what old notes new ⊎ HasNoSource files name what old notes new
 
 -- a command begins. Its path, numbers and bytes fit: those of a source are bytes, since it was read
 pub record IsBegun (files : Files) (name : List ℕ) (what : Ask) (old : Session) (notes : List Note) (new : Session) : Type 0 where
-  pub free : may_begin name old.machines ≡ None
+  pub free : may_begin name (mounts what) old.machines ≡ None
   pub cmd : Cmd
   pub copied : ℕ
   pub says : SourceSays files old.copied what (Ready cmd copied)
@@ -146,6 +154,7 @@ DoesEvent files (event.Step name count) old notes new = StepsBy (λ h. DoesOpera
 DoesEvent files (event.Finish name) old notes new = Calls (call.Finishes name) old notes new
 DoesEvent files (event.Stop name) old notes new = Calls (call.Stops name) old notes new
 DoesEvent files (event.Halt name) old notes new = Calls (call.Halts name) old notes new
+DoesEvent files (event.Umount name) old notes new = Calls (call.Umounts name) old notes new
 DoesEvent files (event.Evict name line) old notes new = Calls (call.Moves name line.0 Evict) old notes new
 DoesEvent files (event.Leak name line mask) old notes new = Calls (call.Moves name line.0 (Leak mask.0)) old notes new
 DoesEvent files (event.Fetch name line mask) old notes new = Calls (call.Moves name line.0 (Fetch mask.0)) old notes new
@@ -161,6 +170,7 @@ BreaksEvent (event.Step name count) old notes new = ⊥
 BreaksEvent (event.Finish name) old notes new = ⊥
 BreaksEvent (event.Stop name) old notes new = ⊥
 BreaksEvent (event.Halt name) old notes new = ⊥
+BreaksEvent (event.Umount name) old notes new = ⊥
 BreaksEvent (event.Evict name line) old notes new = ⊥
 BreaksEvent (event.Leak name line mask) old notes new = ⊥
 BreaksEvent (event.Fetch name line mask) old notes new = ⊥
@@ -181,6 +191,7 @@ PartOf files (event.Step name count) old notes new = StepsBy (AtMost count) name
 PartOf files (event.Finish name) old notes new = StepsBy Unfinished name old notes new
 PartOf files (event.Stop name) old notes new = ⊥
 PartOf files (event.Halt name) old notes new = ⊥
+PartOf files (event.Umount name) old notes new = ⊥
 PartOf files (event.Evict name line) old notes new = ⊥
 PartOf files (event.Leak name line mask) old notes new = ⊥
 PartOf files (event.Fetch name line mask) old notes new = ⊥
@@ -200,6 +211,7 @@ event_source (event.Step name count) = None
 event_source (event.Finish name) = None
 event_source (event.Stop name) = None
 event_source (event.Halt name) = None
+event_source (event.Umount name) = None
 event_source (event.Evict name line) = None
 event_source (event.Leak name line mask) = None
 event_source (event.Fetch name line mask) = None

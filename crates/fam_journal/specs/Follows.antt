@@ -1,5 +1,5 @@
 -- Events, one after another, each with its notes; and how a run of events ends. docs/MODEL.md, "The journal".
-use Rattle.std.specs.Prelude.{ℕ, ⊤, ◌≡◌, ◌+◌, ◌<◌, ◌≤◌, List, [], ◌∷◌, ◌++◌, length, take, slice_get, Some, None}
+use Rattle.std.specs.Prelude.{ℕ, ⊤, ◌≡◌, ◌+◌, ◌<◌, ◌≤◌, false, List, [], ◌∷◌, ◌++◌, length, take, slice_get, Some, None}
 use Rattle.fam_base.specs.Image.{Image}
 use Rattle.fam_media.specs.Files.{Files}
 use Rattle.std.specs.FinMap as map
@@ -62,12 +62,12 @@ IsShortOf files name copied Faulted = ⊤
 IsShortOf files name copied (Short size got) =
     (bytes : List ℕ) × (map.get files name ≡ Some bytes) × (size ≡ length bytes) × (got < size) × (copied + size ≤ copy_limit)
 
--- an event that comes to its source: the host may begin
+-- an event that comes to its source, which is no mount: the host may begin
 pub record ReadsSource (files : Files) (event : Event) (end : SourceEnd) (state : Session) : Type 0 where
   pub host : List ℕ
   pub source : List ℕ
   pub reads : event_source event ≡ Some (host, source)
-  pub free : may_begin host state.machines ≡ None
+  pub free : may_begin host false state.machines ≡ None
   pub ends : IsShortOf files source state.copied end
 
 -- the events before one whose source fails are done

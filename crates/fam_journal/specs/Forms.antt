@@ -1,6 +1,6 @@
 -- The form of a journal's notes: which notes a call of the world may add whatever the media holds, by what the notes before
 -- them tell of the hosts.
-use Rattle.std.specs.Prelude.{replicate, ℕ, ◌*◌, ⊤, ◌≡◌, ◌≢◌, ◌⊎◌, ◌<◌, ◌≤◌, Bool, true, false, List, [], ◌∷◌, ◌++◌, length, map, slice_get, Option, Some, None, is_some, option_map}
+use Rattle.std.specs.Prelude.{replicate, ℕ, ◌*◌, ⊤, ◌≡◌, ◌≢◌, ◌⊎◌, ◌<◌, ◌≤◌, ◌||◌, Bool, true, false, List, [], ◌∷◌, ◌++◌, length, map, slice_get, Option, Some, None, is_some, option_map}
 use Rattle.std.specs.FinMap as finmap
 use Rattle.fam_base.specs.declared.cmd.Cmd.{Cmd}
 use Rattle.fam_base.specs.declared.cmd.Cmd.TheVariants.{Logplay, Mount, Mkdir, Creat, Cp, Verify, Read, Check, Fsck}
@@ -14,6 +14,7 @@ use Rattle.fam_commands.specs.Kept.{IsKept, Kept}
 use Rattle.fam_commands.specs.Task.{Task, no_params}
 use Rattle.fam_commands.specs.Appends.{HasWish}
 use Rattle.fam_commands.specs.Classes.{IsCheck, IsRead, IsVerify}
+use Rattle.fam_commands.specs.ReplyClasses.{is_mounted}
 use Rattle.fam_rules.specs.declared.answers.Refused.{Refused as Cause}
 use Rattle.fam_rules.specs.declared.answers.Refused.TheVariants as cause
 use Rattle.fam_rules.specs.Decide.{Wish, wish_of}
@@ -26,7 +27,7 @@ use Rattle.fam_journal.specs.Calls as call
 use Rattle.fam_journal.specs.Calls.{Call, IsOfSource, busy_refusal, cause_of, is_engaged, may_begin, name_of, number_of, on_host, refusal_of}
 use Rattle.fam_journal.specs.Machines.{HostState, Machines, TaskState, task_begun}
 use Rattle.fam_journal.specs.Members.{changed_at, index_of}
-use Rattle.fam_journal.specs.Notes.{Answer, Replied, MediaFault, Note, Host, Made, Start, Mark, Found, Writes, Answered, Stop, Halt, Refused}
+use Rattle.fam_journal.specs.Notes.{Answer, Replied, MediaFault, Note, Host, Made, Start, Mark, Found, Writes, Answered, Stop, Halt, Umount, Refused}
 use Rattle.fam_journal.specs.Past.{reported_count}
 use Rattle.fam_journal.specs.View.{HostView, StandsAs, WorldView}
 
@@ -58,6 +59,11 @@ pub record HostForm : Type 0 where
 abbrev pub with_stage : CommandStage → HostForm → HostForm
 with_stage stage host = record host { task = option_map (λ (t : TaskForm). record t { stage = stage }) host.task }
 
+-- whether it keeps something behind an answer: a mount's makes it so
+abbrev pub keeps_behind : Answer → Bool → Bool
+keeps_behind (Replied given) keeps = is_mounted given || keeps
+keeps_behind (MediaFault line) keeps = keeps
+
 -- the hosts after a note
 abbrev pub forms_after : List HostForm → Note → List HostForm
 forms_after hosts (Host name uuid) = hosts ++ record { name = name; uuid = uuid; task = None; keeps = false } ∷ []
@@ -66,9 +72,10 @@ forms_after hosts (Start h cmd) = changed_at h (λ host. record host { task = So
 forms_after hosts (Mark h) = changed_at h (with_stage Marked) hosts
 forms_after hosts (Found h n) = changed_at h (with_stage (Met n)) hosts
 forms_after hosts (Writes h seq entry) = changed_at h (with_stage (Named seq)) hosts
-forms_after hosts (Answered h answer) = changed_at h (λ host. record host { task = None }) hosts
+forms_after hosts (Answered h answer) = changed_at h (λ host. record host { task = None; keeps = keeps_behind answer host.keeps }) hosts
 forms_after hosts (Stop h) = changed_at h (λ host. record host { task = None }) hosts
 forms_after hosts (Halt h) = changed_at h (λ host. record host { task = None; keeps = false }) hosts
+forms_after hosts (Umount h) = changed_at h (λ host. record host { keeps = false }) hosts
 forms_after hosts (Refused name why) = hosts
 
 -- the hosts after some notes more
@@ -167,6 +174,7 @@ TaskNote h me t (Writes host seq entry) = (host ≡ h) × EntryForm t.cmd entry 
 TaskNote h me t (Answered host answer) = (host ≡ h) × AnswerForm me t.cmd t.stage answer
 TaskNote h me t (Stop host) = ⊥
 TaskNote h me t (Halt host) = ⊥
+TaskNote h me t (Umount host) = ⊥
 TaskNote h me t (Refused name why) = ⊥
 
 -- the host has a running command, of which this holds
@@ -232,6 +240,7 @@ refusal_told (call.Steps name) lines hosts = refusal_of (call.Steps name) (shown
 refusal_told (call.Finishes name) lines hosts = refusal_of (call.Finishes name) (shown_forms lines hosts)
 refusal_told (call.Stops name) lines hosts = refusal_of (call.Stops name) (shown_forms lines hosts)
 refusal_told (call.Halts name) lines hosts = refusal_of (call.Halts name) (shown_forms lines hosts)
+refusal_told (call.Umounts name) lines hosts = refusal_of (call.Umounts name) (shown_forms lines hosts)
 refusal_told (call.Moves name line move) lines hosts = refusal_of (call.Moves name line move) (shown_forms lines hosts)
 refusal_told (call.Refuses name why) lines hosts = refusal_of (call.Refuses name why) (shown_forms lines hosts)
 
@@ -267,6 +276,7 @@ ActsForm (call.Steps name) h host lines hosts notes = OperationsForm h hosts not
 ActsForm (call.Finishes name) h host lines hosts notes = CompletesForm h hosts notes
 ActsForm (call.Stops name) h host lines hosts notes = notes ≡ Stop h ∷ []
 ActsForm (call.Halts name) h host lines hosts notes = notes ≡ Halt h ∷ []
+ActsForm (call.Umounts name) h host lines hosts notes = notes ≡ Umount h ∷ []
 ActsForm (call.Moves name line move) h host lines hosts notes =
     (notes ≡ []) ⊎ (notes ≡ Refused name (why.MediaFault (record { 0 = line })) ∷ [])
 ActsForm (call.Refuses name why) h host lines hosts notes = ⊥
@@ -295,9 +305,10 @@ FreeForm (call.Steps name) lines hosts notes = HostActsForm (call.Steps name) li
 FreeForm (call.Finishes name) lines hosts notes = HostActsForm (call.Finishes name) lines hosts notes
 FreeForm (call.Stops name) lines hosts notes = HostActsForm (call.Stops name) lines hosts notes
 FreeForm (call.Halts name) lines hosts notes = HostActsForm (call.Halts name) lines hosts notes
+FreeForm (call.Umounts name) lines hosts notes = HostActsForm (call.Umounts name) lines hosts notes
 FreeForm (call.Moves name line move) lines hosts notes = HostActsForm (call.Moves name line move) lines hosts notes
 FreeForm (call.Refuses name why) lines hosts notes =
-    (notes ≡ Refused name why ∷ []) × (IsOfSource why ⊎ (may_begin name (shown_forms lines hosts) ≡ Some why))
+    (notes ≡ Refused name why ∷ []) × (IsOfSource why ⊎ ((mount : Bool) × (may_begin name mount (shown_forms lines hosts) ≡ Some why)))
 
 -- by the first refusal, if any
 abbrev pub FormByRefusal : List ℕ → Option Refusal → List Note → Type 0 → Type 0
@@ -318,6 +329,7 @@ BreaksForm (call.Steps name) lines hosts notes = ⊥
 BreaksForm (call.Finishes name) lines hosts notes = ⊥
 BreaksForm (call.Stops name) lines hosts notes = ⊥
 BreaksForm (call.Halts name) lines hosts notes = ⊥
+BreaksForm (call.Umounts name) lines hosts notes = ⊥
 BreaksForm (call.Moves name line move) lines hosts notes = ⊥
 BreaksForm (call.Refuses name why) lines hosts notes = ⊥
 
@@ -336,6 +348,7 @@ PartForm (call.Steps name) lines hosts notes = notes ≡ []
 PartForm (call.Finishes name) lines hosts notes = (notes ≡ []) ⊎ SomeForm name lines hosts notes
 PartForm (call.Stops name) lines hosts notes = notes ≡ []
 PartForm (call.Halts name) lines hosts notes = notes ≡ []
+PartForm (call.Umounts name) lines hosts notes = notes ≡ []
 PartForm (call.Moves name line move) lines hosts notes = notes ≡ []
 PartForm (call.Refuses name why) lines hosts notes = notes ≡ []
 

@@ -16,7 +16,7 @@ use Rattle.fam_rules.specs.Reply as reply
 use Rattle.fam_rules.specs.Reply.{Reply}
 use Rattle.fam_rules.specs.ReportLaws.{IsSoundReport}
 use Rattle.fam_rules.specs.Reports.{report_of}
-use Rattle.fam_journal.specs.Notes.{Answer, Replied, MediaFault, Note, Host, Made, Start, Mark, Found, Writes, Answered, Stop, Halt, Refused}
+use Rattle.fam_journal.specs.Notes.{Answer, Replied, MediaFault, Note, Host, Made, Start, Mark, Found, Writes, Answered, Stop, Halt, Umount, Refused}
 use Rattle.fam_journal.specs.Past.{Damage, FewLines, NoSuperblock, BadHeader, BadSlot, State, Bad, Sound, HostPast, Past, acknowledges, first_past, past_after, with_pending}
 
 -- The master's notes.
@@ -181,6 +181,7 @@ Allowed past (Writes h seq e) = OfHost (slice_get past.hosts h) (λ host. Writes
 Allowed past (Answered h answer) = OfHost (slice_get past.hosts h) (λ host. AnswerAllowed answer host past.state)
 Allowed past (Stop h) = ⊤
 Allowed past (Halt h) = ⊤
+Allowed past (Umount h) = ⊤
 Allowed past (Refused name why) = ⊤
 
 -- each of these notes is allowed behind those before it

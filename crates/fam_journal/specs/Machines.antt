@@ -62,6 +62,10 @@ with_parts h x task kept m =
 abbrev pub with_memory : Image → Machines → Machines
 with_memory image m = record m { memory = image }
 
+-- a host keeps this now
+abbrev pub with_kept : ℕ → Option Kept → Machines → Machines
+with_kept h kept m = record m { hosts = changed_at h (λ host. record host { kept = kept }) m.hosts }
+
 -- a host's task is this one now
 abbrev pub with_task : ℕ → Option TaskState → Machines → Machines
 with_task h task m = record m { hosts = changed_at h (λ host. record host { task = task }) m.hosts }

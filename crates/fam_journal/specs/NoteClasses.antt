@@ -3,7 +3,7 @@
 use Rattle.std.specs.Prelude.{ℕ, List}
 use Rattle.fam_base.specs.declared.entry.Params.{Params}
 use Rattle.fam_journal.specs.declared.refusal.Refusal.{Refusal}
-use Rattle.fam_journal.specs.Notes.{Note, Answer, Host, Made, Start, Mark, Found, Writes, Answered, Stop, Halt, Refused}
+use Rattle.fam_journal.specs.Notes.{Note, Answer, Host, Made, Start, Mark, Found, Writes, Answered, Stop, Halt, Umount, Refused}
 
 -- what a note tells
 pub data NoteClass : Type 0 where
@@ -11,7 +11,7 @@ pub data NoteClass : Type 0 where
   Declared : (name uuid : List ℕ) → NoteClass
   -- there is a new file system
   Formatted : (host : ℕ) (params : Params) → NoteClass
-  -- a host's command begins, goes on or is given up
+  -- a host's command begins, goes on or is given up, or the host forgets what it kept
   Going : (host : ℕ) → NoteClass
   -- a host's command ended with an answer
   Answering : (host : ℕ) (answer : Answer) → NoteClass
@@ -29,4 +29,5 @@ note_class (Writes host seq entry) = Going host
 note_class (Answered host answer) = Answering host answer
 note_class (Stop host) = Going host
 note_class (Halt host) = Going host
+note_class (Umount host) = Going host
 note_class (Refused name cause) = Refusing name cause

@@ -31,5 +31,7 @@ pub data Note : Type 0 where
   Stop : (host : ℕ) → Note
   -- its task ended and its cache was lost
   Halt : (host : ℕ) → Note
+  -- it forgot what it kept of the log
+  Umount : (host : ℕ) → Note
   -- a call for the host of this name was refused; after `HasSuper` and `MediaFault` operations were done before
   Refused : (name : List ℕ) (cause : Refusal) → Note

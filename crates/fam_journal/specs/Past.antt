@@ -17,7 +17,7 @@ use Rattle.fam_rules.specs.Content.{fill}
 use Rattle.fam_rules.specs.Reply.{Reply}
 use Rattle.fam_protocol.specs.After.{Named}
 use Rattle.fam_journal.specs.Members.{changed_at}
-use Rattle.fam_journal.specs.Notes.{Answer, Replied, MediaFault, Note, Host, Made, Start, Mark, Found, Writes, Answered, Stop, Halt, Refused}
+use Rattle.fam_journal.specs.Notes.{Answer, Replied, MediaFault, Note, Host, Made, Start, Mark, Found, Writes, Answered, Stop, Halt, Umount, Refused}
 use Rattle.fam_commands.specs.ReplyClasses.{ReplyClass, reply_class, Appending, Declining, Showing, Reporting, Faulty}
 
 -- The settled state.
@@ -157,6 +157,7 @@ state_after past (Writes h seq e) = pends (record { entry = e; bytes = filled_by
 state_after past (Answered h answer) = ended answer past.state
 state_after past (Stop h) = past.state
 state_after past (Halt h) = past.state
+state_after past (Umount h) = past.state
 state_after past (Refused name cause) = past.state
 
 -- a host before its first command
@@ -174,6 +175,7 @@ hosts_after past (Writes h seq e) = changed_at h (λ x. record x { wrote = Some 
 hosts_after past (Answered h answer) = past.hosts
 hosts_after past (Stop h) = past.hosts
 hosts_after past (Halt h) = past.hosts
+hosts_after past (Umount h) = past.hosts
 hosts_after past (Refused name cause) = past.hosts
 
 -- the past after a note

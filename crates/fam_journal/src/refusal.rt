@@ -27,6 +27,10 @@ pub enum Refusal {
     HasSuper(Uuid),
     /// The host has no task.
     Idle,
+    /// The host keeps something of the log already.
+    Mounted,
+    /// The host keeps nothing of the log.
+    NotMounted,
     /// The image has so many lines, and this is none of them.
     NoLine { line: u64, lines: u64 },
     /// There is no such source.

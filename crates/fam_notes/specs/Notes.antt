@@ -48,6 +48,7 @@ note_view (note.Writes host seq entry) = journal.Writes host.0 seq entry
 note_view (note.Answered host answer) = journal.Answered host.0 (answer_view answer)
 note_view (note.Stop host) = journal.Stop host.0
 note_view (note.Halt host) = journal.Halt host.0
+note_view (note.Umount host) = journal.Umount host.0
 note_view (note.Refused name cause) = journal.Refused name cause
 
 -- the journal that notes stand for

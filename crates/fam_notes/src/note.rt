@@ -51,6 +51,10 @@ pub enum Note {
     Halt {
         host: HostId,
     },
+    /// It forgot what it kept of the log.
+    Umount {
+        host: HostId,
+    },
     /// A call for the host of this name was refused.
     Refused {
         name: HostName,

@@ -57,6 +57,7 @@ IsMkfsOf own (event.Step name count) = ⊥
 IsMkfsOf own (event.Finish name) = ⊥
 IsMkfsOf own (event.Stop name) = ⊥
 IsMkfsOf own (event.Halt name) = ⊥
+IsMkfsOf own (event.Umount name) = ⊥
 IsMkfsOf own (event.Evict name line) = ⊥
 IsMkfsOf own (event.Leak name line mask) = ⊥
 IsMkfsOf own (event.Fetch name line mask) = ⊥

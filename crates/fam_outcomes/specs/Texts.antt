@@ -36,7 +36,7 @@ use Rattle.fam_rules.specs.Reply.{Reply}
 use Rattle.fam_tree.specs.Lines.{entry_line, listing, mode_text}
 use Rattle.fam_journal.specs.declared.refusal.Refusal.{Refusal}
 use Rattle.fam_journal.specs.declared.refusal.Refusal.TheVariants as why
-use Rattle.fam_journal.specs.Notes.{Answer, Replied, MediaFault, Note, Host, Made, Start, Mark, Found, Writes, Answered, Stop, Halt, Refused}
+use Rattle.fam_journal.specs.Notes.{Answer, Replied, MediaFault, Note, Host, Made, Start, Mark, Found, Writes, Answered, Stop, Halt, Umount, Refused}
 use Rattle.fam_journal.specs.NoteClasses.{NoteClass, note_class, Declared, Formatted, Going, Answering, Refusing}
 
 -- a text as a line
@@ -269,6 +269,8 @@ refusal_text names (why.Busy host) = codes "busy " ++ host_name names host.0
 refusal_text names (why.Dirty host) = codes "dirty " ++ host_name names host.0
 refusal_text names (why.HasSuper uuid) = codes "has superblock" ++ uuid_text uuid
 refusal_text names why.Idle = codes "idle"
+refusal_text names why.Mounted = codes "mounted"
+refusal_text names why.NotMounted = codes "not mounted"
 refusal_text names (why.NoLine at lines) = codes "no line" ++ number at ++ number lines
 refusal_text names (why.NoFile name) = codes "no file" ++ name_text name
 refusal_text names (why.CopyLimit sum) = codes "copy limit" ++ number sum
@@ -294,6 +296,7 @@ note_text names (Writes host seq entry) = line (codes "writes" ++ number seq ++ 
 note_text names (Answered host answer) = answer_text answer
 note_text names (Stop host) = line (codes "stop")
 note_text names (Halt host) = line (codes "halt")
+note_text names (Umount host) = line (codes "umount")
 note_text names (Refused name cause) = line (codes "refused " ++ refusal_text names cause)
 
 -- the name of a note's host; by the class of the note

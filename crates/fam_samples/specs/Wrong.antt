@@ -4,7 +4,7 @@ use Rattle.fam_rules.specs.Reply as reply
 use Rattle.fam_rules.specs.Reply.{Reply}
 use Rattle.fam_journal.specs.Legal.{Allowed, OfHost, ReplyAllowed}
 use Rattle.fam_journal.specs.Members.{changed_at}
-use Rattle.fam_journal.specs.Notes.{Answer, Replied, MediaFault, Note, Host, Made, Start, Mark, Found, Writes, Answered, Stop, Halt, Refused}
+use Rattle.fam_journal.specs.Notes.{Answer, Replied, MediaFault, Note, Host, Made, Start, Mark, Found, Writes, Answered, Stop, Halt, Umount, Refused}
 use Rattle.fam_journal.specs.Past.{HostPast, Past, State, Bad, Sound, acknowledges, past_after, settled_length, state_after}
 
 -- A floor that is taken with the gate's count, and not at the mark.
@@ -20,6 +20,7 @@ late_hosts past (Writes h seq e) = (past_after past (Writes h seq e)).hosts
 late_hosts past (Answered h answer) = past.hosts
 late_hosts past (Stop h) = past.hosts
 late_hosts past (Halt h) = past.hosts
+late_hosts past (Umount h) = past.hosts
 late_hosts past (Refused name cause) = past.hosts
 
 -- a past in which a floor is taken with the gate's count in place of the mark
@@ -45,6 +46,7 @@ dropping_state past (Writes h seq e) = state_after past (Writes h seq e)
 dropping_state past (Answered h answer) = state_after past (Answered h answer)
 dropping_state past (Stop h) = past.state
 dropping_state past (Halt h) = past.state
+dropping_state past (Umount h) = past.state
 dropping_state past (Refused name cause) = past.state
 
 -- the past behind a note, with such a count
@@ -92,6 +94,7 @@ AnyOkAllowed past (Writes h seq e) = Allowed past (Writes h seq e)
 AnyOkAllowed past (Answered h answer) = OfHost (slice_get past.hosts h) (λ host. AnyAnswerAllowed answer host past.state)
 AnyOkAllowed past (Stop h) = ⊤
 AnyOkAllowed past (Halt h) = ⊤
+AnyOkAllowed past (Umount h) = ⊤
 AnyOkAllowed past (Refused name why) = ⊤
 
 -- Journals by such definitions: what a note leaves, and which notes are allowed.
