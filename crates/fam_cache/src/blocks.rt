@@ -392,6 +392,7 @@ fn enlist(cache: &mut Blocks, number: u64, place: usize)
     ensures capacity { vec_capacity cache.old.areas ≤ vec_capacity cache.new.areas }
     ensures blocks { cache.new.blocks ≡ cache.old.blocks }
     ensures same_room { cache.new.room ≡ cache.old.room }
+    ensures same_greatest { cache.new.greatest ≡ cache.old.greatest }
 {
     let at = bisect(&cache.areas, number / 64);
     if at < cache.areas.len() {
