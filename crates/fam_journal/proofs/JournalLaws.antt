@@ -46,6 +46,7 @@ part_does start state left journal notes (call.Finishes name) kept (inl x) = ope
 part_does start state left journal notes (call.Finishes name) kept (inr x) = kept_quiet start journal notes left state x.0 x.1 kept
 part_does start state left journal notes (call.Stops name) kept x = kept_quiet start journal notes left state x.0 x.1 kept
 part_does start state left journal notes (call.Halts name) kept x = kept_quiet start journal notes left state x.0 x.1 kept
+part_does start state left journal notes (call.Umounts name) kept x = kept_quiet start journal notes left state x.0 x.1 kept
 part_does start state left journal notes (call.Moves name line move) kept x = kept_quiet start journal notes left state x.0 x.1 kept
 part_does start state left journal notes (call.Refuses name cause) kept x = kept_quiet start journal notes left state x.0 x.1 kept
 

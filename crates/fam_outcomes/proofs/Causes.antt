@@ -11,7 +11,7 @@ use Rattle.fam_outcomes.specs.declared.status.Status.{Status}
 use Rattle.fam_outcomes.specs.declared.status.Status.TheVariants as status
 use Rattle.fam_journal.specs.Ends.{AllDone, Ending, HasCounted, MkfsFails, EndsOutOfMemory, EndsOutOfMemoryBroken, SinkFails, SourceFails, faults_of, note_faults}
 use Rattle.fam_journal.specs.Follows.{Faulted, Short, SourceEnd}
-use Rattle.fam_journal.specs.Notes.{Answer, Replied, MediaFault, Note, Host, Made, Start, Mark, Found, Writes, Answered, Stop, Halt, Refused}
+use Rattle.fam_journal.specs.Notes.{Answer, Replied, MediaFault, Note, Host, Made, Start, Mark, Found, Writes, Answered, Stop, Halt, Umount, Refused}
 use Rattle.fam_outcomes.specs.Programs.{BadLine, Command, CommandRuns, Early, EndsEarly, Grammar, IsEarly, LongScript, Makes, MakesParents, NoCommand, EarlyOutOfMemory, NoScript, OfScript, OneShot, Prints, Runs, Script, ScriptCaused, ScriptFails, Single, Storm, Storms, TopEnds, done_status, early_status, script_status, shot_status, storm_status}
 use Rattle.fam_outcomes.specs.Runs.{EndsBroken, HasRisen, IsCaused, Outside, SourceCaused}
 use Rattle.fam_outcomes.specs.Statuses.{answer_status, cause_status, good_status, is_good, last_status, last_stops, note_status, parents_status, reply_status, sound_status}
@@ -81,6 +81,8 @@ cause_told name (why.Busy host) = inl tt
 cause_told name (why.Dirty host) = inl tt
 cause_told name (why.HasSuper uuid) = inl tt
 cause_told name why.Idle = inl tt
+cause_told name why.Mounted = inl tt
+cause_told name why.NotMounted = inl tt
 cause_told name (why.NoLine at lines) = inl tt
 cause_told name (why.NoFile file) = inl tt
 cause_told name (why.CopyLimit sum) = inl tt
@@ -97,6 +99,7 @@ note_told (Writes host seq entry) = inl tt
 note_told (Answered host answer) = answer_told host answer
 note_told (Stop host) = inl tt
 note_told (Halt host) = inl tt
+note_told (Umount host) = inl tt
 note_told (Refused name cause) = cause_told name cause
 
 -- more faults are told where more is said

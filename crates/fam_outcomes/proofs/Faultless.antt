@@ -40,6 +40,7 @@ module _ (files : Files) where
   event_ends (event.Finish name) old new notes clean x = tt
   event_ends (event.Stop name) old new notes clean x = tt
   event_ends (event.Halt name) old new notes clean x = tt
+  event_ends (event.Umount name) old new notes clean x = tt
   event_ends (event.Evict name line) old new notes clean x = tt
   event_ends (event.Leak name line mask) old new notes clean x = tt
   event_ends (event.Fetch name line mask) old new notes clean x = tt

@@ -20,16 +20,17 @@ use Rattle.fam_journal.specs.declared.event.Event.{Event}
 use Rattle.fam_journal.specs.declared.event.Event.TheVariants as event
 use Rattle.fam_journal.specs.declared.refusal.Refusal.{Refusal}
 use Rattle.fam_journal.specs.declared.refusal.Refusal.TheVariants as why
+use Rattle.fam_commands.specs.Classes.{is_mount}
 use Rattle.fam_journal.specs.Calls as call
-use Rattle.fam_journal.specs.Calls.{Acts, ActsAt, AtNumber, ByRefusal, Call, Does, OnHost, DoesOperations, begins_refusal, busy_at, busy_refusal, cause_of, dirty_from, dirty_refusal, has_name, host_limit, idle_refusal, is_engaged, is_same, line_refusal, makes_refusal, may_begin, name_of, number_of, on_host, refusal_of, same_refusal, when}
-use Rattle.fam_journal.specs.Events.{BytesSay, DoesEvent, IsBegun, RefusesEvent, ListingIs, MayNotStep, Session, SourceSays, Sourced, Unfit, WithinSays, copy_limit}
+use Rattle.fam_journal.specs.Calls.{Acts, ActsAt, AtNumber, ByRefusal, Call, Does, OnHost, DoesOperations, begins_refusal, busy_at, busy_refusal, cause_of, dirty_from, dirty_refusal, has_name, host_limit, idle_refusal, is_engaged, is_same, keeps_at, line_refusal, makes_refusal, may_begin, name_of, number_of, on_host, refusal_of, same_refusal, umounts_refusal, when}
+use Rattle.fam_journal.specs.Events.{BytesSay, DoesEvent, IsBegun, RefusesEvent, ListingIs, MayNotStep, Session, SourceSays, Sourced, Unfit, WithinSays, copy_limit, mounts}
 use Rattle.fam_journal.specs.Follows.{Follows}
 use Rattle.fam_journal.specs.Machines.{Done, Fails, HostState, Machines, Operation, Outcome, Passes, TaskState, cut, host_done, notes_of, op_done, operation, served, task_done}
 use Rattle.fam_journal.specs.Members.{changed_at, index_from, index_of}
 use Rattle.fam_machine.specs.Mkfs.{EarlyRefusal, early_refusal}
 use Rattle.fam_machine.specs.Mkfs as early
 use Rattle.fam_journal.specs.Names.{AreNamed, IsNamed, NameDeclared, NamesCause, declared_after}
-use Rattle.fam_journal.specs.Notes.{Note, Host, Made, Start, Mark, Found, Writes, Answered, Stop, Halt, Refused}
+use Rattle.fam_journal.specs.Notes.{Note, Host, Made, Start, Mark, Found, Writes, Answered, Stop, Halt, Umount, Refused}
 use Rattle.fam_journal.specs.Past.{HostPast, Past, hosts_after, past_after, past_behind}
 use Rattle.fam_outcomes.specs.Texts.{names_after, names_behind, note_line, render, render_behind}
 
@@ -63,6 +64,7 @@ names_one x (Writes h seq e) = sym (changed_names h _ (λ y. refl) x.hosts)
 names_one x (Answered h answer) = refl
 names_one x (Stop h) = refl
 names_one x (Halt h) = refl
+names_one x (Umount h) = refl
 names_one x (Refused name cause) = refl
 
 pub names_of_past : (x : Past) (notes : List Note) → names_behind (map (λ (y : HostPast). y.name) x.hosts) notes ≡ map (λ (y : HostPast). y.name) (past_behind x notes).hosts
@@ -135,6 +137,16 @@ module _ (m : Machines) where
   number_below : (name : List ℕ) → Below (length m.hosts) (number_of name m)
   number_below name = place_below (has_name name) m.hosts 0 (length m.hosts) (omega arith)
 
+  names_begins : (h : ℕ) (mount : Bool) → h < length m.hosts → Names (length m.hosts) (begins_refusal h mount m)
+  unfolding Names
+  names_begins h mount below =
+      names_or (length m.hosts) _ _ (names_when (length m.hosts) (nat_lt (length m.memory) Rattle.fam_format.specs.Layout.least_lines) (why.ImageSmall (length m.memory)) tt)
+      (names_or (length m.hosts) _ _ (names_when (length m.hosts) (busy_at h m) (why.Busy (record { 0 = h })) below) (names_when (length m.hosts) (mount && keeps_at h m) why.Mounted tt))
+
+  -- where a mount or another command may not begin
+  pub may_named : (name : List ℕ) (mount : Bool) → Names (length m.hosts) (may_begin name mount m)
+  may_named name mount = names_on (length m.hosts) (number_of name m) (λ h. begins_refusal h mount m) (number_below name) (λ h below. names_begins h mount below)
+
   -- a refusal names a declared host, or none
   pub refusal_named : (c : Call) → Names (length m.hosts) (refusal_of c m)
   unfolding refusal_of Names
@@ -147,14 +159,14 @@ module _ (m : Machines) where
       names_or (length m.hosts) _ _ (names_early (length m.hosts) (early_refusal request.unit request.log (line_bytes * length m.memory)))
       (names_or (length m.hosts) _ _ (names_busy (length m.hosts) (index_of is_engaged m.hosts) (place_below is_engaged m.hosts 0 (length m.hosts) (omega arith)))
       (names_dirty (length m.hosts) (dirty_from h 0 m.hosts) (dirty_below h m.hosts 0 (length m.hosts) (omega arith)))))
-  refusal_named (call.Begins name cmd) =
-      names_on (length m.hosts) (number_of name m) (λ h. begins_refusal h m) (number_below name) (λ h below.
-      names_or (length m.hosts) _ _ (names_when (length m.hosts) (nat_lt (length m.memory) Rattle.fam_format.specs.Layout.least_lines) (why.ImageSmall (length m.memory)) tt)
-      (names_when (length m.hosts) (busy_at h m) (why.Busy (record { 0 = h })) below))
+  refusal_named (call.Begins name cmd) = may_named name (is_mount cmd)
   refusal_named (call.Steps name) = names_on (length m.hosts) (number_of name m) (λ h. idle_refusal h m) (number_below name) (λ h below. names_when (length m.hosts) (not (busy_at h m)) why.Idle tt)
   refusal_named (call.Finishes name) = names_on (length m.hosts) (number_of name m) (λ h. idle_refusal h m) (number_below name) (λ h below. names_when (length m.hosts) (not (busy_at h m)) why.Idle tt)
   refusal_named (call.Stops name) = names_on (length m.hosts) (number_of name m) (λ h. idle_refusal h m) (number_below name) (λ h below. names_when (length m.hosts) (not (busy_at h m)) why.Idle tt)
   refusal_named (call.Halts name) = names_on (length m.hosts) (number_of name m) (λ h. None) (number_below name) (λ h below. tt)
+  refusal_named (call.Umounts name) =
+      names_on (length m.hosts) (number_of name m) (λ h. umounts_refusal h m) (number_below name) (λ h below.
+      names_or (length m.hosts) _ _ (names_when (length m.hosts) (busy_at h m) (why.Busy (record { 0 = h })) below) (names_when (length m.hosts) (not (keeps_at h m)) why.NotMounted tt))
   refusal_named (call.Moves name line move) = names_on (length m.hosts) (number_of name m) (λ h. line_refusal line m) (number_below name) (λ h below. names_when (length m.hosts) (nat_le (length m.memory) line) (why.NoLine line (length m.memory)) tt)
   refusal_named (call.Refuses name cause) = tt
 
@@ -198,6 +210,8 @@ cause_more n k le (why.Busy host) is = omega (arith, le, is)
 cause_more n k le (why.Dirty host) is = omega (arith, le, is)
 cause_more n k le (why.HasSuper uuid) is = tt
 cause_more n k le why.Idle is = tt
+cause_more n k le why.Mounted is = tt
+cause_more n k le why.NotMounted is = tt
 cause_more n k le (why.NoLine at lines) is = tt
 cause_more n k le (why.NoFile name) is = tt
 cause_more n k le (why.CopyLimit sum) is = tt
@@ -214,6 +228,7 @@ note_more n k le (Writes host seq entry) is = omega (arith, le, is)
 note_more n k le (Answered host answer) is = omega (arith, le, is)
 note_more n k le (Stop host) is = omega (arith, le, is)
 note_more n k le (Halt host) is = omega (arith, le, is)
+note_more n k le (Umount host) is = omega (arith, le, is)
 note_more n k le (Refused name cause) is = cause_more n k le cause is
 
 after_more : (n : ℕ) (note : Note) → n ≤ declared_after n note
@@ -226,6 +241,7 @@ after_more n (Writes host seq entry) = omega arith
 after_more n (Answered host answer) = omega arith
 after_more n (Stop host) = omega arith
 after_more n (Halt host) = omega arith
+after_more n (Umount host) = omega arith
 after_more n (Refused name cause) = omega arith
 
 -- notes that name some of these hosts, with more of them declared
@@ -244,6 +260,7 @@ after_names names (Writes host seq entry) = refl
 after_names names (Answered host answer) = refl
 after_names names (Stop host) = refl
 after_names names (Halt host) = refl
+after_names names (Umount host) = refl
 after_names names (Refused name cause) = refl
 
 behind_names : (names : List (List ℕ)) (notes : List Note) → length (names_behind names notes) ≡ declared_behind (length names) notes
@@ -327,6 +344,7 @@ act_named (call.Steps name) h host old notes new below x = operation_named h old
 act_named (call.Finishes name) h host old notes new below x = operates_named h x.count old notes new x.does
 act_named (call.Stops name) h host old notes new below x = named_as old new _ notes _ x.0 x.1 (named_same old _ _ (length-changed_at h _ old.hosts) (below, tt) refl)
 act_named (call.Halts name) h host old notes new below x = named_as old new _ notes _ x.0 x.1 (named_same old _ _ (length-changed_at h _ old.hosts) (below, tt) refl)
+act_named (call.Umounts name) h host old notes new below x = named_as old new _ notes _ x.0 x.1 (named_same old _ _ (length-changed_at h _ old.hosts) (below, tt) refl)
 act_named (call.Moves name line move) h host old notes new below (inl x) = named_as old new _ notes _ x.notes_are x.left (named_same old _ _ (length-changed_at h _ old.hosts) tt refl)
 act_named (call.Moves name line move) h host old notes new below (inr x) = named_as old new _ notes _ x.notes_are x.left (named_same old _ _ refl (tt, tt) refl)
 act_named (call.Refuses name cause) h host old notes new below x = absurd x
@@ -355,6 +373,7 @@ module _ (old : Machines) (notes : List Note) (new : Machines) where
   acts_named (call.Finishes name) may x = at_number_named (call.Finishes name) (number_of name old) x
   acts_named (call.Stops name) may x = at_number_named (call.Stops name) (number_of name old) x
   acts_named (call.Halts name) may x = at_number_named (call.Halts name) (number_of name old) x
+  acts_named (call.Umounts name) may x = at_number_named (call.Umounts name) (number_of name old) x
   acts_named (call.Moves name line move) may x = at_number_named (call.Moves name line move) (number_of name old) x
 
   -- the notes of a row name declared hosts
@@ -395,10 +414,9 @@ source_named files copied (ask.VerifySource path source) n cause after says = by
 source_named files copied (ask.Check source) n cause after says = bytes_named n source (finmap.get files source) copied ListingIs cause after (listing_named n cause after) says
 
 -- what isn't to begin
-may_named : (name : List ℕ) (m : Machines) (cause : Refusal) → may_begin name m ≡ Some cause → NamesCause (length m.hosts) cause
-unfolding Names refusal_of
-may_named name m cause is =
-    subst (Names (length m.hosts)) is (refusal_named m (call.Begins name Rattle.fam_base.specs.declared.cmd.Cmd.TheVariants.Logplay))
+begin_named : (name : List ℕ) (mount : Bool) (m : Machines) (cause : Refusal) → may_begin name mount m ≡ Some cause → NamesCause (length m.hosts) cause
+unfolding Names
+begin_named name mount m cause is = subst (Names (length m.hosts)) is (may_named m name mount)
 
 step_named : (name : List ℕ) (m : Machines) (cause : Refusal) → on_host (number_of name m) (λ h. idle_refusal h m) ≡ Some cause → NamesCause (length m.hosts) cause
 unfolding Names refusal_of
@@ -412,7 +430,7 @@ module _ (files : Files) where
   begun_named name what old new notes x = does_named old.machines notes new.machines (call.Begins name x.cmd) tt x.does
 
   refused_named : (name : List ℕ) (what : Ask) (old new : Session) (notes : List Note) → RefusesEvent files name what old notes new → Named old.machines notes new.machines
-  refused_named name what old new notes (inl x) = one_refusal name x.cause old.machines new.machines notes (may_named name old.machines x.cause x.first) x.notes_are (ap (λ (s : Session). s.machines) x.same)
+  refused_named name what old new notes (inl x) = one_refusal name x.cause old.machines new.machines notes (begin_named name (mounts what) old.machines x.cause x.first) x.notes_are (ap (λ (s : Session). s.machines) x.same)
   refused_named name what old new notes (inr x) = does_named old.machines notes new.machines (call.Refuses name x.cause) (source_named files old.copied what (length old.machines.hosts) x.cause x.copied x.says) x.does
 
   not_step_named : (name : List ℕ) (old new : Session) (notes : List Note) → MayNotStep name old notes new → Named old.machines notes new.machines
@@ -431,6 +449,7 @@ module _ (files : Files) where
   event_named (event.Finish name) old new notes x = does_named old.machines notes new.machines (call.Finishes name) tt x.0
   event_named (event.Stop name) old new notes x = does_named old.machines notes new.machines (call.Stops name) tt x.0
   event_named (event.Halt name) old new notes x = does_named old.machines notes new.machines (call.Halts name) tt x.0
+  event_named (event.Umount name) old new notes x = does_named old.machines notes new.machines (call.Umounts name) tt x.0
   event_named (event.Evict name line) old new notes x = does_named old.machines notes new.machines (call.Moves name line.0 _) tt x.0
   event_named (event.Leak name line mask) old new notes x = does_named old.machines notes new.machines (call.Moves name line.0 _) tt x.0
   event_named (event.Fetch name line mask) old new notes x = does_named old.machines notes new.machines (call.Moves name line.0 _) tt x.0

@@ -15,6 +15,7 @@ use Rattle.fam_machine.specs.declared.op.Op.{Op}
 use Rattle.fam_machine.specs.declared.op.Op.TheVariants.{Load, Store, WriteBack, Fence, Invalidate, Digest}
 use Rattle.fam_commands.specs.declared.phase.Phase.{Phase}
 use Rattle.fam_commands.specs.declared.phase.Phase.TheVariants as at
+use Rattle.fam_commands.specs.Keeping.{kept_after}
 use Rattle.fam_commands.specs.Stands.{turn_given}
 use Rattle.fam_commands.specs.Table.{data_ops}
 use Rattle.fam_machine.specs.Operations.{store_ops, line_no}
@@ -39,7 +40,7 @@ use Rattle.fam_refuted.specs.Refused.{Begins, RanSteps, Scene, ends, goes, moves
 use Rattle.fam_protocol.proofs.Lines.Free.{transfers_at, Same, same}
 use Rattle.fam_protocol.proofs.Hosts.Begins.{held_prefix}
 use Rattle.fam_protocol.proofs.Hosts.Events.{invariant_declared}
-use Rattle.fam_protocol.proofs.Hosts.Steps.{invariant_transferred, invariant_stepped, keeps_none}
+use Rattle.fam_protocol.proofs.Hosts.Steps.{invariant_transferred, invariant_stepped}
 use Rattle.fam_protocol.proofs.Lines.Stored.{part_word}
 use Rattle.fam_refuted.proofs.Scenes.{read, scene_invariant}
 
@@ -354,15 +355,15 @@ module _ (c : Scene) where
     decides_entry = let wish = has_wish (wish_of c.cmd) refl in decides c.cmd wish.0 0 wish.1 ∙ ap (append_turn (reading_task c.cmd)) wish.2
 
     -- a step of the master's task
-    steps_on : (r : Run) (o : Option Run) (settled : ℕ) (all : List File) (turn : Turn) (word : ℕ) (s s' : SharedState) → turn_given r.task word ≡ turn → run_after turn settled r ≡ o → Invariant (Known c.params all settled) (length c.image) (with_run (Some r)) s → Operates (op_of r.task) c.master s s' word → Invariant (turn_settles turn (Known c.params all settled)) (length c.image) (with_run o) s'
-    steps_on r o settled all turn word s s' is after invariant operates =
+    steps_on : (r : Run) (o : Option Run) (settled : ℕ) (all : List File) (turn : Turn) (word : ℕ) (s s' : SharedState) → turn_given r.task word ≡ turn → run_after turn settled r ≡ o → kept_after turn r.task None ≡ None → Invariant (Known c.params all settled) (length c.image) (with_run (Some r)) s → Operates (op_of r.task) c.master s s' word → Invariant (turn_settles turn (Known c.params all settled)) (length c.image) (with_run o) s'
+    steps_on r o settled all turn word s s' is after keeps invariant operates =
         let steps : Steps c.master word (Known c.params all settled) r (with_run (Some r)) (with_run o) s s' = record {
           is = rw (eq-eqb c.master c.master refl) refl;
           operates = operates;
           uuids = λ h. refl;
           mine = rw (eq-eqb c.master c.master refl, is, after) refl;
           runs = λ h ne. rw (ne_eqb h c.master ne) refl;
-          keeps = sym (keeps_none (turn_given r.task word) r.task);
+          keeps = sym keeps ∙ ap (λ (x : Turn). kept_after x r.task None) (sym is);
           kept = λ h ne. refl;
         } in
         let holds : StepHolds (Known c.params all settled) (length c.image) word r (with_run (Some r)) (with_run o) s' = invariant_stepped (length c.image) c.master word (Known c.params all settled) r (with_run (Some r)) (with_run o) s s' invariant steps in
@@ -370,16 +371,16 @@ module _ (c : Scene) where
 
     -- and names the entry
     pub invariant_named : Invariant (Known c.params (history c) (next c)) (length c.image) (with_run (Some (run_at (first_store c.entry.size)))) (solo c.image)
-    invariant_named = steps_on deciding (Some (run_at (first_store c.entry.size))) (next c) (old_history c) (Writes (next c) c.entry (writing (first_store c.entry.size))) 0 (solo c.image) (solo c.image) decides_entry refl invariant_deciding refl
+    invariant_named = steps_on deciding (Some (run_at (first_store c.entry.size))) (next c) (old_history c) (Writes (next c) c.entry (writing (first_store c.entry.size))) 0 (solo c.image) (solo c.image) decides_entry refl refl invariant_deciding refl
 
     -- the task goes on to its answer
     pub invariant_answers : {ops : List Op} {q : Phase} {words : List ℕ} {s s' : SharedState} → Answers ops q → RanSteps (all_by c.master ops) words s s' → Invariant (Known c.params (history c) (next c)) (length c.image) (with_run (Some (run_at q))) s
         → Invariant (Known c.params (history c) (settled_after (Ends (Appended (next c))) (next c))) (length c.image) (with_run None) s'
     invariant_answers {s = s} (last {q = q} is on) (goes {s' = s1} word operates ends) invariant =
-        steps_on (run_at q) None (next c) (history c) (Ends (Appended (next c))) word s s1 (on word) refl invariant (subst (λ (op : Op). Operates op c.master s s1 word) (sym is) operates)
+        steps_on (run_at q) None (next c) (history c) (Ends (Appended (next c))) word s s1 (on word) refl refl invariant (subst (λ (op : Op). Operates op c.master s s1 word) (sym is) operates)
     invariant_answers {s = s} (first {q = q} {after = after} is on rest) (goes {s' = s1} word operates more) invariant =
         invariant_answers rest more
-        (steps_on (run_at q) (Some (run_at after)) (next c) (history c) (Goes (writing after)) word s s1 (on word) refl invariant (subst (λ (op : Op). Operates op c.master s s1 word) (sym is) operates))
+        (steps_on (run_at q) (Some (run_at after)) (next c) (history c) (Goes (writing after)) word s s1 (on word) refl refl invariant (subst (λ (op : Op). Operates op c.master s s1 word) (sym is) operates))
 
     -- the reader drops lines
     pub invariant_drops : (ops : List Op) {words : List ℕ} {s s' : SharedState} (settled : ℕ) (all : List File) (r : Option Run) → AreDrops ops → RanSteps (all_by c.reader ops) words s s' → Invariant (Known c.params all settled) (length c.image) (with_run r) s → Invariant (Known c.params all settled) (length c.image) (with_run r) s'

@@ -11,6 +11,8 @@ use Rattle.fam_machine.specs.declared.cell.Cell.{Cell}
 use Rattle.fam_machine.specs.declared.cell.Cell.TheVariants.{Absent}
 use Rattle.fam_machine.specs.Caches.{Cache, IsClean, IsCleanCell, cell_at}
 use Rattle.fam_machine.specs.Operations.{Machine, operated, IsInImage}
+use Rattle.fam_commands.specs.Keeping.{kept_after}
+use Rattle.fam_commands.specs.Kept.{Kept}
 use Rattle.fam_commands.specs.Solo.{turn_on}
 use Rattle.fam_commands.specs.Stands.{turn_given}
 use Rattle.fam_commands.specs.Task.{Task, op_of, starting}
@@ -27,7 +29,7 @@ use Rattle.fam_protocol.specs.Steps.{TurnSays, Steps, run_after, settled_count, 
 use Rattle.fam_solo.proofs.Machine.{same_turn, word_of}
 use Rattle.fam_protocol.proofs.Hosts.Begins.{begins_with}
 use Rattle.fam_protocol.proofs.Hosts.Events.{one_or_two, invariant_begun}
-use Rattle.fam_protocol.proofs.Hosts.Steps.{invariant_stepped, keeps_none}
+use Rattle.fam_protocol.proofs.Hosts.Steps.{invariant_stepped}
 
 -- Host 0, and no other.
 
@@ -40,8 +42,12 @@ only one none (suc h) = none
 abbrev pub shared : Machine → SharedState
 shared m = record { memory = line_at m.image; copy = λ h l. only (cell_at m.cache l) Absent h }
 
+abbrev pub hosts_left : List ℕ → Option Run → Option Kept → Hosts
+hosts_left me run kept = record { uuid = only (Some me) None; run = only run None; kept = only kept None }
+
+-- it keeps nothing
 abbrev pub hosts_of : List ℕ → Option Run → Hosts
-hosts_of me run = record { uuid = only (Some me) None; run = only run None; kept = λ h. None }
+hosts_of me run = hosts_left me run None
 
 -- a task of host 0
 abbrev pub run_of : Task → Option ℕ → Option Named → Run
@@ -60,31 +66,31 @@ acts m m' = record { before = record { memory = λ l. refl; copies = λ l. refl 
 -- what comes of it
 pub record Stepped (settled : Settled) (lines : ℕ) (me : List ℕ) (r : Run) (turn : Turn) (m : Machine) : Type 0 where
   pub says : TurnSays turn r settled lines (hosts_of me (Some r))
-  pub invariant : Invariant (turn_settles turn settled) lines (hosts_of me (run_after turn (settled_count settled) r)) (shared m)
+  pub invariant : Invariant (turn_settles turn settled) lines (hosts_left me (run_after turn (settled_count settled) r) (kept_after turn r.task None)) (shared m)
 
 module _ (settled : Settled) (lines : ℕ) (me : List ℕ) (r : Run) (m : Machine) (invariant : Invariant settled lines (hosts_of me (Some r)) (shared m)) (inside : IsInImage (op_of r.task) m) where
-  others_idle : (x y : Option Run) (h : ℕ) → h ≢ 0 → only x None h ≡ only y None h
-  others_idle x y zero other = absurd (other refl)
-  others_idle x y (suc h) other = refl
+  others_alike : {X : Type 0} (none x y : X) (h : ℕ) → h ≢ 0 → only x none h ≡ only y none h
+  others_alike none x y zero other = absurd (other refl)
+  others_alike none x y (suc h) other = refl
 
   step : (turn : Turn) → turn_given r.task (word_of r.task m) ≡ turn
-      → Steps 0 (word_of r.task m) settled r (hosts_of me (Some r)) (hosts_of me (run_after turn (settled_count settled) r)) (shared m) (shared (operated (op_of r.task) m))
+      → Steps 0 (word_of r.task m) settled r (hosts_of me (Some r)) (hosts_left me (run_after turn (settled_count settled) r) (kept_after turn r.task None)) (shared m) (shared (operated (op_of r.task) m))
   step turn is = record {
     is = refl;
     operates = operates_by 0 m (shared m) (shared (operated (op_of r.task) m)) (op_of r.task) (acts m (operated (op_of r.task) m)) invariant.wide inside;
     uuids = λ h. refl;
     mine = ap (λ (x : Turn). run_after x (settled_count settled) r) (sym is);
-    runs = λ h other. others_idle (run_after turn (settled_count settled) r) (Some r) h other;
-    keeps = sym (keeps_none (turn_given r.task (word_of r.task m)) r.task);
-    kept = λ h other. refl;
+    runs = λ h other. others_alike None (run_after turn (settled_count settled) r) (Some r) h other;
+    keeps = ap (λ (x : Turn). kept_after x r.task None) (sym is);
+    kept = λ h other. others_alike None (kept_after turn r.task None) None h other;
   }
 
   by_turn : (turn : Turn) → turn_given r.task (word_of r.task m) ≡ turn → Stepped settled lines me r turn (operated (op_of r.task) m)
   by_turn turn is =
-      let held = invariant_stepped lines 0 (word_of r.task m) settled r (hosts_of me (Some r)) (hosts_of me (run_after turn (settled_count settled) r)) (shared m) (shared (operated (op_of r.task) m)) invariant (step turn is) in
+      let held = invariant_stepped lines 0 (word_of r.task m) settled r (hosts_of me (Some r)) (hosts_left me (run_after turn (settled_count settled) r) (kept_after turn r.task None)) (shared m) (shared (operated (op_of r.task) m)) invariant (step turn is) in
       record {
         says = subst (λ (x : Turn). TurnSays x r settled lines (hosts_of me (Some r))) is held.says;
-        invariant = subst (λ (x : Turn). Invariant (turn_settles x settled) lines (hosts_of me (run_after turn (settled_count settled) r)) (shared (operated (op_of r.task) m))) is held.invariant;
+        invariant = subst (λ (x : Turn). Invariant (turn_settles x settled) lines (hosts_left me (run_after turn (settled_count settled) r) (kept_after turn r.task None)) (shared (operated (op_of r.task) m))) is held.invariant;
       }
 
   pub stepped : Stepped settled lines me r (turn_on r.task m) (operated (op_of r.task) m)
@@ -122,7 +128,7 @@ module _ (me : List ℕ) (image : Image) (cache : Cache) (clean : IsClean cache)
 
   declared : AreHosts (hosts_of me None) (shared_with image copies)
   unfolding copies
-  declared = record { apart = apart; absent = absent; idle = idle; bare = λ h none. refl }
+  declared = record { apart = apart; absent = absent; idle = idle; bare = bare }
     where
       apart : (h k : ℕ) (id : List ℕ) → only (Some me) None h ≡ Some id → only (Some me) None k ≡ Some id → h ≡ k
       apart zero zero id one other = refl
@@ -137,13 +143,21 @@ module _ (me : List ℕ) (image : Image) (cache : Cache) (clean : IsClean cache)
       idle zero none = refl
       idle (suc h) none = refl
 
+      bare : (h : ℕ) → only (Some me) None h ≡ None → only {X = Option Kept} None None h ≡ None
+      bare zero none = refl
+      bare (suc h) none = refl
+
   all_idle : (h : ℕ) → (hosts_of me None).run h ≡ None
   all_idle zero = refl
   all_idle (suc h) = refl
 
+  all_bare : (h : ℕ) → (hosts_of me None).kept h ≡ None
+  all_bare zero = refl
+  all_bare (suc h) = refl
+
   pub rests_alone : Rests (hosts_of me None) (shared (record { image = image; cache = cache }))
   unfolding copies
-  rests_alone = record { declared = declared; owner = owner; idle = all_idle; bare = λ h. refl; clean = clean_copies }
+  rests_alone = record { declared = declared; owner = owner; idle = all_idle; bare = all_bare; clean = clean_copies }
 
 -- what an image settles at first
 pub first_settled : (image : Image) → least_lines ≤ length image → settled_at_first image ≡ settled_by (line_at image) (reading_of (line_at image) (line_bytes * length image))

@@ -18,6 +18,8 @@ use Rattle.fam_commands.specs.declared.phase.Phase.TheVariants as at
 use Rattle.fam_machine.specs.Caches.{Cache, IsClean, cell_at}
 use Rattle.fam_machine.specs.OneLine.{is_asked}
 use Rattle.fam_machine.specs.Operations.{Machine, operated, IsInImage}
+use Rattle.fam_commands.specs.Keeping.{kept_after, kept_by, read_by}
+use Rattle.fam_commands.specs.Kept.{Kept}
 use Rattle.fam_commands.specs.Solo.{SoloRun, starts, goes, turn_on}
 use Rattle.fam_commands.specs.Stands.{task_after}
 use Rattle.fam_commands.specs.Task.{Task, op_at, op_of, starting}
@@ -49,7 +51,7 @@ use Rattle.fam_machine.proofs.OneOperation.{operated_length, operated_normal}
 use Rattle.fam_solo.proofs.Machine.{Looks, ran_cmd, ran_length, ran_looks, ran_me, ran_normal, looks_end, looks_on, word_of}
 use Rattle.fam_solo.proofs.Replies.{Answers, asked, decided, refused_client, reports_sound}
 use Rattle.fam_commands.proofs.BeforeWrites.{EndsAt, SaysAt, turn_says}
-use Rattle.fam_solo.proofs.OneHost.{Stepped, first_settled, hosts_of, only, rests_alone, run_of, shared, stepped, invariant_first}
+use Rattle.fam_solo.proofs.OneHost.{Stepped, first_settled, hosts_left, hosts_of, only, rests_alone, run_of, shared, stepped, invariant_first}
 use Rattle.fam_solo.proofs.Writes.{GateAt, Writing, all_sent, all_written, ends_there, writes_on}
 use Rattle.fam_solo.proofs.Written.{appended_alike, written_normal}
 use Rattle.fam_protocol.proofs.Hosts.Begins.{held_back}
@@ -360,8 +362,10 @@ module _ (cmd : Cmd) (me : List ℕ) (image : Image) (cache : Cache) (enough : l
         let left = appended_alike p n on.e (fill (content_of cmd) on.e.size) image (operated Fence m).image (written image p n on.e (fill (content_of cmd) on.e.size)) lines
         (lines_appended p n on.e (fill (content_of cmd) on.e.size) image phase) (operated_normal Fence m (ran_normal cmd me image cache normal t words made m ran)) (written_normal image p n on.e (fill (content_of cmd) on.e.size) normal) in
         let step = stepped (Known p on.all n) (length image) me (run_of t on.floor on.named) m on.invariant inside in
+        let keeps : kept_by given (read_by t) None ≡ None = ap (λ (r : Reply). kept_by r (read_by t) None) there.1 in
         let ended : Invariant (turn_settles (Ends given) (Known p on.all n)) (length image) (hosts_of me None) (shared (operated (op_of t) m)) =
-        subst (λ (x : Turn). Invariant (turn_settles x (Known p on.all n)) (length image) (hosts_of me (run_after x n (run_of t on.floor on.named))) (shared (operated (op_of t) m))) is step.invariant in
+        subst (λ (k : Option Kept). Invariant (turn_settles (Ends given) (Known p on.all n)) (length image) (hosts_left me None k) (shared (operated (op_of t) m))) keeps
+        (subst (λ (x : Turn). Invariant (turn_settles x (Known p on.all n)) (length image) (hosts_left me (run_after x n (run_of t on.floor on.named)) (kept_after x t None)) (shared (operated (op_of t) m))) is step.invariant) in
         let one_new : max n (shown_by given) ≡ length on.all = ap (λ (r : Reply). max n (shown_by r)) (there.1 ∙ ap Appended gate_is) ∙ (let whole : max n (n + 1) ≡ length on.all = omega (arith, on.count) in whole) in
         let all_now : turn_settles (Ends given) (Known p on.all n) ≡ Known p on.all (length on.all) = ap (Known p on.all) one_new in
         let settled_now : turn_settles (Ends given) before ≡ Known p on.all (length on.all) = ap (turn_settles (Ends given)) settled ∙ all_now in

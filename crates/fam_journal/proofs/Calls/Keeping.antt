@@ -15,6 +15,7 @@ use Rattle.fam_machine.specs.declared.request.MkfsRequest.{MkfsRequest}
 use Rattle.fam_machine.specs.Caches.{Cache, dirty_count}
 use Rattle.fam_machine.specs.Operations.{Breaking, IsInImage, Failure, Machine, failed, given, operated_all}
 use Rattle.fam_machine.specs.declared.op.Op.{Op}
+use Rattle.fam_commands.specs.Classes.{is_mount}
 use Rattle.fam_commands.specs.Kept.{Kept}
 use Rattle.fam_commands.specs.Stands.{note_of, turn_given}
 use Rattle.fam_commands.specs.Task.{Task, op_of}
@@ -24,11 +25,11 @@ use Rattle.fam_rules.specs.Place.{line_bytes}
 use Rattle.fam_machine.proofs.MkfsOps.{early_free}
 use Rattle.fam_journal.specs.declared.refusal.Refusal.{Refusal}
 use Rattle.fam_journal.specs.Calls as call
-use Rattle.fam_journal.specs.Calls.{begins_refusal, is_busy, is_engaged, is_same, makes_refusal, refusal_of}
+use Rattle.fam_journal.specs.Calls.{begins_refusal, is_busy, is_busy_host, is_engaged, is_same, makes_refusal, refusal_of, umounts_refusal}
 use Rattle.fam_journal.specs.View.{HostStands, HostView, HostStandsAt, StandsAs, TaskStands, WorldView}
 use Rattle.fam_journal.specs.Kept.{copy_at, Agrees, IfRuns, Reached, TaskTold, hosts_of, run_at, run_of, run_with, shared_of, settled_of}
 use Rattle.fam_machine.specs.HostMoves.{Move, move_failed, moved}
-use Rattle.fam_journal.specs.Machines.{Done, Fails, HostState, Machines, Operation, Outcome, Passes, TaskState, cut, host_done, machine_of, next_op, notes_of, op_done, operation, task_done, with_machine, with_memory, with_task}
+use Rattle.fam_journal.specs.Machines.{Done, Fails, HostState, Machines, Operation, Outcome, Passes, TaskState, cut, host_done, machine_of, next_op, notes_of, op_done, operation, task_done, with_kept, with_machine, with_memory, with_task}
 use Rattle.fam_journal.specs.Members.{changed_at, index_of}
 use Rattle.fam_machine.specs.Mkfs.{asked, early_refusal, is_geometry, mkfs_ops, read_ops}
 use Rattle.fam_journal.specs.Notes.{Answered, MediaFault, Note, Refused}
@@ -36,7 +37,7 @@ use Rattle.fam_journal.proofs.Calls.Declares.{declared_held, member_before, memb
 use Rattle.fam_protocol.proofs.Hosts.Inside.{asks_inside}
 use Rattle.fam_journal.proofs.Calls.Members.{changed_alike, changed_at_member, changed_other}
 use Rattle.fam_journal.proofs.Calls.MkfsRows.{made_held, met_held}
-use Rattle.fam_journal.proofs.Calls.Rows.{Declared, begun_held, refused_held}
+use Rattle.fam_journal.proofs.Calls.Rows.{Declared, begun_held, refused_held, umounted_held}
 use Rattle.fam_machine.proofs.Slipping.{move_tears_line}
 use Rattle.fam_journal.proofs.Calls.TornLines.{HasBroken, cache_moved, failed_held, line_torn_held}
 use Rattle.fam_journal.proofs.Calls.Stepped.{find_host, find_task, held_next, row_done}
@@ -245,10 +246,15 @@ module _ (start : Image) (state : Machines) (journal : List Note) (kept : Reache
         go false None e = refl
         go false (Some k) e = absurd cc
 
-    pub begins_kept : (cmd : Rattle.fam_base.specs.declared.cmd.Cmd.Cmd) → IsCommand cmd → begins_refusal h state ≡ None → Reached start (with_task h (Some (Rattle.fam_journal.specs.Machines.task_begun d.host.kept cmd d.host.uuid)) state) (journal ++ Rattle.fam_journal.specs.Notes.Start h cmd ∷ [])
+    pub begins_kept : (cmd : Rattle.fam_base.specs.declared.cmd.Cmd.Cmd) → IsCommand cmd → begins_refusal h (is_mount cmd) state ≡ None → Reached start (with_task h (Some (Rattle.fam_journal.specs.Machines.task_begun d.host.kept cmd d.host.uuid)) state) (journal ++ Rattle.fam_journal.specs.Notes.Start h cmd ∷ [])
     begins_kept cmd command free =
         let enough : least_lines ≤ length state.memory = at_most least_lines (length state.memory) (no_when _ _ (or_first _ _ free)) in
         record { views = _; held = begun_held start state world held h d cmd command (omega (arith, enough, held.lines)); uuids = uuids_kept h _ (λ z. refl) state.hosts kept.uuids }
+
+    pub umounts_kept : umounts_refusal h state ≡ None → Reached start (with_kept h None state) (journal ++ Rattle.fam_journal.specs.Notes.Umount h ∷ [])
+    umounts_kept free =
+        let idle : is_busy d.host ≡ false = sym (ap is_busy_host d.host_is) ∙ no_when _ _ (or_first _ _ free) in
+        record { views = _; held = umounted_held start state world held h d (idle_of (length start) d.host d.view d.stands idle); uuids = uuids_kept h _ (λ z. refl) state.hosts kept.uuids }
 
     makes_sound : (request : MkfsRequest) → IsUuid request.fs → makes_refusal request.unit request.log h state ≡ None → SoundParams (asked request d.host.uuid (length state.memory))
     makes_sound request uuid free =

@@ -1,5 +1,5 @@
--- The rows of the world's calls but a task's operation and mkfs: a refusal, a command that begins, a stop, a halt, a
--- cache's own move, and what is left where the media fails. The world is held again.
+-- The rows of the world's calls but a task's operation and mkfs: a refusal, a command that begins, a stop, a halt, an
+-- umount, a cache's own move, and what is left where the media fails. The world is held again.
 use Rattle.std.proofs.Common.{◌≡◌, ◌≢◌, ℕ, ◌<◌, ◌≤◌, List, [], ◌∷◌, ◌++◌, length, Option, Some, None, inl, inr, refl, ap, ap₂, sym, ◌∙◌, subst}
 use Rattle.std.specs.Prelude.{slice_get}
 use Rattle.std.specs.FinMap as finmap
@@ -15,7 +15,7 @@ use Rattle.fam_machine.specs.Moves.{Transfers}
 use Rattle.fam_machine.specs.Operations.{machine}
 use Rattle.fam_commands.specs.Stands as standing
 use Rattle.fam_commands.specs.Kept.{Kept}
-use Rattle.fam_commands.specs.Task.{mounted}
+use Rattle.fam_commands.specs.Task.{Task, mounted}
 use Rattle.fam_machine.proofs.CacheLemmas.{cell_at-empty}
 use Rattle.fam_protocol.specs.After.{Run}
 use Rattle.fam_protocol.specs.Events.{Stops}
@@ -26,10 +26,10 @@ use Rattle.fam_protocol.proofs.Hosts.Events.{invariant_begun, invariant_halted, 
 use Rattle.fam_protocol.proofs.Hosts.Steps.{invariant_transferred}
 use Rattle.fam_journal.specs.declared.refusal.Refusal.{Refusal}
 use Rattle.fam_journal.specs.View.{HostStands, HostView, HostStandsAt, TaskStands, WorldView}
-use Rattle.fam_journal.specs.Kept.{Agrees, HostTold, ToldAt, copy_at, hosts_of, kept_at, run_at, shared_of, settled_of, uuid_at}
-use Rattle.fam_journal.specs.Machines.{HostState, Machines, task_begun, with_parts, with_machine, with_task}
+use Rattle.fam_journal.specs.Kept.{Agrees, HostTold, ToldAt, copy_at, hosts_of, kept_at, run_at, run_with, shared_of, settled_of, uuid_at}
+use Rattle.fam_journal.specs.Machines.{HostState, Machines, task_begun, with_kept, with_parts, with_machine, with_task}
 use Rattle.fam_journal.specs.Members.{changed_at}
-use Rattle.fam_journal.specs.Notes.{Halt, Refused, Start, Stop}
+use Rattle.fam_journal.specs.Notes.{Halt, Umount, Refused, Start, Stop}
 use Rattle.fam_journal.specs.Past.{HostPast, Past, past_behind, past_of}
 use Rattle.fam_journal.proofs.Calls.Hosts.{held_with, kept_else, kept_here, kept_same, kept_was, run_here, runs_else, stands_changed, told_changed, uuids_same}
 use Rattle.fam_protocol.proofs.Hosts.Acts.{transfers_by}
@@ -206,6 +206,31 @@ module _ (start : Image) (state : Machines) (world : WorldView) (held : Agrees s
         lost = λ l. ap (λ (o : Option HostView). copy_at o l) (changed_at_member h halts world.hosts d.view d.view_is) ∙ cell_at-empty l;
         hosts = λ k l ne. ap (λ (o : Option HostView). copy_at o l) (changed_other h k halts world.hosts ne);
       })
+
+  -- What a host without a task keeps is forgotten.
+
+  module _ (idle : d.view.task ≡ None) where
+    abbrev forgets : HostView → HostView
+    forgets v = record v { kept = None }
+
+    forgets_stops : Stops h (hosts_of world.hosts x.hosts) (hosts_of (changed_at h forgets world.hosts) x.hosts)
+    forgets_stops = record {
+      is = run_here h d.view world.hosts d.view_is forgets x.hosts d.told d.told_is ∙ ap (λ (o : Option Task). run_with o (Some d.told)) idle;
+      uuids = uuids_same h d.view world.hosts d.view_is forgets refl;
+      runs = runs_else h d.view world.hosts d.view_is forgets x.hosts x.hosts (λ k ne. refl);
+      mine = inr (kept_here h d.view world.hosts d.view_is forgets);
+      kept = λ k ne. kept_else h d.view world.hosts d.view_is forgets k ne;
+    }
+
+    pub umounted_held : Agrees start (with_kept h None state) (record { hosts = changed_at h forgets world.hosts; journal = world.journal ++ Umount h ∷ [] }) state.memory
+    umounted_held =
+        held_with start state world state.memory held (with_kept h None state) (changed_at h forgets world.hosts) (Umount h ∷ []) held.lines held.normal (tt, tt)
+        (stands_changed h d.view world.hosts d.view_is forgets (length start) state.hosts d.host d.host_is (λ z. record z { kept = None })
+        record { name = d.stands.name; uuid = d.stands.uuid; cache = d.stands.cache; task = d.stands.task; kept = refl; joined = tt } held.stands)
+        (told_changed h d.view world.hosts d.view_is forgets x.hosts x.hosts d.told d.told_is (λ k ne. refl)
+        record { name = d.host_told.name; uuid = d.host_told.uuid; task = d.host_told.task } held.told)
+        (subst (λ (s : SharedState). Invariant settled (length start) (hosts_of (changed_at h forgets world.hosts) x.hosts) s) (sym (cache_kept forgets (λ l. refl) state.memory))
+        (invariant_stopped settled (length start) h (hosts_of world.hosts x.hosts) (hosts_of (changed_at h forgets world.hosts) x.hosts) (shared_of state.memory world.hosts) held.invariant forgets_stops))
 
   -- A cache moves by itself at a line: memory has these words of it then, and the host this copy.
 

@@ -5,6 +5,7 @@ use Rattle.std.specs.Prelude.{⊤, slice_get, is_some, not, option_map, ◌==◌
 use Rattle.std.proofs.lemmas.List.{length-replicate}
 use Rattle.fam_format.specs.Stop.{or_else}
 use Rattle.fam_machine.specs.Caches.{dirty_count}
+use Rattle.fam_commands.specs.Classes.{is_mount}
 use Rattle.fam_commands.specs.Kept.{Kept}
 use Rattle.fam_commands.specs.Task.{Task}
 use Rattle.fam_rules.specs.Place.{line_bytes}
@@ -12,7 +13,7 @@ use Rattle.fam_machine.specs.Mkfs.{early_refusal}
 use Rattle.fam_journal.specs.declared.refusal.Refusal.{Refusal}
 use Rattle.fam_journal.specs.declared.refusal.Refusal.TheVariants as why
 use Rattle.fam_journal.specs.Calls as call
-use Rattle.fam_journal.specs.Calls.{Call, begins_refusal, busy_refusal, cause_of, dirty_from, dirty_refusal, has_name, host_limit, idle_refusal, is_busy_host, is_engaged, is_same, line_refusal, makes_refusal, number_of, on_host, refusal_of, same_refusal, when}
+use Rattle.fam_journal.specs.Calls.{Call, begins_refusal, busy_refusal, cause_of, dirty_from, dirty_refusal, has_name, host_limit, idle_refusal, is_busy_host, is_engaged, is_kept_host, is_same, line_refusal, makes_refusal, number_of, on_host, refusal_of, same_refusal, umounts_refusal, when}
 use Rattle.fam_journal.specs.View.{HostStands, HostView, HostStandsAt, TaskStands, WorldStands, WorldView}
 use Rattle.fam_journal.specs.ByWorld.{refusal_in, shown_host, shown_state, shown_task}
 use Rattle.fam_journal.specs.Machines.{HostState, Machines, TaskState}
@@ -54,6 +55,13 @@ busy_same h (a ∷ xs) [] alike = absurd alike
 busy_same zero (a ∷ xs) (b ∷ bs) alike = alike.0.busy
 busy_same (suc h) (a ∷ xs) (b ∷ bs) alike = busy_same h xs bs alike.1
 
+kept_same : (h : ℕ) (xs bs : List HostState) → AreAlike xs bs → is_kept_host (slice_get xs h) ≡ is_kept_host (slice_get bs h)
+kept_same h [] [] alike = refl
+kept_same h [] (b ∷ bs) alike = absurd alike
+kept_same h (a ∷ xs) [] alike = absurd alike
+kept_same zero (a ∷ xs) (b ∷ bs) alike = alike.0.keeps
+kept_same (suc h) (a ∷ xs) (b ∷ bs) alike = kept_same h xs bs alike.1
+
 count_same : (xs bs : List HostState) → AreAlike xs bs → length xs ≡ length bs
 count_same [] [] alike = refl
 count_same [] (b ∷ bs) alike = absurd alike
@@ -76,9 +84,14 @@ module _ (a b : Machines) (alike : AreAlike a.hosts b.hosts) (lines : length a.m
       ap₂ (λ (n : ℕ) (o : Option Refusal). or_else (option_map cause_of (early_refusal unit log (line_bytes * n))) o) lines
       (ap₂ (λ (x y : Option ℕ). or_else (busy_refusal x) (dirty_refusal y)) (phases is_engaged (λ x y same. ap₂ (λ (t k : Bool). t || k) same.busy same.keeps) a.hosts b.hosts 0 alike) (dirty_same h a.hosts b.hosts 0 alike))
 
-  begins_same : (h : ℕ) → begins_refusal h a ≡ begins_refusal h b
-  begins_same h =
-      ap₂ (λ (n : ℕ) (t : Bool). or_else (when (nat_lt n Rattle.fam_format.specs.Layout.least_lines) (why.ImageSmall n)) (when t (why.Busy (record { 0 = h })))) lines (busy_same h a.hosts b.hosts alike)
+  begins_same : (h : ℕ) (mount : Bool) → begins_refusal h mount a ≡ begins_refusal h mount b
+  begins_same h mount =
+      ap₂ (λ (n : ℕ) (o : Option Refusal). or_else (when (nat_lt n Rattle.fam_format.specs.Layout.least_lines) (why.ImageSmall n)) o) lines
+      (ap₂ (λ (t k : Bool). or_else (when t (why.Busy (record { 0 = h }))) (when (mount && k) why.Mounted)) (busy_same h a.hosts b.hosts alike) (kept_same h a.hosts b.hosts alike))
+
+  umounts_same : (h : ℕ) → umounts_refusal h a ≡ umounts_refusal h b
+  umounts_same h =
+      ap₂ (λ (t k : Bool). or_else (when t (why.Busy (record { 0 = h }))) (when (not k) why.NotMounted)) (busy_same h a.hosts b.hosts alike) (kept_same h a.hosts b.hosts alike)
 
   idle_same : (h : ℕ) → idle_refusal h a ≡ idle_refusal h b
   idle_same h = ap (λ (t : Bool). when (not t) why.Idle) (busy_same h a.hosts b.hosts alike)
@@ -93,11 +106,12 @@ module _ (a b : Machines) (alike : AreAlike a.hosts b.hosts) (lines : length a.m
       (phases (is_same name uuid) (λ x y same. ap₂ (λ (n u : List ℕ). Rattle.std.specs.Prelude.◌||◌ (Rattle.fam_base.specs.PathOrder.path_eq n name) (Rattle.fam_base.specs.PathOrder.path_eq u uuid)) same.name same.uuid) a.hosts b.hosts 0 alike)
       (count_same a.hosts b.hosts alike)
   refusal_same (call.Makes name request) = on_same (λ h. makes_refusal request.unit request.log h a) (λ h. makes_refusal request.unit request.log h b) name (makes_same request.unit request.log)
-  refusal_same (call.Begins name cmd) = on_same (λ h. begins_refusal h a) (λ h. begins_refusal h b) name begins_same
+  refusal_same (call.Begins name cmd) = on_same (λ h. begins_refusal h (is_mount cmd) a) (λ h. begins_refusal h (is_mount cmd) b) name (λ h. begins_same h (is_mount cmd))
   refusal_same (call.Steps name) = on_same (λ h. idle_refusal h a) (λ h. idle_refusal h b) name idle_same
   refusal_same (call.Finishes name) = on_same (λ h. idle_refusal h a) (λ h. idle_refusal h b) name idle_same
   refusal_same (call.Stops name) = on_same (λ h. idle_refusal h a) (λ h. idle_refusal h b) name idle_same
   refusal_same (call.Halts name) = on_same (λ h. None) (λ h. None) name (λ h. refl)
+  refusal_same (call.Umounts name) = on_same (λ h. umounts_refusal h a) (λ h. umounts_refusal h b) name umounts_same
   refusal_same (call.Moves name line move) = on_same (λ h. line_refusal line a) (λ h. line_refusal line b) name (λ h. line_same line)
   refusal_same (call.Refuses name cause) = refl
 

@@ -4,19 +4,19 @@ use Rattle.std.proofs.Common.{◌≡◌, ℕ, ◌+◌, inl, inr, Bool, true, fal
 use Rattle.std.specs.Prelude.{if◌then◌else◌, slice_get}
 use Rattle.std.specs.FinMap as finmap
 use Rattle.std.proofs.lemmas.Option.{same_Some}
-use Rattle.fam_base.specs.declared.cmd.Cmd.TheVariants.{Logplay}
 use Rattle.fam_commands.specs.Stands as standing
+use Rattle.fam_commands.specs.Classes.{is_mount}
 use Rattle.fam_commands.specs.Kept.{Kept}
 use Rattle.fam_commands.specs.Task.{mounted}
 use Rattle.fam_journal.specs.declared.refusal.Refusal.{Refusal}
 use Rattle.fam_journal.specs.declared.refusal.Refusal.TheVariants as why
 use Rattle.fam_journal.specs.Calls as call
-use Rattle.fam_journal.specs.Calls.{Acts, ActsAt, ActsOf, AtNumber, ByRefusal, Call, Does, MayBeRefused, OnHost, begins_refusal, has_name, idle_refusal, name_of, number_of, on_host, refusal_of}
+use Rattle.fam_journal.specs.Calls.{Acts, ActsAt, ActsOf, AtNumber, ByRefusal, Call, Does, MayBeRefused, OnHost, begins_refusal, has_name, idle_refusal, name_of, number_of, on_host, refusal_of, umounts_refusal}
 use Rattle.fam_journal.specs.View.{HostStands, HostView, HostStandsAt, TaskStands, WorldStands, WorldView}
 use Rattle.fam_journal.specs.ByWorld.{IsRow, TakesNoMedia, acted, acted_by, number_in, refusal_in, with_host, world_after}
-use Rattle.fam_journal.specs.Machines.{HostState, Machines, task_begun, with_parts, with_task}
+use Rattle.fam_journal.specs.Machines.{HostState, Machines, task_begun, with_kept, with_parts, with_task}
 use Rattle.fam_journal.specs.Members.{changed_at, index_from}
-use Rattle.fam_journal.specs.Notes.{Halt, Host, Note, Refused, Start, Stop}
+use Rattle.fam_journal.specs.Notes.{Halt, Host, Note, Refused, Start, Stop, Umount}
 use Rattle.fam_journal.proofs.Calls.Hosts.{stands_changed}
 use Rattle.fam_journal.proofs.Calls.Shown.{number_shown, refusal_shown}
 
@@ -106,7 +106,7 @@ module _ (state : Machines) (world : WorldView) (stands : WorldStands (length st
   acts (call.Begins name cmd) takes free = by_number (number_in name world) refl
     where
       by_number : (o : Option ℕ) → number_in name world ≡ o → IsRow (call.Begins name cmd) lines state world (with_host o (λ v. record v { task = Some (mounted v.kept cmd v.uuid lines) }) (λ h. Start h cmd) world)
-      by_number None is = absurd (let e : on_host (number_of name state) (λ h. begins_refusal h state) ≡ Some why.NoHost = ap (λ (o : Option ℕ). on_host o (λ h. begins_refusal h state)) (number_shown lines state world name stands ∙ is) in cc)
+      by_number None is = absurd (let e : on_host (number_of name state) (λ h. begins_refusal h (is_mount cmd) state) ≡ Some why.NoHost = ap (λ (o : Option ℕ). on_host o (λ h. begins_refusal h (is_mount cmd) state)) (number_shown lines state world name stands ∙ is) in cc)
       by_number (Some h) is =
           let p = placed name h is in
           record {
@@ -156,6 +156,20 @@ module _ (state : Machines) (world : WorldView) (stands : WorldStands (length st
             stands = changed h name p (λ z. record z { cache = finmap.empty; task = None; kept = None }) (λ v. record v { cache = finmap.empty; task = None; kept = None }) record { name = p.mine.name; uuid = p.mine.uuid; cache = refl; task = tt; kept = refl; joined = tt };
             joined = refl;
           }
+  acts (call.Umounts name) takes free = by_number (number_in name world) refl
+    where
+      by_number : (o : Option ℕ) → number_in name world ≡ o → IsRow (call.Umounts name) lines state world (with_host o (λ v. record v { kept = None }) Umount world)
+      by_number None is = absurd (let e : on_host (number_of name state) (λ h. umounts_refusal h state) ≡ Some why.NoHost = ap (λ (o : Option ℕ). on_host o (λ h. umounts_refusal h state)) (number_shown lines state world name stands ∙ is) in cc)
+      by_number (Some h) is =
+          let p = placed name h is in
+          record {
+            left = with_kept h None state;
+            notes = Umount h ∷ [];
+            row = by_none (call.Umounts name) _ _ free (acts_at (call.Umounts name) _ _ h p (refl, refl));
+            memory = refl;
+            stands = changed h name p (λ z. record z { kept = None }) (λ v. record v { kept = None }) record { name = p.mine.name; uuid = p.mine.uuid; cache = p.mine.cache; task = p.mine.task; kept = refl; joined = tt };
+            joined = refl;
+          }
   acts (call.Moves name line move) takes free = absurd takes
   acts (call.Refuses name cause) takes free = record {
     left = state;
@@ -168,7 +182,7 @@ module _ (state : Machines) (world : WorldView) (stands : WorldStands (length st
     where
       may : TakesNoMedia (call.Refuses name cause) lines world → MayBeRefused name cause state
       may (inl source) = inl source
-      may (inr is) = inr (refusal_shown lines state world (call.Begins name Logplay) stands ∙ is)
+      may (inr is) = inr (is_mount is.0, refusal_shown lines state world (call.Begins name is.0) stands ∙ is.1)
 
   pub row_done : (c : Call) → TakesNoMedia c lines world → IsRow c lines state world (world_after c lines world)
   row_done c takes = by_refusal (refusal_in c world lines) refl

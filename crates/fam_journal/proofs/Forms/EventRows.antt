@@ -5,6 +5,7 @@ use Rattle.std.specs.Prelude.{if◌then◌else◌, map, slice_get, nat_le, min, 
 use Rattle.std.specs.FinMap as finmap
 use Rattle.std.proofs.lemmas.Option.{same_Some}
 use Rattle.fam_base.specs.declared.cmd.Cmd.{Cmd}
+use Rattle.fam_commands.specs.Classes.{is_mount}
 use Rattle.fam_machine.specs.MkfsRequest.{mkfs_request}
 use Rattle.fam_media.specs.Files.{Files}
 use Rattle.fam_machine.specs.HostMoves.{Evict, Leak, Fetch}
@@ -18,7 +19,7 @@ use Rattle.fam_journal.specs.Calls as call
 use Rattle.fam_journal.specs.Calls.{Call, Completes, Does, DoesOperations, Unfinished, has_name, idle_refusal, may_begin, number_of, on_host}
 use Rattle.fam_journal.specs.Ends.{AllDone, Ending, EventsDone, MkfsFails, EndsOutOfMemory, EndsOutOfMemoryBroken, SinkFails, SourceFails}
 use Rattle.fam_journal.specs.EventForms.{AskForm, BeginForm, EndsForm, EventBreaksForm, EventForm, EventPartForm, FollowsForm, FormPrefix, FormUpTo, NoMore, StartForm, StepForm, StepsForm, UnfitForm, UnfitNotes}
-use Rattle.fam_journal.specs.Events.{BreaksEvent, BytesSay, DoesEvent, Continues, IsBegun, RefusesEvent, ListingIs, MayNotStep, PartOf, Ready, Session, SourceSays, Sourced, Unfit, WithinSays, copy_limit, source_of}
+use Rattle.fam_journal.specs.Events.{BreaksEvent, BytesSay, DoesEvent, Continues, IsBegun, RefusesEvent, ListingIs, MayNotStep, PartOf, Ready, Session, SourceSays, Sourced, Unfit, WithinSays, copy_limit, mounts, source_of}
 use Rattle.fam_journal.specs.Follows.{Follows, FollowsUpTo}
 use Rattle.fam_journal.specs.Forms.{AreFormed, CompletesForm, DoesForm, FormByRefusal, HostForm, SomeForm, UnfinishedForm, forms_after, forms_behind, shown_form, shown_forms}
 use Rattle.fam_journal.specs.Machines.{Machines}
@@ -86,6 +87,18 @@ source_ready files copied (ask.VerifySource path source) c after says =
     ready_bytes (ask.VerifySource path source) source (finmap.get files source) copied _ c after (λ bytes copied says. ready_as (ask.VerifySource path source) _ c copied after (bytes, refl) says) says
 source_ready files copied (ask.Check source) c after says = ready_bytes (ask.Check source) source (finmap.get files source) copied ListingIs c after (ready_listing source c after) says
 
+-- it is a mount just where the ask is
+pub mounts_asked : (what : Ask) (c : Cmd) → AskForm what c → mounts what ≡ is_mount c
+mounts_asked (ask.Plain own) c is = ap is_mount (sym is)
+mounts_asked (ask.Cp source path attr stripe) c is = ap is_mount (sym is.1)
+mounts_asked (ask.VerifySource path source) c is = ap is_mount (sym is.1)
+mounts_asked (ask.Check source) c is = ap is_mount (sym is.1)
+
+-- the host of a command that begins may begin it
+pub begun_free : (files : Files) (name : List ℕ) (what : Ask) (old new : Session) (notes : List Note) → (x : IsBegun files name what old notes new) → may_begin name (is_mount x.cmd) old.machines ≡ None
+begun_free files name what old new notes x =
+    sym (ap (λ (mount : Bool). may_begin name mount old.machines) (mounts_asked what x.cmd (source_ready files old.copied what x.cmd x.copied x.says))) ∙ x.free
+
 -- Events.
 
 -- a host that begins a command keeps its name
@@ -104,8 +117,8 @@ module _ (lines : ℕ) (files : Files) (old : Session) (hosts : List HostForm) (
   abbrev told : Machines
   told = shown_forms lines hosts
 
-  may : (name : List ℕ) → may_begin name m ≡ may_begin name told
-  may name = may_told lines m hosts formed name
+  may : (name : List ℕ) (mount : Bool) → may_begin name mount m ≡ may_begin name mount told
+  may name mount = may_told lines m hosts formed name mount
 
   -- a row's notes and state
   row : (c : Call) (notes : List Note) (new : Machines) → Does c m notes new → Formed (DoesForm c lines hosts) lines hosts notes new
@@ -125,7 +138,7 @@ module _ (lines : ℕ) (files : Files) (old : Session) (hosts : List HostForm) (
     unfolding call.refusal_of
     begun new notes x =
         let r = row (call.Begins name x.cmd) notes new.machines x.does in
-        by_number (number_of name told) refl r.next (subst (λ (o : Option Refusal). FormByRefusal name o notes (Rattle.fam_journal.specs.Forms.FreeForm (call.Begins name x.cmd) lines hosts notes)) (sym (may name) ∙ x.free) r.form)
+        by_number (number_of name told) refl r.next (subst (λ (o : Option Refusal). FormByRefusal name o notes (Rattle.fam_journal.specs.Forms.FreeForm (call.Begins name x.cmd) lines hosts notes)) (sym (may name (is_mount x.cmd)) ∙ begun_free files name what old new notes x) r.form)
       where
         at_host : (h : ℕ) → number_of name told ≡ Some h → AreFormed lines new.machines (forms_behind hosts notes) → (o : Option HostForm) → Rattle.fam_journal.specs.Forms.OfHostForm o (λ f. notes ≡ Start h x.cmd ∷ []) → Began name what notes new.machines
         at_host h n next None y = absurd y
@@ -136,13 +149,13 @@ module _ (lines : ℕ) (files : Files) (old : Session) (hosts : List HostForm) (
         by_number (Some h) n next y = at_host h n next (slice_get hosts h) y
 
     -- nothing may begin, or the free form
-    freed : (Q : ℕ → List HostForm → List Note → Type 0) (notes : List Note) → may_begin name m ≡ None → UnfitNotes name what notes ⊎ StartForm Q name what lines hosts notes → BeginForm Q name what lines hosts notes
-    freed Q notes free x = subst (λ (o : Option Refusal). FormByRefusal name o notes (UnfitNotes name what notes ⊎ StartForm Q name what lines hosts notes)) (sym (sym (may name) ∙ free)) x
+    freed : (Q : ℕ → List HostForm → List Note → Type 0) (notes : List Note) → may_begin name (mounts what) m ≡ None → UnfitNotes name what notes ⊎ StartForm Q name what lines hosts notes → BeginForm Q name what lines hosts notes
+    freed Q notes free x = subst (λ (o : Option Refusal). FormByRefusal name o notes (UnfitNotes name what notes ⊎ StartForm Q name what lines hosts notes)) (sym (sym (may name (mounts what)) ∙ free)) x
 
     refused : (Q : ℕ → List HostForm → List Note → Type 0) (new : Session) (notes : List Note) → RefusesEvent files name what old notes new → Formed (BeginForm Q name what lines hosts) lines hosts notes new.machines
     unfolding call.refusal_of
     refused Q new notes (inl x) = record {
-      form = subst (λ (o : Option Refusal). FormByRefusal name o notes (UnfitNotes name what notes ⊎ StartForm Q name what lines hosts notes)) (sym (sym (may name) ∙ x.first)) x.notes_are;
+      form = subst (λ (o : Option Refusal). FormByRefusal name o notes (UnfitNotes name what notes ⊎ StartForm Q name what lines hosts notes)) (sym (sym (may name (mounts what)) ∙ x.first)) x.notes_are;
       next = subst (λ (z : List Note). AreFormed lines new.machines (forms_behind hosts z)) (sym x.notes_are) (subst (λ (z : Session). AreFormed lines z.machines hosts) (sym x.same) formed);
     }
     refused Q new notes (inr x) = record {
@@ -221,6 +234,7 @@ module _ (lines : ℕ) (files : Files) (old : Session) (hosts : List HostForm) (
   event_form (event.Finish name) notes new x = row (call.Finishes name) notes new.machines x.0
   event_form (event.Stop name) notes new x = row (call.Stops name) notes new.machines x.0
   event_form (event.Halt name) notes new x = row (call.Halts name) notes new.machines x.0
+  event_form (event.Umount name) notes new x = row (call.Umounts name) notes new.machines x.0
   event_form (event.Evict name line) notes new x = row (call.Moves name line.0 Evict) notes new.machines x.0
   event_form (event.Leak name line mask) notes new x = row (call.Moves name line.0 (Leak mask.0)) notes new.machines x.0
   event_form (event.Fetch name line mask) notes new x = row (call.Moves name line.0 (Fetch mask.0)) notes new.machines x.0
@@ -234,6 +248,7 @@ module _ (lines : ℕ) (files : Files) (old : Session) (hosts : List HostForm) (
   event_breaks (event.Finish name) notes new x = absurd x
   event_breaks (event.Stop name) notes new x = absurd x
   event_breaks (event.Halt name) notes new x = absurd x
+  event_breaks (event.Umount name) notes new x = absurd x
   event_breaks (event.Evict name line) notes new x = absurd x
   event_breaks (event.Leak name line mask) notes new x = absurd x
   event_breaks (event.Fetch name line mask) notes new x = absurd x
@@ -250,6 +265,7 @@ module _ (lines : ℕ) (files : Files) (old : Session) (hosts : List HostForm) (
   event_part (event.Finish name) notes new x = unfinished name x.host notes new.machines x.number x.does
   event_part (event.Stop name) notes new x = absurd x
   event_part (event.Halt name) notes new x = absurd x
+  event_part (event.Umount name) notes new x = absurd x
   event_part (event.Evict name line) notes new x = absurd x
   event_part (event.Leak name line mask) notes new x = absurd x
   event_part (event.Fetch name line mask) notes new x = absurd x
@@ -300,7 +316,7 @@ module _ (lines : ℕ) (files : Files) where
           host = x.reads.host;
           source = x.reads.source;
           reads = x.reads.reads;
-          free = sym (may_told lines new.machines (forms_behind hosts journal) whole.next x.reads.host) ∙ x.reads.free;
+          free = sym (may_told lines new.machines (forms_behind hosts journal) whole.next x.reads.host false) ∙ x.reads.free;
           follows = whole.form;
         }
     ends_form EndsOutOfMemory (inl x) = inl (prefix x.count x.follows)

@@ -73,6 +73,7 @@ module _ (lines : ℕ) (state left : Machines) (hosts : List HostForm) (notes : 
   cut_form (call.Finishes name) x = absurd (no_cut (call.Finishes name) (λ h host z. z) (number_of name state) x.1)
   cut_form (call.Stops name) x = absurd (no_cut (call.Stops name) (λ h host z. z) (number_of name state) x.1)
   cut_form (call.Halts name) x = absurd (no_cut (call.Halts name) (λ h host z. z) (number_of name state) x.1)
+  cut_form (call.Umounts name) x = absurd (no_cut (call.Umounts name) (λ h host z. z) (number_of name state) x.1)
   cut_form (call.Moves name line move) x = absurd (no_cut (call.Moves name line move) (λ h host z. z) (number_of name state) x.1)
   cut_form (call.Refuses name cause) x = absurd (no_cut (call.Refuses name cause) (λ h host z. z) (number_of name state) x.1)
 
@@ -86,6 +87,7 @@ module _ (lines : ℕ) (state left : Machines) (hosts : List HostForm) (notes : 
   part_form (call.Finishes name) (inr x) = inl x.0
   part_form (call.Stops name) x = x.0
   part_form (call.Halts name) x = x.0
+  part_form (call.Umounts name) x = x.0
   part_form (call.Moves name line move) x = x.0
   part_form (call.Refuses name cause) x = x.0
 

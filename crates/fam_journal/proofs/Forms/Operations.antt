@@ -29,7 +29,7 @@ use Rattle.fam_rules.specs.Reply as reply
 use Rattle.fam_rules.specs.Reply.{Reply}
 use Rattle.fam_base.specs.declared.cmd.Cmd.{Cmd}
 use Rattle.fam_journal.specs.Calls.{DoesOperations, is_busy_host}
-use Rattle.fam_journal.specs.Forms.{AreFormed, EntryForm, HostForm, IsStateTask, IsTaskForm, Marked, Met, Named, OfRunning, OfTask, OperationsForm, Pairs, ReplyForm, CommandStage, StateFormed, StateTaskFormed, TaskForm, TaskNote, forms_after, forms_behind, runs_form, shown_form, shown_keeping, shown_running, stage_of, with_stage}
+use Rattle.fam_journal.specs.Forms.{AreFormed, EntryForm, HostForm, IsStateTask, IsTaskForm, Marked, Met, Named, OfRunning, OfTask, OperationsForm, Pairs, ReplyForm, CommandStage, StateFormed, StateTaskFormed, TaskForm, TaskNote, forms_after, forms_behind, keeps_behind, runs_form, shown_form, shown_keeping, shown_running, stage_of, with_stage}
 use Rattle.fam_journal.specs.Machines as machine
 use Rattle.fam_journal.specs.Machines.{Done, Fails, HostState, Machines, Operation, Outcome, Passes, TaskState, cut, host_done, host_keeps, machine_of, next_op, notes_of, op_done, operation, served, task_done, task_on, with_parts, with_machine}
 use Rattle.fam_journal.specs.Members.{changed_at}
@@ -80,19 +80,25 @@ pub forms_both : (hosts : List HostForm) (a b : List Note) → forms_behind host
 forms_both hosts [] b = refl
 forms_both hosts (n ∷ a) b = forms_both (forms_after hosts n) a b
 
--- a host keeps something behind a turn where it did before
-pub keeps_some : (z : Turn) (t : Task) (k : Option Kept) → is_some (kept_after z t k) ≡ is_some k
+-- whether a host keeps something behind a turn: where it did before, and where a mount has its reply
+abbrev pub keeps_turned : Turn → Bool → Bool
+keeps_turned (Goes n) keeps = keeps
+keeps_turned (Marks n) keeps = keeps
+keeps_turned (Finds count n) keeps = keeps
+keeps_turned (Writes seq e n) keeps = keeps
+keeps_turned (Ends given) keeps = keeps_behind (note.Replied given) keeps
+
+pub keeps_some : (z : Turn) (t : Task) (k : Option Kept) → is_some (kept_after z t k) ≡ keeps_turned z (is_some k)
 keeps_some (Goes n) t k = refl
 keeps_some (Marks n) t k = refl
 keeps_some (Finds count n) t k = refl
 keeps_some (Writes seq e n) t k = refl
 keeps_some (Ends given) t k = by_reply given k
   where
-    by_reply : (r : Reply) (o : Option Kept) → is_some (kept_by r (read_by t) o) ≡ is_some o
+    by_reply : (r : Reply) (o : Option Kept) → is_some (kept_by r (read_by t) o) ≡ keeps_behind (note.Replied r) (is_some o)
     by_reply (reply.Played m tree) None = refl
     by_reply (reply.Played m tree) (Some x) = refl
-    by_reply (reply.Mounted m) None = refl
-    by_reply (reply.Mounted m) (Some x) = refl
+    by_reply (reply.Mounted m) o = refl
     by_reply other o = refl
 
 pub shown_keeps : (b : Bool) → is_some (shown_keeping b) ≡ b
@@ -182,8 +188,8 @@ module _ (lines : ℕ) (m : Machines) (hosts : List HostForm) (formed : AreForme
       abbrev keeps : Turn → Option Kept
       keeps z = kept_after z t host.kept
 
-      keeps_told : (z : Turn) → f.keeps ≡ is_some (keeps z)
-      keeps_told z = is.keeps ∙ sym (keeps_some z t host.kept)
+      keeps_told : (z : Turn) → keeps_turned z f.keeps ≡ is_some (keeps z)
+      keeps_told z = ap (keeps_turned z) is.keeps ∙ sym (keeps_some z t host.kept)
 
       keeps_joined : (z : Turn) → turn_given t word ≡ z → IsKept (keeps z)
       keeps_joined z e = subst (λ (y : Turn). IsKept (keeps y)) e (kept_joins s.kept s.cmd s.me lines t s.words s.made stands.joined stands.stands word host.kept is.joined)
@@ -199,14 +205,14 @@ module _ (lines : ℕ) (m : Machines) (hosts : List HostForm) (formed : AreForme
         is = record { cmd = where_it_is.cmd ∙ sym next.cmd_is; me_is = next.me_is ∙ where_it_is.me_is; stage = sym next.stage_is };
       }
 
-      staged : (z : Turn) (n : Task) (stage : CommandStage) → turn_given t word ≡ z → task_after z ≡ Some n → IsNext t.me t.cmd stage n → AreFormed lines (with_parts h x (Some (task_on s got)) (keeps z) m) (changed_at h (with_stage stage) hosts)
-      staged z n stage e goes next =
+      staged : (z : Turn) (n : Task) (stage : CommandStage) → turn_given t word ≡ z → task_after z ≡ Some n → IsNext t.me t.cmd stage n → f.keeps ≡ is_some (keeps z) → AreFormed lines (with_parts h x (Some (task_on s got)) (keeps z) m) (changed_at h (with_stage stage) hosts)
+      staged z n stage e goes next told =
           form_changed x (Some (task_on s got)) (keeps z) (with_stage stage) same
           record {
             name = is.name;
             uuid = is.uuid;
             task = subst (λ (o : Option TaskForm). StateTaskFormed lines host.uuid (Some (task_on s got)) (option_map (λ (y : TaskForm). record y { stage = stage }) o)) (sym g_is) (goes_on z n stage e goes next);
-            keeps = keeps_told z;
+            keeps = told;
             joined = keeps_joined z e;
           }
 
@@ -226,22 +232,22 @@ module _ (lines : ℕ) (m : Machines) (hosts : List HostForm) (formed : AreForme
       turned (Marks n) e next = record {
         form = (running (note.Mark h) (refl, where_it_is.stage ∙ next.0), tt);
         within = omega arith;
-        next = staged (Marks n) n Marked e refl next.1;
+        next = staged (Marks n) n Marked e refl next.1 (keeps_told (Marks n));
       }
       turned (Finds k n) e next = record {
         form = (running (note.Found h k) (refl, subst HasWish (sym where_it_is.cmd) next.0, where_it_is.stage ∙ next.1), tt);
         within = omega arith;
-        next = staged (Finds k n) n (Met k) e refl next.2;
+        next = staged (Finds k n) n (Met k) e refl next.2 (keeps_told (Finds k n));
       }
       turned (Writes seq entry n) e next = record {
         form = (running (note.Writes h seq entry) (refl, subst (λ (c : Cmd). EntryForm c entry) (sym where_it_is.cmd) next.0, where_it_is.stage ∙ next.1), tt);
         within = omega arith;
-        next = staged (Writes seq entry n) n (Named seq) e refl next.2;
+        next = staged (Writes seq entry n) n (Named seq) e refl next.2 (keeps_told (Writes seq entry n));
       }
       turned (Ends given) e next = record {
         form = (running (note.Answered h (note.Replied given)) (refl, reply_form given next), tt);
         within = omega arith;
-        next = form_changed x None (keeps (Ends given)) (λ z. record z { task = None }) same record { name = is.name; uuid = is.uuid; task = tt; keeps = keeps_told (Ends given); joined = keeps_joined (Ends given) e };
+        next = form_changed x None (keeps (Ends given)) (λ z. record z { task = None; keeps = keeps_behind (note.Replied given) z.keeps }) same record { name = is.name; uuid = is.uuid; task = tt; keeps = keeps_told (Ends given); joined = keeps_joined (Ends given) e };
       }
 
     abbrev own : Machine

@@ -9,7 +9,8 @@ use Rattle.fam_base.specs.PathOrder.{path_eq}
 use Rattle.fam_journal.specs.declared.refusal.Refusal.{Refusal}
 use Rattle.fam_journal.specs.declared.refusal.Refusal.TheVariants as why
 use Rattle.fam_journal.specs.Calls as call
-use Rattle.fam_journal.specs.Calls.{Call, begins_refusal, dirty_from, has_name, host_limit, idle_refusal, is_busy_host, is_engaged, is_same, line_refusal, number_of, on_host, refusal_of, same_refusal, when}
+use Rattle.fam_journal.specs.Calls.{Call, begins_refusal, dirty_from, has_name, host_limit, idle_refusal, is_busy_host, is_engaged, is_kept_host, is_same, line_refusal, number_of, on_host, refusal_of, same_refusal, umounts_refusal, when}
+use Rattle.fam_commands.specs.Classes.{is_mount}
 use Rattle.fam_format.specs.Stop.{or_else}
 use Rattle.fam_format.specs.Layout.{least_lines}
 use Rattle.fam_machine.specs.Caches.{dirty_count}
@@ -79,6 +80,13 @@ busy_same h (a ∷ xs) [] alike = absurd alike
 busy_same zero (a ∷ xs) (b ∷ bs) alike = alike.0.busy
 busy_same (suc h) (a ∷ xs) (b ∷ bs) alike = busy_same h xs bs alike.1
 
+kept_same : (h : ℕ) (xs bs : List HostState) → Pairs Looks xs bs → is_kept_host (slice_get xs h) ≡ is_kept_host (slice_get bs h)
+kept_same h [] [] alike = refl
+kept_same h [] (b ∷ bs) alike = absurd alike
+kept_same h (a ∷ xs) [] alike = absurd alike
+kept_same zero (a ∷ xs) (b ∷ bs) alike = alike.0.keeps
+kept_same (suc h) (a ∷ xs) (b ∷ bs) alike = kept_same h xs bs alike.1
+
 -- all calls but the making of a file system, which looks at dirty lines
 abbrev pub IsNoMake : Call → Type 0
 IsNoMake (call.Declares name uuid) = ⊤
@@ -88,6 +96,7 @@ IsNoMake (call.Steps name) = ⊤
 IsNoMake (call.Finishes name) = ⊤
 IsNoMake (call.Stops name) = ⊤
 IsNoMake (call.Halts name) = ⊤
+IsNoMake (call.Umounts name) = ⊤
 IsNoMake (call.Moves name line move) = ⊤
 IsNoMake (call.Refuses name cause) = ⊤
 
@@ -105,9 +114,14 @@ module _ (a b : Machines) (alike : Pairs Looks a.hosts b.hosts) (lines : length 
       by_number None = refl
       by_number (Some h) = each h
 
-  begins_same : (h : ℕ) → begins_refusal h a ≡ begins_refusal h b
-  begins_same h =
-      ap₂ (λ (n : ℕ) (t : Bool). or_else (when (nat_lt n least_lines) (why.ImageSmall n)) (when t (why.Busy (record { 0 = h })))) lines (busy_same h a.hosts b.hosts alike)
+  begins_same : (h : ℕ) (mount : Bool) → begins_refusal h mount a ≡ begins_refusal h mount b
+  begins_same h mount =
+      ap₂ (λ (n : ℕ) (o : Option Refusal). or_else (when (nat_lt n least_lines) (why.ImageSmall n)) o) lines
+      (ap₂ (λ (t k : Bool). or_else (when t (why.Busy (record { 0 = h }))) (when (mount && k) why.Mounted)) (busy_same h a.hosts b.hosts alike) (kept_same h a.hosts b.hosts alike))
+
+  umounts_same : (h : ℕ) → umounts_refusal h a ≡ umounts_refusal h b
+  umounts_same h =
+      ap₂ (λ (t k : Bool). or_else (when t (why.Busy (record { 0 = h }))) (when (not k) why.NotMounted)) (busy_same h a.hosts b.hosts alike) (kept_same h a.hosts b.hosts alike)
 
   idle_same : (h : ℕ) → idle_refusal h a ≡ idle_refusal h b
   idle_same h = ap (λ (t : Bool). when (not t) why.Idle) (busy_same h a.hosts b.hosts alike)
@@ -115,8 +129,8 @@ module _ (a b : Machines) (alike : Pairs Looks a.hosts b.hosts) (lines : length 
   line_same : (line : ℕ) → line_refusal line a ≡ line_refusal line b
   line_same line = ap (λ (n : ℕ). when (nat_le n line) (why.NoLine line n)) lines
 
-  pub may_same : (name : List ℕ) → on_host (number_of name a) (λ h. begins_refusal h a) ≡ on_host (number_of name b) (λ h. begins_refusal h b)
-  may_same name = on_same (λ h. begins_refusal h a) (λ h. begins_refusal h b) name begins_same
+  pub may_same : (name : List ℕ) (mount : Bool) → on_host (number_of name a) (λ h. begins_refusal h mount a) ≡ on_host (number_of name b) (λ h. begins_refusal h mount b)
+  may_same name mount = on_same (λ h. begins_refusal h mount a) (λ h. begins_refusal h mount b) name (λ h. begins_same h mount)
 
   pub step_same : (name : List ℕ) → on_host (number_of name a) (λ h. idle_refusal h a) ≡ on_host (number_of name b) (λ h. idle_refusal h b)
   step_same name = on_same (λ h. idle_refusal h a) (λ h. idle_refusal h b) name idle_same
@@ -128,11 +142,12 @@ module _ (a b : Machines) (alike : Pairs Looks a.hosts b.hosts) (lines : length 
       (phases (is_same name uuid) (λ x y same. ap₂ (λ (n u : List ℕ). Rattle.std.specs.Prelude.◌||◌ (path_eq n name) (path_eq u uuid)) same.name same.uuid) a.hosts b.hosts 0 alike)
       (pairs_length Looks a.hosts b.hosts alike)
   refusal_looks (call.Makes name request) other = absurd other
-  refusal_looks (call.Begins name cmd) other = may_same name
+  refusal_looks (call.Begins name cmd) other = may_same name (is_mount cmd)
   refusal_looks (call.Steps name) other = step_same name
   refusal_looks (call.Finishes name) other = step_same name
   refusal_looks (call.Stops name) other = step_same name
   refusal_looks (call.Halts name) other = on_same (λ h. None) (λ h. None) name (λ h. refl)
+  refusal_looks (call.Umounts name) other = on_same (λ h. umounts_refusal h a) (λ h. umounts_refusal h b) name umounts_same
   refusal_looks (call.Moves name line move) other = on_same (λ h. line_refusal line a) (λ h. line_refusal line b) name (λ h. line_same line)
   refusal_looks (call.Refuses name cause) other = refl
 

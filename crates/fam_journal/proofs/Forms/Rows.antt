@@ -47,8 +47,8 @@ module _ (lines : ℕ) (m : Machines) (hosts : List HostForm) (formed : AreForme
   pub number_told : (name : List ℕ) → number_of name m ≡ number_of name told
   number_told name = number_same m told look same_lines name
 
-  pub may_told : (name : List ℕ) → may_begin name m ≡ may_begin name told
-  may_told name = may_same m told look same_lines name
+  pub may_told : (name : List ℕ) (mount : Bool) → may_begin name mount m ≡ may_begin name mount told
+  may_told name mount = may_same m told look same_lines name mount
 
   pub step_told : (name : List ℕ) → on_host (number_of name m) (λ h. call.idle_refusal h m) ≡ on_host (number_of name told) (λ h. call.idle_refusal h told)
   step_told name = step_same m told look same_lines name
@@ -121,6 +121,15 @@ module _ (lines : ℕ) (m : Machines) (hosts : List HostForm) (formed : AreForme
     act_form (call.Halts name) notes new x =
         formed_as (ActsForm (call.Halts name) h f lines hosts) lines hosts notes _ new _ x.0 x.1
         record { form = refl; next = form_halted lines m hosts formed h host host_is f f_is is (record { image = m.memory; cache = finmap.empty }) refl }
+    act_form (call.Umounts name) notes new x =
+        formed_as (ActsForm (call.Umounts name) h f lines hosts) lines hosts notes _ new _ x.0 x.1
+        record {
+          form = refl;
+          next = record {
+            lines_are = formed.lines_are;
+            formed = pairs_changed (StateFormed lines) m.hosts hosts h host f _ _ formed.formed host_is f_is record { name = is.name; uuid = is.uuid; task = is.task; keeps = refl; joined = tt };
+          };
+        }
     act_form (call.Moves name line move) notes new (inl x) =
         formed_as (ActsForm (call.Moves name line move) h f lines hosts) lines hosts notes [] new _ x.notes_are x.left
         record { form = inl refl; next = stays [] _ refl (length-with_line m.memory line (moved_words move (line_at m.memory line) (cell_at host.cache line))) }
@@ -155,9 +164,9 @@ module _ (lines : ℕ) (m : Machines) (hosts : List HostForm) (formed : AreForme
     pub noted : (P : List Note → Type 0) (name : List ℕ) (cause : Refusal) → P (Refused name cause ∷ []) → notes ≡ Refused name cause ∷ [] → new ≡ m → Formed P lines hosts notes new
     noted P name cause form e same = formed_as P lines hosts notes _ new m e same record { form = form; next = formed }
 
-    may_refuse : (name : List ℕ) (cause : Refusal) → MayBeRefused name cause m → call.IsOfSource cause ⊎ (may_begin name told ≡ Some cause)
+    may_refuse : (name : List ℕ) (cause : Refusal) → MayBeRefused name cause m → call.IsOfSource cause ⊎ ((mount : Bool) × (may_begin name mount told ≡ Some cause))
     may_refuse name cause (inl x) = inl x
-    may_refuse name cause (inr x) = inr (sym (may_told name) ∙ x)
+    may_refuse name cause (inr x) = inr (x.0, sym (may_told name x.0) ∙ x.1)
 
     acts_form : (c : Call) → Acts c m notes new → Formed (FreeForm c lines hosts) lines hosts notes new
     acts_form (call.Declares name uuid) x =
@@ -173,6 +182,7 @@ module _ (lines : ℕ) (m : Machines) (hosts : List HostForm) (formed : AreForme
     acts_form (call.Finishes name) x = acts_of (call.Finishes name) x
     acts_form (call.Stops name) x = acts_of (call.Stops name) x
     acts_form (call.Halts name) x = acts_of (call.Halts name) x
+    acts_form (call.Umounts name) x = acts_of (call.Umounts name) x
     acts_form (call.Moves name line move) x = acts_of (call.Moves name line move) x
 
     -- by the first refusal, which is the same
@@ -282,5 +292,6 @@ module _ (lines : ℕ) (m : Machines) (hosts : List HostForm) (formed : AreForme
     does_form (call.Finishes name) x = does_by (call.Finishes name) (refusal_looks m told look same_lines (call.Finishes name) tt) x
     does_form (call.Stops name) x = does_by (call.Stops name) (refusal_looks m told look same_lines (call.Stops name) tt) x
     does_form (call.Halts name) x = does_by (call.Halts name) (refusal_looks m told look same_lines (call.Halts name) tt) x
+    does_form (call.Umounts name) x = does_by (call.Umounts name) (refusal_looks m told look same_lines (call.Umounts name) tt) x
     does_form (call.Moves name line move) x = does_by (call.Moves name line move) (refusal_looks m told look same_lines (call.Moves name line move) tt) x
     does_form (call.Refuses name cause) x = does_by (call.Refuses name cause) (refusal_looks m told look same_lines (call.Refuses name cause) tt) x

@@ -13,14 +13,14 @@ use Rattle.fam_rules.specs.Reply.{Reply}
 use Rattle.fam_journal.specs.declared.refusal.Refusal.{Refusal}
 use Rattle.fam_journal.specs.Calls as call
 use Rattle.fam_journal.specs.Calls.{Call, number_of, refusal_of}
-use Rattle.fam_journal.specs.Forms.{AtForm, DoesForm, EntryForm, FormByRefusal, FreeForm, HostForm, HostFormed, IsFormed, IsTaskForm, Marked, Met, Named, OfHostForm, OfRunning, OfTask, OperationsForm, Pairs, ReplyForm, CommandStage, TaskForm, TaskFormed, TaskNote, ActsForm, forms_behind, forms_of, shown_form, shown_forms, shown_running, stage_of, with_stage}
+use Rattle.fam_journal.specs.Forms.{AtForm, DoesForm, EntryForm, FormByRefusal, FreeForm, HostForm, HostFormed, IsFormed, IsTaskForm, Marked, Met, Named, OfHostForm, OfRunning, OfTask, OperationsForm, Pairs, ReplyForm, CommandStage, TaskForm, TaskFormed, TaskNote, ActsForm, forms_behind, forms_of, keeps_behind, shown_form, shown_forms, shown_running, stage_of, with_stage}
 use Rattle.fam_journal.specs.Machines.{notes_of}
 use Rattle.fam_journal.specs.Members.{changed_at}
 use Rattle.fam_journal.specs.Notes as note
 use Rattle.fam_journal.specs.Notes.{Note}
 use Rattle.fam_journal.specs.View.{HostView, WorldView}
 use Rattle.fam_journal.specs.ByWorld.{number_in, refusal_in, shown_host, shown_state, shown_task}
-use Rattle.fam_journal.proofs.Forms.Operations.{forms_both, keeps_some, shown_keeps}
+use Rattle.fam_journal.proofs.Forms.Operations.{forms_both, keeps_some, keeps_turned, shown_keeps}
 use Rattle.fam_journal.proofs.Forms.Pairs.{IsNoMake, Looks, number_same, pairs_at, pairs_changed, pairs_moved, refusal_looks}
 use Rattle.fam_journal.proofs.Forms.Tasks.{IsNext, TurnForm, turn_form}
 
@@ -68,21 +68,21 @@ module _ (world : WorldView) (is : IsFormed world) (h : ℕ) (view : HostView) (
         (subst (λ (c : Cmd). ReplyForm t.me c g.stage given) (sym at.cmd)
         (subst (λ (s : CommandStage). ReplyForm t.me t.cmd s given) (sym at.stage) form))
 
-    keeps_told : (z : Turn) → f.keeps ≡ is_some (kept_after z t view.kept)
-    keeps_told z = host.keeps ∙ sym (keeps_some z t view.kept)
+    keeps_told : (z : Turn) → keeps_turned z f.keeps ≡ is_some (kept_after z t view.kept)
+    keeps_told z = ap (keeps_turned z) host.keeps ∙ sym (keeps_some z t view.kept)
 
     goes_on : (n : Task) (stage : CommandStage) → IsNext t.me t.cmd stage n → IsTaskForm view.uuid n (record { cmd = g.cmd; stage = stage })
     goes_on n stage next = record { cmd = at.cmd ∙ sym next.cmd_is; me_is = next.me_is ∙ at.me_is; stage = sym next.stage_is }
 
-    staged : (z : Turn) (n : Task) (stage : CommandStage) → task_after z ≡ Some n → IsNext t.me t.cmd stage n → Pairs HostFormed (changed_at h (after z) world.hosts) (changed_at h (with_stage stage) forms)
-    staged z n stage goes next =
+    staged : (z : Turn) (n : Task) (stage : CommandStage) → task_after z ≡ Some n → IsNext t.me t.cmd stage n → f.keeps ≡ is_some (kept_after z t view.kept) → Pairs HostFormed (changed_at h (after z) world.hosts) (changed_at h (with_stage stage) forms)
+    staged z n stage goes next told =
         pairs_changed HostFormed world.hosts forms h view f (after z) (with_stage stage) is view_is f_is
         record {
           name = host.name;
           uuid = host.uuid;
           task = subst (λ (o : Option Task). TaskFormed view.uuid o (with_stage stage f).task) (sym goes)
               (subst (λ (o : Option TaskForm). TaskFormed view.uuid (Some n) (option_map (λ (y : TaskForm). record y { stage = stage }) o)) (sym g_is) (goes_on n stage next));
-          keeps = keeps_told z;
+          keeps = told;
         }
 
     turned : (z : Turn) → TurnForm t.me t.cmd (stage_of t) z → OperationsForm h forms (notes_of h (note_of z)) × Pairs HostFormed (changed_at h (after z) world.hosts) (forms_behind forms (notes_of h (note_of z)))
@@ -96,13 +96,13 @@ module _ (world : WorldView) (is : IsFormed world) (h : ℕ) (view : HostView) (
             keeps = keeps_told (Goes n);
           },
     )
-    turned (Marks n) next = ((running (note.Mark h) (refl, at.stage ∙ next.0), tt), staged (Marks n) n Marked refl next.1)
-    turned (Finds k n) next = ((running (note.Found h k) (refl, subst HasWish (sym at.cmd) next.0, at.stage ∙ next.1), tt), staged (Finds k n) n (Met k) refl next.2)
+    turned (Marks n) next = ((running (note.Mark h) (refl, at.stage ∙ next.0), tt), staged (Marks n) n Marked refl next.1 (keeps_told (Marks n)))
+    turned (Finds k n) next = ((running (note.Found h k) (refl, subst HasWish (sym at.cmd) next.0, at.stage ∙ next.1), tt), staged (Finds k n) n (Met k) refl next.2 (keeps_told (Finds k n)))
     turned (Writes seq entry n) next =
-        ((running (note.Writes h seq entry) (refl, subst (λ (c : Cmd). EntryForm c entry) (sym at.cmd) next.0, at.stage ∙ next.1), tt), staged (Writes seq entry n) n (Named seq) refl next.2)
+        ((running (note.Writes h seq entry) (refl, subst (λ (c : Cmd). EntryForm c entry) (sym at.cmd) next.0, at.stage ∙ next.1), tt), staged (Writes seq entry n) n (Named seq) refl next.2 (keeps_told (Writes seq entry n)))
     turned (Ends given) next = (
       (running (note.Answered h (note.Replied given)) (refl, reply_form given next), tt),
-      pairs_changed HostFormed world.hosts forms h view f (after (Ends given)) (λ z. record z { task = None }) is view_is f_is record { name = host.name; uuid = host.uuid; task = tt; keeps = keeps_told (Ends given) },
+      pairs_changed HostFormed world.hosts forms h view f (after (Ends given)) (λ z. record z { task = None; keeps = keeps_behind (note.Replied given) z.keeps }) is view_is f_is record { name = host.name; uuid = host.uuid; task = tt; keeps = keeps_told (Ends given) },
     )
 
   by_task : (f : HostForm) → slice_get forms h ≡ Some f → HostFormed view f → (p : Option TaskForm) → f.task ≡ p → TaskFormed view.uuid (Some t) p

@@ -3,7 +3,8 @@ use Prim.Native.Nat.{zero, suc}
 use Rattle.std.proofs.Common.{◌⊎◌, inl, inr, ◌≡◌, ℕ, ◌+◌, Bool, true, false, List, [], ◌∷◌, ◌++◌, map, Option, Some, None, refl, sym, ◌∙◌, ap, subst, arith}
 use Rattle.std.specs.Prelude.{slice_get, if◌then◌else◌}
 use Rattle.fam_journal.specs.declared.refusal.Refusal.{Refusal}
-use Rattle.fam_base.specs.declared.cmd.Cmd.TheVariants.{Logplay}
+use Rattle.fam_base.specs.declared.cmd.Cmd.{Cmd}
+use Rattle.fam_commands.specs.Classes.{is_mount}
 use Rattle.fam_commands.specs.Task.{mounted}
 use Rattle.std.specs.FinMap as finmap
 use Rattle.fam_journal.specs.declared.refusal.Refusal.TheVariants as why
@@ -83,6 +84,7 @@ module _ (lines : ℕ) (world : WorldView) (is : IsFormed world) where
   told_of (call.Finishes name) other = sym (refusal_formed lines world is (call.Finishes name) tt)
   told_of (call.Stops name) other = sym (refusal_formed lines world is (call.Stops name) tt)
   told_of (call.Halts name) other = sym (refusal_formed lines world is (call.Halts name) tt)
+  told_of (call.Umounts name) other = sym (refusal_formed lines world is (call.Umounts name) tt)
   told_of (call.Moves name line move) other = sym (refusal_formed lines world is (call.Moves name line move) tt)
   told_of (call.Refuses name cause) other = sym (refusal_formed lines world is (call.Refuses name cause) tt)
 
@@ -113,6 +115,10 @@ module _ (lines : ℕ) (world : WorldView) (is : IsFormed world) where
       hosted (call.Halts name) (λ v. record v { cache = finmap.empty; task = None; kept = None }) note.Halt (number_in name world) refl (λ h none. no_host name _ free none) (λ h x. x) (λ h f. refl)
       (λ h. pairs_any HostFormed _ _ (λ v f at. record { name = at.name; uuid = at.uuid; task = tt; keeps = refl }) h world.hosts forms is)
       (told_of (call.Halts name) tt ∙ free)
+  acted_form (call.Umounts name) takes free =
+      hosted (call.Umounts name) (λ v. record v { kept = None }) note.Umount (number_in name world) refl (λ h none. no_host name _ free none) (λ h x. x) (λ h f. refl)
+      (λ h. pairs_any HostFormed _ _ (λ v f at. record { name = at.name; uuid = at.uuid; task = at.task; keeps = refl }) h world.hosts forms is)
+      (told_of (call.Umounts name) tt ∙ free)
   acted_form (call.Moves name line move) takes free = absurd takes
   acted_form (call.Refuses name cause) takes free = record {
     notes = Refused name cause ∷ [];
@@ -121,9 +127,9 @@ module _ (lines : ℕ) (world : WorldView) (is : IsFormed world) where
     formed = added world.hosts (Refused name cause) is;
   }
     where
-      by_takes : call.IsOfSource cause ⊎ (refusal_in (call.Begins name Logplay) world lines ≡ Some cause) → call.IsOfSource cause ⊎ (call.may_begin name (shown_forms lines forms) ≡ Some cause)
+      by_takes : call.IsOfSource cause ⊎ ((cmd : Cmd) × (refusal_in (call.Begins name cmd) world lines ≡ Some cause)) → call.IsOfSource cause ⊎ ((mount : Bool) × (call.may_begin name mount (shown_forms lines forms) ≡ Some cause))
       by_takes (inl x) = inl x
-      by_takes (inr x) = inr (sym (refusal_formed lines world is (call.Begins name Logplay) tt) ∙ x)
+      by_takes (inr x) = inr (is_mount x.0, sym (refusal_formed lines world is (call.Begins name x.0) tt) ∙ x.1)
 
   no_make : (c : Call) → TakesNoMedia c lines world → IsNoMake c
   no_make (call.Declares name uuid) takes = tt
@@ -133,6 +139,7 @@ module _ (lines : ℕ) (world : WorldView) (is : IsFormed world) where
   no_make (call.Finishes name) takes = tt
   no_make (call.Stops name) takes = tt
   no_make (call.Halts name) takes = tt
+  no_make (call.Umounts name) takes = tt
   no_make (call.Moves name line move) takes = tt
   no_make (call.Refuses name cause) takes = tt
 

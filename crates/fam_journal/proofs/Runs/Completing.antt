@@ -34,6 +34,7 @@ use Rattle.fam_machine.specs.HostMoves.{Evict, Fetch, Leak}
 use Rattle.fam_journal.specs.Machines.{Done, HostState, Machines, Operation, Passes, TaskState, host_done, machine_of, next_note, next_op, op_done, operation, served, task_begun, task_done, task_on, with_parts}
 use Rattle.fam_journal.specs.Notes.{Answered, MediaFault, Note, Refused, Replied}
 use Rattle.fam_journal.specs.Past.{Past, first_past, past_of}
+use Rattle.fam_journal.proofs.Forms.EventRows.{begun_free}
 use Rattle.fam_journal.proofs.Calls.Cases.{by_host, place_same}
 use Rattle.fam_journal.proofs.Runs.Following.{begun_kept, declared_at, event_kept, first_kept, operation_kept}
 use Rattle.fam_journal.proofs.Settled.Journals.{legal_rest, past_both}
@@ -106,6 +107,7 @@ module _ (start : Image) where
     act_ruled (call.Finishes name) h host x = operates_ruled h x.count state journal kept notes new x.does
     act_ruled (call.Stops name) h host x = subst (AreRuled (past_of start journal)) (sym x.0) (tt, tt)
     act_ruled (call.Halts name) h host x = subst (AreRuled (past_of start journal)) (sym x.0) (tt, tt)
+    act_ruled (call.Umounts name) h host x = subst (AreRuled (past_of start journal)) (sym x.0) (tt, tt)
     act_ruled (call.Moves name line move) h host (inl x) = subst (AreRuled (past_of start journal)) (sym x.notes_are) tt
     act_ruled (call.Moves name line move) h host (inr x) = subst (AreRuled (past_of start journal)) (sym x.notes_are) (tt, tt)
     act_ruled (call.Refuses name cause) h host x = absurd x
@@ -127,6 +129,7 @@ module _ (start : Image) where
     acts_ruled (call.Finishes name) x = number_ruled (call.Finishes name) (number_of name state) x
     acts_ruled (call.Stops name) x = number_ruled (call.Stops name) (number_of name state) x
     acts_ruled (call.Halts name) x = number_ruled (call.Halts name) (number_of name state) x
+    acts_ruled (call.Umounts name) x = number_ruled (call.Umounts name) (number_of name state) x
     acts_ruled (call.Moves name line move) x = number_ruled (call.Moves name line move) (number_of name state) x
 
     does_ruled : (c : Call) → Does c state notes new → AreRuled (past_of start journal) notes
@@ -156,6 +159,7 @@ module _ (start : Image) where
     event_ruled (event.Finish name) sound old new journal notes kept x = does_ruled old.machines journal kept notes new.machines (call.Finishes name) x.0
     event_ruled (event.Stop name) sound old new journal notes kept x = does_ruled old.machines journal kept notes new.machines (call.Stops name) x.0
     event_ruled (event.Halt name) sound old new journal notes kept x = does_ruled old.machines journal kept notes new.machines (call.Halts name) x.0
+    event_ruled (event.Umount name) sound old new journal notes kept x = does_ruled old.machines journal kept notes new.machines (call.Umounts name) x.0
     event_ruled (event.Evict name line) sound old new journal notes kept x = does_ruled old.machines journal kept notes new.machines (call.Moves name line.0 Evict) x.0
     event_ruled (event.Leak name line mask) sound old new journal notes kept x = does_ruled old.machines journal kept notes new.machines (call.Moves name line.0 (Leak mask.0)) x.0
     event_ruled (event.Fetch name line mask) sound old new journal notes kept x = does_ruled old.machines journal kept notes new.machines (call.Moves name line.0 (Fetch mask.0)) x.0
@@ -238,7 +242,7 @@ pub run_ends : (files : Files) (name : List ℕ) (what : Ask) (old new : Session
 unfolding refusal_of
 run_ends files name what old new notes x clean =
     by_host (call.Begins name x.begun.cmd) old.machines x.mid.machines x.first
-    (subst (λ (o : Option Refusal). ByRefusal name o x.first old.machines x.mid.machines (Acts (call.Begins name x.begun.cmd) old.machines x.first x.mid.machines)) x.begun.free x.begun.does) begun
+    (subst (λ (o : Option Refusal). ByRefusal name o x.first old.machines x.mid.machines (Acts (call.Begins name x.begun.cmd) old.machines x.first x.mid.machines)) (begun_free files name what old x.mid x.first x.begun) x.begun.does) begun
   where
     begun : (h : ℕ) (host : HostState) → number_of name old.machines ≡ Some h → slice_get old.machines.hosts h ≡ Some host → ActsAt (call.Begins name x.begun.cmd) h host old.machines x.first x.mid.machines → EndsInAnswer notes
     begun h host number is at =

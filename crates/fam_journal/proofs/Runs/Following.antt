@@ -6,6 +6,7 @@ use Rattle.std.specs.FinMap as finmap
 use Rattle.std.proofs.lemmas.List.{append-nil, append_assoc}
 use Rattle.std.proofs.lemmas.Option.{same_Some}
 use Rattle.fam_base.specs.Image.{Image}
+use Rattle.fam_commands.specs.Classes.{is_mount}
 use Rattle.fam_machine.specs.MkfsRequest.{mkfs_request}
 use Rattle.fam_media.specs.Files.{Files}
 use Rattle.fam_journal.specs.declared.event.Ask.{Ask}
@@ -14,7 +15,7 @@ use Rattle.fam_journal.specs.declared.event.Event.TheVariants as event
 use Rattle.fam_journal.specs.declared.refusal.Refusal.{Refusal}
 use Rattle.fam_journal.specs.declared.refusal.Refusal.TheVariants as why
 use Rattle.fam_journal.specs.Calls as call
-use Rattle.fam_journal.specs.Calls.{ActsAt, ActsOf, Acts, AtNumber, BreaksOff, ByRefusal, Call, Completes, CutsAt, Does, OnHost, DoesOperations, Unfinished, begins_refusal, line_refusal, makes_refusal, name_of, number_of, on_host, refusal_of}
+use Rattle.fam_journal.specs.Calls.{ActsAt, ActsOf, Acts, AtNumber, BreaksOff, ByRefusal, Call, Completes, CutsAt, Does, OnHost, DoesOperations, Unfinished, begins_refusal, line_refusal, makes_refusal, name_of, number_of, on_host, refusal_of, umounts_refusal}
 use Rattle.fam_journal.specs.Ends.{AllDone, Ending, EventsDone, MkfsFails, EndsOutOfMemory, EndsOutOfMemoryBroken, ReadsAs, SinkFails, SourceFails}
 use Rattle.fam_journal.specs.Events.{BreaksEvent, DoesEvent, Continues, IsBegun, RefusesEvent, MayNotStep, PartOf, Session, first_session}
 use Rattle.fam_journal.specs.Follows.{Follows, FollowsBroken}
@@ -27,7 +28,7 @@ use Rattle.fam_journal.specs.Notes.{Halt, Note, Refused, Stop}
 use Rattle.fam_journal.specs.Past.{first_past, past_of}
 use Rattle.fam_journal.proofs.Calls.Begin.{held_first}
 use Rattle.fam_journal.proofs.Settled.Journals.{legal_both}
-use Rattle.fam_journal.proofs.Calls.Keeping.{begins_kept, declared_kept, enough_to_make, kept_as, made_kept, met_kept, move_failed_kept, moved_kept, operation_at, refused_kept, uuids_kept}
+use Rattle.fam_journal.proofs.Calls.Keeping.{begins_kept, declared_kept, enough_to_make, kept_as, made_kept, met_kept, move_failed_kept, moved_kept, operation_at, refused_kept, umounts_kept, uuids_kept}
 use Rattle.fam_journal.proofs.Runs.Left.{held_reads}
 use Rattle.fam_journal.proofs.Calls.Rows.{Declared, declared, halted_held, stopped_held}
 use Rattle.fam_journal.proofs.Calls.Tests.{below_of, no_when}
@@ -76,7 +77,7 @@ module _ (start : Image) (state : Machines) (journal : List Note) (kept : Reache
       let may : makes_refusal request.unit request.log h state ≡ None = sym (ap (λ (o : Option ℕ). on_host o (λ h. makes_refusal request.unit request.log h state)) number) ∙ free in
       kept_as start journal notes _ new _ x.notes_are x.left (met_kept start state journal kept h d name (why.HasSuper x.other.fs) (enough_to_make start state journal kept h d request.unit request.log may))
   act_kept (call.Begins name cmd) sound free h number d x =
-      let may : begins_refusal h state ≡ None = sym (ap (λ (o : Option ℕ). on_host o (λ h. begins_refusal h state)) number) ∙ free in
+      let may : begins_refusal h (is_mount cmd) state ≡ None = sym (ap (λ (o : Option ℕ). on_host o (λ h. begins_refusal h (is_mount cmd) state)) number) ∙ free in
       kept_as start journal notes _ new _ x.0 x.1 (begins_kept start state journal kept h d cmd sound may)
   act_kept (call.Steps name) sound free h number d x = operation_kept start h state journal kept notes new x
   act_kept (call.Finishes name) sound free h number d x = operates_kept start h x.count state journal kept notes new x.does
@@ -86,6 +87,9 @@ module _ (start : Image) (state : Machines) (journal : List Note) (kept : Reache
   act_kept (call.Halts name) sound free h number d x =
       kept_as start journal notes (Halt h ∷ []) new (with_parts h (record { image = state.memory; cache = finmap.empty }) None None state) x.0 x.1
       record { views = _; held = halted_held start state (record { hosts = kept.views; journal = journal }) kept.held h d; uuids = uuids_kept h _ (λ z. refl) state.hosts kept.uuids }
+  act_kept (call.Umounts name) sound free h number d x =
+      let may : umounts_refusal h state ≡ None = sym (ap (λ (o : Option ℕ). on_host o (λ h. umounts_refusal h state)) number) ∙ free in
+      kept_as start journal notes _ new _ x.0 x.1 (umounts_kept start state journal kept h d may)
   act_kept (call.Moves name line move) sound free h number d (inl x) =
       let may : line_refusal line state ≡ None = sym (ap (λ (o : Option ℕ). on_host o (λ h. line_refusal line state)) number) ∙ free in
       kept_quiet start journal notes new _ x.notes_are x.left (moved_kept start state journal kept h d move line (below_of (length state.memory) line (no_when _ (why.NoLine line (length state.memory)) may)))
@@ -117,6 +121,7 @@ module _ (start : Image) (state : Machines) (journal : List Note) (kept : Reache
   acts_kept (call.Finishes name) sound free x = acts_of_kept (call.Finishes name) sound free x
   acts_kept (call.Stops name) sound free x = acts_of_kept (call.Stops name) sound free x
   acts_kept (call.Halts name) sound free x = acts_of_kept (call.Halts name) sound free x
+  acts_kept (call.Umounts name) sound free x = acts_of_kept (call.Umounts name) sound free x
   acts_kept (call.Moves name line move) sound free x = acts_of_kept (call.Moves name line move) sound free x
 
   -- a row of a call keeps what is held
@@ -167,6 +172,7 @@ module _ (start : Image) (files : Files) where
   event_kept (event.Finish name) sound old new journal notes kept x = does_kept start old.machines journal kept notes new.machines (call.Finishes name) tt x.0
   event_kept (event.Stop name) sound old new journal notes kept x = does_kept start old.machines journal kept notes new.machines (call.Stops name) tt x.0
   event_kept (event.Halt name) sound old new journal notes kept x = does_kept start old.machines journal kept notes new.machines (call.Halts name) tt x.0
+  event_kept (event.Umount name) sound old new journal notes kept x = does_kept start old.machines journal kept notes new.machines (call.Umounts name) tt x.0
   event_kept (event.Evict name line) sound old new journal notes kept x = does_kept start old.machines journal kept notes new.machines (call.Moves name line.0 Rattle.fam_machine.specs.HostMoves.Evict) tt x.0
   event_kept (event.Leak name line mask) sound old new journal notes kept x = does_kept start old.machines journal kept notes new.machines (call.Moves name line.0 (Rattle.fam_machine.specs.HostMoves.Leak mask.0)) tt x.0
   event_kept (event.Fetch name line mask) sound old new journal notes kept x = does_kept start old.machines journal kept notes new.machines (call.Moves name line.0 (Rattle.fam_machine.specs.HostMoves.Fetch mask.0)) tt x.0
@@ -180,6 +186,7 @@ module _ (start : Image) (files : Files) where
   part_kept (event.Finish name) sound old new journal notes kept x = unfinished_kept x.host old.machines journal kept notes new.machines x.does
   part_kept (event.Stop name) sound old new journal notes kept x = absurd x
   part_kept (event.Halt name) sound old new journal notes kept x = absurd x
+  part_kept (event.Umount name) sound old new journal notes kept x = absurd x
   part_kept (event.Evict name line) sound old new journal notes kept x = absurd x
   part_kept (event.Leak name line mask) sound old new journal notes kept x = absurd x
   part_kept (event.Fetch name line mask) sound old new journal notes kept x = absurd x
@@ -213,6 +220,7 @@ cut_notes c old new notes x = by_number (number_of (name_of c) old) x.1
     at_host (call.Finishes name) h host y = absurd y
     at_host (call.Stops name) h host y = absurd y
     at_host (call.Halts name) h host y = absurd y
+    at_host (call.Umounts name) h host y = absurd y
     at_host (call.Moves name line move) h host y = absurd y
     at_host (call.Refuses name cause) h host y = absurd y
 
@@ -246,6 +254,7 @@ module _ (start : Image) (image : IsImage start) (files : Files) (events : List 
   broken_notes (event.Finish name) old new notes x = absurd x
   broken_notes (event.Stop name) old new notes x = absurd x
   broken_notes (event.Halt name) old new notes x = absurd x
+  broken_notes (event.Umount name) old new notes x = absurd x
   broken_notes (event.Evict name line) old new notes x = absurd x
   broken_notes (event.Leak name line mask) old new notes x = absurd x
   broken_notes (event.Fetch name line mask) old new notes x = absurd x

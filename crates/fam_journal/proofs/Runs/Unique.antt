@@ -144,6 +144,7 @@ module _ (old : Machines) (a b : List Note) (m n : Machines) (clean_a : IsFaultl
   one_act_at (call.Finishes name) h host x y = one_complete h old a b m n x y clean_a clean_b
   one_act_at (call.Stops name) h host x y = same_by x.0 x.1 y.0 y.1
   one_act_at (call.Halts name) h host x y = same_by x.0 x.1 y.0 y.1
+  one_act_at (call.Umounts name) h host x y = same_by x.0 x.1 y.0 y.1
   one_act_at (call.Moves name line move) h host (inl x) (inl y) = same_by x.notes_are x.left y.notes_are y.left
   one_act_at (call.Moves name line move) h host (inl x) (inr y) = absurd (not_clean _ b y.notes_are refl clean_b)
   one_act_at (call.Moves name line move) h host (inr x) y = absurd (not_clean _ a x.notes_are refl clean_a)
@@ -166,6 +167,7 @@ module _ (old : Machines) (a b : List Note) (m n : Machines) (clean_a : IsFaultl
   one_act (call.Finishes name) x y = at_number (call.Finishes name) (number_of name old) x y
   one_act (call.Stops name) x y = at_number (call.Stops name) (number_of name old) x y
   one_act (call.Halts name) x y = at_number (call.Halts name) (number_of name old) x y
+  one_act (call.Umounts name) x y = at_number (call.Umounts name) (number_of name old) x y
   one_act (call.Moves name line move) x y = at_number (call.Moves name line move) (number_of name old) x y
 
   by_refusal : (c : Call) (name : List ℕ) (o : Option Refusal) → ByRefusal name o a old m (Acts c old a m) → ByRefusal name o b old n (Acts c old b n) → Same a b m n
@@ -233,13 +235,13 @@ module _ (one_listing : OneListing) where
         (one_call old.machines a b m.machines n.machines clean_a clean_b (call.Refuses name y.cause) (subst (λ (c : Refusal). Does (call.Refuses name c) old.machines a m.machines) causes x.does) y.does)
         (x.copied_is ∙ copied ∙ sym y.copied_is)
 
-    one_may_not : (name : List ℕ) → MayNot name old a m → MayNot name old b n → AreSame a b m n
-    one_may_not name x y =
+    one_may_not : (name : List ℕ) (what : Ask) → MayNot name what old a m → MayNot name what old b n → AreSame a b m n
+    one_may_not name what x y =
         let e : x.cause ≡ y.cause = same_Some x.cause y.cause (sym x.first ∙ y.first) in
         record { notes_are = x.notes_are ∙ ap (λ (c : Refusal). Rattle.fam_journal.specs.Notes.Refused name c ∷ []) e ∙ sym y.notes_are; states_are = x.same ∙ sym y.same }
 
     one_refused : (name : List ℕ) (what : Ask) → RefusesEvent files name what old a m → RefusesEvent files name what old b n → AreSame a b m n
-    one_refused name what (inl x) (inl y) = one_may_not name x y
+    one_refused name what (inl x) (inl y) = one_may_not name what x y
     one_refused name what (inl x) (inr y) = absurd (let p = x.first in let q = y.free in cc)
     one_refused name what (inr x) (inl y) = absurd (let p = x.free in let q = y.first in cc)
     one_refused name what (inr x) (inr y) = one_no_source name what x y
@@ -296,6 +298,7 @@ module _ (one_listing : OneListing) where
   one_event files (event.Finish name) old a b m n clean_a clean_b x y = one_plain files old a b m n clean_a clean_b (call.Finishes name) x y
   one_event files (event.Stop name) old a b m n clean_a clean_b x y = one_plain files old a b m n clean_a clean_b (call.Stops name) x y
   one_event files (event.Halt name) old a b m n clean_a clean_b x y = one_plain files old a b m n clean_a clean_b (call.Halts name) x y
+  one_event files (event.Umount name) old a b m n clean_a clean_b x y = one_plain files old a b m n clean_a clean_b (call.Umounts name) x y
   one_event files (event.Evict name line) old a b m n clean_a clean_b x y = one_plain files old a b m n clean_a clean_b (call.Moves name line.0 _) x y
   one_event files (event.Leak name line mask) old a b m n clean_a clean_b x y = one_plain files old a b m n clean_a clean_b (call.Moves name line.0 _) x y
   one_event files (event.Fetch name line mask) old a b m n clean_a clean_b x y = one_plain files old a b m n clean_a clean_b (call.Moves name line.0 _) x y

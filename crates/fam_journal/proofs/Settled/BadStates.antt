@@ -17,7 +17,7 @@ use Rattle.fam_rules.specs.Asks.{File}
 use Rattle.fam_rules.specs.Reply.{Reply}
 use Rattle.fam_journal.specs.Laws.{IsOwn}
 use Rattle.fam_journal.proofs.Settled.ReplyCases.{replied_by}
-use Rattle.fam_journal.specs.Notes.{Answer, Replied, MediaFault, Note, Host, Made, Start, Mark, Found, Writes, Answered, Stop, Halt, Refused}
+use Rattle.fam_journal.specs.Notes.{Answer, Replied, MediaFault, Note, Host, Made, Start, Mark, Found, Writes, Answered, Stop, Halt, Umount, Refused}
 use Rattle.fam_journal.specs.Past.{Damage, FewLines, State, Bad, Sound, Past, acknowledges, ended, finds, first_past, first_state, past_after, past_behind, past_of, pends, replied, shows, state_after, state_read, with_pending}
 
 -- no sound state is bad
@@ -66,6 +66,7 @@ module _ (i : Image) (d : Damage) (g : ℕ) where
   was_before x (Answered h answer) e = was_ended answer x.state e
   was_before x (Stop h) e = e
   was_before x (Halt h) e = e
+  was_before x (Umount h) e = e
   was_before x (Refused name cause) e = e
 
   was_first : (notes : List Note) (x : Past) → (past_behind x notes).state ≡ Bad i d g → x.state ≡ Bad i d g

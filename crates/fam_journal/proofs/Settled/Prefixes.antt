@@ -14,7 +14,7 @@ use Rattle.fam_journal.proofs.Settled.ReplyCases.{replied_by}
 use Rattle.fam_journal.specs.Laws.{IsFree, IsPrefix, NoneMade, TwoAnswers, entries_at, first_entries, history_at, second_entries}
 use Rattle.fam_journal.specs.Ends.{is_made_note}
 use Rattle.fam_journal.specs.Legal.{Legal, OfHost, ReplyAllowed, WritesAllowed}
-use Rattle.fam_journal.specs.Notes.{Answer, Replied, MediaFault, Note, Host, Made, Start, Mark, Found, Writes, Answered, Stop, Halt, Refused}
+use Rattle.fam_journal.specs.Notes.{Answer, Replied, MediaFault, Note, Host, Made, Start, Mark, Found, Writes, Answered, Stop, Halt, Umount, Refused}
 use Rattle.fam_journal.specs.Past.{HostPast, Past, State, Bad, Sound, acknowledges, count_of, ended, finds, first_past, past_after, past_behind, past_of, pends, replied, reported_count, shows, shows_count, state_after, with_pending}
 use Rattle.fam_journal.proofs.Settled.Journals.{legal_rest, past_both}
 use Rattle.fam_journal.proofs.Settled.Settles.{length-pending, shows_less, shows_more, take_whole}
@@ -80,6 +80,7 @@ module _ (m : ℕ) where
   note_keeps x (Answered h answer) other within = answer_keeps answer x.state within
   note_keeps x (Stop h) other within = keeps_same m x.state within
   note_keeps x (Halt h) other within = keeps_same m x.state within
+  note_keeps x (Umount h) other within = keeps_same m x.state within
   note_keeps x (Refused name cause) other within = keeps_same m x.state within
 
   notes_keep : (notes : List Note) (x : Past) → NoneMade notes → m ≤ length (history_at x.state) → Keeps m x.state (past_behind x notes).state
@@ -103,6 +104,7 @@ module _ where
   note_bad x i d g (Answered h (MediaFault at)) other is = is
   note_bad x i d g (Stop h) other is = is
   note_bad x i d g (Halt h) other is = is
+  note_bad x i d g (Umount h) other is = is
   note_bad x i d g (Refused name cause) other is = is
 
   notes_bad : (notes : List Note) (x : Past) (i : Image) (d : Rattle.fam_journal.specs.Past.Damage) (g : ℕ) → NoneMade notes → x.state ≡ Bad i d g → (past_behind x notes).state ≡ Bad i d g

@@ -26,7 +26,7 @@ use Rattle.fam_commands.specs.Keeping.{kept_after, kept_by, read_by}
 use Rattle.fam_protocol.proofs.Settled.Keeps.{keeps_changed, played_keeps}
 use Rattle.fam_commands.proofs.TurnTells.{ReplyTells, Tells, turn_tells}
 use Rattle.fam_protocol.specs.After.{Run, After, TaskContinues, MaySay, floor_after, list_after, settled_after}
-use Rattle.fam_protocol.specs.Bad.{BadTaskHolds, GoesOnBad, MaySayBad}
+use Rattle.fam_protocol.specs.Bad.{BadTaskHolds, GoesOnBad, MayReplyBad, MaySayBad}
 use Rattle.fam_protocol.specs.Invariant.{AreHosts, Hosts, IsDamaged, IsKnown, Settled, Small, Damaged, Known, InvariantBy, Invariant}
 use Rattle.fam_protocol.specs.Steps.{StepHolds, Steps, run_after, settled_count}
 use Rattle.fam_protocol.proofs.Damaged.Moves.{still_kept, bad_task_kept}
@@ -131,18 +131,18 @@ module _ (lines : ℕ) (hosts : Hosts) (host line : ℕ) (s s' : SharedState) (t
 
 -- What a host keeps.
 
--- where it kept nothing it keeps nothing
-pub keeps_none : (turn : Turn) (t : Task) → kept_after turn t None ≡ None
-keeps_none (Goes next) t = refl
-keeps_none (Marks next) t = refl
-keeps_none (Finds n next) t = refl
-keeps_none (Writes seq e next) t = refl
-keeps_none (Ends reply) t = by_reply reply
+-- on a damaged image no mount has its reply: where the host kept nothing it keeps nothing
+keeps_none : (turn : Turn) (image : Lines) (have : ℕ) (t : Task) → MaySayBad turn image have t → kept_after turn t None ≡ None
+keeps_none (Goes next) image have t may = refl
+keeps_none (Marks next) image have t may = refl
+keeps_none (Finds n next) image have t may = refl
+keeps_none (Writes seq e next) image have t may = refl
+keeps_none (Ends reply) image have t may = by_reply reply may
   where
-    by_reply : (r : Reply) → kept_by r (read_by t) None ≡ None
-    by_reply (Played m tree) = refl
-    by_reply (Mounted m) = refl
-    by_reply other = refl
+    by_reply : (r : Reply) → MayReplyBad r image have t → kept_by r (read_by t) None ≡ None
+    by_reply (Played m tree) may' = refl
+    by_reply (Mounted m) may' = absurd may'
+    by_reply other may' = refl
 
 -- So do lines that are sent, and the media's failure behind them.
 invariant_sent : (lines : ℕ) (hosts : Hosts) (host : ℕ) (sent : List ℕ) (s s' : SharedState) → Sends host sent s s' → hosts.uuid host ≢ None → (settled : Settled) → Invariant settled lines hosts s → Invariant settled lines hosts s'
@@ -177,7 +177,12 @@ module _ (lines host word : ℕ) (r : Run) (old new : Hosts) (s s' : SharedState
         (b.0, record { enough = is.enough; still = b.1; tasks = λ h q run. task h q run (same h host); bare = λ h. bare h (same h host) })
       where
         bare : (h : ℕ) → Same h host → new.kept h ≡ None
-        bare h (inl e) = ap new.kept e ∙ steps.keeps ∙ ap (kept_after (turn_given r.task word) r.task) (is.bare host) ∙ keeps_none (turn_given r.task word) r.task
+        bare h (inl e) =
+            let b = bad_turn image (line_bytes * lines) old.uuid host s s' word r.task is.still (is.tasks host r steps.is) steps.operates in
+            ap new.kept e
+            ∙ steps.keeps
+            ∙ ap (kept_after (turn_given r.task word) r.task) (is.bare host)
+            ∙ keeps_none (turn_given r.task word) image (line_bytes * lines) r.task (subst (λ (x : Turn). MaySayBad x image (line_bytes * lines) r.task) (sym (given_turn r.task.phase r.task word refl)) b.0)
         bare h (inr ne) = steps.kept h ne ∙ is.bare h
 
         task : (h : ℕ) (q : Run) → new.run h ≡ Some q → Same h host → BadTaskHolds image (line_bytes * lines) old.uuid h q.task s'
@@ -231,9 +236,8 @@ module _ (lines host word : ℕ) (r : Run) (old new : Hosts) (s s' : SharedState
           where
             by_reply : (reply' : Reply) (k' : Option Kept) → turn_at r.task.phase r.task word ≡ Ends reply' → ReplyTells r.task r.task.phase reply' → KeepsPrefix p all (settled_after (Ends reply') settled) k' → KeepsPrefix p all (settled_after (Ends reply') settled) (kept_by reply' (read_by r.task) k')
             by_reply (Played m tree) None at' tells' keeps' = tt
-            by_reply (Mounted m) None at' tells' keeps' = tt
             by_reply (Played m tree) (Some k') at' tells' keeps' = played_keeps sys host r.floor r.task s all settled m tells' (is.tasks host r steps.is).phase
-            by_reply (Mounted m) (Some k') at' tells' keeps' = played_keeps sys host r.floor r.task s all settled m tells' (is.tasks host r steps.is).phase
+            by_reply (Mounted m) k' at' tells' keeps' = played_keeps sys host r.floor r.task s all settled m tells' (is.tasks host r steps.is).phase
             by_reply other k' at' tells' keeps' = keeps'
 
         kept : (h : ℕ) → Same h host → KeepsPrefix p (list_after (turn_at r.task.phase r.task word) all) (settled_after (turn_at r.task.phase r.task word) settled) (new.kept h)
