@@ -1,5 +1,5 @@
 -- The cache that blocks stand for, line by line.
-use Rattle.std.proofs.Common.{◌≡◌, ◌≢◌, ℕ, zero, suc, ◌+◌, ◌*◌, ◌/◌, ◌%◌, ◌<◌, ◌≤◌, Bool, true, false, inl, inr, List, [], ◌∷◌, ◌++◌, length, replicate, set, get_or, vec_len, vec_capacity, Option, Some, None, refl, sym, ap, ap₂, subst, ◌∙◌, arith}
+use Rattle.std.proofs.Common.{◌≡◌, ◌≢◌, ℕ, zero, suc, ◌+◌, ◌-◌, ◌*◌, ◌/◌, ◌%◌, ◌<◌, ◌≤◌, Bool, true, false, inl, inr, List, [], ◌∷◌, ◌++◌, length, replicate, set, get_or, vec_len, vec_capacity, Option, Some, None, refl, sym, ap, ap₂, subst, ◌∙◌, arith}
 use Rattle.std.proofs.lemmas.Bool.{cases_eq, false≢true}
 use Rattle.fam_machine.specs.OneLine.{is_held, words_of}
 use Rattle.std.proofs.lemmas.List.{get_or-set_same, get_or-set_other, get_or_default, get_or_append_left, get_or_at, length-append, length-set}
@@ -403,3 +403,12 @@ added_empty bs n number words = empty_behind bs (record { number = number; marks
 pub no_blocks : cache_of [] ≡ map.empty
 unfolding cache_of
 no_blocks = refl
+
+-- lines behind the last block's, and those of a block that isn't there, are absent
+pub absent_above : (c : Blocks) → IsKept c → (first k : ℕ) → c.greatest < first / 16 → cell_at (lines_of c) (first + k) ≡ Absent
+absent_above c kept first k above = cell_none c.blocks.items (first + k) (none_above c kept ((first + k) / 16) (omega (arith, above)))
+
+pub absent_within : (bs : List Block) (first k : ℕ) → HasNone bs (first / 16) → k < 16 - first % 16 → cell_at (cache_of bs) (first + k) ≡ Absent
+absent_within bs first k none below =
+    let same : (first + k) / 16 ≡ first / 16 = omega (arith, below) in
+    cell_none bs (first + k) (subst (HasNone bs) (sym same) none)

@@ -177,6 +177,31 @@ pub(crate) fn seek(cache: &Blocks, last: usize, line: u64) -> Option<usize>
     find(cache, number)
 }
 
+/// How many lines from this one on, but no more than `most`, stand in no block: all of them behind the last block's, or else
+/// those up to the end of a block that isn't there.
+#[inline]
+pub(crate) fn absent_lines(cache: &Blocks, last: usize, first: u64, most: u64) -> u64
+    requires { IsKept cache.now }
+    ensures most { result ≤ most }
+    ensures absent { (k : ℕ) → k < result → cell_at (lines_of cache.now) (first + k) ≡ Cell.Absent }
+{
+    if first / 16 > cache.greatest {
+        return most;
+    }
+    match seek(cache, last, first) {
+        Some(_) => 0,
+        None => most.min(16 - first % 16),
+    }
+}
+
+/// Whether there is room for one more line with no allocation.
+#[inline(always)]
+pub(crate) fn has_room(cache: &Blocks) -> bool
+    ensures { result ≡ true → 1 ≤ cache.now.room }
+{
+    cache.room > 0
+}
+
 /// Sets a line of a block.
 #[inline(always)]
 fn set_line(cache: &mut Blocks, at: usize, line: u64, mark: Mark, words: Line)
