@@ -8,6 +8,7 @@ use Rattle.fam_media.specs.Files.{Files}
 use Rattle.fam_journal.specs.declared.event.Event.TheVariants as event
 use Rattle.fam_journal.specs.declared.refusal.Refusal.{Refusal}
 use Rattle.fam_journal.specs.declared.refusal.Refusal.TheVariants as why
+use Rattle.fam_commands.specs.Classes.{is_mount}
 use Rattle.fam_journal.specs.Calls as call
 use Rattle.fam_journal.specs.Calls.{Acts, ActsAt, AtNumber, ByRefusal, Call, Does, OnHost, DoesOperations, busy_at, idle_refusal, may_begin, name_of, number_of, on_host, refusal_of, when}
 use Rattle.fam_journal.specs.CallRecords.{FinishPart, Answers, IsSoundCall, DoesRow, WorldCall, refusal_noted}
@@ -52,7 +53,7 @@ module _ (start : Image) (state : Machines) (old : WorldView) (held : Held start
       }
 
   -- where it begins a command nothing stands against that
-  may : (name : List ℕ) (cmd : Rattle.fam_base.specs.declared.cmd.Cmd.Cmd) (new : WorldView) → WorldCall (call.Begins name cmd) (length start) None old new → may_begin name state ≡ None
+  may : (name : List ℕ) (cmd : Rattle.fam_base.specs.declared.cmd.Cmd.Cmd) (new : WorldView) → WorldCall (call.Begins name cmd) (length start) None old new → may_begin name (is_mount cmd) state ≡ None
   unfolding refusal_of
   may name cmd new w = told_refusal (call.Begins name cmd) ∙ sym w.said
 

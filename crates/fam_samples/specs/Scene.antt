@@ -1,5 +1,5 @@
 -- A small scene for samples: host 0, `m`, is the master of a file system that it made, and host 1, `c`, is a client.
-use Rattle.std.specs.Prelude.{ℕ, false, List, [], ◌∷◌, ◌++◌, codes, Option, None}
+use Rattle.std.specs.Prelude.{ℕ, false, List, [], ◌∷◌, ◌++◌, codes, Option, Some, None}
 use Rattle.std.specs.FinMap as finmap
 use Rattle.fam_base.specs.declared.cmd.Cmd.{Cmd}
 use Rattle.fam_base.specs.declared.cmd.Cmd.TheVariants.{Mkdir}
@@ -120,6 +120,10 @@ report_of_log log = record {
 -- a declared host with an empty cache, and this task
 abbrev pub host_m : Option TaskState → HostState
 host_m task = record { name = codes "m"; uuid = master; cache = finmap.empty; task = task; kept = None }
+
+-- host `m` alone, without a task, which has mounted an empty log
+abbrev pub mounted_host : Image → Machines
+mounted_host image = record { memory = image; hosts = record (host_m None) { kept = Some (record { params = params; entries = [] }) } ∷ [] }
 
 -- an image of one line of zeros
 abbrev pub one_line : Image

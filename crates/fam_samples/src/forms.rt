@@ -1,16 +1,16 @@
 //! The form of notes, whatever memory holds: notes of a mkdir that go through, and some that don't.
 
-ghost use Rattle.std.specs.Prelude.{ℕ, ⊤, [], ◌∷◌, codes, false};
-ghost use Rattle.fam_base.specs.declared.cmd.Cmd.TheVariants.{Logplay};
+ghost use Rattle.std.specs.Prelude.{ℕ, ⊤, ◌≡◌, [], ◌∷◌, codes, false, true};
+ghost use Rattle.fam_base.specs.declared.cmd.Cmd.TheVariants.{Logplay, Mount};
 ghost use Rattle.fam_machine.specs.MkfsRequest.{mkfs_request};
 ghost use Rattle.fam_journal.specs.Calls.{Makes};
 ghost use Rattle.fam_journal.specs.EventForms.{StartForm};
-ghost use Rattle.fam_journal.specs.Forms.{ActsForm, CompletesForm, OperationsForm};
-ghost use Rattle.fam_journal.specs.Notes.{Answered, Found, Made, Mark, Replied, Start, Writes};
+ghost use Rattle.fam_journal.specs.Forms.{ActsForm, CompletesForm, OperationsForm, forms_behind};
+ghost use Rattle.fam_journal.specs.Notes.{Answered, Found, Made, Mark, Replied, Start, Umount, Writes};
 ghost use Rattle.fam_journal.specs.declared.event.Ask.TheVariants.{Plain};
 ghost use Rattle.fam_samples.specs.Scene.{folder, form_m, idle_m, mkdir, no_tree, params, running_m, uuid, x, y};
 ghost use Rattle.fam_machine.specs.Mkfs.{asked};
-ghost use Rattle.fam_rules.specs.Reply.{Appended, Played};
+ghost use Rattle.fam_rules.specs.Reply.{Appended, Mounted, Played};
 
 /// The notes of a mkdir that is run, and of a mkfs.
 pub fn forms_of_notes()
@@ -23,6 +23,9 @@ pub fn forms_of_notes()
         (Mark 0 ∷ Found 0 0 ∷ Writes 0 0 (folder x) ∷ Answered 0 (Replied (Appended 0)) ∷ Answered 0 (Replied (Appended 0)) ∷ []) → ⊥ }
     ensures listing { OperationsForm 0 (running_m (mkdir x)) (Mark 0 ∷ Answered 0 (Replied (Played 0 no_tree)) ∷ []) → ⊥ }
     ensures of_a_logplay { OperationsForm 0 (running_m Logplay) (Mark 0 ∷ Answered 0 (Replied (Played 0 no_tree)) ∷ []) }
+    ensures of_a_mount { OperationsForm 0 (running_m Mount) (Mark 0 ∷ Answered 0 (Replied (Mounted 0)) ∷ []) }
+    ensures mount_keeps { forms_behind (running_m Mount) (Mark 0 ∷ Answered 0 (Replied (Mounted 0)) ∷ []) ≡ record form_m { keeps = true } ∷ [] }
+    ensures umount_forgets { forms_behind (running_m Mount) (Mark 0 ∷ Answered 0 (Replied (Mounted 0)) ∷ Umount 0 ∷ []) ≡ idle_m }
     ensures other_host { OperationsForm 0 (running_m (mkdir x)) (Mark 1 ∷ []) → ⊥ }
     ensures other_entry { OperationsForm 0 (running_m (mkdir x)) (Mark 0 ∷ Found 0 0 ∷ Writes 0 0 (folder y) ∷ []) → ⊥ }
     ensures other_number { OperationsForm 0 (running_m (mkdir x)) (Mark 0 ∷ Found 0 0 ∷ Writes 0 1 (folder x) ∷ []) → ⊥ }

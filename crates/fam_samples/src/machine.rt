@@ -2,18 +2,18 @@
 
 ghost use Rattle.std.specs.Prelude.{◌≡◌, nat_lt, ℕ, false, List, [], ◌∷◌, Some, None, codes, length, option_map};
 ghost use Rattle.fam_base.specs.Image.{Image};
-ghost use Rattle.fam_base.specs.declared.cmd.Cmd.TheVariants.{Logplay};
+ghost use Rattle.fam_base.specs.declared.cmd.Cmd.TheVariants.{Logplay, Mount};
 ghost use Rattle.fam_machine.specs.MkfsRequest.{mkfs_request};
 ghost use Rattle.fam_format.specs.Layout.{least_lines};
-ghost use Rattle.fam_journal.specs.Calls.{Begins, Declares, Does, Finishes, Halts, Makes, Moves, Refuses, Steps, Stops, refusal_of};
+ghost use Rattle.fam_journal.specs.Calls.{Begins, Declares, Does, Finishes, Halts, Makes, Moves, Refuses, Steps, Stops, Umounts, refusal_of};
 ghost use Rattle.fam_journal.specs.Events.{DoesEvent, first_session};
 ghost use Rattle.fam_journal.specs.Follows.{Follows};
 ghost use Rattle.fam_journal.specs.Machines.{Done, Fails, Passes, machine_of, operation, unused, with_machine};
-ghost use Rattle.fam_journal.specs.Notes.{Halt, Host, Refused, Start, Stop};
+ghost use Rattle.fam_journal.specs.Notes.{Halt, Host, Refused, Start, Stop, Umount};
 ghost use Rattle.fam_journal.specs.declared.event.Ask.TheVariants.{Plain};
 ghost use Rattle.fam_journal.specs.declared.event.Event.TheVariants as event;
 ghost use Rattle.fam_journal.specs.declared.refusal.Refusal.TheVariants as why;
-ghost use Rattle.fam_samples.specs.Scene.{beginning, client, host_m, master, mkdir, one_host, one_line, session, ten_events, ten_notes, uuid, x};
+ghost use Rattle.fam_samples.specs.Scene.{beginning, client, host_m, master, mkdir, mounted_host, one_host, one_line, session, ten_events, ten_notes, uuid, x};
 ghost use Rattle.fam_machine.specs.HostMoves.{Evict, Fetch, moved};
 ghost use Rattle.fam_machine.specs.Operations.{Breaking};
 ghost use Rattle.fam_media.specs.Files.{Files};
@@ -35,6 +35,13 @@ pub fn refusals_in_order()
     ensures idle_finish { refusal_of (Finishes (codes "m")) (one_host [] None) ≡ Some why.Idle }
     ensures idle_stop { refusal_of (Stops (codes "m")) (one_host [] None) ≡ Some why.Idle }
     ensures idle_halt { refusal_of (Halts (codes "m")) (one_host [] None) ≡ None }
+    ensures busy_umount { refusal_of (Umounts (codes "m")) (one_host [] (Some beginning)) ≡ Some (why.Busy (record { 0 = 0 })) }
+    ensures bare_umount { refusal_of (Umounts (codes "m")) (one_host [] None) ≡ Some why.NotMounted }
+    ensures umount { refusal_of (Umounts (codes "m")) (mounted_host []) ≡ None }
+    ensures second_mount { (image : Image) → nat_lt (length image) least_lines ≡ false
+        → refusal_of (Begins (codes "m") Mount) (mounted_host image) ≡ Some why.Mounted }
+    ensures logplay_of_a_mounted_host { (image : Image) → nat_lt (length image) least_lines ≡ false
+        → refusal_of (Begins (codes "m") Logplay) (mounted_host image) ≡ None }
     ensures no_line { refusal_of (Moves (codes "m") 1 Evict) (one_host ([] ∷ []) None) ≡ Some (why.NoLine 1 1) }
     ensures a_line { refusal_of (Moves (codes "m") 0 Evict) (one_host ([] ∷ []) None) ≡ None }
 {}
@@ -53,6 +60,8 @@ pub fn calls_without_operations()
     ensures stop_ends_the_task { (image : Image) → Does (Stops (codes "m")) (one_host image (Some beginning)) (Stop 0 ∷ []) (one_host image (Some beginning)) → ⊥ }
     ensures halt { (image : Image) → Does (Halts (codes "m")) (one_host image (Some beginning)) (Halt 0 ∷ []) (one_host image None) }
     ensures halt_is_no_stop { (image : Image) → Does (Halts (codes "m")) (one_host image (Some beginning)) (Stop 0 ∷ []) (one_host image None) → ⊥ }
+    ensures umount { (image : Image) → Does (Umounts (codes "m")) (mounted_host image) (Umount 0 ∷ []) (one_host image None) }
+    ensures umount_forgets { (image : Image) → Does (Umounts (codes "m")) (mounted_host image) (Umount 0 ∷ []) (mounted_host image) → ⊥ }
     ensures refuse { (image : Image) → Does (Refuses (codes "m") (why.BadListing 3)) (one_host image None) (Refused (codes "m") (why.BadListing 3) ∷ []) (one_host image None) }
     ensures refuse_of_a_small_image { Does (Refuses (codes "m") (why.ImageSmall 0)) (one_host [] None) (Refused (codes "m") (why.ImageSmall 0) ∷ []) (one_host [] None) }
     ensures refuse_needs_a_cause { Does (Refuses (codes "m") why.Idle) (one_host [] None) (Refused (codes "m") why.Idle ∷ []) (one_host [] None) → ⊥ }

@@ -1,16 +1,23 @@
 -- A world's own hosts and notes, as contracts see them. docs/MODEL.md, "The journal".
-use Rattle.std.specs.Prelude.{ℕ, ◌==◌, ◌&&◌, not, nat_lt, Bool, List, map, None}
+use Rattle.std.specs.Prelude.{ℕ, ◌==◌, ◌&&◌, not, nat_lt, Bool, List, map, Option, Some, None}
+use Rattle.fam_commands.specs.Kept.{Kept}
+use Rattle.fam_commands.specs.Task.{Task}
 use Rattle.fam_machine.specs.Caches.{dirty_count}
 use Rattle.fam_journal.specs.ByWorld.{shown_host}
 use Rattle.fam_journal.specs.Machines.{HostState}
 use Rattle.fam_journal.specs.View.{HostView, WorldView}
-use Rattle.fam_notes.specs.declared.note.Note.{Note as Kept}
+use Rattle.fam_notes.specs.declared.note.Note.{Note as Noted}
 pub use Rattle.fam_notes.specs.Notes.{note_view, notes_view}
 use Rattle.fam_world.specs.declared.hosts.Host.{Host}
 
--- a host: its task is the one that it runs; it keeps nothing of the log
+-- what a host keeps of the log: its task has it, where it runs one
+abbrev pub kept_in : Option Task → Option Kept → Option Kept
+kept_in None kept = kept
+kept_in (Some task) kept = task.kept
+
+-- a host: its task is the one that it runs
 abbrev pub host_view : Host → HostView
-host_view h = record { name = h.name; uuid = h.uuid; cache = h.cache.lines; task = h.task; kept = None }
+host_view h = record { name = h.name; uuid = h.uuid; cache = h.cache.lines; task = h.task; kept = kept_in h.task h.kept }
 
 -- all hosts
 abbrev pub views : List Host → List HostView
@@ -25,5 +32,5 @@ abbrev pub is_dirty_other : ℕ → ℕ → HostState → Bool
 is_dirty_other maker at host = not (at == maker) && nat_lt 0 (dirty_count host.cache)
 
 -- a world: its hosts, and the notes that it keeps as those of a journal
-abbrev pub world_view : List Host → List Kept → WorldView
+abbrev pub world_view : List Host → List Noted → WorldView
 world_view hosts journal = record { hosts = views hosts; journal = notes_view journal }

@@ -1,4 +1,4 @@
-use Rattle.std.proofs.Common.{refl, inl, inr, [], codes, None}
+use Rattle.std.proofs.Common.{refl, inl, inr, false, [], codes, None}
 use Rattle.fam_journal.specs.Calls.{MayBeRefused}
 use Rattle.fam_journal.specs.declared.refusal.Refusal.TheVariants as why
 use Rattle.fam_samples.specs.Scene.{one_host}
@@ -35,7 +35,7 @@ returns-clause-refuse c = λ image. (refl, refl, inl tt)
 
 pub returns-clause-refuse_of_a_small_image : goal.returns-clause-refuse_of_a_small_image
 unfolding refusal_of
-returns-clause-refuse_of_a_small_image c = (refl, refl, inr refl)
+returns-clause-refuse_of_a_small_image c = (refl, refl, inr (false, refl))
 
 pub returns-clause-refuse_needs_a_cause : goal.returns-clause-refuse_needs_a_cause
 unfolding refusal_of
@@ -43,4 +43,8 @@ returns-clause-refuse_needs_a_cause c = λ does. by_cause does.2
   where
     by_cause : MayBeRefused (codes "m") why.Idle (one_host [] None) → ⊥
     by_cause (inl is) = is
-    by_cause (inr is) = absurd cc
+    by_cause (inr (mount, is)) = absurd cc
+
+pub returns-clause-umount : goal.returns-clause-umount
+unfolding refusal_of
+returns-clause-umount c = λ image. (refl, refl)

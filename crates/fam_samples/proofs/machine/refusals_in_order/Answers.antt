@@ -54,6 +54,26 @@ pub returns-clause-idle_halt : goal.returns-clause-idle_halt
 unfolding refusal_of
 returns-clause-idle_halt c = refl
 
+pub returns-clause-busy_umount : goal.returns-clause-busy_umount
+unfolding refusal_of
+returns-clause-busy_umount c = refl
+
+pub returns-clause-bare_umount : goal.returns-clause-bare_umount
+unfolding refusal_of
+returns-clause-bare_umount c = refl
+
+pub returns-clause-umount : goal.returns-clause-umount
+unfolding refusal_of
+returns-clause-umount c = refl
+
+pub returns-clause-second_mount : goal.returns-clause-second_mount
+unfolding refusal_of
+returns-clause-second_mount c = λ image enough. rw enough refl
+
+pub returns-clause-logplay_of_a_mounted_host : goal.returns-clause-logplay_of_a_mounted_host
+unfolding refusal_of
+returns-clause-logplay_of_a_mounted_host c = λ image enough. rw enough refl
+
 pub returns-clause-no_line : goal.returns-clause-no_line
 unfolding refusal_of
 returns-clause-no_line c = refl

@@ -1,7 +1,7 @@
 use Rattle.std.proofs.Common.{◌≡◌, Some, sym, refl, subst, ◌∙◌}
 use Rattle.fam_commands.specs.Kept.{Kept}
 use Rattle.fam_replay.specs.Replay.{IsAgainst}
-use Rattle.fam_tasks.proofs.history.reason_behind.Goals as goal
+use Rattle.fam_tasks.proofs.history.reason_behind_kept.Goals as goal
 
 pub returns-in-Ok-clause-reads : goal.returns-in-Ok-clause-reads
 returns-in-Ok-clause-reads c k is =
