@@ -1,9 +1,14 @@
 -- What a task keeps behind a turn: what it kept before, but where a logplay or a mount answers.
-use Rattle.std.proofs.Common.{ℕ, ◌≡◌, true, false, Option, unwrap_or, refl, sym, ap, ◌∙◌}
+use Rattle.std.proofs.Common.{ℕ, ◌≡◌, ◌≤◌, true, false, Option, Result, Ok, Err, unwrap_or, refl, sym, ap, subst, ◌∙◌}
+use Rattle.std.specs.Prelude.{OnOk}
+use Rattle.fam_base.specs.Commands.{IsSoundCmd}
+use Rattle.fam_base.specs.declared.cmd.Cmd.{Cmd}
+use Rattle.fam_base.specs.declared.cmd.Cmd.TheVariants.{Verify, Read}
+use Rattle.fam_format.specs.Layout.{least_lines}
 use Rattle.fam_rules.specs.Reply.{Reply, Played, Mounted}
-use Rattle.fam_commands.specs.Classes.{class_of, Replays}
+use Rattle.fam_commands.specs.Classes.{class_of, IsRead, IsVerify, Replays}
 use Rattle.fam_commands.specs.Keeping.{kept_after, kept_by, read_by}
-use Rattle.fam_commands.specs.Kept.{Kept}
+use Rattle.fam_commands.specs.Kept.{IsKept, Kept}
 use Rattle.fam_commands.specs.Task.{Task, op_at, op_of}
 use Rattle.fam_commands.specs.Turns as turns
 use Rattle.fam_commands.specs.Turns.{turn_of}
@@ -14,6 +19,10 @@ use Rattle.fam_commands.proofs.TurnTells.{ReplyTells, turn_tells}
 use Rattle.fam_machine.specs.declared.op.Op.{Op}
 use Rattle.fam_tasks.specs.declared.answer.Turn.{Turn}
 use Rattle.fam_tasks.specs.declared.answer.Turn.TheVariants.{Go}
+use Rattle.fam_tasks.specs.Invariant.{IsInvariantAt, IsTask}
+use Rattle.fam_tasks.specs.Model.{task_of}
+use Rattle.fam_tasks.specs.Sound.{IsSoundAt, most_lines}
+use Rattle.fam_tasks.specs.declared.task.Task.TheInside.{Inside}
 use Rattle.fam_tasks.specs.Tells.{Keeps, Tells, is_digest, is_reading}
 
 -- no logplay or mount decides
@@ -60,3 +69,31 @@ go_by t new p (turns.Ends reply) kept goes = absurd goes
 
 pub go_keeps : (t new : Task) (word : Option ℕ) → Tells (turn_of t word) Go new → Keeps t (turn_of t word) new
 go_keeps t new word goes = go_by t new t.phase (turn_of t word) (turn_tells t.phase t (unwrap_or word 0)) goes
+
+-- Commands that neither list nor mount.
+
+pub verify_other : (cmd : Cmd) → IsVerify cmd → class_of cmd ≡ Replays → ⊥
+verify_other (Verify path against) is class = absurd cc
+verify_other cmd is class = absurd is
+
+pub read_other : (cmd : Cmd) → IsRead cmd → class_of cmd ≡ Replays → ⊥
+read_other (Read path offset count) is class = absurd cc
+read_other cmd is class = absurd is
+
+-- what holds anyhow holds where something was done
+pub done_so : {T E : Type 0} {P : Type 0} (r : Result T E) → P → OnOk r P
+done_so (Ok x) p = p
+done_so (Err e) p = tt
+
+-- A task that has answered: its numbers fit, since it is asked for nothing more.
+pub ended_task : (t : Inside) → t.phase ≡ at.FenceGate → IsSoundCmd t.cmd → least_lines ≤ t.lines → t.lines ≤ most_lines → IsKept t.history.kept → IsTask t
+ended_task t phase command least most kept = record {
+  sound = record {
+    command = command;
+    least = least;
+    most = most;
+    stands = subst (λ (p : Phase). IsSoundAt p (task_of t)) (sym phase) tt;
+    kept = kept;
+  };
+  held = subst (λ (p : Phase). IsInvariantAt p t) (sym phase) tt;
+}

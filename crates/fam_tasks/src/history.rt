@@ -8,7 +8,7 @@ ghost use Rattle.std.specs.FinMap as map;
 ghost use Rattle.fam_base.specs.Commands.{IsSoundCmd};
 ghost use Rattle.fam_base.specs.declared.entry.Params.{Params};
 ghost use Rattle.fam_commands.specs.Kept as spec;
-ghost use Rattle.fam_commands.specs.Kept.{used_by};
+ghost use Rattle.fam_commands.specs.Kept.{IsKept, used_by};
 ghost use Rattle.fam_format.specs.Params.{SoundParams};
 ghost use Rattle.fam_format.specs.Slot.{Proper};
 ghost use Rattle.fam_format.specs.Tree.{replay};
@@ -107,6 +107,18 @@ fn reason_behind_kept(
     }
 }
 
+/// The entries that were found, of the file system with these parameters, to be kept. Nothing else may be kept of the
+/// slots before.
+fn keep_found(replay: &mut Replay, params: &Params) -> Kept
+    requires { HasFoundAll replay.old }
+    ensures { (gate : ℕ) → IsReplayOf params.now gate replay.old → result ≡ kept_of params.now replay.old }
+{
+    match replay.take_plan() {
+        Some(plan) => Kept::of(plan),
+        None => Kept::empty(params),
+    }
+}
+
 /// What stands at a path of a plan.
 fn entry_at(plan: &Plan, path: &Path) -> Option<Entry>
     ensures value { result ≡ map.get (replay plan.now.entries) path.now }
@@ -127,6 +139,15 @@ impl History {
             kept,
             serves: false,
             replay: Replay::new(alloc),
+        }
+    }
+
+    /// Each entry that the host keeps joins those before it.
+    pub(crate) fn kept_joins(&self)
+        ensures { IsKept self.now.kept }
+    {
+        if let Some(kept) = &self.kept {
+            kept.each_entry_joins();
         }
     }
 
@@ -244,9 +265,12 @@ impl History {
         ensures value { result ≡ map.get (replay (entries_in self.now.replay)) path.now }
         ensures proper { (p : Params) (gate : ℕ) → IsReplayOf p gate self.now.replay → IfSome result (Proper p) }
     {
+        if !self.serves {
+            return self.replay.at(path);
+        }
         match &self.kept {
-            Some(kept) if self.serves => entry_at(kept.plan(), path),
-            _ => self.replay.at(path),
+            Some(kept) => entry_at(kept.plan(), path),
+            None => self.replay.at(path),
         }
     }
 
@@ -283,10 +307,7 @@ impl History {
         if self.serves {
             return;
         }
-        self.kept = Some(match self.replay.take_plan() {
-            Some(plan) => Kept::of(plan),
-            None => Kept::empty(params),
-        });
+        self.kept = Some(keep_found(&mut self.replay, params));
     }
 
     /// The tree of the entries that were found, of the file system with these parameters. A host that keeps something
@@ -300,9 +321,9 @@ impl History {
         ensures err { OnErr result (self.new ≡ self.old) }
         ensures want { OnErr result (IsSome self.old.kept) }
     {
-        if self.kept.is_none() {
+        let Some(_kept) = &self.kept else {
             return Ok(self.replay.take_tree());
-        }
+        };
         let tree = self.copy_tree()?;
         self.keep(params);
         Ok(tree)

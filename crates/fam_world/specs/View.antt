@@ -1,9 +1,9 @@
 -- A world's own hosts and notes, as contracts see them. docs/MODEL.md, "The journal".
-use Rattle.std.specs.Prelude.{ℕ, ◌==◌, ◌&&◌, not, nat_lt, Bool, List, map, Option, Some, None}
+use Rattle.std.specs.Prelude.{ℕ, ◌==◌, ◌&&◌, not, nat_lt, Bool, List, length, map, slice_get, Option, Some, None, option_map}
 use Rattle.fam_commands.specs.Kept.{Kept}
 use Rattle.fam_commands.specs.Task.{Task}
 use Rattle.fam_machine.specs.Caches.{dirty_count}
-use Rattle.fam_journal.specs.ByWorld.{shown_host}
+use Rattle.fam_journal.specs.ByWorld.{number_in, shown_host}
 use Rattle.fam_journal.specs.Machines.{HostState}
 use Rattle.fam_journal.specs.View.{HostView, WorldView}
 use Rattle.fam_notes.specs.declared.note.Note.{Note as Noted}
@@ -18,6 +18,24 @@ kept_in (Some task) kept = task.kept
 -- a host: its task is the one that it runs
 abbrev pub host_view : Host → HostView
 host_view h = record { name = h.name; uuid = h.uuid; cache = h.cache.lines; task = h.task; kept = kept_in h.task h.kept }
+
+-- how many entries are kept
+abbrev pub count_kept : Option Kept → Option ℕ
+count_kept kept = option_map (λ (k : Kept). length k.entries) kept
+
+-- how many entries a host keeps, if there is one
+abbrev pub count_of : Option HostView → Option ℕ
+count_of None = None
+count_of (Some view) = count_kept view.kept
+
+-- how many entries the host of this number keeps
+abbrev pub count_at : Option ℕ → List HostView → Option ℕ
+count_at None hosts = None
+count_at (Some at) hosts = count_of (slice_get hosts at)
+
+-- how many entries the host of this name keeps, if it is declared and keeps anything
+abbrev pub count_named : List ℕ → WorldView → Option ℕ
+count_named name world = count_at (number_in name world) world.hosts
 
 -- all hosts
 abbrev pub views : List Host → List HostView

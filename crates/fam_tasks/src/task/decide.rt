@@ -148,9 +148,13 @@ impl Task {
         ensures want { OnErr result (WantsMemory self.old (turns.decide_turn cmd.Logplay self.old)) }
     {
         let m = self.history.count();
-        let tree = self.history.play(&self.params)?;
-        let answer = Answer::Played { m, tree };
-        Ok(done(&mut self.phase, answer))
+        match self.history.play(&self.params) {
+            Ok(tree) => {
+                self.history.kept_joins();
+                Ok(done(&mut self.phase, Answer::Played { m, tree }))
+            }
+            Err(full) => Err(full),
+        }
     }
 
     /// Answers how many entries were read. The host keeps these from here on.
@@ -162,6 +166,7 @@ impl Task {
     {
         let m = self.history.count();
         self.history.keep(&self.params);
+        self.history.kept_joins();
         done(&mut self.phase, Answer::Mounted { m })
     }
 
