@@ -15,6 +15,7 @@ use Rattle.fam_media.specs.Causes.{Rose}
 use Rattle.fam_media.specs.Outside.{IsTorn}
 use Rattle.fam_media.specs.Runs.{IsRunTorn, line_in, run_written, with_run}
 use Rattle.fam_tasks.specs.declared.answer.Turn.TheVariants.{Go}
+use Rattle.fam_tasks.specs.Sound.{IsSound}
 use Rattle.fam_tasks.specs.Tells.{Tells}
 use Rattle.fam_run.specs.Led.{HasBrokenOff, HasDone}
 use Rattle.fam_run.specs.Places.{HasPlaces, KeepsPlaces}
@@ -67,12 +68,15 @@ module _ (first : ℕ) (lines : List (List ℕ)) (modelled : Option Image) (old 
       size before now next new shown same (written ∙ one_more first lines k modelled) tells
 
   -- all lines of a run
-  pub run_sent : (t next : Task) (n : ℕ) → StoresRun first lines t next n → absent_up_to n → Sent modelled t old (run_written first lines n modelled) next old
-  run_sent t _ _ run.none absent = subst (λ (m : Option Image). Sent modelled t old m t old) (sym (none_written first lines modelled)) run.none
-  run_sent t next _ (run.more {mid = mid} {sending = sending} {n = n} before s tells) absent =
-      run.more (run_sent t mid n before (λ k below. absent k (omega (arith, below))))
+  pub run_sent : (t next : Task) (n : ℕ) → StoresRun first lines t next n → IsSound next → absent_up_to n → Sent modelled t old (run_written first lines n modelled) next old
+  run_sent t _ _ run.none sound absent = subst (λ (m : Option Image). Sent modelled t old m t old) (sym (none_written first lines modelled)) run.none
+  run_sent t next _ (run.more {mid = mid} {sending = sending} {n = n} before s tells) sound absent =
+      run.more (run_sent t mid n before s.sound (λ k below. absent k (omega (arith, below))))
       (record {
-        done = one_sent n mid sending next (absent n (omega arith)) s tells 0 0 0 old (run_written first lines (suc n) modelled) refl refl;
+        number = s.due.j;
+        at = s.due.phase;
+        done = λ size faults. one_sent n mid sending next (absent n (omega arith)) s tells size faults faults old (run_written first lines (suc n) modelled) refl refl;
+        sound = sound;
         unknown = λ is. one_more first lines n modelled ∙ unknown_written (line_in lines n) (first + n) (run_written first lines n modelled) is;
       })
 
@@ -83,7 +87,7 @@ module _ (first : ℕ) (lines : List (List ℕ)) (modelled : Option Image) (old 
     mid = run_written first lines n modelled;
     task = mid;
     held = old;
-    sent = run_sent t mid n earlier (λ k below. absent k (omega (arith, below)));
+    sent = run_sent t mid n earlier s.sound (λ k below. absent k (omega (arith, below)));
     done = one_sent n mid sending next (absent n (omega arith)) s tells size before now new shown same written;
   }
 
@@ -110,7 +114,7 @@ module _ (first : ℕ) (lines : List (List ℕ)) (modelled : Option Image) (old 
         mid = run_written first lines k modelled;
         task = b.mid;
         held = old;
-        sent = run_sent first lines modelled old normal t b.mid k b.earlier (λ j under. absent j (omega (arith, under, below)));
+        sent = run_sent first lines modelled old normal t b.mid k b.earlier b.next.sound (λ j under. absent j (omega (arith, under, below)));
         broken = line_torn (line_no (first + k)) (line_in lines k) b.mid b.sending (run_written first lines k modelled) old (normal_written first lines k modelled normal) b.next.stores (absent k below) b.next.sound b.next.sending_sound
             size before now after new shown same torn rose inside;
       }

@@ -7,6 +7,7 @@ use Rattle.fam_cache.specs.declared.fault.OperationFault.TheVariants as fault
 use Rattle.fam_machine.specs.Caches.{Cache}
 use Rattle.fam_machine.specs.Operations.{line_no}
 use Rattle.fam_commands.specs.Task.{Task}
+use Rattle.fam_commands.specs.declared.phase.Phase.TheVariants as at
 use Rattle.fam_commands.specs.Turns.{turn_of}
 use Rattle.fam_media.specs.Runs.{line_in}
 use Rattle.fam_tasks.specs.declared.answer.Turn.{Turn}
@@ -30,21 +31,25 @@ pub data StoresRun (first : ℕ) (lines : List (List ℕ)) : Task → Task → �
   none : {t : Task} → StoresRun first lines t t 0
   more : {t mid sending next : Task} {n : ℕ} → StoresRun first lines t mid n → StoresNext first lines n mid sending → Tells (turn_of sending None) Go next → StoresRun first lines t next (suc n)
 
--- a task and its host's cache, before and behind operations that lead memory's image from one to another, in which no call of
--- the media fails
-abbrev pub quiet_change : Option Image → Task → Cache → Option Image → Task → Cache → TaskChange
-quiet_change modelled task held left next after = record {
+-- a task and its host's cache, before and behind operations that lead memory's image from one to another, on a media of so many
+-- lines of which no call fails
+abbrev pub quiet_change : (lines faults : ℕ) → Option Image → Task → Cache → Option Image → Task → Cache → TaskChange
+quiet_change lines faults modelled task held left next after = record {
   task = task;
   next = next;
   old = held;
   new = after;
-  lines = 0;
-  media = record { old = record { image = modelled; faults = 0 }; new = record { image = left; faults = 0 } };
+  lines = lines;
+  media = record { old = record { image = modelled; faults = faults }; new = record { image = left; faults = faults } };
 }
 
--- operations up to one that sends a line, behind which the task just goes on: memory may be another then
+-- operations of a task that stores a line of its new file next, up to the one that sends the line, behind which it just goes on:
+-- memory may be another then
 pub record SendsOne (modelled : Option Image) (task : Task) (held : Cache) (left : Option Image) (next : Task) (after : Cache) : Type 0 where
-  pub done : HasDone (quiet_change modelled task held left next after) Go
+  pub number : ℕ
+  pub at : task.phase ≡ at.StoreData number 0
+  pub done : (lines faults : ℕ) → HasDone (quiet_change lines faults modelled task held left next after) Go
+  pub sound : IsSound next
   pub unknown : modelled ≡ None → left ≡ None
 
 -- several of those, one behind another: memory, a task and its host's cache, and what is left of them
