@@ -21,7 +21,7 @@ ghost use Rattle.fam_world.specs.View.{notes_view, views};
 
 use super::World;
 use crate::fault::WorldFault;
-use crate::find::{busy_host, dirty_host, number};
+use crate::find::{engaged_host, dirty_host, number};
 use crate::hosts::{Host, MOST_HOSTS};
 use crate::notes::{add, make_room, refused};
 use fam_base::{HostName, OutOfMemory};
@@ -68,7 +68,7 @@ fn maker(
     if let Some(cause) = early_cause(request.unit, request.log, LINE_BYTES * lines) {
         return Err(cause);
     }
-    if let Some(busy) = busy_host(hosts) {
+    if let Some(busy) = engaged_host(hosts) {
         return Err(Refusal::Busy(HostId(busy as u32)));
     }
     if let Some(dirty) = dirty_host(hosts, at) {
@@ -131,7 +131,8 @@ fn note_end(
 impl World {
     /// A host makes a file system with the UUID `fs`, units of so many bytes and a log of so many bytes, on the whole
     /// media. The first of these refuses it: `NoHost`; `BadGeometry` and `TooSmall`, by the numbers; `Busy`, the first
-    /// host that has a task; `Dirty`, the first other host with a line that memory may lack; `HasSuper`, where a
+    /// host that has a task or keeps something of the log; `Dirty`, the first other host with a line that memory may
+    /// lack; `HasSuper`, where a
     /// superblock reads in lines 0, 1 and 2 and `force` is false. `MediaFault` comes where the media failed, and the
     /// operations before it were done. All room is taken first.
     pub fn mkfs<M: Media>(
