@@ -13,3 +13,6 @@ pub mod Renewed
 pub mod Joined
 pub mod SlotLines
 pub mod FirstStores
+pub mod SentRuns
+pub mod Gathered
+pub mod RunAlone

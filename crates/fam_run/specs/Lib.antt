@@ -2,5 +2,6 @@ pub mod TaskChange
 pub mod Operation
 pub mod Cached
 pub mod Led
+pub mod Runs
 pub mod Room
 pub mod Places

@@ -1,4 +1,4 @@
-//! What comes next of a task, as a whole: the lines of a slot, a line of a file, or one operation.
+//! What comes next of a task, as a whole: the lines of a slot, lines of a file, or one operation.
 
 ghost use Rattle.std.specs.Prelude.{◌≡◌, ◌⊎◌, ◌<◌, IsErrOf, OnErr, OnOk};
 ghost use Rattle.fam_media.specs.Causes.{IsSteady};
@@ -6,7 +6,7 @@ ghost use Rattle.fam_cache.specs.Operations.{SendsWithin};
 ghost use Rattle.fam_commands.specs.FirstStore.{IsFirstStore};
 ghost use Rattle.fam_commands.specs.Task.{op_of};
 ghost use Rattle.fam_tasks.specs.declared.answer.Turn.TheVariants.{Go};
-ghost use Rattle.fam_run.specs.Led.{Advanced};
+ghost use Rattle.fam_run.specs.Runs.{HasAdvanced};
 ghost use Rattle.fam_run.specs.Operation.{said_of};
 ghost use Rattle.fam_run.specs.Places.{HasPlaces, PlacesKept, PlacesMade, append_places};
 ghost use Rattle.fam_run.specs.Room.{WantsRoom};
@@ -16,8 +16,8 @@ use crate::checking::check_slot;
 use crate::comparing::compare_line;
 use crate::operation::operate;
 use crate::slots::load_slot;
-use crate::storing::store_line;
-use fam_base::OutOfMemory;
+use crate::storing_run::store_lines;
+use fam_base::{Line, OutOfMemory};
 use fam_cache::{HostCache, OperationFault};
 use fam_media::Media;
 use fam_tasks::{Due, Task, Turn};
@@ -49,12 +49,13 @@ fn go_on<M: Media>(
     task: &mut Task,
     media: &mut M,
     turn: &mut Turn,
+    lines: &mut Vec<Line>,
 ) -> Result<(), OperationFault>
     requires go { turn.old ≡ Go }
     requires lines { task.old.lines ≡ M.size media.old }
     requires asked { SendsWithin (op_of task.old) (M.size media.old) cache.old.lines }
 
-    ensures advanced { Advanced
+    ensures advanced { HasAdvanced
         (task_change M.size M.state task.old task.new cache.old cache.new media.old media.new) (said_of result turn.new) }
     ensures want { IsErrOf result OperationFault.OutOfMemory → WantsRoom task.old cache.old }
     ensures places { PlacesKept task.old cache.old task.new cache.new (said_of result turn.new) }
@@ -63,20 +64,21 @@ fn go_on<M: Media>(
     match task.due() {
         Due::Slot(due) => load_slot(cache, task, media, turn, due),
         Due::Checked(slot) => check_slot(task, turn, slot),
-        Due::Stored(number) => store_line(cache, task, media, turn, number),
+        Due::Stored(number) => store_lines(cache, task, media, turn, number, lines),
         Due::Compared(line) => compare_line(cache, task, media, turn, line),
         Due::Other => operate(cache, task, media, turn),
     }
 }
 
 /// Goes on with a task that has not answered, and says what it says of the last operation: it does all operations on the
-/// lines of a slot that come next, or on a line of a file, by one call of the media a line, and else the next operation, as
-/// `operate` does. So it does where the host's copy is dirty, or holds any copy of a line that is to be stored.
+/// lines of a slot that come next, or on a line of a file, by one call of the media a line, or on lines of the new file that
+/// stand one behind another, by one call for all, and else the next operation, as `operate` does. So it does where the host's
+/// copy is dirty, or holds any copy of a line that is to be stored.
 ///
 /// Before the first store of an append it makes places in the cache for all lines that the append stores.
 ///
 /// `turn` is `Go` before, and behind them what the task says with the last one. It is lent, since what a task says may be large
-/// and it mostly says nothing.
+/// and it mostly says nothing. `lines` is lent as room for the words of lines that are sent by one call; it takes none before.
 ///
 /// `MediaFault` names the line: the operations before the one that failed were done. `OutOfMemory` comes where the cache
 /// has no room for one more line, or for an append's, or where a Digest finds no memory. Then nothing was done.
@@ -86,12 +88,13 @@ pub fn advance<M: Media>(
     task: &mut Task,
     media: &mut M,
     turn: &mut Turn,
+    lines: &mut Vec<Line>,
 ) -> Result<(), OperationFault>
     requires go { turn.old ≡ Go }
     requires lines { task.old.lines ≡ M.size media.old }
     requires asked { SendsWithin (op_of task.old) (M.size media.old) cache.old.lines }
 
-    ensures advanced { Advanced
+    ensures advanced { HasAdvanced
         (task_change M.size M.state task.old task.new cache.old cache.new media.old media.new) (said_of result turn.new) }
     ensures want { IsErrOf result OperationFault.OutOfMemory → WantsRoom task.old cache.old }
 
@@ -100,7 +103,7 @@ pub fn advance<M: Media>(
     ensures steady { IsSteady M.size M.state media.old media.new }
 {
     match make_places(cache, task) {
-        Ok(()) => go_on(cache, task, media, turn),
+        Ok(()) => go_on(cache, task, media, turn, lines),
         Err(_) => Err(OperationFault::OutOfMemory),
     }
 }

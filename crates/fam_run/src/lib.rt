@@ -11,6 +11,7 @@ mod operation;
 mod rest;
 mod slots;
 mod storing;
+mod storing_run;
 
 pub use advancing::advance;
 pub use operation::operate;
