@@ -349,15 +349,24 @@ impl Replay {
         }
     }
 
-    /// The tree of the entries that were found, which the caller takes over: nothing is kept of it. Nothing else may be
-    /// kept before.
+    /// The tree of the entries that were found, which the caller takes over. What is kept for a later reading shares it, where
+    /// there is memory for that; else nothing is kept. Nothing else may be kept before.
     pub fn take_tree(&mut self) -> Tree
         requires { HasFoundAll self.old }
         ensures { result ≡ replay (entries_in self.old) }
     {
-        match self.replica.take() {
-            Some(replica) => replica.into_tree(),
-            None => Tree::new(self.alloc),
+        let Some(replica) = self.replica.take() else {
+            return Tree::new(self.alloc);
+        };
+        if !self.keeps {
+            return replica.into_tree();
+        }
+        match replica.tree().copy(self.alloc) {
+            Ok(tree) => {
+                self.replica = Some(replica);
+                tree
+            }
+            Err(_) => replica.into_tree(),
         }
     }
 }
