@@ -85,14 +85,6 @@ entries_with tree more order longer e free held own is_more is_longer = record {
     entries : entries_at more longer ≡ entries_at tree order ++ e ∷ []
     entries = ap (λ (t : Tree). entries_at t longer) is_more ∙ ap (entries_at (with_entry tree e)) is_longer ∙ entries_more tree e.path e free order held
 
--- with the same tree and order
-pub entries_as_before : (tree same : Tree) (order kept : List (List ℕ)) → AreHeld tree order → paths_in (entries_at tree order) ≡ order → same ≡ tree → kept ≡ order → AreEntries same kept (entries_at tree order)
-entries_as_before tree same order kept held own is_same is_kept = record {
-  own = ap (λ (t : Tree). paths_in (entries_at t kept)) is_same ∙ ap (λ (l : List (List ℕ)). paths_in (entries_at tree l)) is_kept ∙ own ∙ sym is_kept;
-  entries = ap (λ (t : Tree). entries_at t kept) is_same ∙ ap (entries_at tree) is_kept;
-  held = subst (λ (t : Tree). AreHeld t kept) (sym is_same) (subst (AreHeld tree) (sym is_kept) held);
-}
-
 first_of : (o : Option Entry) (more : List Entry) → IsSome o → length (cons_option o more) ≡ suc (length more)
 first_of None more held = absurd (cc (held))
 first_of (Some e) more held = refl

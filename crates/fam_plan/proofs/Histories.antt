@@ -140,9 +140,3 @@ module _ (s now : PlanState) (held : Tree) (map : List Bool) (e : Entry) (plan :
       let room : length s.entries < s.params.slots = subst (λ (t : PlanState). length t.entries < t.params.slots) (sym view) left in
       subst (λ (l : List Entry). IsPlan (record { params = s.params; entries = l }) more after) (sym is)
       (plan_more s held more map after e plan room (added_of_view fits free) added count taken)
-
--- a plan whose fields are what they were
-pub plan_kept : (s : PlanState) (held more : Tree) (map after : List Bool) (list : List Entry) → IsPlan s held map → list ≡ s.entries → more ≡ held → after ≡ map → IsPlan (record { params = s.params; entries = list }) more after
-plan_kept s held more map after list plan is same taken =
-    subst (λ (l : List Entry). IsPlan (record { params = s.params; entries = l }) more after) (sym is)
-    (subst (λ (t : Tree). IsPlan s t after) (sym same) (subst (λ (m : List Bool). IsPlan s held m) (sym taken) plan))

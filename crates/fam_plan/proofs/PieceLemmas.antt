@@ -20,11 +20,6 @@ between_behind : (front behind : List ℕ) → between (length front) (length (f
 between_behind front behind =
     between_to_end (front ++ behind) (length front) (length (front ++ behind)) (omega arith) ∙ drop_at front behind (length front) refl
 
--- a part of those that are left
-between_take : (bytes : List ℕ) (n i j : ℕ) → j ≤ n → between i j (take n bytes) ≡ between i j bytes
-between_take bytes n i j within =
-    between_is (take n bytes) i j ∙ ap (drop i) (take-take j n bytes within) ∙ sym (between_is bytes i j)
-
 -- a path in front stays
 path_front : (front behind : List ℕ) (i j : ℕ) → IsPathAt front i j → IsPathAt (front ++ behind) i j
 path_front front behind i j at = record {
@@ -39,14 +34,6 @@ path_behind front path is = record {
   rises = omega (arith, length-append front path);
   within = omega arith;
   path = subst (λ (l : List ℕ). IsTrue (is_path l)) (sym (between_behind front path)) is;
-}
-
--- a path that is left stays
-path_take : (bytes : List ℕ) (n i j : ℕ) → n ≤ length bytes → j ≤ n → IsPathAt bytes i j → IsPathAt (take n bytes) i j
-path_take bytes n i j fits below at = record {
-  rises = at.rises;
-  within = omega (arith, below, length-take-le n bytes fits);
-  path = subst (λ (l : List ℕ). IsTrue (is_path l)) (sym (between_take bytes n i j below)) at.path;
 }
 
 -- One path more.
@@ -103,47 +90,3 @@ pub path_at : (bytes : List ℕ) (start : ℕ) (ends : List ℕ) (i : ℕ) → i
 path_at bytes start [] i below are = absurd (omega arith)
 path_at bytes start (end ∷ ends) zero below are = are.0
 path_at bytes start (end ∷ ends) (suc i) below are = path_at bytes end ends i (omega (arith, below)) are.1
-
--- One path less.
-
-module _ (bytes : List ℕ) (end : ℕ) where
-  -- the last path starts where the one before it ends
-  last_path : (start : ℕ) (ends : List ℕ) → ArePaths bytes start (ends ++ end ∷ []) → IsPathAt bytes (get_or (start ∷ ends) (length ends) 0) end
-  last_path start [] are = are.0
-  last_path start (e ∷ ends) are = last_path e ends are.1
-
-  -- the ends rise
-  rises_to : (start : ℕ) (ends : List ℕ) → ArePaths bytes start (ends ++ end ∷ []) → start ≤ get_or (start ∷ ends) (length ends) 0
-  rises_to start [] are = omega arith
-  rises_to start (e ∷ ends) are = omega (arith, are.0.rises, rises_to e ends are.1)
-
-  -- the other paths stand in the bytes before it
-  paths_before : (n start : ℕ) (ends : List ℕ) → n ≡ get_or (start ∷ ends) (length ends) 0 → n ≤ length bytes → ArePaths bytes start (ends ++ end ∷ []) → ArePaths (take n bytes) start ends
-  paths_before n start [] is fits are = sym is ∙ sym (length-take-le n bytes fits)
-  paths_before n start (e ∷ ends) is fits are =
-      (path_take bytes n start e fits (omega (arith, is, rises_to e ends are.1)) are.0, paths_before n e ends is fits are.1)
-
-  -- and it is the piece behind them
-  pieces_before : (n start : ℕ) (ends : List ℕ) → n ≡ get_or (start ∷ ends) (length ends) 0 → ArePaths bytes start (ends ++ end ∷ []) → pieces bytes start (ends ++ end ∷ []) ≡ pieces (take n bytes) start ends ++ between n end bytes ∷ []
-  pieces_before n start [] is are = ap (λ (i : ℕ). between i end bytes ∷ []) (sym is)
-  pieces_before n start (e ∷ ends) is are =
-      ap (λ (l : List ℕ). l ∷ pieces bytes e (ends ++ end ∷ [])) (sym (between_take bytes n start e (omega (arith, is, rises_to e ends are.1))))
-      ∙ ap (λ (l : List (List ℕ)). between start e (take n bytes) ∷ l) (pieces_before n e ends is are.1)
-
--- the last end is taken away, and the bytes are cut back to the one before it
-module _ (bytes ends less : List ℕ) (end n : ℕ) (are : ArePaths bytes 0 ends) (split : ends ≡ less ++ end ∷ []) (is : n ≡ get_or (0 ∷ less) (length less) 0) where
-  -- with it all are paths
-  all : ArePaths bytes 0 (less ++ end ∷ [])
-  all = subst (ArePaths bytes 0) split are
-
-  -- what is taken is a path
-  pub path_there : IsPathAt bytes n end
-  path_there = subst (λ (i : ℕ). IsPathAt bytes i end) (sym is) (last_path bytes end 0 less all)
-
-  -- what is left are paths
-  pub paths_less : ArePaths (take n bytes) 0 less
-  paths_less = paths_before bytes end n 0 less is (omega (arith, path_there.rises, path_there.within)) all
-
-  -- what is taken stood behind what is left
-  pub pieces_less : pieces bytes 0 ends ≡ pieces (take n bytes) 0 less ++ between n end bytes ∷ []
-  pieces_less = ap (pieces bytes 0) split ∙ pieces_before bytes end n 0 less is all

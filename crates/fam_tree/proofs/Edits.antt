@@ -6,7 +6,7 @@ use Rattle.std.specs.List.{AllByRecursion, AllZip, insert, remove}
 use Rattle.std.proofs.Math.Seq.{get_or-append_seam}
 use Rattle.std.proofs.lemmas.List.{drop-map, map-append, take-append-drop, take-map}
 use Rattle.fam_base.specs.declared.entry.Entry.{Entry}
-use Rattle.fam_tree.specs.Runs.{AreWithin, IsAt, IsGap, IsPut, IsTaken, entry_at, no_entry, run_of}
+use Rattle.fam_tree.specs.Runs.{AreWithin, IsAt, IsGap, IsPut, entry_at, no_entry, run_of}
 use Rattle.fam_tree.proofs.Ordered.{IsCut, all_back, all_front, all_joined}
 use Rattle.fam_tree.proofs.Places.{grown_run, within_more}
 
@@ -21,10 +21,6 @@ module _ {X Y : Type 0} (f : X → Y) where
       map-append f (take i xs) (x ∷ drop i xs)
       ∙ joined _ _ _ _ (sym (take-map f i xs)) (ap (λ (l : List Y). f x ∷ l) (sym (drop-map f i xs)))
 
-  pub map_remove : (xs : List X) (i : ℕ) → list_map f (remove xs i) ≡ remove (list_map f xs) i
-  map_remove xs i =
-      map-append f (take i xs) (drop (suc i) xs) ∙ joined _ _ _ _ (sym (take-map f i xs)) (sym (drop-map f (suc i) xs))
-
 -- ---- what holds of each element
 
 module _ {X : Type 0} (P : X → Type 0) where
@@ -32,12 +28,6 @@ module _ {X : Type 0} (P : X → Type 0) where
   all_insert xs i x all one =
       let parts : AllByRecursion P (take i xs ++ drop i xs) = subst (AllByRecursion P) (sym (take-append-drop i xs)) all in
       all_joined P (take i xs) (x ∷ drop i xs) (all_front P (take i xs) (drop i xs) parts) (one, all_back P (take i xs) (drop i xs) parts)
-
-  pub all_remove : (xs : List X) (i : ℕ) → AllByRecursion P xs → AllByRecursion P (remove xs i)
-  all_remove [] zero all = tt
-  all_remove [] (suc i) all = tt
-  all_remove (x ∷ xs) zero all = all.1
-  all_remove (x ∷ xs) (suc i) all = (all.0, all_remove xs i all.1)
 
   pub all_set : (xs : List X) (i : ℕ) (x : X) → AllByRecursion P xs → P x → AllByRecursion P (set xs i x)
   all_set [] i x all one = tt
@@ -54,22 +44,6 @@ module _ {X : Type 0} (P : X → Type 0) where
 -- a gap cuts the entries
 pub cut_of_gap : (es : List Entry) (q : List ℕ) (i : ℕ) → IsGap es q i → IsCut q es (take i es) (drop i es)
 cut_of_gap es q i gap = record { whole = sym (take-append-drop i es); below = gap.below; above = gap.above }
-
--- what stands at a place
-pub record IsThere (es : List Entry) (q : List ℕ) (i : ℕ) : Type 0 where
-  pub entry : Entry
-  pub own : entry.path ≡ q
-  pub whole : es ≡ take i es ++ entry ∷ drop (suc i) es
-
-own_path : (x : Entry) (q : List ℕ) → option_map (λ (e : Entry). e.path) (Some x) ≡ Some q → x.path ≡ q
-own_path x q same = cc (same)
-
-pub there : (es : List Entry) (q : List ℕ) (i : ℕ) → IsAt es q i → IsThere es q i
-there [] q i at = absurd (omega (arith, at.within))
-there (x ∷ es) q zero at = record { entry = x; own = own_path x q at.own; whole = refl }
-there (x ∷ es) q (suc i) at =
-    let more = there es q i (record { within = omega (arith, at.within); own = at.own }) in
-    record { entry = more.entry; own = more.own; whole = ap (λ (l : List Entry). x ∷ l) more.whole }
 
 -- ---- an entry that is put into a run, behind all entries
 
@@ -91,11 +65,6 @@ module _ (es more : List Entry) (xs ys : List ℕ) (i : ℕ) (e : Entry) (within
       let count : length more ≡ length es + 1 = ap length longer ∙ length-append es (e ∷ []) in
       subst (λ (l : List ℕ). AreWithin (length more) l) (sym is)
       (all_insert (λ (k : ℕ). k < length more) xs i (length es) (within_more (length es) (length more) xs (omega (arith, count)) within) (omega (arith, count)))
-
--- ---- an entry that is taken out
-
-pub taken_is : (es : List Entry) (xs ys : List ℕ) (q : List ℕ) (i : ℕ) → ys ≡ remove xs i → IsAt (run_of es xs) q i → IsTaken (run_of es xs) (run_of es ys) q
-taken_is es xs ys q i is at = record { place = i; here = at; less = ap (run_of es) is ∙ map_remove (entry_at es) xs i }
 
 -- ---- what is written once it is a run's own
 

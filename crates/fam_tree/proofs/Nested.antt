@@ -11,10 +11,10 @@ use Rattle.std.proofs.lemmas.List.{append_assoc}
 use Rattle.fam_base.specs.PathOrder.{path_cmp}
 use Rattle.fam_base.specs.declared.entry.Entry.{Entry}
 use Rattle.fam_format.specs.Tree.{Tree, with_entry}
-use Rattle.fam_tree.specs.Runs.{AreFilled, AreRuns, InOrder, IsAbsent, IsFound, IsPut, IsRunFor, IsTaken, entries_in, tree_of}
-use Rattle.fam_tree.proofs.Ordered.{AllApart, IsCut, cut_absent, cut_order, cut_view, IsHeld, held_apart, held_found, held_order, held_view, all_joined}
+use Rattle.fam_tree.specs.Runs.{AreFilled, AreRuns, InOrder, IsAbsent, IsFound, IsPut, IsRunFor, entries_in, tree_of}
+use Rattle.fam_tree.proofs.Ordered.{IsCut, cut_absent, cut_order, cut_view, IsHeld, held_found, all_joined}
 use Rattle.fam_tree.proofs.Views.{get_of_view, path_cmp-IsAntisymmetric}
-use Rattle.fam_tree.proofs.Edits.{IsThere, cut_of_gap, there}
+use Rattle.fam_tree.proofs.Edits.{cut_of_gap}
 
 abbrev pub Runs : Type 0
 Runs = List (List Entry)
@@ -52,13 +52,6 @@ pub filled_insert : (runs : Runs) (k : ℕ) (r : List Entry) → AreFilled runs 
 filled_insert runs zero r filled some = (some, filled)
 filled_insert [] (suc k) r filled some = (some, tt)
 filled_insert (x ∷ runs) (suc k) r filled some = (filled.0, filled_insert runs k r filled.1 some)
-
--- where another was in its place before
-pub filled_remove : (runs : Runs) (k : ℕ) (r : List Entry) → AreFilled runs → AreFilled (remove (set runs k r) k)
-filled_remove [] zero r filled = tt
-filled_remove [] (suc k) r filled = tt
-filled_remove (x ∷ runs) zero r filled = filled.1
-filled_remove (x ∷ runs) (suc k) r filled = (filled.0, filled_remove runs k r filled.1)
 
 split_at : (es : List Entry) (i : ℕ) (e : Entry) → slice_get es i ≡ Some e → es ≡ take i es ++ e ∷ drop (suc i) es
 split_at [] i e here = absurd (cc (here))
@@ -137,48 +130,11 @@ module _ (runs : Runs) (q : List ℕ) (k : ℕ) (r : List Entry) (for : IsRunFor
         longer : (l : List Entry) → l ≡ take put.place r ++ e ∷ drop put.place r → 1 ≤ length l
         longer l same = let n = length-append (take put.place r) (e ∷ drop put.place r) in let m = ap length same in omega (arith, n, m)
 
-  -- an entry is taken out of the run
-  module _ (new : List Entry) (taken : IsTaken r new q) (order : InOrder (entries_in runs)) where
-    gone : IsThere r q taken.place
-    gone = there r q taken.place taken.here
-
-    abbrev gone_front : List Entry
-    gone_front = before ++ take taken.place r
-
-    abbrev gone_back : List Entry
-    gone_back = drop (suc taken.place) r ++ behind
-
-    gone_held : IsHeld (entries_in runs) gone_front gone.entry gone_back
-    gone_held = outer_held (take taken.place r) (drop (suc taken.place) r) gone.entry gone.whole order
-
-    gone_whole : entries_in (set runs k new) ≡ gone_front ++ gone_back
-    gone_whole = whole_set runs k new for.within ∙ ap (λ (l : List Entry). before ++ (l ++ behind)) taken.less ∙ regrouped before (take taken.place r) (drop (suc taken.place) r) behind
-
-    pub gone_view : tree_of (entries_in (set runs k new)) ≡ finmap.remove (tree_of (entries_in runs)) q
-    gone_view =
-        ap tree_of gone_whole ∙ held_view (entries_in runs) gone_front gone.entry gone_back gone_held ∙ ap (λ (p : List ℕ). finmap.remove (tree_of (entries_in runs)) p) gone.own
-
-    pub gone_count : length (entries_in (set runs k new)) + 1 ≡ length (entries_in runs)
-    gone_count =
-        let more = length-append gone_front (gone.entry ∷ gone_back) in
-        let less = length-append gone_front gone_back in
-        let now = ap length gone_whole in
-        let was = ap length gone_held.whole in
-        omega (arith, more, less, now, was)
-
-    pub gone_apart : AllApart q (entries_in (set runs k new))
-    gone_apart =
-        subst (AllApart q) (sym gone_whole)
-        (subst (λ (p : List ℕ). AllApart p (gone_front ++ gone_back)) gone.own (held_apart (entries_in runs) gone_front gone.entry gone_back gone_held))
-
-    pub gone_order : InOrder (entries_in (set runs k new))
-    gone_order = subst InOrder (sym gone_whole) (held_order (entries_in runs) gone_front gone.entry gone_back gone_held)
-
 -- where there is no run, nothing is found
 pub nothing_without_runs : (runs : Runs) (q : List ℕ) → runs ≡ [] → finmap.get (tree_of (entries_in runs)) q ≡ None
 nothing_without_runs runs q is = ap (λ (l : Runs). finmap.get (tree_of (entries_in l)) q) is ∙ get_of_view [] q
 
--- ---- runs that are cut, begun or left out
+-- ---- runs that are cut
 
 same_entries : (a b x : List Entry) (rest : List Entry) → a ++ b ≡ x → a ++ (b ++ rest) ≡ x ++ rest
 same_entries a b x rest is = sym (append_assoc a b rest) ∙ ap (λ (l : List Entry). l ++ rest) is
@@ -201,26 +157,3 @@ module _ (runs : Runs) (k : ℕ) (lower upper r : List Entry) (within : k < leng
     order = subst InOrder (sym cut_whole) are.order;
     filled = subst AreFilled (sym next) (filled_insert (set runs k lower) (suc k) upper (filled_set runs k lower are.filled low) up);
   }
-
--- an empty run is left out
-pub empty_out : (runs : Runs) (k : ℕ) (r : List Entry) → k < length runs → length r ≡ 0 → entries_in (remove (set runs k r) k) ≡ entries_in (set runs k r)
-empty_out [] k r within none = absurd (omega arith)
-empty_out (x ∷ runs) zero [] within none = refl
-empty_out (x ∷ runs) zero (e ∷ r) within none = absurd (omega (arith, none))
-empty_out (x ∷ runs) (suc k) r within none = ap (λ (l : List Entry). x ++ l) (empty_out runs k r (omega arith) none)
-
--- where no entry stands, none is removed
-pub none_removed : (tree : Tree) (q : List ℕ) → finmap.get tree q ≡ None → tree ≡ finmap.remove tree q
-none_removed tree q none =
-    same_map nat_list_cmp_total path_cmp-IsAntisymmetric tree (finmap.remove tree q) (λ p. each p ∙ sym (get-remove nat_list_cmp_total tree q p))
-  where
-    each : (p : List ℕ) → finmap.get tree p ≡ cond (eq_by_cmp path_cmp p q) None (finmap.get tree p)
-    each p = elim (path_cmp p q) as (λ o. path_cmp p q ≡ o → finmap.get tree p ≡ cond (is_eq o) None (finmap.get tree p)) [
-      | Less ↦ λ is. refl
-      | Equal ↦ λ is. sym (get_tied nat_list_cmp_total tree p q is) ∙ none
-      | Greater ↦ λ is. refl
-    ] refl
-
--- a run that stays as it is
-pub same_run : (runs : Runs) (k : ℕ) (r new : List Entry) → k < length runs → r ≡ get_or runs k r → new ≡ r → entries_in (set runs k new) ≡ entries_in runs
-same_run runs k r new within is same = ap (λ (l : List Entry). entries_in (set runs k l)) same ∙ whole_set runs k r within ∙ sym (whole_at runs k r within is)

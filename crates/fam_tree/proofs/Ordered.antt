@@ -14,7 +14,7 @@ use Rattle.fam_format.specs.Tree.{with_entry}
 use Rattle.fam_tree.specs.Runs.{AllAbove, AllBelow, InOrder, keyed, tree_of}
 use Rattle.std.proofs.lemmas.List.{length-map}
 use Rattle.fam_tree.specs.Keyed.{IsKeyed, paths_of}
-use Rattle.fam_tree.proofs.Views.{entries_of_view, get_of_view, len_of_view, path_cmp-IsAntisymmetric, symmetric, values_of_view, view_of_insert, view_of_remove}
+use Rattle.fam_tree.proofs.Views.{entries_of_view, get_of_view, len_of_view, path_cmp-IsAntisymmetric, symmetric, values_of_view, view_of_insert}
 
 -- ---- what holds of each element
 
@@ -53,18 +53,6 @@ itself q = elim (path_cmp q q) as (λ o. path_cmp q q ≡ o → path_cmp q q ≡
   | Greater ↦ λ is. absurd (cc (is, nat_list_cmp_total.antisymm q q ∙ ap ordering_reverse is))
 ] refl
 
--- what is below a path, or above it, doesn't tie with it
-abbrev pub AllApart : List ℕ → List Entry → Type 0
-AllApart q es = AllByRecursion (λ e. path_cmp e.path q ≡ Equal → ⊥) es
-
-pub below_apart : (q : List ℕ) (es : List Entry) → AllBelow q es → AllApart q es
-below_apart q [] below = tt
-below_apart q (e ∷ es) below = (λ same. cc (same, below.0), below_apart q es below.1)
-
-pub above_apart : (q : List ℕ) (es : List Entry) → AllAbove q es → AllApart q es
-above_apart q [] above = tt
-above_apart q (e ∷ es) above = (λ same. cc (same, nat_list_cmp_total.antisymm e.path q ∙ ap ordering_reverse above.0), above_apart q es above.1)
-
 -- ---- parts of entries in order
 
 pub order_front : (a b : List Entry) → InOrder (a ++ b) → InOrder a
@@ -80,23 +68,12 @@ pub below_held : (a b : List Entry) (e : Entry) → InOrder (a ++ e ∷ b) → A
 below_held [] b e h = tt
 below_held (x ∷ a) b e h = let behind = all_back (λ (y : Entry). path_cmp x.path y.path ≡ Less) a (e ∷ b) h.0 in (behind.0, below_held a b e h.1)
 
-pub above_held : (a b : List Entry) (e : Entry) → InOrder (a ++ e ∷ b) → AllAbove e.path b
-above_held a b e h = let behind = order_back a (e ∷ b) h in behind.0
-
 -- one more between them
 pub order_with : (a b : List Entry) (e : Entry) → InOrder (a ++ b) → AllBelow e.path a → AllAbove e.path b → InOrder (a ++ e ∷ b)
 order_with [] b e order below above = (above, order)
 order_with (x ∷ a) b e order below above =
     let over = λ (y : Entry). path_cmp x.path y.path ≡ Less in
     (all_joined over a (e ∷ b) (all_front over a b order.0) (below.0, all_back over a b order.0), order_with a b e order.1 below.1 above)
-
--- and one less
-pub order_without : (a b : List Entry) (e : Entry) → InOrder (a ++ e ∷ b) → InOrder (a ++ b)
-order_without [] b e order = order.1
-order_without (x ∷ a) b e order =
-    let over = λ (y : Entry). path_cmp x.path y.path ≡ Less in
-    let behind = all_back over a (e ∷ b) order.0 in
-    (all_joined over a b (all_front over a (e ∷ b) order.0) behind.1, order_without a b e order.1)
 
 -- ---- what is found
 
@@ -161,10 +138,6 @@ pub record IsHeld (es before : List Entry) (e : Entry) (after : List Entry) : Ty
   pub whole : es ≡ before ++ e ∷ after
   pub order : InOrder es
 
-removed : (t : Bool) (e : Entry) (rest : Option Entry) → (t ≡ true → rest ≡ None) → rest ≡ cond t None (cond t (Some e) rest)
-removed true e rest none = none refl
-removed false e rest none = refl
-
 module _ (es before : List Entry) (e : Entry) (after : List Entry) (held : IsHeld es before e after) where
   inner : InOrder (before ++ e ∷ after)
   inner = subst InOrder held.whole held.order
@@ -172,29 +145,10 @@ module _ (es before : List Entry) (e : Entry) (after : List Entry) (held : IsHel
   at_each : (p : List ℕ) → lookup (is_at (path_cmp p)) (keyed es) ≡ cond (is_at (path_cmp e.path) p) (Some e) (lookup (is_at (path_cmp p)) (keyed (before ++ after)))
   at_each p = ap (λ (l : List Entry). lookup (is_at (path_cmp p)) (keyed l)) held.whole ∙ seen p before after e (below_held before after e inner)
 
-  free : lookup (is_at (path_cmp e.path)) (keyed (before ++ after)) ≡ None
-  free = absent e.path before after (below_held before after e inner) (above_held before after e inner)
-
   pub held_found : finmap.get (tree_of es) e.path ≡ Some e
   held_found =
       get_of_view (keyed es) e.path ∙ at_each e.path
       ∙ ap (λ (t : Bool). cond t (Some e) (lookup (is_at (path_cmp e.path)) (keyed (before ++ after)))) (ap is_eq (itself e.path))
-
-  pub held_order : InOrder (before ++ after)
-  held_order = order_without before after e inner
-
-  -- the others don't tie with it
-  pub held_apart : AllApart e.path (before ++ after)
-  held_apart =
-      all_joined (λ (x : Entry). path_cmp x.path e.path ≡ Equal → ⊥) before after
-      (below_apart e.path before (below_held before after e inner)) (above_apart e.path after (above_held before after e inner))
-
-  pub held_view : tree_of (before ++ after) ≡ finmap.remove (tree_of es) e.path
-  held_view =
-      view_of_remove (keyed es) (keyed (before ++ after)) e.path
-      (λ p. removed (is_at (path_cmp e.path) p) e (lookup (is_at (path_cmp p)) (keyed (before ++ after)))
-      (λ same. subst (λ (q : List ℕ). lookup (is_at (path_cmp q)) (keyed (before ++ after)) ≡ None) (tie e.path p same) free)
-      ∙ ap (cond (is_at (path_cmp e.path) p) None) (sym (at_each p)))
 
 -- ---- order as std has it
 

@@ -116,18 +116,6 @@ module _ (es : List Entry) (q : List ℕ) where
     };
   }
 
-  -- ---- the entry at a place
-
-  -- that of a place in a run
-  pub place_own : (xs : List ℕ) (i p : ℕ) → IsAt (run_of es xs) q i → i < length xs → p ≡ get_or xs i p → (entry_at es p).path ≡ q
-  place_own xs i p at below is =
-      let there : slice_get xs i ≡ Some p = slice_get-get_or xs i p below ∙ ap (λ (y : ℕ). Some y) (sym is) in
-      let entry : slice_get (run_of es xs) i ≡ Some (entry_at es p) = slice_get-map (entry_at es) xs i ∙ ap (option_map (entry_at es)) there in
-      some_path (entry_at es p) (sym (ap (option_map (λ (e : Entry). e.path)) entry) ∙ at.own)
-    where
-      some_path : (e : Entry) → option_map (λ (x : Entry). x.path) (Some e) ≡ Some q → e.path ≡ q
-      some_path e same = cc (same)
-
   -- whether the last is below a path
   pub ends_told : (xs : List ℕ) → AreWithin (length es) xs → ends_before es q xs ≡ ends_below q (run_of es xs)
   ends_told xs within =

@@ -8,12 +8,12 @@ use Rattle.fam_base.specs.PathOrder.{path_cmp}
 use Rattle.fam_base.specs.declared.entry.Entry.{Entry}
 use Rattle.std.specs.declared.cmp.Ordering.TheVariants.{Equal}
 use Rattle.fam_format.specs.Tree.{with_entry}
-use Rattle.fam_tree.specs.Runs.{AreApart, AreFilled, AreRuns, AreRunsOf, AreWithin, HasLetGo, InOrder, IsAbsent, IsPut, IsRunFor, IsTaken, RunsWithin, ends_before, ends_below, entries_in, entry_at, listed, run_of, runs_of, tree_of}
-use Rattle.fam_tree.proofs.Ordered.{AllApart, all_back, all_front, itself}
+use Rattle.fam_tree.specs.Runs.{AreFilled, AreRuns, AreRunsOf, AreWithin, InOrder, IsAbsent, IsPut, IsRunFor, RunsWithin, ends_before, ends_below, entries_in, entry_at, listed, run_of, runs_of, tree_of}
+use Rattle.fam_tree.proofs.Ordered.{all_back, all_front, itself}
 use Rattle.fam_tree.proofs.Places.{ends_told, grown_run, within_more}
-use Rattle.fam_tree.proofs.Edits.{all_at, all_insert, all_remove, all_set, map_insert, map_remove}
+use Rattle.fam_tree.proofs.Edits.{all_at, all_insert, all_set, map_insert}
 use Rattle.fam_tree.proofs.Search.{parted, placed, run_order}
-use Rattle.fam_tree.proofs.Nested.{absent_of_run, cut_runs, cut_whole, empty_out, filled_remove, filled_set, gone_apart, gone_count, gone_order, gone_view, none_removed, put_count, put_free, put_runs, put_view, same_run}
+use Rattle.fam_tree.proofs.Nested.{absent_of_run, cut_runs, cut_whole, filled_set, put_count, put_free, put_runs, put_view}
 
 abbrev pub Places : Type 0
 Places = List (List ℕ)
@@ -133,103 +133,3 @@ module _ (es : List Entry) (runs : Places) (k : ℕ) (lower upper run : List ℕ
             (all_insert (AreWithin (length es)) (set runs k lower) (k + 1) upper
             (all_set (AreWithin (length es)) runs k lower are.within (all_front inside lower upper parts)) (all_back inside lower upper parts));
       }
-
--- ---- an entry that was taken out
-
-run_apart : (es : List Entry) (q : List ℕ) (p : ℕ) → (entry_at es p).path ≡ q → (run : List ℕ) → AllApart q (run_of es run) → AllByRecursion (λ (i : ℕ). i ≡ p → ⊥) run
-run_apart es q p own [] apart = tt
-run_apart es q p own (x ∷ run) apart =
-    (λ same. apart.0 (ap (λ (i : ℕ). path_cmp (entry_at es i).path q) same ∙ ap (λ (r : List ℕ). path_cmp r q) own ∙ itself q), run_apart es q p own run apart.1)
-
--- no other place is that entry's
-pub runs_apart : (es : List Entry) (q : List ℕ) (p : ℕ) → (entry_at es p).path ≡ q → (runs : Places) → AllApart q (listed es runs) → AreApart p runs
-runs_apart es q p own [] apart = tt
-runs_apart es q p own (run ∷ runs) apart =
-    let other = λ (e : Entry). path_cmp e.path q ≡ Equal → ⊥ in
-    (run_apart es q p own run (all_front other (run_of es run) (listed es runs) apart), runs_apart es q p own runs (all_back other (run_of es run) (listed es runs) apart))
-
-module _ (es : List Entry) (runs : Places) (q : List ℕ) (k : ℕ) (run new : List ℕ) (are : AreRunsOf es runs) (for : IsRunFor (runs_of es runs) q k) (below : k < length runs) (is : run ≡ get_or runs k run) where
-  among : run_of es run ≡ get_or (runs_of es runs) k (run_of es run)
-  among = run_at es runs k below run is
-
-  runs_with : runs_of es (set runs k new) ≡ set (runs_of es runs) k (run_of es new)
-  runs_with = map-set (run_of es) runs k new
-
-  -- a run that has no such entry stays
-  pub stays : new ≡ run → IsAbsent (run_of es run) q → tree_of (listed es (set runs k new)) ≡ finmap.remove (tree_of (listed es runs)) q
-  stays same none =
-      ap tree_of (ap entries_in runs_with ∙ same_run (runs_of es runs) k (run_of es run) (run_of es new) (below_map es runs k below) among (ap (run_of es) same))
-      ∙ none_removed (tree_of (listed es runs)) q (absent_of_run (runs_of es runs) q k (run_of es run) for among none)
-
-  module _ (taken : IsTaken (run_of es run) (run_of es new) q) where
-    pub taken_view : tree_of (listed es (set runs k new)) ≡ finmap.remove (tree_of (listed es runs)) q
-    taken_view =
-        ap (λ (l : List (List Entry)). tree_of (entries_in l)) runs_with ∙ gone_view (runs_of es runs) q k (run_of es run) for among (run_of es new) taken are.held.order
-
-    pub taken_count : length (listed es (set runs k new)) + 1 ≡ length (listed es runs)
-    taken_count =
-        ap (λ (l : List (List Entry)). length (entries_in l) + 1) runs_with ∙ gone_count (runs_of es runs) q k (run_of es run) for among (run_of es new) taken are.held.order
-
-    taken_order : InOrder (listed es (set runs k new))
-    taken_order =
-        subst (λ (l : List (List Entry)). InOrder (entries_in l)) (sym runs_with) (gone_order (runs_of es runs) q k (run_of es run) for among (run_of es new) taken are.held.order)
-
-    pub taken_apart : (p : ℕ) → (entry_at es p).path ≡ q → AreApart p (set runs k new)
-    taken_apart p own =
-        runs_apart es q p own (set runs k new)
-        (subst (λ (l : List (List Entry)). AllApart q (entries_in l)) (sym runs_with) (gone_apart (runs_of es runs) q k (run_of es run) for among (run_of es new) taken are.held.order))
-
-    pub taken_are : AreWithin (length es) new → 1 ≤ length new → AreRunsOf es (set runs k new)
-    taken_are inside some = record {
-      held = record {
-        order = taken_order;
-        filled = subst AreFilled (sym runs_with) (filled_set (runs_of es runs) k (run_of es new) are.held.filled (omega (arith, some, length-map new (entry_at es))));
-      };
-      within = all_set (AreWithin (length es)) runs k new are.within inside;
-    }
-
-    -- a run that is empty then is left out
-    module _ (left : Places) (none : length new ≡ 0) (out : left ≡ remove (set runs k new) k) where
-      runs_left : runs_of es left ≡ remove (set (runs_of es runs) k (run_of es new)) k
-      runs_left = ap (runs_of es) out ∙ map_remove (run_of es) (set runs k new) k ∙ ap (λ (l : List (List Entry)). remove l k) runs_with
-
-      pub left_listed : listed es left ≡ listed es (set runs k new)
-      left_listed =
-          ap entries_in runs_left
-          ∙ empty_out (runs_of es runs) k (run_of es new) (below_map es runs k below) (length-map new (entry_at es) ∙ none)
-          ∙ ap entries_in (sym runs_with)
-
-      pub left_are : AreWithin (length es) new → AreRunsOf es left
-      left_are inside = record {
-        held = record {
-          order = subst InOrder (sym left_listed) taken_order;
-          filled = subst AreFilled (sym runs_left) (filled_remove (runs_of es runs) k (run_of es new) are.held.filled);
-        };
-        within = subst (RunsWithin (length es)) (sym out)
-            (all_remove (AreWithin (length es)) (set runs k new) k (all_set (AreWithin (length es)) runs k new are.within inside));
-      }
-
-      pub left_apart : (p : ℕ) → (entry_at es p).path ≡ q → AreApart p left
-      left_apart p own =
-          subst (AreApart p) (sym out)
-          (all_remove (λ (run : List ℕ). AllByRecursion (λ (i : ℕ). i ≡ p → ⊥) run) (set runs k new) k (taken_apart p own))
-
--- an entry that is let go
-module _ (old new : List Entry) (p : ℕ) (gone : HasLetGo old new p) where
-  kept_run : (run : List ℕ) → AreWithin (length old) run → AllByRecursion (λ (i : ℕ). i ≡ p → ⊥) run → AreWithin (length new) run
-  kept_run [] within apart = tt
-  kept_run (x ∷ run) within apart = (gone.kept x within.0 apart.0, kept_run run within.1 apart.1)
-
-  pub kept_runs : (runs : Places) → RunsWithin (length old) runs → AreApart p runs → RunsWithin (length new) runs
-  kept_runs [] within apart = tt
-  kept_runs (run ∷ runs) within apart = (kept_run run within.0 apart.0, kept_runs runs within.1 apart.1)
-
-  pub kept_same : (runs : Places) → RunsWithin (length old) runs → AreApart p runs → runs_of new runs ≡ runs_of old runs
-  kept_same runs within apart =
-      sym (ap (λ (l : List Entry). runs_of l runs) gone.whole ∙ grown_runs new gone.gone runs (kept_runs runs within apart))
-
-  pub kept_are : (runs : Places) → AreRunsOf old runs → AreApart p runs → AreRunsOf new runs
-  kept_are runs are apart = record {
-    held = subst AreRuns (sym (kept_same runs are.within apart)) are.held;
-    within = kept_runs runs are.within apart;
-  }

@@ -49,17 +49,6 @@ module _ (old new : Entries) (k : List ℕ) where
       ∙ ap (cond (eq_by_cmp path_cmp q k) (Some v)) (sym (get_of_view old q))
       ∙ sym (get-insert nat_list_cmp_total (map.from_entries old) k v q))
 
-  -- a removal
-  pub view_of_remove :
-      ((q : List ℕ) → lookup (is_at (path_cmp q)) new ≡ cond (is_at (path_cmp k) q) None (lookup (is_at (path_cmp q)) old)) →
-      map.from_entries {R = path_cmp} new ≡ map.remove (map.from_entries old) k
-  view_of_remove each =
-      same_map nat_list_cmp_total path_cmp-IsAntisymmetric _ _
-      (λ q. get_of_view new q ∙ each q
-      ∙ ap (λ (b : Bool). cond b None (lookup (is_at (path_cmp q)) old)) (symmetric q k)
-      ∙ ap (cond (eq_by_cmp path_cmp q k) None) (sym (get_of_view old q))
-      ∙ sym (get-remove nat_list_cmp_total (map.from_entries old) k q))
-
 -- ---- the order
 
 below : (x : List ℕ) (es : Entries) → AllByRecursion (λ y. path_cmp x y ≡ Less) (list_map (λ e. e.0) es) → below_all path_cmp x es ≡ true

@@ -61,12 +61,6 @@ pub record IsPut (old new : List Entry) (e : Entry) : Type 0 where
   pub gap : IsGap old e.path place
   pub more : new ≡ insert old place e
 
--- the entry of this path was taken out
-pub record IsTaken (old new : List Entry) (q : List ℕ) : Type 0 where
-  pub place : ℕ
-  pub here : IsAt old q place
-  pub less : new ≡ remove old place
-
 -- by what an entry is, if there is one: below a path
 abbrev pub is_below : List ℕ → Option Entry → Bool
 is_below q None = true
@@ -125,10 +119,6 @@ AreWithin count places = AllByRecursion (λ place. place < count) places
 abbrev pub RunsWithin : ℕ → List (List ℕ) → Type 0
 RunsWithin count runs = AllByRecursion (AreWithin count) runs
 
--- a place is none of these runs'
-abbrev pub AreApart : ℕ → List (List ℕ) → Type 0
-AreApart place runs = AllByRecursion (λ run. AllByRecursion (λ i. i ≢ place) run) runs
-
 -- runs of a tree with these entries
 pub record AreRunsOf (entries : List Entry) (runs : List (List ℕ)) : Type 0 where
   pub held : AreRuns (runs_of entries runs)
@@ -156,9 +146,3 @@ is_before entries q (Some place) = is_lt (place_cmp entries q place)
 -- the last entry of a run is below a path
 abbrev pub ends_before : List Entry → List ℕ → List ℕ → Bool
 ends_before entries q places = is_before entries q (slice_get places (length places - 1))
-
--- some last entries were let go, of which only one may have been in use: the one at this place
-pub record HasLetGo (old new : List Entry) (place : ℕ) : Type 0 where
-  pub gone : List Entry
-  pub whole : old ≡ new ++ gone
-  pub kept : (i : ℕ) → i < length old → i ≢ place → i < length new

@@ -45,7 +45,7 @@ fn add_letter(tree: &mut Tree, first: u8) -> Result<(), Fail> {
 }
 
 #[test]
-fn more_entries_than_a_run_holds_are_added_copied_and_taken_back(
+fn more_entries_than_a_run_holds_are_added_and_a_copy_stays(
     rt: HostRuntime,
 ) -> Result<(), Fail> {
     let mut tree = Tree::new(rt.alloc());
@@ -56,9 +56,14 @@ fn more_entries_than_a_run_holds_are_added_copied_and_taken_back(
     let last = lettered(25, 25)?;
     assert_eq!(rt; tree.apply(&last), Err(ApplyFault::Exists(Kind::Directory)));
     let copy = tree.copy(rt.alloc())?;
-    tree.take_back(&last.path);
-    assert_eq!(rt; tree.len(), 675);
-    assert!(rt; tree.get(&last.path).is_none());
+    let late = Entry {
+        path: Path::read(b"late")?,
+        ..last
+    };
+    tree.apply(&late)?;
+    assert_eq!(rt; tree.len(), 677);
+    assert_eq!(rt; copy.len(), 676);
+    assert!(rt; copy.get(&late.path).is_none());
     assert!(rt; copy.get(&last.path).is_some());
     Ok(())
 }
