@@ -2,7 +2,6 @@
 -- docs/MODEL.md, "The protocol".
 use Rattle.std.specs.Prelude.{ℕ, ⊤, ◌≡◌, ◌≢◌, ◌-◌, ◌*◌, ◌<◌, List, [], slice_index, Option, Some, None, Ok}
 use Rattle.fam_base.specs.declared.cmd.Cmd.{Cmd}
-use Rattle.fam_base.specs.declared.cmd.Cmd.TheVariants.{Check}
 use Rattle.fam_rules.specs.declared.answers.Refused.{Refused}
 use Rattle.fam_base.specs.declared.entry.Params.{Params}
 use Rattle.fam_base.specs.declared.entry.Entry.{Entry}
@@ -16,6 +15,7 @@ use Rattle.fam_commands.specs.declared.phase.Part.TheVariants.{Superblock, Heade
 use Rattle.fam_commands.specs.declared.phase.Phase.{Phase}
 use Rattle.fam_commands.specs.declared.phase.Phase.TheVariants as at
 use Rattle.fam_machine.specs.OneLine.{IsDirty}
+use Rattle.fam_commands.specs.Kept.{used}
 use Rattle.fam_commands.specs.Task.{Task, part_count, part_line}
 use Rattle.fam_commands.specs.Turns.{Turn, Goes, Marks, Finds, Writes, Ends, slots_read}
 use Rattle.fam_rules.specs.declared.answers.Refused.TheVariants.{NotMaster, BadStripe, Exists, NoParent, ParentIsFile, LogFull, NoSpace}
@@ -38,11 +38,11 @@ pub record Still (image : Lines) (have : ℕ) (s : SharedState) : Type 0 where
   pub clean : (h l : ℕ) → IsDirty (s.copy h l) → ⊥
   pub bad : (p : Params) (entries : List Entry) → reading_of image have ≢ Sound p entries
 
--- no slot is read, and its host keeps nothing
+-- no slot is read, and nothing is used of what its host keeps
 pub record IsBare (t : Task) : Type 0 where
   pub entries : t.entries ≡ []
   pub survey : t.survey ≡ no_survey
-  pub kept : t.kept ≡ None
+  pub unused : (p : Params) (gate : ℕ) → used t.kept t.cmd p gate ≡ []
 
 -- word 0 of line 0 is a superblock's
 abbrev pub HasMagic : Lines → Type 0

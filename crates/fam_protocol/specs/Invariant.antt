@@ -116,10 +116,19 @@ pub record Owner (hosts : Hosts) (id : List ℕ) : Type 0 where
 abbrev pub shared_with : Image → (ℕ → ℕ → Cell) → SharedState
 shared_with image copy = record { memory = line_at image; copy = copy }
 
--- no host has a task or keeps anything, and no cache has anything to send: what copies there are may be stale
+-- no host has a task, and no cache has anything to send: what copies there are may be stale
 pub record Rests (hosts : Hosts) (s : SharedState) : Type 0 where
   pub declared : AreHosts hosts s
   pub owner : (id : List ℕ) → Owner hosts id
   pub idle : (h : ℕ) → hosts.run h ≡ None
-  pub bare : (h : ℕ) → hosts.kept h ≡ None
   pub clean : (h l : ℕ) → IsCleanCell (s.copy h l)
+
+-- a host keeps a front of the history, or nothing; and of an image without history nothing
+abbrev pub KeepsFront : Settled → Option Kept → Type 0
+KeepsFront (Small image) kept = kept ≡ None
+KeepsFront (Damaged image) kept = kept ≡ None
+KeepsFront (Known p all settled) kept = KeepsPrefix p all settled kept
+
+-- so does every host
+abbrev pub KeepFronts : Settled → Hosts → Type 0
+KeepFronts settled hosts = (h : ℕ) → KeepsFront settled (hosts.kept h)

@@ -10,7 +10,7 @@ ghost use Rattle.fam_protocol.specs.Core.{IsWide};
 ghost use Rattle.fam_protocol.specs.Events.{Declares, Formats, MayFormat, Starts, Stops};
 ghost use Rattle.fam_protocol.specs.SharedState.{Breaks, TransfersAt, Loses, SharedState};
 ghost use Rattle.fam_protocol.specs.Steps.{StepHolds, Steps};
-ghost use Rattle.fam_protocol.specs.Invariant.{AreHosts, Hosts, Known, Rests, Settled, Invariant, solo, no_hosts, shared_with, settled_at_first};
+ghost use Rattle.fam_protocol.specs.Invariant.{AreHosts, Hosts, KeepFronts, Known, Rests, Settled, Invariant, solo, no_hosts, shared_with, settled_at_first};
 ghost use Rattle.fam_machine.specs.declared.cell.Cell.{Cell};
 ghost use Rattle.fam_rules.specs.Asks.{File};
 ghost use Rattle.fam_rules.specs.Place.{line_bytes};
@@ -24,11 +24,11 @@ pub fn an_image_begins_a_run()
 {}
 
 /// The same holds between commands, of any number of hosts: of every image, while no host has a task and no cache has
-/// anything to send, however stale its copies are (`again`). And where nothing is pending then, what is settled is told
+/// anything to send, however stale its copies are, and each keeps a front of the image's history or nothing (`again`). And where nothing is pending then, what is settled is told
 /// by the image's reading (`told`).
 pub fn an_image_at_rest_begins_a_run()
     ensures again { (image : Image) (hosts : Hosts) (copy : ℕ → ℕ → Cell) → line_bytes * length image ≤ device_limit
-        → Rests hosts (shared_with image copy)
+        → Rests hosts (shared_with image copy) → KeepFronts (settled_at_first image) hosts
         → Invariant (settled_at_first image) (length image) hosts (shared_with image copy) }
     ensures told { (image : Image) (hosts : Hosts) (copy : ℕ → ℕ → Cell) (p : Params) (all : List File)
         → line_bytes * length image ≤ device_limit → Rests hosts (shared_with image copy)

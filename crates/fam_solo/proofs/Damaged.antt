@@ -12,6 +12,7 @@ use Rattle.fam_commands.specs.declared.phase.Phase.{Phase}
 use Rattle.fam_commands.specs.declared.phase.Phase.TheVariants as at
 use Rattle.fam_machine.specs.Caches.{Cache, IsClean}
 use Rattle.fam_machine.specs.Operations.{Machine, operated, IsInImage}
+use Rattle.fam_commands.specs.Kept.{IsKept, Kept}
 use Rattle.fam_commands.specs.Solo.{SoloRun, starts, goes, turn_on}
 use Rattle.fam_commands.specs.Stands.{task_after}
 use Rattle.fam_commands.specs.Task.{Task, op_of}
@@ -28,7 +29,7 @@ use Rattle.fam_protocol.specs.Bad.{AtDamagedPhase, MayReplyBad, MaySayBad, Reads
 use Rattle.fam_protocol.specs.SharedState.{SharedState}
 use Rattle.fam_protocol.specs.Tasks.{IsCommand}
 use Rattle.fam_protocol.specs.Steps.{turn_settles}
-use Rattle.fam_protocol.specs.Invariant.{Damaged, Settled, Invariant, settled_at_first, settled_by}
+use Rattle.fam_protocol.specs.Invariant.{Damaged, KeepsFront, Settled, Invariant, settled_at_first, settled_by}
 use Rattle.fam_solo.proofs.Machine.{ran_cmd, ran_me, looks_end, word_of}
 use Rattle.fam_solo.proofs.Replies.{Answers, bad_client, faults_header, faults_slot, faults_super, no_client, reports_bad}
 use Rattle.fam_commands.proofs.BeforeWrites.{EndsAt, IsBehindSuper, SaysAt, turn_says}
@@ -65,33 +66,33 @@ damaged_by image (BadHeader fault) bad = refl
 damaged_by image (BadSlot i reason) bad = refl
 damaged_by image (Sound p entries) bad = absurd (bad p entries refl)
 
-module _ (cmd : Cmd) (me : List ℕ) (image : Image) (cache : Cache) (enough : least_lines ≤ length image) (limit : line_bytes * length image ≤ device_limit) (normal : map eight image ≡ image) (clean : IsClean cache) (command : IsCommand cmd)
+module _ (kept : Option Kept) (cmd : Cmd) (me : List ℕ) (image : Image) (cache : Cache) (enough : least_lines ≤ length image) (limit : line_bytes * length image ≤ device_limit) (normal : map eight image ≡ image) (clean : IsClean cache) (command : IsCommand cmd) (joined : IsKept kept) (front : KeepsFront (settled_at_first image) kept)
     (bad : (p : Params) (entries : List Entry) → reading_of (line_at image) (line_bytes * length image) ≢ Sound p entries) where
   -- the image is damaged throughout
   pub record OnBad (t : Task) (m : Machine) : Type 0 where
     pub floor : Option ℕ
-    pub invariant : Invariant (Damaged (line_at image)) (length image) (hosts_of me (Some (run_of t floor None))) (shared m)
+    pub invariant : Invariant (Damaged (line_at image)) (length image) (hosts_of kept me (Some (run_of t floor None))) (shared m)
     pub before : IsBeforeWrites t.phase
 
   moved : {t next : Task} {m : Machine} → Some t ≡ Some next → OnBad t m → OnBad next m
   moved {t} {next} {m} is on = subst (λ (x : Task). OnBad x m) (same_Some t next is) on
 
-  by_turn : (floor : Option ℕ) (turn : Turn) (t next : Task) (m : Machine) → Stepped (Damaged (line_at image)) (length image) me (run_of t floor None) turn m → SaysAt t.phase t.cmd turn → task_after turn ≡ Some next → OnBad next m
+  by_turn : (floor : Option ℕ) (turn : Turn) (t next : Task) (m : Machine) → Stepped kept (Damaged (line_at image)) (length image) me (run_of t floor None) turn m → SaysAt t.phase t.cmd turn → task_after turn ≡ Some next → OnBad next m
   by_turn floor (Goes x) t next m step says is = moved is record { floor = floor; invariant = step.invariant; before = says }
   by_turn floor (Marks x) t next m step says is = moved is record { floor = Some 0; invariant = step.invariant; before = says }
   by_turn floor (Finds n x) t next m step says is = moved is record { floor = floor; invariant = step.invariant; before = says }
   by_turn floor (Writes seq e x) t next m step says is = absurd step.says
   by_turn floor (Ends given) t next m step says is = absurd (cc)
 
-  pub on_bad : (t : Task) (words : List ℕ) (made : ℕ) (m : Machine) → SoloRun cmd me image cache t words made m → OnBad t m
+  pub on_bad : (t : Task) (words : List ℕ) (made : ℕ) (m : Machine) → SoloRun kept cmd me image cache t words made m → OnBad t m
   on_bad t words made m starts = record {
     floor = None;
-    invariant = subst (λ (x : Settled). Invariant x (length image) (hosts_of me (Some (run_of t None None))) (shared m)) (damaged_by (line_at image) (reading_of (line_at image) (line_bytes * length image)) bad) (invariant_first cmd me image cache enough limit clean command);
+    invariant = subst (λ (x : Settled). Invariant x (length image) (hosts_of kept me (Some (run_of t None None))) (shared m)) (damaged_by (line_at image) (reading_of (line_at image) (line_bytes * length image)) bad) (invariant_first kept cmd me image cache enough limit clean command front);
     before = tt;
   }
   on_bad next _ _ _ (goes {t = t} {words = words} {made = made} {m = m} before inside is) =
       let on : OnBad t m = on_bad t words made m before in
-      by_turn on.floor (turn_on t m) t next (operated (op_of t) m) (stepped (Damaged (line_at image)) (length image) me (run_of t on.floor None) m on.invariant inside) (turn_says t.phase t (word_of t m) on.before refl) is
+      by_turn on.floor (turn_on t m) t next (operated (op_of t) m) (stepped kept (Damaged (line_at image)) (length image) me (run_of t on.floor None) m on.invariant inside) (turn_says t.phase t (word_of t m) on.before refl) is
 
   -- what it answers
   module _ (t : Task) (cmd_is : t.cmd ≡ cmd) (me_is : t.me ≡ me) (p : Phase) (s : SharedState) (phase : AtDamagedPhase p (line_at image) (line_bytes * length image) 0 t s) where
@@ -123,23 +124,23 @@ module _ (cmd : Cmd) (me : List ℕ) (image : Image) (cache : Cache) (enough : l
   damaged_first : settled_at_first image ≡ Damaged (line_at image)
   damaged_first = first_settled image enough ∙ damaged_by (line_at image) (reading_of (line_at image) (line_bytes * length image)) bad
 
-  still_damaged : (t : Task) (words : List ℕ) (made : ℕ) (m : Machine) → (ran : SoloRun cmd me image cache t words made m) → settles_up_to cmd me image cache t words made m ran (Damaged (line_at image)) ≡ Damaged (line_at image)
+  still_damaged : (t : Task) (words : List ℕ) (made : ℕ) (m : Machine) → (ran : SoloRun kept cmd me image cache t words made m) → settles_up_to kept cmd me image cache t words made m ran (Damaged (line_at image)) ≡ Damaged (line_at image)
   still_damaged t words made m starts = refl
   still_damaged next _ _ _ (goes {t = t} {words = words} {made = made} {m = m} ran inside is) = ap (turn_settles (turn_on t m)) (still_damaged t words made m ran)
 
-  pub bad_ends : (t : Task) (words : List ℕ) (made : ℕ) (m : Machine) (given : Reply) → (ran : SoloRun cmd me image cache t words made m) → IsInImage (op_of t) m → turn_on t m ≡ Ends given → Answers image me cmd given (operated (op_of t) m).image × IsClean (operated (op_of t) m).cache
-      × (turn_settles (Ends given) (settles_up_to cmd me image cache t words made m ran (settled_at_first image)) ≡ settled_at_first (operated (op_of t) m).image)
+  pub bad_ends : (t : Task) (words : List ℕ) (made : ℕ) (m : Machine) (given : Reply) → (ran : SoloRun kept cmd me image cache t words made m) → IsInImage (op_of t) m → turn_on t m ≡ Ends given → Answers image me cmd given (operated (op_of t) m).image × IsClean (operated (op_of t) m).cache
+      × (turn_settles (Ends given) (settles_up_to kept cmd me image cache t words made m ran (settled_at_first image)) ≡ settled_at_first (operated (op_of t) m).image)
   bad_ends t words made m given ran inside is =
       let on : OnBad t m = on_bad t words made m ran in
-      let cmd_is : t.cmd ≡ cmd = ran_cmd cmd me image cache t words made m ran in
-      let me_is : t.me ≡ me = ran_me cmd me image cache t words made m ran in
-      let step = stepped (Damaged (line_at image)) (length image) me (run_of t on.floor None) m on.invariant inside in
-      let end = looks_end cmd me image cache normal clean t words made m ran on.before in (
+      let cmd_is : t.cmd ≡ cmd = ran_cmd kept cmd me image cache joined t words made m ran in
+      let me_is : t.me ≡ me = ran_me kept cmd me image cache joined t words made m ran in
+      let step = stepped kept (Damaged (line_at image)) (length image) me (run_of t on.floor None) m on.invariant inside in
+      let end = looks_end kept cmd me image cache normal clean t words made m ran on.before in (
         subst (λ (x : Image). Answers image me cmd given x) (sym end.0)
             (answers t cmd_is me_is t.phase (shared m) (on.invariant.stage.tasks 0 (run_of t on.floor None) refl).phase given
             (subst (λ (x : Turn). MaySayBad x (line_at image) (line_bytes * length image) t) is step.says)
             (subst (λ (c : Cmd). EndsAt t.phase c given) cmd_is (subst (SaysAt t.phase t.cmd) is (turn_says t.phase t (word_of t m) on.before refl)))),
         end.1,
-        ap (λ (x : Settled). turn_settles (Ends given) (settles_up_to cmd me image cache t words made m ran x)) damaged_first
+        ap (λ (x : Settled). turn_settles (Ends given) (settles_up_to kept cmd me image cache t words made m ran x)) damaged_first
             ∙ ap (turn_settles (Ends given)) (still_damaged t words made m ran) ∙ sym damaged_first ∙ ap settled_at_first (sym end.0),
       )

@@ -1,5 +1,5 @@
 -- A check of the whole file system that runs alone, on any image.
-use Rattle.std.proofs.Common.{ℕ, ◌≡◌, ◌*◌, List, length, map, Some, None, refl, sym, ◌∙◌, ap, subst}
+use Rattle.std.proofs.Common.{ℕ, ◌≡◌, ◌*◌, List, Option, length, map, Some, None, refl, sym, ◌∙◌, ap, subst}
 use Rattle.std.specs.Prelude.{slice_index, unwrap_or}
 use Rattle.std.proofs.lemmas.Option.{same_Some}
 use Rattle.fam_base.specs.declared.cmd.Cmd.{Cmd}
@@ -11,6 +11,7 @@ use Rattle.fam_commands.specs.declared.phase.Phase.{Phase}
 use Rattle.fam_commands.specs.declared.phase.Phase.TheVariants as at
 use Rattle.fam_machine.specs.Caches.{Cache, IsClean, cell_at}
 use Rattle.fam_machine.specs.Operations.{Machine, given, operated, line_no}
+use Rattle.fam_commands.specs.Kept.{IsKept, Kept, class_used}
 use Rattle.fam_commands.specs.Solo.{SoloRun, starts, goes, turn_on}
 use Rattle.fam_commands.specs.Stands.{task_after}
 use Rattle.fam_commands.specs.Task.{Task, op_at, op_of, part_line}
@@ -22,7 +23,6 @@ use Rattle.fam_commands.specs.Appends.{IsBeforeWrites}
 use Rattle.fam_protocol.specs.Bad.{AtDamagedPhase, BadTaskHolds, GoesOnBad, MayReplyBad, MaySayBad}
 use Rattle.fam_solo.proofs.Machine.{Looks, ran_cmd, ran_looks, ran_normal, dropped_fresh, quiet_fresh, reader_before, word_of}
 use Rattle.fam_commands.proofs.BeforeWrites.{EndsAt, SaysAt, turn_says}
-use Rattle.fam_commands.specs.Classes.{is_fsck}
 use Rattle.fam_protocol.specs.Lines.{Fresh}
 use Rattle.fam_solo.proofs.OneHost.{only, shared}
 use Rattle.fam_protocol.proofs.Damaged.DamagedTurns.{Bare, BadTurn, decide_says, drop_says, gate_says, header_moved, magic_says, none_moved, slot_says, word_says}
@@ -78,7 +78,7 @@ module _ (image : Image) (me : List ℕ) (m : Machine) (normal : map eight m.ima
   says at.SendGate a = absurd a
   says at.FenceGate a = absurd a
 
-module _ (me : List ℕ) (image : Image) (cache : Cache) (normal : map eight image ≡ image) (clean : IsClean cache) where
+module _ (kept : Option Kept) (me : List ℕ) (image : Image) (cache : Cache) (normal : map eight image ≡ image) (clean : IsClean cache) (joined : IsKept kept) where
   Holds : Task → Machine → Type 0
   Holds t m = BadTaskHolds (line_at image) (line_bytes * length image) (only (Some me) None) 0 t (shared m)
 
@@ -90,21 +90,21 @@ module _ (me : List ℕ) (image : Image) (cache : Cache) (normal : map eight ima
   by_turn (Writes seq e x) next m on is = absurd on
   by_turn (Ends reply) next m on is = absurd (cc)
 
-  module _ (t : Task) (words : List ℕ) (made : ℕ) (m : Machine) (ran : SoloRun Fsck me image cache t words made m) (holds : Holds t m) where
+  module _ (t : Task) (words : List ℕ) (made : ℕ) (m : Machine) (ran : SoloRun kept Fsck me image cache t words made m) (holds : Holds t m) where
     before : IsBeforeWrites t.phase
-    before = reader_before Fsck me image cache refl t words made m ran
+    before = reader_before kept Fsck me image cache joined refl t words made m ran
 
     looks : Looks image t.phase m
-    looks = ran_looks Fsck me image cache normal clean t words made m ran before
+    looks = ran_looks kept Fsck me image cache normal clean t words made m ran before
 
     turned : BadTurn (turn_on t m) (line_at image) (line_bytes * length image) (only (Some me) None) 0 t (shared (operated (op_of t) m))
     unfolding Holds
     turned =
-        says image me m (ran_normal Fsck me image cache normal t words made m ran) looks.image_is looks.clean t (ran_cmd Fsck me image cache t words made m ran) (same_Some t.me me (sym holds.me)) holds.lines t.phase holds.phase
+        says image me m (ran_normal kept Fsck me image cache normal t words made m ran) looks.image_is looks.clean t (ran_cmd kept Fsck me image cache joined t words made m ran) (same_Some t.me me (sym holds.me)) holds.lines t.phase holds.phase
 
-  ran_holds : (t : Task) (words : List ℕ) (made : ℕ) (m : Machine) → SoloRun Fsck me image cache t words made m → Holds t m
-  unfolding Holds
-  ran_holds t words made m starts = record { me = refl; lines = refl; phase = record { entries = refl; survey = refl; kept = refl } }
+  ran_holds : (t : Task) (words : List ℕ) (made : ℕ) (m : Machine) → SoloRun kept Fsck me image cache t words made m → Holds t m
+  unfolding Holds class_used
+  ran_holds t words made m starts = record { me = refl; lines = refl; phase = record { entries = refl; survey = refl; unused = λ p gate. refl } }
   ran_holds next _ _ _ (goes {t = t} {words = words} {made = made} {m = m} ran inside is) =
       by_turn (turn_on t m) next (operated (op_of t) m) (turned t words made m ran (ran_holds t words made m ran)).task is
 
@@ -118,9 +118,9 @@ module _ (me : List ℕ) (image : Image) (cache : Cache) (normal : map eight ima
   reported t p (BadSlot i reason) may ends = absurd (ends.1 refl)
   reported t p other may ends = absurd may
 
-  pub fsck_reports : (t : Task) (words : List ℕ) (made : ℕ) (m : Machine) (given : Reply) → SoloRun Fsck me image cache t words made m → turn_on t m ≡ Ends given → given ≡ Reports (report_of (line_at image) (line_bytes * length image))
+  pub fsck_reports : (t : Task) (words : List ℕ) (made : ℕ) (m : Machine) (given : Reply) → SoloRun kept Fsck me image cache t words made m → turn_on t m ≡ Ends given → given ≡ Reports (report_of (line_at image) (line_bytes * length image))
   fsck_reports t words made m given ran is =
       let holds : Holds t m = ran_holds t words made m ran in
-      let fsck : t.cmd ≡ Fsck = ran_cmd Fsck me image cache t words made m ran in
+      let fsck : t.cmd ≡ Fsck = ran_cmd kept Fsck me image cache joined t words made m ran in
       reported t t.phase given (subst (λ (turn : Turn). MaySayBad turn (line_at image) (line_bytes * length image) t) is (turned t words made m ran holds).may)
       (subst (λ (c : Cmd). EndsAt t.phase c given) fsck (subst (SaysAt t.phase t.cmd) is (turn_says t.phase t (word_of t m) (before t words made m ran holds) refl)))

@@ -31,7 +31,7 @@ use Rattle.fam_machine.specs.Operations.{Machine, given, operated}
 use Rattle.fam_commands.specs.Solo.{SoloRun, Stand, starts, goes, image_turn, image_word, notes_up_to, noted, stand_after, stand_next, turn_on}
 use Rattle.fam_commands.specs.Stands.{note_of, task_after, with_given}
 use Rattle.fam_commands.specs.Table.{RowNote}
-use Rattle.fam_commands.specs.Kept.{first_slot}
+use Rattle.fam_commands.specs.Kept.{Kept, first_slot}
 use Rattle.fam_commands.specs.Task.{Task, op_at, op_of, part_count, part_line, wanted_end}
 use Rattle.fam_commands.specs.Turns.{Turn, Goes, Marks, Finds, Writes, Ends, magic_turn, host_refusal, host_turn, super_turn, header_turn, slot_or_decide, slots_read, finds_or_goes, gate_loaded, gate_turn, join_turn, slot_turn, check_turn, append_turn, verify_lines, verify_turn, bytes_turn, kind_turn, found_turn, wish_turn, decide_turn, line_or, line_difference, compare_turn, file_turn, line_turn, with_word, turn_at, turn_of}
 use Rattle.fam_rules.specs.declared.answers.Refused.{Refused}
@@ -290,13 +290,13 @@ word_given image m p t same fresh = by_phase p same fresh
     by_phase at.SendGate is f = refl
     by_phase at.FenceGate is f = refl
 
-module _ (cmd : Cmd) (me : List ℕ) (image : Image) (cache : Cache) (normal : map eight image ≡ image) (clean : IsClean cache) where
-  pub ran_fresh : (t : Task) (words : List ℕ) (made : ℕ) (m : Machine) → SoloRun cmd me image cache t words made m → IsBeforeWrites t.phase → FreshAt (loads_from t.phase t) m
+module _ (kept : Option Kept) (cmd : Cmd) (me : List ℕ) (image : Image) (cache : Cache) (normal : map eight image ≡ image) (clean : IsClean cache) where
+  pub ran_fresh : (t : Task) (words : List ℕ) (made : ℕ) (m : Machine) → SoloRun kept cmd me image cache t words made m → IsBeforeWrites t.phase → FreshAt (loads_from t.phase t) m
   ran_fresh t words made m starts before = tt
   ran_fresh next _ _ _ (goes {t = t} {words = words} {made = made} {m = m} ran inside is) at_phase =
       let was : IsBeforeWrites t.phase = stays_past t.phase t next (word_of t m) is at_phase in
-      let looks : Looks image t.phase m = ran_looks cmd me image cache normal clean t words made m ran was in
-      let formed : map eight m.image ≡ m.image = ran_normal cmd me image cache normal t words made m ran in
+      let looks : Looks image t.phase m = ran_looks kept cmd me image cache normal clean t words made m ran was in
+      let formed : map eight m.image ≡ m.image = ran_normal kept cmd me image cache normal t words made m ran in
       let fresh : FreshAt (reads_at t.phase t) (operated (op_of t) m) = fresh_then m formed looks.clean t.phase t was (ran_fresh t words made m ran was) in
       elim (loads_then (reads_at t.phase t) (turn_on t m) next (turn_loads t.phase t (word_of t m) was refl) is) [
         | inl none ↦ subst (λ (o : Option ℕ). FreshAt o (operated (op_of t) m)) (sym none) tt
@@ -304,49 +304,49 @@ module _ (cmd : Cmd) (me : List ℕ) (image : Image) (cache : Cache) (normal : m
       ]
 
   -- each load gives the image's word
-  pub given_told : (t : Task) (words : List ℕ) (made : ℕ) (m : Machine) → SoloRun cmd me image cache t words made m → given (op_of t) m ≡ image_word image (op_of t)
+  pub given_told : (t : Task) (words : List ℕ) (made : ℕ) (m : Machine) → SoloRun kept cmd me image cache t words made m → given (op_of t) m ≡ image_word image (op_of t)
   given_told t words made m ran =
-      word_given image m t.phase t (λ before. (ran_looks cmd me image cache normal clean t words made m ran before).image_is) (λ before. ran_fresh t words made m ran before)
+      word_given image m t.phase t (λ before. (ran_looks kept cmd me image cache normal clean t words made m ran before).image_is) (λ before. ran_fresh t words made m ran before)
 
   -- so the image tells where the command stands
-  pub ran_told : (t : Task) (words : List ℕ) (made : ℕ) (m : Machine) → (ran : SoloRun cmd me image cache t words made m) → stand_after cmd me image made ≡ Some (record { task = t; words = words; notes = notes_up_to cmd me image cache t words made m ran })
+  pub ran_told : (t : Task) (words : List ℕ) (made : ℕ) (m : Machine) → (ran : SoloRun kept cmd me image cache t words made m) → stand_after kept cmd me image made ≡ Some (record { task = t; words = words; notes = notes_up_to kept cmd me image cache t words made m ran })
   ran_told t words made m starts = refl
   ran_told next _ _ _ (goes {t = t} {words = words} {made = made} {m = m} ran inside is) =
       let word : given (op_of t) m ≡ image_word image (op_of t) = given_told t words made m ran in
-      let notes : List RowNote = notes_up_to cmd me image cache t words made m ran in
+      let notes : List RowNote = notes_up_to kept cmd me image cache t words made m ran in
       let stand : Stand = record { task = t; words = words; notes = notes } in
       let next : made + 1 ≡ suc made = omega arith in
-      ap (stand_after cmd me image) next
+      ap (stand_after kept cmd me image) next
       ∙ ap (stand_next image) (ran_told t words made m ran)
       ∙ ap (λ (w : Option ℕ). option_map (λ (x : Task). record { task = x; words = with_given words w; notes = notes ++ noted (note_of (turn_of t w)) }) (task_after (turn_of t w))) (sym word)
       ∙ ap (option_map (λ (x : Task). record { task = x; words = with_given words (given (op_of t) m); notes = notes ++ noted (note_of (turn_on t m)) })) is
 
   -- and so its turn
-  pub turn_told : (t : Task) (words : List ℕ) (made : ℕ) (m : Machine) → (ran : SoloRun cmd me image cache t words made m) → image_turn image (record { task = t; words = words; notes = notes_up_to cmd me image cache t words made m ran }) ≡ turn_on t m
+  pub turn_told : (t : Task) (words : List ℕ) (made : ℕ) (m : Machine) → (ran : SoloRun kept cmd me image cache t words made m) → image_turn image (record { task = t; words = words; notes = notes_up_to kept cmd me image cache t words made m ran }) ≡ turn_on t m
   turn_told t words made m ran = ap (turn_of t) (sym (given_told t words made m ran))
 
 -- By the image alone.
 
-none_after : (cmd : Cmd) (me : List ℕ) (image : Image) (n more : ℕ) → stand_after cmd me image n ≡ None → stand_after cmd me image (n + more) ≡ None
-none_after cmd me image n zero none = let same : n + 0 ≡ n = omega arith in ap (stand_after cmd me image) same ∙ none
-none_after cmd me image n (suc more) none = let same : n + suc more ≡ suc (n + more) = omega arith in ap (stand_after cmd me image) same ∙ ap (stand_next image) (none_after cmd me image n more none)
+none_after : (kept : Option Kept) (cmd : Cmd) (me : List ℕ) (image : Image) (n more : ℕ) → stand_after kept cmd me image n ≡ None → stand_after kept cmd me image (n + more) ≡ None
+none_after kept cmd me image n zero none = let same : n + 0 ≡ n = omega arith in ap (stand_after kept cmd me image) same ∙ none
+none_after kept cmd me image n (suc more) none = let same : n + suc more ≡ suc (n + more) = omega arith in ap (stand_after kept cmd me image) same ∙ ap (stand_next image) (none_after kept cmd me image n more none)
 
-module _ (cmd : Cmd) (me : List ℕ) (image : Image) where
+module _ (kept : Option Kept) (cmd : Cmd) (me : List ℕ) (image : Image) where
   -- where a command ends it goes no further
-  ends_there : (n : ℕ) (s : Stand) (reply : Reply) → stand_after cmd me image n ≡ Some s → image_turn image s ≡ Ends reply → stand_after cmd me image (n + 1) ≡ None
+  ends_there : (n : ℕ) (s : Stand) (reply : Reply) → stand_after kept cmd me image n ≡ Some s → image_turn image s ≡ Ends reply → stand_after kept cmd me image (n + 1) ≡ None
   ends_there n s reply stands ends =
       let next : n + 1 ≡ suc n = omega arith in
-      ap (stand_after cmd me image) next ∙ ap (stand_next image) stands
+      ap (stand_after kept cmd me image) next ∙ ap (stand_next image) stands
       ∙ ap (λ (turn : Turn). option_map (λ (x : Task). record { task = x; words = with_given s.words (image_word image (op_of s.task)); notes = s.notes ++ noted (note_of (image_turn image s)) }) (task_after turn)) ends
 
-  not_later : (n : ℕ) (s : Stand) (k : ℕ) → stand_after cmd me image (k + 1) ≡ None → stand_after cmd me image n ≡ Some s → k < n → ⊥
+  not_later : (n : ℕ) (s : Stand) (k : ℕ) → stand_after kept cmd me image (k + 1) ≡ None → stand_after kept cmd me image n ≡ Some s → k < n → ⊥
   not_later n s k none some less =
-      let gone : stand_after cmd me image (k + 1 + (n - (k + 1))) ≡ None = none_after cmd me image (k + 1) (n - (k + 1)) none in
+      let gone : stand_after kept cmd me image (k + 1 + (n - (k + 1))) ≡ None = none_after kept cmd me image (k + 1) (n - (k + 1)) none in
       let same : k + 1 + (n - (k + 1)) ≡ n = omega (arith, less) in
-      absurd (let both = sym (ap (stand_after cmd me image) same) ∙ gone in cc)
+      absurd (let both = sym (ap (stand_after kept cmd me image) same) ∙ gone in cc)
 
   -- so it ends at one place, with the same words and the same notes
-  module _ (n k : ℕ) (s r : Stand) (reply answer : Reply) (stands : stand_after cmd me image n ≡ Some s) (ends : image_turn image s ≡ Ends reply) (stands' : stand_after cmd me image k ≡ Some r) (ends' : image_turn image r ≡ Ends answer) where
+  module _ (n k : ℕ) (s r : Stand) (reply answer : Reply) (stands : stand_after kept cmd me image n ≡ Some s) (ends : image_turn image s ≡ Ends reply) (stands' : stand_after kept cmd me image k ≡ Some r) (ends' : image_turn image r ≡ Ends answer) where
     pub same_count : n ≡ k
     same_count = elim (cases_order n k) [
       | inl same ↦ same
@@ -357,4 +357,4 @@ module _ (cmd : Cmd) (me : List ℕ) (image : Image) where
     ]
 
     pub same_stand : s ≡ r
-    same_stand = same_Some s r (sym stands ∙ ap (stand_after cmd me image) same_count ∙ stands')
+    same_stand = same_Some s r (sym stands ∙ ap (stand_after kept cmd me image) same_count ∙ stands')

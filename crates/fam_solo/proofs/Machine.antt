@@ -19,6 +19,7 @@ use Rattle.fam_machine.specs.Caches.{Cache, IsClean, IsCleanCell, cell_at, with_
 use Rattle.fam_commands.specs.Counts.{steps_of}
 use Rattle.fam_machine.specs.OneLine.{IsAsked, brought, failed_send, sent}
 use Rattle.fam_machine.specs.Operations.{Breaking, Failure, Machine, failed, given, operated, torn_at}
+use Rattle.fam_commands.specs.Kept.{IsKept, Kept}
 use Rattle.fam_commands.specs.Solo.{SoloRun, starts, goes, turn_on}
 use Rattle.fam_commands.specs.Stands.{StandsFor, task_after, turn_given, with_given}
 use Rattle.fam_commands.specs.Stands as stands
@@ -46,34 +47,35 @@ word_of t m = unwrap_or (given (op_of t) m) 0
 pub same_turn : (t : Task) (m : Machine) → turn_given t (word_of t m) ≡ turn_on t m
 same_turn t m = ap (turn_of t) (same_given (op_of t) m)
 
-module _ (cmd : Cmd) (me : List ℕ) (image : Image) (cache : Cache) where
-  pub ran_stands : (t : Task) (words : List ℕ) (made : ℕ) (m : Machine) → SoloRun cmd me image cache t words made m → StandsFor None cmd me (length image) t words made
+module _ (kept : Option Kept) (cmd : Cmd) (me : List ℕ) (image : Image) (cache : Cache) where
+  pub ran_stands : (t : Task) (words : List ℕ) (made : ℕ) (m : Machine) → SoloRun kept cmd me image cache t words made m → StandsFor kept cmd me (length image) t words made
   ran_stands t words made m starts = stands.starts
   ran_stands next _ _ _ (goes {t = t} {words = words} {made = made} {m = m} before inside is) =
-      subst (λ (o : Option ℕ). StandsFor None cmd me (length image) next (with_given words o) (made + 1)) (same_given (op_of t) m)
+      subst (λ (o : Option ℕ). StandsFor kept cmd me (length image) next (with_given words o) (made + 1)) (same_given (op_of t) m)
       (stands.goes (word_of t m) (ran_stands t words made m before) (ap task_after (same_turn t m) ∙ is))
 
-  -- the operations are as many as the answer says
-  pub ran_steps : (t : Task) (words : List ℕ) (made : ℕ) (m : Machine) (reply : Reply) → SoloRun cmd me image cache t words made m → turn_on t m ≡ Ends reply
-      → made + 1 ≡ steps_of None cmd (length image) (with_given words (given (op_of t) m)) reply
-  ran_steps t words made m reply ran ends =
-      steps_at_end None cmd me (length image) t words made tt (ran_stands t words made m ran) (word_of t m) reply (same_turn t m ∙ ends)
-      ∙ ap (λ (o : Option ℕ). steps_of None cmd (length image) (with_given words o) reply) (same_given (op_of t) m)
+  module _ (joined : IsKept kept) where
+    -- the operations are as many as the answer says
+    pub ran_steps : (t : Task) (words : List ℕ) (made : ℕ) (m : Machine) (reply : Reply) → SoloRun kept cmd me image cache t words made m → turn_on t m ≡ Ends reply
+        → made + 1 ≡ steps_of kept cmd (length image) (with_given words (given (op_of t) m)) reply
+    ran_steps t words made m reply ran ends =
+        steps_at_end kept cmd me (length image) t words made joined (ran_stands t words made m ran) (word_of t m) reply (same_turn t m ∙ ends)
+        ∙ ap (λ (o : Option ℕ). steps_of kept cmd (length image) (with_given words o) reply) (same_given (op_of t) m)
 
-  pub ran_cmd : (t : Task) (words : List ℕ) (made : ℕ) (m : Machine) → SoloRun cmd me image cache t words made m → t.cmd ≡ cmd
-  ran_cmd t words made m ran = (standing_tied None cmd me (length image) t words made tt (ran_stands t words made m ran)).cmd_is
+    pub ran_cmd : (t : Task) (words : List ℕ) (made : ℕ) (m : Machine) → SoloRun kept cmd me image cache t words made m → t.cmd ≡ cmd
+    ran_cmd t words made m ran = (standing_tied kept cmd me (length image) t words made joined (ran_stands t words made m ran)).cmd_is
 
-  pub ran_me : (t : Task) (words : List ℕ) (made : ℕ) (m : Machine) → SoloRun cmd me image cache t words made m → t.me ≡ me
-  ran_me t words made m ran = (standing_tied None cmd me (length image) t words made tt (ran_stands t words made m ran)).me_is
+    pub ran_me : (t : Task) (words : List ℕ) (made : ℕ) (m : Machine) → SoloRun kept cmd me image cache t words made m → t.me ≡ me
+    ran_me t words made m ran = (standing_tied kept cmd me (length image) t words made joined (ran_stands t words made m ran)).me_is
 
 -- The form of the image.
 
-module _ (cmd : Cmd) (me : List ℕ) (image : Image) (cache : Cache) where
-  pub ran_length : (t : Task) (words : List ℕ) (made : ℕ) (m : Machine) → SoloRun cmd me image cache t words made m → length m.image ≡ length image
+module _ (kept : Option Kept) (cmd : Cmd) (me : List ℕ) (image : Image) (cache : Cache) where
+  pub ran_length : (t : Task) (words : List ℕ) (made : ℕ) (m : Machine) → SoloRun kept cmd me image cache t words made m → length m.image ≡ length image
   ran_length t words made m starts = refl
   ran_length next _ _ _ (goes {t = t} {words = words} {made = made} {m = m} before inside is) = operated_length (op_of t) m ∙ ran_length t words made m before
 
-  pub ran_normal : map eight image ≡ image → (t : Task) (words : List ℕ) (made : ℕ) (m : Machine) → SoloRun cmd me image cache t words made m → map eight m.image ≡ m.image
+  pub ran_normal : map eight image ≡ image → (t : Task) (words : List ℕ) (made : ℕ) (m : Machine) → SoloRun kept cmd me image cache t words made m → map eight m.image ≡ m.image
   ran_normal normal t words made m starts = normal
   ran_normal normal next _ _ _ (goes {t = t} {words = words} {made = made} {m = m} before inside is) = operated_normal (op_of t) m (ran_normal normal t words made m before)
 
@@ -238,12 +240,12 @@ reader_stays p cmd (Finds n t) next none says is = subst (λ (x : Task). IsBefor
 reader_stays p cmd (Writes seq e t) next none says is = absurd (let some = says.wish.1 in cc)
 reader_stays p cmd (Ends reply) next none says is = absurd (cc)
 
-module _ (cmd : Cmd) (me : List ℕ) (image : Image) (cache : Cache) where
+module _ (kept : Option Kept) (cmd : Cmd) (me : List ℕ) (image : Image) (cache : Cache) where
   module _ (normal : map eight image ≡ image) (clean : IsClean cache) where
     -- after one operation more
-    pub looks_on : (t next : Task) (words : List ℕ) (made : ℕ) (m : Machine) → SoloRun cmd me image cache t words made m → IsBeforeWrites t.phase → Looks image t.phase m → task_after (turn_on t m) ≡ Some next → Looks image next.phase (operated (op_of t) m)
+    pub looks_on : (t next : Task) (words : List ℕ) (made : ℕ) (m : Machine) → SoloRun kept cmd me image cache t words made m → IsBeforeWrites t.phase → Looks image t.phase m → task_after (turn_on t m) ≡ Some next → Looks image next.phase (operated (op_of t) m)
     looks_on t next words made m ran before looks is =
-        let formed : map eight m.image ≡ m.image = ran_normal cmd me image cache normal t words made m ran in
+        let formed : map eight m.image ≡ m.image = ran_normal kept cmd me image cache normal t words made m ran in
         let quiet : IsReadingOp (op_of t) = quiet_before t t.phase before in
         record {
           image_is = quiet_image m formed looks.clean (op_of t) quiet ∙ looks.image_is;
@@ -254,29 +256,30 @@ module _ (cmd : Cmd) (me : List ℕ) (image : Image) (cache : Cache) where
           ];
         }
 
-    pub ran_looks : (t : Task) (words : List ℕ) (made : ℕ) (m : Machine) → SoloRun cmd me image cache t words made m → IsBeforeWrites t.phase → Looks image t.phase m
+    pub ran_looks : (t : Task) (words : List ℕ) (made : ℕ) (m : Machine) → SoloRun kept cmd me image cache t words made m → IsBeforeWrites t.phase → Looks image t.phase m
     ran_looks t words made m starts before = record { image_is = refl; clean = clean; gate = λ past. absurd past }
     ran_looks next _ _ _ (goes {t = t} {words = words} {made = made} {m = m} before inside is) at_phase =
         let was : IsBeforeWrites t.phase = stays_past t.phase t next (word_of t m) is at_phase in
         looks_on t next words made m before was (ran_looks t words made m before was) is
 
     -- so it is where it ends
-    pub looks_end : (t : Task) (words : List ℕ) (made : ℕ) (m : Machine) → SoloRun cmd me image cache t words made m → IsBeforeWrites t.phase → ((operated (op_of t) m).image ≡ image) × IsClean (operated (op_of t) m).cache
+    pub looks_end : (t : Task) (words : List ℕ) (made : ℕ) (m : Machine) → SoloRun kept cmd me image cache t words made m → IsBeforeWrites t.phase → ((operated (op_of t) m).image ≡ image) × IsClean (operated (op_of t) m).cache
     looks_end t words made m ran before =
         let looks : Looks image t.phase m = ran_looks t words made m ran before in
-        let formed : map eight m.image ≡ m.image = ran_normal cmd me image cache normal t words made m ran in
+        let formed : map eight m.image ≡ m.image = ran_normal kept cmd me image cache normal t words made m ran in
         let quiet : IsReadingOp (op_of t) = quiet_before t t.phase before in
         (quiet_image m formed looks.clean (op_of t) quiet ∙ looks.image_is, quiet_clean m formed looks.clean (op_of t) quiet)
 
     -- nor does a fault of memory change the image
-    pub ran_failed : (t : Task) (words : List ℕ) (made : ℕ) (m : Machine) → SoloRun cmd me image cache t words made m → IsBeforeWrites t.phase
+    pub ran_failed : (t : Task) (words : List ℕ) (made : ℕ) (m : Machine) → SoloRun kept cmd me image cache t words made m → IsBeforeWrites t.phase
         → (through : Breaking) (failure : Failure) → failed through (op_of t) m ≡ Some failure → failure.left.image ≡ image
     ran_failed t words made m ran before through failure is =
         let looks : Looks image t.phase m = ran_looks t words made m ran before in
-        quiet_failed m (ran_normal cmd me image cache normal t words made m ran) looks.clean (op_of t) through failure is (quiet_before t t.phase before) ∙ looks.image_is
+        quiet_failed m (ran_normal kept cmd me image cache normal t words made m ran) looks.clean (op_of t) through failure is (quiet_before t t.phase before) ∙ looks.image_is
 
-  pub reader_before : wish_of cmd ≡ None → (t : Task) (words : List ℕ) (made : ℕ) (m : Machine) → SoloRun cmd me image cache t words made m → IsBeforeWrites t.phase
-  reader_before none t words made m starts = tt
-  reader_before none next _ _ _ (goes {t = t} {words = words} {made = made} {m = m} before inside is) =
-      reader_stays t.phase t.cmd (turn_on t m) next (ap wish_of (ran_cmd cmd me image cache t words made m before) ∙ none)
-      (turn_says t.phase t (word_of t m) (reader_before none t words made m before) refl) is
+  module _ (joined : IsKept kept) where
+    pub reader_before : wish_of cmd ≡ None → (t : Task) (words : List ℕ) (made : ℕ) (m : Machine) → SoloRun kept cmd me image cache t words made m → IsBeforeWrites t.phase
+    reader_before none t words made m starts = tt
+    reader_before none next _ _ _ (goes {t = t} {words = words} {made = made} {m = m} before inside is) =
+        reader_stays t.phase t.cmd (turn_on t m) next (ap wish_of (ran_cmd kept cmd me image cache joined t words made m before) ∙ none)
+        (turn_says t.phase t (word_of t m) (reader_before none t words made m before) refl) is

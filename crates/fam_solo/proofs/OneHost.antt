@@ -15,7 +15,7 @@ use Rattle.fam_commands.specs.Keeping.{kept_after}
 use Rattle.fam_commands.specs.Kept.{Kept}
 use Rattle.fam_commands.specs.Solo.{turn_on}
 use Rattle.fam_commands.specs.Stands.{turn_given}
-use Rattle.fam_commands.specs.Task.{Task, op_of, starting}
+use Rattle.fam_commands.specs.Task.{Task, mounted, op_of}
 use Rattle.fam_commands.specs.Turns.{Turn}
 use Rattle.fam_rules.specs.Place.{line_bytes}
 use Rattle.fam_protocol.specs.SharedState.{SharedState}
@@ -23,11 +23,11 @@ use Rattle.fam_protocol.specs.Hosted.{ActsAs}
 use Rattle.fam_protocol.specs.Tasks.{IsCommand}
 use Rattle.fam_protocol.proofs.Hosts.Acts.{operates_by}
 use Rattle.fam_protocol.specs.After.{Named, Run}
-use Rattle.fam_protocol.specs.Invariant.{AreHosts, Hosts, Owner, Rests, Settled, Small, Invariant, shared_with, settled_at_first, settled_by}
+use Rattle.fam_protocol.specs.Invariant.{AreHosts, Hosts, KeepFronts, KeepsFront, Owner, Rests, Settled, Small, Invariant, shared_with, settled_at_first, settled_by}
 use Rattle.fam_protocol.specs.Events.{Starts}
 use Rattle.fam_protocol.specs.Steps.{TurnSays, Steps, run_after, settled_count, turn_settles}
 use Rattle.fam_solo.proofs.Machine.{same_turn, word_of}
-use Rattle.fam_protocol.proofs.Hosts.Begins.{begins_with}
+use Rattle.fam_protocol.proofs.Hosts.Begins.{begins_with, nothing_kept}
 use Rattle.fam_protocol.proofs.Hosts.Events.{one_or_two, invariant_begun}
 use Rattle.fam_protocol.proofs.Hosts.Steps.{invariant_stepped}
 
@@ -42,12 +42,8 @@ only one none (suc h) = none
 abbrev pub shared : Machine → SharedState
 shared m = record { memory = line_at m.image; copy = λ h l. only (cell_at m.cache l) Absent h }
 
-abbrev pub hosts_left : List ℕ → Option Run → Option Kept → Hosts
-hosts_left me run kept = record { uuid = only (Some me) None; run = only run None; kept = only kept None }
-
--- it keeps nothing
-abbrev pub hosts_of : List ℕ → Option Run → Hosts
-hosts_of me run = hosts_left me run None
+abbrev pub hosts_of : Option Kept → List ℕ → Option Run → Hosts
+hosts_of kept me run = record { uuid = only (Some me) None; run = only run None; kept = only kept None }
 
 -- a task of host 0
 abbrev pub run_of : Task → Option ℕ → Option Named → Run
@@ -64,42 +60,42 @@ acts m m' = record { before = record { memory = λ l. refl; copies = λ l. refl 
     elsewhere (suc h) l other = refl
 
 -- what comes of it
-pub record Stepped (settled : Settled) (lines : ℕ) (me : List ℕ) (r : Run) (turn : Turn) (m : Machine) : Type 0 where
-  pub says : TurnSays turn r settled lines (hosts_of me (Some r))
-  pub invariant : Invariant (turn_settles turn settled) lines (hosts_left me (run_after turn (settled_count settled) r) (kept_after turn r.task None)) (shared m)
+pub record Stepped (kept : Option Kept) (settled : Settled) (lines : ℕ) (me : List ℕ) (r : Run) (turn : Turn) (m : Machine) : Type 0 where
+  pub says : TurnSays turn r settled lines (hosts_of kept me (Some r))
+  pub invariant : Invariant (turn_settles turn settled) lines (hosts_of (kept_after turn r.task kept) me (run_after turn (settled_count settled) r)) (shared m)
 
-module _ (settled : Settled) (lines : ℕ) (me : List ℕ) (r : Run) (m : Machine) (invariant : Invariant settled lines (hosts_of me (Some r)) (shared m)) (inside : IsInImage (op_of r.task) m) where
+module _ (kept : Option Kept) (settled : Settled) (lines : ℕ) (me : List ℕ) (r : Run) (m : Machine) (invariant : Invariant settled lines (hosts_of kept me (Some r)) (shared m)) (inside : IsInImage (op_of r.task) m) where
   others_alike : {X : Type 0} (none x y : X) (h : ℕ) → h ≢ 0 → only x none h ≡ only y none h
   others_alike none x y zero other = absurd (other refl)
   others_alike none x y (suc h) other = refl
 
   step : (turn : Turn) → turn_given r.task (word_of r.task m) ≡ turn
-      → Steps 0 (word_of r.task m) settled r (hosts_of me (Some r)) (hosts_left me (run_after turn (settled_count settled) r) (kept_after turn r.task None)) (shared m) (shared (operated (op_of r.task) m))
+      → Steps 0 (word_of r.task m) settled r (hosts_of kept me (Some r)) (hosts_of (kept_after turn r.task kept) me (run_after turn (settled_count settled) r)) (shared m) (shared (operated (op_of r.task) m))
   step turn is = record {
     is = refl;
     operates = operates_by 0 m (shared m) (shared (operated (op_of r.task) m)) (op_of r.task) (acts m (operated (op_of r.task) m)) invariant.wide inside;
     uuids = λ h. refl;
     mine = ap (λ (x : Turn). run_after x (settled_count settled) r) (sym is);
     runs = λ h other. others_alike None (run_after turn (settled_count settled) r) (Some r) h other;
-    keeps = ap (λ (x : Turn). kept_after x r.task None) (sym is);
-    kept = λ h other. others_alike None (kept_after turn r.task None) None h other;
+    keeps = ap (λ (x : Turn). kept_after x r.task kept) (sym is);
+    kept = λ h other. others_alike None (kept_after turn r.task kept) kept h other;
   }
 
-  by_turn : (turn : Turn) → turn_given r.task (word_of r.task m) ≡ turn → Stepped settled lines me r turn (operated (op_of r.task) m)
+  by_turn : (turn : Turn) → turn_given r.task (word_of r.task m) ≡ turn → Stepped kept settled lines me r turn (operated (op_of r.task) m)
   by_turn turn is =
-      let held = invariant_stepped lines 0 (word_of r.task m) settled r (hosts_of me (Some r)) (hosts_left me (run_after turn (settled_count settled) r) (kept_after turn r.task None)) (shared m) (shared (operated (op_of r.task) m)) invariant (step turn is) in
+      let held = invariant_stepped lines 0 (word_of r.task m) settled r (hosts_of kept me (Some r)) (hosts_of (kept_after turn r.task kept) me (run_after turn (settled_count settled) r)) (shared m) (shared (operated (op_of r.task) m)) invariant (step turn is) in
       record {
-        says = subst (λ (x : Turn). TurnSays x r settled lines (hosts_of me (Some r))) is held.says;
-        invariant = subst (λ (x : Turn). Invariant (turn_settles x settled) lines (hosts_left me (run_after turn (settled_count settled) r) (kept_after turn r.task None)) (shared (operated (op_of r.task) m))) is held.invariant;
+        says = subst (λ (x : Turn). TurnSays x r settled lines (hosts_of kept me (Some r))) is held.says;
+        invariant = subst (λ (x : Turn). Invariant (turn_settles x settled) lines (hosts_of (kept_after turn r.task kept) me (run_after turn (settled_count settled) r)) (shared (operated (op_of r.task) m))) is held.invariant;
       }
 
-  pub stepped : Stepped settled lines me r (turn_on r.task m) (operated (op_of r.task) m)
+  pub stepped : Stepped kept settled lines me r (turn_on r.task m) (operated (op_of r.task) m)
   stepped = by_turn (turn_on r.task m) (same_turn r.task m)
 
 -- The beginning.
 
 -- host 0 alone, with its cache, and no task
-module _ (me : List ℕ) (image : Image) (cache : Cache) (clean : IsClean cache) where
+module _ (kept : Option Kept) (me : List ℕ) (image : Image) (cache : Cache) (clean : IsClean cache) where
   copies : ℕ → ℕ → Cell
   copies h l = only (cell_at cache l) Absent h
 
@@ -109,7 +105,7 @@ module _ (me : List ℕ) (image : Image) (cache : Cache) (clean : IsClean cache)
   clean_copies (suc h) l = tt
 
   -- who has a UUID
-  owner : (id : List ℕ) → Owner (hosts_of me None) id
+  owner : (id : List ℕ) → Owner (hosts_of kept me None) id
   owner id = elim (one_or_two me id) [
     | inl same ↦ record { host = Some 0; is = λ h zeroth. is_host h same (same_Some 0 h zeroth); only = λ h named. ap Some (sym (at_zero h id named)) }
     | inr other ↦ record { host = None; is = λ h none. absurd (cc); only = λ h named. absurd (other (has_me h id named)) }
@@ -126,7 +122,7 @@ module _ (me : List ℕ) (image : Image) (cache : Cache) (clean : IsClean cache)
       has_me zero id named = same_Some me id named
       has_me (suc h) id named = absurd (cc)
 
-  declared : AreHosts (hosts_of me None) (shared_with image copies)
+  declared : AreHosts (hosts_of kept me None) (shared_with image copies)
   unfolding copies
   declared = record { apart = apart; absent = absent; idle = idle; bare = bare }
     where
@@ -143,21 +139,22 @@ module _ (me : List ℕ) (image : Image) (cache : Cache) (clean : IsClean cache)
       idle zero none = refl
       idle (suc h) none = refl
 
-      bare : (h : ℕ) → only (Some me) None h ≡ None → only {X = Option Kept} None None h ≡ None
-      bare zero none = refl
+      bare : (h : ℕ) → only (Some me) None h ≡ None → only kept None h ≡ None
+      bare zero none = absurd (cc)
       bare (suc h) none = refl
 
-  all_idle : (h : ℕ) → (hosts_of me None).run h ≡ None
+  all_idle : (h : ℕ) → (hosts_of kept me None).run h ≡ None
   all_idle zero = refl
   all_idle (suc h) = refl
 
-  all_bare : (h : ℕ) → (hosts_of me None).kept h ≡ None
-  all_bare zero = refl
-  all_bare (suc h) = refl
+  -- what it keeps is a front where that of host 0 is one
+  pub keep_alone : (settled : Settled) → KeepsFront settled kept → KeepFronts settled (hosts_of kept me None)
+  keep_alone settled front zero = front
+  keep_alone settled front (suc h) = nothing_kept settled
 
-  pub rests_alone : Rests (hosts_of me None) (shared (record { image = image; cache = cache }))
+  pub rests_alone : Rests (hosts_of kept me None) (shared (record { image = image; cache = cache }))
   unfolding copies
-  rests_alone = record { declared = declared; owner = owner; idle = all_idle; bare = all_bare; clean = clean_copies }
+  rests_alone = record { declared = declared; owner = owner; idle = all_idle; clean = clean_copies }
 
 -- what an image settles at first
 pub first_settled : (image : Image) → least_lines ≤ length image → settled_at_first image ≡ settled_by (line_at image) (reading_of (line_at image) (line_bytes * length image))
@@ -167,8 +164,8 @@ first_settled image enough = by_test (nat_lt (length image) least_lines) refl
     by_test true is = absurd (grind (arith, nat_tests))
     by_test false is = refl
 
-module _ (cmd : Cmd) (me : List ℕ) (image : Image) (cache : Cache) (enough : least_lines ≤ length image) (limit : line_bytes * length image ≤ device_limit) (clean : IsClean cache) (command : IsCommand cmd) where
-  starts : Starts 0 cmd (length image) (hosts_of me None) (hosts_of me (Some (run_of (starting cmd me (length image)) None None)))
+module _ (kept : Option Kept) (cmd : Cmd) (me : List ℕ) (image : Image) (cache : Cache) (enough : least_lines ≤ length image) (limit : line_bytes * length image ≤ device_limit) (clean : IsClean cache) (command : IsCommand cmd) (front : KeepsFront (settled_at_first image) kept) where
+  starts : Starts 0 cmd (length image) (hosts_of kept me None) (hosts_of kept me (Some (run_of (mounted kept cmd me (length image)) None None)))
   starts = record {
     me = me;
     declared = refl;
@@ -179,13 +176,13 @@ module _ (cmd : Cmd) (me : List ℕ) (image : Image) (cache : Cache) (enough : l
     kept = λ h. refl;
   }
     where
-      runs : (h : ℕ) → h ≢ 0 → only (Some (run_of (starting cmd me (length image)) None None)) None h ≡ only {X = Option Run} None None h
+      runs : (h : ℕ) → h ≢ 0 → only (Some (run_of (mounted kept cmd me (length image)) None None)) None h ≡ only {X = Option Run} None None h
       runs zero other = absurd (other refl)
       runs (suc h) other = refl
 
   -- the host's cache has nothing to send
-  pub invariant_first : Invariant (settled_by (line_at image) (reading_of (line_at image) (line_bytes * length image))) (length image) (hosts_of me (Some (run_of (starting cmd me (length image)) None None))) (shared (record { image = image; cache = cache }))
+  pub invariant_first : Invariant (settled_by (line_at image) (reading_of (line_at image) (line_bytes * length image))) (length image) (hosts_of kept me (Some (run_of (mounted kept cmd me (length image)) None None))) (shared (record { image = image; cache = cache }))
   invariant_first =
-      subst (λ (x : Settled). Invariant x (length image) (hosts_of me (Some (run_of (starting cmd me (length image)) None None))) (shared (record { image = image; cache = cache }))) (first_settled image enough)
-      (invariant_begun (settled_at_first image) (length image) 0 (hosts_of me None) (hosts_of me (Some (run_of (starting cmd me (length image)) None None))) (shared (record { image = image; cache = cache })) cmd enough
-      (begins_with image limit (hosts_of me None) (λ h l. only (cell_at cache l) Absent h) (rests_alone me image cache clean)) starts)
+      subst (λ (x : Settled). Invariant x (length image) (hosts_of kept me (Some (run_of (mounted kept cmd me (length image)) None None))) (shared (record { image = image; cache = cache }))) (first_settled image enough)
+      (invariant_begun (settled_at_first image) (length image) 0 (hosts_of kept me None) (hosts_of kept me (Some (run_of (mounted kept cmd me (length image)) None None))) (shared (record { image = image; cache = cache })) cmd enough
+      (begins_with image limit (hosts_of kept me None) (λ h l. only (cell_at cache l) Absent h) (rests_alone kept me image cache clean) (keep_alone kept me image cache clean (settled_at_first image) front)) starts)

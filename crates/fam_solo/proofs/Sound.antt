@@ -19,10 +19,10 @@ use Rattle.fam_machine.specs.Caches.{Cache, IsClean, cell_at}
 use Rattle.fam_machine.specs.OneLine.{is_asked}
 use Rattle.fam_machine.specs.Operations.{Machine, operated, IsInImage}
 use Rattle.fam_commands.specs.Keeping.{kept_after, kept_by, read_by}
-use Rattle.fam_commands.specs.Kept.{Kept}
+use Rattle.fam_commands.specs.Kept.{IsKept, Kept}
 use Rattle.fam_commands.specs.Solo.{SoloRun, starts, goes, turn_on}
 use Rattle.fam_commands.specs.Stands.{task_after}
-use Rattle.fam_commands.specs.Task.{Task, op_at, op_of, starting}
+use Rattle.fam_commands.specs.Task.{Task, mounted, op_at, op_of}
 use Rattle.fam_commands.specs.Turns.{Turn, Goes, Marks, Finds, Writes, Ends, first_store, turn_at}
 use Rattle.fam_rules.specs.declared.answers.Refused.{Refused}
 use Rattle.fam_rules.specs.declared.answers.Refused.TheVariants as refused
@@ -46,12 +46,12 @@ use Rattle.fam_solo.specs.Solo.{settles_up_to}
 use Rattle.fam_protocol.specs.Lines.{Fresh}
 use Rattle.fam_protocol.specs.Steps.{TurnSays, run_after, turn_settles}
 use Rattle.fam_protocol.specs.Tasks.{AtPhase, IsCommand}
-use Rattle.fam_protocol.specs.Invariant.{Known, Settled, Invariant, settled_at_first, settled_by}
+use Rattle.fam_protocol.specs.Invariant.{KeepsFront, Known, Settled, Invariant, settled_at_first, settled_by}
 use Rattle.fam_machine.proofs.OneOperation.{operated_length, operated_normal}
 use Rattle.fam_solo.proofs.Machine.{Looks, ran_cmd, ran_length, ran_looks, ran_me, ran_normal, looks_end, looks_on, word_of}
 use Rattle.fam_solo.proofs.Replies.{Answers, asked, decided, refused_client, reports_sound}
 use Rattle.fam_commands.proofs.BeforeWrites.{EndsAt, SaysAt, turn_says}
-use Rattle.fam_solo.proofs.OneHost.{Stepped, first_settled, hosts_left, hosts_of, only, rests_alone, run_of, shared, stepped, invariant_first}
+use Rattle.fam_solo.proofs.OneHost.{Stepped, first_settled, hosts_of, only, rests_alone, run_of, shared, stepped, invariant_first}
 use Rattle.fam_solo.proofs.Writes.{GateAt, Writing, all_sent, all_written, ends_there, writes_on}
 use Rattle.fam_solo.proofs.Written.{appended_alike, written_normal}
 use Rattle.fam_protocol.proofs.Hosts.Begins.{held_back}
@@ -94,7 +94,7 @@ first_gate cmd image p n e m looks = by_test (e.size == 0) looks.image_is looks.
     by_test true same fresh = (ap (λ (i : Image). line_at i gate_line) same, fresh tt)
     by_test false same fresh = (ap (λ (i : Image). line_at i gate_line) same, fresh tt)
 
-module _ (cmd : Cmd) (me : List ℕ) (image : Image) (cache : Cache) (enough : least_lines ≤ length image) (limit : line_bytes * length image ≤ device_limit) (normal : map eight image ≡ image) (clean : IsClean cache) (command : IsCommand cmd)
+module _ (kept : Option Kept) (cmd : Cmd) (me : List ℕ) (image : Image) (cache : Cache) (enough : least_lines ≤ length image) (limit : line_bytes * length image ≤ device_limit) (normal : map eight image ≡ image) (clean : IsClean cache) (command : IsCommand cmd) (joined : IsKept kept) (front : KeepsFront (settled_at_first image) kept)
     (p : Params) (entries : List Entry) (sound : reading_of (line_at image) (line_bytes * length image) ≡ Sound p entries) where
   pub reads : ReadsSound (line_at image) (line_bytes * length image) p entries
   reads = sound_reads (line_at image) (line_bytes * length image) p entries sound
@@ -113,7 +113,7 @@ module _ (cmd : Cmd) (me : List ℕ) (image : Image) (cache : Cache) (enough : l
   pub record OnSound (t : Task) (m : Machine) : Type 0 where
     pub floor : Option ℕ
     pub marked : IsMarkOf (length entries) floor
-    pub invariant : Invariant (Known p (map (held_file (line_at image)) entries) (length entries)) (length image) (hosts_of me (Some (run_of t floor None))) (shared m)
+    pub invariant : Invariant (Known p (map (held_file (line_at image)) entries) (length entries)) (length image) (hosts_of kept me (Some (run_of t floor None))) (shared m)
     pub before : IsBeforeWrites t.phase
 
   -- an entry is appended
@@ -126,7 +126,7 @@ module _ (cmd : Cmd) (me : List ℕ) (image : Image) (cache : Cache) (enough : l
     pub count : length all ≡ length entries + 1
     pub floor : Option ℕ
     pub named : Option Named
-    pub invariant : Invariant (Known p all (length entries)) (length image) (hosts_of me (Some (run_of t floor named))) (shared m)
+    pub invariant : Invariant (Known p all (length entries)) (length image) (hosts_of kept me (Some (run_of t floor named))) (shared m)
     pub writing : Writing cmd image p (length entries) e t m
 
   -- where it stands, and what is settled
@@ -151,7 +151,7 @@ module _ (cmd : Cmd) (me : List ℕ) (image : Image) (cache : Cache) (enough : l
     found_all k (inl is) = is
     found_all k (inr is) = omega (arith, is.0, is.1, held)
 
-    by_turn : (floor : Option ℕ) → IsMarkOf (length entries) floor → (turn : Turn) (next : Task) (m : Machine) (s : Settled) → Stepped (Known p (map (held_file (line_at image)) entries) (length entries)) (length image) me (run_of t floor None) turn m → SaysAt t.phase t.cmd turn → task_after turn ≡ Some next
+    by_turn : (floor : Option ℕ) → IsMarkOf (length entries) floor → (turn : Turn) (next : Task) (m : Machine) (s : Settled) → Stepped kept (Known p (map (held_file (line_at image)) entries) (length entries)) (length image) me (run_of t floor None) turn m → SaysAt t.phase t.cmd turn → task_after turn ≡ Some next
         → Looks image next.phase m → s ≡ Known p (map (held_file (line_at image)) entries) (length entries) → Staged next m (turn_settles turn s)
     by_turn floor marked (Goes x) next m s step says is looks at_first = inl (subst (λ (y : Task). OnSound y m) (same_Some x next is) record { floor = floor; marked = marked; invariant = step.invariant; before = says }, ap (turn_settles (Goes x)) at_first)
     by_turn floor marked (Marks x) next m s step says is looks at_first = inl (subst (λ (y : Task). OnSound y m) (same_Some x next is) record { floor = Some (length entries); marked = refl; invariant = step.invariant; before = says }, ap (turn_settles (Marks x)) at_first)
@@ -162,8 +162,8 @@ module _ (cmd : Cmd) (me : List ℕ) (image : Image) (cache : Cache) (enough : l
               record {
                 floor = floor;
                 marked = marked;
-                invariant = subst (λ (files : List File). Invariant (Known p files (length entries)) (length image) (hosts_of me (Some (run_of x floor None))) (shared m)) (all_held (length entries) (omega arith))
-                    (subst (λ (i : ℕ). Invariant (Known p (take i (map (held_file (line_at image)) entries)) i) (length image) (hosts_of me (Some (run_of x floor None))) (shared m)) found step.invariant);
+                invariant = subst (λ (files : List File). Invariant (Known p files (length entries)) (length image) (hosts_of kept me (Some (run_of x floor None))) (shared m)) (all_held (length entries) (omega arith))
+                    (subst (λ (i : ℕ). Invariant (Known p (take i (map (held_file (line_at image)) entries)) i) (length image) (hosts_of kept me (Some (run_of x floor None))) (shared m)) found step.invariant);
                 before = says;
               },
           ap (turn_settles (Finds k x)) at_first
@@ -196,10 +196,10 @@ module _ (cmd : Cmd) (me : List ℕ) (image : Image) (cache : Cache) (enough : l
         ))
     by_turn floor marked (Ends given) next m s step says is looks at_first = absurd (cc)
 
-    goes_invariant : (all : List File) (floor : Option ℕ) (named : Option Named) (turn : Turn) (next : Task) (m : Machine) → IsPlain turn → Stepped (Known p all (length entries)) (length image) me (run_of t floor named) turn m → task_after turn ≡ Some next
-        → Invariant (Known p all (length entries)) (length image) (hosts_of me (Some (run_of next floor named))) (shared m)
+    goes_invariant : (all : List File) (floor : Option ℕ) (named : Option Named) (turn : Turn) (next : Task) (m : Machine) → IsPlain turn → Stepped kept (Known p all (length entries)) (length image) me (run_of t floor named) turn m → task_after turn ≡ Some next
+        → Invariant (Known p all (length entries)) (length image) (hosts_of kept me (Some (run_of next floor named))) (shared m)
     unfolding IsPlain
-    goes_invariant all floor named (Goes x) next m is_plain step is = subst (λ (y : Task). Invariant (Known p all (length entries)) (length image) (hosts_of me (Some (run_of y floor named))) (shared m)) (same_Some x next is) step.invariant
+    goes_invariant all floor named (Goes x) next m is_plain step is = subst (λ (y : Task). Invariant (Known p all (length entries)) (length image) (hosts_of kept me (Some (run_of y floor named))) (shared m)) (same_Some x next is) step.invariant
     goes_invariant all floor named (Marks x) next m is_plain step is = absurd is_plain
     goes_invariant all floor named (Finds k x) next m is_plain step is = absurd is_plain
     goes_invariant all floor named (Writes seq e x) next m is_plain step is = absurd is_plain
@@ -219,7 +219,7 @@ module _ (cmd : Cmd) (me : List ℕ) (image : Image) (cache : Cache) (enough : l
 
     writes_step : (m : Machine) (next : Task) (s : Settled) → (on : OnWrites t m) → s ≡ Known p on.all (length entries) → IsInImage (op_of t) m → task_after (turn_on t m) ≡ Some next → Staged next (operated (op_of t) m) (turn_settles (turn_on t m) s)
     writes_step m next s on settled inside is =
-        let step = stepped (Known p on.all (length entries)) (length image) me (run_of t on.floor on.named) m on.invariant inside in
+        let step = stepped kept (Known p on.all (length entries)) (length image) me (run_of t on.floor on.named) m on.invariant inside in
         let right : MayAppend p me entries on.e = may on.w on.e on.wish on.decides in
         inr (
           record {
@@ -232,38 +232,38 @@ module _ (cmd : Cmd) (me : List ℕ) (image : Image) (cache : Cache) (enough : l
             floor = on.floor;
             named = on.named;
             invariant = goes_invariant on.all on.floor on.named (turn_on t m) next (operated (op_of t) m) (plain t.phase t (word_of t m) cmd image p (length entries) on.e m on.writing.gate) step is;
-            writing = writes_on cmd image p (length entries) on.e params.sound right.left right.proper (line_bytes * length image) (hosts_of me (Some (run_of t on.floor on.named))).uuid on.invariant.stage.master on.all t next m (word_of t m) cmd_is on.writing.entry on.writing.others
+            writing = writes_on cmd image p (length entries) on.e params.sound right.left right.proper (line_bytes * length image) (hosts_of kept me (Some (run_of t on.floor on.named))).uuid on.invariant.stage.master on.all t next m (word_of t m) cmd_is on.writing.entry on.writing.others
                 t.phase on.floor (on.invariant.stage.tasks 0 (run_of t on.floor on.named) refl).phase on.writing.gate is;
           },
           goes_settled on.all (turn_on t m) next s (plain t.phase t (word_of t m) cmd image p (length entries) on.e m on.writing.gate) is settled,
         )
 
-  first : OnSound (starting cmd me (length image)) (record { image = image; cache = cache })
+  first : OnSound (mounted kept cmd me (length image)) (record { image = image; cache = cache })
   first = record {
     floor = None;
     marked = tt;
-    invariant = subst (λ (r : Reading). Invariant (settled_by (line_at image) r) (length image) (hosts_of me (Some (run_of (starting cmd me (length image)) None None))) (shared (record { image = image; cache = cache }))) sound (invariant_first cmd me image cache enough limit clean command);
+    invariant = subst (λ (r : Reading). Invariant (settled_by (line_at image) r) (length image) (hosts_of kept me (Some (run_of (mounted kept cmd me (length image)) None None))) (shared (record { image = image; cache = cache }))) sound (invariant_first kept cmd me image cache enough limit clean command front);
     before = tt;
   }
 
-  pub staged : (t : Task) (words : List ℕ) (made : ℕ) (m : Machine) → (ran : SoloRun cmd me image cache t words made m) → Staged t m (settles_up_to cmd me image cache t words made m ran (Known p (map (held_file (line_at image)) entries) (length entries)))
+  pub staged : (t : Task) (words : List ℕ) (made : ℕ) (m : Machine) → (ran : SoloRun kept cmd me image cache t words made m) → Staged t m (settles_up_to kept cmd me image cache t words made m ran (Known p (map (held_file (line_at image)) entries) (length entries)))
   staged t words made m starts = inl (first, refl)
   staged next _ _ _ (goes {t = t} {words = words} {made = made} {m = m} ran inside is) = by_stage (staged t words made m ran)
     where
       cmd_is : t.cmd ≡ cmd
-      cmd_is = ran_cmd cmd me image cache t words made m ran
+      cmd_is = ran_cmd kept cmd me image cache joined t words made m ran
 
       me_is : t.me ≡ me
-      me_is = ran_me cmd me image cache t words made m ran
+      me_is = ran_me kept cmd me image cache joined t words made m ran
 
       before : Settled
-      before = settles_up_to cmd me image cache t words made m ran (Known p (map (held_file (line_at image)) entries) (length entries))
+      before = settles_up_to kept cmd me image cache t words made m ran (Known p (map (held_file (line_at image)) entries) (length entries))
 
       by_stage : Staged t m before → Staged next (operated (op_of t) m) (turn_settles (turn_on t m) before)
       by_stage (inl on) =
-          by_turn t cmd_is me_is on.0.floor on.0.marked (turn_on t m) next (operated (op_of t) m) before (stepped (Known p (map (held_file (line_at image)) entries) (length entries)) (length image) me (run_of t on.0.floor None) m on.0.invariant inside)
+          by_turn t cmd_is me_is on.0.floor on.0.marked (turn_on t m) next (operated (op_of t) m) before (stepped kept (Known p (map (held_file (line_at image)) entries) (length entries)) (length image) me (run_of t on.0.floor None) m on.0.invariant inside)
           (turn_says t.phase t (word_of t m) on.0.before refl) is
-          (looks_on cmd me image cache normal clean t next words made m ran on.0.before (ran_looks cmd me image cache normal clean t words made m ran on.0.before) is) on.1
+          (looks_on kept cmd me image cache normal clean t next words made m ran on.0.before (ran_looks kept cmd me image cache normal clean t words made m ran on.0.before) is) on.1
       by_stage (inr on) = writes_step t cmd_is me_is m next before on.0 on.1 inside is
 
   -- The answers.
@@ -316,17 +316,17 @@ module _ (cmd : Cmd) (me : List ℕ) (image : Image) (cache : Cache) (enough : l
   at_first : settled_at_first image ≡ Known p (map (held_file (line_at image)) entries) (length entries)
   at_first = first_settled image enough ∙ ap (settled_by (line_at image)) sound
 
-  module _ (t : Task) (words : List ℕ) (made : ℕ) (m : Machine) (given : Reply) (ran : SoloRun cmd me image cache t words made m) (inside : IsInImage (op_of t) m) (is : turn_on t m ≡ Ends given)
+  module _ (t : Task) (words : List ℕ) (made : ℕ) (m : Machine) (given : Reply) (ran : SoloRun kept cmd me image cache t words made m) (inside : IsInImage (op_of t) m) (is : turn_on t m ≡ Ends given)
       (reports : cmd ≡ Fsck → given ≡ Reports (report_of (line_at image) (line_bytes * length image))) where
     cmd_is : t.cmd ≡ cmd
-    cmd_is = ran_cmd cmd me image cache t words made m ran
+    cmd_is = ran_cmd kept cmd me image cache joined t words made m ran
 
     me_is : t.me ≡ me
-    me_is = ran_me cmd me image cache t words made m ran
+    me_is = ran_me kept cmd me image cache joined t words made m ran
 
     -- what is settled before its answer
     before : Settled
-    before = settles_up_to cmd me image cache t words made m ran (Known p (map (held_file (line_at image)) entries) (length entries))
+    before = settles_up_to kept cmd me image cache t words made m ran (Known p (map (held_file (line_at image)) entries) (length entries))
 
     -- the answer and the image that is left, with nothing to send; and what is settled then
     abbrev Whole : Type 0
@@ -334,14 +334,14 @@ module _ (cmd : Cmd) (me : List ℕ) (image : Image) (cache : Cache) (enough : l
 
     ends_sound : (on : OnSound t m) → before ≡ Known p (map (held_file (line_at image)) entries) (length entries) → Whole
     ends_sound on settled =
-        let end = looks_end cmd me image cache normal clean t words made m ran on.before in
-        let step = stepped (Known p (map (held_file (line_at image)) entries) (length entries)) (length image) me (run_of t on.floor None) m on.invariant inside in
-        let says = subst (λ (x : Turn). TurnSays x (run_of t on.floor None) (Known p (map (held_file (line_at image)) entries) (length entries)) (length image) (hosts_of me (Some (run_of t on.floor None)))) is step.says in
+        let end = looks_end kept cmd me image cache normal clean t words made m ran on.before in
+        let step = stepped kept (Known p (map (held_file (line_at image)) entries) (length entries)) (length image) me (run_of t on.floor None) m on.invariant inside in
+        let says = subst (λ (x : Turn). TurnSays x (run_of t on.floor None) (Known p (map (held_file (line_at image)) entries) (length entries)) (length image) (hosts_of kept me (Some (run_of t on.floor None)))) is step.says in
         let ends_at : EndsAt t.phase cmd given = subst (λ (c : Cmd). EndsAt t.phase c given) cmd_is (subst (SaysAt t.phase t.cmd) is (turn_says t.phase t (word_of t m) on.before refl)) in
-        let shown = shown_within given t.phase (hosts_of me (Some (run_of t on.floor None))).uuid says.master on.floor t says.may ends_at in
+        let shown = shown_within given t.phase (hosts_of kept me (Some (run_of t on.floor None))).uuid says.master on.floor t says.may ends_at in
         let none_new : max (length entries) (shown_by given) ≡ length entries = omega (arith, shown) in (
           subst (λ (x : Image). Answers image me cmd given x) (sym end.0)
-              (answers t cmd_is me_is (hosts_of me (Some (run_of t on.floor None))).uuid says.master on.floor on.marked given t.phase reports says.may
+              (answers t cmd_is me_is (hosts_of kept me (Some (run_of t on.floor None))).uuid says.master on.floor on.marked given t.phase reports says.may
               ends_at),
           end.1,
           ap (turn_settles (Ends given)) settled ∙ ap (Known p (map (held_file (line_at image)) entries)) none_new ∙ sym at_first ∙ ap settled_at_first (sym end.0),
@@ -351,43 +351,43 @@ module _ (cmd : Cmd) (me : List ℕ) (image : Image) (cache : Cache) (enough : l
     ends_writes on settled =
         let n : ℕ = length entries in
         let right : MayAppend p me entries on.e = may t cmd_is me_is on.w on.e on.wish on.decides in
-        let there = ends_there cmd image p n on.e params.sound right.left right.proper (line_bytes * length image) (hosts_of me (Some (run_of t on.floor on.named))).uuid on.invariant.stage.master on.all t t m (word_of t m) cmd_is on.writing.entry on.writing.others t.phase given on.writing.gate is in
-        let published = subst (λ (pl : Phase). AtPhase pl (record { params = p; have = line_bytes * length image; uuid = (hosts_of me (Some (run_of t on.floor on.named))).uuid; master = on.invariant.stage.master }) 0 on.floor t (shared m) on.all n) there.0 (on.invariant.stage.tasks 0 (run_of t on.floor on.named) refl).phase in
+        let there = ends_there cmd image p n on.e params.sound right.left right.proper (line_bytes * length image) (hosts_of kept me (Some (run_of t on.floor on.named))).uuid on.invariant.stage.master on.all t t m (word_of t m) cmd_is on.writing.entry on.writing.others t.phase given on.writing.gate is in
+        let published = subst (λ (pl : Phase). AtPhase pl (record { params = p; have = line_bytes * length image; uuid = (hosts_of kept me (Some (run_of t on.floor on.named))).uuid; master = on.invariant.stage.master }) 0 on.floor t (shared m) on.all n) there.0 (on.invariant.stage.tasks 0 (run_of t on.floor on.named) refl).phase in
         let gate_is : t.gate ≡ n = omega (arith, published.0.pending, on.count) in
         let op_is : op_of t ≡ Fence = ap (op_at t) there.0 in
         let gate = subst (λ (pl : Phase). GateAt pl cmd image p n on.e m) there.0 on.writing.gate in
         let within : gate_line < length m.image = (subst (λ (op : Op). IsInImage op m) op_is inside) gate_line (ap is_asked gate.1) in
-        let lines = all_written cmd image p n on.e params.sound right.left right.proper (line_bytes * length image) (hosts_of me (Some (run_of t on.floor on.named))).uuid on.invariant.stage.master on.all t t m (word_of t m) cmd_is on.writing.entry on.writing.others (ran_length cmd me image cache t words made m ran) within gate in
+        let lines = all_written cmd image p n on.e params.sound right.left right.proper (line_bytes * length image) (hosts_of kept me (Some (run_of t on.floor on.named))).uuid on.invariant.stage.master on.all t t m (word_of t m) cmd_is on.writing.entry on.writing.others (ran_length kept cmd me image cache t words made m ran) within gate in
         let phase : HasPhase p n on.e (length image) = place_of p entries on.e (length image) params.sound params.device right.left right.proper right.joins in
         let left = appended_alike p n on.e (fill (content_of cmd) on.e.size) image (operated Fence m).image (written image p n on.e (fill (content_of cmd) on.e.size)) lines
-        (lines_appended p n on.e (fill (content_of cmd) on.e.size) image phase) (operated_normal Fence m (ran_normal cmd me image cache normal t words made m ran)) (written_normal image p n on.e (fill (content_of cmd) on.e.size) normal) in
-        let step = stepped (Known p on.all n) (length image) me (run_of t on.floor on.named) m on.invariant inside in
-        let keeps : kept_by given (read_by t) None ≡ None = ap (λ (r : Reply). kept_by r (read_by t) None) there.1 in
-        let ended : Invariant (turn_settles (Ends given) (Known p on.all n)) (length image) (hosts_of me None) (shared (operated (op_of t) m)) =
-        subst (λ (k : Option Kept). Invariant (turn_settles (Ends given) (Known p on.all n)) (length image) (hosts_left me None k) (shared (operated (op_of t) m))) keeps
-        (subst (λ (x : Turn). Invariant (turn_settles x (Known p on.all n)) (length image) (hosts_left me (run_after x n (run_of t on.floor on.named)) (kept_after x t None)) (shared (operated (op_of t) m))) is step.invariant) in
+        (lines_appended p n on.e (fill (content_of cmd) on.e.size) image phase) (operated_normal Fence m (ran_normal kept cmd me image cache normal t words made m ran)) (written_normal image p n on.e (fill (content_of cmd) on.e.size) normal) in
+        let step = stepped kept (Known p on.all n) (length image) me (run_of t on.floor on.named) m on.invariant inside in
+        let keeps : kept_by given (read_by t) kept ≡ kept = ap (λ (r : Reply). kept_by r (read_by t) kept) there.1 in
+        let ended : Invariant (turn_settles (Ends given) (Known p on.all n)) (length image) (hosts_of kept me None) (shared (operated (op_of t) m)) =
+        subst (λ (k : Option Kept). Invariant (turn_settles (Ends given) (Known p on.all n)) (length image) (hosts_of k me None) (shared (operated (op_of t) m))) keeps
+        (subst (λ (x : Turn). Invariant (turn_settles x (Known p on.all n)) (length image) (hosts_of (kept_after x t kept) me (run_after x n (run_of t on.floor on.named))) (shared (operated (op_of t) m))) is step.invariant) in
         let one_new : max n (shown_by given) ≡ length on.all = ap (λ (r : Reply). max n (shown_by r)) (there.1 ∙ ap Appended gate_is) ∙ (let whole : max n (n + 1) ≡ length on.all = omega (arith, on.count) in whole) in
         let all_now : turn_settles (Ends given) (Known p on.all n) ≡ Known p on.all (length on.all) = ap (Known p on.all) one_new in
         let settled_now : turn_settles (Ends given) before ≡ Known p on.all (length on.all) = ap (turn_settles (Ends given)) settled ∙ all_now in
-        let count_now : length (operated (op_of t) m).image ≡ length image = operated_length (op_of t) m ∙ ran_length cmd me image cache t words made m ran in
-        let sent = all_sent cmd image p n on.e params.sound right.left right.proper (line_bytes * length image) (hosts_of me (Some (run_of t on.floor on.named))).uuid on.invariant.stage.master on.all t t m (word_of t m) cmd_is on.writing.entry on.writing.others within gate in
+        let count_now : length (operated (op_of t) m).image ≡ length image = operated_length (op_of t) m ∙ ran_length kept cmd me image cache t words made m ran in
+        let sent = all_sent cmd image p n on.e params.sound right.left right.proper (line_bytes * length image) (hosts_of kept me (Some (run_of t on.floor on.named))).uuid on.invariant.stage.master on.all t t m (word_of t m) cmd_is on.writing.entry on.writing.others within gate in
         let clean_now : IsClean (operated (op_of t) m).cache = subst (λ (op : Op). IsClean (operated op m).cache) (sym op_is) sent in (
           subst (λ (r : Reply). Answers image me cmd r (operated (op_of t) m).image) (sym (there.1 ∙ ap Appended gate_is))
               (subst (λ (op : Op). Answers image me cmd (Appended n) (operated op m).image) (sym op_is)
               (subst (λ (x : Image). Answers image me cmd (Appended n) x) (sym left)
               (decided image me cmd p entries sound reads.super on.w on.wish (Ok on.e) on.decides))),
           clean_now,
-          settled_now ∙ sym (rests_settled (operated (op_of t) m).image (hosts_of me None) (λ h l. only (cell_at (operated (op_of t) m).cache l) Absent h) p on.all
-              (subst (λ (k : ℕ). line_bytes * k ≤ device_limit) (sym count_now) limit) (rests_alone me (operated (op_of t) m).image (operated (op_of t) m).cache clean_now)
-              (subst (λ (k : ℕ). Invariant (Known p on.all (length on.all)) k (hosts_of me None) (shared (operated (op_of t) m))) (sym count_now)
-              (subst (λ (x : Settled). Invariant x (length image) (hosts_of me None) (shared (operated (op_of t) m))) all_now ended))),
+          settled_now ∙ sym (rests_settled (operated (op_of t) m).image (hosts_of kept me None) (λ h l. only (cell_at (operated (op_of t) m).cache l) Absent h) p on.all
+              (subst (λ (k : ℕ). line_bytes * k ≤ device_limit) (sym count_now) limit) (rests_alone kept me (operated (op_of t) m).image (operated (op_of t) m).cache clean_now)
+              (subst (λ (k : ℕ). Invariant (Known p on.all (length on.all)) k (hosts_of kept me None) (shared (operated (op_of t) m))) (sym count_now)
+              (subst (λ (x : Settled). Invariant x (length image) (hosts_of kept me None) (shared (operated (op_of t) m))) all_now ended))),
         )
 
-    pub sound_ends : Answers image me cmd given (operated (op_of t) m).image × IsClean (operated (op_of t) m).cache × (turn_settles (Ends given) (settles_up_to cmd me image cache t words made m ran (settled_at_first image)) ≡ settled_at_first (operated (op_of t) m).image)
+    pub sound_ends : Answers image me cmd given (operated (op_of t) m).image × IsClean (operated (op_of t) m).cache × (turn_settles (Ends given) (settles_up_to kept cmd me image cache t words made m ran (settled_at_first image)) ≡ settled_at_first (operated (op_of t) m).image)
     unfolding before
     sound_ends =
         let whole : Whole = by_stage (staged t words made m ran) in
-        (whole.0, whole.1, ap (λ (x : Settled). turn_settles (Ends given) (settles_up_to cmd me image cache t words made m ran x)) at_first ∙ whole.2)
+        (whole.0, whole.1, ap (λ (x : Settled). turn_settles (Ends given) (settles_up_to kept cmd me image cache t words made m ran x)) at_first ∙ whole.2)
       where
         by_stage : Staged t m before → Whole
         by_stage (inl on) = ends_sound on.0 on.1

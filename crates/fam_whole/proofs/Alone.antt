@@ -17,7 +17,7 @@ use Rattle.fam_journal.specs.declared.refusal.Refusal.TheVariants as why
 use Rattle.fam_outcomes.specs.declared.status.Status.{Status}
 use Rattle.fam_journal.specs.Calls.{Completes, IsOfSource, MayBeRefused, may_begin, refusal_of, when}
 use Rattle.fam_journal.specs.Ends.{IsFaultless}
-use Rattle.fam_journal.specs.Events.{Continues, HasNoSource, MayNot, Ready, Session, SourceSays, Sourced, Unfit}
+use Rattle.fam_journal.specs.Events.{Continues, HasNoSource, MayNot, Ready, Session, SourceSays, Sourced, Unfit, mounts}
 use Rattle.fam_journal.specs.Machines.{HostState, Machines}
 use Rattle.fam_journal.specs.Notes.{Answered, Host, Note, Refused, Replied}
 use Rattle.fam_outcomes.specs.Programs.{Runs, ends_shot}
@@ -47,6 +47,8 @@ source_text names (why.Busy host) of = absurd of
 source_text names (why.Dirty host) of = absurd of
 source_text names (why.HasSuper uuid) of = absurd of
 source_text names why.Idle of = absurd of
+source_text names why.Mounted of = absurd of
+source_text names why.NotMounted of = absurd of
 source_text names (why.NoLine at lines) of = absurd of
 source_text names (why.NoFile file) of = refl
 source_text names (why.CopyLimit sum) of = refl
@@ -71,8 +73,8 @@ module _ (start : Image) (me : List ℕ) (what : Ask) (files : Files) (out : Out
       one_event start name me files image me_sound (event.Run name what) (ends_shot (Runs what)) refl journal x.run.last x.steps.count x.events x.steps.events_are x.run.follows x.ended
 
   -- what the machines before it are, is so of the host alone
-  begins_by : (o : Option Refusal) → may_begin name two.mid.machines ≡ o → command_refusal start ≡ o
-  begins_by o is = sym (begin_refusal start name me) ∙ ap (may_begin name) (sym two.mid_is) ∙ is
+  begins_by : (o : Option Refusal) → may_begin name (mounts what) two.mid.machines ≡ o → command_refusal start ≡ o
+  begins_by o is = sym (begin_refusal start name me (mounts what)) ∙ ap (may_begin name (mounts what)) (sym two.mid_is) ∙ is
 
   -- a refusal, and nothing else
   refuses : (cause : Refusal) → refusal_text (name ∷ []) cause ≡ refusal_text [] cause → two.notes ≡ Refused name cause ∷ [] → left ≡ two.mid.machines → RefusalEnds cause start out given
@@ -125,7 +127,7 @@ module _ (start : Image) (me : List ℕ) (what : Ask) (files : Files) (out : Out
         subst Ends (sym (begins_by None run.begun.free))
         record { said = Ready cmd run.begun.copied; says = subst (λ (n : ℕ). SourceSays files n what (Ready cmd run.begun.copied)) two.copied_is run.begun.says; ends = answer_ends }
 
-  not_begun : MayNot name two.mid two.notes x.run.last → Ends (command_refusal start)
+  not_begun : MayNot name what two.mid two.notes x.run.last → Ends (command_refusal start)
   not_begun not =
       let is : command_refusal start ≡ Some not.cause = begins_by (Some not.cause) not.first in
       subst Ends (sym is)
@@ -143,7 +145,8 @@ module _ (start : Image) (me : List ℕ) (what : Ask) (files : Files) (out : Out
     where
       of : MayBeRefused name none.cause two.mid.machines → IsOfSource none.cause
       of (inl is) = is
-      of (inr begins) = absurd (let free = none.free in cc)
+      of (inr begins) = absurd (let free : command_refusal start ≡ None = begins_by None none.free in
+          let refused : command_refusal start ≡ Some none.cause = sym (begin_refusal start name me begins.0) ∙ ap (may_begin name begins.0) (sym two.mid_is) ∙ begins.1 in cc)
 
   pub ask_ends : AskEnds files start me what out given
   ask_ends = elim two.does [

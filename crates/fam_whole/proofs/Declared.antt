@@ -78,8 +78,9 @@ module _ (start : Image) (name me : List ℕ) where
   or_none (Some cause) = refl
 
   -- it may begin where the image has a gate
-  pub begin_refusal : may_begin name declared ≡ command_refusal start
-  begin_refusal = ap (λ (o : Option ℕ). on_host o (λ h. begins_refusal h declared)) number_is ∙ or_none (command_refusal start)
+  pub begin_refusal : (mount : Bool) → may_begin name mount declared ≡ command_refusal start
+  begin_refusal true = ap (λ (o : Option ℕ). on_host o (λ h. begins_refusal h true declared)) number_is ∙ or_none (command_refusal start)
+  begin_refusal false = ap (λ (o : Option ℕ). on_host o (λ h. begins_refusal h false declared)) number_is ∙ or_none (command_refusal start)
 
   -- a file system is refused by its numbers alone, before any operation
   pub make_refusal : (request : MkfsRequest) → refusal_of (call.Makes name request) declared ≡ option_map cause_of (early_refusal request.unit request.log (line_bytes * length start))

@@ -1,6 +1,6 @@
 -- Whole events, one after another: the image is the fold of the notes, nothing is pending, and answers are of all of it.
 use Prim.Native.Nat.{zero, suc}
-use Rattle.std.proofs.Common.{◌≡◌, ℕ, ◌*◌, ◌≤◌, inl, inr, Bool, List, [], ◌∷◌, ◌++◌, length, map, Option, Some, None, refl, ap, sym, ◌∙◌, subst}
+use Rattle.std.proofs.Common.{◌≡◌, ℕ, ◌*◌, ◌≤◌, inl, inr, List, [], ◌∷◌, ◌++◌, length, map, Option, Some, None, refl, ap, sym, ◌∙◌, subst}
 use Rattle.std.specs.Prelude.{slice_get}
 use Rattle.std.specs.FinMap as finmap
 use Rattle.std.proofs.lemmas.Bool.{cases_eq}
@@ -14,11 +14,14 @@ use Rattle.fam_machine.specs.MkfsRequest.{mkfs_request}
 use Rattle.fam_format.specs.Layout.{device_limit, least_lines}
 use Rattle.fam_machine.specs.Caches.{Cache, IsClean, IsCleanCell, cell_at}
 use Rattle.fam_machine.specs.Operations.{Machine, machine, operated, operated_all}
-use Rattle.fam_commands.specs.Kept.{Kept}
+use Rattle.fam_commands.specs.Classes.{is_mount}
+use Rattle.fam_commands.specs.Keeping.{kept_by, read_by}
+use Rattle.fam_commands.specs.Kept.{IsKept}
 use Rattle.fam_commands.specs.Task.{op_of}
 use Rattle.fam_machine.proofs.CleanCaches.{clean_empty, clean_fetched, clean_leaked, clean_sent, clean_with}
 use Rattle.fam_media.specs.Files.{Files}
 use Rattle.fam_machine.proofs.MkfsOps.{all_sent, clean_formats, read_image, read_sent}
+use Rattle.fam_protocol.specs.Invariant.{KeepsFront, settled_at_first}
 use Rattle.fam_protocol.specs.Tasks.{IsCommand}
 use Rattle.fam_rules.specs.Place.{line_bytes}
 use Rattle.fam_rules.specs.Reply.{Reply}
@@ -40,6 +43,7 @@ use Rattle.fam_journal.specs.Members.{changed_at}
 use Rattle.fam_machine.specs.Mkfs as here
 use Rattle.fam_journal.specs.Notes.{Answered, Note, Refused, Replied, Start}
 use Rattle.fam_journal.specs.Past.{Past, first_past, first_state, past_behind, past_of}
+use Rattle.fam_journal.proofs.Forms.EventRows.{begun_free}
 use Rattle.fam_journal.proofs.Calls.Cases.{by_host, by_refusal, place_same}
 use Rattle.fam_journal.proofs.Calls.Declares.{member_before, member_last}
 use Rattle.fam_journal.proofs.Runs.Following.{begun_kept, event_kept, first_kept}
@@ -50,7 +54,7 @@ use Rattle.fam_journal.proofs.Runs.Unique.{clean_prefix, clean_rest, not_clean}
 use Rattle.fam_whole.specs.Whole.{AreWhole, AreWholeNotes, IsExact, HasNothingPending, IsWholeEvent, WholeRun, image_behind}
 use Rattle.fam_whole.proofs.Finish.{Finished, finished, left_is, reply_is}
 use Rattle.fam_whole.proofs.Folds.{first_sure, image_both, whole_both}
-use Rattle.fam_whole.proofs.Rests.{HostRests, Rested, rest_state}
+use Rattle.fam_whole.proofs.Rests.{HostRests, Rested, keeps_front, keeps_joined, rest_state}
 use Rattle.fam_whole.proofs.Running.{Ended, run_solo}
 
 module _ (image : Image) (cache : Cache) (normal : map eight image ≡ image) (clean : IsClean cache) where
@@ -113,20 +117,27 @@ module _ (start : Image) (files : Files) (old : Machines) (journal : List Note) 
   abbrev normal : map eight old.memory ≡ old.memory
   normal = kept.held.normal
 
+  -- what a host keeps is a front of what the image reads as
+  pub front_of : (h : ℕ) (host : HostState) → slice_get old.hosts h ≡ Some host → KeepsFront (settled_at_first old.memory) host.kept
+  front_of = keeps_front start old journal kept rests sure
+
+  pub joined_of : (h : ℕ) (host : HostState) → slice_get old.hosts h ≡ Some host → IsKept host.kept
+  joined_of = keeps_joined start old journal kept rests
+
   quiet : (name : List ℕ) (cause : Refusal) (new : Machines) (notes : List Note) → notes ≡ Refused name cause ∷ [] → new ≡ old → EventExact x old new notes
   quiet name cause new notes e f =
       subst (λ (z : Machines). EventExact x old z notes) (sym f) (subst (EventExact x old old) (sym e) record { rests = rests; image = refl; whole = (tt, tt); sure = sure })
 
   -- host h has this machine then, and the same task
   own : (h : ℕ) (host : HostState) → slice_get old.hosts h ≡ Some host → (m : Machine) → IsClean m.cache → Rested (with_machine h m host.task old)
-  own h host is m clean = rests_changed h _ old.memory m.image old.hosts rests (λ z at. record { clean = clean; idle = (rests h host is).idle; bare = (rests h z at).bare })
+  own h host is m clean = rests_changed h _ old.memory m.image old.hosts rests (λ z at. record { clean = clean; idle = (rests h host is).idle })
 
   declared_exact : (name uuid : List ℕ) (new : Machines) (notes : List Note) → Acts (call.Declares name uuid) old notes new → EventExact x old new notes
   declared_exact name uuid new notes acts =
       subst (λ (z : Machines). EventExact x old z notes) (sym acts.1)
       (subst (EventExact x old _) (sym acts.0)
       record {
-        rests = rests_more old.memory old.hosts (record { name = name; uuid = uuid; cache = finmap.empty; task = None; kept = None }) rests (record { clean = clean_empty; idle = refl; bare = refl });
+        rests = rests_more old.memory old.hosts (record { name = name; uuid = uuid; cache = finmap.empty; task = None; kept = None }) rests (record { clean = clean_empty; idle = refl });
         image = refl;
         whole = (tt, tt);
         sure = sure;
@@ -165,6 +176,20 @@ module _ (start : Image) (files : Files) (old : Machines) (journal : List Note) 
       })
   moves_exact name line move new notes clean h host is (inr fails) = absurd (not_clean _ notes fails.notes_are refl clean)
 
+  -- what a host keeps is forgotten
+  umount_exact : (name : List ℕ) (new : Machines) (notes : List Note) → Does (call.Umounts name) old notes new → EventExact x old new notes
+  umount_exact name new notes does =
+      by_refusal (call.Umounts name) old new notes does (λ cause e f. quiet name cause new notes e f)
+      (λ free acts. by_host (call.Umounts name) old new notes acts (λ h host number is at.
+      subst (λ (z : Machines). EventExact x old z notes) (sym at.1)
+      (subst (EventExact x old _) (sym at.0)
+      record {
+        rests = rests_changed h (λ z. record z { kept = None }) old.memory old.memory old.hosts rests (λ z at. record { clean = (rests h z at).clean; idle = (rests h z at).idle });
+        image = refl;
+        whole = (tt, tt);
+        sure = sure;
+      })))
+
   -- a cache's own move
   move_exact : (name : List ℕ) (line : ℕ) (move : Move) (new : Machines) (notes : List Note) → AreFaultless notes → Does (call.Moves name line move) old notes new → EventExact x old new notes
   move_exact name line move new notes clean does =
@@ -181,7 +206,7 @@ module _ (start : Image) (files : Files) (old : Machines) (journal : List Note) 
       pub rest : List Note
       pub joined : notes ≡ Start h run.begun.cmd ∷ rest
       pub sure_then : HasNothingPending (past_of start (journal ++ Start h run.begun.cmd ∷ [])).state
-      pub ended : Ended start h old host is (rests h host is).bare run.begun.cmd (journal ++ Start h run.begun.cmd ∷ []) sure_then new.machines rest
+      pub ended : Ended start h old host is (joined_of h host is) run.begun.cmd (journal ++ Start h run.begun.cmd ∷ []) sure_then new.machines rest
       pub enough : least_lines ≤ length old.memory
 
     abbrev cmd : Cmd
@@ -192,7 +217,7 @@ module _ (start : Image) (files : Files) (old : Machines) (journal : List Note) 
 
     free : refusal_of (call.Begins name cmd) old ≡ None
     unfolding refusal_of
-    free = subst (λ (z : Machines). call.may_begin name z ≡ None) same run.begun.free
+    free = subst (λ (z : Machines). call.may_begin name (is_mount cmd) z ≡ None) same (begun_free files name what s run.mid run.first run.begun)
 
     state_after : (h : ℕ) → HasNothingPending (past_of start (journal ++ Start h cmd ∷ [])).state
     state_after h = subst (λ (w : Past). HasNothingPending w.state) (sym (past_both (first_past start) journal (Start h cmd ∷ []))) sure
@@ -200,18 +225,17 @@ module _ (start : Image) (files : Files) (old : Machines) (journal : List Note) 
     through_host : (h : ℕ) (host : HostState) → number_of name old ≡ Some h → slice_get old.hosts h ≡ Some host → ActsAt (call.Begins name cmd) h host old run.first run.mid.machines → Through
     unfolding refusal_of
     through_host h host number is at =
-        let bare : host.kept ≡ None = (rests h host is).bare in
         let mid : Machines = with_task h (Some (task_begun host.kept cmd host.uuid)) old in
-        let mid_as : mid ≡ with_machine h (record { image = old.memory; cache = host.cache }) (Some (task_begun None cmd host.uuid)) old =
-        ap (λ (hosts : List HostState). record { memory = old.memory; hosts = hosts }) (changed_same h (λ z. record z { task = Some (task_begun host.kept cmd host.uuid) }) (λ z. record z { cache = host.cache; task = Some (task_begun None cmd host.uuid) }) old.hosts host is (ap (λ (k : Option Kept). record host { task = Some (task_begun k cmd host.uuid) }) bare)) in
-        let mid_is : run.mid.machines ≡ with_machine h (record { image = old.memory; cache = host.cache }) (Some (task_begun None cmd host.uuid)) old = at.1 ∙ mid_as in
+        let mid_as : mid ≡ with_machine h (record { image = old.memory; cache = host.cache }) (Some (task_begun host.kept cmd host.uuid)) old =
+        ap (λ (hosts : List HostState). record { memory = old.memory; hosts = hosts }) (changed_same h (λ z. record z { task = Some (task_begun host.kept cmd host.uuid) }) (λ z. record z { cache = host.cache; task = Some (task_begun host.kept cmd host.uuid) }) old.hosts host is refl) in
+        let mid_is : run.mid.machines ≡ with_machine h (record { image = old.memory; cache = host.cache }) (Some (task_begun host.kept cmd host.uuid)) old = at.1 ∙ mid_as in
         let numbers : run.host ≡ h =
         same_Some run.host h (sym run.number ∙ ap (number_of name) at.1 ∙ place_same (has_name name) (λ z. record z { task = Some (task_begun host.kept cmd host.uuid) }) (λ z. refl) h 0 old.hosts ∙ number) in
-        let completes : Completes h (with_machine h (record { image = old.memory; cache = host.cache }) (Some (task_begun None cmd host.uuid)) old) run.rest new.machines =
-        subst (λ (n : ℕ). Completes n (with_machine h (record { image = old.memory; cache = host.cache }) (Some (task_begun None cmd host.uuid)) old) run.rest new.machines) numbers
+        let completes : Completes h (with_machine h (record { image = old.memory; cache = host.cache }) (Some (task_begun host.kept cmd host.uuid)) old) run.rest new.machines =
+        subst (λ (n : ℕ). Completes n (with_machine h (record { image = old.memory; cache = host.cache }) (Some (task_begun host.kept cmd host.uuid)) old) run.rest new.machines) numbers
         (subst (λ (z : Machines). Completes run.host z run.rest new.machines) mid_is run.does) in
         let kept' : Reached start run.mid.machines (journal ++ run.first) = begun_kept start files name what s run.mid journal run.first (subst (λ (z : Machines). Reached start z journal) (sym same) kept) run.begun in
-        let kept_as : Reached start (with_machine h (record { image = old.memory; cache = host.cache }) (Some (task_begun None cmd host.uuid)) old) (journal ++ Start h cmd ∷ []) =
+        let kept_as : Reached start (with_machine h (record { image = old.memory; cache = host.cache }) (Some (task_begun host.kept cmd host.uuid)) old) (journal ++ Start h cmd ∷ []) =
         subst (λ (z : Machines). Reached start z (journal ++ Start h cmd ∷ [])) mid_is (subst (λ (z : List Note). Reached start run.mid.machines (journal ++ z)) at.0 kept') in
         record {
           h = h;
@@ -221,8 +245,8 @@ module _ (start : Image) (files : Files) (old : Machines) (journal : List Note) 
           rest = run.rest;
           joined = run.joined ∙ ap (λ (z : List Note). z ++ run.rest) at.0;
           sure_then = state_after h;
-          ended = run_solo start h old host is bare cmd (journal ++ Start h cmd ∷ []) (state_after h) completes.count new.machines run.rest kept_as completes.does (clean_rest run.first run.rest notes run.joined clean) completes.done;
-          enough = at_most least_lines (length old.memory) (no_when _ _ (or_first _ _ (sym (ap (λ (o : Option ℕ). on_host o (λ h. begins_refusal h old)) number) ∙ free)));
+          ended = run_solo start h old host is (joined_of h host is) cmd (journal ++ Start h cmd ∷ []) (state_after h) completes.count new.machines run.rest kept_as completes.does (clean_rest run.first run.rest notes run.joined clean) completes.done;
+          enough = at_most least_lines (length old.memory) (no_when _ _ (or_first _ _ (sym (ap (λ (o : Option ℕ). on_host o (λ h. begins_refusal h (is_mount cmd) old)) number) ∙ free)));
         }
 
     pub through : Through
@@ -243,11 +267,11 @@ module _ (start : Image) (files : Files) (old : Machines) (journal : List Note) 
             let settled : (past_of start j).state ≡ first_state old.memory = ap (λ (w : Past). w.state) past_is ∙ rest_state start old journal kept rests sure in
             let limit : line_bytes * length old.memory ≤ device_limit = subst (λ (n : ℕ). line_bytes * n ≤ device_limit) (sym kept.held.lines) kept.held.limit in
             let f : Finished old (past_of start j) t.rest new.machines (operated (op_of t.ended.t) t.ended.m) =
-            finished start t.h old t.host t.is (rests t.h t.host t.is).bare cmd j t.sure_then settled t.enough limit normal (rests t.h t.host t.is).clean command new.machines t.rest t.ended in
+            finished start t.h old t.host t.is (joined_of t.h t.host t.is) cmd j t.sure_then settled t.enough limit normal (rests t.h t.host t.is).clean command (front_of t.h t.host t.is) new.machines t.rest t.ended in
             let g : Finished old (past_behind x (Start t.h cmd ∷ [])) t.rest new.machines (operated (op_of t.ended.t) t.ended.m) =
             subst (λ (w : Past). Finished old w t.rest new.machines (operated (op_of t.ended.t) t.ended.m)) past_is f in
             record {
-              rests = subst Rested (sym t.ended.state_is) (rests_changed t.h (λ z. record z { cache = (operated (op_of t.ended.t) t.ended.m).cache; task = None }) old.memory (operated (op_of t.ended.t) t.ended.m).image old.hosts rests (λ z at. record { clean = g.clean; idle = refl; bare = (rests t.h z at).bare }));
+              rests = subst Rested (sym t.ended.state_is) (rests_changed t.h (λ z. record z { cache = (operated (op_of t.ended.t) t.ended.m).cache; task = None; kept = kept_by t.ended.reply (read_by t.ended.t) t.host.kept }) old.memory (operated (op_of t.ended.t) t.ended.m).image old.hosts rests (λ z at. record { clean = g.clean; idle = refl }));
               image = g.image;
               whole = (tt, g.whole);
               sure = g.sure;
@@ -278,8 +302,8 @@ module _ (start : Image) (files : Files) (old : Machines) (journal : List Note) 
               notes_are =
                   t.joined
                   ∙ ap (λ (z : List Note). Start t.h cmd ∷ z) (t.ended.notes_are ∙ ap (λ (r : Reply). t.ended.before ++ Answered t.h (Replied r) ∷ [])
-                  (reply_is start t.h old t.host t.is (rests t.h t.host t.is).bare cmd j t.sure_then settled t.enough limit normal (rests t.h t.host t.is).clean command new.machines t.rest t.ended));
-              left = left_is start t.h old t.host t.is (rests t.h t.host t.is).bare cmd j t.sure_then settled t.enough limit normal (rests t.h t.host t.is).clean command new.machines t.rest t.ended;
+                  (reply_is start t.h old t.host t.is (joined_of t.h t.host t.is) cmd j t.sure_then settled t.enough limit normal (rests t.h t.host t.is).clean command (front_of t.h t.host t.is) new.machines t.rest t.ended));
+              left = left_is start t.h old t.host t.is (joined_of t.h t.host t.is) cmd j t.sure_then settled t.enough limit normal (rests t.h t.host t.is).clean command (front_of t.h t.host t.is) new.machines t.rest t.ended;
             }
 
   -- an event
@@ -302,6 +326,8 @@ module _ (start : Image) (files : Files) (old : Machines) (journal : List Note) 
   event_exact (event.Finish name) sound whole s new same notes clean does = absurd whole
   event_exact (event.Stop name) sound whole s new same notes clean does = absurd whole
   event_exact (event.Halt name) sound whole s new same notes clean does = absurd whole
+  event_exact (event.Umount name) sound whole s new same notes clean does =
+      umount_exact name new.machines notes (subst (λ (z : Machines). Does (call.Umounts name) z notes new.machines) same does.0)
   event_exact (event.Evict name line) sound whole s new same notes clean does =
       move_exact name line.0 Evict new.machines notes clean (subst (λ (z : Machines). Does (call.Moves name line.0 Evict) z notes new.machines) same does.0)
   event_exact (event.Leak name line mask) sound whole s new same notes clean does =

@@ -11,6 +11,7 @@ use Rattle.fam_format.specs.Reading as read
 use Rattle.fam_format.specs.Reading.{Reading, reading}
 use Rattle.fam_machine.specs.Caches.{IsClean}
 use Rattle.fam_machine.specs.Operations.{Machine, operated}
+use Rattle.fam_commands.specs.Kept.{IsKept}
 use Rattle.fam_commands.specs.Task.{op_of}
 use Rattle.fam_rules.specs.Solo.{solo_image, solo_reply, content_of, held_file}
 use Rattle.fam_rules.specs.Asks.{File, entries_of}
@@ -18,6 +19,7 @@ use Rattle.fam_rules.specs.Content.{fill}
 use Rattle.fam_rules.specs.Decide.{decide}
 use Rattle.fam_rules.specs.Place.{line_bytes}
 use Rattle.fam_rules.specs.Reply.{Reply, Appended, NotAppended, Played, Mounted, Same, Differs, Length, Bytes, NotFound, IsDirectory, Checks, Reports, NoSuperblock, BadHeader, BadSlot}
+use Rattle.fam_protocol.specs.Invariant.{KeepsFront, settled_at_first}
 use Rattle.fam_protocol.specs.Tasks.{IsCommand}
 use Rattle.fam_solo.proofs.SoloLaws.{solo}
 use Rattle.fam_protocol.proofs.Hosts.Begins.{held_back}
@@ -75,9 +77,9 @@ pub record Finished (base : Machines) (x : Past) (notes : List Note) (new : Mach
   pub sure : HasNothingPending (past_behind x notes).state
   pub clean : IsClean left.cache
 
-module _ (start : Image) (h : ℕ) (base : Machines) (host : HostState) (host_is : slice_get base.hosts h ≡ Some host) (bare : host.kept ≡ None) (cmd : Cmd) (journal : List Note) (sure : HasNothingPending (past_of start journal).state)
-    (settled : (past_of start journal).state ≡ first_state base.memory) (enough : least_lines ≤ length base.memory) (limit : line_bytes * length base.memory ≤ device_limit) (normal : map eight base.memory ≡ base.memory) (clean : IsClean host.cache) (command : IsCommand cmd)
-    (new : Machines) (notes : List Note) (end : Ended start h base host host_is bare cmd journal sure new notes) where
+module _ (start : Image) (h : ℕ) (base : Machines) (host : HostState) (host_is : slice_get base.hosts h ≡ Some host) (joined : IsKept host.kept) (cmd : Cmd) (journal : List Note) (sure : HasNothingPending (past_of start journal).state)
+    (settled : (past_of start journal).state ≡ first_state base.memory) (enough : least_lines ≤ length base.memory) (limit : line_bytes * length base.memory ≤ device_limit) (normal : map eight base.memory ≡ base.memory) (clean : IsClean host.cache) (command : IsCommand cmd) (front : KeepsFront (settled_at_first base.memory) host.kept)
+    (new : Machines) (notes : List Note) (end : Ended start h base host host_is joined cmd journal sure new notes) where
   abbrev image : Image
   image = base.memory
 
@@ -97,13 +99,13 @@ module _ (start : Image) (h : ℕ) (base : Machines) (host : HostState) (host_is
   read_is = settled ∙ first_read image enough
 
   pub reply_is : end.reply ≡ solo_reply image me cmd
-  reply_is = (solo image me cmd host.cache end.t end.words end.made end.m end.reply enough limit normal clean command end.ran end.inside end.ends).0.answer
+  reply_is = (solo host.kept joined image me cmd host.cache end.t end.words end.made end.m end.reply enough limit normal clean command front end.ran end.inside end.ends).0.answer
 
   pub left_is : new.memory ≡ solo_image image me cmd
-  left_is = ap (λ (m : Machines). m.memory) end.state_is ∙ (solo image me cmd host.cache end.t end.words end.made end.m end.reply enough limit normal clean command end.ran end.inside end.ends).0.left_is
+  left_is = ap (λ (m : Machines). m.memory) end.state_is ∙ (solo host.kept joined image me cmd host.cache end.t end.words end.made end.m end.reply enough limit normal clean command front end.ran end.inside end.ends).0.left_is
 
   pub left_clean : IsClean left.cache
-  left_clean = (solo image me cmd host.cache end.t end.words end.made end.m end.reply enough limit normal clean command end.ran end.inside end.ends).1
+  left_clean = (solo host.kept joined image me cmd host.cache end.t end.words end.made end.m end.reply enough limit normal clean command front end.ran end.inside end.ends).1
 
   -- an entry is written, and acknowledged
   record Says : Type 0 where
@@ -111,7 +113,7 @@ module _ (start : Image) (h : ℕ) (base : Machines) (host : HostState) (host_is
     reply_whole : IsWholeReply end.reply y.state image
     sure_then : HasNothingPending (replied end.reply y.state)
 
-  says_late : OnLate start h base host host_is bare cmd journal sure end.t y → Says
+  says_late : OnLate start h base host host_is joined cmd journal sure end.t y → Says
   says_late late =
       let said = sound_read image late.p late.history (reading image) (sym late.was ∙ read_is) in
       let decides : decide late.p me said.0 cmd ≡ Some (Ok late.e) =
@@ -119,7 +121,7 @@ module _ (start : Image) (h : ℕ) (base : Machines) (host : HostState) (host_is
       let a = appends image me cmd late.p said.0 late.e said.1 decides in
       by_appends said.0 said.2 (solo_reply image me cmd) refl a late said.1 decides
     where
-      by_appends : (entries : List Entry) → late.history ≡ map (held_file (line_at image)) entries → (given : Reply) → solo_reply image me cmd ≡ given → Appends image me cmd → OnLate start h base host host_is bare cmd journal sure end.t y → reading image ≡ read.Sound late.p entries → decide late.p me entries cmd ≡ Some (Ok late.e) → Says
+      by_appends : (entries : List Entry) → late.history ≡ map (held_file (line_at image)) entries → (given : Reply) → solo_reply image me cmd ≡ given → Appends image me cmd → OnLate start h base host host_is joined cmd journal sure end.t y → reading image ≡ read.Sound late.p entries → decide late.p me entries cmd ≡ Some (Ok late.e) → Says
       by_appends entries history_is given given_is a late' sound decides =
           let sounds : read.Sound a.p a.entries ≡ read.Sound late.p entries = sym a.sound ∙ sound in
           let params : a.p ≡ late.p = cc in
@@ -164,7 +166,7 @@ module _ (start : Image) (h : ℕ) (base : Machines) (host : HostState) (host_is
   says : Says
   says = by_on end.on
     where
-      by_on : On start h base host host_is bare cmd journal sure end.t y → Says
+      by_on : On start h base host host_is joined cmd journal sure end.t y → Says
       by_on (inl same) = says_early same
       by_on (inr late) = says_late late
 

@@ -9,10 +9,11 @@ use Rattle.fam_base.specs.Image.{Image}
 use Rattle.fam_base.specs.PathOrder.{path_eq}
 use Rattle.fam_format.specs.Layout.{device_limit}
 use Rattle.fam_machine.specs.Caches.{IsClean, IsCleanCell}
+use Rattle.fam_commands.specs.Kept.{IsKept}
 use Rattle.fam_commands.specs.Task.{Task}
 use Rattle.fam_rules.specs.Asks.{File}
 use Rattle.fam_rules.specs.Place.{line_bytes}
-use Rattle.fam_protocol.specs.Invariant.{Hosts, Known, Owner, Invariant, settled_at_first}
+use Rattle.fam_protocol.specs.Invariant.{Damaged, Hosts, InvariantBy, KeepFronts, KeepsFront, Known, Owner, Invariant, Settled, Small, settled_at_first}
 use Rattle.fam_protocol.specs.Invariant as invariant
 use Rattle.fam_protocol.proofs.Hosts.Resting.{rests_settled}
 use Rattle.fam_journal.specs.View.{HostView, HostStandsAt, TaskStands}
@@ -25,6 +26,7 @@ use Rattle.fam_journal.specs.Past.{FewLines, State, Bad, Sound, first_state, pas
 use Rattle.fam_journal.proofs.Settled.BadStates.{bad_own}
 use Rattle.fam_journal.proofs.Calls.Begin.{settled_first}
 use Rattle.fam_journal.proofs.Calls.Declares.{none_passes}
+use Rattle.fam_journal.proofs.Runs.Following.{declared_at}
 use Rattle.fam_journal.proofs.Runs.Left.{held_reads}
 use Rattle.fam_journal.proofs.Calls.Stepped.{find_host}
 use Rattle.fam_journal.proofs.Calls.WorldRows.{place_found}
@@ -32,11 +34,10 @@ use Rattle.fam_journal.specs.Ends.{ReadsAs}
 use Rattle.fam_whole.specs.Whole.{HasNothingPending}
 use Rattle.fam_whole.proofs.Folds.{first_sure}
 
--- no host has a task or keeps anything, and no cache has anything to send
+-- no host has a task, and no cache has anything to send
 pub record HostRests (host : HostState) : Type 0 where
   pub clean : IsClean host.cache
   pub idle : host.task ≡ None
-  pub bare : host.kept ≡ None
 
 abbrev pub Rested : Machines → Type 0
 Rested s = (k : ℕ) (host : HostState) → slice_get s.hosts k ≡ Some host → HostRests host
@@ -45,11 +46,11 @@ module _ (start : Image) (s : Machines) (journal : List Note) (kept : Reached st
   abbrev hosts : Hosts
   hosts = hosts_of kept.views (past_of start journal).hosts
 
-  view_rests : (k : ℕ) (v : HostView) → slice_get kept.views k ≡ Some v → IsClean v.cache × (v.task ≡ None) × (v.kept ≡ None)
+  view_rests : (k : ℕ) (v : HostView) → slice_get kept.views k ≡ Some v → IsClean v.cache × (v.task ≡ None)
   view_rests k v is =
       let host = find_host (length start) v (slice_get s.hosts k) (subst (λ (o : Option HostView). HostStandsAt (length start) (slice_get s.hosts k) o) is (kept.held.stands k)) in
       let at = rests k host.0 host.1 in
-      (subst IsClean host.2.cache at.clean, none v.task (subst (λ (o : Option TaskState). TaskStands (length start) o v.task) at.idle host.2.task), sym host.2.kept ∙ at.bare)
+      (subst IsClean host.2.cache at.clean, none v.task (subst (λ (o : Option TaskState). TaskStands (length start) o v.task) at.idle host.2.task))
     where
       none : (o : Option Task) → TaskStands (length start) None o → o ≡ None
       none None stands = refl
@@ -61,13 +62,6 @@ module _ (start : Image) (s : Machines) (journal : List Note) (kept : Reached st
       by_view : (o : Option HostView) → slice_get kept.views h ≡ o → run_at o (slice_get (past_of start journal).hosts h) ≡ None
       by_view None is = refl
       by_view (Some v) is = ap (λ (t : Option Task). run_with t (slice_get (past_of start journal).hosts h)) (view_rests h v is).1
-
-  bare : (h : ℕ) → hosts.kept h ≡ None
-  bare h = by_view (slice_get kept.views h) refl
-    where
-      by_view : (o : Option HostView) → slice_get kept.views h ≡ o → kept_at o ≡ None
-      by_view None is = refl
-      by_view (Some v) is = (view_rests h v is).2
 
   clean : (h l : ℕ) → IsCleanCell (copy_at (slice_get kept.views h) l)
   clean h l = by_view (slice_get kept.views h) refl
@@ -104,7 +98,7 @@ module _ (start : Image) (s : Machines) (journal : List Note) (kept : Reached st
   owner id = record { host = index_of (has id) kept.views; is = owner_is id; only = owner_only id }
 
   at_rest : invariant.Rests hosts (shared_of s.memory kept.views)
-  at_rest = record { declared = kept.held.invariant.declared; owner = owner; idle = idle; bare = bare; clean = clean }
+  at_rest = record { declared = kept.held.invariant.declared; owner = owner; idle = idle; clean = clean }
 
   lines : length s.memory ≡ length start
   lines = kept.held.lines
@@ -135,3 +129,23 @@ module _ (start : Image) (s : Machines) (journal : List Note) (kept : Reached st
       by_state (Sound p history (Some f)) is sure = absurd cc
       by_state (Sound p history None) is sure =
           is ∙ first_is p history (first_state s.memory) (first_sure s.memory) (settled_first s.memory ∙ known_here p history is)
+
+  -- What a host keeps is a front of what the image reads as.
+
+  front_by : (settled : Settled) → InvariantBy settled (length start) hosts (shared_of s.memory kept.views) → KeepFronts settled hosts
+  front_by (Small image) is = is.bare
+  front_by (Damaged image) is = is.bare
+  front_by (Known p all settled) is = is.kept
+
+  pub keeps_front : HasNothingPending (past_of start journal).state → (h : ℕ) (host : HostState) → slice_get s.hosts h ≡ Some host → KeepsFront (settled_at_first s.memory) host.kept
+  keeps_front sure h host is =
+      let d = declared_at start s journal kept h host is in
+      let same : d.view.kept ≡ host.kept = sym d.stands.kept ∙ ap (λ (z : HostState). z.kept) (same_Some d.host host (sym d.host_is ∙ is)) in
+      let settled : settled_of (past_of start journal).state ≡ settled_at_first s.memory = ap settled_of (rest_state sure) ∙ settled_first s.memory in
+      subst (λ (z : Settled). KeepsFront z host.kept) settled
+      (subst (KeepsFront (settled_of (past_of start journal).state)) (ap kept_at d.view_is ∙ same) (front_by (settled_of (past_of start journal).state) kept.held.invariant.stage h))
+
+  pub keeps_joined : (h : ℕ) (host : HostState) → slice_get s.hosts h ≡ Some host → IsKept host.kept
+  keeps_joined h host is =
+      let d = declared_at start s journal kept h host is in
+      subst IsKept (sym d.stands.kept ∙ ap (λ (z : HostState). z.kept) (same_Some d.host host (sym d.host_is ∙ is))) d.stands.joined

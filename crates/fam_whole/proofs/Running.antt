@@ -11,13 +11,13 @@ use Rattle.fam_base.specs.Image.{Image}
 use Rattle.fam_machine.specs.declared.op.Op.{Op}
 use Rattle.fam_machine.specs.Operations.{Machine, given, operated, IsInImage}
 use Rattle.fam_commands.specs.Solo.{SoloRun, goes, notes_up_to, noted, starts, turn_on}
-use Rattle.fam_commands.specs.Keeping.{kept_after}
-use Rattle.fam_commands.specs.Kept.{Kept}
+use Rattle.fam_commands.specs.Keeping.{kept_after, kept_by, read_by}
+use Rattle.fam_commands.specs.Kept.{IsKept, Kept}
 use Rattle.fam_commands.specs.Stands.{StandsFor, note_of, task_after, with_given}
 use Rattle.fam_commands.specs.Table.{Row, table}
-use Rattle.fam_commands.specs.Task.{Task, op_of, starting}
+use Rattle.fam_commands.specs.Task.{Task, mounted, op_of}
 use Rattle.fam_commands.specs.Turns.{Turn, Goes, Marks, Finds, Writes, Ends}
-use Rattle.fam_commands.proofs.Steps.Standing.{operation_from_start, bare_tied}
+use Rattle.fam_commands.proofs.Steps.Standing.{next_operation, standing_tied}
 use Rattle.fam_solo.proofs.Machine.{ran_length, ran_stands, same_turn}
 use Rattle.fam_rules.specs.Solo.{content_of}
 use Rattle.fam_rules.specs.Asks.{File, entries_of}
@@ -38,7 +38,6 @@ use Rattle.fam_machine.specs.Caches.{Cache, cell_at}
 use Rattle.fam_protocol.proofs.Hosts.Inside.{asks_inside}
 use Rattle.fam_journal.proofs.Settled.Journals.{legal_rest, past_both}
 use Rattle.fam_journal.proofs.Calls.Members.{changed_alike, changed_at_member}
-use Rattle.fam_protocol.proofs.Hosts.Steps.{keeps_none}
 use Rattle.fam_journal.proofs.Calls.MkfsRows.{changed_twice}
 use Rattle.fam_journal.proofs.Calls.Rows.{Declared, declared}
 use Rattle.fam_journal.proofs.Calls.TaskRows.{row_served}
@@ -49,7 +48,7 @@ use Rattle.fam_protocol.specs.After.{HasNamed}
 use Rattle.fam_whole.proofs.Phases.{IsLateTurn, WritesLate, late_turn, writes_turn}
 
 -- from the moment at which host h of these machines has begun the command, behind this journal
-module _ (start : Image) (h : ℕ) (base : Machines) (host : HostState) (host_is : slice_get base.hosts h ≡ Some host) (bare : host.kept ≡ None) (cmd : Cmd) (journal : List Note) (sure : HasNothingPending (past_of start journal).state) where
+module _ (start : Image) (h : ℕ) (base : Machines) (host : HostState) (host_is : slice_get base.hosts h ≡ Some host) (joined : IsKept host.kept) (cmd : Cmd) (journal : List Note) (sure : HasNothingPending (past_of start journal).state) where
   abbrev image : Image
   image = base.memory
 
@@ -63,7 +62,7 @@ module _ (start : Image) (h : ℕ) (base : Machines) (host : HostState) (host_is
   at m t = with_machine h m t base
 
   abbrev pub state_of : List ℕ → ℕ → TaskState
-  state_of words made = record { cmd = cmd; me = me; kept = None; words = words; made = made }
+  state_of words made = record { cmd = cmd; me = me; kept = host.kept; words = words; made = made }
 
   host_at : (m : Machine) (t : Option TaskState) → slice_get (at m t).hosts h ≡ Some (record host { cache = m.cache; task = t })
   host_at m t = changed_at_member h (λ z. record z { cache = m.cache; task = t }) base.hosts host host_is
@@ -73,16 +72,27 @@ module _ (start : Image) (h : ℕ) (base : Machines) (host : HostState) (host_is
       ap (λ (hosts : List HostState). record { memory = n.image; hosts = hosts })
       (changed_twice h (λ z. record z { cache = n.cache; task = t }) (λ z. record z { cache = m.cache; task = s }) base.hosts)
 
-  -- what the host keeps is as before
-  bare_twice : (m n : Machine) (s t : Option TaskState) (kept : Option Kept) → kept ≡ host.kept → with_parts h n t kept (at m s) ≡ at n t
-  bare_twice m n s t kept same =
+  -- and what it keeps
+  abbrev pub left_at : Machine → Option TaskState → Option Kept → Machines
+  left_at m t kept = with_parts h m t kept base
+
+  host_left : (m : Machine) (t : Option TaskState) (kept : Option Kept) → slice_get (left_at m t kept).hosts h ≡ Some (record host { cache = m.cache; task = t; kept = kept })
+  host_left m t kept = changed_at_member h (λ z. record z { cache = m.cache; task = t; kept = kept }) base.hosts host host_is
+
+  parts_twice : (m n : Machine) (s t : Option TaskState) (kept : Option Kept) → with_parts h n t kept (at m s) ≡ left_at n t kept
+  parts_twice m n s t kept =
       ap (λ (hosts : List HostState). record { memory = n.image; hosts = hosts })
-      (changed_twice h (λ z. record z { cache = n.cache; task = t; kept = kept }) (λ z. record z { cache = m.cache; task = s }) base.hosts
-      ∙ changed_alike h (λ z. record z { cache = n.cache; task = t; kept = kept }) (λ z. record z { cache = n.cache; task = t }) base.hosts host host_is (ap (λ (k : Option Kept). record host { cache = n.cache; task = t; kept = k }) same))
+      (changed_twice h (λ z. record z { cache = n.cache; task = t; kept = kept }) (λ z. record z { cache = m.cache; task = s }) base.hosts)
+
+  -- what the host keeps is as before
+  as_before : (n : Machine) (t : Option TaskState) → left_at n t host.kept ≡ at n t
+  as_before n t =
+      ap (λ (hosts : List HostState). record { memory = n.image; hosts = hosts })
+      (changed_alike h (λ z. record z { cache = n.cache; task = t; kept = host.kept }) (λ z. record z { cache = n.cache; task = t }) base.hosts host host_is refl)
 
   -- One operation is the machine's row.
 
-  module _ (t : Task) (words : List ℕ) (made : ℕ) (m : Machine) (ran : SoloRun cmd me image host.cache t words made m) where
+  module _ (t : Task) (words : List ℕ) (made : ℕ) (m : Machine) (ran : SoloRun host.kept cmd me image host.cache t words made m) where
     abbrev s : TaskState
     s = state_of words made
 
@@ -93,15 +103,15 @@ module _ (start : Image) (h : ℕ) (base : Machines) (host : HostState) (host_is
     after = operated (op_of t) m
 
     count : length m.image ≡ length image
-    count = ran_length cmd me image host.cache t words made m ran
+    count = ran_length host.kept cmd me image host.cache t words made m ran
 
-    standing : StandsFor None cmd me (length image) t words made
-    standing = ran_stands cmd me image host.cache t words made m ran
+    standing : StandsFor host.kept cmd me (length image) t words made
+    standing = ran_stands host.kept cmd me image host.cache t words made m ran
 
-    row_is : operation Passes h (at m (Some s)) ≡ Some (record { notes = notes_of h (note_of turn); left = at after (machine.task_behind (note_of turn) (task_on s (given (op_of t) m))) })
+    row_is : operation Passes h (at m (Some s)) ≡ Some (record { notes = notes_of h (note_of turn); left = left_at after (machine.task_behind (note_of turn) (task_on s (given (op_of t) m))) (kept_after turn t host.kept) })
     row_is =
-        row_served (at m (Some s)) h (record host { cache = m.cache; task = Some s }) (host_at m (Some s)) s refl (length image) count t record { joined = tt; stands = standing } m refl turn (same_turn t m)
-        ∙ ap (λ (z : Machines). Some (record { notes = notes_of h (note_of turn); left = z })) (bare_twice m after (Some s) (machine.task_behind (note_of turn) (task_on s (given (op_of t) m))) (kept_after turn t host.kept) (ap (kept_after turn t) bare ∙ keeps_none turn t ∙ sym bare))
+        row_served (at m (Some s)) h (record host { cache = m.cache; task = Some s }) (host_at m (Some s)) s refl (length image) count t record { joined = joined; stands = standing } m refl turn (same_turn t m)
+        ∙ ap (λ (z : Machines). Some (record { notes = notes_of h (note_of turn); left = z })) (parts_twice m after (Some s) (machine.task_behind (note_of turn) (task_on s (given (op_of t) m))) (kept_after turn t host.kept))
 
     -- What the journal and the protocol say of the task.
 
@@ -127,17 +137,17 @@ module _ (start : Image) (h : ℕ) (base : Machines) (host : HostState) (host_is
         by_task : (o : Option Task) → d.view.task ≡ o → Now j
         by_task None none = absurd (stands None none)
         by_task (Some z) runs =
-            let other : StandsFor None cmd me (length start) z words made = (stands (Some z) runs).stands in
+            let other : StandsFor host.kept cmd me (length start) z words made = (stands (Some z) runs).stands in
             let told_task : TaskTold z d.told = subst (λ (o : Option Task). IfRuns o d.told) runs d.host_told.task in
             let ops : op_of z ≡ op_of t =
             same_Some (op_of z) (op_of t)
-            (sym (operation_from_start cmd me (length start) z words made other)
-            ∙ ap (λ (n : ℕ). option_map (λ (r : Row). r.op) (slice_get (table None cmd me n words) made)) (sym lines)
-            ∙ operation_from_start cmd me (length image) t words made standing) in
+            (sym (next_operation host.kept cmd me (length start) z words made joined other)
+            ∙ ap (λ (n : ℕ). option_map (λ (r : Row). r.op) (slice_get (table host.kept cmd me n words) made)) (sym lines)
+            ∙ next_operation host.kept cmd me (length image) t words made joined standing) in
             record {
               told = d.told;
               told_is = d.told_is;
-              cmd_is = told_task.cmd ∙ ap Some (bare_tied cmd me (length start) z words made other).cmd_is;
+              cmd_is = told_task.cmd ∙ ap Some (standing_tied host.kept cmd me (length start) z words made joined other).cmd_is;
               uuid_is = d.host_told.uuid ∙ sym d.stands.uuid ∙ ap (λ (y : HostState). y.uuid) same;
               inside = subst (λ (op : Op). IsInImage op m) ops
                   (asks_inside (settled_of (past_of start j).state) (length start) (hosts_of kept.views (past_of start j).hosts) (shared_of m.image kept.views) kept.held.limit kept.held.invariant.stage h (run_of z d.told)
@@ -168,9 +178,9 @@ module _ (start : Image) (h : ℕ) (base : Machines) (host : HostState) (host_is
     words : List ℕ
     made : ℕ
     m : Machine
-    ran : SoloRun cmd me image host.cache t words made m
+    ran : SoloRun host.kept cmd me image host.cache t words made m
     state_is : state ≡ at m (Some (state_of words made))
-    notes_are : notes ≡ all_noted h (notes_up_to cmd me image host.cache t words made m ran)
+    notes_are : notes ≡ all_noted h (notes_up_to host.kept cmd me image host.cache t words made m ran)
     on : On t (past_of start (journal ++ notes))
     same : image_behind x image notes ≡ image
     whole : AreWholeNotes x image notes
@@ -181,13 +191,13 @@ module _ (start : Image) (h : ℕ) (base : Machines) (host : HostState) (host_is
     pub words : List ℕ
     pub made : ℕ
     pub m : Machine
-    pub ran : SoloRun cmd me image host.cache t words made m
+    pub ran : SoloRun host.kept cmd me image host.cache t words made m
     pub inside : IsInImage (op_of t) m
     pub reply : Reply
     pub ends : turn_on t m ≡ Ends reply
-    pub state_is : state ≡ at (operated (op_of t) m) None
+    pub state_is : state ≡ left_at (operated (op_of t) m) None (kept_by reply (read_by t) host.kept)
     pub before : List Note
-    pub before_is : before ≡ all_noted h (notes_up_to cmd me image host.cache t words made m ran)
+    pub before_is : before ≡ all_noted h (notes_up_to host.kept cmd me image host.cache t words made m ran)
     pub notes_are : notes ≡ before ++ Answered h (Replied reply) ∷ []
     pub on : On t (past_of start (journal ++ before))
     pub same : image_behind x image before ≡ image
@@ -204,31 +214,31 @@ module _ (start : Image) (h : ℕ) (base : Machines) (host : HostState) (host_is
   past_here : (notes : List Note) → past_of start (journal ++ notes) ≡ past_behind x notes
   past_here notes = past_both (first_past start) journal notes
 
-  module _ (t : Task) (words : List ℕ) (made : ℕ) (m : Machine) (ran : SoloRun cmd me image host.cache t words made m) (notes : List Note) (notes_are : notes ≡ all_noted h (notes_up_to cmd me image host.cache t words made m ran)) (on : On t (past_of start (journal ++ notes))) (same : image_behind x image notes ≡ image) (whole : AreWholeNotes x image notes) (info : Now t words made m ran (journal ++ notes)) where
+  module _ (t : Task) (words : List ℕ) (made : ℕ) (m : Machine) (ran : SoloRun host.kept cmd me image host.cache t words made m) (notes : List Note) (notes_are : notes ≡ all_noted h (notes_up_to host.kept cmd me image host.cache t words made m ran)) (on : On t (past_of start (journal ++ notes))) (same : image_behind x image notes ≡ image) (whole : AreWholeNotes x image notes) (info : Now t words made m ran (journal ++ notes)) where
     abbrev y : Past
     y = past_of start (journal ++ notes)
 
     -- what is left and noted by this turn
     abbrev left : Turn → Machines
-    left z = at (operated (op_of t) m) (machine.task_behind (note_of z) (task_on (state_of words made) (given (op_of t) m)))
+    left z = left_at (operated (op_of t) m) (machine.task_behind (note_of z) (task_on (state_of words made) (given (op_of t) m))) (kept_after z t host.kept)
 
     abbrev first : Turn → List Note
     first z = notes_of h (note_of z)
 
     -- the task goes on, with one note more or none
-    goes_on : (z : Turn) (n : Task) → turn_on t m ≡ z → task_after z ≡ Some n → machine.task_behind (note_of z) (task_on (state_of words made) (given (op_of t) m)) ≡ Some (task_on (state_of words made) (given (op_of t) m)) → On n (past_behind y (first z)) → image_behind y image (first z) ≡ image → AreWholeNotes y image (first z) → Along (left z) (notes ++ first z)
-    goes_on z n is next task on' same' whole' =
-        let came' : SoloRun cmd me image host.cache n (with_given words (given (op_of t) m)) (made + 1) (operated (op_of t) m) = goes ran info.inside (ap task_after is ∙ next) in
+    goes_on : (z : Turn) (n : Task) → turn_on t m ≡ z → task_after z ≡ Some n → machine.task_behind (note_of z) (task_on (state_of words made) (given (op_of t) m)) ≡ Some (task_on (state_of words made) (given (op_of t) m)) → kept_after z t host.kept ≡ host.kept → On n (past_behind y (first z)) → image_behind y image (first z) ≡ image → AreWholeNotes y image (first z) → Along (left z) (notes ++ first z)
+    goes_on z n is next task keeps on' same' whole' =
+        let came' : SoloRun host.kept cmd me image host.cache n (with_given words (given (op_of t) m)) (made + 1) (operated (op_of t) m) = goes ran info.inside (ap task_after is ∙ next) in
         record {
           t = n;
           words = with_given words (given (op_of t) m);
           made = made + 1;
           m = operated (op_of t) m;
           ran = came';
-          state_is = ap (at (operated (op_of t) m)) task;
+          state_is = ap₂ (left_at (operated (op_of t) m)) task keeps ∙ as_before (operated (op_of t) m) (Some (task_on (state_of words made) (given (op_of t) m)));
           notes_are =
               ap₂ (λ (u v : List Note). u ++ v) notes_are (sym (noted_one h (note_of z)) ∙ ap (λ (w : Turn). all_noted h (noted (note_of w))) (sym is))
-              ∙ sym (noted_both h (notes_up_to cmd me image host.cache t words made m ran) (noted (note_of (turn_on t m))));
+              ∙ sym (noted_both h (notes_up_to host.kept cmd me image host.cache t words made m ran) (noted (note_of (turn_on t m))));
           on = subst (On n) (sym (past_on notes (first z))) on';
           same = image_both x image notes (first z) ∙ ap (λ (i : Image). image_behind (past_behind x notes) i (first z)) same ∙ ap (λ (w : Past). image_behind w image (first z)) (sym (past_here notes)) ∙ same';
           whole = whole_both x image notes (first z) whole (subst (λ (i : Image). AreWholeNotes (past_behind x notes) i (first z)) (sym same) (subst (λ (w : Past). AreWholeNotes w image (first z)) (past_here notes) whole'));
@@ -286,10 +296,10 @@ module _ (start : Image) (h : ℕ) (base : Machines) (host : HostState) (host_is
                 })
 
     by_turn : (z : Turn) → turn_on t m ≡ z → LegalBehind y (first z) → Along (left z) (notes ++ first z) ⊎ Ended (left z) (notes ++ first z)
-    by_turn (Goes n) is legal = inl (goes_on (Goes n) n is refl refl (on_goes n is on) refl tt)
-    by_turn (Marks n) is legal = inl (goes_on (Marks n) n is refl refl (on_marks n is on) refl (tt, tt))
-    by_turn (Finds k n) is legal = inl (goes_on (Finds k n) n is refl refl (on_finds k n is on) refl (tt, tt))
-    by_turn (Writes seq e n) is legal = inl (goes_on (Writes seq e n) n is refl refl (on_writes seq e n is legal on) refl (tt, tt))
+    by_turn (Goes n) is legal = inl (goes_on (Goes n) n is refl refl refl (on_goes n is on) refl tt)
+    by_turn (Marks n) is legal = inl (goes_on (Marks n) n is refl refl refl (on_marks n is on) refl (tt, tt))
+    by_turn (Finds k n) is legal = inl (goes_on (Finds k n) n is refl refl refl (on_finds k n is on) refl (tt, tt))
+    by_turn (Writes seq e n) is legal = inl (goes_on (Writes seq e n) n is refl refl refl (on_writes seq e n is legal on) refl (tt, tt))
     by_turn (Ends given) is legal = inr (record {
       t = t;
       words = words;
@@ -321,7 +331,7 @@ module _ (start : Image) (h : ℕ) (base : Machines) (host : HostState) (host_is
       let op' : Operation h (at along.m (Some s)) first mid = subst (λ (z : Machines). Operation h z first mid) along.state_is op in
       let info = now along.t along.words along.made along.m along.ran (journal ++ notes) kept' in
       let turn : Turn = turn_on along.t along.m in
-      let same : record { notes = notes_of h (note_of turn); left = at (operated (op_of along.t) along.m) (machine.task_behind (note_of turn) (task_on s (given (op_of along.t) along.m))) } ≡ record { notes = first; left = mid } =
+      let same : record { notes = notes_of h (note_of turn); left = left_at (operated (op_of along.t) along.m) (machine.task_behind (note_of turn) (task_on s (given (op_of along.t) along.m))) (kept_after turn along.t host.kept) } ≡ record { notes = first; left = mid } =
       same_Some _ (record { notes = first; left = mid }) (sym (row_is along.t along.words along.made along.m along.ran) ∙ passes h (at along.m (Some s)) op'.outcome (record { notes = first; left = mid }) op'.is clean) in
       let legal : LegalBehind (past_of start (journal ++ notes)) first = legal_rest (first_past start) (journal ++ notes) first (operation_kept start h (at along.m (Some s)) (journal ++ notes) kept' first mid op').held.legal in
       subst (λ (d : Done). Along d.left (notes ++ d.notes) ⊎ Ended d.left (notes ++ d.notes)) same
@@ -331,7 +341,7 @@ module _ (start : Image) (h : ℕ) (base : Machines) (host : HostState) (host_is
   busy state notes along = ap (busy_at h) along.state_is ∙ ap is_busy_host (host_at along.m (Some (state_of along.words along.made)))
 
   idle : (state : Machines) (notes : List Note) → Ended state notes → busy_at h state ≡ false
-  idle state notes ended = ap (busy_at h) ended.state_is ∙ ap is_busy_host (host_at (operated (op_of ended.t) ended.m) None)
+  idle state notes ended = ap (busy_at h) ended.state_is ∙ ap is_busy_host (host_left (operated (op_of ended.t) ended.m) None (kept_by ended.reply (read_by ended.t) host.kept))
 
   -- nothing comes behind the answer
   rests : (count : ℕ) (state new : Machines) (rest : List Note) → busy_at h state ≡ false → DoesOperations h count state rest new → (rest ≡ []) × (new ≡ state)
@@ -360,7 +370,7 @@ module _ (start : Image) (h : ℕ) (base : Machines) (host : HostState) (host_is
   run_solo count new notes kept o clean done =
       run count (at (record { image = image; cache = host.cache }) (Some (state_of [] 0))) new [] notes
       record {
-        t = starting cmd me (length image);
+        t = mounted host.kept cmd me (length image);
         words = [];
         made = 0;
         m = record { image = image; cache = host.cache };

@@ -16,7 +16,7 @@ use Rattle.fam_journal.specs.Notes.{Note}
 use Rattle.fam_journal.proofs.Runs.Unique.{clean_prefix, clean_rest}
 use Rattle.fam_whole.specs.Whole.{AreWhole, AreAlike, IsWholeEvent, WholeRun, command_notes, commands_in, is_move, notes_unless}
 use Rattle.fam_whole.proofs.Exact.{Between, at_start, one_more}
-use Rattle.fam_whole.proofs.Twins.{Same, TwinSessions, ask_same, by_both, host_same, makes_same, move_twin, twins_as, twins_back, twins_on}
+use Rattle.fam_whole.proofs.Twins.{Same, TwinSessions, ask_same, by_both, host_same, makes_same, move_twin, twins_as, twins_back, twins_on, umounts_same}
 
 module _ (start : Image) (files : Files) where
   -- the notes, and what is left
@@ -44,6 +44,8 @@ module _ (start : Image) (files : Files) where
   command_same (event.Finish name) is sound whole s t m n j k a b bs bt twins clean_a clean_b x y = absurd whole
   command_same (event.Stop name) is sound whole s t m n j k a b bs bt twins clean_a clean_b x y = absurd whole
   command_same (event.Halt name) is sound whole s t m n j k a b bs bt twins clean_a clean_b x y = absurd whole
+  command_same (event.Umount name) is sound whole s t m n j k a b bs bt twins clean_a clean_b x y =
+      call_same (call.Umounts name) s t m n j k a b bs bt twins x y (umounts_same start files s.machines t.machines j k bs bt twins.machines a b m.machines n.machines name)
   command_same (event.Evict name line) is sound whole s t m n j k a b bs bt twins clean_a clean_b x y = absurd cc
   command_same (event.Leak name line mask) is sound whole s t m n j k a b bs bt twins clean_a clean_b x y = absurd cc
   command_same (event.Fetch name line mask) is sound whole s t m n j k a b bs bt twins clean_a clean_b x y = absurd cc

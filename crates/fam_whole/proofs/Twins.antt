@@ -1,6 +1,6 @@
 -- Two runs of whole events with the same commands: what caches do by themselves between them is of no account.
 use Prim.Native.Nat.{zero, suc}
-use Rattle.std.proofs.Common.{◌≡◌, ℕ, ◌*◌, ◌≤◌, inl, inr, Bool, true, List, [], ◌∷◌, ◌++◌, length, Option, Some, None, refl, ap, ap₂, sym, ◌∙◌, subst}
+use Rattle.std.proofs.Common.{◌≡◌, ℕ, ◌*◌, ◌≤◌, inl, inr, Bool, true, false, List, [], ◌∷◌, ◌++◌, length, Option, Some, None, refl, ap, ap₂, sym, ◌∙◌, subst}
 use Rattle.std.specs.Prelude.{⊤, ◌⊎◌, is_some, slice_get, Result, Ok}
 use Rattle.std.specs.FinMap as finmap
 use Rattle.std.proofs.lemmas.Option.{same_Some}
@@ -13,6 +13,8 @@ use Rattle.fam_format.specs.Layout.{device_limit}
 use Rattle.fam_format.specs.Reading.{super_in}
 use Rattle.fam_machine.specs.Caches.{Cache, IsClean, cell_at, dirty_count}
 use Rattle.fam_machine.specs.Operations.{operated, operated_all}
+use Rattle.fam_commands.specs.Keeping.{kept_by, read_by}
+use Rattle.fam_commands.specs.Kept.{Kept}
 use Rattle.fam_commands.specs.Solo.{Stand, notes_up_to, stand_after}
 use Rattle.fam_commands.specs.Task.{op_of}
 use Rattle.fam_commands.specs.Turns.{Ends}
@@ -33,12 +35,12 @@ use Rattle.fam_journal.specs.declared.refusal.Refusal.TheVariants as why
 use Rattle.fam_journal.specs.Calls as call
 use Rattle.fam_journal.specs.Calls.{Acts, ActsAt, ByRefusal, Call, Completes, Does, may_begin, name_of, number_of, refusal_of}
 use Rattle.fam_journal.specs.Ends.{IsFaultless as AreFaultless}
-use Rattle.fam_journal.specs.Events.{DoesEvent, Continues, HasNoSource, RefusesEvent, Ready, Session, SourceSays, Unfit}
+use Rattle.fam_journal.specs.Events.{DoesEvent, Continues, HasNoSource, RefusesEvent, Ready, Session, SourceSays, Unfit, mounts}
 use Rattle.fam_machine.specs.HostMoves.{Evict, Fetch, Leak, Move}
-use Rattle.fam_journal.specs.Machines.{HostState, Machines, machine_of, with_machine}
+use Rattle.fam_journal.specs.Machines.{HostState, Machines, machine_of, with_kept, with_machine}
 use Rattle.fam_journal.specs.Members.{changed_at}
 use Rattle.fam_machine.specs.Mkfs as here
-use Rattle.fam_journal.specs.Notes.{Answered, Made, Note, Refused, Replied, Start}
+use Rattle.fam_journal.specs.Notes.{Answered, Made, Note, Refused, Replied, Start, Umount}
 use Rattle.fam_journal.specs.Past.{Past}
 use Rattle.fam_journal.proofs.Calls.Cases.{by_host, by_refusal}
 use Rattle.fam_journal.proofs.Settled.Journals.{past_both}
@@ -46,7 +48,7 @@ use Rattle.fam_journal.proofs.Runs.Listings.{one_listing}
 use Rattle.fam_journal.proofs.Calls.Shown.{AreAlike, number_same, refusal_same}
 use Rattle.fam_journal.proofs.Runs.Unique.{met_or_made, not_clean, one_source}
 use Rattle.fam_whole.specs.Whole.{AreRefusals, is_move}
-use Rattle.fam_whole.proofs.Exact.{Between, Through, moved_image, through}
+use Rattle.fam_whole.proofs.Exact.{Between, Through, front_of, joined_of, moved_image, through}
 use Rattle.fam_machine.proofs.MkfsOps.{clean_formats, read_image}
 use Rattle.fam_whole.proofs.Finish.{left_is}
 use Rattle.fam_whole.proofs.Folds.{all_noted}
@@ -56,6 +58,7 @@ use Rattle.fam_whole.proofs.Rests.{HostRests, rest_state}
 pub record Named (a b : HostState) : Type 0 where
   pub name : a.name ≡ b.name
   pub uuid : a.uuid ≡ b.uuid
+  pub kept : a.kept ≡ b.kept
 
 abbrev pub SameHosts : List HostState → List HostState → Type 0
 SameHosts [] [] = ⊤
@@ -65,7 +68,7 @@ SameHosts (a ∷ xs) (b ∷ bs) = Named a b × SameHosts xs bs
 
 pub same_self : (xs : List HostState) → SameHosts xs xs
 same_self [] = tt
-same_self (a ∷ xs) = (record { name = refl; uuid = refl }, same_self xs)
+same_self (a ∷ xs) = (record { name = refl; uuid = refl; kept = refl }, same_self xs)
 
 pub same_on : (xs ys zs : List HostState) → SameHosts xs ys → SameHosts ys zs → SameHosts xs zs
 same_on [] [] [] p q = tt
@@ -74,18 +77,26 @@ same_on [] (b ∷ ys) zs p q = absurd p
 same_on (a ∷ xs) [] zs p q = absurd p
 same_on (a ∷ xs) (b ∷ ys) [] p q = absurd q
 same_on (a ∷ xs) (b ∷ ys) (c ∷ zs) p q =
-    (record { name = p.0.name ∙ q.0.name; uuid = p.0.uuid ∙ q.0.uuid }, same_on xs ys zs p.1 q.1)
+    (record { name = p.0.name ∙ q.0.name; uuid = p.0.uuid ∙ q.0.uuid; kept = p.0.kept ∙ q.0.kept }, same_on xs ys zs p.1 q.1)
 
 pub same_back : (xs ys : List HostState) → SameHosts xs ys → SameHosts ys xs
 same_back [] [] p = tt
 same_back [] (b ∷ ys) p = absurd p
 same_back (a ∷ xs) [] p = absurd p
-same_back (a ∷ xs) (b ∷ ys) p = (record { name = sym p.0.name; uuid = sym p.0.uuid }, same_back xs ys p.1)
+same_back (a ∷ xs) (b ∷ ys) p = (record { name = sym p.0.name; uuid = sym p.0.uuid; kept = sym p.0.kept }, same_back xs ys p.1)
 
 pub same_changed : (h : ℕ) (g : HostState → HostState) → ((z : HostState) → Named (g z) z) → (xs : List HostState) → SameHosts (changed_at h g xs) xs
 same_changed h g keeps [] = tt
 same_changed zero g keeps (a ∷ xs) = (keeps a, same_self xs)
-same_changed (suc h) g keeps (a ∷ xs) = (record { name = refl; uuid = refl }, same_changed h g keeps xs)
+same_changed (suc h) g keeps (a ∷ xs) = (record { name = refl; uuid = refl; kept = refl }, same_changed h g keeps xs)
+
+-- both change there
+same_both : (h : ℕ) (g f : HostState → HostState) → ((a b : HostState) → Named a b → Named (g a) (f b)) → (xs ys : List HostState) → SameHosts xs ys → SameHosts (changed_at h g xs) (changed_at h f ys)
+same_both h g f each [] [] p = tt
+same_both h g f each [] (b ∷ ys) p = absurd p
+same_both h g f each (a ∷ xs) [] p = absurd p
+same_both zero g f each (a ∷ xs) (b ∷ ys) p = (each a b p.0, p.1)
+same_both (suc h) g f each (a ∷ xs) (b ∷ ys) p = (p.0, same_both h g f each xs ys p.1)
 
 same_more : (xs ys : List HostState) (a b : HostState) → SameHosts xs ys → Named a b → SameHosts (xs ++ a ∷ []) (ys ++ b ∷ [])
 same_more [] [] a b p q = (q, tt)
@@ -113,7 +124,7 @@ alike (a ∷ xs) (b ∷ ys) p rx ry = (
     uuid = p.0.uuid;
     dirty = none_dirty a.cache (rx 0 a refl).clean ∙ sym (none_dirty b.cache (ry 0 b refl).clean);
     busy = ap is_some (rx 0 a refl).idle ∙ sym (ap is_some (ry 0 b refl).idle);
-    keeps = ap is_some (rx 0 a refl).bare ∙ sym (ap is_some (ry 0 b refl).bare);
+    keeps = ap (λ (k : Option Kept). is_some k) p.0.kept;
   },
   alike xs ys p.1 (λ k host is. rx (suc k) host is) (λ k host is. ry (suc k) host is),
 )
@@ -149,7 +160,7 @@ module _ (start : Image) (files : Files) where
           subst (λ (z : Machines). Twins z s) (sym x.left)
           record {
             memory = moved_image s.memory host.cache between.kept.held.normal (between.rests h host is).clean move line;
-            hosts = same_changed h _ (λ z. record { name = refl; uuid = refl }) s.hosts;
+            hosts = same_changed h _ (λ z. record { name = refl; uuid = refl; kept = refl }) s.hosts;
           }
       at_host h host is (inr x) = absurd (not_clean _ notes x.notes_are refl clean)
 
@@ -162,6 +173,7 @@ module _ (start : Image) (files : Files) where
   move_twin (event.Finish name) is s new journal notes between clean does = absurd cc
   move_twin (event.Stop name) is s new journal notes between clean does = absurd cc
   move_twin (event.Halt name) is s new journal notes between clean does = absurd cc
+  move_twin (event.Umount name) is s new journal notes between clean does = absurd cc
   move_twin (event.Evict name line) is s new journal notes between clean does = record { machines = moves_twin name line.0 Evict s.machines new.machines journal notes between clean does.0; copied = does.1 }
   move_twin (event.Leak name line mask) is s new journal notes between clean does = record { machines = moves_twin name line.0 (Leak mask.0) s.machines new.machines journal notes between clean does.0; copied = does.1 }
   move_twin (event.Fetch name line mask) is s new journal notes between clean does = record { machines = moves_twin name line.0 (Fetch mask.0) s.machines new.machines journal notes between clean does.0; copied = does.1 }
@@ -199,7 +211,7 @@ module _ (start : Image) (files : Files) where
     host_same name uuid x y = record {
       notes = x.0 ∙ sym y.0;
       machines = subst (λ (z : Machines). Twins z n) (sym x.1) (subst (λ (z : Machines). Twins (record s { hosts = s.hosts ++ record { name = name; uuid = uuid; cache = finmap.empty; task = None; kept = None } ∷ [] }) z) (sym y.1)
-          record { memory = twins.memory; hosts = same_more s.hosts t.hosts _ _ twins.hosts (record { name = refl; uuid = refl }) });
+          record { memory = twins.memory; hosts = same_more s.hosts t.hosts _ _ twins.hosts (record { name = refl; uuid = refl; kept = refl }) });
     }
 
     -- both make a file system, or meet the same one
@@ -233,7 +245,7 @@ module _ (start : Image) (files : Files) where
               memory =
                   clean_formats s.memory host.cache bs.kept.held.normal (bs.rests h host is).clean p ∙ ap₂ formatted twins.memory params
                   ∙ sym (clean_formats t.memory other.cache bt.kept.held.normal (bt.rests i other is').clean q);
-              hosts = same_on _ s.hosts _ (same_changed h _ (λ z. record { name = refl; uuid = refl }) s.hosts) (same_on s.hosts t.hosts _ twins.hosts (same_back _ t.hosts (same_changed i _ (λ z. record { name = refl; uuid = refl }) t.hosts)));
+              hosts = same_on _ s.hosts _ (same_changed h _ (λ z. record { name = refl; uuid = refl; kept = refl }) s.hosts) (same_on s.hosts t.hosts _ twins.hosts (same_back _ t.hosts (same_changed i _ (λ z. record { name = refl; uuid = refl; kept = refl }) t.hosts)));
             });
       }
       made_same (inl x) (inr y) = absurd (met_or_made request.force (here.superblock_found p (machine_of s host)) y.other x.free y.unforced (found_same ∙ y.stands))
@@ -246,7 +258,7 @@ module _ (start : Image) (files : Files) where
             machines = subst (λ (z : Machines). Twins z n) (sym x.left) (subst (λ (z : Machines). Twins (with_machine h (operated_all here.read_ops (machine_of s host)) host.task s) z) (sym y.left)
                 record {
                   memory = read_image s.memory host.cache bs.kept.held.normal (bs.rests h host is).clean ∙ twins.memory ∙ sym (read_image t.memory other.cache bt.kept.held.normal (bt.rests i other is').clean);
-                  hosts = same_on _ s.hosts _ (same_changed h _ (λ z. record { name = refl; uuid = refl }) s.hosts) (same_on s.hosts t.hosts _ twins.hosts (same_back _ t.hosts (same_changed i _ (λ z. record { name = refl; uuid = refl }) t.hosts)));
+                  hosts = same_on _ s.hosts _ (same_changed h _ (λ z. record { name = refl; uuid = refl; kept = refl }) s.hosts) (same_on s.hosts t.hosts _ twins.hosts (same_back _ t.hosts (same_changed i _ (λ z. record { name = refl; uuid = refl; kept = refl }) t.hosts)));
                 });
           }
 
@@ -256,27 +268,46 @@ module _ (start : Image) (files : Files) where
         by_host (call.Makes name request) t n b y (λ i other number' is' at'.
         made_same name request h i host other number number' is is' at at'))
 
-    pub may_same : (name : List ℕ) → may_begin name s ≡ may_begin name t
+    -- both hosts forget what they keep
+    pub umounts_same : (name : List ℕ) → Acts (call.Umounts name) s a m → Acts (call.Umounts name) t b n → Same a b m n
+    umounts_same name x y =
+        by_host (call.Umounts name) s m a x (λ h host number is at.
+        by_host (call.Umounts name) t n b y (λ i other number' is' at'.
+        let phases : h ≡ i = same_Some h i (sym number ∙ numbers name ∙ number') in
+        record {
+          notes = at.0 ∙ ap (λ (k : ℕ). Umount k ∷ []) phases ∙ sym at'.0;
+          machines = subst (λ (z : Machines). Twins z n) (sym (at.1 ∙ ap (λ (k : ℕ). with_kept k None s) phases)) (subst (λ (z : Machines). Twins (with_kept i None s) z) (sym at'.1)
+              record {
+                memory = twins.memory;
+                hosts = same_both i (λ z. record z { kept = None }) (λ z. record z { kept = None }) (λ a b same. record { name = same.name; uuid = same.uuid; kept = refl }) s.hosts t.hosts twins.hosts;
+              });
+        }))
+
+    pub may_same : (name : List ℕ) (mount : Bool) → may_begin name mount s ≡ may_begin name mount t
     unfolding refusal_of
-    may_same name = refusals (call.Begins name Rattle.fam_base.specs.declared.cmd.Cmd.TheVariants.Logplay)
+    may_same name true = refusals (call.Begins name Rattle.fam_base.specs.declared.cmd.Cmd.TheVariants.Mount)
+    may_same name false = refusals (call.Begins name Rattle.fam_base.specs.declared.cmd.Cmd.TheVariants.Logplay)
 
 -- Commands.
 
 -- where a command ended, by the image alone, and what is noted of it
-pub record Stood (cmd : Cmd) (me : List ℕ) (image : Image) (h : ℕ) (rest : List Note) : Type 0 where
+pub record Stood (kept : Option Kept) (cmd : Cmd) (me : List ℕ) (image : Image) (h : ℕ) (rest : List Note) (left : Option Kept) : Type 0 where
   made : ℕ
   stand : Stand
   reply : Reply
-  stands : stand_after cmd me image made ≡ Some stand
+  stands : stand_after kept cmd me image made ≡ Some stand
   ends : Rattle.fam_commands.specs.Solo.image_turn image stand ≡ Ends reply
   rest_is : rest ≡ all_noted h stand.notes ++ Answered h (Replied reply) ∷ []
+  left_is : left ≡ kept_by reply (read_by stand.task) kept
 
-one_stood : (cmd : Cmd) (me : List ℕ) (image : Image) (h : ℕ) (a b : List Note) → Stood cmd me image h a → Stood cmd me image h b → a ≡ b
-one_stood cmd me image h a b x y =
-    let same : x.stand ≡ y.stand = same_stand cmd me image x.made y.made x.stand y.stand x.reply y.reply x.stands x.ends y.stands y.ends in
+one_stood : (kept : Option Kept) (cmd : Cmd) (me : List ℕ) (image : Image) (h : ℕ) (a b : List Note) (k l : Option Kept) → Stood kept cmd me image h a k → Stood kept cmd me image h b l → (a ≡ b) × (k ≡ l)
+one_stood kept cmd me image h a b k l x y =
+    let same : x.stand ≡ y.stand = same_stand kept cmd me image x.made y.made x.stand y.stand x.reply y.reply x.stands x.ends y.stands y.ends in
     let turns : Ends x.reply ≡ Ends y.reply = sym x.ends ∙ ap (Rattle.fam_commands.specs.Solo.image_turn image) same ∙ y.ends in
-    let replies : x.reply ≡ y.reply = cc in
-    x.rest_is ∙ ap₂ (λ (z : Stand) (r : Reply). all_noted h z.notes ++ Answered h (Replied r) ∷ []) same replies ∙ sym y.rest_is
+    let replies : x.reply ≡ y.reply = cc in (
+      x.rest_is ∙ ap₂ (λ (z : Stand) (r : Reply). all_noted h z.notes ++ Answered h (Replied r) ∷ []) same replies ∙ sym y.rest_is,
+      x.left_is ∙ ap₂ (λ (z : Stand) (r : Reply). kept_by r (read_by z.task) kept) same replies ∙ sym y.left_is,
+    )
 
 module _ (start : Image) (files : Files) (name : List ℕ) (what : Ask) where
   -- one run
@@ -290,29 +321,32 @@ module _ (start : Image) (files : Files) (name : List ℕ) (what : Ask) where
     command : IsCommand run.begun.cmd
     command = run.begun.fits
 
-    stood : Stood run.begun.cmd go.host.uuid s.machines.memory go.h go.rest
+    -- what the host keeps then
+    abbrev kept_then : Option Kept
+    kept_then = kept_by go.ended.reply (read_by go.ended.t) go.host.kept
+
+    stood : Stood go.host.kept run.begun.cmd go.host.uuid s.machines.memory go.h go.rest kept_then
     stood =
         let e = go.ended in
         let clean_cache : IsClean go.host.cache = (between.rests go.h go.host go.is).clean in
         record {
           made = e.made;
-          stand = record { task = e.t; words = e.words; notes = notes_up_to run.begun.cmd go.host.uuid s.machines.memory go.host.cache e.t e.words e.made e.m e.ran };
+          stand = record { task = e.t; words = e.words; notes = notes_up_to go.host.kept run.begun.cmd go.host.uuid s.machines.memory go.host.cache e.t e.words e.made e.m e.ran };
           reply = e.reply;
-          stands = ran_told run.begun.cmd go.host.uuid s.machines.memory go.host.cache between.kept.held.normal clean_cache e.t e.words e.made e.m e.ran;
-          ends = turn_told run.begun.cmd go.host.uuid s.machines.memory go.host.cache between.kept.held.normal clean_cache e.t e.words e.made e.m e.ran ∙ e.ends;
+          stands = ran_told go.host.kept run.begun.cmd go.host.uuid s.machines.memory go.host.cache between.kept.held.normal clean_cache e.t e.words e.made e.m e.ran;
+          ends = turn_told go.host.kept run.begun.cmd go.host.uuid s.machines.memory go.host.cache between.kept.held.normal clean_cache e.t e.words e.made e.m e.ran ∙ e.ends;
           rest_is = e.notes_are ∙ ap (λ (z : List Note). z ++ Answered go.h (Replied e.reply) ∷ []) e.before_is;
+          left_is = refl;
         }
 
     memory_then : new.machines.memory ≡ solo_image s.machines.memory go.host.uuid run.begun.cmd
     memory_then =
-        left_is start go.h s.machines go.host go.is (between.rests go.h go.host go.is).bare run.begun.cmd journal go.sure_then
+        left_is start go.h s.machines go.host go.is (joined_of start files s.machines j between.kept between.rests between.sure go.h go.host go.is) run.begun.cmd journal go.sure_then
         (ap (λ (w : Past). w.state) (past_both (Rattle.fam_journal.specs.Past.first_past start) j (Start go.h run.begun.cmd ∷ [])) ∙ rest_state start s.machines j between.kept between.rests between.sure)
-        go.enough (subst (λ (n : ℕ). line_bytes * n ≤ device_limit) (sym between.kept.held.lines) between.kept.held.limit) between.kept.held.normal (between.rests go.h go.host go.is).clean command new.machines go.rest go.ended
+        go.enough (subst (λ (n : ℕ). line_bytes * n ≤ device_limit) (sym between.kept.held.lines) between.kept.held.limit) between.kept.held.normal (between.rests go.h go.host go.is).clean command (front_of start files s.machines j between.kept between.rests between.sure go.h go.host go.is) new.machines go.rest go.ended
 
-    hosts_then : SameHosts new.machines.hosts s.machines.hosts
-    hosts_then =
-        subst (λ (z : Machines). SameHosts z.hosts s.machines.hosts) (sym go.ended.state_is)
-        (same_changed go.h (λ z. record z { cache = (operated (op_of go.ended.t) go.ended.m).cache; task = None }) (λ z. record { name = refl; uuid = refl }) s.machines.hosts)
+    hosts_then : new.machines.hosts ≡ changed_at go.h (λ z. record z { cache = (operated (op_of go.ended.t) go.ended.m).cache; task = None; kept = kept_then }) s.machines.hosts
+    hosts_then = ap (λ (z : Machines). z.hosts) go.ended.state_is
 
     copied_then : new.copied ≡ run.begun.copied
     copied_then = run.copied ∙ run.begun.copied_is
@@ -333,12 +367,14 @@ module _ (start : Image) (files : Files) (name : List ℕ) (what : Ask) where
         let gy = go t n k b bt clean_b y in
         let phases : gx.h ≡ gy.h = same_Some gx.h gy.h (sym gx.number ∙ numbers start files s.machines t.machines j k bs bt twins.machines a b m.machines n.machines name ∙ gy.number) in
         let named : Named gx.host gy.host = same_member s.machines.hosts t.machines.hosts gy.h gx.host gy.host twins.machines.hosts (subst (λ (i : ℕ). slice_get s.machines.hosts i ≡ Some gx.host) phases gx.is) gy.is in
-        let stood_x : Stood y.begun.cmd gy.host.uuid t.machines.memory gy.h gx.rest =
-        subst (λ (c : Cmd). Stood c gy.host.uuid t.machines.memory gy.h gx.rest) cmds
-        (subst (λ (u : List ℕ). Stood x.begun.cmd u t.machines.memory gy.h gx.rest) named.uuid
-        (subst (λ (i : Image). Stood x.begun.cmd gx.host.uuid i gy.h gx.rest) twins.machines.memory
-        (subst (λ (i : ℕ). Stood x.begun.cmd gx.host.uuid s.machines.memory i gx.rest) phases (stood s m j a bs clean_a x)))) in
-        let rests : gx.rest ≡ gy.rest = one_stood y.begun.cmd gy.host.uuid t.machines.memory gy.h gx.rest gy.rest stood_x (stood t n k b bt clean_b y) in
+        let stood_x : Stood gy.host.kept y.begun.cmd gy.host.uuid t.machines.memory gy.h gx.rest (kept_then s m j a bs clean_a x) =
+        subst (λ (k : Option Kept). Stood k y.begun.cmd gy.host.uuid t.machines.memory gy.h gx.rest (kept_then s m j a bs clean_a x)) named.kept
+        (subst (λ (c : Cmd). Stood gx.host.kept c gy.host.uuid t.machines.memory gy.h gx.rest (kept_then s m j a bs clean_a x)) cmds
+        (subst (λ (u : List ℕ). Stood gx.host.kept x.begun.cmd u t.machines.memory gy.h gx.rest (kept_then s m j a bs clean_a x)) named.uuid
+        (subst (λ (i : Image). Stood gx.host.kept x.begun.cmd gx.host.uuid i gy.h gx.rest (kept_then s m j a bs clean_a x)) twins.machines.memory
+        (subst (λ (i : ℕ). Stood gx.host.kept x.begun.cmd gx.host.uuid s.machines.memory i gx.rest (kept_then s m j a bs clean_a x)) phases (stood s m j a bs clean_a x))))) in
+        let same = one_stood gy.host.kept y.begun.cmd gy.host.uuid t.machines.memory gy.h gx.rest gy.rest (kept_then s m j a bs clean_a x) (kept_then t n k b bt clean_b y) stood_x (stood t n k b bt clean_b y) in
+        let rests : gx.rest ≡ gy.rest = same.0 in
         record {
           notes = gx.joined ∙ ap₂ (λ (i : ℕ) (c : Cmd). Start i c ∷ gx.rest) phases cmds ∙ ap (λ (z : List Note). Start gy.h y.begun.cmd ∷ z) rests ∙ sym gy.joined;
           sessions = record {
@@ -348,15 +384,16 @@ module _ (start : Image) (files : Files) (name : List ℕ) (what : Ask) where
                   ∙ ap₂ (λ (i : Image) (u : List ℕ). solo_image i u x.begun.cmd) twins.machines.memory named.uuid
                   ∙ ap (solo_image t.machines.memory gy.host.uuid) cmds
                   ∙ sym (memory_then t n k b bt clean_b y);
-              hosts = same_on m.machines.hosts s.machines.hosts n.machines.hosts (hosts_then s m j a bs clean_a x)
-                  (same_on s.machines.hosts t.machines.hosts n.machines.hosts twins.machines.hosts (same_back n.machines.hosts t.machines.hosts (hosts_then t n k b bt clean_b y)));
+              hosts = subst (λ (z : List HostState). SameHosts z n.machines.hosts) (sym (hosts_then s m j a bs clean_a x ∙ ap (λ (i : ℕ). changed_at i (λ z. record z { cache = (operated (op_of gx.ended.t) gx.ended.m).cache; task = None; kept = kept_then s m j a bs clean_a x }) s.machines.hosts) phases))
+                  (subst (λ (z : List HostState). SameHosts (changed_at gy.h (λ z. record z { cache = (operated (op_of gx.ended.t) gx.ended.m).cache; task = None; kept = kept_then s m j a bs clean_a x }) s.machines.hosts) z) (sym (hosts_then t n k b bt clean_b y))
+                  (same_both gy.h _ _ (λ c d near. record { name = near.name; uuid = near.uuid; kept = same.1 }) s.machines.hosts t.machines.hosts twins.machines.hosts));
             };
             copied = copied_then s m j a bs clean_a x ∙ counts ∙ sym (copied_then t n k b bt clean_b y);
           };
         }
 
-    may_be_same : may_begin name s.machines ≡ may_begin name t.machines
-    may_be_same = may_same start files s.machines t.machines j k bs bt twins.machines a b m.machines n.machines name
+    may_be_same : may_begin name (mounts what) s.machines ≡ may_begin name (mounts what) t.machines
+    may_be_same = may_same start files s.machines t.machines j k bs bt twins.machines a b m.machines n.machines name (mounts what)
 
     refused_both : (cause : Refusal) → a ≡ Refused name cause ∷ [] → b ≡ Refused name cause ∷ [] → m.machines ≡ s.machines → n.machines ≡ t.machines → m.copied ≡ n.copied → Both
     refused_both cause e f g i copied =
@@ -409,6 +446,7 @@ moves_note files (event.Step name count) is s new notes does = absurd cc
 moves_note files (event.Finish name) is s new notes does = absurd cc
 moves_note files (event.Stop name) is s new notes does = absurd cc
 moves_note files (event.Halt name) is s new notes does = absurd cc
+moves_note files (event.Umount name) is s new notes does = absurd cc
 moves_note files (event.Evict name line) is s new notes does = move_notes name line.0 Evict s.machines new.machines notes does.0
 moves_note files (event.Leak name line mask) is s new notes does = move_notes name line.0 (Leak mask.0) s.machines new.machines notes does.0
 moves_note files (event.Fetch name line mask) is s new notes does = move_notes name line.0 (Fetch mask.0) s.machines new.machines notes does.0

@@ -20,7 +20,7 @@ use Rattle.fam_journal.specs.Ends.{AllDone, Ending, EndsOutOfMemory, IsFaultless
 use Rattle.fam_journal.specs.Events.{DoesEvent, PartOf, Session, first_session}
 use Rattle.fam_journal.specs.Follows.{Follows}
 use Rattle.fam_journal.specs.Legal.{OfHost}
-use Rattle.fam_journal.specs.Notes.{Answer, Replied, MediaFault, Note, Host, Stop, Halt}
+use Rattle.fam_journal.specs.Notes.{Answer, Replied, MediaFault, Note}
 use Rattle.fam_journal.specs.Past.{HostPast, Past, State, Bad, Sound, count_of, first_past, first_state, past_after, past_of, settled_length}
 use Rattle.fam_outcomes.specs.Programs.{Command, EndsEarly, Grammar, ScriptPuts, Storms, script_status}
 use Rattle.fam_outcomes.specs.Runs.{IsPut, Outside}

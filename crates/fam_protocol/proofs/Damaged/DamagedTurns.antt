@@ -22,8 +22,7 @@ use Rattle.fam_commands.specs.declared.phase.Part.{Part}
 use Rattle.fam_commands.specs.declared.phase.Part.TheVariants.{Superblock, Header, Slot, File as FileLines}
 use Rattle.fam_commands.specs.declared.phase.Phase.{Phase}
 use Rattle.fam_commands.specs.declared.phase.Phase.TheVariants as at
-use Rattle.fam_commands.specs.Kept.{Kept, used}
-use Rattle.fam_commands.proofs.UsedCounts.{used_none}
+use Rattle.fam_commands.specs.Kept.{used}
 use Rattle.fam_commands.specs.Task.{Task, part_count, part_line}
 use Rattle.fam_commands.specs.Turns.{Turn, Goes, Marks, Finds, Writes, Ends, slots_read, slot_or_decide, magic_turn, host_refusal, host_turn, super_turn, header_turn, gate_loaded, finds_or_goes, gate_turn, join_turn, slot_turn, survey_turn, check_turn, decide_turn, line_or, line_turn, with_word, word_turn}
 use Rattle.fam_rules.specs.declared.answers.Refused.TheVariants.{NotMaster}
@@ -76,7 +75,7 @@ module _ (image : Lines) (have : ℕ) (t : Task) (phase : Phase) (words : List �
 
   -- nor that no slot is read
   pub none_moved : IsBare t → IsBare moved
-  none_moved n = record { entries = n.entries; survey = n.survey; kept = n.kept }
+  none_moved n = record { entries = n.entries; survey = n.survey; unused = n.unused }
 
   count_moved : slots_read moved ≡ slots_read t
   count_moved = slots_alike moved t refl refl refl
@@ -122,7 +121,7 @@ module _ (image : Lines) (have : ℕ) (uuid : ℕ → Option (List ℕ)) (host :
       goes master = record {
         me = me;
         lines = lines;
-        phase = ((record { entries = none.entries; survey = none.survey; kept = none.kept }, record { super = super; master = master }), omega arith, is_loaded image next Header tt 0 0 refl);
+        phase = ((record { entries = none.entries; survey = none.survey; unused = none.unused }, record { super = super; master = master }), omega arith, is_loaded image next Header tt 0 0 refl);
       }
 
       test : (b : Bool) → path_eq t.me p.master ≡ b → Turned (host_turn t p (cond b None (Some (NotMaster t.me p.master))))
@@ -184,7 +183,7 @@ module _ (image : Lines) (have : ℕ) (uuid : ℕ → Option (List ℕ)) (host :
           all_below = omega arith
 
           none_used : used t.kept t.cmd t.params word ≡ []
-          none_used = ap (λ (k : Option Kept). used k t.cmd t.params word) none.kept ∙ used_none t.cmd t.params word
+          none_used = none.unused t.params word
 
           remains : Remains t.cmd image have 0 (gate_loaded t word)
           remains = elim (fsck_or_plays t.cmd) [

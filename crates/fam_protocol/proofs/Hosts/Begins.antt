@@ -24,8 +24,7 @@ use Rattle.fam_rules.specs.Place.{line_bytes, place}
 use Rattle.fam_protocol.specs.Lines.{gate_of, top}
 use Rattle.fam_protocol.specs.Core.{Belongs, IsHistory, IsWide, EntryStands, masters_copy}
 use Rattle.fam_protocol.specs.After.{Run}
-use Rattle.fam_protocol.specs.Tasks.{KeepsPrefix}
-use Rattle.fam_protocol.specs.Invariant.{Hosts, Owner, Rests, shared_with, Small, Damaged, InvariantBy, Invariant, IsKnown, no_hosts, solo, held_file, settled_by, settled_at_first}
+use Rattle.fam_protocol.specs.Invariant.{Hosts, KeepFronts, KeepsFront, Known, Owner, Rests, Settled, shared_with, Small, Damaged, InvariantBy, Invariant, IsKnown, no_hosts, solo, held_file, settled_by, settled_at_first}
 use Rattle.fam_rules.proofs.AskProofs.{member_from}
 use Rattle.fam_protocol.proofs.Lines.Apart.{IsOnLine, byte_on_line}
 use Rattle.fam_protocol.proofs.Hosts.SoundReads.{super_is_sound, IsRead, Tells, AreTold, ReadsSound, sound_reads}
@@ -101,9 +100,9 @@ module _ (image : Image) (limit : line_bytes * length image ≤ device_limit) (h
       by_copy (Dirty a words) clean = absurd clean
 
   -- a sound reading
-  known : (p : Params) (entries : List Entry) → least_lines ≤ length image → reading_of (line_at image) (line_bytes * length image) ≡ Sound p entries
+  known : (p : Params) (entries : List Entry) → least_lines ≤ length image → KeepFronts (Known p (map (held_file (line_at image)) entries) (length entries)) hosts → reading_of (line_at image) (line_bytes * length image) ≡ Sound p entries
       → IsKnown p (map (held_file (line_at image)) entries) (length entries) (length image) hosts (shared_with image copy)
-  known p entries enough h =
+  known p entries enough keep h =
       let reads : ReadsSound (line_at image) (line_bytes * length image) p entries = sound_reads (line_at image) (line_bytes * length image) p entries h in
       let is : IsRead (line_bytes * length image) p = super_is_sound _ _ (line_bytes * length image) p limit reads.super in
       let count : length (map (held_file (line_at image)) entries) ≡ length entries = length-map entries (held_file (line_at image)) in
@@ -128,42 +127,49 @@ module _ (image : Image) (limit : line_bytes * length image ≤ device_limit) (h
           clean = λ i f h l at below line dirty. none_dirty h l dirty;
         };
         tasks = λ h r run. absurd (no_run hosts rests.idle h r run);
-        kept = λ h. subst (KeepsPrefix p (map (held_file (line_at image)) entries) (length entries)) (sym (rests.bare h)) tt;
+        kept = keep;
       }
 
   -- another reading
-  damaged : least_lines ≤ length image → ((p : Params) (entries : List Entry) → reading_of (line_at image) (line_bytes * length image) ≢ Sound p entries)
+  damaged : least_lines ≤ length image → KeepFronts (Damaged (line_at image)) hosts → ((p : Params) (entries : List Entry) → reading_of (line_at image) (line_bytes * length image) ≢ Sound p entries)
       → InvariantBy (Damaged (line_at image)) (length image) hosts (shared_with image copy)
-  damaged enough bad = record {
+  damaged enough keep bad = record {
     enough = enough;
     still = record { wide = wide; memory = λ l. refl; clean = none_dirty; bad = bad };
     tasks = λ h r run. absurd (no_run hosts rests.idle h r run);
-    bare = rests.bare;
+    bare = keep;
   }
 
   -- by the reading
-  by_reading : (r : Reading) → reading_of (line_at image) (line_bytes * length image) ≡ r → least_lines ≤ length image → InvariantBy (settled_by (line_at image) r) (length image) hosts (shared_with image copy)
-  by_reading (NoSuperblock fault) is enough = damaged enough (λ p es sound. cc)
-  by_reading (BadHeader fault) is enough = damaged enough (λ p es sound. cc)
-  by_reading (BadSlot i reason) is enough = damaged enough (λ p es sound. cc)
-  by_reading (Sound p entries) is enough = known p entries enough is
+  by_reading : (r : Reading) → reading_of (line_at image) (line_bytes * length image) ≡ r → least_lines ≤ length image → KeepFronts (settled_by (line_at image) r) hosts → InvariantBy (settled_by (line_at image) r) (length image) hosts (shared_with image copy)
+  by_reading (NoSuperblock fault) is enough keep = damaged enough keep (λ p es sound. cc)
+  by_reading (BadHeader fault) is enough keep = damaged enough keep (λ p es sound. cc)
+  by_reading (BadSlot i reason) is enough keep = damaged enough keep (λ p es sound. cc)
+  by_reading (Sound p entries) is enough keep = known p entries enough keep is
 
   -- by the number of lines
   by_size : (few : Bool) → nat_lt (length image) least_lines ≡ few
+      → KeepFronts (if few then Small (line_at image) else settled_by (line_at image) (reading_of (line_at image) (line_bytes * length image))) hosts
       → InvariantBy (if few then Small (line_at image) else settled_by (line_at image) (reading_of (line_at image) (line_bytes * length image))) (length image) hosts (shared_with image copy)
-  by_size true is = record { memory = λ l. refl; few = grind (arith, nat_tests); idle = rests.idle; bare = rests.bare; clean = none_dirty }
-  by_size false is = by_reading (reading_of (line_at image) (line_bytes * length image)) refl (grind (arith, nat_tests))
+  by_size true is keep = record { memory = λ l. refl; few = grind (arith, nat_tests); idle = rests.idle; bare = keep; clean = none_dirty }
+  by_size false is keep = by_reading (reading_of (line_at image) (line_bytes * length image)) refl (grind (arith, nat_tests)) keep
 
   -- an image of at most 1 TiB begins a way, whatever it holds
-  pub begins_with : Invariant (settled_at_first image) (length image) hosts (shared_with image copy)
-  begins_with = record {
+  pub begins_with : KeepFronts (settled_at_first image) hosts → Invariant (settled_at_first image) (length image) hosts (shared_with image copy)
+  begins_with keep = record {
     declared = rests.declared;
     marked = λ h r run. absurd (no_run hosts rests.idle h r run);
     named = λ h r run. absurd (no_run hosts rests.idle h r run);
     keeps = λ h r run. absurd (no_run hosts rests.idle h r run);
     wide = wide;
-    stage = by_size (nat_lt (length image) least_lines) refl;
+    stage = by_size (nat_lt (length image) least_lines) refl keep;
   }
+
+-- who keeps nothing keeps a front
+pub nothing_kept : (settled : Settled) → KeepsFront settled None
+nothing_kept (Small image) = refl
+nothing_kept (Damaged image) = refl
+nothing_kept (Known p all settled) = tt
 
 -- so it does with no host
 pub begins : (image : Image) → line_bytes * length image ≤ device_limit → Invariant (settled_at_first image) (length image) no_hosts (solo image)
@@ -173,6 +179,6 @@ begins image limit =
       declared = record { apart = λ h k id none. absurd (cc); absent = λ h l none. refl; idle = λ h none. refl; bare = λ h none. refl };
       owner = λ id. record { host = None; is = λ h none. absurd (cc); only = λ h none. absurd (cc) };
       idle = λ h. refl;
-      bare = λ h. refl;
       clean = λ h l. tt;
     }
+    (λ h. nothing_kept (settled_at_first image))

@@ -18,7 +18,8 @@ use Rattle.fam_protocol.specs.SharedState.{SharedState, Loses}
 use Rattle.fam_protocol.specs.Lines.{gate_of, top}
 use Rattle.fam_protocol.specs.Core.{System, Core, IsMaster, IsWide, masters_copy, top_of}
 use Rattle.fam_protocol.specs.Tasks.{KeepsPrefix, TaskHolds, IsCommand}
-use Rattle.fam_commands.specs.Kept.{Kept}
+use Rattle.fam_commands.specs.Kept.{Kept, used}
+use Rattle.fam_commands.proofs.UsedCounts.{used_none}
 use Rattle.fam_protocol.specs.After.{Run, HasNamed, HoldsNamed, HasMarked, IsMarked}
 use Rattle.fam_protocol.specs.Bad.{BadTaskHolds}
 use Rattle.fam_protocol.specs.Invariant.{Hosts, Settled, Small, Damaged, Known, AreHosts, IsSmall, IsDamaged, IsKnown, InvariantBy, Invariant}
@@ -131,7 +132,7 @@ module _ (old new : Hosts) (lines : ℕ) (s : SharedState) (copy : ℕ → ℕ �
       record { me = uuids h ∙ was.me; lines = was.lines; phase = bad_phase_kept image (line_bytes * lines) h r.task s copy carried.same r.task.phase was.phase }
   bad_task image bare tasks h r (inr begun) =
       subst (λ (q : Run). BadTaskHolds image (line_bytes * lines) new.uuid h q.task (with_copies s copy)) (sym begun.is)
-      record { me = uuids h ∙ begun.declared; lines = refl; phase = record { entries = refl; survey = refl; kept = bare_by h (bare h) (keeps h) } }
+      record { me = uuids h ∙ begun.declared; lines = refl; phase = record { entries = refl; survey = refl; unused = λ p gate. ap (λ (k : Option Kept). used k begun.cmd p gate) (bare_by h (bare h) (keeps h)) ∙ used_none begun.cmd p gate } }
 
   damaged_same : (image : Lines) → IsDamaged image lines old s → IsDamaged image lines new (with_copies s copy)
   damaged_same image is = record {

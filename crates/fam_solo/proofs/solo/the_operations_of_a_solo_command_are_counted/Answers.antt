@@ -3,6 +3,6 @@ use Rattle.fam_solo.proofs.solo.the_operations_of_a_solo_command_are_counted.Goa
 
 pub returns : goal.returns
 returns c = record {
-  stands = λ image me cmd cache t words made m ran. ran_stands cmd me image cache t words made m ran;
-  count = λ image me cmd cache t words made m reply ran is. ran_steps cmd me image cache t words made m reply ran is;
+  stands = λ kept image me cmd cache t words made m ran. ran_stands kept cmd me image cache t words made m ran;
+  count = λ kept image me cmd cache t words made m reply joined ran is. ran_steps kept cmd me image cache joined t words made m reply ran is;
 }
