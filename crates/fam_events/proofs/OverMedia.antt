@@ -43,6 +43,7 @@ no_break (call.Steps name) lines hosts notes other is = absurd is
 no_break (call.Finishes name) lines hosts notes other is = absurd is
 no_break (call.Stops name) lines hosts notes other is = absurd is
 no_break (call.Halts name) lines hosts notes other is = absurd is
+no_break (call.Umounts name) lines hosts notes other is = absurd is
 no_break (call.Moves name line move) lines hosts notes other is = absurd is
 no_break (call.Refuses name cause) lines hosts notes other is = absurd is
 
