@@ -334,6 +334,21 @@ impl Replay {
         }
     }
 
+    /// The plan of the entries that were found, where a slot was read. The caller takes it over: nothing is kept of it.
+    /// Nothing else may be kept before.
+    pub fn take_plan(&mut self) -> Option<Plan>
+        requires { HasFoundAll self.old }
+        ensures params { (p : Params) (gate : ℕ) → IsReplayOf p gate self.old → IfSome result (λ plan. plan.params ≡ p) }
+        ensures entries { IfSome result (λ plan. plan.entries ≡ entries_in self.old) }
+        ensures none { result ≡ None → entries_in self.old ≡ [] }
+        ensures left { self.new ≡ None }
+    {
+        match self.replica.take() {
+            Some(replica) => Some(replica.into_plan()),
+            None => None,
+        }
+    }
+
     /// The tree of the entries that were found, which the caller takes over: nothing is kept of it. Nothing else may be
     /// kept before.
     pub fn take_tree(&mut self) -> Tree

@@ -243,6 +243,15 @@ impl Replica {
         self.plan.tree()
     }
 
+    /// The plan of the entries, which the caller takes over.
+    pub(crate) fn into_plan(self) -> Plan
+        requires { AreAllFound self }
+        ensures params { result.params ≡ self.params }
+        ensures entries { result.entries ≡ found_in self }
+    {
+        self.plan
+    }
+
     /// The tree, which the caller takes over.
     pub(crate) fn into_tree(self) -> Tree
         requires { AreAllFound self }

@@ -4,10 +4,12 @@ use Rattle.fam_base.specs.Image.{Image}
 use Rattle.fam_base.specs.declared.line.LineNo.{LineNo}
 use Rattle.fam_machine.specs.Caches.{Cache}
 use Rattle.fam_machine.specs.Operations.{machine}
-use Rattle.fam_commands.specs.Task.{Task}
+use Rattle.fam_cache.specs.Operations.{word_of}
+use Rattle.fam_commands.specs.Task.{Task, op_of}
 use Rattle.fam_media.specs.Causes.{Rose}
 use Rattle.fam_media.specs.Outside.{IfModelled}
 use Rattle.fam_tasks.specs.declared.answer.Turn.TheVariants.{Go}
+use Rattle.fam_tasks.proofs.Keeping.{go_keeps}
 use Rattle.fam_run.specs.Led.{HasBrokenOff, HasDone, KeepsMemory, Led, none, more}
 use Rattle.fam_run.specs.Operation.{HasTurned}
 use Rattle.fam_run.specs.TaskChange.{TaskChange}
@@ -36,6 +38,7 @@ quiet_done a same task held led quiet = record {
   within = quiet.within;
   leaves = quiet.leaves;
   goes = quiet.goes;
+  kept = go_keeps task a.next (word_of (op_of task) a.new) quiet.goes;
   turned = subst (λ (left : Option Image). IfModelled a.media.old.image (λ image. HasTurned task (machine image held) Go a.next left a.new)) (sym same) quiet.turned;
   own = λ line is. absurd cc;
 }
@@ -87,6 +90,7 @@ module _ (a : TaskChange) (same : a.media.new.image ≡ a.media.old.image) (done
         led = led_both a.media.old.image a.task a.next then.task a.old a.new then.held (done_led a same done) then.led;
         sound = then.sound;
         within = then.within;
+        same = then.same;
         copies = then.copies;
         failed = then.failed;
         rose = rose_since a.media.old.faults before now later then.rose;

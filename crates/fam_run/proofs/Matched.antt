@@ -18,7 +18,7 @@ use Rattle.fam_media.specs.Outside.{IfModelled}
 use Rattle.fam_tasks.specs.declared.answer.Turn.{Turn}
 use Rattle.fam_tasks.specs.Rest.{ComparesLine}
 use Rattle.fam_tasks.specs.Sound.{IsSound}
-use Rattle.fam_tasks.specs.Tells.{Tells}
+use Rattle.fam_tasks.specs.Tells.{Keeps, Tells}
 use Rattle.fam_run.specs.Cached.{IsCached, cached_after}
 use Rattle.fam_run.specs.Led.{HasDone, KeepsMemory, Led, more}
 use Rattle.fam_run.proofs.Cached.{given_held, cached_leaves, loads_held, machine_after}
@@ -75,6 +75,8 @@ module _ (line : LineNo) (words : List ℕ) (t next : Task) (said : Turn) (model
         (copy ∙ sym (subst (λ (o : Op). cached_after o full ≡ full) (sym compares.last) refl));
     goes = subst (λ (c : Cache). Tells (turn_of compares.due (word_of (op_of compares.due) c)) said next) (sym copy)
         (subst (λ (w : Option ℕ). Tells (turn_of compares.due w) said next) (sym last_word_is) compares.tells);
+    kept = subst (λ (c : Cache). Keeps compares.due (turn_of compares.due (word_of (op_of compares.due) c)) next) (sym copy)
+        (subst (λ (w : Option ℕ). Keeps compares.due (turn_of compares.due w) next) (sym last_word_is) compares.keeps);
     turned = λ image is. record {
       is = record {
         image = same ∙ is ∙ sym (ap (λ m. Some m.image) (after_last image is));

@@ -1,5 +1,5 @@
 -- What came of one operation, from what the cache tells of it.
-use Rattle.std.proofs.Common.{ℕ, ◌≡◌, ◌<◌, Option, Ok, Err, Result, refl, sym, subst}
+use Rattle.std.proofs.Common.{ℕ, ◌≡◌, ◌<◌, Option, Ok, Err, Result, refl, sym, ap, subst, ◌∙◌}
 use Rattle.std.specs.Prelude.{IsErrOf}
 use Rattle.fam_machine.specs.declared.op.Op.{Op}
 use Rattle.fam_machine.specs.Caches.{Cache}
@@ -16,7 +16,7 @@ use Rattle.fam_commands.specs.Task.{Task, op_of}
 use Rattle.fam_commands.specs.Turns.{turn_of}
 use Rattle.fam_tasks.specs.declared.answer.Turn.{Turn}
 use Rattle.fam_tasks.specs.Sound.{IsSound}
-use Rattle.fam_tasks.specs.Tells.{Tells}
+use Rattle.fam_tasks.specs.Tells.{Keeps, Tells}
 use Rattle.fam_run.specs.Led.{Advanced, HasDone, none}
 use Rattle.fam_run.specs.Operation.{IsDone, IsUndone, Operated, said_of}
 use Rattle.fam_run.specs.TaskChange.{TaskChange}
@@ -25,8 +25,8 @@ use Rattle.fam_run.proofs.Running.{lines_kept, no_fault}
 
 module _ (a : TaskChange) (op : Op) (is : op ≡ op_of a.task) (sound : IsSound a.task) (within : IsWithin a.task.lines op) where
   -- it was done, and the task was told its word
-  pub done : (word : Option ℕ) (turn : Turn) → IfModelled a.media.old.image (λ image. IsMachine (operated op (machine image a.old)) a.media.new.image a.new) → IfModelled a.media.old.image (λ image. word ≡ given op (machine image a.old)) → LeavesCache op a.media.old.image a.old a.new → word ≡ word_of op a.new → Tells (turn_of a.task word) turn a.next → IsDone a turn
-  done word turn does gives leaves word_is tells =
+  pub done : (word : Option ℕ) (turn : Turn) → IfModelled a.media.old.image (λ image. IsMachine (operated op (machine image a.old)) a.media.new.image a.new) → IfModelled a.media.old.image (λ image. word ≡ given op (machine image a.old)) → LeavesCache op a.media.old.image a.old a.new → word ≡ word_of op a.new → Tells (turn_of a.task word) turn a.next → Keeps a.task (turn_of a.task word) a.next → IsDone a turn
+  done word turn does gives leaves word_is tells keeps =
       let goes = goes_by_word a.task a.next op word turn a.new is word_is tells in
       record {
         sound = sound;
@@ -34,6 +34,7 @@ module _ (a : TaskChange) (op : Op) (is : op ≡ op_of a.task) (sound : IsSound 
         leaves = subst (λ (o : Op). LeavesCache o a.media.old.image a.old a.new) is leaves;
         goes = goes;
         keeps = lines_kept a.new a.task a.next turn sound goes;
+        kept = subst (λ (w : Option ℕ). Keeps a.task (turn_of a.task w) a.next) (word_is ∙ ap (λ (o : Op). word_of o a.new) is) keeps;
         turned = turned a.task a.next op word turn a.media.old.image a.media.new.image a.old a.new is does gives tells;
         own = no_fault (turn_of a.task word) turn a.next tells;
       }
@@ -54,8 +55,8 @@ module _ (a : TaskChange) (op : Op) (is : op ≡ op_of a.task) (sound : IsSound 
 
 -- one operation is none and one behind it
 pub alone : (a : TaskChange) (r : Result Turn OperationFault) → Operated a r → Advanced a r
-alone a (Ok turn) x = record { task = a.task; held = a.old; led = none; sound = x.sound; within = x.within; leaves = x.leaves; goes = x.goes; turned = x.turned; own = x.own }
-alone a (Err (fault.MediaFault line)) x = record { task = a.task; held = a.old; led = none; sound = x.sound; within = x.within; copies = x.copies; failed = x.failed; rose = x.rose; inside = x.inside }
+alone a (Ok turn) x = record { task = a.task; held = a.old; led = none; sound = x.sound; within = x.within; leaves = x.leaves; goes = x.goes; kept = x.kept; turned = x.turned; own = x.own }
+alone a (Err (fault.MediaFault line)) x = record { task = a.task; held = a.old; led = none; sound = x.sound; within = x.within; same = x.task; copies = x.copies; failed = x.failed; rose = x.rose; inside = x.inside }
 alone a (Err fault.OutOfMemory) x = x
 
 -- what came from where nothing was done before

@@ -26,6 +26,7 @@ use Rattle.fam_tasks.specs.Sound.{IsSound}
 use Rattle.fam_tasks.specs.Tells.{Tells}
 use Rattle.fam_run.specs.Cached.{CachedRun}
 use Rattle.fam_run.specs.Cached as held
+use Rattle.fam_tasks.proofs.Keeping.{go_keeps}
 use Rattle.fam_run.specs.Led.{HasBrokenOff, HasDone, KeepsMemory, Led, none, more}
 use Rattle.fam_run.specs.TaskChange.{TaskChange}
 use Rattle.fam_run.proofs.Cached.{cached_goes, cached_leaves, cached_turned, stores_held, tells_go}
@@ -136,6 +137,7 @@ module _ (line : LineNo) (words : List ℕ) (t u : Task) (modelled : Option Imag
           within = u_within;
           leaves = subst (λ (o : Op). LeavesCache o modelled full new) (sym sends) (same ∙ sym (none_left []));
           goes = subst (λ (o : Op). Tells (turn_of u (word_of o new)) Go after) (sym sends) tells;
+          kept = go_keeps u after (word_of (op_of u) new) (subst (λ (o : Op). Tells (turn_of u (word_of o new)) Go after) (sym sends) tells);
           turned = λ image is. record {
             is = record {
               image =
@@ -149,13 +151,14 @@ module _ (line : LineNo) (words : List ℕ) (t u : Task) (modelled : Option Imag
         }
 
     -- the media failed in it
-    pub line_torn : new ≡ full → IsTorn modelled shown line.0 words → Rose before now → line.0 < size → HasBrokenOff around line
-    line_torn same torn rose inside = record {
+    pub line_torn : after ≡ u → new ≡ full → IsTorn modelled shown line.0 words → Rose before now → line.0 < size → HasBrokenOff around line
+    line_torn stands same torn rose inside = record {
       task = u;
       held = full;
       led = led;
       sound = u_sound;
       within = u_within;
+      same = stands;
       copies = subst (λ (o : Op). LeavesFailed o full new) (sym stores.sends) same;
       failed =
           invalidate_failed (op_of u) line modelled shown full new stores.sends

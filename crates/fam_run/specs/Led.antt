@@ -1,5 +1,5 @@
 -- Operations of a task that are done as a whole: those that leave memory's image, and one behind them.
-use Rattle.std.specs.Prelude.{◌<◌, Option, Result, Ok, Err}
+use Rattle.std.specs.Prelude.{◌≡◌, ◌<◌, Option, Result, Ok, Err}
 use Rattle.fam_base.specs.Image.{Image}
 use Rattle.fam_base.specs.declared.line.LineNo.{LineNo}
 use Rattle.fam_machine.specs.Caches.{Cache}
@@ -14,7 +14,7 @@ use Rattle.fam_media.specs.Outside.{IfModelled}
 use Rattle.fam_tasks.specs.declared.answer.Turn.{Turn}
 use Rattle.fam_tasks.specs.declared.answer.Turn.TheVariants.{Go}
 use Rattle.fam_tasks.specs.Sound.{IsSound}
-use Rattle.fam_run.specs.Operation.{GoesOn, HasTurned, IsNoFault, IsUndone}
+use Rattle.fam_run.specs.Operation.{GoesOn, HasTurned, IsNoFault, IsUndone, KeepsLog}
 use Rattle.fam_run.specs.TaskChange.{TaskChange}
 
 -- one operation that leaves memory's image, behind which the task just goes on
@@ -39,16 +39,18 @@ pub record HasDone (a : TaskChange) (turn : Turn) : Type 0 where
   pub within : IsWithin task.lines (op_of task)
   pub leaves : LeavesCache (op_of task) a.media.old.image held a.new
   pub goes : GoesOn task a.new turn a.next
+  pub kept : KeepsLog task a.new a.next
   pub turned : IfModelled a.media.old.image (λ image. HasTurned task (machine image held) turn a.next a.media.new.image a.new)
   pub own : IsNoFault turn
 
--- behind such operations the media failed in one more, at this line
+-- behind such operations the media failed in one more, at this line. The task still stands before that
 pub record HasBrokenOff (a : TaskChange) (line : LineNo) : Type 0 where
   pub task : Task
   pub held : Cache
   pub led : Led a.media.old.image a.task a.old task held
   pub sound : IsSound task
   pub within : IsWithin task.lines (op_of task)
+  pub same : a.next ≡ task
   pub copies : LeavesFailed (op_of task) held a.new
   pub failed : IfModelled a.media.old.image (λ image. HasFailed (op_of task) (machine image held) line a.media.new.image a.new)
   pub rose : Rose a.media.old.faults a.media.new.faults

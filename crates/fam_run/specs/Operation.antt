@@ -17,7 +17,7 @@ use Rattle.fam_tasks.specs.declared.answer.Answer.TheVariants.{MediaFault}
 use Rattle.fam_tasks.specs.declared.answer.Turn.{Turn}
 use Rattle.fam_tasks.specs.declared.answer.Turn.TheVariants.{Go, Note, Done}
 use Rattle.fam_tasks.specs.Sound.{IsSound}
-use Rattle.fam_tasks.specs.Tells.{Tells}
+use Rattle.fam_tasks.specs.Tells.{Keeps, Tells}
 use Rattle.fam_run.specs.TaskChange.{TaskChange}
 
 -- the operation was done on this machine: memory and cache are what it leaves, and the task went on to `new`, saying `turn`
@@ -28,6 +28,10 @@ pub record HasTurned (task : Task) (m : Machine) (turn : Turn) (new : Task) (sho
 -- over any media: the task goes on by the word of the copy that its host has then
 abbrev pub GoesOn : Task → Cache → Turn → Task → Type 0
 GoesOn task held turn new = Tells (turn_of task (word_of (op_of task) held)) turn new
+
+-- and what it keeps of the log is what its host keeps behind that
+abbrev pub KeepsLog : Task → Cache → Task → Type 0
+KeepsLog task held new = Keeps task (turn_of task (word_of (op_of task) held)) new
 
 -- no task answers that the media failed
 abbrev pub IsNoFault : Turn → Type 0
@@ -45,13 +49,14 @@ KeepsLines turn task new = ended turn ≡ None → new.lines ≡ task.lines
 
 -- the operation that comes next was done, and with it the task takes this turn. Where an image is modelled, memory, cache
 -- and task are what the machine makes of them (`turned`). On any media the cache is what the machine's table makes of the
--- operation's line (`leaves`), and the task goes on by the word of the copy (`goes`)
+-- operation's line (`leaves`), and the task goes on by the word of the copy (`goes`), and keeps what its host keeps (`kept`)
 pub record IsDone (a : TaskChange) (turn : Turn) : Type 0 where
   pub sound : IsSound a.task
   pub within : IsWithin a.task.lines (op_of a.task)
   pub leaves : LeavesCache (op_of a.task) a.media.old.image a.old a.new
   pub goes : GoesOn a.task a.new turn a.next
   pub keeps : KeepsLines turn a.task a.next
+  pub kept : KeepsLog a.task a.new a.next
   pub turned : IfModelled a.media.old.image (λ image. HasTurned a.task (machine image a.old) turn a.next a.media.new.image a.new)
   pub own : IsNoFault turn
 

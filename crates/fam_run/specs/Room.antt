@@ -25,7 +25,7 @@ LacksRoom (Store line k value) task cache = IsFull line cache
 LacksRoom (WriteBack line) task cache = ⊥
 LacksRoom Fence task cache = ⊥
 LacksRoom (Invalidate line) task cache = ⊥
-LacksRoom Digest task cache = WantsMemory task.entries (turn_of task None)
+LacksRoom Digest task cache = WantsMemory task (turn_of task None)
 
 -- a line of the new file is stored whole next, or one that is compared is dropped and loaded, or one of a slot
 abbrev pub IsWholeDue : Task → LineNo → List ℕ → Type 0

@@ -9,7 +9,7 @@ ghost use Rattle.fam_commands.specs.Task.{op_of};
 ghost use Rattle.fam_commands.specs.Turns.{turn_of};
 ghost use Rattle.fam_tasks.specs.declared.answer.Answer.TheVariants.{MediaFault};
 ghost use Rattle.fam_tasks.specs.declared.answer.Turn.TheVariants.{Done, Go};
-ghost use Rattle.fam_tasks.specs.Tells.{Tells, WantsMemory, is_digest};
+ghost use Rattle.fam_tasks.specs.Tells.{Keeps, Tells, WantsMemory, is_digest};
 ghost use Rattle.fam_run.specs.Operation.{Operated, said_of};
 ghost use Rattle.fam_run.specs.Places.{ReadyPlacesKept};
 ghost use Rattle.fam_run.specs.Room.{LacksRoom};
@@ -28,6 +28,7 @@ use fam_tasks::{Due, Task, Turn};
 fn take_word(task: &mut Task, word: Option<u64>, turn: &mut Turn)
     requires { is_digest (op_of task.old) ≡ false }
     ensures turn { Tells (turn_of task.old word) turn.new task.new }
+    ensures kept { Keeps task.old (turn_of task.old word) task.new }
     ensures own { (line : LineNo) → turn.new ≢ Done (MediaFault line) }
 {
     *turn = task.feed(word);
@@ -38,9 +39,10 @@ fn take_word(task: &mut Task, word: Option<u64>, turn: &mut Turn)
 fn take_digest(task: &mut Task, turn: &mut Turn) -> Result<(), OutOfMemory>
     requires { is_digest (op_of task.old) ≡ true }
     ensures turn { OnOk result (Tells (turn_of task.old None) turn.new task.new) }
+    ensures kept { OnOk result (Keeps task.old (turn_of task.old None) task.new) }
     ensures own { OnOk result ((line : LineNo) → turn.new ≢ Done (MediaFault line)) }
     ensures err { OnErr result (task.new ≡ task.old) }
-    ensures want { OnErr result (WantsMemory task.old.entries (turn_of task.old None)) }
+    ensures want { OnErr result (WantsMemory task.old (turn_of task.old None)) }
 {
     *turn = task.digest()?;
     Ok(())

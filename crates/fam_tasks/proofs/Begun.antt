@@ -1,9 +1,11 @@
 -- The entries with which a task begins to read slots.
-use Rattle.std.proofs.Common.{◌≡◌, ℕ, ◌≤◌, Bool, true, false, cond, nat_lt, [], length, Option, Some, None, refl, sym, ap, ◌∙◌, arith}
+use Rattle.std.proofs.Common.{◌≡◌, ℕ, ◌≤◌, Bool, true, false, cond, nat_lt, List, [], ◌∷◌, length, take, Option, Some, None, refl, sym, ap, ◌∙◌, arith}
 use Rattle.std.specs.Prelude.{◌&&◌, nat_le}
 use Rattle.std.proofs.lemmas.Bool.{ltb-true}
+use Rattle.std.proofs.lemmas.Bool.Decides.{nat_tests}
 use Rattle.std.proofs.lemmas.List.{take_all}
 use Rattle.fam_base.specs.declared.cmd.Cmd.{Cmd}
+use Rattle.fam_base.specs.declared.entry.Entry.{Entry}
 use Rattle.fam_base.specs.declared.entry.Params.{Params}
 use Rattle.fam_commands.specs.Classes.{Class, class_of, Replays, Appends, Compares, Reads, Surveys, is_fsck, surveys}
 use Rattle.fam_commands.specs.Kept.{Kept, class_used, is_same_params, used, used_by}
@@ -11,10 +13,10 @@ use Rattle.fam_commands.specs.Task.{Task}
 use Rattle.fam_commands.specs.declared.phase.Part.TheVariants.{Slot}
 use Rattle.fam_commands.specs.declared.phase.Phase.TheVariants as at
 use Rattle.fam_commands.proofs.UsedCounts.{used_below}
-use Rattle.fam_replay.specs.Replay.{entries_in}
+use Rattle.fam_replay.specs.Replay.{IsReplayOf, entries_in}
 use Rattle.fam_replay.specs.Replica.{ReplicaState}
 use Rattle.fam_tasks.specs.Commands.{slots_told}
-use Rattle.fam_tasks.specs.History.{read_by}
+use Rattle.fam_tasks.specs.History.{MayServe, kept_of, read_by}
 use Rattle.fam_tasks.specs.Sound.{HasValidGate, IsSoundAt}
 
 -- a check of the whole file system begins with none
@@ -51,9 +53,22 @@ pub serves_none : (kept : Option Kept) (p : Params) (gate : ℕ) → kept ≡ No
 unfolding used_by
 serves_none kept p gate is = ap (λ (o : Option Kept). used_by o p gate) is
 
-pub serves_by : (kept : Option Kept) (k : Kept) (p : Params) (gate : ℕ) (b : Bool) → kept ≡ Some k → b ≡ (is_same_params k.params p && nat_le (length k.entries) gate) → used_by kept p gate ≡ cond b k.entries []
+-- no entries are used, whether or not they serve
+none_serve : (list : List Entry) (b : Bool) → list ≡ [] → cond b list [] ≡ []
+none_serve list true is = is
+none_serve list false is = refl
+
+-- entries serve where there are some
+serve_by : (list : List Entry) (b same : Bool) → b ≡ (nat_lt 0 (length list) && same) → cond same list [] ≡ cond b list []
+serve_by [] b same test = none_serve [] same refl ∙ sym (none_serve [] b refl)
+serve_by (e ∷ rest) b same test =
+    let some : nat_lt 0 (length (e ∷ rest)) ≡ true = grind (arith, nat_tests) in
+    sym (ap (λ (c : Bool). cond c (e ∷ rest) []) (test ∙ ap (λ (c : Bool). c && same) some))
+
+pub serves_by : (kept : Option Kept) (k : Kept) (p : Params) (gate : ℕ) (b : Bool) → kept ≡ Some k → b ≡ (nat_lt 0 (length k.entries) && (is_same_params k.params p && nat_le (length k.entries) gate)) → used_by kept p gate ≡ cond b k.entries []
 unfolding used_by
-serves_by kept k p gate b is test = ap (λ (o : Option Kept). used_by o p gate) is ∙ sym (ap (λ (c : Bool). cond c k.entries []) test)
+serves_by kept k p gate b is test =
+    ap (λ (o : Option Kept). used_by o p gate) is ∙ serve_by k.entries b (is_same_params k.params p && nat_le (length k.entries) gate) test
 
 -- where nothing was read, nothing is read beside what is kept
 pub unread : (serves : Bool) (kept : Option Kept) (replay : Option ReplicaState) → read_by serves kept replay ≡ None → replay ≡ None
@@ -77,6 +92,14 @@ read_aside serves (Some k) replay is = ap (λ (b : Bool). read_by b (Some k) rep
 
 pub read_alone : (serves : Bool) (kept : Option Kept) (replay : Option ReplicaState) → kept ≡ None → read_by serves kept replay ≡ replay
 read_alone serves kept replay is = ap (λ (o : Option Kept). read_by serves o replay) is
+
+-- where the kept entries serve, these are what was read
+pub serving_kept : (serves : Bool) (kept : Option Kept) (replay : Option ReplicaState) (p : Params) (gate : ℕ) → serves ≡ true → MayServe serves kept → IsReplayOf p gate (read_by serves kept replay) → kept ≡ Some (kept_of p (read_by serves kept replay))
+serving_kept true None replay p gate is may of = absurd may
+serving_kept true (Some k) replay p gate is may of =
+    ap (λ (l : List Entry). Some (record { params = k.params; entries = l })) (sym (take_all (length k.entries) k.entries (omega arith)))
+    ∙ ap (λ (q : Params). Some (record { params = q; entries = take (length k.entries) k.entries })) of.0
+serving_kept false kept replay p gate is may of = absurd cc
 
 -- The phase behind the gate: the first slot, or the decision.
 pub begun_sound : (t : Task) (i n : ℕ) (b : Bool) → nat_lt i n ≡ b → n ≡ slots_told t.cmd t.params t.gate → HasValidGate t → length t.words ≡ 0 → IsSoundAt (cond b (at.Drop (Slot i) 0) at.Decide) t

@@ -6,6 +6,7 @@ pub mod Phases
 pub mod Begun
 pub mod GateTurns
 pub mod FileTurns
+pub mod Keeping
 pub mod Rest
 pub mod WholeLine
 pub mod SlotLine

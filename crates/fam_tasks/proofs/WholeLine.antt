@@ -16,6 +16,7 @@ use Rattle.fam_tasks.specs.Sound.{IsSound, IsSoundAt, IsWantedLine}
 use Rattle.fam_tasks.specs.Tells.{Tells}
 use Rattle.fam_tasks.proofs.FileLines.{same_proper, verify_kept}
 use Rattle.fam_tasks.proofs.FileTurns.{no_words}
+use Rattle.fam_tasks.proofs.Keeping.{keeps_same}
 use Rattle.fam_tasks.proofs.Phases.{same_gate}
 use Rattle.fam_tasks.proofs.Rest.{first_taken, next_taken, six_taken, turn_in, word_goes}
 
@@ -130,8 +131,8 @@ module _ (line : LineNo) (words : List ℕ) (j : ℕ) (t : Task) (sound : IsSoun
   }
 
   -- and all loads
-  pub line_compared : (found : List ℕ) (next : Task) (said : Turn) → found ≡ eight words → ((p : Phase) → Tells (file_turn t.cmd (record t { phase = p; words = found }) j) said next) → ComparesLine line words t next said
-  line_compared found next said same tells = record {
+  pub line_compared : (found : List ℕ) (next : Task) (said : Turn) → found ≡ eight words → ((p : Phase) → Tells (file_turn t.cmd (record t { phase = p; words = found }) j) said next) → next.kept ≡ t.kept → ComparesLine line words t next said
+  line_compared found next said same tells kept = record {
     dropped = dropped j t;
     drops = line_dropped;
     dropped_sound = drop_sound t j phase sound;
@@ -143,4 +144,5 @@ module _ (line : LineNo) (words : List ℕ) (j : ℕ) (t : Task) (sound : IsSoun
     due_lines = refl;
     last = ap (λ (l : ℕ). Load (line_no l) 7) (sym is);
     tells = subst (λ (u : Task). Tells (file_turn t.cmd u j) said next) (sym (all_read found same)) (tells (at.Word File j 7));
+    keeps = kept ∙ sym (keeps_same due (Some (slice_index words 7)) (λ is. cc));
   }

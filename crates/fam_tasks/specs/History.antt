@@ -1,16 +1,28 @@
 -- The entries that a task has: those that its host keeps, where they serve, and those of the slots that it read.
-use Rattle.std.specs.Prelude.{Bool, if◌then◌else◌, List, length, Option, Some, None, refl}
+use Rattle.std.specs.Prelude.{⊤, ◌≡◌, ◌<◌, Bool, true, false, if◌then◌else◌, List, [], length, Option, Some, None, refl}
 use Rattle.std.specs.Coded.{Coded, code_by, coded×, coded_list}
 use Rattle.fam_base.specs.declared.entry.Entry.{Entry}
 use Rattle.fam_base.specs.declared.entry.Params.{Params}
 use Rattle.fam_base.specs.contracts.entry.Entry as entry_type
 use Rattle.fam_base.specs.contracts.entry.Params as params_type
 use Rattle.fam_commands.specs.Kept.{Kept}
+use Rattle.fam_plan.specs.State.{PlanState}
+use Rattle.fam_replay.specs.Replay.{entries_in}
 use Rattle.fam_replay.specs.Replica.{ReplicaState}
 
 -- what a host keeps has a code, so that it can be what contracts see
 abbrev pub kept_code : Coded Kept
 kept_code = code_by (Params × List Entry) (coded× params_type.the_row.coded (coded_list entry_type.the_row.coded)) (λ k. (k.params, k.entries)) (λ p. record { params = p.0; entries = p.1 }) (λ _. refl)
+
+-- the entries of a plan, where there is one
+abbrev pub planned : Option PlanState → List Entry
+planned None = []
+planned (Some s) = s.entries
+
+-- a plan for these parameters, where there is one
+abbrev pub IsPlanOf : Params → Option PlanState → Type 0
+IsPlanOf p None = ⊤
+IsPlanOf p (Some s) = s.params ≡ p
 
 -- what the host keeps, and what was read behind it: a replica from the first slot on
 pub record HistoryState : Type 0 where
@@ -20,6 +32,16 @@ pub record HistoryState : Type 0 where
 -- the kept entries, as if their slots had been read
 abbrev pub all_kept : Kept → ReplicaState
 all_kept k = record { params = k.params; entries = k.entries; found = length k.entries }
+
+-- where kept entries serve, there are some
+abbrev pub MayServe : Bool → Option Kept → Type 0
+MayServe false kept = ⊤
+MayServe true None = ⊥
+MayServe true (Some k) = 0 < length k.entries
+
+-- a host keeps this of what was read
+abbrev pub kept_of : Params → Option ReplicaState → Kept
+kept_of p replay = record { params = p; entries = entries_in replay }
 
 -- what was read so far: where the kept entries serve, these and no others
 abbrev pub read_by : Bool → Option Kept → Option ReplicaState → Option ReplicaState

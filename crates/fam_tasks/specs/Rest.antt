@@ -15,7 +15,7 @@ use Rattle.fam_commands.specs.Turns.{Goes, turn_of}
 use Rattle.fam_commands.specs.Classes.{IsVerify}
 use Rattle.fam_tasks.specs.Sound.{IsSound}
 use Rattle.fam_tasks.specs.declared.answer.Turn.{Turn}
-use Rattle.fam_tasks.specs.Tells.{Tells, is_reading}
+use Rattle.fam_tasks.specs.Tells.{Keeps, Tells, is_reading}
 
 -- word 1 of this line of a part is loaded next
 pub record IsRest (line : LineNo) (t : Task) : Type 0 where
@@ -122,6 +122,7 @@ pub record ComparesLine (line : LineNo) (words : List ℕ) (t next : Task) (turn
   pub due_lines : due.lines ≡ t.lines
   pub last : op_of due ≡ Load line last_word
   pub tells : Tells (turn_of due (Some (slice_index words last_word))) turn next
+  pub keeps : Keeps due (turn_of due (Some (slice_index words last_word))) next
 
 -- so many words were stored, and the next one comes next, in this phase
 pub record Stored (line : LineNo) (words : List ℕ) (phase_at : ℕ → Phase) (t now : Task) (n : ℕ) : Type 0 where

@@ -1,16 +1,17 @@
 -- How a turn that a call gives tells the one of the definition.
-use Rattle.std.specs.Prelude.{ℕ, ◌≡◌, ◌||◌, nat_lt, ⊤, Bool, true, false, List, [], Option, Some, None}
-use Rattle.fam_base.specs.declared.entry.Entry.{Entry}
+use Rattle.std.specs.Prelude.{ℕ, ◌≡◌, ◌⊎◌, ◌||◌, nat_lt, ⊤, Bool, true, false, [], IsSome, Option, Some, None}
 use Rattle.fam_format.specs.Line.{last_word}
+use Rattle.fam_format.specs.Tree.{Tree}
 use Rattle.fam_format.specs.declared.faults.Reason.{Reason}
 use Rattle.fam_rules.specs.declared.answers.Refused.TheVariants.{NoSpace}
-use Rattle.fam_rules.specs.Reply.{NotAppended, Reply}
+use Rattle.fam_rules.specs.Reply.{NotAppended, Played, Reply}
 use Rattle.fam_machine.specs.declared.op.Op.{Op}
 use Rattle.fam_machine.specs.declared.op.Op.TheVariants.{Load, Store, WriteBack, Fence, Invalidate, Digest}
 use Rattle.fam_commands.specs.declared.phase.Part.{Part}
 use Rattle.fam_commands.specs.declared.phase.Part.TheVariants as part
 use Rattle.fam_commands.specs.declared.phase.Phase.{Phase}
 use Rattle.fam_commands.specs.declared.phase.Phase.TheVariants as at
+use Rattle.fam_commands.specs.Keeping.{kept_after}
 use Rattle.fam_commands.specs.Task.{Task}
 use Rattle.fam_commands.specs.Turns as turns
 use Rattle.fam_tasks.specs.declared.answer.Answer.TheVariants as answer
@@ -25,8 +26,7 @@ Replies Go reply = ⊥
 Replies (Note note) reply = ⊥
 Replies (Done answer) reply = reply_of answer ≡ Some reply
 
--- the turn of the definition, and what the call gave and left. Of a task that is done nothing is
--- said
+-- the turn of the definition, and what the call gave and left. Of a task that is done nothing more is said here
 abbrev pub Tells : turns.Turn → Turn → Task → Type 0
 Tells (turns.Goes t) turn new = (turn ≡ Go) × (new ≡ t)
 Tells (turns.Marks t) turn new = (turn ≡ Note Mark) × (new ≡ t)
@@ -38,14 +38,22 @@ Tells (turns.Ends reply) turn new = Replies turn reply
 abbrev pub TellsNoSpace : Reply → Type 0
 TellsNoSpace reply = (k : ℕ) × (reply ≡ NotAppended (NoSpace k))
 
--- a turn for which memory may be wanted, of a task that has read these entries: it goes on, or goes on to append; or it
--- finds no room in the units of a log with no entry, of which no map was made so far
-abbrev pub WantsMemory : List Entry → turns.Turn → Type 0
-WantsMemory list (turns.Goes t) = ⊤
-WantsMemory list (turns.Marks t) = ⊥
-WantsMemory list (turns.Finds n t) = ⊥
-WantsMemory list (turns.Writes seq e t) = ⊤
-WantsMemory list (turns.Ends reply) = (list ≡ []) × TellsNoSpace reply
+-- the answer of a logplay
+abbrev pub TellsPlayed : Reply → Type 0
+TellsPlayed reply = (m : ℕ) × ((tree : Tree) × (reply ≡ Played m tree))
+
+-- a turn for which a task may want memory: it goes on, or goes on to append; or it finds no room in the units of a log with
+-- no entry, of which no map was made so far; or it is a logplay of a host that keeps something, whose answer takes a copy
+abbrev pub WantsMemory : Task → turns.Turn → Type 0
+WantsMemory t (turns.Goes next) = ⊤
+WantsMemory t (turns.Marks next) = ⊥
+WantsMemory t (turns.Finds n next) = ⊥
+WantsMemory t (turns.Writes seq e next) = ⊤
+WantsMemory t (turns.Ends reply) = ((t.entries ≡ []) × TellsNoSpace reply) ⊎ (IsSome t.kept × TellsPlayed reply)
+
+-- what a task keeps behind a turn is what its host keeps then
+abbrev pub Keeps : Task → turns.Turn → Task → Type 0
+Keeps t turn new = new.kept ≡ kept_after turn t t.kept
 
 -- the operation that thinks
 abbrev pub is_digest : Op → Bool

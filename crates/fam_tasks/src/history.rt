@@ -3,12 +3,12 @@
 //! What the host keeps is never changed. A task that reads no slot looks at it where it stands, and the first slot that
 //! is read makes a copy, behind which the task reads on.
 
-ghost use Rattle.std.specs.Prelude.{◌≡◌, ◌≤◌, ◌<◌, ℕ, [], None, Ok, Some, IfOk, IfSome, IsSome, OnErr, OnOk, false, length, true};
+ghost use Rattle.std.specs.Prelude.{◌≡◌, ◌≤◌, ◌<◌, ℕ, [], None, Ok, Some, IfOk, IfSome, IsSome, OnErr, OnOk, false, length, option_map, true};
 ghost use Rattle.std.specs.FinMap as map;
 ghost use Rattle.fam_base.specs.Commands.{IsSoundCmd};
 ghost use Rattle.fam_base.specs.declared.entry.Params.{Params};
 ghost use Rattle.fam_commands.specs.Kept as spec;
-ghost use Rattle.fam_commands.specs.Kept.{used_by};
+ghost use Rattle.fam_commands.specs.Kept.{IsKept, used_by};
 ghost use Rattle.fam_format.specs.Params.{SoundParams};
 ghost use Rattle.fam_format.specs.Slot.{Proper};
 ghost use Rattle.fam_format.specs.Tree.{replay};
@@ -16,12 +16,13 @@ ghost use Rattle.fam_plan.specs.Needs.{NeedsUnits};
 ghost use Rattle.fam_replay.specs.Replica.{JoinsNext};
 ghost use Rattle.fam_replay.specs.Replay.{entries_in, HasFoundAll, IsAgainst, IsReplayOf, IsRoomFor, ReadsNext};
 ghost use Rattle.fam_rules.specs.Decide.{decide, wish_of};
-ghost use Rattle.fam_tasks.specs.History.{all_kept, read_by};
+ghost use Rattle.fam_tasks.specs.History.{MayServe, kept_of, read_by};
 
 use crate::kept::Kept;
 use fam_base::{Cmd, Entry, OutOfMemory, Params, Path};
 use fam_format::{Reason, SLOT_WORDS};
-use fam_replay::{Replay, Replica};
+use fam_plan::Plan;
+use fam_replay::{Replay, Replica, reason_behind};
 use fam_rules::Refused;
 use fam_tree::Tree;
 use std::alloc::Global;
@@ -39,23 +40,28 @@ pub(crate) struct History {
 }
 
 impl Model for History {
-    ghost use Rattle.fam_tasks.specs.History.{HistoryState, read_by};
+    ghost use Rattle.fam_tasks.specs.History.{HistoryState, MayServe, read_by};
 
     ghost Value = { HistoryState };
 
     ghost view = { λ h. record { kept = h.kept; replay = read_by h.serves h.kept h.replay } };
+
+    ghost invariant = { λ h. MayServe h.serves h.kept };
 }
 
 /// The kept entries become those of a replay, in a copy.
 fn begin_behind(alloc: Global, kept: &Option<Kept>, replay: &mut Replay) -> Result<(), OutOfMemory>
+    requires some { MayServe true kept.now }
     ensures read { OnOk result (replay.new ≡ read_by true kept.now replay.old) }
     ensures err { OnErr result (replay.new ≡ replay.old) }
-    ensures some { OnErr result (IsSome kept.now) }
 {
-    if let Some(kept) = kept {
-        replay.begin_behind(kept.plan(alloc)?);
+    match kept {
+        Some(kept) => {
+            replay.begin_behind(kept.plan().copy(alloc)?);
+            Ok(())
+        }
+        None => unreachable!(),
     }
-    Ok(())
 }
 
 /// Leaves the kept entries where they stand: where they serve, the slots behind them are read on a copy.
@@ -66,11 +72,12 @@ fn go_behind(
     serves: &mut bool,
     replay: &mut Replay,
 ) -> Result<(), OutOfMemory>
+    requires { MayServe serves.old kept.now }
     ensures read { OnOk result (replay.new ≡ read_by serves.old kept.now replay.old) }
     ensures left { OnOk result (serves.new ≡ false) }
     ensures replay { OnErr result (replay.new ≡ replay.old) }
     ensures serves { OnErr result (serves.new ≡ serves.old) }
-    ensures some { OnErr result (IsSome kept.now) }
+    ensures some { OnErr result (MayServe true kept.now) }
     ensures served { OnErr result (serves.old ≡ true) }
 {
     if !*serves {
@@ -82,22 +89,43 @@ fn go_behind(
 }
 
 /// Why the words of the slot behind the kept entries add none to them, found without memory.
-fn reason_behind(
+fn reason_behind_kept(
     kept: &Option<Kept>,
     words: &[u64; SLOT_WORDS],
 ) -> Result<Option<Reason>, OutOfMemory>
-    requires { IsSome kept.now }
+    requires { MayServe true kept.now }
     ensures reads { (k : spec.Kept) → kept.now ≡ Some k → IfOk result (λ reason.
         ReadsNext reason k.params words.now k.entries k.entries) }
     ensures want { (k : spec.Kept) → kept.now ≡ Some k → OnErr result (JoinsNext k.params words.now k.entries) }
 {
     match kept {
-        Some(kept) => match kept.reason_behind(words) {
+        Some(kept) => match reason_behind(kept.plan(), words) {
             Ok(reason) => Ok(Some(reason)),
             Err(full) => Err(full),
         },
         None => unreachable!(),
     }
+}
+
+/// The entries that were found, of the file system with these parameters, to be kept. Nothing else may be kept of the
+/// slots before.
+fn keep_found(replay: &mut Replay, params: &Params) -> Kept
+    requires { HasFoundAll replay.old }
+    ensures { (gate : ℕ) → IsReplayOf params.now gate replay.old → result ≡ kept_of params.now replay.old }
+{
+    match replay.take_plan() {
+        Some(plan) => Kept::of(plan),
+        None => Kept::empty(params),
+    }
+}
+
+/// What stands at a path of a plan.
+fn entry_at(plan: &Plan, path: &Path) -> Option<Entry>
+    ensures value { result ≡ map.get (replay plan.now.entries) path.now }
+    ensures proper { IfSome result (Proper plan.now.params) }
+{
+    plan.each_entry_joins();
+    plan.tree().get(path)
 }
 
 impl History {
@@ -114,6 +142,15 @@ impl History {
         }
     }
 
+    /// Each entry that the host keeps joins those before it.
+    pub(crate) fn kept_joins(&self)
+        ensures { IsKept self.now.kept }
+    {
+        if let Some(kept) = &self.kept {
+            kept.each_entry_joins();
+        }
+    }
+
     /// Takes what the host's last command read, and keeps more for the next one. It changes nothing that is read.
     pub(crate) fn remember(&mut self, replica: Option<Replica>)
         ensures { self.new ≡ self.old }
@@ -121,9 +158,12 @@ impl History {
         self.replay.remember(replica);
     }
 
-    /// What the host's next command may find again, if there is anything.
-    pub(crate) fn into_replica(self) -> Option<Replica> {
-        self.replay.into_kept()
+    /// What the host keeps, and what its next command may find again, if there is anything.
+    pub(crate) fn into_parts(self) -> (Option<Kept>, Option<Replica>)
+        ensures { result.0 ≡ self.kept }
+    {
+        let History { kept, replay, .. } = self;
+        (kept, replay.into_kept())
     }
 
     /// Begins with the kept entries, where they serve, and says how many these are: the first slot that is to be read.
@@ -140,6 +180,16 @@ impl History {
                 if self.serves { kept.count() } else { 0 }
             }
             None => 0,
+        }
+    }
+
+    /// How many entries the host keeps, if it keeps anything.
+    pub(crate) fn kept_count(&self) -> Option<u64>
+        ensures { result ≡ option_map (λ (k : spec.Kept). length k.entries) self.now.kept }
+    {
+        match &self.kept {
+            Some(kept) => Some(kept.count()),
+            None => None,
         }
     }
 
@@ -175,7 +225,7 @@ impl History {
         ensures kept { self.new.kept ≡ self.old.kept }
     {
         if go_behind(self.alloc, &self.kept, &mut self.serves, &mut self.replay).is_err() {
-            return reason_behind(&self.kept, words);
+            return reason_behind_kept(&self.kept, words);
         }
         self.replay.read_slot(params, gate, words)
     }
@@ -204,7 +254,7 @@ impl History {
         ensures none { OnErr result (entries_in self.old.replay ≡ []) }
     {
         match &self.kept {
-            Some(kept) if self.serves => Ok(kept.decide(cmd, me)),
+            Some(kept) if self.serves => Ok(kept.plan().decide(cmd, me)),
             _ => self.replay.decide(params, gate, cmd, me),
         }
     }
@@ -219,7 +269,7 @@ impl History {
             return self.replay.at(path);
         }
         match &self.kept {
-            Some(kept) => kept.at(path),
+            Some(kept) => entry_at(kept.plan(), path),
             None => self.replay.at(path),
         }
     }
@@ -231,26 +281,51 @@ impl History {
         ensures none { result ≡ None → entries_in self.now.replay ≡ [] }
     {
         match &self.kept {
-            Some(kept) if self.serves => Some(kept.tree()),
+            Some(kept) if self.serves => Some(kept.plan().tree()),
             _ => self.replay.tree(),
         }
     }
 
-    /// The tree of the entries that were found, which the caller takes over: nothing is kept of it. Nothing else may be
-    /// kept before.
-    pub(crate) fn take_tree(&mut self) -> Tree
-        requires { HasFoundAll self.old.replay }
-        ensures tree { result ≡ replay (entries_in self.old.replay) }
-        ensures kept { self.new.kept ≡ None }
+    /// The tree of the entries that were found, in memory of its own. Nothing else may be kept.
+    fn copy_tree(&self) -> Result<Tree, OutOfMemory>
+        requires { HasFoundAll self.now.replay }
+        ensures { IfOk result (λ tree. tree ≡ replay (entries_in self.now.replay)) }
     {
-        match self.kept.take() {
-            Some(kept) => {
-                if self.serves {
-                    return kept.into_tree();
-                }
-                self.replay.take_tree()
-            }
-            None => self.replay.take_tree(),
+        match self.tree() {
+            Some(tree) => tree.copy(self.alloc),
+            None => Ok(Tree::new(self.alloc)),
         }
+    }
+
+    /// The host keeps the entries that were found, of the file system with these parameters. Nothing else may be kept of
+    /// the slots before.
+    pub(crate) fn keep(&mut self, params: &Params)
+        requires { HasFoundAll self.old.replay }
+        ensures { (gate : ℕ) → IsReplayOf params.now gate self.old.replay
+            → self.new.kept ≡ Some (kept_of params.now self.old.replay) }
+    {
+        if self.serves {
+            return;
+        }
+        self.kept = Some(keep_found(&mut self.replay, params));
+    }
+
+    /// The tree of the entries that were found, of the file system with these parameters. A host that keeps something
+    /// keeps these entries from here on, and the tree is a copy of theirs. On another one the caller takes the tree over,
+    /// and nothing is kept of it. Nothing else may be kept of the slots before.
+    pub(crate) fn play(&mut self, params: &Params) -> Result<Tree, OutOfMemory>
+        requires { HasFoundAll self.old.replay }
+        ensures tree { IfOk result (λ tree. tree ≡ replay (entries_in self.old.replay)) }
+        ensures kept { (gate : ℕ) → IsReplayOf params.now gate self.old.replay → OnOk result (self.new.kept
+            ≡ option_map (λ (k : spec.Kept). kept_of params.now self.old.replay) self.old.kept) }
+        ensures err { OnErr result (self.new ≡ self.old) }
+        ensures want { OnErr result (IsSome self.old.kept) }
+    {
+        let Some(_kept) = &self.kept else {
+            return Ok(self.replay.take_tree());
+        };
+        let tree = self.copy_tree()?;
+        self.keep(params);
+        Ok(tree)
     }
 }

@@ -1,13 +1,13 @@
 //! A task: a command, its phase, and what it has read. Its turns stand in the files of `task/`.
 
-ghost use Rattle.std.specs.Prelude.{ℕ, ◌≡◌, ◌≢◌, ◌≤◌, ◌<◌, nat_lt, if◌then◌else◌, true, false, None, Some, IfOk, OnErr};
+ghost use Rattle.std.specs.Prelude.{ℕ, ◌≡◌, ◌≢◌, ◌≤◌, ◌<◌, nat_lt, if◌then◌else◌, true, false, None, Some, IfOk, OnErr, OnOk, length, option_map};
 ghost use Rattle.fam_base.specs.Commands.{IsSoundCmd};
 ghost use Rattle.fam_base.specs.declared.line.LineNo.{LineNo};
 ghost use Rattle.fam_format.specs.Layout.{least_lines};
 ghost use Rattle.fam_commands.specs.declared.phase.Part.TheVariants as part;
 ghost use Rattle.fam_commands.specs.declared.phase.Phase.TheVariants as at;
 ghost use Rattle.fam_commands.specs.Task as spec;
-ghost use Rattle.fam_commands.specs.Kept.{IsKept};
+ghost use Rattle.fam_commands.specs.Kept.{IsKept, Kept};
 ghost use Rattle.fam_commands.specs.Task.{mounted, op_of, starting};
 ghost use Rattle.fam_commands.specs.Turns.{turn_of};
 ghost use Rattle.fam_commands.specs.Classes.{is_fsck};
@@ -16,7 +16,7 @@ ghost use Rattle.fam_tasks.specs.declared.answer.Answer.TheVariants.{MediaFault}
 ghost use Rattle.fam_tasks.specs.declared.answer.Turn.TheVariants.{Done, Go};
 ghost use Rattle.fam_tasks.specs.Survey.{ShowWants};
 ghost use Rattle.fam_tasks.specs.Sound.{most_lines, HasSuper, IsFileLine, IsLine, IsSound, IsWantedLine};
-ghost use Rattle.fam_tasks.specs.Tells.{Tells, WantsMemory, is_digest, is_reading};
+ghost use Rattle.fam_tasks.specs.Tells.{Keeps, Tells, WantsMemory, is_digest, is_reading};
 
 mod decide;
 mod digests;
@@ -155,7 +155,7 @@ impl Task {
 
     /// The same on a host that keeps this of the log. Where the superblock says the same as then and the gate counts no
     /// fewer entries, the command begins with these, and reads the slots behind them alone; a check of the whole file
-    /// system uses none. What is kept stays as it is.
+    /// system uses none. What is kept stays as it is, but where a logplay answers: from there on it is what that has read.
     pub fn mounted(alloc: Global, cmd: Cmd, me: Uuid, lines: u64, kept: Kept) -> Task
         requires command { IsSoundCmd cmd }
         requires least { least_lines ≤ lines }
@@ -175,9 +175,19 @@ impl Task {
         self.history.remember(replica);
     }
 
-    /// What is kept for the host's next command, if anything is. A task that has played its tree keeps nothing.
-    pub fn into_replica(self) -> Option<Replica> {
-        self.history.into_replica()
+    /// How many of the log's first entries the host keeps, if it keeps anything.
+    pub fn kept_count(&self) -> Option<u64>
+        ensures { result ≡ option_map (λ (k : Kept). length k.entries) self.now.kept }
+    {
+        self.history.kept_count()
+    }
+
+    /// What the host keeps behind the task: what it kept before, or what a mount has read, or a logplay where it kept
+    /// something. And what its next command may find again, if there is anything.
+    pub fn into_parts(self) -> (Option<Kept>, Option<Replica>)
+        ensures { result.0 ≡ self.kept }
+    {
+        self.history.into_parts()
     }
 
     /// What is known of every task: its numbers fit its phase. A call does nothing.
@@ -216,6 +226,7 @@ impl Task {
         requires { is_digest (op_of self.old) ≡ false }
 
         ensures turn { Tells (turn_of self.old word) result self.new }
+        ensures kept { Keeps self.old (turn_of self.old word) self.new }
         ensures own { (line : LineNo) → result ≢ Done (MediaFault line) }
     {
         if self.reads_on() {
@@ -294,9 +305,10 @@ impl Task {
         requires { is_digest (op_of self.old) ≡ true }
 
         ensures turn { IfOk result (λ turn. Tells (turn_of self.old None) turn self.new) }
+        ensures kept { OnOk result (Keeps self.old (turn_of self.old None) self.new) }
         ensures own { (line : LineNo) → IfOk result (λ turn. turn ≢ Done (MediaFault line)) }
         ensures err { OnErr result (self.new ≡ self.old) }
-        ensures want { OnErr result (WantsMemory self.old.entries (turn_of self.old None)) }
+        ensures want { OnErr result (WantsMemory self.old (turn_of self.old None)) }
         ensures shows { (slot : ℕ) → self.old.phase ≡ at.Check slot → is_fsck self.old.cmd ≡ true
             → OnErr result (ShowWants self.old.params self.old.gate slot self.old.words) }
     {

@@ -4,10 +4,12 @@ use Rattle.std.specs.Prelude.{IsErrOf, is_some, not, slice_get}
 use Rattle.fam_base.specs.Image.{Image, IsNormal}
 use Rattle.fam_base.specs.declared.line.OutOfMemory.{OutOfMemory}
 use Rattle.fam_machine.specs.Caches.{Cache}
+use Rattle.fam_cache.specs.Operations.{word_of}
 use Rattle.fam_commands.specs.Task.{Task, op_of}
 use Rattle.fam_media.specs.Outside.{IfModelled}
 use Rattle.fam_media.specs.States.{MediaChange, MediaState}
 use Rattle.fam_tasks.specs.declared.answer.Turn.TheVariants.{Go}
+use Rattle.fam_tasks.proofs.Keeping.{go_keeps}
 use Rattle.fam_run.specs.Cached as run
 use Rattle.fam_run.specs.Cached.{CachedRun}
 use Rattle.fam_run.proofs.Cached.{cached_goes, cached_leaves, cached_lines, cached_turned}
@@ -45,7 +47,7 @@ iterated_both R a b c n _ first (more {b = mid} {n = k} before last) =
 -- Operations on copies of the host alone.
 
 pub held_steps : (at lines : ℕ) (view : HostView) (notes : List Note) (media : MediaState) → IsNormal media.image → IfModelled media.image (λ image. length image ≡ lines) → (t next : Task) (held after : Cache) {n : ℕ} → CachedRun t held next after n → t.lines ≡ lines
-    → Iterated (HostStep at lines false) (standing_at view (Some t) held notes media) (standing_at view (Some next) after notes media) n
+    → Iterated (HostStep at lines false) (standing_at view (Some t) t.kept held notes media) (standing_at view (Some next) next.kept after notes media) n
 held_steps at lines view notes media normal modelled t _ held _ run.none fits = none
 held_steps at lines view notes media normal modelled t next held after (run.more {mid = mid} {now = now} before sound within of is turn) fits =
     let goes = cached_goes mid next now after of is turn in
@@ -57,6 +59,7 @@ held_steps at lines view notes media normal modelled t next held after (run.more
       within = within;
       leaves = cached_leaves (op_of mid) media.image now after of is;
       goes = goes;
+      kept = go_keeps mid next (word_of (op_of mid) after) goes;
       keeps = lines_kept after mid next Go sound goes;
       turned = cached_turned mid next now after of is turn media.image normal;
       own = λ line is. absurd cc;

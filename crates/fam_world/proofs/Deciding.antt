@@ -1,9 +1,10 @@
 -- The first refusal of a call, by the number of its host and what is known of that.
 use Rattle.std.proofs.Common.{◌≡◌, ℕ, ◌*◌, List, [], length, map, Bool, Option, Some, None, refl, ap, ◌∙◌, subst}
-use Rattle.std.specs.Prelude.{slice_get, option_map, nat_le, nat_lt, not}
+use Rattle.std.specs.Prelude.{◌&&◌, is_some, slice_get, option_map, nat_le, nat_lt, not}
 use Rattle.std.proofs.lemmas.List.{length-replicate}
 use Rattle.std.proofs.lemmas.Option.{same_Some}
 use Rattle.fam_base.specs.declared.cmd.Cmd.{Cmd}
+use Rattle.fam_commands.specs.Classes.{is_mount}
 use Rattle.fam_machine.specs.declared.request.MkfsRequest.{MkfsRequest}
 use Rattle.fam_format.specs.Layout.{least_lines}
 use Rattle.fam_format.specs.Stop.{or_else}
@@ -14,7 +15,7 @@ use Rattle.fam_machine.specs.Mkfs.{EarlyRefusal, early_refusal}
 use Rattle.fam_journal.specs.declared.refusal.Refusal.{Refusal}
 use Rattle.fam_journal.specs.declared.refusal.Refusal.TheVariants as why
 use Rattle.fam_journal.specs.Calls as call
-use Rattle.fam_journal.specs.Calls.{Call, busy_refusal, cause_of, dirty_from, dirty_refusal, has_name, host_limit, is_busy, is_busy_host, is_engaged, is_same, on_host, refusal_of, same_refusal, when}
+use Rattle.fam_journal.specs.Calls.{Call, busy_refusal, cause_of, dirty_from, dirty_refusal, has_name, host_limit, is_busy, is_busy_host, is_engaged, is_kept_host, is_same, on_host, refusal_of, same_refusal, when}
 use Rattle.fam_journal.specs.Ends.{cause_faults}
 use Rattle.fam_journal.specs.Names.{NamesCause}
 use Rattle.fam_journal.specs.Members.{index_of}
@@ -25,6 +26,15 @@ use Rattle.fam_world.specs.Answers.{IsRefused}
 use Rattle.fam_world.specs.declared.hosts.Host.{Host}
 use Rattle.fam_world.specs.View.{host_view, shown, views}
 use Rattle.fam_world.proofs.Members.{map_at}
+
+-- why a command may not begin on host h, by what is known of the image, the host and the command
+abbrev pub begins_by : (small busy mount kept : Bool) (lines h : ℕ) → Option Refusal
+begins_by small busy mount kept lines h =
+    or_else (when small (why.ImageSmall lines)) (or_else (when busy (why.Busy (record { 0 = h }))) (when (mount && kept) why.Mounted))
+
+-- why host h can't forget what it keeps
+abbrev pub umounts_by : (busy kept : Bool) (h : ℕ) → Option Refusal
+umounts_by busy kept h = or_else (when busy (why.Busy (record { 0 = h }))) (when (not kept) why.NotMounted)
 
 module _ (hosts : List HostView) (journal : List Note) (name : List ℕ) (lines : ℕ) (o : Option ℕ) (number : index_of (has_name name) (map shown_host hosts) ≡ o) where
   abbrev w : WorldView
@@ -45,11 +55,16 @@ module _ (hosts : List HostView) (journal : List Note) (name : List ℕ) (lines 
       ∙ ap (λ (n : ℕ). on_host o (λ h. when (nat_le n line) (why.NoLine line n))) (length-replicate lines [])
 
   pub begins_first : (cmd : Cmd) → refusal_in (call.Begins name cmd) w lines
-      ≡ on_host o (λ h. or_else (when (nat_lt lines least_lines) (why.ImageSmall lines)) (when (is_busy_host (slice_get (map shown_host hosts) h)) (why.Busy (record { 0 = h }))))
+      ≡ on_host o (λ h. begins_by (nat_lt lines least_lines) (is_busy_host (slice_get (map shown_host hosts) h)) (is_mount cmd) (is_kept_host (slice_get (map shown_host hosts) h)) lines h)
   unfolding refusal_of
   begins_first cmd =
-      ap (λ (n : Option ℕ). on_host n (λ h. call.begins_refusal h (shown_state w lines))) number
-      ∙ ap (λ (n : ℕ). on_host o (λ h. or_else (when (nat_lt n least_lines) (why.ImageSmall n)) (when (is_busy_host (slice_get (map shown_host hosts) h)) (why.Busy (record { 0 = h }))))) (length-replicate lines [])
+      ap (λ (n : Option ℕ). on_host n (λ h. call.begins_refusal h (is_mount cmd) (shown_state w lines))) number
+      ∙ ap (λ (n : ℕ). on_host o (λ h. begins_by (nat_lt n least_lines) (is_busy_host (slice_get (map shown_host hosts) h)) (is_mount cmd) (is_kept_host (slice_get (map shown_host hosts) h)) n h)) (length-replicate lines [])
+
+  pub umounts_first : refusal_in (call.Umounts name) w lines
+      ≡ on_host o (λ h. umounts_by (is_busy_host (slice_get (map shown_host hosts) h)) (is_kept_host (slice_get (map shown_host hosts) h)) h)
+  unfolding refusal_of
+  umounts_first = ap (λ (n : Option ℕ). on_host n (λ h. umounts_by (is_busy_host (slice_get (map shown_host hosts) h)) (is_kept_host (slice_get (map shown_host hosts) h)) h)) number
 
   pub makes_first : (request : MkfsRequest) → refusal_in (call.Makes name request) w lines
       ≡ on_host o (λ h. or_else (option_map cause_of (early_refusal request.unit request.log (line_bytes * lines))) (or_else (busy_refusal (index_of is_engaged (map shown_host hosts))) (dirty_refusal (dirty_from h 0 (map shown_host hosts)))))
@@ -72,6 +87,10 @@ early_known n (Some (early.TooSmall needed have)) cause is = subst (λ (k : Refu
 -- who is busy, by the host itself
 pub busy_read : (items : List Host) (at : ℕ) (x : Host) → slice_get items at ≡ Some x → is_busy_host (slice_get (shown items) at) ≡ is_busy (shown_host (host_view x))
 busy_read items at x is = ap is_busy_host (map_at shown_host (views items) at (host_view x) (map_at host_view items at x is))
+
+-- who keeps something
+pub kept_read : (items : List Host) (at : ℕ) (x : Host) → slice_get items at ≡ Some x → is_kept_host (slice_get (shown items) at) ≡ is_some (host_view x).kept
+kept_read items at x is = ap is_kept_host (map_at shown_host (views items) at (host_view x) (map_at host_view items at x is))
 
 -- nobody has the name
 pub nobody : (c : Call) (lines : ℕ) (world : WorldView) → refusal_in c world lines ≡ Some why.NoHost → IsRefused c lines world why.NoHost

@@ -39,8 +39,7 @@ use Rattle.fam_journal.specs.Notes.{Answered, MediaFault, Note, Replied}
 use Rattle.fam_journal.specs.Notes as journal
 use Rattle.fam_world.specs.Steps.{HostChange, IsStep}
 use Rattle.fam_world.specs.Turns.{is_done, kept_by, turn_notes}
-use Rattle.fam_commands.specs.Keeping as keeping
-use Rattle.fam_commands.specs.Keeping.{kept_after, read_by}
+use Rattle.fam_commands.specs.Keeping.{kept_after}
 
 -- Words.
 
@@ -141,19 +140,6 @@ told_by at (turn.Done given) next (turns.Ends reply) tells = record {
 
 -- An operation that was done.
 
--- a host that keeps nothing keeps nothing behind a turn
-keeps_none : (told : turns.Turn) (t : Task) → kept_after told t None ≡ None
-keeps_none (turns.Goes next) t = refl
-keeps_none (turns.Marks next) t = refl
-keeps_none (turns.Finds n next) t = refl
-keeps_none (turns.Writes seq e next) t = refl
-keeps_none (turns.Ends reply) t = by_reply reply
-  where
-    by_reply : (r : Reply) → keeping.kept_by r (read_by t) None ≡ None
-    by_reply (replies.Played m tree) = refl
-    by_reply (replies.Mounted m) = refl
-    by_reply other = refl
-
 module _ (at : ℕ) (t next : Task) (said : Turn) (a : HostChange) (over : Bool) (goes : GoesOn t a.new.cache said next) where
   abbrev word : ℕ
   word = unwrap_or (word_of (op_of t) a.new.cache) 0
@@ -169,10 +155,10 @@ module _ (at : ℕ) (t next : Task) (said : Turn) (a : HostChange) (over : Bool)
   fits_on (turn.Note note) keeps = keeps refl
   fits_on (turn.Done given) keeps = tt
 
-  pub step_served : a.old.kept ≡ None → a.new.kept ≡ None → (mid : Option Task) → mid ≡ Some next → a.new.task ≡ kept_by said mid → a.after ≡ a.before ++ turn_notes at said → heading a.new ≡ heading a.old → a.media.old.faults ≤ a.media.new.faults → over ≡ is_done said
+  pub step_served : a.old.kept ≡ t.kept → a.new.kept ≡ kept_after (turn_of t (word_of (op_of t) a.new.cache)) t t.kept → (mid : Option Task) → mid ≡ Some next → a.new.task ≡ kept_by said mid → a.after ≡ a.before ++ turn_notes at said → heading a.new ≡ heading a.old → a.media.old.faults ≤ a.media.new.faults → over ≡ is_done said
       → IfModelled a.media.old.image (λ image. HasTurned t (machine image a.old.cache) said next a.media.new.image a.new.cache) → KeepsLines said t next → LeavesCache (op_of t) a.media.old.image a.old.cache a.new.cache → IsWithin t.lines (op_of t) → t.lines ≡ a.lines
       → IsStep at t a over
-  step_served was_bare bare mid mid_is task joined host later over_is turned keeps leaves within lines =
+  step_served own keeps_log mid mid_is task joined host later over_is turned keeps leaves within lines =
       let task_is : a.new.task ≡ kept_by said (Some next) = task ∙ ap (kept_by said) mid_is in
       record {
         notes = turn_notes at said;
@@ -183,7 +169,7 @@ module _ (at : ℕ) (t next : Task) (said : Turn) (a : HostChange) (over : Bool)
           word = word;
           notes_are = told.notes;
           task = task_is ∙ told.task;
-          kept = bare ∙ sym (ap (kept_after (turn_given t word) t) was_bare ∙ keeps_none (turn_given t word) t);
+          kept = keeps_log ∙ ap (λ (z : turns.Turn). kept_after z t t.kept) (sym turn_is) ∙ ap (kept_after (turn_given t word) t) (sym own);
           done = λ image is. (turned image is).is;
           own = λ image is.
               let m : Machine = machine image a.old.cache in

@@ -1,10 +1,12 @@
 -- Operations of a task, as its cache and its media tell them, are steps of the host that runs it.
-use Rattle.std.proofs.Common.{◌≡◌, ℕ, suc, ◌<◌, ◌≤◌, inl, inr, List, [], ◌∷◌, ◌++◌, length, Bool, true, false, Option, Some, None, Result, Ok, Err, refl, ap₂, sym, subst, ◌∙◌, arith, append-nil}
+use Rattle.std.proofs.Common.{◌≡◌, ℕ, suc, ◌<◌, ◌≤◌, inl, inr, List, [], ◌∷◌, ◌++◌, length, Bool, true, false, Option, Some, None, Result, Ok, Err, refl, ap, ap₂, sym, subst, ◌∙◌, arith, append-nil}
 use Rattle.fam_base.specs.declared.line.LineNo.{LineNo}
 use Rattle.fam_base.specs.declared.line.OutOfMemory.{OutOfMemory}
 use Rattle.fam_cache.specs.declared.fault.OperationFault.{OperationFault}
 use Rattle.fam_cache.specs.declared.fault.OperationFault.TheVariants as fault
 use Rattle.fam_cache.proofs.Performed.{left_held}
+use Rattle.fam_cache.specs.Operations.{word_of}
+use Rattle.fam_commands.specs.Kept.{Kept}
 use Rattle.fam_commands.specs.Task.{Task, op_of}
 use Rattle.fam_machine.specs.Caches.{Cache, cell_at}
 use Rattle.fam_machine.specs.OneLine.{IsHeld}
@@ -12,6 +14,7 @@ use Rattle.fam_media.specs.Outside.{IfModelled}
 use Rattle.fam_media.specs.States.{MediaState}
 use Rattle.fam_tasks.specs.declared.answer.Turn.{Turn}
 use Rattle.fam_tasks.specs.declared.answer.Turn.TheVariants.{Go, Note as Notes, Done}
+use Rattle.fam_tasks.proofs.Keeping.{go_keeps}
 use Rattle.fam_run.specs.Led as led
 use Rattle.fam_run.specs.Led.{Advanced, HasBrokenOff, HasDone, Led}
 use Rattle.fam_run.specs.Operation.{IsBroken, IsDone, IsUndone, Operated, ended}
@@ -27,9 +30,9 @@ use Rattle.fam_world.specs.declared.fault.Moved.{Moved}
 use Rattle.fam_world.specs.declared.fault.Moved.TheVariants as moved
 use Rattle.fam_world.proofs.Saying.{step_cut, step_served}
 
--- a host that runs this task, if any, on this cache and keeps nothing, with these notes, and what the media tells
-abbrev pub standing_at : HostView → Option Task → Cache → List Note → MediaState → HostStanding
-standing_at view task held notes media = record { host = record view { task = task; cache = held; kept = None }; notes = notes; media = media }
+-- a host that runs this task, if any, on this cache and keeps this, with these notes, and what the media tells
+abbrev pub standing_at : HostView → Option Task → Option Kept → Cache → List Note → MediaState → HostStanding
+standing_at view task kept held notes media = record { host = record view { task = task; cache = held; kept = kept }; notes = notes; media = media }
 
 -- What a result of operations tells, once it is noted.
 
@@ -56,19 +59,19 @@ lacked at (Err (fault.MediaFault line)) old new res full x is = absurd (let over
 lacked at (Err fault.OutOfMemory) old new res full x is = (refl, x.0)
 
 -- where nothing was done a host stands as before
-pub stands_still : (view : HostView) (b : TaskChange) (notes notes_now : List Note) → IsUndone b → notes_now ≡ notes → standing_at view (Some b.next) b.new notes_now b.media.new ≡ standing_at view (Some b.task) b.old notes b.media.old
+pub stands_still : (view : HostView) (b : TaskChange) (notes notes_now : List Note) → IsUndone b → notes_now ≡ notes → standing_at view (Some b.next) b.next.kept b.new notes_now b.media.new ≡ standing_at view (Some b.task) b.task.kept b.old notes b.media.old
 stands_still view b notes notes_now undone same =
-    ap₂ (λ (t : Task) (k : Cache). standing_at view (Some t) k notes_now b.media.new) undone.task undone.cache
-    ∙ ap₂ (λ (n : List Note) (m : MediaState). standing_at view (Some b.task) b.old n m) same undone.media
+    ap₂ (λ (t : Task) (k : Cache). standing_at view (Some t) t.kept k notes_now b.media.new) undone.task undone.cache
+    ∙ ap₂ (λ (n : List Note) (m : MediaState). standing_at view (Some b.task) b.task.kept b.old n m) same undone.media
 
 module _ (at lines : ℕ) (view : HostView) where
   -- an operation that was done
   pub done_step : (b : TaskChange) (said : Turn) (notes notes_now : List Note) → IsDone b said → IfModelled b.media.old.image (λ image. length image ≡ lines) → b.task.lines ≡ lines → b.media.old.faults ≤ b.media.new.faults → notes_now ≡ notes ++ turn_notes at said
-      → HostStep at lines (is_done said) (standing_at view (Some b.task) b.old notes b.media.old) (standing_at view (kept_by said (Some b.next)) b.new notes_now b.media.new)
+      → HostStep at lines (is_done said) (standing_at view (Some b.task) b.task.kept b.old notes b.media.old) (standing_at view (kept_by said (Some b.next)) b.next.kept b.new notes_now b.media.new)
   done_step b said notes notes_now x modelled fits later noted =
       let a : HostChange = record {
-        old = record view { task = Some b.task; cache = b.old; kept = None };
-        new = record view { task = kept_by said (Some b.next); cache = b.new; kept = None };
+        old = record view { task = Some b.task; cache = b.old; kept = b.task.kept };
+        new = record view { task = kept_by said (Some b.next); cache = b.new; kept = b.next.kept };
         before = notes;
         after = notes_now;
         lines = lines;
@@ -78,16 +81,16 @@ module _ (at lines : ℕ) (view : HostView) where
         task = b.task;
         runs = refl;
         modelled = modelled;
-        step = step_served at b.task b.next said a (is_done said) x.goes refl refl (Some b.next) refl refl noted refl later refl x.turned x.keeps x.leaves x.within fits;
+        step = step_served at b.task b.next said a (is_done said) x.goes refl x.kept (Some b.next) refl refl noted refl later refl x.turned x.keeps x.leaves x.within fits;
       }
 
   -- the media failed in it
   pub broken_step : (b : TaskChange) (line : LineNo) (notes notes_now : List Note) → IsBroken b line → IfModelled b.media.old.image (λ image. length image ≡ lines) → b.media.old.faults ≤ b.media.new.faults → notes_now ≡ notes ++ Answered at (MediaFault line.0) ∷ []
-      → HostStep at lines true (standing_at view (Some b.task) b.old notes b.media.old) (standing_at view None b.new notes_now b.media.new)
+      → HostStep at lines true (standing_at view (Some b.task) b.task.kept b.old notes b.media.old) (standing_at view None b.next.kept b.new notes_now b.media.new)
   broken_step b line notes notes_now x modelled later noted =
       let a : HostChange = record {
-        old = record view { task = Some b.task; cache = b.old; kept = None };
-        new = record view { task = None; cache = b.new; kept = None };
+        old = record view { task = Some b.task; cache = b.old; kept = b.task.kept };
+        new = record view { task = None; cache = b.new; kept = b.next.kept };
         before = notes;
         after = notes_now;
         lines = lines;
@@ -97,12 +100,12 @@ module _ (at lines : ℕ) (view : HostView) where
         task = b.task;
         runs = refl;
         modelled = modelled;
-        step = step_cut at b.task a line refl noted refl later refl (left_held (op_of b.task) b.old b.new x.copies) x.failed x.rose;
+        step = step_cut at b.task a line (ap (λ (t : Task). t.kept) x.task) noted refl later refl (left_held (op_of b.task) b.old b.new x.copies) x.failed x.rose;
       }
 
   -- operations that leave memory's image
   pub led_runs : (media : MediaState) (notes : List Note) → IfModelled media.image (λ image. length image ≡ lines) → (t next : Task) (held after : Cache) → Led media.image t held next after → t.lines ≡ lines
-      → Runs at lines (standing_at view (Some t) held notes media) (standing_at view (Some next) after notes media)
+      → Runs at lines (standing_at view (Some t) t.kept held notes media) (standing_at view (Some next) next.kept after notes media)
   led_runs media notes modelled t _ held _ led.none fits = record { count = 0; goes = none }
   led_runs media notes modelled t next held after (led.more {mid = mid} {now = now} before quiet) fits =
       let first = led_runs media notes modelled t mid held now before fits in
@@ -112,6 +115,7 @@ module _ (at lines : ℕ) (view : HostView) where
         within = quiet.within;
         leaves = quiet.leaves;
         goes = quiet.goes;
+        kept = go_keeps mid next (word_of (op_of mid) after) quiet.goes;
         keeps = lines_kept after mid next Go quiet.sound quiet.goes;
         turned = quiet.turned;
         own = λ line is. absurd cc;
@@ -128,52 +132,53 @@ module _ (at lines : ℕ) (view : HostView) where
     pub last : HostStep at lines over before c
 
   pub done_reached : (b : TaskChange) (said : Turn) (notes notes_now : List Note) → HasDone b said → IfModelled b.media.old.image (λ image. length image ≡ lines) → b.task.lines ≡ lines → b.media.old.faults ≤ b.media.new.faults → notes_now ≡ notes ++ turn_notes at said
-      → Reached (standing_at view (Some b.task) b.old notes b.media.old) (is_done said) (standing_at view (kept_by said (Some b.next)) b.new notes_now b.media.new)
+      → Reached (standing_at view (Some b.task) b.task.kept b.old notes b.media.old) (is_done said) (standing_at view (kept_by said (Some b.next)) b.next.kept b.new notes_now b.media.new)
   done_reached b said notes notes_now x modelled fits later noted =
       let last : IsDone (record b { task = x.task; old = x.held }) said = record {
         sound = x.sound;
         within = x.within;
         leaves = x.leaves;
         goes = x.goes;
+        kept = x.kept;
         keeps = lines_kept b.new x.task b.next said x.sound x.goes;
         turned = x.turned;
         own = x.own;
       } in
       record {
-        before = standing_at view (Some x.task) x.held notes b.media.old;
+        before = standing_at view (Some x.task) x.task.kept x.held notes b.media.old;
         runs = led_runs b.media.old notes modelled b.task x.task b.old x.held x.led fits;
         last = done_step (record b { task = x.task; old = x.held }) said notes notes_now last modelled (led_lines b.media.old.image b.task x.task b.old x.held x.led ∙ fits) later noted;
       }
 
   pub broken_reached : (b : TaskChange) (line : LineNo) (notes notes_now : List Note) → HasBrokenOff b line → IfModelled b.media.old.image (λ image. length image ≡ lines) → b.task.lines ≡ lines → b.media.old.faults ≤ b.media.new.faults → notes_now ≡ notes ++ Answered at (MediaFault line.0) ∷ []
-      → Reached (standing_at view (Some b.task) b.old notes b.media.old) true (standing_at view None b.new notes_now b.media.new)
+      → Reached (standing_at view (Some b.task) b.task.kept b.old notes b.media.old) true (standing_at view None b.next.kept b.new notes_now b.media.new)
   broken_reached b line notes notes_now x modelled fits later noted =
       let a : HostChange = record {
-        old = record view { task = Some x.task; cache = x.held; kept = None };
-        new = record view { task = None; cache = b.new; kept = None };
+        old = record view { task = Some x.task; cache = x.held; kept = x.task.kept };
+        new = record view { task = None; cache = b.new; kept = b.next.kept };
         before = notes;
         after = notes_now;
         lines = lines;
         media = b.media;
       } in
       record {
-        before = standing_at view (Some x.task) x.held notes b.media.old;
+        before = standing_at view (Some x.task) x.task.kept x.held notes b.media.old;
         runs = led_runs b.media.old notes modelled b.task x.task b.old x.held x.led fits;
         last = record {
           task = x.task;
           runs = refl;
           modelled = modelled;
-          step = step_cut at x.task a line refl noted refl later refl (left_held (op_of x.task) x.held b.new x.copies) x.failed x.rose;
+          step = step_cut at x.task a line (ap (λ (t : Task). t.kept) x.same) noted refl later refl (left_held (op_of x.task) x.held b.new x.copies) x.failed x.rose;
         };
       }
 
   module _ (b : TaskChange) (r : Result Turn OperationFault) (notes notes_now : List Note) (res : Result Moved OutOfMemory) (noted : IsNoted at r notes notes_now res) (modelled : IfModelled b.media.old.image (λ image. length image ≡ lines)) (fits : b.task.lines ≡ lines) (later : b.media.old.faults ≤ b.media.new.faults) where
     -- what stands before and behind
     abbrev pub start : HostStanding
-    start = standing_at view (Some b.task) b.old notes b.media.old
+    start = standing_at view (Some b.task) b.task.kept b.old notes b.media.old
 
     abbrev pub end : Option Task → HostStanding
-    end task = standing_at view task b.new notes_now b.media.new
+    end task = standing_at view task b.next.kept b.new notes_now b.media.new
 
     -- of one operation
 
@@ -198,7 +203,7 @@ module _ (at lines : ℕ) (view : HostView) where
 
   -- the task is over
   pub one_ends : (b : TaskChange) (r : Result Turn OperationFault) (notes notes_now : List Note) (res : Result Moved OutOfMemory) → IsNoted at r notes notes_now res → IfModelled b.media.old.image (λ image. length image ≡ lines) → b.task.lines ≡ lines → b.media.old.faults ≤ b.media.new.faults → Operated b r → res ≡ Ok moved.Answered
-      → HostStep at lines true (standing_at view (Some b.task) b.old notes b.media.old) (standing_at view None b.new notes_now b.media.new)
+      → HostStep at lines true (standing_at view (Some b.task) b.task.kept b.old notes b.media.old) (standing_at view None b.next.kept b.new notes_now b.media.new)
   one_ends b (Ok Go) notes notes_now res noted modelled fits later x is = absurd (let on : Ok moved.Going ≡ Ok moved.Answered = sym noted.1 ∙ is in cc)
   one_ends b (Ok (Notes note)) notes notes_now res noted modelled fits later x is = absurd (let on : Ok moved.Going ≡ Ok moved.Answered = sym noted.1 ∙ is in cc)
   one_ends b (Ok (Done answer)) notes notes_now res noted modelled fits later x is = done_step b (Done answer) notes notes_now x modelled fits later noted.0
@@ -206,7 +211,7 @@ module _ (at lines : ℕ) (view : HostView) where
   one_ends b (Err fault.OutOfMemory) notes notes_now res noted modelled fits later x is = absurd (let full : Err record {} ≡ Ok moved.Answered = sym noted.1 ∙ is in cc)
 
   pub all_end : (b : TaskChange) (r : Result Turn OperationFault) (notes notes_now : List Note) (res : Result Moved OutOfMemory) → IsNoted at r notes notes_now res → IfModelled b.media.old.image (λ image. length image ≡ lines) → b.task.lines ≡ lines → b.media.old.faults ≤ b.media.new.faults → Advanced b r → res ≡ Ok moved.Answered
-      → Reached (standing_at view (Some b.task) b.old notes b.media.old) true (standing_at view None b.new notes_now b.media.new)
+      → Reached (standing_at view (Some b.task) b.task.kept b.old notes b.media.old) true (standing_at view None b.next.kept b.new notes_now b.media.new)
   all_end b (Ok Go) notes notes_now res noted modelled fits later x is = absurd (let on : Ok moved.Going ≡ Ok moved.Answered = sym noted.1 ∙ is in cc)
   all_end b (Ok (Notes note)) notes notes_now res noted modelled fits later x is = absurd (let on : Ok moved.Going ≡ Ok moved.Answered = sym noted.1 ∙ is in cc)
   all_end b (Ok (Done answer)) notes notes_now res noted modelled fits later x is = done_reached b (Done answer) notes notes_now x modelled fits later noted.0

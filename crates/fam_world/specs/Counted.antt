@@ -2,6 +2,7 @@
 use Rattle.std.specs.Prelude.{ℕ, suc, ◌≡◌, ◌<◌, Bool, true, false, List, length, Option, Some, None, Result, Ok, Err}
 use Rattle.fam_base.specs.declared.line.OutOfMemory.{OutOfMemory}
 use Rattle.fam_cache.specs.States.{CacheState}
+use Rattle.fam_commands.specs.Kept.{Kept}
 use Rattle.fam_commands.specs.Task.{Task}
 use Rattle.fam_media.specs.Outside.{IfModelled}
 use Rattle.fam_media.specs.States.{MediaState}
@@ -68,10 +69,10 @@ pub record HostStanding : Type 0 where
 abbrev pub host_standing : {M : Type 0} → (M → MediaState) → M → HostView → List Note → HostStanding
 host_standing state media host notes = record { host = host; notes = notes; media = state media }
 
--- with this media, of a host that runs this task, if any, on this cache, and keeps nothing of the log
-abbrev pub task_standing : {M : Type 0} → (M → MediaState) → M → HostView → Option Task → CacheState → List Note → HostStanding
-task_standing state media view task cache notes =
-    record { host = record view { task = task; cache = cache.lines; kept = None }; notes = notes; media = state media }
+-- with this media, of a host that runs this task, if any, on this cache, and keeps this of the log
+abbrev pub task_standing : {M : Type 0} → (M → MediaState) → M → HostView → Option Task → Option Kept → CacheState → List Note → HostStanding
+task_standing state media view task kept cache notes =
+    record { host = record view { task = task; cache = cache.lines; kept = kept }; notes = notes; media = state media }
 
 -- the task that the host has behind operations of this one
 abbrev pub task_left : Result Moved OutOfMemory → Option Task → Option Task

@@ -5,16 +5,17 @@ ghost use Rattle.fam_base.specs.PathOrder.{path_eq};
 ghost use Rattle.fam_base.specs.declared.cmd.Cmd.{Cmd};
 ghost use Rattle.fam_format.specs.Layout.{least_lines};
 ghost use Rattle.fam_machine.specs.HostMoves.{Move};
-ghost use Rattle.fam_journal.specs.Calls.{Begins, Declares, Halts, Moves, Steps, dirty_from, has_name, is_busy, is_engaged, is_same};
+ghost use Rattle.fam_journal.specs.Calls.{Begins, Declares, Halts, Moves, Steps, Umounts, dirty_from, has_name, is_busy, is_engaged, is_same};
 ghost use Rattle.fam_journal.specs.ByWorld.{refusal_in, shown_host};
 ghost use Rattle.fam_journal.specs.Members.{index_of};
 ghost use Rattle.fam_journal.specs.Notes.{Note};
 ghost use Rattle.fam_journal.specs.View.{HostView};
 ghost use Rattle.fam_world.specs.Answers.{IsPlaced, IsPlain};
-ghost use Rattle.fam_world.specs.View.{host_view, is_dirty_other, shown, views};
+ghost use Rattle.fam_commands.specs.Classes.{is_mount};
+ghost use Rattle.fam_world.specs.View.{count_kept, count_named, host_view, is_dirty_other, shown, views};
 
 use crate::hosts::{Host, MOST_HOSTS};
-use fam_base::{HostName, LineNo};
+use fam_base::{Cmd, HostName, LineNo};
 use fam_format::LEAST_LINES;
 use fam_journal::{HostId, Refusal};
 use uuid::Uuid;
@@ -43,12 +44,49 @@ fn is_same(host: &Host, name: &HostName, uuid: &Uuid) -> bool
 /// Whether a host has a task.
 fn is_busy(host: &Host) -> bool
     ensures busy { result ≡ is_busy (shown_host (host_view host.now)) }
-    ensures engaged { result ≡ is_engaged (shown_host (host_view host.now)) }
     ensures task { result ≡ is_some host.now.task }
 {
     match host.task {
         Some(_) => true,
         None => false,
+    }
+}
+
+/// How many of the log's entries a host keeps, if it keeps anything.
+fn kept_count(host: &Host) -> Option<u64>
+    ensures count { result ≡ count_kept (host_view host.now).kept }
+    ensures some { is_some result ≡ is_some (host_view host.now).kept }
+{
+    match &host.task {
+        Some(task) => task.kept_count(),
+        None => match &host.kept {
+            Some(kept) => Some(kept.count()),
+            None => None,
+        },
+    }
+}
+
+/// Whether a host keeps something of the log.
+fn keeps(host: &Host) -> bool
+    ensures { result ≡ is_some (host_view host.now).kept }
+{
+    kept_count(host).is_some()
+}
+
+/// Whether a host has a task, or keeps something of the log.
+fn is_engaged(host: &Host) -> bool
+    ensures { result ≡ is_engaged (shown_host (host_view host.now)) }
+{
+    is_busy(host) || keeps(host)
+}
+
+/// Whether a command is a mount.
+pub(crate) fn is_mount(cmd: &Cmd) -> bool
+    ensures { result ≡ is_mount cmd.now }
+{
+    match cmd {
+        Cmd::Mount => true,
+        _ => false,
     }
 }
 
@@ -85,13 +123,13 @@ fn same_host(hosts: &Vec<Host>, name: &HostName, uuid: &Uuid) -> Option<usize>
     None
 }
 
-/// The first host that has a task.
-pub(crate) fn busy_host(hosts: &Vec<Host>) -> Option<usize>
+/// The first host that has a task, or keeps something of the log.
+pub(crate) fn engaged_host(hosts: &Vec<Host>) -> Option<usize>
     ensures is { result ≡ index_of is_engaged (shown hosts.now.items) }
     ensures within { IfSome result (λ at. at < vec_len hosts.now) }
 {
     for at in 0..hosts.len() {
-        if is_busy(&hosts[at]) {
+        if is_engaged(&hosts[at]) {
             return Some(at);
         }
     }
@@ -128,12 +166,17 @@ pub(crate) fn declared_before(hosts: &Vec<Host>, name: &HostName, uuid: &Uuid) -
     None
 }
 
-/// The host of this name, on which a command may begin, on an image of so many lines; or why not.
-pub(crate) fn may_begin(hosts: &Vec<Host>, lines: u64, name: &HostName) -> Result<usize, Refusal>
+/// The host of this name, on which a mount or another command may begin, on an image of so many lines; or why not.
+pub(crate) fn may_begin(
+    hosts: &Vec<Host>,
+    lines: u64,
+    name: &HostName,
+    mount: bool,
+) -> Result<usize, Refusal>
     requires few { vec_len hosts.now ≤ MOST_HOSTS }
     ensures within { IfOk result (λ at. at < vec_len hosts.now) }
     ensures plain { IfErr result IsPlain }
-    ensures placed { (cmd : Cmd) (journal : List Note)
+    ensures placed { (cmd : Cmd) (journal : List Note) → is_mount cmd ≡ mount
         → IsPlaced (Begins name.now cmd) lines (record { hosts = views hosts.now.items; journal = journal }) result }
     ensures least { OnOk result (least_lines ≤ lines) }
 {
@@ -146,7 +189,43 @@ pub(crate) fn may_begin(hosts: &Vec<Host>, lines: u64, name: &HostName) -> Resul
     if is_busy(&hosts[at]) {
         return Err(Refusal::Busy(HostId(at as u32)));
     }
+    if mount && keeps(&hosts[at]) {
+        return Err(Refusal::Mounted);
+    }
     Ok(at)
+}
+
+/// The host of this name, where it runs no task and keeps something of the log; or why it can't forget that.
+pub(crate) fn mounted(hosts: &Vec<Host>, name: &HostName) -> Result<usize, Refusal>
+    requires few { vec_len hosts.now ≤ MOST_HOSTS }
+    ensures within { IfOk result (λ at. at < vec_len hosts.now) }
+    ensures plain { IfErr result IsPlain }
+    ensures placed { (lines : ℕ) (journal : List Note)
+        → IsPlaced (Umounts name.now) lines (record { hosts = views hosts.now.items; journal = journal }) result }
+    ensures idle { IfOk result (λ at. (view : HostView) → slice_get (views hosts.now.items) at ≡ Some view
+        → view.task ≡ None) }
+{
+    let Some(at) = number(hosts, name) else {
+        return Err(Refusal::NoHost);
+    };
+    if is_busy(&hosts[at]) {
+        return Err(Refusal::Busy(HostId(at as u32)));
+    }
+    if !keeps(&hosts[at]) {
+        return Err(Refusal::NotMounted);
+    }
+    Ok(at)
+}
+
+/// How many of the log's entries the host of this name keeps, if it is declared and keeps anything.
+pub(crate) fn entries_kept(hosts: &Vec<Host>, name: &HostName) -> Option<u64>
+    ensures { (journal : List Note) → result
+        ≡ count_named name.now (record { hosts = views hosts.now.items; journal = journal }) }
+{
+    match number(hosts, name) {
+        Some(at) => kept_count(&hosts[at]),
+        None => None,
+    }
 }
 
 /// The host of this name, where it has a task; or why it does no operation.

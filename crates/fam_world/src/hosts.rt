@@ -1,53 +1,75 @@
 //! Hosts of a world, and what is changed of one.
 
-ghost use Rattle.std.specs.Prelude.{◌≡◌, ◌<◌, ◌≤◌, None, Some, vec_len};
+ghost use Rattle.std.specs.Prelude.{◌≡◌, ◌<◌, ◌≤◌, None, Some, slice_get, vec_len};
 ghost use Rattle.std.specs.FinMap as map;
 ghost use Rattle.fam_journal.specs.Members.{changed_at};
 ghost use Rattle.fam_commands.specs.Task.{mounted};
 ghost use Rattle.fam_format.specs.Layout.{least_lines};
 ghost use Rattle.fam_base.specs.Commands.{IsSoundCmd};
 ghost use Rattle.fam_tasks.specs.Sound.{most_lines};
-ghost use Rattle.fam_world.specs.View.{host_view, views};
+ghost use Rattle.fam_journal.specs.View.{HostView};
+ghost use Rattle.fam_world.specs.View.{host_view, kept_in, views};
 
 use fam_base::{Cmd, HostName};
 use fam_cache::HostCache;
-use fam_tasks::{Replica, Task};
+use fam_tasks::{Kept, Replica, Task};
 use std::alloc::Global;
 use uuid::Uuid;
 
 /// The most hosts of a world.
 pub(crate) const MOST_HOSTS: usize = 64;
 
-/// A host: its name, its UUID, its cache, and the task that it runs, if any.
+/// A host: its name, its UUID, its cache, the task that it runs, if any, and what it keeps of the log.
 #[derive(Drop)]
 pub(crate) struct Host {
     pub(crate) name: HostName,
     pub(crate) uuid: Uuid,
     pub(crate) cache: HostCache,
     pub(crate) task: Option<Task>,
+    /// What it keeps of the log. While it runs a task that has it.
+    pub(crate) kept: Option<Kept>,
     /// What its last command kept of the log for the next one. No answer hangs on it.
     pub(crate) replica: Option<Replica>,
     /// Whether it has begun a command: from the second one on they keep what they read.
     pub(crate) has_begun: bool,
 }
 
-/// Ends a task, if there is one, and takes what it keeps.
-pub(crate) fn retire(task: &mut Option<Task>, replica: &mut Option<Replica>)
-    ensures { task.new ≡ None }
+/// Ends a task, if there is one, and takes what its host keeps behind it.
+pub(crate) fn retire(
+    task: &mut Option<Task>,
+    kept: &mut Option<Kept>,
+    replica: &mut Option<Replica>,
+)
+    ensures task { task.new ≡ None }
+    ensures kept { kept.new ≡ kept_in task.old kept.old }
 {
     if let Some(task) = task.take() {
-        *replica = task.into_replica();
+        (*kept, *replica) = task.into_parts();
     }
 }
 
-/// A host begins a command on an image of so many lines.
+/// A command before its first operation, on a host that keeps this, and an image of so many lines.
+fn task_on(alloc: Global, cmd: Cmd, me: Uuid, lines: u64, kept: Option<Kept>) -> Task
+    requires command { IsSoundCmd cmd }
+    requires least { least_lines ≤ lines }
+    requires most { lines ≤ most_lines }
+    ensures { result ≡ mounted kept cmd me lines }
+{
+    match kept {
+        Some(kept) => Task::mounted(alloc, cmd, me, lines, kept),
+        None => Task::new(alloc, cmd, me, lines),
+    }
+}
+
+/// A host begins a command on an image of so many lines, with what it keeps.
 fn begin_on(alloc: Global, host: &mut Host, lines: u64, cmd: Cmd)
     requires command { IsSoundCmd cmd }
     requires least { least_lines ≤ lines }
     requires most { lines ≤ most_lines }
     ensures { host_view host.new ≡ record (host_view host.old) { task = Some (mounted (host_view host.old).kept cmd host.old.uuid lines) } }
 {
-    let mut task = Task::new(alloc, cmd, host.uuid, lines);
+    end_on(host);
+    let mut task = task_on(alloc, cmd, host.uuid, lines, host.kept.take());
     if host.has_begun {
         task.remember(host.replica.take());
     }
@@ -59,7 +81,24 @@ fn begin_on(alloc: Global, host: &mut Host, lines: u64, cmd: Cmd)
 fn end_on(host: &mut Host)
     ensures { host_view host.new ≡ record (host_view host.old) { task = None } }
 {
-    retire(&mut host.task, &mut host.replica);
+    retire(&mut host.task, &mut host.kept, &mut host.replica);
+}
+
+/// A host that runs no task forgets what it keeps of the log.
+fn forget_on(host: &mut Host)
+    requires { host.old.task ≡ None }
+    ensures { host_view host.new ≡ record (host_view host.old) { kept = None } }
+{
+    host.kept = None;
+}
+
+/// A host's task is over, if it has one, and its cache and what it keeps are lost.
+fn lose_on(host: &mut Host)
+    ensures { host_view host.new ≡ record (host_view host.old) { cache = map.empty; task = None; kept = None } }
+{
+    end_on(host);
+    forget_on(host);
+    host.cache.lose();
 }
 
 /// Begins a command on a host, on an image of so many lines.
@@ -75,7 +114,7 @@ pub(crate) fn begin_task(alloc: Global, hosts: &mut Vec<Host>, at: usize, lines:
     begin_on(alloc, &mut hosts[at], lines, cmd);
 }
 
-/// Ends a host's task. Its cache stays.
+/// Ends a host's task. Its cache stays, and what it keeps.
 pub(crate) fn end_task(hosts: &mut Vec<Host>, at: usize)
     requires within { at < vec_len hosts.old }
     ensures views { views hosts.new.items ≡ changed_at at (λ v. record v { task = None }) (views hosts.old.items) }
@@ -84,14 +123,22 @@ pub(crate) fn end_task(hosts: &mut Vec<Host>, at: usize)
     end_on(&mut hosts[at]);
 }
 
-/// Ends a host's task and loses its cache: what memory lacks is lost.
+/// Ends a host's task and loses its cache, and what it keeps: what memory lacks is lost.
 pub(crate) fn lose(hosts: &mut Vec<Host>, at: usize)
     requires within { at < vec_len hosts.old }
     ensures views { views hosts.new.items
         ≡ changed_at at (λ v. record v { cache = map.empty; task = None; kept = None }) (views hosts.old.items) }
     ensures len { vec_len hosts.new ≡ vec_len hosts.old }
 {
-    let host = &mut hosts[at];
-    end_on(host);
-    host.cache.lose();
+    lose_on(&mut hosts[at]);
+}
+
+/// A host forgets what it keeps of the log. It runs no task.
+pub(crate) fn forget(hosts: &mut Vec<Host>, at: usize)
+    requires within { at < vec_len hosts.old }
+    requires idle { (view : HostView) → slice_get (views hosts.old.items) at ≡ Some view → view.task ≡ None }
+    ensures views { views hosts.new.items ≡ changed_at at (λ v. record v { kept = None }) (views hosts.old.items) }
+    ensures len { vec_len hosts.new ≡ vec_len hosts.old }
+{
+    forget_on(&mut hosts[at]);
 }

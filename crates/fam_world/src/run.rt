@@ -10,7 +10,7 @@ ghost use Rattle.fam_run.specs.Operation.{said_of};
 ghost use Rattle.fam_world.specs.Counted.{HostStepsSay, RunsUp, host_standing, moved_up, task_left, task_standing};
 ghost use Rattle.fam_world.specs.Steps.{CacheFits};
 ghost use Rattle.fam_world.specs.Turns.{IsNoted, task_note};
-ghost use Rattle.fam_world.specs.View.{host_view, note_view, notes_view};
+ghost use Rattle.fam_world.specs.View.{host_view, kept_in, note_view, notes_view};
 
 use crate::fault::Moved;
 use crate::hosts::{Host, MOST_HOSTS, retire};
@@ -21,7 +21,7 @@ use fam_journal::HostId;
 use fam_media::Media;
 use fam_notes::Note;
 use fam_run::{advance, operate, operate_cached};
-use fam_tasks::{Answer, Replica, Task, TaskNote, Turn};
+use fam_tasks::{Answer, Kept, Replica, Task, TaskNote, Turn};
 use std::mem::replace;
 
 /// A note of a host's task.
@@ -109,8 +109,8 @@ fn run_most<M: Media>(
     requires fits { task.old.lines ≡ M.size media.old }
     requires cached { CacheFits (M.size media.old) cache.old }
     ensures says { (view : HostView) → HostStepsSay host.0 (M.size media.old) most
-        (task_standing M.state media.old view (Some task.old) cache.old (notes_view journal.old.items))
-        (task_standing M.state media.new view (task_left result (Some task.new)) cache.new
+        (task_standing M.state media.old view (Some task.old) task.old.kept cache.old (notes_view journal.old.items))
+        (task_standing M.state media.new view (task_left result (Some task.new)) task.new.kept cache.new
         (notes_view journal.new.items)) result }
     ensures undone { most ≡ 1 → OnErr result (media.new ≡ media.old) }
     ensures size { M.size media.new ≡ M.size media.old }
@@ -150,8 +150,8 @@ fn run_up<M: Media>(
     requires fits { task.old.lines ≡ M.size media.old }
     requires cached { CacheFits (M.size media.old) cache.old }
     ensures runs { (view : HostView) → RunsUp host.0 (M.size media.old)
-        (task_standing M.state media.old view (Some task.old) cache.old (notes_view journal.old.items))
-        (task_standing M.state media.new view (task_left (moved_up result) (Some task.new)) cache.new
+        (task_standing M.state media.old view (Some task.old) task.old.kept cache.old (notes_view journal.old.items))
+        (task_standing M.state media.new view (task_left (moved_up result) (Some task.new)) task.new.kept cache.new
         (notes_view journal.new.items)) result }
     ensures same { OnErr result (IsUnstored task.old cache.old.lines
         → IfModelled (M.state media.old).image (λ image. (M.state media.new).image ≡ Some image)) }
@@ -180,11 +180,17 @@ fn run_up<M: Media>(
 }
 
 /// Ends a host's task that has answered.
-fn leave(task: &mut Option<Task>, replica: &mut Option<Replica>, moved: &Result<Moved, OutOfMemory>)
-    ensures { task.new ≡ task_left moved.now task.old }
+fn leave(
+    task: &mut Option<Task>,
+    kept: &mut Option<Kept>,
+    replica: &mut Option<Replica>,
+    moved: &Result<Moved, OutOfMemory>,
+)
+    ensures task { task.new ≡ task_left moved.now task.old }
+    ensures kept { kept_in task.new kept.new ≡ kept_in task.old kept.old }
 {
     if let Ok(Moved::Answered) = moved {
-        retire(task, replica);
+        retire(task, kept, replica);
     }
 }
 
@@ -217,7 +223,7 @@ pub(crate) fn steps_of<M: Media>(
         HostId(at as u32),
         most,
     );
-    leave(&mut host.task, &mut host.replica, &moved);
+    leave(&mut host.task, &mut host.kept, &mut host.replica, &moved);
     moved
 }
 
@@ -245,6 +251,6 @@ pub(crate) fn finish_of<M: Media>(
         unreachable!();
     };
     run_up(&mut host.cache, task, journal, media, HostId(at as u32))?;
-    retire(&mut host.task, &mut host.replica);
+    retire(&mut host.task, &mut host.kept, &mut host.replica);
     Ok(())
 }

@@ -1,6 +1,6 @@
 //! Turns of a task that decides, with all slots read.
 
-ghost use Rattle.std.specs.Prelude.{◌≡◌, ◌≤◌, ◌<◌, None, Ok, Some, IfErr, IfOk, IfSome, IsSome, OnErr, length, true};
+ghost use Rattle.std.specs.Prelude.{◌≡◌, ◌≤◌, ◌<◌, None, Ok, Some, IfErr, IfOk, IfSome, IsSome, OnErr, OnOk, length, true};
 ghost use Rattle.fam_base.specs.Commands.{IsListing};
 ghost use Rattle.fam_base.specs.declared.cmd.Cmd.TheVariants as cmd;
 ghost use Rattle.fam_base.specs.declared.entry.Entry.{Entry};
@@ -18,7 +18,7 @@ ghost use Rattle.fam_commands.specs.Classes.{IsCheck, IsRead, IsVerify, is_fsck}
 ghost use Rattle.fam_replay.specs.Replay.{entries_in, HasFoundAll};
 ghost use Rattle.fam_tasks.specs.declared.answer.Turn.TheVariants.{Done};
 ghost use Rattle.fam_tasks.specs.Commands.{content_used};
-ghost use Rattle.fam_tasks.specs.Tells.{Tells, WantsMemory};
+ghost use Rattle.fam_tasks.specs.Tells.{Keeps, Tells, WantsMemory};
 
 use super::{Task, done};
 use crate::answer::{Answer, TaskNote, Turn};
@@ -121,11 +121,12 @@ impl Task {
     pub(super) fn decide(&mut self) -> Result<Turn, OutOfMemory>
         requires { self.old.phase ≡ at.Decide }
         ensures turn { IfOk result (λ turn. Tells (turn_of self.old None) turn self.new) }
+        ensures kept { OnOk result (Keeps self.old (turn_of self.old None) self.new) }
         ensures err { OnErr result (self.new ≡ self.old) }
-        ensures want { OnErr result (WantsMemory self.old.entries (turn_of self.old None)) }
+        ensures want { OnErr result (WantsMemory self.old (turn_of self.old None)) }
     {
         match self.cmd {
-            Cmd::Logplay => Ok(self.play()),
+            Cmd::Logplay => self.play(),
             Cmd::Mount => Ok(self.mount()),
             Cmd::Mkdir { .. } => self.append(),
             Cmd::Creat { .. } => self.append(),
@@ -137,25 +138,35 @@ impl Task {
         }
     }
 
-    /// Answers with the tree of all entries.
-    fn play(&mut self) -> Turn
+    /// Answers with the tree of all entries. A host that keeps something keeps these from here on.
+    fn play(&mut self) -> Result<Turn, OutOfMemory>
         requires phase { self.old.phase ≡ at.Decide }
         requires logplay { self.old.cmd ≡ cmd.Logplay }
-        ensures { Tells (turns.decide_turn cmd.Logplay self.old) result self.new }
+        ensures turn { IfOk result (λ turn. Tells (turns.decide_turn cmd.Logplay self.old) turn self.new) }
+        ensures kept { OnOk result (Keeps self.old (turns.decide_turn cmd.Logplay self.old) self.new) }
+        ensures err { OnErr result (self.new ≡ self.old) }
+        ensures want { OnErr result (WantsMemory self.old (turns.decide_turn cmd.Logplay self.old)) }
     {
         let m = self.history.count();
-        let tree = self.history.take_tree();
-        let answer = Answer::Played { m, tree };
-        done(&mut self.phase, answer)
+        match self.history.play(&self.params) {
+            Ok(tree) => {
+                self.history.kept_joins();
+                Ok(done(&mut self.phase, Answer::Played { m, tree }))
+            }
+            Err(full) => Err(full),
+        }
     }
 
-    /// Answers how many entries were read.
+    /// Answers how many entries were read. The host keeps these from here on.
     fn mount(&mut self) -> Turn
         requires phase { self.old.phase ≡ at.Decide }
         requires mount { self.old.cmd ≡ cmd.Mount }
-        ensures { Tells (turns.decide_turn cmd.Mount self.old) result self.new }
+        ensures turn { Tells (turns.decide_turn cmd.Mount self.old) result self.new }
+        ensures kept { Keeps self.old (turns.decide_turn cmd.Mount self.old) self.new }
     {
         let m = self.history.count();
+        self.history.keep(&self.params);
+        self.history.kept_joins();
         done(&mut self.phase, Answer::Mounted { m })
     }
 
@@ -163,7 +174,8 @@ impl Task {
     fn check(&mut self) -> Turn
         requires phase { self.old.phase ≡ at.Decide }
         requires check { IsCheck self.old.cmd }
-        ensures { Tells (turns.decide_turn self.old.cmd self.old) result self.new }
+        ensures turn { Tells (turns.decide_turn self.old.cmd self.old) result self.new }
+        ensures kept { self.new.kept ≡ self.old.kept }
     {
         let Cmd::Check { listing } = &self.cmd else {
             unreachable!();
@@ -179,7 +191,8 @@ impl Task {
     fn report(&mut self) -> Turn
         requires phase { self.old.phase ≡ at.Decide }
         requires fsck { is_fsck self.old.cmd ≡ true }
-        ensures { Tells (turns.decide_turn cmd.Fsck self.old) result self.new }
+        ensures turn { Tells (turns.decide_turn cmd.Fsck self.old) result self.new }
+        ensures kept { self.new.kept ≡ self.old.kept }
     {
         let report = report_of(&self.scan);
         done(&mut self.phase, Answer::Report(report))
@@ -191,8 +204,9 @@ impl Task {
         requires wish { IsSome (wish_of self.old.cmd) }
         ensures turn { IfOk result (λ turn.
             Tells (turns.wish_turn self.old (wish_of self.old.cmd)) turn self.new) }
+        ensures kept { self.new.kept ≡ self.old.kept }
         ensures err { OnErr result (self.new ≡ self.old) }
-        ensures want { OnErr result (WantsMemory self.old.entries
+        ensures want { OnErr result (WantsMemory self.old
             (turns.wish_turn self.old (wish_of self.old.cmd))) }
     {
         match self
@@ -212,6 +226,7 @@ impl Task {
         requires proper { Proper self.old.params entry.now }
         ensures turn { IfOk result (λ turn.
             Tells (turns.append_turn self.old (Ok entry.now)) turn self.new) }
+        ensures kept { self.new.kept ≡ self.old.kept }
         ensures err { OnErr result (self.new ≡ self.old) }
     {
         self.contents = new_contents(&self.cmd, entry.size)?;
@@ -226,8 +241,9 @@ impl Task {
         requires phase { self.old.phase ≡ at.Decide }
         requires verify { IsVerify self.old.cmd }
         ensures turn { IfOk result (λ turn. Tells (turns.decide_turn self.old.cmd self.old) turn self.new) }
+        ensures kept { self.new.kept ≡ self.old.kept }
         ensures err { OnErr result (self.new ≡ self.old) }
-        ensures want { OnErr result (WantsMemory self.old.entries (turns.decide_turn self.old.cmd self.old)) }
+        ensures want { OnErr result (WantsMemory self.old (turns.decide_turn self.old.cmd self.old)) }
     {
         let Cmd::Verify { path, against } = &self.cmd else {
             unreachable!();
@@ -255,8 +271,9 @@ impl Task {
         requires verify { IsVerify self.old.cmd }
         requires proper { Proper self.old.params entry.now }
         ensures turn { IfOk result (λ turn. Tells (turns.verify_lines self.old entry.now) turn self.new) }
+        ensures kept { self.new.kept ≡ self.old.kept }
         ensures err { OnErr result (self.new ≡ self.old) }
-        ensures want { OnErr result (WantsMemory self.old.entries (turns.verify_lines self.old entry.now)) }
+        ensures want { OnErr result (WantsMemory self.old (turns.verify_lines self.old entry.now)) }
     {
         if entry.size == 0 {
             let m = self.history.count();
@@ -277,8 +294,9 @@ impl Task {
         requires phase { self.old.phase ≡ at.Decide }
         requires read { IsRead self.old.cmd }
         ensures turn { IfOk result (λ turn. Tells (turns.decide_turn self.old.cmd self.old) turn self.new) }
+        ensures kept { self.new.kept ≡ self.old.kept }
         ensures err { OnErr result (self.new ≡ self.old) }
-        ensures want { OnErr result (WantsMemory self.old.entries (turns.decide_turn self.old.cmd self.old)) }
+        ensures want { OnErr result (WantsMemory self.old (turns.decide_turn self.old.cmd self.old)) }
     {
         let Cmd::Read { path, .. } = &self.cmd else {
             unreachable!();
@@ -297,8 +315,9 @@ impl Task {
         requires proper { Proper self.old.params entry.now }
         ensures turn { IfOk result (λ turn.
             Tells (turns.bytes_turn self.old entry.now (spec.wanted_start self.old.cmd)) turn self.new) }
+        ensures kept { self.new.kept ≡ self.old.kept }
         ensures err { OnErr result (self.new ≡ self.old) }
-        ensures want { OnErr result (WantsMemory self.old.entries
+        ensures want { OnErr result (WantsMemory self.old
             (turns.bytes_turn self.old entry.now (spec.wanted_start self.old.cmd))) }
     {
         let start = wanted_start(&self.cmd);

@@ -10,7 +10,7 @@ ghost use Rattle.fam_commands.specs.Classes.{is_fsck};
 ghost use Rattle.fam_tasks.specs.Survey.{ShowWants};
 ghost use Rattle.fam_tasks.specs.declared.answer.Answer.TheVariants.{MediaFault};
 ghost use Rattle.fam_tasks.specs.declared.answer.Turn.TheVariants.{Done};
-ghost use Rattle.fam_tasks.specs.Tells.{Tells, WantsMemory, slot_turn_by};
+ghost use Rattle.fam_tasks.specs.Tells.{Keeps, Tells, WantsMemory, slot_turn_by};
 
 use super::{Task, slot_or_decide};
 use crate::answer::{Answer, Turn};
@@ -24,9 +24,10 @@ impl Task {
     pub(super) fn digest_slot(&mut self, slot: u64) -> Result<Turn, OutOfMemory>
         requires { self.old.phase ≡ at.Check slot }
         ensures turn { IfOk result (λ turn. Tells (turn_of self.old None) turn self.new) }
+        ensures kept { self.new.kept ≡ self.old.kept }
         ensures own { (line : LineNo) → IfOk result (λ turn. turn ≢ Done (MediaFault line)) }
         ensures err { OnErr result (self.new ≡ self.old) }
-        ensures want { OnErr result (WantsMemory self.old.entries (turn_of self.old None)) }
+        ensures want { OnErr result (WantsMemory self.old (turn_of self.old None)) }
         ensures shows { OnErr result (is_fsck self.old.cmd ≡ true
             → ShowWants self.old.params self.old.gate slot self.old.words) }
     {
@@ -43,8 +44,9 @@ impl Task {
         requires { self.old.phase ≡ at.Check slot }
         ensures turn { IfOk result (λ reason.
             Tells (turn_of self.old None) (slot_turn_by slot reason) self.new) }
+        ensures kept { Keeps self.old (turn_of self.old None) self.new }
         ensures err { OnErr result (self.new ≡ self.old) }
-        ensures want { OnErr result (WantsMemory self.old.entries (turn_of self.old None)) }
+        ensures want { OnErr result (WantsMemory self.old (turn_of self.old None)) }
 
         // A fsck goes on behind any slot. It wants memory for the first one, and for entries below the gate.
         ensures shows { OnErr result (is_fsck self.old.cmd ≡ true
@@ -62,8 +64,9 @@ impl Task {
         requires other { is_fsck self.old.cmd ≡ false }
         ensures turn { IfOk result (λ reason. Tells (turns.slot_turn self.old slot
             (entry_of self.old.params self.old.words slot)) (slot_turn_by slot reason) self.new) }
+        ensures kept { self.new.kept ≡ self.old.kept }
         ensures err { OnErr result (self.new ≡ self.old) }
-        ensures want { OnErr result (WantsMemory self.old.entries (turns.slot_turn self.old slot
+        ensures want { OnErr result (WantsMemory self.old (turns.slot_turn self.old slot
             (entry_of self.old.params self.old.words slot))) }
     {
         let words = self.buffer.slot();
@@ -83,6 +86,7 @@ impl Task {
         requires fsck { is_fsck self.old.cmd ≡ true }
         ensures turn { IfOk result (λ reason.
             Tells (turns.survey_turn self.old slot) (slot_turn_by slot reason) self.new) }
+        ensures kept { self.new.kept ≡ self.old.kept }
         ensures err { OnErr result (self.new ≡ self.old) }
         ensures want { OnErr result (ShowWants self.old.params self.old.gate slot self.old.words) }
     {

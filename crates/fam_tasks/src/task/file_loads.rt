@@ -34,8 +34,9 @@ impl Task {
     /// The last word of a line of the file was loaded.
     pub(super) fn load_file(&mut self, line: u64, word: u64) -> Turn
         requires { self.old.phase ≡ at.Word part.File line last_word }
-        ensures { Tells (turns.file_turn self.old.cmd (turns.with_word self.old word) line)
+        ensures turn { Tells (turns.file_turn self.old.cmd (turns.with_word self.old word) line)
             result self.new }
+        ensures kept { self.new.kept ≡ self.old.kept }
     {
         self.is_sound();
         match self.cmd {
@@ -49,8 +50,9 @@ impl Task {
     fn compare_line(&mut self, line: u64, word: u64) -> Turn
         requires phase { self.old.phase ≡ at.Word part.File line last_word }
         requires verify { IsVerify self.old.cmd }
-        ensures { Tells (turns.file_turn self.old.cmd (turns.with_word self.old word) line)
+        ensures turn { Tells (turns.file_turn self.old.cmd (turns.with_word self.old word) line)
             result self.new }
+        ensures kept { self.new.kept ≡ self.old.kept }
     {
         self.buffer.push(word);
         let found = self.buffer.line(0);
@@ -70,8 +72,9 @@ impl Task {
         requires go { turn.old ≡ Go }
         requires phase { self.old.phase ≡ at.Drop part.File line }
         requires verify { IsVerify self.old.cmd }
-        ensures { (phase : Phase) → Tells (turns.file_turn self.old.cmd
+        ensures turn { (phase : Phase) → Tells (turns.file_turn self.old.cmd
             (record self.old { phase = phase; words = found.now }) line) turn.new self.new }
+        ensures kept { self.new.kept ≡ self.old.kept }
     {
         let size = self.file_size();
         let lines = wanted_lines(&self.cmd, size);
@@ -104,8 +107,9 @@ impl Task {
     fn read_line(&mut self, line: u64, word: u64) -> Turn
         requires phase { self.old.phase ≡ at.Word part.File line last_word }
         requires read { IsRead self.old.cmd }
-        ensures { Tells (turns.file_turn self.old.cmd (turns.with_word self.old word) line)
+        ensures turn { Tells (turns.file_turn self.old.cmd (turns.with_word self.old word) line)
             result self.new }
+        ensures kept { self.new.kept ≡ self.old.kept }
     {
         let lines = wanted_lines(&self.cmd, self.file_size());
         let m = self.history.count();

@@ -67,7 +67,8 @@ impl Task {
     /// Word 0 of line 0 was loaded.
     pub(super) fn load_magic(&mut self, word: u64) -> Turn
         requires { self.old.phase ≡ at.Magic }
-        ensures { Tells (turns.magic_turn self.old (magic_fault word)) result self.new }
+        ensures turn { Tells (turns.magic_turn self.old (magic_fault word)) result self.new }
+        ensures kept { self.new.kept ≡ self.old.kept }
     {
         if word != MAGIC {
             let answer = super_answer(&self.cmd, SuperFault::NoSuper(word));
@@ -97,8 +98,9 @@ impl Task {
     /// Word `k` of a line of a part was loaded.
     pub(super) fn load_word(&mut self, part: Part, line: u64, k: u8, word: u64) -> Turn
         requires { self.old.phase ≡ at.Word part line k }
-        ensures { Tells (turns.word_turn (turns.with_word self.old word) part line k)
+        ensures turn { Tells (turns.word_turn (turns.with_word self.old word) part line k)
             result self.new }
+        ensures kept { self.new.kept ≡ self.old.kept }
     {
         self.is_sound();
         if k < LAST_WORD {
@@ -164,8 +166,9 @@ impl Task {
     /// The last word of line 1 or 2 was loaded.
     fn load_superblock(&mut self, line: u64, word: u64) -> Turn
         requires { self.old.phase ≡ at.Word part.Superblock line LAST_WORD }
-        ensures { Tells (turns.line_turn (turns.with_word self.old word) part.Superblock line)
+        ensures turn { Tells (turns.line_turn (turns.with_word self.old word) part.Superblock line)
             result self.new }
+        ensures kept { self.new.kept ≡ self.old.kept }
     {
         self.buffer.push(word);
         if line == 0 {
@@ -202,8 +205,9 @@ impl Task {
     /// The last word of the header was loaded.
     fn load_header(&mut self, word: u64) -> Turn
         requires { self.old.phase ≡ at.Word part.Header 0 LAST_WORD }
-        ensures { Tells (turns.line_turn (turns.with_word self.old word) part.Header 0)
+        ensures turn { Tells (turns.line_turn (turns.with_word self.old word) part.Header 0)
             result self.new }
+        ensures kept { self.new.kept ≡ self.old.kept }
     {
         self.buffer.push(word);
         match read_header(&self.buffer.line(0), &self.params) {
@@ -250,8 +254,9 @@ impl Task {
     /// The gate was loaded.
     pub(super) fn load_gate(&mut self, gate: u64) -> Turn
         requires { self.old.phase ≡ at.Gate }
-        ensures { Tells (turns.gate_turn self.old gate (gate_fault gate self.old.params))
+        ensures turn { Tells (turns.gate_turn self.old gate (gate_fault gate self.old.params))
             result self.new }
+        ensures kept { self.new.kept ≡ self.old.kept }
     {
         match read_gate(gate, &self.params) {
             Err(fault) => {
@@ -266,7 +271,8 @@ impl Task {
     fn begin_slots(&mut self, gate: u64) -> Turn
         requires phase { self.old.phase ≡ at.Gate }
         requires within { gate ≤ self.old.params.slots }
-        ensures { Tells (turns.gate_turn self.old gate None) result self.new }
+        ensures turn { Tells (turns.gate_turn self.old gate None) result self.new }
+        ensures kept { self.new.kept ≡ self.old.kept }
     {
         let first = begin_history(&mut self.history, &self.cmd, &self.params, gate);
         self.gate = gate;

@@ -18,7 +18,7 @@ returns-in-Ok-None-clause-operated c = λ cache lines media.
     let a : TaskChange = record { task = t; next = c.check_slot.new.self; old = cache; new = cache; lines = lines; media = record { old = media; new = media } } in
     let goes = subst (λ (r : Option Reason). Tells (turn_of t None) (slot_turn_by c.args.slot r) c.check_slot.new.self) c.in-Ok-None.field-0-is c.in-Ok-None.ensures.turn in
     let told = subst (λ (o : Turn). Tells (turn_of t None) o c.check_slot.new.self) (sym c.requires.go) goes in
-    done a Digest (sym op) c.is_sound.ensures tt None c.args.turn.now (λ image is. record { image = is; cache = refl }) (λ image is. refl) refl refl told
+    done a Digest (sym op) c.is_sound.ensures tt None c.args.turn.now (λ image is. record { image = is; cache = refl }) (λ image is. refl) refl refl told c.check_slot.ensures.kept
 
 pub returns-in-Ok-Some-clause-operated : goal.returns-in-Ok-Some-clause-operated
 returns-in-Ok-Some-clause-operated c = λ cache lines media.
@@ -27,7 +27,7 @@ returns-in-Ok-Some-clause-operated c = λ cache lines media.
     let a : TaskChange = record { task = t; next = c.check_slot.new.self; old = cache; new = cache; lines = lines; media = record { old = media; new = media } } in
     let bad = subst (λ (r : Option Reason). Tells (turn_of t None) (slot_turn_by c.args.slot r) c.check_slot.new.self) c.in-Ok-Some.field-0-is c.in-Ok-Some.ensures.turn in
     let told = subst (λ (o : Turn). Tells (turn_of t None) o c.check_slot.new.self) (sym c.answer_bad.ensures) bad in
-    done a Digest (sym op) c.is_sound.ensures tt None c.answer_bad.new.turn (λ image is. record { image = is; cache = refl }) (λ image is. refl) refl refl told
+    done a Digest (sym op) c.is_sound.ensures tt None c.answer_bad.new.turn (λ image is. record { image = is; cache = refl }) (λ image is. refl) refl refl told c.check_slot.ensures.kept
 
 pub returns-in-Err-clause-operated : goal.returns-in-Err-clause-operated
 returns-in-Err-clause-operated c = λ cache lines media. record { task = c.in-Err.ensures.err; cache = refl; media = refl }

@@ -5,6 +5,7 @@ use Rattle.fam_commands.specs.Turns.{turn_of}
 use Rattle.fam_machine.specs.declared.op.Op.TheVariants.{Digest}
 use Rattle.fam_tasks.specs.declared.answer.Turn.{Turn}
 use Rattle.fam_tasks.specs.Tells.{Tells}
+use Rattle.fam_tasks.proofs.Keeping.{go_keeps}
 use Rattle.fam_run.specs.TaskChange.{TaskChange, task_change}
 use Rattle.fam_run.proofs.Operated.{done, failed}
 use Rattle.fam_run.specs.Operation.{said_of}
@@ -16,14 +17,14 @@ returns-then-reads_on-clause-operated g c =
     let m = g.M.Media in
     let e = c.in_ok-word-in_default.ensures in
     let a : TaskChange = task_change m.size m.state c.args.task.now c.read_on.new.self c.args.cache.now c.perform.new.self c.args.media.now c.perform.new.media in
-    done a c.next.result c.next.ensures.op c.is_sound.ensures c.next.ensures.within c.in_ok-word-in_default.word c.args.turn.now e.operated e.given e.cache e.word (subst (λ (said : Turn). Tells (turn_of c.args.task.now c.in_ok-word-in_default.word) said c.read_on.new.self) (sym c.requires.go) c.read_on.ensures)
+    done a c.next.result c.next.ensures.op c.is_sound.ensures c.next.ensures.within c.in_ok-word-in_default.word c.args.turn.now e.operated e.given e.cache e.word (subst (λ (said : Turn). Tells (turn_of c.args.task.now c.in_ok-word-in_default.word) said c.read_on.new.self) (sym c.requires.go) c.read_on.ensures) (go_keeps c.args.task.now c.read_on.new.self c.in_ok-word-in_default.word c.read_on.ensures)
 
 pub returns-else-reads_on-clause-operated : goal.returns-else-reads_on-clause-operated
 returns-else-reads_on-clause-operated g c =
     let m = g.M.Media in
     let e = c.in_ok-word-in_default.ensures in
     let a : TaskChange = task_change m.size m.state c.args.task.now c.take_word.new.task c.args.cache.now c.perform.new.self c.args.media.now c.perform.new.media in
-    done a c.next.result c.next.ensures.op c.is_sound.ensures c.next.ensures.within c.in_ok-word-in_default.word c.take_word.new.turn e.operated e.given e.cache e.word c.take_word.ensures.turn
+    done a c.next.result c.next.ensures.op c.is_sound.ensures c.next.ensures.within c.in_ok-word-in_default.word c.take_word.new.turn e.operated e.given e.cache e.word c.take_word.ensures.turn c.take_word.ensures.kept
 
 pub returns-in_err-word-in_default-clause-operated : goal.returns-in_err-word-in_default-clause-operated
 returns-in_err-word-in_default-clause-operated g c =
@@ -47,7 +48,7 @@ returns-in-Ok-clause-operated g c =
     let m = g.M.Media in
     let op : op_of c.args.task.now ≡ Digest = sym c.next.ensures.op ∙ c.in-Digest.is in
     let a : TaskChange = task_change m.size m.state c.args.task.now c.take_digest.new.task c.args.cache.now c.args.cache.now c.args.media.now c.args.media.now in
-    done a Digest (sym op) c.is_sound.ensures tt Rattle.std.proofs.Common.None c.take_digest.new.turn (λ image is. record { image = is; cache = refl }) (λ image is. refl) refl refl c.in-Ok.ensures.turn
+    done a Digest (sym op) c.is_sound.ensures tt Rattle.std.proofs.Common.None c.take_digest.new.turn (λ image is. record { image = is; cache = refl }) (λ image is. refl) refl refl c.in-Ok.ensures.turn c.in-Ok.ensures.kept
 
 pub returns-then-reads_on-clause-places : goal.returns-then-reads_on-clause-places
 returns-then-reads_on-clause-places g c = λ on has. (

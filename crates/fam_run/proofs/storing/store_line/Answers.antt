@@ -25,7 +25,7 @@ returns-in-Err-Failed-clause-advanced g c =
     let due = c.line_due-due.result in
     let within : due.0.0 < g.M.Media.size c.args.media.now = subst (λ (n : ℕ). due.0.0 < n) c.requires.lines c.store_line-in-Err-Failed.ensures.within in
     line_torn due.0 due.1 c.args.task.now c.store_line-in-Err-Failed.new.self (g.M.Media.state c.args.media.now).image c.args.cache.now.lines (g.met.M.Media.normal c.args.media.now) c.store_line-in-Err-Failed.ensures (f.failed_absent is) c.is_sound.ensures c.is_sound-in-Err-Failed.ensures
-    _ _ _ c.store_line-in-Err-Failed.new.self c.put_line.new.self.lines (g.M.Media.state c.put_line.new.media).image (f.failed_lines is) (f.torn is) (f.failed is) within
+    _ _ _ c.store_line-in-Err-Failed.new.self c.put_line.new.self.lines (g.M.Media.state c.put_line.new.media).image refl (f.failed_lines is) (f.torn is) (f.failed is) within
 
 pub returns-in-Ok-true-clause-places : goal.returns-in-Ok-true-clause-places
 returns-in-Ok-true-clause-places g c = λ on has. (

@@ -55,9 +55,9 @@ operations-preserved g c =
     let fits : c.operate.new.task.lines ≡ size = done.keeps w.on ∙ inv.fits in
     let z = c.operate_cached-done.new in
     let k = c.operate_cached-done.result in
-    let here : HostView → HostStanding = λ view. task_standing m.state c.operations.media view (Some c.operations.task) c.operations.cache notes in
-    let mid : HostView → HostStanding = λ view. task_standing m.state c.operate.new.media view (Some c.operate.new.task) c.operate.new.cache notes_now in
-    let end : HostView → HostStanding = λ view. task_standing m.state c.operate.new.media view (Some z.task) z.cache notes_now in
+    let here : HostView → HostStanding = λ view. task_standing m.state c.operations.media view (Some c.operations.task) c.operations.task.kept c.operations.cache notes in
+    let mid : HostView → HostStanding = λ view. task_standing m.state c.operate.new.media view (Some c.operate.new.task) c.operate.new.task.kept c.operate.new.cache notes_now in
+    let end : HostView → HostStanding = λ view. task_standing m.state c.operate.new.media view (Some z.task) z.task.kept z.cache notes_now in
     let one : (view : HostView) → HostStep at size false (here view) (mid view) = λ view.
     one_goes at size view b (said_of c.operate.result c.operate.new.turn) notes notes_now c.note_turn.result noted modelled inv.fits c.operate.ensures.steady.later c.operate.ensures.operated is in
     let held : (view : HostView) → Iterated (HostStep at size false) (mid view) (end view) k = λ view.
@@ -69,7 +69,7 @@ operations-preserved g c =
     let count : suc c.operations.done + k ≡ c.operations.done + 1 + k = omega arith in
     record {
       far = λ view. (
-          let start : HostStanding = task_standing m.state c.args.media.now view (Some c.args.task.now) c.args.cache.now (notes_view c.args.journal.now.items) in
+          let start : HostStanding = task_standing m.state c.args.media.now view (Some c.args.task.now) c.args.task.now.kept c.args.cache.now (notes_view c.args.journal.now.items) in
           subst (Iterated (HostStep at size false) start (end view)) count
           (iterated_both (HostStep at size false) start (mid view) (end view) (suc c.operations.done) k (more (inv.far view) (one view)) (held view))
           );
@@ -92,8 +92,8 @@ returns-then-is_err-clause-says g c = λ view.
       count = c.operations.done;
       within = grind (arith, nat_tests, less);
       goes = subst (λ (j : List Note). Iterated (HostStep c.args.host.0 (m.size c.args.media.now) false)
-          (task_standing m.state c.args.media.now view (Some c.args.task.now) c.args.cache.now (notes_view c.args.journal.now.items))
-          (task_standing m.state c.operations.media view (Some c.operations.task) c.operations.cache j) c.operations.done) (sym (ap notes_view c.make_room.ensures.same)) (c.operations.invariant.far view);
+          (task_standing m.state c.args.media.now view (Some c.args.task.now) c.args.task.now.kept c.args.cache.now (notes_view c.args.journal.now.items))
+          (task_standing m.state c.operations.media view (Some c.operations.task) c.operations.task.kept c.operations.cache j) c.operations.done) (sym (ap notes_view c.make_room.ensures.same)) (c.operations.invariant.far view);
     }
 
 pub returns-then-is_err-clause-undone : goal.returns-then-is_err-clause-undone
@@ -115,7 +115,7 @@ returns-in-Ok-Answered-clause-says g c = λ view.
     let modelled : IfModelled (m.state c.operations.media).image (λ image. length image ≡ size) = λ i told. g.met.M.Media.modelled c.operations.media i told ∙ inv.size in
     let less = c.operations-test.true in
     record {
-      before = task_standing m.state c.operations.media view (Some c.operations.task) c.operations.cache notes;
+      before = task_standing m.state c.operations.media view (Some c.operations.task) c.operations.task.kept c.operations.cache notes;
       count = c.operations.done;
       within = grind (arith, nat_tests, less);
       goes = inv.far view;
@@ -132,9 +132,9 @@ returns-in-Err-clause-says g c = λ view.
     let b : TaskChange = task_change m.size m.state c.operations.task c.operate.new.task c.operations.cache c.operate.new.cache c.operations.media c.operate.new.media in
     let full = lacked at (said_of c.operate.result c.operate.new.turn) (notes_view c.make_room.new.journal.items) (notes_view c.note_turn.new.journal.items) c.note_turn.result c.in-Err.field-0 c.note_turn.ensures.noted c.in-Err.is in
     let undone : IsUndone b = subst (Operated b) full.0 c.operate.ensures.operated in
-    let start : HostStanding = task_standing m.state c.args.media.now view (Some c.args.task.now) c.args.cache.now (notes_view c.args.journal.now.items) in
-    let here : HostStanding = task_standing m.state c.operations.media view (Some c.operations.task) c.operations.cache (notes_view c.operations.journal.items) in
-    let same : here ≡ task_standing m.state c.operate.new.media view (Some c.operate.new.task) c.operate.new.cache (notes_view c.note_turn.new.journal.items) =
+    let start : HostStanding = task_standing m.state c.args.media.now view (Some c.args.task.now) c.args.task.now.kept c.args.cache.now (notes_view c.args.journal.now.items) in
+    let here : HostStanding = task_standing m.state c.operations.media view (Some c.operations.task) c.operations.task.kept c.operations.cache (notes_view c.operations.journal.items) in
+    let same : here ≡ task_standing m.state c.operate.new.media view (Some c.operate.new.task) c.operate.new.task.kept c.operate.new.cache (notes_view c.note_turn.new.journal.items) =
     sym (stands_still view b (notes_view c.operations.journal.items) (notes_view c.note_turn.new.journal.items) undone (full.1 ∙ ap notes_view c.make_room.ensures.same)) in
     record {
       count = c.operations.done;
@@ -155,5 +155,5 @@ returns-clause-says g c = λ view.
     let within = c.operations.invariant.within in
     let all : c.operations.done ≡ c.args.most = grind (arith, nat_tests, done, within) in
     subst (Iterated (HostStep c.args.host.0 (m.size c.args.media.now) false)
-    (task_standing m.state c.args.media.now view (Some c.args.task.now) c.args.cache.now (notes_view c.args.journal.now.items))
-    (task_standing m.state c.operations.media view (Some c.operations.task) c.operations.cache (notes_view c.operations.journal.items))) all (c.operations.invariant.far view)
+    (task_standing m.state c.args.media.now view (Some c.args.task.now) c.args.task.now.kept c.args.cache.now (notes_view c.args.journal.now.items))
+    (task_standing m.state c.operations.media view (Some c.operations.task) c.operations.task.kept c.operations.cache (notes_view c.operations.journal.items))) all (c.operations.invariant.far view)

@@ -9,8 +9,8 @@ use Rattle.fam_world.proofs.run.run_most.Given as goal
 abbrev pub invariant-operations : goal.invariant-operations
 invariant-operations g l = record {
   far : (view : HostView) → Iterated (HostStep l.host.0 (g.M.Media.size l.fn.media) false)
-      (task_standing g.M.Media.state l.fn.media view (Some l.fn.task) l.fn.cache (notes_view l.fn.journal.items))
-      (task_standing g.M.Media.state l.media view (Some l.task) l.cache (notes_view l.journal.items)) l.done;
+      (task_standing g.M.Media.state l.fn.media view (Some l.fn.task) l.fn.task.kept l.fn.cache (notes_view l.fn.journal.items))
+      (task_standing g.M.Media.state l.media view (Some l.task) l.task.kept l.cache (notes_view l.journal.items)) l.done;
   turn : l.turn ≡ Go;
   size : g.M.Media.size l.media ≡ g.M.Media.size l.fn.media;
   within : l.done ≤ l.most;

@@ -79,9 +79,9 @@ operations-preserved g c =
     let done : HasDone b w.said = subst (Advanced b) w.is c.advance.ensures.advanced in
     let fits : next.task.lines ≡ size =
     lines_kept b.new done.task b.next w.said done.sound done.goes w.on ∙ led_lines b.media.old.image b.task done.task b.old done.held done.led ∙ inv.fits in
-    let here : HostView → HostStanding = λ view. task_standing m.state c.operations.media view (Some c.operations.task) c.operations.cache notes in
-    let mid : HostView → HostStanding = λ view. task_standing m.state next.media view (Some next.task) next.cache notes_now in
-    let end : HostView → HostStanding = λ view. task_standing m.state next.media view (Some z.task) z.cache notes_now in
+    let here : HostView → HostStanding = λ view. task_standing m.state c.operations.media view (Some c.operations.task) c.operations.task.kept c.operations.cache notes in
+    let mid : HostView → HostStanding = λ view. task_standing m.state next.media view (Some next.task) next.task.kept next.cache notes_now in
+    let end : HostView → HostStanding = λ view. task_standing m.state next.media view (Some z.task) z.task.kept z.cache notes_now in
     let all : (view : HostView) → Runs at size (here view) (mid view) = λ view.
     all_go at size view b (said_of c.advance.result c.advance.new.turn) notes notes_now c.note_turn.result noted modelled inv.fits c.advance.ensures.steady.later c.advance.ensures.advanced is in
     let held : (view : HostView) → Iterated (HostStep at size false) (mid view) (end view) c.operate_cached.result = λ view.
@@ -109,8 +109,8 @@ pub returns-then-is_err-clause-runs : goal.returns-then-is_err-clause-runs
 returns-then-is_err-clause-runs g c = λ view.
     let m = g.M.Media in
     subst (λ (j : List Note). Runs c.args.host.0 (m.size c.args.media.now)
-    (task_standing m.state c.args.media.now view (Some c.args.task.now) c.args.cache.now (notes_view c.args.journal.now.items))
-    (task_standing m.state c.operations.media view (Some c.operations.task) c.operations.cache j)) (sym (ap notes_view c.make_room.ensures.same)) (c.operations.invariant.far view)
+    (task_standing m.state c.args.media.now view (Some c.args.task.now) c.args.task.now.kept c.args.cache.now (notes_view c.args.journal.now.items))
+    (task_standing m.state c.operations.media view (Some c.operations.task) c.operations.task.kept c.operations.cache j)) (sym (ap notes_view c.make_room.ensures.same)) (c.operations.invariant.far view)
 
 pub returns-then-is_err-clause-same : goal.returns-then-is_err-clause-same
 returns-then-is_err-clause-same g c = λ start.
@@ -129,7 +129,7 @@ returns-in-Ok-Answered-clause-runs g c = λ view.
     let noted : IsNoted at (said_of c.advance.result c.advance.new.turn) notes notes_now c.note_turn.result =
     subst (λ (j : List Note). IsNoted at (said_of c.advance.result c.advance.new.turn) j notes_now c.note_turn.result) (ap notes_view c.make_room.ensures.same) c.note_turn.ensures.noted in
     let modelled : IfModelled (m.state c.operations.media).image (λ image. length image ≡ size) = λ i told. g.met.M.Media.modelled c.operations.media i told ∙ inv.size in
-    ends_behind at size view _ (task_standing m.state c.operations.media view (Some c.operations.task) c.operations.cache notes) _ (inv.far view)
+    ends_behind at size view _ (task_standing m.state c.operations.media view (Some c.operations.task) c.operations.task.kept c.operations.cache notes) _ (inv.far view)
     (all_end at size view b (said_of c.advance.result c.advance.new.turn) notes notes_now c.note_turn.result noted modelled inv.fits c.advance.ensures.steady.later c.advance.ensures.advanced (c.in-Ok-Answered.is ∙ ap Ok c.in-Ok-Answered.field-0-is))
 
 pub returns-in-Err-clause-runs : goal.returns-in-Err-clause-runs
@@ -142,7 +142,7 @@ returns-in-Err-clause-runs g c = λ view.
     let b : TaskChange = task_change m.size m.state c.operations.task next.task c.operations.cache next.cache c.operations.media next.media in
     let full = lacked at (said_of c.advance.result c.advance.new.turn) (notes_view c.make_room.new.journal.items) (notes_view c.note_turn.new.journal.items) c.note_turn.result c.in-Err.field-0 c.note_turn.ensures.noted c.in-Err.is in
     let undone : IsUndone b = subst (Advanced b) full.0 c.advance.ensures.advanced in
-    let start : HostStanding = task_standing m.state c.args.media.now view (Some c.args.task.now) c.args.cache.now (notes_view c.args.journal.now.items) in
+    let start : HostStanding = task_standing m.state c.args.media.now view (Some c.args.task.now) c.args.task.now.kept c.args.cache.now (notes_view c.args.journal.now.items) in
     subst (λ (s : HostStanding). Runs at size start s)
     (sym (stands_still view b (notes_view c.operations.journal.items) (notes_view c.note_turn.new.journal.items) undone (full.1 ∙ ap notes_view c.make_room.ensures.same))) (inv.far view)
 

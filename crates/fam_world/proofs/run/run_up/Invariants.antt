@@ -13,8 +13,8 @@ use Rattle.fam_world.proofs.run.run_up.Given as goal
 abbrev pub invariant-operations : goal.invariant-operations
 invariant-operations g l = record {
   far : (view : HostView) → Runs l.host.0 (g.M.Media.size l.fn.media)
-      (task_standing g.M.Media.state l.fn.media view (Some l.fn.task) l.fn.cache (notes_view l.fn.journal.items))
-      (task_standing g.M.Media.state l.media view (Some l.task) l.cache (notes_view l.journal.items));
+      (task_standing g.M.Media.state l.fn.media view (Some l.fn.task) l.fn.task.kept l.fn.cache (notes_view l.fn.journal.items))
+      (task_standing g.M.Media.state l.media view (Some l.task) l.task.kept l.cache (notes_view l.journal.items));
   turn : l.turn ≡ Go;
   size : g.M.Media.size l.media ≡ g.M.Media.size l.fn.media;
   fits : l.task.lines ≡ g.M.Media.size l.fn.media;

@@ -17,8 +17,8 @@ use Rattle.fam_tasks.proofs.Phases.{held_by, next_phase, same_super}
 use Rattle.fam_tasks.proofs.task.Task.begin_slots.Goals as goal
 use Rattle.fam_tasks.proofs.task.Task.begin_slots.Goals.{then-appends, else-appends}
 
-pub returns : goal.returns
-returns c =
+pub returns-clause-turn : goal.returns-clause-turn
+returns-clause-turn c =
     let t : Task = task_of c.self.inside in
     let list = entries_in c.begin_history-first.new.history.replay in
     let count : c.begin_history-first.result ≡ length list = c.begin_history-first.ensures.count ∙ sym (ap length c.begin_history-first.ensures.entries) in

@@ -49,8 +49,8 @@ invariant_of-self-then-line-lines c =
       held = verify_held c.self.inside.cmd _ (c.args.line + 1) is (ap (λ (s : ContentsState). s.content) c.take.ensures.new ∙ holds.0) (ap (λ (s : ContentsState). s.taken) c.take.ensures.new ∙ ap (λ (n : ℕ). n + 1) holds.1);
     }
 
-pub returns-in-Some : goal.returns-in-Some
-returns-in-Some c phase =
+pub returns-in-Some-clause-turn : goal.returns-in-Some-clause-turn
+returns-in-Some-clause-turn c phase =
     let t : Task = task_of c.self.inside in
     let at_phase : c.self.inside.phase ≡ at.Drop File c.args.line = ap (λ (u : Task). u.phase) c.self.view_is ∙ c.requires.phase in
     let held : IsInvariantAt (at.Drop File c.args.line) c.self.inside = subst (λ (p : Phase). IsInvariantAt p c.self.inside) at_phase c.self.invariant.held in
@@ -67,8 +67,8 @@ returns-in-Some c phase =
     differs_told loaded c.args.self.now.cmd c.args.line c.file_size-size.result c.args.found.now c.line.result.now c.requires.verify refl size wanted bytes
     c.in-Some.offset c.in-Some.found c.in-Some.wanted c.count-m.result c.done.result _ first count c.done.ensures.turn
 
-pub returns-then-line-lines : goal.returns-then-line-lines
-returns-then-line-lines c phase =
+pub returns-then-line-lines-clause-turn : goal.returns-then-line-lines-clause-turn
+returns-then-line-lines-clause-turn c phase =
     let t : Task = task_of c.self.inside in
     let at_phase : c.self.inside.phase ≡ at.Drop File c.args.line = ap (λ (u : Task). u.phase) c.self.view_is ∙ c.requires.phase in
     let held : IsInvariantAt (at.Drop File c.args.line) c.self.inside = subst (λ (p : Phase). IsInvariantAt p c.self.inside) at_phase c.self.invariant.held in
@@ -93,8 +93,8 @@ returns-then-line-lines c phase =
     (told ∙ next_line (record loaded { words = [] }) c.args.line c.wanted_lines-lines.result _ lines c.if-line-lines.true)
     (ap (λ (w : List ℕ). record t { phase = at.Drop File (c.args.line + 1); words = w }) empty ∙ ap (λ (u : Task). record u { phase = at.Drop File (c.args.line + 1); words = [] }) c.self.view_is))
 
-pub returns-else-line-lines : goal.returns-else-line-lines
-returns-else-line-lines c phase =
+pub returns-else-line-lines-clause-turn : goal.returns-else-line-lines-clause-turn
+returns-else-line-lines-clause-turn c phase =
     let t : Task = task_of c.self.inside in
     let at_phase : c.self.inside.phase ≡ at.Drop File c.args.line = ap (λ (u : Task). u.phase) c.self.view_is ∙ c.requires.phase in
     let held : IsInvariantAt (at.Drop File c.args.line) c.self.inside = subst (λ (p : Phase). IsInvariantAt p c.self.inside) at_phase c.self.invariant.held in

@@ -43,8 +43,8 @@ invariant_of-self c =
       held = read_held c.self.inside.cmd _ (c.args.line + 1) is (read_holds c.self.inside.cmd c.self.inside c.args.line is held);
     }
 
-pub returns : goal.returns
-returns c =
+pub returns-clause-turn : goal.returns-clause-turn
+returns-clause-turn c =
     let phase : c.self.inside.phase ≡ at.Word File c.args.line 7 = ap (λ (u : Task). u.phase) c.self.view_is ∙ c.requires.phase in
     let held : IsInvariantAt (at.Word File c.args.line 7) c.self.inside = subst (λ (p : Phase). IsInvariantAt p c.self.inside) phase c.self.invariant.held in
     let is : IsRead c.self.inside.cmd = subst (λ (u : Task). IsRead u.cmd) (sym c.self.view_is) c.requires.read in
