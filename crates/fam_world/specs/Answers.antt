@@ -55,6 +55,8 @@ IsPlain (why.NoFile name) = ⊥
 IsPlain (why.CopyLimit sum) = ⊤
 IsPlain (why.BadListing at) = ⊤
 IsPlain (why.MediaFault at) = ⊤
+IsPlain why.Mounted = ⊤
+IsPlain why.NotMounted = ⊤
 
 -- the call is refused at once, for this cause, which is the world's own: it names a declared host, if any
 pub record IsRefused (c : Call) (lines : ℕ) (world : WorldView) (cause : Refusal) : Type 0 where

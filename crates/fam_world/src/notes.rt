@@ -61,6 +61,8 @@ fn twice(cause: Refusal) -> (Refusal, Refusal)
         Refusal::CopyLimit(sum) => (Refusal::CopyLimit(sum), Refusal::CopyLimit(sum)),
         Refusal::BadListing(line) => (Refusal::BadListing(line), Refusal::BadListing(line)),
         Refusal::MediaFault(line) => (Refusal::MediaFault(line), Refusal::MediaFault(line)),
+        Refusal::Mounted => (Refusal::Mounted, Refusal::Mounted),
+        Refusal::NotMounted => (Refusal::NotMounted, Refusal::NotMounted),
     }
 }
 

@@ -21,7 +21,7 @@ ghost use Rattle.fam_world.specs.View.{notes_view, views};
 
 use super::World;
 use crate::fault::WorldFault;
-use crate::find::{busy_host, dirty_host, number};
+use crate::find::{engaged_host, dirty_host, number};
 use crate::hosts::{Host, MOST_HOSTS};
 use crate::notes::{add, make_room, refused};
 use fam_base::{HostName, OutOfMemory};
@@ -68,7 +68,7 @@ fn maker(
     if let Some(cause) = early_cause(request.unit, request.log, LINE_BYTES * lines) {
         return Err(cause);
     }
-    if let Some(busy) = busy_host(hosts) {
+    if let Some(busy) = engaged_host(hosts) {
         return Err(Refusal::Busy(HostId(busy as u32)));
     }
     if let Some(dirty) = dirty_host(hosts, at) {

@@ -3,17 +3,18 @@
 ghost use Rattle.std.specs.Prelude.{◌≡◌, ◌+◌, ◌<◌, ◌≤◌, ◌++◌, ◌∷◌, [], ℕ, IsErrOf, IfOk, None, OnErr, OnOk, vec_capacity, vec_len};
 ghost use Rattle.fam_base.specs.declared.cmd.Cmd.{Cmd};
 ghost use Rattle.fam_journal.specs.ByWorld.{refusal_in};
-ghost use Rattle.fam_journal.specs.Calls.{Begins, Declares, Halts, Refuses, Stops};
+ghost use Rattle.fam_commands.specs.Classes.{is_mount};
+ghost use Rattle.fam_journal.specs.Calls.{Begins, Declares, Halts, Refuses, Stops, Umounts};
 ghost use Rattle.fam_journal.specs.CallRecords.{WorldCall};
 ghost use Rattle.fam_base.specs.Commands.{IsSoundCmd};
 ghost use Rattle.fam_tasks.specs.Sound.{most_lines};
 ghost use Rattle.fam_world.specs.Answers.{IfAnswered, refusal_told};
-ghost use Rattle.fam_world.specs.View.{host_view, views};
+ghost use Rattle.fam_world.specs.View.{count_named, host_view, views};
 
 use super::World;
 use crate::fault::WorldFault;
-use crate::find::{declared, declared_before, may_begin, running};
-use crate::hosts::{Host, begin_task, end_task, lose};
+use crate::find::{declared, declared_before, entries_kept, is_mount, may_begin, mounted, running};
+use crate::hosts::{Host, begin_task, end_task, forget, lose};
 use crate::notes::{add, make_room, refused};
 use fam_base::{Cmd, HostName, OutOfMemory};
 use fam_cache::HostCache;
@@ -73,6 +74,7 @@ impl World {
                 uuid,
                 cache: HostCache::new(self.alloc),
                 task: None,
+                kept: None,
                 replica: None,
                 has_begun: false,
             },
@@ -82,11 +84,13 @@ impl World {
     }
 
     /// Whether a command may begin on a host, on an image of so many lines. `NoHost`, or else `ImageSmall` where these
-    /// are fewer than 32,770, or else `Busy` where the host has a task. Nothing is noted.
-    pub fn may_begin(&self, lines: u64, name: &HostName) -> Result<(), Refusal>
-        ensures first { (cmd : Cmd) → refusal_told result ≡ refusal_in (Begins name.now cmd) self.now lines }
+    /// are fewer than 32,770, or else `Busy` where the host has a task, or else `Mounted` where it keeps something of the
+    /// log and the command is a mount. Nothing is noted.
+    pub fn may_begin(&self, lines: u64, name: &HostName, mount: bool) -> Result<(), Refusal>
+        ensures first { (cmd : Cmd) → is_mount cmd ≡ mount
+            → refusal_told result ≡ refusal_in (Begins name.now cmd) self.now lines }
     {
-        match may_begin(&self.hosts, lines, name) {
+        match may_begin(&self.hosts, lines, name, mount) {
             Ok(_) => Ok(()),
             Err(cause) => Err(cause),
         }
@@ -104,7 +108,7 @@ impl World {
         if make_room(&mut self.journal).is_err() {
             return Err(WorldFault::OutOfMemory);
         }
-        let at = match may_begin(&self.hosts, lines, name) {
+        let at = match may_begin(&self.hosts, lines, name, is_mount(cmd)) {
             Ok(at) => at,
             Err(cause) => return Err(refused(&mut self.journal, name, cause)),
         };
@@ -168,6 +172,38 @@ impl World {
             }
             Err(cause) => Err(refused(&mut self.journal, name, cause)),
         }
+    }
+
+    /// The host of this name forgets what it keeps of the log. `NoHost`, or else `Busy` where it has a task, or else
+    /// `NotMounted` where it keeps nothing.
+    pub fn umount(&mut self, name: &HostName) -> Result<(), WorldFault>
+        ensures answered { (lines : ℕ) → IfAnswered result (λ answered.
+            WorldCall (Umounts name.now) lines answered self.old self.new) }
+        ensures err { IsErrOf result WorldFault.OutOfMemory → self.new ≡ self.old }
+    {
+        if make_room(&mut self.journal).is_err() {
+            return Err(WorldFault::OutOfMemory);
+        }
+        match mounted(&self.hosts, name) {
+            Ok(at) => {
+                forget(&mut self.hosts, at);
+                add(
+                    &mut self.journal,
+                    Note::Umount {
+                        host: HostId(at as u32),
+                    },
+                );
+                Ok(())
+            }
+            Err(cause) => Err(refused(&mut self.journal, name, cause)),
+        }
+    }
+
+    /// How many of the log's entries the host of this name keeps, if it is declared and keeps anything.
+    pub fn mounted(&self, name: &HostName) -> Option<u64>
+        ensures { result ≡ count_named name.now self.now }
+    {
+        entries_kept(&self.hosts, name)
     }
 
     /// Notes that a call for this host is refused: for what comes of a source, or because `may_begin` said so.
