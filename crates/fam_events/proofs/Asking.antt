@@ -1,8 +1,9 @@
 -- Telling a host to begin what it is asked for.
-use Rattle.std.proofs.Common.{◌≡◌, ℕ, inl, inr, true, List, [], ◌∷◌, length, map, Option, Some, None, Result, Ok, Err, refl, ap, sym, ◌∙◌, subst}
+use Rattle.std.proofs.Common.{◌≡◌, ℕ, inl, inr, Bool, true, false, List, [], ◌∷◌, length, map, Option, Some, None, Result, Ok, Err, refl, ap, sym, ◌∙◌, subst}
 use Rattle.std.specs.Prelude.{IfErr, IfOk, OnErr, option_map, slice_get}
 use Rattle.fam_base.specs.declared.cmd.Cmd.{Cmd}
-use Rattle.fam_base.specs.declared.cmd.Cmd.TheVariants.{Logplay}
+use Rattle.fam_base.specs.declared.cmd.Cmd.TheVariants.{Logplay, Mount}
+use Rattle.fam_commands.specs.Classes.{is_mount}
 use Rattle.fam_base.specs.Image.{Image}
 use Rattle.fam_media.specs.Files.{Files}
 use Rattle.fam_media.specs.Outside.{IfModelled}
@@ -13,14 +14,15 @@ use Rattle.fam_sources.specs.declared.sourced.Sourced.{Sourced as Came}
 use Rattle.fam_sources.specs.declared.sourced.Sourced.TheVariants as came_of
 use Rattle.fam_sources.specs.Sourced.{IsEnded, HoldsSource, IsSourced, IsUnfit, HasEndCause}
 use Rattle.fam_journal.specs.declared.event.Ask.{Ask}
+use Rattle.fam_journal.specs.declared.event.Ask.TheVariants as ask
 use Rattle.fam_journal.specs.declared.event.Event.TheVariants.{Begin}
 use Rattle.fam_journal.specs.declared.refusal.Refusal.{Refusal}
 use Rattle.fam_journal.specs.declared.refusal.Refusal.TheVariants as why
 use Rattle.fam_journal.specs.Calls as call
 use Rattle.fam_journal.specs.Calls.{Does, IsOfSource, may_begin, number_of, refusal_of}
 use Rattle.fam_journal.specs.CallRecords.{FitsMedia, WorldCall, heading}
-use Rattle.fam_journal.specs.EventForms.{UnfitForm}
-use Rattle.fam_journal.specs.Events.{event_source, named_source}
+use Rattle.fam_journal.specs.EventForms.{AskForm, UnfitForm}
+use Rattle.fam_journal.specs.Events.{event_source, mounts, named_source, source_of}
 use Rattle.fam_journal.specs.Forms as form
 use Rattle.fam_journal.specs.Forms.{AtForm, DoesForm, FormByRefusal, FreeForm, HostForm, IsFormed, OfHostForm, forms_behind, forms_of, runs_form, shown_forms}
 use Rattle.fam_journal.specs.Kept.{Held}
@@ -29,6 +31,7 @@ use Rattle.fam_journal.specs.Notes.{Note, Refused, Start}
 use Rattle.fam_journal.specs.View.{HostView, WorldView}
 use Rattle.fam_journal.specs.ByWorld.{acted_by, number_in, refusal_in, with_host}
 use Rattle.fam_journal.proofs.Calls.Members.{changed_here}
+use Rattle.fam_journal.proofs.Forms.EventRows.{mounts_asked}
 use Rattle.fam_journal.proofs.Forms.Operations.{forms_both}
 use Rattle.fam_journal.proofs.Forms.Views.{number_formed, refusal_formed}
 use Rattle.fam_world.proofs.Finishing.{number_same}
@@ -56,6 +59,8 @@ of_source what (why.Busy host) is = absurd is
 of_source what (why.Dirty host) is = absurd is
 of_source what (why.HasSuper uuid) is = absurd is
 of_source what why.Idle is = absurd is
+of_source what why.Mounted is = absurd is
+of_source what why.NotMounted is = absurd is
 of_source what (why.NoLine at lines) is = absurd is
 of_source what (why.NoFile name) is = tt
 of_source what (why.CopyLimit sum) is = tt
@@ -71,23 +76,43 @@ refuses_row : (name : List ℕ) (cause : Refusal) (old new : Machines) (notes : 
 unfolding refusal_of
 refuses_row name cause old new notes row = (row.0, row.1)
 
--- a command may begin by its host alone
-begins_as : (name : List ℕ) (cmd : Cmd) (m : Machines) → refusal_of (call.Begins name cmd) m ≡ may_begin name m
+-- a command may begin by its host alone, and by whether it is a mount
+begins_as : (name : List ℕ) (cmd : Cmd) (m : Machines) → refusal_of (call.Begins name cmd) m ≡ may_begin name (is_mount cmd) m
 unfolding refusal_of
 begins_as name cmd m = refl
+
+-- a mount, or another command
+abbrev pub sample : Bool → Cmd
+sample false = Logplay
+sample true = Mount
+
+pub sample_mounts : (mount : Bool) → is_mount (sample mount) ≡ mount
+sample_mounts false = refl
+sample_mounts true = refl
+
+-- a mount has no source
+sourced_mounts : (what : Ask) (source : List ℕ) → source_of what ≡ Some source → mounts what ≡ false
+sourced_mounts (ask.Plain own) source is = absurd cc
+sourced_mounts (ask.Cp own path attr stripe) source is = refl
+sourced_mounts (ask.VerifySource path own) source is = refl
+sourced_mounts (ask.Check own) source is = refl
+
+-- so of an ask
+sample_as : (name : List ℕ) (what : Ask) (m : Machines) → refusal_of (call.Begins name (sample (mounts what))) m ≡ may_begin name (mounts what) m
+sample_as name what m = begins_as name (sample (mounts what)) m ∙ ap (λ (mount : Bool). may_begin name mount m) (sample_mounts (mounts what))
 
 module _ (name : List ℕ) (what : Ask) (lines : ℕ) (old : WorldView) (formed : IsFormed old) (fits : FitsMedia lines old.hosts) (told : Option Image) (modelled : IfModelled told (λ image. length image ≡ lines)) (faults : ℕ) (files : Option Files) (copied : ℕ) where
   abbrev forms : List HostForm
   forms = forms_of old.journal
 
   abbrev first : Option Refusal
-  first = refusal_in (call.Begins name Logplay) old lines
+  first = refusal_in (call.Begins name (sample (mounts what))) old lines
 
-  told_first : may_begin name (shown_forms lines forms) ≡ first
-  told_first = sym (refusal_formed lines old formed (call.Begins name Logplay) tt ∙ begins_as name Logplay (shown_forms lines forms))
+  told_first : may_begin name (mounts what) (shown_forms lines forms) ≡ first
+  told_first = sym (refusal_formed lines old formed (call.Begins name (sample (mounts what))) tt ∙ sample_as name what (shown_forms lines forms))
 
-  state_first : (start : Image) (state : Machines) → Held start state old state.memory → length state.memory ≡ lines → may_begin name state ≡ first
-  state_first start state held lines_are = sym (begins_as name Logplay state) ∙ first_refusal start state old held (call.Begins name Logplay) lines lines_are
+  state_first : (start : Image) (state : Machines) → Held start state old state.memory → length state.memory ≡ lines → may_begin name (mounts what) state ≡ first
+  state_first start state held lines_are = sym (sample_as name what state) ∙ first_refusal start state old held (call.Begins name (sample (mounts what))) lines lines_are
 
   -- no memory was left
   pub undone : (now : ℕ) → AskUndone (asking lines old old told faults files copied now)
@@ -99,9 +124,9 @@ module _ (name : List ℕ) (what : Ask) (lines : ℕ) (old : WorldView) (formed 
   -- nothing may begin there
   pub may_not : (new : WorldView) (cause : Refusal) → first ≡ Some cause → WorldCall (call.Refuses name cause) lines None old new → AskRefused name what (asking lines old new told faults files copied copied)
   may_not new cause is w = record {
-    adds = of_form (quiet_adds (call.Refuses name cause) lines None old new w (inr is) formed fits told faults files copied copied);
+    adds = of_form (quiet_adds (call.Refuses name cause) lines None old new w (inr (sample (mounts what), is)) formed fits told faults files copied copied);
     keeps = λ start files_now state files_are told_is held.
-        let d = quiet_row (call.Refuses name cause) lines None old new w (inr is) tt start state held (modelled state.memory told_is) in
+        let d = quiet_row (call.Refuses name cause) lines None old new w (inr (sample (mounts what), is)) tt start state held (modelled state.memory told_is) in
         let r = refuses_row name cause state d.state d.notes d.row in
         record {
           comes = record {
@@ -174,14 +199,14 @@ module _ (name : List ℕ) (what : Ask) (lines : ℕ) (old : WorldView) (formed 
     ended end change same e = (
       record {
         adds = still_adds (asking lines old old told faults files copied copied) record { world = refl; media = refl; count = refl } (SourceForm (Begin name what)) formed fits
-            record { none = refl; host = name; source = e.name; reads = reads; free = told_first ∙ free };
+            record { none = refl; host = name; source = e.name; reads = reads; free = unmounting (shown_forms lines forms) (told_first ∙ free) };
         keeps = still_keeps (asking lines old old told faults files copied copied) record { world = refl; media = refl; count = refl } (IsToSource (Begin name what) end)
             (λ files_now start state files_are told_is held. (
               record {
                 host = name;
                 source = e.name;
                 reads = reads;
-                free = state_first start state held (modelled state.memory told_is) ∙ free;
+                free = unmounting state (state_first start state held (modelled state.memory told_is) ∙ free);
                 ends = e.short files_now (same ∙ files_are);
               },
               refl,
@@ -193,6 +218,9 @@ module _ (name : List ℕ) (what : Ask) (lines : ℕ) (old : WorldView) (formed 
       where
         reads : event_source (Begin name what) ≡ Some (name, e.name)
         reads = ap (λ (o : Option (List ℕ)). named_source name o) e.source
+
+        unmounting : (m : Machines) → may_begin name (mounts what) m ≡ None → may_begin name false m ≡ None
+        unmounting m may = sym (ap (λ (mount : Bool). may_begin name mount m) (sourced_mounts what e.name e.source)) ∙ may
 
     -- the command begins
     module _ (cmd : Cmd) (fits_words : IsCommand cmd) (new : WorldView) (change : ShelfChange) (now : ℕ) (same : change.old.files ≡ files) (ready : HoldsSource change copied what now cmd) (w : WorldCall (call.Begins name cmd) lines None old new) where
@@ -206,9 +234,12 @@ module _ (name : List ℕ) (what : Ask) (lines : ℕ) (old : WorldView) (formed 
         form_is : slice_get forms host ≡ Some form
         notes_are : notes ≡ Start host cmd ∷ []
 
+      told_free : may_begin name (is_mount cmd) (shown_forms lines forms) ≡ None
+      told_free = sym (ap (λ (mount : Bool). may_begin name mount (shown_forms lines forms)) (mounts_asked what cmd ready.form)) ∙ told_first ∙ free
+
       placed : (notes : List Note) → DoesForm (call.Begins name cmd) lines forms notes → Placed notes
       unfolding refusal_of
-      placed notes form = by_number (number_of name (shown_forms lines forms)) refl (subst (λ (o : Option Refusal). FormByRefusal name o notes (FreeForm (call.Begins name cmd) lines forms notes)) (told_first ∙ free) form)
+      placed notes form = by_number (number_of name (shown_forms lines forms)) refl (subst (λ (o : Option Refusal). FormByRefusal name o notes (FreeForm (call.Begins name cmd) lines forms notes)) told_free form)
         where
           by_host : (h : ℕ) → number_of name (shown_forms lines forms) ≡ Some h → (o : Option HostForm) → slice_get forms h ≡ o → OfHostForm o (λ f. notes ≡ Start h cmd ∷ []) → Placed notes
           by_host h number None is x = absurd x

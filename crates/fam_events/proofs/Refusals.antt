@@ -1,20 +1,21 @@
 -- What a call that takes no media notes: it names declared hosts, and tells no fault.
 use Rattle.std.proofs.Common.{◌≡◌, ◌⊎◌, ℕ, ◌+◌, ◌<◌, inl, inr, Bool, true, false, List, [], ◌∷◌, ◌++◌, length, Option, Some, None, refl, sym, subst, arith}
-use Rattle.std.specs.Prelude.{⊤, nat_le, nat_lt, not, if◌then◌else◌}
+use Rattle.std.specs.Prelude.{⊤, ◌&&◌, nat_le, nat_lt, not, if◌then◌else◌}
 use Rattle.std.proofs.lemmas.List.{append-nil, length-map}
 use Rattle.std.proofs.lemmas.Option.{same_Some}
-use Rattle.fam_base.specs.declared.cmd.Cmd.TheVariants.{Logplay}
+use Rattle.fam_base.specs.declared.cmd.Cmd.{Cmd}
+use Rattle.fam_commands.specs.Classes.{is_mount}
 use Rattle.fam_format.specs.Layout.{least_lines}
 use Rattle.fam_format.specs.Stop.{or_else}
 use Rattle.fam_journal.specs.declared.refusal.Refusal.{Refusal}
 use Rattle.fam_journal.specs.declared.refusal.Refusal.TheVariants as why
 use Rattle.fam_journal.specs.Calls as call
-use Rattle.fam_journal.specs.Calls.{Call, IsOfSource, begins_refusal, busy_at, has_name, host_limit, idle_refusal, is_same, name_of, number_of, on_host, refusal_of, same_refusal, when}
+use Rattle.fam_journal.specs.Calls.{Call, IsOfSource, begins_refusal, busy_at, has_name, host_limit, idle_refusal, is_same, keeps_at, name_of, number_of, on_host, refusal_of, same_refusal, umounts_refusal, when}
 use Rattle.fam_journal.specs.Ends.{cause_faults, faults_of}
 use Rattle.fam_journal.specs.Machines.{Machines}
 use Rattle.fam_journal.specs.Members.{index_from, index_of}
 use Rattle.fam_journal.specs.Names.{AreNamed, NamesCause}
-use Rattle.fam_journal.specs.Notes.{Note, Host, Start, Stop, Halt, Refused}
+use Rattle.fam_journal.specs.Notes.{Note, Host, Start, Stop, Halt, Umount, Refused}
 use Rattle.fam_journal.specs.View.{HostView, WorldView}
 use Rattle.fam_journal.specs.ByWorld.{TakesNoMedia, acted, acted_by, number_in, refusal_in, shown_host, shown_state, with_host, world_after}
 
@@ -65,6 +66,7 @@ TakesHostsAlone (call.Steps name) = ⊤
 TakesHostsAlone (call.Finishes name) = ⊥
 TakesHostsAlone (call.Stops name) = ⊤
 TakesHostsAlone (call.Halts name) = ⊤
+TakesHostsAlone (call.Umounts name) = ⊤
 TakesHostsAlone (call.Moves name line move) = ⊥
 TakesHostsAlone (call.Refuses name cause) = ⊤
 
@@ -78,6 +80,12 @@ module _ (m : Machines) where
   idle_own : (name : List ℕ) → IfCause count (on_host (number_of name m) (λ h. idle_refusal h m))
   idle_own name = own_on count (number_of name m) (λ h. idle_refusal h m) (λ h is. own_when count (not (busy_at h m)) why.Idle record { named = tt; faultless = refl })
 
+  busy_or : (name : List ℕ) (h : ℕ) → number_of name m ≡ Some h → (t : Bool) (cause : Refusal) → IsOwn count cause → IfCause count (or_else (when (busy_at h m) (why.Busy (record { 0 = h }))) (when t cause))
+  busy_or name h is t cause own =
+      own_or count (when (busy_at h m) (why.Busy (record { 0 = h }))) (when t cause)
+      (own_when count (busy_at h m) (why.Busy (record { 0 = h })) record { named = number_within name h is; faultless = refl })
+      (own_when count t cause own)
+
   first_own : (c : Call) → TakesHostsAlone c → IfCause count (refusal_of c m)
   unfolding refusal_of
   first_own (call.Declares name uuid) quiet =
@@ -86,10 +94,10 @@ module _ (m : Machines) where
       (own_when count (nat_le host_limit count) why.TooManyHosts record { named = tt; faultless = refl })
   first_own (call.Makes name request) quiet = absurd quiet
   first_own (call.Begins name cmd) quiet =
-      own_on count (number_of name m) (λ h. begins_refusal h m) (λ h is.
-      own_or count (when (nat_lt (length m.memory) least_lines) (why.ImageSmall (length m.memory))) (when (busy_at h m) (why.Busy (record { 0 = h })))
+      own_on count (number_of name m) (λ h. begins_refusal h (is_mount cmd) m) (λ h is.
+      own_or count (when (nat_lt (length m.memory) least_lines) (why.ImageSmall (length m.memory))) (or_else (when (busy_at h m) (why.Busy (record { 0 = h }))) (when (is_mount cmd && keeps_at h m) why.Mounted))
       (own_when count (nat_lt (length m.memory) least_lines) (why.ImageSmall (length m.memory)) record { named = tt; faultless = refl })
-      (own_when count (busy_at h m) (why.Busy (record { 0 = h })) record { named = number_within name h is; faultless = refl }))
+      (busy_or name h is (is_mount cmd && keeps_at h m) why.Mounted record { named = tt; faultless = refl }))
   first_own (call.Steps name) quiet = idle_own name
   first_own (call.Finishes name) quiet = absurd quiet
   first_own (call.Stops name) quiet = idle_own name
@@ -97,6 +105,8 @@ module _ (m : Machines) where
     where
       none : IfCause count None
       none = tt
+  first_own (call.Umounts name) quiet =
+      own_on count (number_of name m) (λ h. umounts_refusal h m) (λ h is. busy_or name h is (not (keeps_at h m)) why.NotMounted record { named = tt; faultless = refl })
   first_own (call.Moves name line move) quiet = absurd quiet
   first_own (call.Refuses name cause) quiet = none
     where
@@ -128,6 +138,8 @@ module _ (lines : ℕ) (old : WorldView) where
   source_own (why.Dirty host) is = absurd is
   source_own (why.HasSuper uuid) is = absurd is
   source_own why.Idle is = absurd is
+  source_own why.Mounted is = absurd is
+  source_own why.NotMounted is = absurd is
   source_own (why.NoLine at lines) is = absurd is
   source_own (why.NoFile name) is = record { named = tt; faultless = refl }
   source_own (why.CopyLimit sum) is = record { named = tt; faultless = refl }
@@ -157,12 +169,13 @@ module _ (lines : ℕ) (old : WorldView) where
   acted_notes (call.Finishes name) takes = absurd takes
   acted_notes (call.Stops name) takes = at_host (call.Stops name) (number_in name old) _ Stop (λ h is. (number_below name h is, tt)) (λ h. refl)
   acted_notes (call.Halts name) takes = at_host (call.Halts name) (number_in name old) _ Halt (λ h is. (number_below name h is, tt)) (λ h. refl)
+  acted_notes (call.Umounts name) takes = at_host (call.Umounts name) (number_in name old) _ Umount (λ h is. (number_below name h is, tt)) (λ h. refl)
   acted_notes (call.Moves name line move) takes = absurd takes
   acted_notes (call.Refuses name cause) takes = one_refused (call.Refuses name cause) name cause _ (by_takes takes) refl
     where
-      by_takes : IsOfSource cause ⊎ (refusal_in (call.Begins name Logplay) old lines ≡ Some cause) → IsOwn (length old.hosts) cause
+      by_takes : IsOfSource cause ⊎ ((cmd : Cmd) × (refusal_in (call.Begins name cmd) old lines ≡ Some cause)) → IsOwn (length old.hosts) cause
       by_takes (inl x) = source_own cause x
-      by_takes (inr x) = world_own (call.Begins name Logplay) tt cause x
+      by_takes (inr x) = world_own (call.Begins name x.0) tt cause x.1
 
   is_quiet : (c : Call) → TakesNoMedia c lines old → TakesHostsAlone c
   is_quiet (call.Declares name uuid) takes = tt
@@ -172,6 +185,7 @@ module _ (lines : ℕ) (old : WorldView) where
   is_quiet (call.Finishes name) takes = takes
   is_quiet (call.Stops name) takes = tt
   is_quiet (call.Halts name) takes = tt
+  is_quiet (call.Umounts name) takes = tt
   is_quiet (call.Moves name line move) takes = takes
   is_quiet (call.Refuses name cause) takes = tt
 
