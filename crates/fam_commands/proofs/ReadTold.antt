@@ -1,6 +1,6 @@
 -- What a task has read when it decides: the words that its loads gave tell it, and each entry joins those before it. So
 -- what a host keeps behind an answer is told by the words, and is a history.
-use Rattle.std.proofs.Common.{ℕ, ◌≡◌, ◌<◌, ◌≤◌, ◌+◌, ◌-◌, zero, suc, Bool, true, false, inl, inr, List, [], ◌∷◌, ◌++◌, length, take, get_or, Option, Some, None, Result, Ok, Err, refl, sym, ◌∙◌, ap, arith, subst}
+use Rattle.std.proofs.Common.{ℕ, ◌≡◌, ◌+◌, ◌-◌, zero, suc, Bool, true, false, inl, inr, List, [], ◌∷◌, ◌++◌, length, take, get_or, Option, Some, None, Result, Ok, Err, refl, sym, ◌∙◌, ap, arith, subst}
 use Rattle.std.specs.Prelude.{◌&&◌, ◌==◌, nat_le, slice_get, unwrap_or, if◌then◌else◌}
 use Rattle.std.specs.Cmp.Lexicographic.{pointwise_decides}
 use Rattle.std.proofs.lemmas.Bool.{and_parts, cases_lt, eqb-true}
@@ -14,7 +14,7 @@ use Rattle.fam_base.specs.declared.entry.Params.{Params}
 use Rattle.fam_base.specs.declared.entry.Entry.{Entry}
 use Rattle.fam_base.specs.PathOrder.{path_eq}
 use Rattle.fam_format.specs.declared.faults.Reason.{Reason}
-use Rattle.fam_format.specs.Reading.{Lines, Reading, BadSlot, Sound, joined_or, read_slots, slot_in, slot_or}
+use Rattle.fam_format.specs.Reading.{Lines, BadSlot, Sound, joined_or, read_slots, slot_in, slot_or}
 use Rattle.fam_format.specs.Tree.{join_fault}
 use Rattle.fam_machine.specs.Operations.{given_by}
 use Rattle.fam_rules.specs.Reply.{Reply, Mounted, Played}
@@ -25,14 +25,14 @@ use Rattle.fam_commands.specs.Counts.{told_entries, used_told}
 use Rattle.fam_commands.specs.Keeping.{kept_after, kept_behind, kept_by, read_by, read_told}
 use Rattle.fam_commands.specs.Kept.{AllJoin, IsKept, Kept, is_same_params, used, used_by, class_used}
 use Rattle.fam_commands.specs.Stands.{StandsFor, note_of, turn_given, with_given}
-use Rattle.fam_commands.specs.Table.{entries_read, fed, fed_slots, fed_super, params_or}
+use Rattle.fam_commands.specs.Table.{entries_read, fed, fed_super, params_or}
 use Rattle.fam_commands.specs.Task.{Task, no_params, op_at, op_of, used_in}
-use Rattle.fam_commands.specs.Turns.{Turn, Goes, Marks, Finds, Writes, Ends, turn_at}
+use Rattle.fam_commands.specs.Turns.{Turn, Goes, Marks, Finds, Writes, Ends}
 use Rattle.fam_commands.proofs.Counted.Files.{told_are}
 use Rattle.fam_commands.proofs.Rows.Slots.{ReadsLog, below_gate, read_of}
 use Rattle.fam_commands.proofs.Steps.Standing.{standing_tied}
 use Rattle.fam_commands.proofs.Steps.Ties.{TaskSlots, TieAt, Tied}
-use Rattle.fam_commands.proofs.TurnTells.{Lists, ReplyTells, Tells, turn_tells}
+use Rattle.fam_commands.proofs.TurnTells.{ReplyTells, Tells, turn_tells}
 
 -- Parameters that are the same by every part.
 

@@ -10,7 +10,7 @@ use Rattle.fam_format.specs.Stop.{or_else}
 use Rattle.fam_journal.specs.declared.refusal.Refusal.{Refusal}
 use Rattle.fam_journal.specs.declared.refusal.Refusal.TheVariants as why
 use Rattle.fam_journal.specs.Calls as call
-use Rattle.fam_journal.specs.Calls.{Call, IsOfSource, begins_refusal, busy_at, has_name, host_limit, idle_refusal, is_same, keeps_at, name_of, number_of, on_host, refusal_of, same_refusal, umounts_refusal, when}
+use Rattle.fam_journal.specs.Calls.{Call, IsOfSource, begins_refusal, busy_at, has_name, keeps_at, umounts_refusal, host_limit, idle_refusal, is_same, name_of, number_of, on_host, refusal_of, same_refusal, when}
 use Rattle.fam_journal.specs.Ends.{cause_faults, faults_of}
 use Rattle.fam_journal.specs.Machines.{Machines}
 use Rattle.fam_journal.specs.Members.{index_from, index_of}
@@ -97,7 +97,9 @@ module _ (m : Machines) where
       own_on count (number_of name m) (λ h. begins_refusal h (is_mount cmd) m) (λ h is.
       own_or count (when (nat_lt (length m.memory) least_lines) (why.ImageSmall (length m.memory))) (or_else (when (busy_at h m) (why.Busy (record { 0 = h }))) (when (is_mount cmd && keeps_at h m) why.Mounted))
       (own_when count (nat_lt (length m.memory) least_lines) (why.ImageSmall (length m.memory)) record { named = tt; faultless = refl })
-      (busy_or name h is (is_mount cmd && keeps_at h m) why.Mounted record { named = tt; faultless = refl }))
+      (own_or count (when (busy_at h m) (why.Busy (record { 0 = h }))) (when (is_mount cmd && keeps_at h m) why.Mounted)
+      (own_when count (busy_at h m) (why.Busy (record { 0 = h })) record { named = number_within name h is; faultless = refl })
+      (own_when count (is_mount cmd && keeps_at h m) why.Mounted record { named = tt; faultless = refl })))
   first_own (call.Steps name) quiet = idle_own name
   first_own (call.Finishes name) quiet = absurd quiet
   first_own (call.Stops name) quiet = idle_own name
@@ -106,7 +108,10 @@ module _ (m : Machines) where
       none : IfCause count None
       none = tt
   first_own (call.Umounts name) quiet =
-      own_on count (number_of name m) (λ h. umounts_refusal h m) (λ h is. busy_or name h is (not (keeps_at h m)) why.NotMounted record { named = tt; faultless = refl })
+      own_on count (number_of name m) (λ h. umounts_refusal h m) (λ h is.
+      own_or count (when (busy_at h m) (why.Busy (record { 0 = h }))) (when (not (keeps_at h m)) why.NotMounted)
+      (own_when count (busy_at h m) (why.Busy (record { 0 = h })) record { named = number_within name h is; faultless = refl })
+      (own_when count (not (keeps_at h m)) why.NotMounted record { named = tt; faultless = refl }))
   first_own (call.Moves name line move) quiet = absurd quiet
   first_own (call.Refuses name cause) quiet = none
     where
@@ -145,6 +150,8 @@ module _ (lines : ℕ) (old : WorldView) where
   source_own (why.CopyLimit sum) is = record { named = tt; faultless = refl }
   source_own (why.BadListing at) is = record { named = tt; faultless = refl }
   source_own (why.MediaFault at) is = absurd is
+  source_own why.Mounted is = absurd is
+  source_own why.NotMounted is = absurd is
 
   -- notes of a call that takes no media
   pub record HostsNotes (c : Call) (new : WorldView) : Type 0 where

@@ -29,7 +29,7 @@ pub record EventBroken (e : Event) (a : WorldChange) : Type 0 where
   pub adds : AddsForm (EventBreaksForm e) a
   pub keeps : Told (λ files start. Breaks (BreaksEvent e) start) a
 
--- it came to its source, which no mount has, and of which the reading ended early: nothing is noted
+-- it came to its source, of which the reading ended early, and is no mount: nothing is noted
 pub record SourceForm (e : Event) (lines : ℕ) (hosts : List HostForm) (notes : List Note) : Type 0 where
   pub none : notes ≡ []
   pub host : List ℕ

@@ -13,7 +13,7 @@ use Rattle.fam_world.specs.Answers.{IsUntouched}
 
 -- The media is as it was where the world alone refuses the event's call: it isn't even read, so that a fault of it can't be
 -- told of an event that never came to it. Of what a host begins only whether it is a mount matters for that, so a run is told
--- by any command that is one as its ask is. Hosts that are declared, begin, stop, halt or forget never come to the media.
+-- by any command that is one, or none. Hosts that are declared, begin, stop, halt or forget never come to the media.
 abbrev pub IsUntouchedBy : {M : Type 0} → Event → ℕ → WorldView → M → M → Type 0
 IsUntouchedBy (event.Host name uuid) lines world before behind = behind ≡ before
 IsUntouchedBy (event.Mkfs name fs unit log force) lines world before behind =

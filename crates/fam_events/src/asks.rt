@@ -10,6 +10,7 @@ ghost use Rattle.fam_journal.specs.CallRecords.{WorldCall};
 ghost use Rattle.fam_journal.specs.Calls.{Begins, Refuses};
 ghost use Rattle.fam_journal.specs.ByWorld.{refusal_in};
 ghost use Rattle.fam_journal.specs.Events.{mounts};
+ghost use Rattle.fam_commands.specs.Classes.{is_mount};
 ghost use Rattle.fam_journal.specs.Forms.{IsFormed};
 ghost use Rattle.fam_grammar.specs.Sound.{IsSoundAsk};
 ghost use Rattle.fam_protocol.specs.Tasks.{IsCommand};
@@ -41,7 +42,7 @@ pub(crate) enum Asked {
     Begun,
 }
 
-/// Whether a host is asked for a mount.
+/// Whether a mount is asked for.
 fn mounts(what: &Ask) -> bool
     ensures { result ≡ mounts what.now }
 {
@@ -98,7 +99,8 @@ fn read<S: Shelf>(
     requires sound { IsSoundAsk what }
     requires most { lines ≤ most_lines }
     requires formed { IsFormed world.old }
-    requires free { (cmd : Command) → is_mount cmd ≡ mounts what → refusal_in (Begins name.now cmd) world.old lines ≡ None }
+    requires free { (cmd : Command) → is_mount cmd ≡ mounts what
+        → refusal_in (Begins name.now cmd) world.old lines ≡ None }
     ensures says { (told : Option Image) (faults : ℕ) → IfModelled told (λ image. length image ≡ lines)
         → FitsMedia lines world.old.hosts
         → AskSays name.now what (change S.state shelf.old shelf.new) (asking lines world.old world.new
@@ -124,8 +126,8 @@ fn read<S: Shelf>(
     }
 }
 
-/// Tells a host to begin what it is asked for: `NoHost`, `ImageSmall`, `Busy` and `Mounted` are tried first, and then its
-/// source is read. `copied` bytes of sources were read before, and are told behind it.
+/// Tells a host to begin what it is asked for: `NoHost`, `ImageSmall` and `Busy` are tried first, and `Mounted` of a
+/// mount, and then its source is read. `copied` bytes of sources were read before, and are told behind it.
 pub(crate) fn ask<S: Shelf>(
     alloc: Global,
     world: &mut World,

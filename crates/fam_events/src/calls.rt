@@ -65,7 +65,7 @@ pub(crate) fn stop(world: &mut World, name: &HostName) -> Result<(), EventFault>
     noted(world.stop(name))
 }
 
-/// Ends a host's task, and loses its cache.
+/// Ends a host's task, and loses its cache and what it keeps of the log.
 pub(crate) fn halt(world: &mut World, name: &HostName) -> Result<(), EventFault>
     requires formed { IsFormed world.old }
     ensures says { (lines : ℕ) (told : Option Image) (faults : ℕ) (files : Option Files) (copied : ℕ)

@@ -19,7 +19,7 @@ use Rattle.fam_outcomes.specs.declared.status.Status.{Status}
 use Rattle.fam_outcomes.specs.declared.status.Status.TheVariants as status
 use Rattle.fam_journal.specs.Ends.{AllDone, Ending, EventsDone, MkfsFails, EndsOutOfMemory, EndsOutOfMemoryBroken, IsFaultless, SinkFails, SourceFails, counted}
 use Rattle.fam_journal.specs.Follows.{Faulted, FollowsCut, FollowsLast, Short, SourceEnd}
-use Rattle.fam_journal.specs.Notes.{Note, Host, Refused}
+use Rattle.fam_journal.specs.Notes.{Note}
 use Rattle.fam_outcomes.specs.Runs.{HasRun, IsPut, NoneFalls, Outside, RunsOn, SourceCaused}
 use Rattle.fam_outcomes.specs.Statuses.{good_status, is_good, last_status, last_stops, note_stops, parents_status}
 use Rattle.fam_outcomes.specs.Texts.{line, name_text, number, render, shown}

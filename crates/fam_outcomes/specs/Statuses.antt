@@ -11,7 +11,7 @@ use Rattle.fam_journal.specs.declared.refusal.Refusal.{Refusal}
 use Rattle.fam_journal.specs.declared.refusal.Refusal.TheVariants as why
 use Rattle.fam_outcomes.specs.declared.status.Status.{Status}
 use Rattle.fam_outcomes.specs.declared.status.Status.TheVariants as status
-use Rattle.fam_journal.specs.Notes.{Answer, Replied, MediaFault, Note, Refused}
+use Rattle.fam_journal.specs.Notes.{Answer, Replied, MediaFault, Note}
 use Rattle.fam_outcomes.specs.Texts.{is_sound_report}
 use Rattle.fam_journal.specs.NoteClasses.{NoteClass, note_class, Declared, Formatted, Going, Answering, Refusing}
 use Rattle.fam_commands.specs.ReplyClasses.{ReplyClass, reply_class, Appending, Declining, Showing, Reporting, Faulty}

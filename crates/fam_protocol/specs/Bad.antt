@@ -2,7 +2,6 @@
 -- docs/MODEL.md, "The protocol".
 use Rattle.std.specs.Prelude.{ℕ, ⊤, ◌≡◌, ◌≢◌, ◌-◌, ◌*◌, ◌<◌, List, [], slice_index, Option, Some, None, Ok}
 use Rattle.fam_base.specs.declared.cmd.Cmd.{Cmd}
-use Rattle.fam_base.specs.declared.cmd.Cmd.TheVariants.{Check}
 use Rattle.fam_rules.specs.declared.answers.Refused.{Refused}
 use Rattle.fam_base.specs.declared.entry.Params.{Params}
 use Rattle.fam_base.specs.declared.entry.Entry.{Entry}

@@ -4,7 +4,7 @@ use Rattle.std.specs.Prelude.{ℕ, ◌≡◌, ◌≢◌, ◌*◌, List, Option, 
 use Rattle.fam_base.specs.declared.entry.Params.{Params}
 use Rattle.fam_commands.specs.Stands.{turn_given}
 use Rattle.fam_commands.specs.Keeping.{kept_after}
-use Rattle.fam_commands.specs.Task.{Task, op_of}
+use Rattle.fam_commands.specs.Task.{op_of}
 use Rattle.fam_commands.specs.Turns.{Turn, Goes, Marks, Finds, Writes, Ends}
 use Rattle.fam_rules.specs.Asks.{File}
 use Rattle.fam_rules.specs.Place.{line_bytes}

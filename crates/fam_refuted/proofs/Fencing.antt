@@ -1,12 +1,12 @@
 -- A fence, as any lines of a host that are sent whole, one after another.
-use Rattle.std.proofs.Common.{ℕ, ◌≡◌, ◌≢◌, ◌⊎◌, inl, inr, false, List, [], ◌∷◌, refl, sym, ap, ap₂, subst, ◌∙◌}
+use Rattle.std.proofs.Common.{ℕ, ◌≡◌, ◌≢◌, ◌⊎◌, inl, inr, List, [], ◌∷◌, refl, ap, ap₂, subst, ◌∙◌}
 use Rattle.std.proofs.lemmas.Bool.{false≢true}
 use Rattle.fam_machine.specs.declared.cell.Cell.{Cell}
 use Rattle.fam_machine.specs.declared.cell.Cell.TheVariants.{Absent, Clean, Dirty}
 use Rattle.fam_machine.specs.Fences.{IsAmong}
-use Rattle.fam_machine.specs.OneLine.{IsAsked, cleaned, is_asked, sent}
+use Rattle.fam_machine.specs.OneLine.{IsAsked, cleaned, sent}
 use Rattle.fam_protocol.specs.SharedState.{SharedState, Sends, all_sent, sends_one}
-use Rattle.fam_protocol.proofs.Lines.Free.{Same, same}
+use Rattle.fam_protocol.proofs.Lines.Free.{same}
 use Rattle.fam_refuted.proofs.Runs.{with_line, leaves}
 
 -- one line is sent

@@ -23,7 +23,6 @@ use Rattle.fam_commands.specs.Appends.{IsBeforeWrites}
 use Rattle.fam_protocol.specs.Bad.{AtDamagedPhase, BadTaskHolds, GoesOnBad, MayReplyBad, MaySayBad}
 use Rattle.fam_solo.proofs.Machine.{Looks, ran_cmd, ran_looks, ran_normal, dropped_fresh, quiet_fresh, reader_before, word_of}
 use Rattle.fam_commands.proofs.BeforeWrites.{EndsAt, SaysAt, turn_says}
-use Rattle.fam_commands.specs.Classes.{is_fsck}
 use Rattle.fam_protocol.specs.Lines.{Fresh}
 use Rattle.fam_solo.proofs.OneHost.{only, shared}
 use Rattle.fam_protocol.proofs.Damaged.DamagedTurns.{Bare, BadTurn, decide_says, drop_says, gate_says, header_moved, magic_says, none_moved, slot_says, word_says}

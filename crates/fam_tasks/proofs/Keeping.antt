@@ -16,14 +16,12 @@ use Rattle.fam_commands.specs.declared.phase.Phase.{Phase}
 use Rattle.fam_commands.specs.declared.phase.Phase.TheVariants as at
 use Rattle.fam_commands.proofs.TurnTells as told
 use Rattle.fam_commands.proofs.TurnTells.{ReplyTells, turn_tells}
-use Rattle.fam_machine.specs.declared.op.Op.{Op}
-use Rattle.fam_tasks.specs.declared.answer.Turn.{Turn}
 use Rattle.fam_tasks.specs.declared.answer.Turn.TheVariants.{Go}
 use Rattle.fam_tasks.specs.Invariant.{IsInvariantAt, IsTask}
 use Rattle.fam_tasks.specs.Model.{task_of}
 use Rattle.fam_tasks.specs.Sound.{IsSoundAt, most_lines}
 use Rattle.fam_tasks.specs.declared.task.Task.TheInside.{Inside}
-use Rattle.fam_tasks.specs.Tells.{Keeps, Tells, is_digest, is_reading}
+use Rattle.fam_tasks.specs.Tells.{Keeps, Tells, is_digest}
 
 -- no logplay or mount decides
 abbrev IsOther : Task → Phase → Type 0

@@ -1,10 +1,12 @@
 -- The first refusal of a call, by the number of its host and what is known of that.
-use Rattle.std.proofs.Common.{◌≡◌, ℕ, ◌*◌, List, [], length, map, Bool, Option, Some, None, refl, ap, ◌∙◌, subst}
+use Rattle.std.proofs.Common.{◌≡◌, ℕ, ◌*◌, List, [], length, map, Bool, false, Option, Some, None, refl, ap, ◌∙◌, subst}
 use Rattle.std.specs.Prelude.{◌&&◌, is_some, slice_get, option_map, nat_le, nat_lt, not}
 use Rattle.std.proofs.lemmas.List.{length-replicate}
 use Rattle.std.proofs.lemmas.Option.{same_Some}
 use Rattle.fam_base.specs.declared.cmd.Cmd.{Cmd}
 use Rattle.fam_commands.specs.Classes.{is_mount}
+use Rattle.fam_commands.specs.Kept.{Kept}
+use Rattle.fam_commands.specs.Task.{Task}
 use Rattle.fam_machine.specs.declared.request.MkfsRequest.{MkfsRequest}
 use Rattle.fam_format.specs.Layout.{least_lines}
 use Rattle.fam_format.specs.Stop.{or_else}
@@ -24,7 +26,7 @@ use Rattle.fam_journal.specs.View.{HostView, WorldView}
 use Rattle.fam_journal.specs.ByWorld.{refusal_in, shown_host, shown_state}
 use Rattle.fam_world.specs.Answers.{IsRefused}
 use Rattle.fam_world.specs.declared.hosts.Host.{Host}
-use Rattle.fam_world.specs.View.{host_view, shown, views}
+use Rattle.fam_world.specs.View.{count_kept, host_view, shown, views}
 use Rattle.fam_world.proofs.Members.{map_at}
 
 -- why a command may not begin on host h, by what is known of the image, the host and the command
@@ -91,6 +93,16 @@ busy_read items at x is = ap is_busy_host (map_at shown_host (views items) at (h
 -- who keeps something
 pub kept_read : (items : List Host) (at : ℕ) (x : Host) → slice_get items at ≡ Some x → is_kept_host (slice_get (shown items) at) ≡ is_some (host_view x).kept
 kept_read items at x is = ap is_kept_host (map_at shown_host (views items) at (host_view x) (map_at host_view items at x is))
+
+-- a host that has no task
+pub idle_none : (task : Option Task) → is_some task ≡ false → task ≡ None
+idle_none None is = refl
+idle_none (Some task) is = absurd cc
+
+-- as many entries are kept, or none
+pub some_counted : (kept : Option Kept) → is_some (count_kept kept) ≡ is_some kept
+some_counted None = refl
+some_counted (Some kept) = refl
 
 -- nobody has the name
 pub nobody : (c : Call) (lines : ℕ) (world : WorldView) → refusal_in c world lines ≡ Some why.NoHost → IsRefused c lines world why.NoHost

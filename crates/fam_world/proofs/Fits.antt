@@ -62,5 +62,6 @@ world_fits c lines old all = by_refusal c (refusal_in c old lines)
     by_refusal (call.Finishes name) None = all
     by_refusal (call.Stops name) None = fits_hosted lines (number_in name old) (λ v. record v { task = None }) _ old (λ v was. record { task = tt; cache = was.cache }) all
     by_refusal (call.Halts name) None = fits_hosted lines (number_in name old) (λ v. record v { cache = finmap.empty; task = None; kept = None }) _ old (λ v was. record { task = tt; cache = λ l held. none_held l (l < lines) held }) all
+    by_refusal (call.Umounts name) None = fits_hosted lines (number_in name old) (λ v. record v { kept = None }) _ old (λ v was. record { task = was.task; cache = was.cache }) all
     by_refusal (call.Moves name line move) None = all
     by_refusal (call.Refuses name cause) None = all

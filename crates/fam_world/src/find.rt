@@ -1,6 +1,6 @@
 //! Whom a call is for, and why it is refused at once: by names, UUIDs, tasks and caches alone.
 
-ghost use Rattle.std.specs.Prelude.{◌≡◌, ◌<◌, ◌≤◌, ℕ, List, [], IfErr, IfOk, OnOk, IfSome, length, vec_len, is_some, slice_get, Some, None, true};
+ghost use Rattle.std.specs.Prelude.{◌≡◌, ◌&&◌, ◌<◌, ◌≤◌, ℕ, List, [], IfErr, IfOk, OnOk, IfSome, length, vec_len, is_some, slice_get, Some, None, true};
 ghost use Rattle.fam_base.specs.PathOrder.{path_eq};
 ghost use Rattle.fam_base.specs.declared.cmd.Cmd.{Cmd};
 ghost use Rattle.fam_format.specs.Layout.{least_lines};
@@ -71,6 +71,13 @@ fn keeps(host: &Host) -> bool
     ensures { result ≡ is_some (host_view host.now).kept }
 {
     kept_count(host).is_some()
+}
+
+/// Whether a mount is to begin on a host that keeps something of the log.
+fn mounts_again(host: &Host, mount: bool) -> bool
+    ensures { result ≡ (mount && is_some (host_view host.now).kept) }
+{
+    mount && keeps(host)
 }
 
 /// Whether a host has a task, or keeps something of the log.
@@ -186,10 +193,11 @@ pub(crate) fn may_begin(
     if lines < LEAST_LINES {
         return Err(Refusal::ImageSmall(lines));
     }
-    if is_busy(&hosts[at]) {
+    let host = &hosts[at];
+    if is_busy(host) {
         return Err(Refusal::Busy(HostId(at as u32)));
     }
-    if mount && keeps(&hosts[at]) {
+    if mounts_again(host, mount) {
         return Err(Refusal::Mounted);
     }
     Ok(at)
@@ -208,10 +216,11 @@ pub(crate) fn mounted(hosts: &Vec<Host>, name: &HostName) -> Result<usize, Refus
     let Some(at) = number(hosts, name) else {
         return Err(Refusal::NoHost);
     };
-    if is_busy(&hosts[at]) {
+    let host = &hosts[at];
+    if is_busy(host) {
         return Err(Refusal::Busy(HostId(at as u32)));
     }
-    if !keeps(&hosts[at]) {
+    if !keeps(host) {
         return Err(Refusal::NotMounted);
     }
     Ok(at)

@@ -2,7 +2,7 @@
 use Rattle.std.proofs.Common.{◌≡◌, ℕ, ◌+◌, length, Option, Some, None, refl, ap, sym, ◌∙◌, subst}
 use Rattle.std.specs.Prelude.{slice_get, unwrap_or}
 use Rattle.fam_machine.specs.Operations.{Machine, given, given_by, operated}
-use Rattle.fam_commands.specs.Keeping.{kept_after, kept_behind, read_told}
+use Rattle.fam_commands.specs.Keeping.{kept_after}
 use Rattle.fam_commands.specs.Kept.{IsKept, Kept}
 use Rattle.fam_commands.specs.Stands.{StandsFor, note_of, task_after, turn_given, with_given}
 use Rattle.fam_commands.specs.Table as row

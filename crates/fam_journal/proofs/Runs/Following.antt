@@ -23,7 +23,7 @@ use Rattle.fam_journal.specs.Kept.{Reached}
 use Rattle.fam_journal.specs.CallRecords.{IsSoundCall}
 use Rattle.fam_journal.specs.Laws.{AreSound, IsImage, IsSettled, IsSoundEvent}
 use Rattle.fam_journal.specs.Legal.{Legal}
-use Rattle.fam_journal.specs.Machines.{HostState, Machines, Operation, host_done, operation, unused, with_parts, with_machine, with_task}
+use Rattle.fam_journal.specs.Machines.{HostState, Machines, Operation, host_done, operation, unused, with_parts, with_task}
 use Rattle.fam_journal.specs.Notes.{Halt, Note, Refused, Stop}
 use Rattle.fam_journal.specs.Past.{first_past, past_of}
 use Rattle.fam_journal.proofs.Calls.Begin.{held_first}

@@ -3,17 +3,19 @@
 ghost use Rattle.std.specs.Prelude.{◌≡◌, ◌+◌, ◌<◌, ◌≤◌, ◌++◌, ◌∷◌, [], ℕ, IsErrOf, IfOk, None, OnErr, OnOk, vec_capacity, vec_len};
 ghost use Rattle.fam_base.specs.declared.cmd.Cmd.{Cmd};
 ghost use Rattle.fam_journal.specs.ByWorld.{refusal_in};
-ghost use Rattle.fam_commands.specs.Classes.{is_mount};
 ghost use Rattle.fam_journal.specs.Calls.{Begins, Declares, Halts, Refuses, Stops, Umounts};
 ghost use Rattle.fam_journal.specs.CallRecords.{WorldCall};
 ghost use Rattle.fam_base.specs.Commands.{IsSoundCmd};
 ghost use Rattle.fam_tasks.specs.Sound.{most_lines};
 ghost use Rattle.fam_world.specs.Answers.{IfAnswered, refusal_told};
+ghost use Rattle.fam_commands.specs.Classes.{is_mount};
 ghost use Rattle.fam_world.specs.View.{count_named, host_view, views};
 
 use super::World;
 use crate::fault::WorldFault;
-use crate::find::{declared, declared_before, entries_kept, is_mount, may_begin, mounted, running};
+use crate::find::{
+    declared, declared_before, entries_kept, is_mount, may_begin, mounted, running,
+};
 use crate::hosts::{Host, begin_task, end_task, forget, lose};
 use crate::notes::{add, make_room, refused};
 use fam_base::{Cmd, HostName, OutOfMemory};
@@ -83,9 +85,9 @@ impl World {
         Ok(())
     }
 
-    /// Whether a command may begin on a host, on an image of so many lines. `NoHost`, or else `ImageSmall` where these
-    /// are fewer than 32,770, or else `Busy` where the host has a task, or else `Mounted` where it keeps something of the
-    /// log and the command is a mount. Nothing is noted.
+    /// Whether a mount, or another command, may begin on a host, on an image of so many lines. `NoHost`, or else
+    /// `ImageSmall` where these are fewer than 32,770, or else `Busy` where the host has a task, or else `Mounted` where
+    /// a mount is to begin and the host keeps something of the log. Nothing is noted.
     pub fn may_begin(&self, lines: u64, name: &HostName, mount: bool) -> Result<(), Refusal>
         ensures first { (cmd : Cmd) → is_mount cmd ≡ mount
             → refusal_told result ≡ refusal_in (Begins name.now cmd) self.now lines }
@@ -96,7 +98,15 @@ impl World {
         }
     }
 
-    /// Begins a command on a host, on an image of so many lines. It is refused as `may_begin` says.
+    /// How many of the log's entries a host keeps; None where it isn't declared or keeps nothing.
+    pub fn mounted(&self, name: &HostName) -> Option<u64>
+        ensures { result ≡ count_named name.now self.now }
+    {
+        entries_kept(&self.hosts, name)
+    }
+
+    /// Begins a command on a host, on an image of so many lines, with what the host keeps of the log. It is refused as
+    /// `may_begin` says.
     pub fn begin(&mut self, lines: u64, name: &HostName, cmd: &Cmd) -> Result<(), WorldFault>
         requires command { IsSoundCmd cmd.now }
         requires most { lines ≤ most_lines }
@@ -126,7 +136,7 @@ impl World {
         Ok(())
     }
 
-    /// Ends a host's task; its cache stays. `NoHost`, or else `Idle` where it has none.
+    /// Ends a host's task; its cache stays, and what the host keeps of the log. `NoHost`, or else `Idle` where it has none.
     pub fn stop(&mut self, name: &HostName) -> Result<(), WorldFault>
         ensures answered { (lines : ℕ) → IfAnswered result (λ answered.
             WorldCall (Stops name.now) lines answered self.old self.new) }
@@ -150,7 +160,8 @@ impl World {
         }
     }
 
-    /// Ends a host's task, if it has one, and loses its cache: no line is sent. `NoHost` alone is refused.
+    /// Ends a host's task, if it has one, and loses its cache, and what the host keeps of the log: no line is sent.
+    /// `NoHost` alone is refused.
     pub fn halt(&mut self, name: &HostName) -> Result<(), WorldFault>
         ensures answered { (lines : ℕ) → IfAnswered result (λ answered.
             WorldCall (Halts name.now) lines answered self.old self.new) }
@@ -174,8 +185,8 @@ impl World {
         }
     }
 
-    /// The host of this name forgets what it keeps of the log. `NoHost`, or else `Busy` where it has a task, or else
-    /// `NotMounted` where it keeps nothing.
+    /// A host forgets what it keeps of the log. `NoHost`, or else `Busy` where it has a task, or else `NotMounted` where
+    /// it keeps nothing.
     pub fn umount(&mut self, name: &HostName) -> Result<(), WorldFault>
         ensures answered { (lines : ℕ) → IfAnswered result (λ answered.
             WorldCall (Umounts name.now) lines answered self.old self.new) }
@@ -197,13 +208,6 @@ impl World {
             }
             Err(cause) => Err(refused(&mut self.journal, name, cause)),
         }
-    }
-
-    /// How many of the log's entries the host of this name keeps, if it is declared and keeps anything.
-    pub fn mounted(&self, name: &HostName) -> Option<u64>
-        ensures { result ≡ count_named name.now self.now }
-    {
-        entries_kept(&self.hosts, name)
     }
 
     /// Notes that a call for this host is refused: for what comes of a source, or because `may_begin` said so.

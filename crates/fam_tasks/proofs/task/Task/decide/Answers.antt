@@ -1,4 +1,4 @@
-use Rattle.std.proofs.Common.{◌≡◌, None, sym, ap, subst, ◌∙◌}
+use Rattle.std.proofs.Common.{None, sym, subst, ◌∙◌}
 use Rattle.fam_commands.specs.Classes.{IsRead, IsVerify}
 use Rattle.fam_commands.specs.Task.{Task}
 use Rattle.fam_tasks.proofs.Keeping.{done_so, keeps_other, read_other, verify_other}

@@ -30,16 +30,16 @@ returns-in-Some-early_cause-clause-placed c = λ journal.
       faultless = known.1;
     }
 
-pub returns-in-Some-busy_host-clause-placed : goal.returns-in-Some-busy_host-clause-placed
-returns-in-Some-busy_host-clause-placed c = λ journal.
+pub returns-in-Some-engaged_host-clause-placed : goal.returns-in-Some-engaged_host-clause-placed
+returns-in-Some-engaged_host-clause-placed c = λ journal.
     let items = c.args.hosts.now.items in
     let early : option_map cause_of (early_refusal c.args.request.now.unit c.args.request.now.log (line_bytes * c.args.lines)) ≡ None = sym c.early_cause.ensures.cause ∙ c.in_default-early_cause.is in
-    let busy = sym c.busy_host.ensures.is ∙ c.in-Some-busy_host.is in
+    let busy = sym c.engaged_host.ensures.is ∙ c.in-Some-engaged_host.is in
     record {
       first = makes_first (views items) journal c.args.name.now c.args.lines _ (sym c.number.ensures.is ∙ c.in-Some.is) c.args.request.now
           ∙ ap₂ (λ (e : Option Refusal) (b : Option ℕ). or_else e (or_else (busy_refusal b) (dirty_refusal (dirty_from c.in-Some.at 0 (shown items))))) early busy;
       plain = tt;
-      named = omega (arith, c.in-Some-busy_host.ensures.within, length-map items host_view);
+      named = omega (arith, c.in-Some-engaged_host.ensures.within, length-map items host_view);
       faultless = refl;
     }
 
@@ -47,7 +47,7 @@ pub returns-in-Some-dirty_host-clause-placed : goal.returns-in-Some-dirty_host-c
 returns-in-Some-dirty_host-clause-placed c = λ journal.
     let items = c.args.hosts.now.items in
     let early : option_map cause_of (early_refusal c.args.request.now.unit c.args.request.now.log (line_bytes * c.args.lines)) ≡ None = sym c.early_cause.ensures.cause ∙ c.in_default-early_cause.is in
-    let busy = sym c.busy_host.ensures.is ∙ c.in_default-busy_host.is in
+    let busy = sym c.engaged_host.ensures.is ∙ c.in_default-engaged_host.is in
     let dirty = sym c.dirty_host.ensures.is ∙ c.in-Some-dirty_host.is in
     record {
       first = makes_first (views items) journal c.args.name.now c.args.lines _ (sym c.number.ensures.is ∙ c.in-Some.is) c.args.request.now
@@ -62,7 +62,7 @@ pub returns-clause-placed : goal.returns-clause-placed
 returns-clause-placed c = λ journal.
     let items = c.args.hosts.now.items in
     let early : option_map cause_of (early_refusal c.args.request.now.unit c.args.request.now.log (line_bytes * c.args.lines)) ≡ None = sym c.early_cause.ensures.cause ∙ c.in_default-early_cause.is in
-    let busy = sym c.busy_host.ensures.is ∙ c.in_default-busy_host.is in
+    let busy = sym c.engaged_host.ensures.is ∙ c.in_default-engaged_host.is in
     let dirty = sym c.dirty_host.ensures.is ∙ c.in_default-dirty_host.is in
     let number = sym c.number.ensures.is ∙ c.in-Some.is in
     record {

@@ -6,15 +6,15 @@ use Rattle.fam_journal.specs.ByWorld.{shown_host}
 use Rattle.fam_world.specs.View.{host_view, shown, views}
 use Rattle.fam_world.proofs.Members.{map_at}
 use Rattle.fam_world.proofs.Places.{place_here, place_next, place_past}
-use Rattle.fam_world.proofs.find.busy_host.Goals as goal
+use Rattle.fam_world.proofs.find.engaged_host.Goals as goal
 
-pub returns-then-is_busy-clause-is : goal.returns-then-is_busy-clause-is
-returns-then-is_busy-clause-is c =
+pub returns-then-is_engaged-clause-is : goal.returns-then-is_engaged-clause-is
+returns-then-is_engaged-clause-is c =
     let items = c.args.hosts.now.items in
     let at_is = slice_get_read items (length items) c.loop-at.at c.index.result.now refl (omega (arith, c.loop-at-test.true, c.len-at-end.ensures)) c.index.ensures in
     sym (place_here (is_engaged) (shown items) c.loop-at.at c.loop-at.at _
     (map_at shown_host (views items) c.loop-at.at (host_view c.index.result.now) (map_at host_view items c.loop-at.at c.index.result.now at_is))
-    (sym c.is_busy.ensures.engaged ∙ c.if-is_busy.true))
+    (sym c.is_engaged.ensures ∙ c.if-is_engaged.true))
     ∙ c.loop-at.invariant
 
 pub loop-at-preserved : goal.loop-at-preserved
@@ -23,7 +23,7 @@ loop-at-preserved c =
     let at_is = slice_get_read items (length items) c.loop-at.at c.index.result.now refl (omega (arith, c.loop-at-test.true, c.len-at-end.ensures)) c.index.ensures in
     sym (place_next (is_engaged) (shown items) c.loop-at.at c.loop-at.at _
     (map_at shown_host (views items) c.loop-at.at (host_view c.index.result.now) (map_at host_view items c.loop-at.at c.index.result.now at_is))
-    (sym c.is_busy.ensures.engaged ∙ c.if-is_busy.false))
+    (sym c.is_engaged.ensures ∙ c.if-is_engaged.false))
     ∙ c.loop-at.invariant
 
 pub returns-clause-is : goal.returns-clause-is
