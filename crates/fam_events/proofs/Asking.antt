@@ -59,8 +59,6 @@ of_source what (why.Busy host) is = absurd is
 of_source what (why.Dirty host) is = absurd is
 of_source what (why.HasSuper uuid) is = absurd is
 of_source what why.Idle is = absurd is
-of_source what why.Mounted is = absurd is
-of_source what why.NotMounted is = absurd is
 of_source what (why.NoLine at lines) is = absurd is
 of_source what (why.NoFile name) is = tt
 of_source what (why.CopyLimit sum) is = tt
@@ -98,26 +96,6 @@ source_plain (ask.Check from) source is = refl
 begins_as : (name : List ℕ) (cmd : Cmd) (m : Machines) → refusal_of (call.Begins name cmd) m ≡ may_begin name (is_mount cmd) m
 unfolding refusal_of
 begins_as name cmd m = refl
-
--- a mount, or another command
-abbrev pub sample : Bool → Cmd
-sample false = Logplay
-sample true = Mount
-
-pub sample_mounts : (mount : Bool) → is_mount (sample mount) ≡ mount
-sample_mounts false = refl
-sample_mounts true = refl
-
--- a mount has no source
-sourced_mounts : (what : Ask) (source : List ℕ) → source_of what ≡ Some source → mounts what ≡ false
-sourced_mounts (ask.Plain own) source is = absurd cc
-sourced_mounts (ask.Cp own path attr stripe) source is = refl
-sourced_mounts (ask.VerifySource path own) source is = refl
-sourced_mounts (ask.Check own) source is = refl
-
--- so of an ask
-sample_as : (name : List ℕ) (what : Ask) (m : Machines) → refusal_of (call.Begins name (sample (mounts what))) m ≡ may_begin name (mounts what) m
-sample_as name what m = begins_as name (sample (mounts what)) m ∙ ap (λ (mount : Bool). may_begin name mount m) (sample_mounts (mounts what))
 
 module _ (name : List ℕ) (what : Ask) (lines : ℕ) (old : WorldView) (formed : IsFormed old) (fits : FitsMedia lines old.hosts) (told : Option Image) (modelled : IfModelled told (λ image. length image ≡ lines)) (faults : ℕ) (files : Option Files) (copied : ℕ) where
   abbrev forms : List HostForm
@@ -240,9 +218,6 @@ module _ (name : List ℕ) (what : Ask) (lines : ℕ) (old : WorldView) (formed 
         reads : event_source (Begin name what) ≡ Some (name, e.name)
         reads = ap (λ (o : Option (List ℕ)). named_source name o) e.source
 
-        unmounting : (m : Machines) → may_begin name (mounts what) m ≡ None → may_begin name false m ≡ None
-        unmounting m may = sym (ap (λ (mount : Bool). may_begin name mount m) (sourced_mounts what e.name e.source)) ∙ may
-
     -- the command begins
     module _ (cmd : Cmd) (fits_words : IsCommand cmd) (new : WorldView) (change : ShelfChange) (now : ℕ) (same : change.old.files ≡ files) (ready : HoldsSource change copied what now cmd) (w : WorldCall (call.Begins name cmd) lines None old new) where
       abbrev a : WorldChange
@@ -257,9 +232,6 @@ module _ (name : List ℕ) (what : Ask) (lines : ℕ) (old : WorldView) (formed 
         form : HostForm
         form_is : slice_get forms host ≡ Some form
         notes_are : notes ≡ Start host cmd ∷ []
-
-      told_free : may_begin name (is_mount cmd) (shown_forms lines forms) ≡ None
-      told_free = sym (ap (λ (mount : Bool). may_begin name mount (shown_forms lines forms)) (mounts_asked what cmd ready.form)) ∙ told_first ∙ free
 
       placed : (notes : List Note) → DoesForm (call.Begins name cmd) lines forms notes → Placed notes
       unfolding refusal_of

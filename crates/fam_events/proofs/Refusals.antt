@@ -80,12 +80,6 @@ module _ (m : Machines) where
   idle_own : (name : List ℕ) → IfCause count (on_host (number_of name m) (λ h. idle_refusal h m))
   idle_own name = own_on count (number_of name m) (λ h. idle_refusal h m) (λ h is. own_when count (not (busy_at h m)) why.Idle record { named = tt; faultless = refl })
 
-  busy_or : (name : List ℕ) (h : ℕ) → number_of name m ≡ Some h → (t : Bool) (cause : Refusal) → IsOwn count cause → IfCause count (or_else (when (busy_at h m) (why.Busy (record { 0 = h }))) (when t cause))
-  busy_or name h is t cause own =
-      own_or count (when (busy_at h m) (why.Busy (record { 0 = h }))) (when t cause)
-      (own_when count (busy_at h m) (why.Busy (record { 0 = h })) record { named = number_within name h is; faultless = refl })
-      (own_when count t cause own)
-
   first_own : (c : Call) → TakesHostsAlone c → IfCause count (refusal_of c m)
   unfolding refusal_of
   first_own (call.Declares name uuid) quiet =
@@ -143,8 +137,6 @@ module _ (lines : ℕ) (old : WorldView) where
   source_own (why.Dirty host) is = absurd is
   source_own (why.HasSuper uuid) is = absurd is
   source_own why.Idle is = absurd is
-  source_own why.Mounted is = absurd is
-  source_own why.NotMounted is = absurd is
   source_own (why.NoLine at lines) is = absurd is
   source_own (why.NoFile name) is = record { named = tt; faultless = refl }
   source_own (why.CopyLimit sum) is = record { named = tt; faultless = refl }

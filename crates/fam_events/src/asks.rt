@@ -3,7 +3,6 @@
 ghost use Rattle.std.specs.Prelude.{◌≡◌, ◌≤◌, length, ℕ, IfErr, IfOk, OnErr, OnOk, Option, None};
 ghost use Rattle.fam_base.specs.Commands.{IsSoundCmd};
 ghost use Rattle.fam_base.specs.declared.cmd.Cmd.{Cmd as Command};
-ghost use Rattle.fam_commands.specs.Classes.{is_mount};
 ghost use Rattle.fam_base.specs.Image.{Image};
 ghost use Rattle.fam_journal.specs.CallRecords.{FitsMedia};
 ghost use Rattle.fam_journal.specs.CallRecords.{WorldCall};

@@ -2,7 +2,6 @@ use Rattle.std.proofs.Common.{◌≡◌, None, ap, subst, sym, ◌∙◌}
 use Rattle.fam_media.specs.States.{change, ShelfChange}
 use Rattle.fam_journal.specs.Calls.{Refuses}
 use Rattle.fam_journal.specs.CallRecords.{WorldCall}
-use Rattle.fam_journal.specs.Events.{mounts}
 use Rattle.fam_journal.specs.View.{WorldView}
 use Rattle.fam_world.specs.Answers.{refusal_told}
 use Rattle.fam_events.specs.WorldChange.{WorldChange, asking}

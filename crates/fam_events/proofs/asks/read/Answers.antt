@@ -1,8 +1,6 @@
 use Rattle.std.proofs.Common.{◌≡◌, ℕ, refl, subst, sym}
 use Rattle.fam_media.specs.States.{change, ShelfChange}
-use Rattle.fam_journal.specs.Events.{mounts}
 use Rattle.fam_journal.specs.View.{WorldView}
-use Rattle.fam_journal.proofs.Forms.EventRows.{mounts_asked}
 use Rattle.fam_sources.specs.declared.sourced.Sourced.{Sourced}
 use Rattle.fam_sources.specs.Sourced.{IsSourced}
 use Rattle.fam_events.specs.WorldChange.{WorldChange, asking}
@@ -13,12 +11,6 @@ use Rattle.fam_journal.proofs.Forms.EventRows.{mounts_asked}
 use Rattle.fam_events.proofs.Asking.{asked_as, begun, ended, ready_of, some_cmd, some_mounts, undone, unfit, unfit_of}
 use Rattle.fam_events.proofs.Resting.{begun_so, not_begun}
 use Rattle.fam_events.proofs.asks.read.Goals as goal
-
-pub start-requires-clause-free : goal.start-requires-clause-free
-start-requires-clause-free g c =
-    let shelf : ShelfChange = change g.S.Shelf.state c.args.shelf.now c.resolve.new.shelf in
-    let ready = ready_of shelf c.args.copied.now c.args.what c.in-Ok.resolved.copied c.in-Ok.resolved.sourced c.in-Ready.cmd _ c.in-Ready.is c.in-Ready.cmd-is c.in-Ok.ensures.says in
-    c.requires.free _ (sym (mounts_asked c.args.what _ ready.form))
 
 pub returns-in_default-clause-says : goal.returns-in_default-clause-says
 returns-in_default-clause-says g c = λ told faults modelled fits.
