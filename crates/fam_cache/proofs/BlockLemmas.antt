@@ -1,5 +1,5 @@
 -- The cache that blocks stand for, line by line.
-use Rattle.std.proofs.Common.{◌≡◌, ◌≢◌, ℕ, zero, suc, ◌+◌, ◌*◌, ◌/◌, ◌%◌, ◌<◌, ◌≤◌, Bool, true, false, inl, inr, List, [], ◌∷◌, ◌++◌, length, replicate, set, get_or, vec_len, vec_capacity, Option, Some, None, refl, sym, ap, ap₂, subst, ◌∙◌, arith}
+use Rattle.std.proofs.Common.{◌≡◌, ◌≢◌, ℕ, zero, suc, ◌+◌, ◌-◌, ◌*◌, ◌/◌, ◌%◌, ◌<◌, ◌≤◌, Bool, true, false, inl, inr, List, [], ◌∷◌, ◌++◌, length, replicate, set, get_or, vec_len, vec_capacity, Option, Some, None, refl, sym, ap, ap₂, subst, ◌∙◌, arith}
 use Rattle.std.proofs.lemmas.Bool.{cases_eq, false≢true}
 use Rattle.fam_machine.specs.OneLine.{is_held, words_of}
 use Rattle.std.proofs.lemmas.List.{get_or-set_same, get_or-set_other, get_or_default, get_or_append_left, get_or_at, length-append, length-set}
@@ -177,7 +177,7 @@ module _ (c : Blocks) (kept : IsKept c) (at l : ℕ) (stands : IsBlockOf c.block
   pub read_cell : cell_at (lines_of c) l ≡ cell_in b (l % 16)
   read_cell = cell_read c kept at l stands ∙ sym (ap (λ (x : Block). cell_in x (l % 16)) b_is)
 
-  kept_new : (new : Block) → new.number ≡ b.number → IsWhole new → IsKept (record { blocks = with_item c.blocks at new; areas = c.areas; room = c.room })
+  kept_new : (new : Block) → new.number ≡ b.number → IsWhole new → IsKept (record { blocks = with_item c.blocks at new; areas = c.areas; room = c.room; greatest = c.greatest })
   kept_new new number whole =
       let is : new.number ≡ number_at c.blocks.items at = number ∙ ap (λ (x : Block). x.number) b_is in
       record {
@@ -188,6 +188,7 @@ module _ (c : Blocks) (kept : IsKept c) (at l : ℕ) (stands : IsBlockOf c.block
         blocks = kept.blocks;
         areas = kept.areas;
         few = kept.few;
+        greatest = λ j below. omega (arith, set_number c.blocks.items at new stands.within is j, kept.greatest j (omega (arith, below, length-set c.blocks.items at new)));
       }
 
   b_number : b.number ≡ number_at c.blocks.items at
@@ -199,7 +200,7 @@ module _ (c : Blocks) (kept : IsKept c) (at l : ℕ) (stands : IsBlockOf c.block
         block_set c kept at l (record { number = b.number; marks = set b.marks (l % 16) mark; words = set b.words (l % 16) words }) (marked mark words) stands b_number (line_set b (l % 16) (omega arith) b_whole mark words)
         (λ i other. lines_kept b (l % 16) (omega arith) b_whole mark words i other ∙ ap (λ (x : Block). cell_in x i) b_is)
 
-    pub line_keeps : IsKept (record { blocks = with_item c.blocks at (record { number = b.number; marks = set b.marks (l % 16) mark; words = set b.words (l % 16) words }); areas = c.areas; room = c.room })
+    pub line_keeps : IsKept (record { blocks = with_item c.blocks at (record { number = b.number; marks = set b.marks (l % 16) mark; words = set b.words (l % 16) words }); areas = c.areas; room = c.room; greatest = c.greatest })
     line_keeps =
         kept_new (record { number = b.number; marks = set b.marks (l % 16) mark; words = set b.words (l % 16) words }) refl
         (record { marks = length-set b.marks (l % 16) mark ∙ b_whole.marks; words = length-set b.words (l % 16) words ∙ b_whole.words })
@@ -211,7 +212,7 @@ module _ (c : Blocks) (kept : IsKept c) (at l : ℕ) (stands : IsBlockOf c.block
         (mark_set b (l % 16) (omega arith) b_whole mark [] ∙ ap (λ (x : Block). marked mark (get_or x.words (l % 16) [])) b_is)
         (λ i other. marks_kept b (l % 16) (omega arith) b_whole mark [] i other ∙ ap (λ (x : Block). cell_in x i) b_is)
 
-    pub mark_keeps : IsKept (record { blocks = with_item c.blocks at (record { number = b.number; marks = set b.marks (l % 16) mark; words = b.words }); areas = c.areas; room = c.room })
+    pub mark_keeps : IsKept (record { blocks = with_item c.blocks at (record { number = b.number; marks = set b.marks (l % 16) mark; words = b.words }); areas = c.areas; room = c.room; greatest = c.greatest })
     mark_keeps =
         kept_new (record { number = b.number; marks = set b.marks (l % 16) mark; words = b.words }) refl
         (record { marks = length-set b.marks (l % 16) mark ∙ b_whole.marks; words = b_whole.words })
@@ -226,6 +227,10 @@ module _ (c : Blocks) (kept : IsKept c) (at l : ℕ) (stands : IsBlockOf c.block
 
   pub still_stands : (new : Block) → new.number ≡ b.number → IsBlockOf (set c.blocks.items at new) at (l / 16)
   still_stands new number = stands_set c.blocks.items at (l / 16) new (number ∙ b_number ∙ stands.is) stands
+
+-- A number above the greatest is no block's.
+pub none_above : (c : Blocks) → IsKept c → (n : ℕ) → c.greatest < n → HasNone c.blocks.items n
+none_above c kept n above j below e = omega (arith, above, kept.greatest j below, e)
 
 -- Where a block is by the areas.
 module _ (c : Blocks) (kept : IsKept c) (n : ℕ) where
@@ -350,8 +355,8 @@ module _ (old new : Blocks) (kept : IsKept old) (b : Block) (none : HasNone old.
   }
 
   pub added_keeps : (at : ℕ) → at ≡ length old.blocks.items → IsWhole b → IsEnlisted old.areas.items new.areas.items b.number at →
-      vec_len new.blocks + new.room ≤ vec_capacity new.blocks → vec_len new.areas + new.room ≤ vec_capacity new.areas → vec_len new.blocks + new.room ≤ most_blocks → IsKept new
-  added_keeps at is whole told room_blocks room_areas few = record {
+      vec_len new.blocks + new.room ≤ vec_capacity new.blocks → vec_len new.areas + new.room ≤ vec_capacity new.areas → vec_len new.blocks + new.room ≤ most_blocks → old.greatest ≤ new.greatest → b.number ≤ new.greatest → IsKept new
+  added_keeps at is whole told room_blocks room_areas few later own = record {
     sorted = told.sorted;
     indexed = λ j below.
         elim (cases_eq j (length old.blocks.items)) [
@@ -372,6 +377,13 @@ module _ (old new : Blocks) (kept : IsKept old) (b : Block) (none : HasNone old.
     blocks = room_blocks;
     areas = room_areas;
     few = few;
+    greatest = λ j below.
+        elim (cases_eq j (length old.blocks.items)) [
+          | inl e ↦ omega (arith, ap (number_at new.blocks.items) e, ap (λ (x : Block). x.number) last_at, own)
+          | inr other ↦
+              let inside : j < length old.blocks.items = omega (arith, below, longer, other) in
+              omega (arith, ap (λ (x : Block). x.number) (others_at j inside), kept.greatest j inside, later)
+        ];
   }
 
 same_all : (n i : ℕ) → get_or (replicate n Empty) i Empty ≡ Empty
@@ -391,3 +403,12 @@ added_empty bs n number words = empty_behind bs (record { number = number; marks
 pub no_blocks : cache_of [] ≡ map.empty
 unfolding cache_of
 no_blocks = refl
+
+-- lines behind the last block's, and those of a block that isn't there, are absent
+pub absent_above : (c : Blocks) → IsKept c → (first k : ℕ) → c.greatest < first / 16 → cell_at (lines_of c) (first + k) ≡ Absent
+absent_above c kept first k above = cell_none c.blocks.items (first + k) (none_above c kept ((first + k) / 16) (omega (arith, above)))
+
+pub absent_within : (bs : List Block) (first k : ℕ) → HasNone bs (first / 16) → k < 16 - first % 16 → cell_at (cache_of bs) (first + k) ≡ Absent
+absent_within bs first k none below =
+    let same : (first + k) / 16 ≡ first / 16 = omega (arith, below) in
+    cell_none bs (first + k) (subst (HasNone bs) (sym same) none)

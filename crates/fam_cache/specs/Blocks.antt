@@ -109,7 +109,7 @@ most_blocks = 576460752303423488
 
 -- what holds between two calls: the areas are in order and tell where each block stands, each block has sixteen lines and each
 -- area sixty-four blocks, there is room for so many more of
--- both, and blocks are few enough to count their lines
+-- both, blocks are few enough to count their lines, and none has a number above the greatest
 pub record IsKept (cache : Blocks) : Type 0 where
   pub sorted : IsTrue (is_sorted nat_cmp cache.areas.items)
   pub indexed : (j : ℕ) → j < length cache.blocks.items → place_in cache.areas.items (number_at cache.blocks.items j) ≡ Some j
@@ -118,6 +118,7 @@ pub record IsKept (cache : Blocks) : Type 0 where
   pub blocks : vec_len cache.blocks + cache.room ≤ vec_capacity cache.blocks
   pub areas : vec_len cache.areas + cache.room ≤ vec_capacity cache.areas
   pub few : vec_len cache.blocks + cache.room ≤ most_blocks
+  pub greatest : (j : ℕ) → j < length cache.blocks.items → number_at cache.blocks.items j ≤ cache.greatest
 
 -- there is room for one more of both
 pub record HasRoom (cache : Blocks) : Type 0 where

@@ -53,6 +53,8 @@ pub struct Blocks {
     areas: Vec<(u64, [usize; 64])>,
     /// So many more lines fit with no allocation, if not more of them.
     room: usize,
+    /// No block has a number above this one, so that a line behind all others is looked for nowhere.
+    greatest: u64,
 }
 
 /// Blocks that hold no line.
@@ -64,6 +66,7 @@ pub(crate) fn empty(alloc: Global) -> Blocks
         blocks: Vec::new(alloc),
         areas: Vec::new(alloc),
         room: 0,
+        greatest: 0,
     }
 }
 
@@ -168,7 +171,35 @@ pub(crate) fn seek(cache: &Blocks, last: usize, line: u64) -> Option<usize>
     if stands(&cache.blocks, last, number) {
         return Some(last);
     }
+    if number > cache.greatest {
+        return None;
+    }
     find(cache, number)
+}
+
+/// How many lines from this one on, but no more than `most`, stand in no block: all of them behind the last block's, or else
+/// those up to the end of a block that isn't there.
+#[inline]
+pub(crate) fn absent_lines(cache: &Blocks, last: usize, first: u64, most: u64) -> u64
+    requires { IsKept cache.now }
+    ensures most { result ≤ most }
+    ensures absent { (k : ℕ) → k < result → cell_at (lines_of cache.now) (first + k) ≡ Cell.Absent }
+{
+    if first / 16 > cache.greatest {
+        return most;
+    }
+    match seek(cache, last, first) {
+        Some(_) => 0,
+        None => most.min(16 - first % 16),
+    }
+}
+
+/// Whether there is room for one more line with no allocation.
+#[inline(always)]
+pub(crate) fn has_room(cache: &Blocks) -> bool
+    ensures { result ≡ true → 1 ≤ cache.now.room }
+{
+    cache.room > 0
 }
 
 /// Sets a line of a block.
@@ -386,6 +417,7 @@ fn enlist(cache: &mut Blocks, number: u64, place: usize)
     ensures capacity { vec_capacity cache.old.areas ≤ vec_capacity cache.new.areas }
     ensures blocks { cache.new.blocks ≡ cache.old.blocks }
     ensures same_room { cache.new.room ≡ cache.old.room }
+    ensures same_greatest { cache.new.greatest ≡ cache.old.greatest }
 {
     let at = bisect(&cache.areas, number / 64);
     if at < cache.areas.len() {
@@ -417,6 +449,7 @@ fn add_block(cache: &mut Blocks, number: u64) -> usize
         words: [[0; 8]; 16],
     });
     cache.room = cache.room.saturating_sub(1);
+    cache.greatest = cache.greatest.max(number);
     place
 }
 

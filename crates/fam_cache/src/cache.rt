@@ -12,21 +12,22 @@ ghost use Rattle.fam_machine.specs.Cuts.{HasFailed, IsMachine};
 ghost use Rattle.fam_machine.specs.Operations.{machine, operated};
 ghost use Rattle.fam_media.specs.Causes.{HasCause, IsSteady, Rose};
 ghost use Rattle.fam_media.specs.Outside.{IfModelled, IsTorn};
+ghost use Rattle.fam_media.specs.Runs.{IsRunTorn, line_in, run_written};
 ghost use Rattle.fam_cache.specs.Effects.{FailsTo, FromMemory};
 ghost use Rattle.fam_cache.specs.Operations.{CleansSome, cleaned_lines, rest_stored};
 ghost use Rattle.fam_cache.specs.Blocks.{AskedWithin, IsBlockOf, IsKept, IsSpot, lines_of};
 
 use crate::blocks::{
-    Blocks, ask_copy, clean_line, copy, dirty_lines_of, drop_copy, empty, held_at, held_line,
-    held_word, lose_all, make_room, next_asked, next_place, put_copy, reserve, seek, set_rest,
-    set_word, word_at,
+    Blocks, absent_lines, ask_copy, clean_line, copy, dirty_lines_of, drop_copy, empty, has_room,
+    held_at, held_line, held_word, lose_all, make_room, next_asked, next_place, put_copy, reserve,
+    seek, set_rest, set_word, word_at,
 };
 use crate::copies::{fetch_copy, leak_copy, send_copy};
 use crate::fault::{CacheFault, FenceFailed};
 use crate::renewal::{bring_block, renew_in_place};
 use fam_base::{Line, LineNo, Mask, OutOfMemory};
 use fam_machine::Cell;
-use fam_media::{Failed, Media};
+use fam_media::{Failed, Media, RunFailed};
 use std::alloc::Global;
 use std::marker::Model;
 
@@ -580,6 +581,72 @@ impl HostCache {
                     },
                 );
                 Err(CacheFault::Failed)
+            }
+        }
+    }
+
+    /// Whether one more line fits with no allocation.
+    #[inline]
+    pub fn has_room(&self) -> bool
+        ensures { result ≡ true → 1 ≤ self.now.spare }
+    {
+        has_room(&self.places)
+    }
+
+    /// How many lines from this one on, but no more than `most`, the host is known to hold no copy of, by one look-up.
+    #[inline]
+    pub fn absent_run(&self, first: LineNo, most: u64) -> u64
+        ensures most { result ≤ most }
+        ensures absent { (k : ℕ) → k < result → cell_at self.now.lines (first.0 + k) ≡ Cell.Absent }
+    {
+        absent_lines(&self.places, self.last, first.0, most)
+    }
+
+    /// Writes all words of lines that stand one behind another, of which the host holds no copy, and it holds none then: what
+    /// stores of their words and their invalidations do, line by line, by one call of the media.
+    ///
+    /// Where the media fails at a line, those before it are sent, each word of this line is old or new, and the host has a
+    /// dirty copy of it; those behind it are as before.
+    #[inline]
+    pub fn put_run<M: Media>(
+        &mut self,
+        media: &mut M,
+        first: LineNo,
+        lines: &[Line],
+    ) -> Result<(), RunFailed>
+        requires within { first.0 + length lines.now ≤ M.size media.old }
+        requires room { 1 ≤ self.old.spare }
+
+        ensures lines { OnOk result (self.new.lines ≡ self.old.lines) }
+        ensures memory { OnOk result ((M.state media.new).image
+            ≡ run_written first.0 lines.now (length lines.now) (M.state media.old).image) }
+
+        ensures failed { OnErr result (Rose (M.state media.old).faults (M.state media.new).faults) }
+        ensures before { IfErr result (λ failed. failed.done < length lines.now) }
+        ensures failed_lines { IfErr result (λ failed. self.new.lines ≡ with_cell (first.0 + failed.done)
+            (Cell.Dirty false (eight (line_in lines.now failed.done))) self.old.lines) }
+        ensures torn { IfErr result (λ failed.
+            IsRunTorn (M.state media.old).image (M.state media.new).image first.0 lines.now failed.done) }
+
+        ensures steady { IsSteady M.size M.state media.old media.new }
+
+        // No place is taken, but where the media fails.
+        ensures ok_spare { OnOk result (self.old.spare ≤ self.new.spare) }
+        ensures spare { self.old.spare ≤ self.new.spare + 1 }
+    {
+        // How many lines there are at most.
+        let _ = media.lines();
+        match media.write_run(first, lines) {
+            Ok(()) => Ok(()),
+            Err(failed) => {
+                let line = first.0 + failed.done as u64;
+                let spot = seek(&self.places, self.last, line);
+                let copy = Cell::Dirty {
+                    asked: false,
+                    words: lines[failed.done],
+                };
+                self.last = put_copy(&mut self.places, spot, line, copy);
+                Err(failed)
             }
         }
     }

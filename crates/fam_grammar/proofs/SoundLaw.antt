@@ -237,6 +237,7 @@ verify_sound end path (w ∷ words) =
 
 behind_sound : (end : ℕ) (name : CommandWord) (words : List Word) → Holds IsSoundAsk (ask_behind end name words)
 behind_sound end command.Logplay words = ends_holds IsSoundAsk _ words tt
+behind_sound end command.Mount words = ends_holds IsSoundAsk _ words tt
 behind_sound end command.Fsck words = ends_holds IsSoundAsk _ words tt
 behind_sound end command.Mkdir words =
     behind IsSoundAsk (word_of path_of end words) _ (λ path rest.
@@ -285,6 +286,7 @@ event_sound_behind end word.Step words = behind IsSoundEvent (word_of name_of en
 event_sound_behind end word.Finish words = behind IsSoundEvent (word_of name_of end words) _ (λ name rest. ends_holds IsSoundEvent _ rest tt)
 event_sound_behind end word.Stop words = behind IsSoundEvent (word_of name_of end words) _ (λ name rest. ends_holds IsSoundEvent _ rest tt)
 event_sound_behind end word.Halt words = behind IsSoundEvent (word_of name_of end words) _ (λ name rest. ends_holds IsSoundEvent _ rest tt)
+event_sound_behind end word.Umount words = behind IsSoundEvent (word_of name_of end words) _ (λ name rest. ends_holds IsSoundEvent _ rest tt)
 event_sound_behind end word.Evict words =
     behind IsSoundEvent (word_of name_of end words) _ (λ name rest. behind IsSoundEvent (word_of number_of_text end rest) _ (λ at rest. ends_holds IsSoundEvent _ rest tt))
 event_sound_behind end word.Leak words =

@@ -129,6 +129,7 @@ event_uuids end word.Step words = behind IsSoundEvent (word_of name_of end words
 event_uuids end word.Finish words = behind IsSoundEvent (word_of name_of end words) _ (λ name rest. ends_holds IsSoundEvent _ rest tt)
 event_uuids end word.Stop words = behind IsSoundEvent (word_of name_of end words) _ (λ name rest. ends_holds IsSoundEvent _ rest tt)
 event_uuids end word.Halt words = behind IsSoundEvent (word_of name_of end words) _ (λ name rest. ends_holds IsSoundEvent _ rest tt)
+event_uuids end word.Umount words = behind IsSoundEvent (word_of name_of end words) _ (λ name rest. ends_holds IsSoundEvent _ rest tt)
 event_uuids end word.Evict words =
     behind IsSoundEvent (word_of name_of end words) _ (λ name rest. behind IsSoundEvent (word_of number_of_text end rest) _ (λ at rest. ends_holds IsSoundEvent _ rest tt))
 event_uuids end word.Leak words =

@@ -17,6 +17,7 @@ event_word word =
     else if bytes_eq word (codes "finish") then Some event.Finish
     else if bytes_eq word (codes "stop") then Some event.Stop
     else if bytes_eq word (codes "halt") then Some event.Halt
+    else if bytes_eq word (codes "umount") then Some event.Umount
     else if bytes_eq word (codes "evict") then Some event.Evict
     else if bytes_eq word (codes "leak") then Some event.Leak
     else if bytes_eq word (codes "fetch") then Some event.Fetch
@@ -26,6 +27,7 @@ event_word word =
 unfoldable pub command_word : List ℕ → Option CommandWord
 command_word word =
     if bytes_eq word (codes "logplay") then Some command.Logplay
+    else if bytes_eq word (codes "mount") then Some command.Mount
     else if bytes_eq word (codes "fsck") then Some command.Fsck
     else if bytes_eq word (codes "mkdir") then Some command.Mkdir
     else if bytes_eq word (codes "creat") then Some command.Creat

@@ -105,6 +105,7 @@ check_line end words = then_reads (word_of file_of end words) (λ source. ends_w
 -- the words behind a command's name
 abbrev pub ask_behind : ℕ → CommandWord → List Word → Reading Ask
 ask_behind end command.Logplay words = ends_with (ask.Plain cmd.Logplay) words
+ask_behind end command.Mount words = ends_with (ask.Plain cmd.Mount) words
 ask_behind end command.Fsck words = ends_with (ask.Plain cmd.Fsck) words
 ask_behind end command.Mkdir words = mkdir_line end words
 ask_behind end command.Creat words = creat_line end words
@@ -164,7 +165,7 @@ steps_line end name (word ∷ words) =
 abbrev pub step_line : ℕ → List Word → Reading Event
 step_line end words = then_reads (word_of name_of end words) (steps_line end)
 
--- finish, stop and halt: NAME
+-- finish, stop, halt and umount: NAME
 abbrev pub name_line : (List ℕ → Event) → ℕ → List Word → Reading Event
 name_line made end words = then_reads (word_of name_of end words) (λ name. ends_with (made name))
 
@@ -201,6 +202,7 @@ event_behind end word.Step words = step_line end words
 event_behind end word.Finish words = name_line event.Finish end words
 event_behind end word.Stop words = name_line event.Stop end words
 event_behind end word.Halt words = name_line event.Halt end words
+event_behind end word.Umount words = name_line event.Umount end words
 event_behind end word.Evict words = evict_line end words
 event_behind end word.Leak words = leak_line end words
 event_behind end word.Fetch words = fetch_line end words

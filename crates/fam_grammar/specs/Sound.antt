@@ -23,6 +23,7 @@ IsSoundEvent (event.Step name count) = 0 < count
 IsSoundEvent (event.Finish name) = ⊤
 IsSoundEvent (event.Stop name) = ⊤
 IsSoundEvent (event.Halt name) = ⊤
+IsSoundEvent (event.Umount name) = ⊤
 IsSoundEvent (event.Evict name line) = ⊤
 IsSoundEvent (event.Leak name line mask) = ⊤
 IsSoundEvent (event.Fetch name line mask) = ⊤

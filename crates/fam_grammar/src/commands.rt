@@ -208,6 +208,7 @@ fn ask_behind(
 {
     match name {
         CommandWord::Logplay => words.ended(line, Ask::Plain(Cmd::Logplay)),
+        CommandWord::Mount => words.ended(line, Ask::Plain(Cmd::Mount)),
         CommandWord::Fsck => words.ended(line, Ask::Plain(Cmd::Fsck)),
         CommandWord::Mkdir => mkdir(words, line),
         CommandWord::Creat => creat(words, line),

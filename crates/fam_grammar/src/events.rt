@@ -123,6 +123,15 @@ fn halt(words: &mut Words<'_>, line: Line) -> Result<Event, LineFault>
     words.ended(line, Event::Halt(name))
 }
 
+fn umount(words: &mut Words<'_>, line: Line) -> Result<Event, LineFault>
+    requires short { IsShort words.old }
+    ensures value { Tells line (words_left words.new) result (name_line event.Umount line.end (words_left words.old)) }
+    ensures short { IsShort words.new }
+{
+    let name = words.name(line)?;
+    words.ended(line, Event::Umount(name))
+}
+
 fn evict(words: &mut Words<'_>, line: Line) -> Result<Event, LineFault>
     requires short { IsShort words.old }
     ensures value { Tells line (words_left words.new) result (evict_line line.end (words_left words.old)) }
@@ -175,6 +184,7 @@ fn event_behind(
         EventWord::Finish => finish(words, line),
         EventWord::Stop => stop(words, line),
         EventWord::Halt => halt(words, line),
+        EventWord::Umount => umount(words, line),
         EventWord::Evict => evict(words, line),
         EventWord::Leak => leak(words, line),
         EventWord::Fetch => fetch(words, line),

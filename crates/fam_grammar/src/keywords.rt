@@ -15,6 +15,7 @@ pub(crate) enum EventWord {
     Finish,
     Stop,
     Halt,
+    Umount,
     Evict,
     Leak,
     Fetch,
@@ -24,6 +25,7 @@ pub(crate) enum EventWord {
 #[derive(Clone, Copy, PartialEq, Eq)]
 pub(crate) enum CommandWord {
     Logplay,
+    Mount,
     Fsck,
     Mkdir,
     Creat,
@@ -61,6 +63,8 @@ pub(crate) fn event_word(word: &[u8]) -> Option<EventWord>
         Some(EventWord::Stop)
     } else if is(word, "halt") {
         Some(EventWord::Halt)
+    } else if is(word, "umount") {
+        Some(EventWord::Umount)
     } else if is(word, "evict") {
         Some(EventWord::Evict)
     } else if is(word, "leak") {
@@ -79,6 +83,8 @@ pub(crate) fn command_word(word: &[u8]) -> Option<CommandWord>
 {
     if is(word, "logplay") {
         Some(CommandWord::Logplay)
+    } else if is(word, "mount") {
+        Some(CommandWord::Mount)
     } else if is(word, "fsck") {
         Some(CommandWord::Fsck)
     } else if is(word, "mkdir") {

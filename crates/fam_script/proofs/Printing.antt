@@ -3,7 +3,7 @@ use Rattle.std.proofs.Common.{◌≡◌, ℕ, ◌+◌, ◌<◌, List, [], ◌∷
 use Rattle.std.proofs.lemmas.List.{at_drop_more}
 use Rattle.fam_crc.specs.Crc.{crc32}
 use Rattle.fam_journal.specs.Names.{IsNamed, NameDeclared, declared_after}
-use Rattle.fam_journal.specs.Notes.{Note, Host, Made, Start, Mark, Found, Writes, Answered, Stop, Halt, Refused}
+use Rattle.fam_journal.specs.Notes.{Note, Host, Made, Start, Mark, Found, Writes, Answered, Stop, Halt, Umount, Refused}
 use Rattle.fam_outcomes.specs.Texts.{names_after, names_behind, note_line, note_text, render, render_behind, shown, shown_last}
 use Rattle.fam_notes.specs.declared.note.Note.{Note as Kept}
 use Rattle.fam_notes.specs.Notes.{note_view, notes_view}
@@ -19,6 +19,7 @@ length_names names (Writes host seq entry) = refl
 length_names names (Answered host answer) = refl
 length_names names (Stop host) = refl
 length_names names (Halt host) = refl
+length_names names (Umount host) = refl
 length_names names (Refused name cause) = refl
 
 -- The note at a place, and those behind it.

@@ -4,7 +4,7 @@ use Rattle.std.specs.Prelude.{⊤, ◌==◌, ◌||◌, is_some}
 use Rattle.std.specs.List.{list_any}
 use Rattle.fam_base.specs.declared.entry.Params.{Params}
 use Rattle.fam_journal.specs.Ends.{is_made_note}
-use Rattle.fam_journal.specs.Notes.{Answer, Replied, MediaFault, Note, Host, Made, Start, Mark, Found, Writes, Answered, Stop, Halt, Refused}
+use Rattle.fam_journal.specs.Notes.{Answer, Replied, MediaFault, Note, Host, Made, Start, Mark, Found, Writes, Answered, Stop, Halt, Umount, Refused}
 use Rattle.fam_journal.specs.Past as past
 use Rattle.fam_journal.specs.Past.{Bad, Past, Sound, State, past_after, past_behind, past_of, state_after, with_pending}
 use Rattle.fam_rules.specs.Asks.{File}
@@ -101,6 +101,7 @@ unmade (Writes h seq e) none None = refl
 unmade (Answered h answer) none None = refl
 unmade (Stop h) none None = refl
 unmade (Halt h) none None = refl
+unmade (Umount h) none None = refl
 unmade (Refused name cause) none None = refl
 
 -- nor does one that makes one keep anything
@@ -119,6 +120,7 @@ after_told old (Writes h seq e) = pends_told _ old.state ∙ unmade (Writes h se
 after_told old (Answered h answer) = ended_told answer old.state ∙ unmade (Answered h answer) refl (summary old.state)
 after_told old (Stop h) = same old.state ∙ unmade (Stop h) refl (summary old.state)
 after_told old (Halt h) = same old.state ∙ unmade (Halt h) refl (summary old.state)
+after_told old (Umount h) = same old.state ∙ unmade (Umount h) refl (summary old.state)
 after_told old (Refused name cause) = same old.state ∙ unmade (Refused name cause) refl (summary old.state)
 
 -- behind some notes

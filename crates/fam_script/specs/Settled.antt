@@ -1,6 +1,6 @@
 -- How much of a history is settled: what is left of the states of fam_journal's `specs/Past.antt` where lengths alone count.
 use Rattle.std.specs.Prelude.{ℕ, ◌+◌, ◌==◌, true, false, if◌then◌else◌, List, [], ◌∷◌, Option, Some, None}
-use Rattle.fam_journal.specs.Notes.{Answer, Replied, MediaFault, Note, Host, Made, Start, Mark, Found, Writes, Answered, Stop, Halt, Refused}
+use Rattle.fam_journal.specs.Notes.{Answer, Replied, MediaFault, Note, Host, Made, Start, Mark, Found, Writes, Answered, Stop, Halt, Umount, Refused}
 use Rattle.fam_rules.specs.declared.answers.LogState.{LogState}
 use Rattle.fam_rules.specs.declared.answers.LogState.TheVariants as log
 use Rattle.fam_rules.specs.Reply.{Reply}
@@ -62,6 +62,7 @@ continued (Writes h seq e) s = record { length = s.length; pending = true }
 continued (Answered h answer) s = answered answer s
 continued (Stop h) s = s
 continued (Halt h) s = s
+continued (Umount h) s = s
 continued (Refused name cause) s = s
 
 -- or not; by the class of the note

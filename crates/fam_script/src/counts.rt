@@ -43,6 +43,7 @@ fn is_answer(note: &Note) -> bool
         Note::Writes { .. } => false,
         Note::Stop { .. } => false,
         Note::Halt { .. } => false,
+        Note::Umount { .. } => false,
         Note::Refused { .. } => false,
     }
 }
@@ -61,6 +62,7 @@ fn is_refused(note: &Note) -> bool
         Note::Answered { .. } => false,
         Note::Stop { .. } => false,
         Note::Halt { .. } => false,
+        Note::Umount { .. } => false,
     }
 }
 
@@ -186,6 +188,7 @@ fn continued(settled: Settled, note: &Note) -> Settled
         Note::Mark { .. } => settled,
         Note::Stop { .. } => settled,
         Note::Halt { .. } => settled,
+        Note::Umount { .. } => settled,
         Note::Refused { .. } => settled,
     }
 }
@@ -207,6 +210,7 @@ fn begun(note: &Note) -> Option<Settled>
         Note::Answered { .. } => None,
         Note::Stop { .. } => None,
         Note::Halt { .. } => None,
+        Note::Umount { .. } => None,
         Note::Refused { .. } => None,
     }
 }

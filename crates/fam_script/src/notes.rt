@@ -52,6 +52,7 @@ pub fn note_text(alloc: Global, note: &Note, names: &[HostName]) -> Result<Vec<u
         Note::Answered { answer, .. } => answer_text(alloc, answer),
         Note::Stop { .. } => line(alloc, "stop"),
         Note::Halt { .. } => line(alloc, "halt"),
+        Note::Umount { .. } => line(alloc, "umount"),
         Note::Refused { cause, .. } => refusal_line(alloc, cause, names),
     }
 }
@@ -71,6 +72,7 @@ fn note_name<'a>(note: &'a Note, names: &'a [HostName]) -> &'a [u8]
         Note::Answered { host, .. } => host_name(names, *host),
         Note::Stop { host } => host_name(names, *host),
         Note::Halt { host } => host_name(names, *host),
+        Note::Umount { host } => host_name(names, *host),
         Note::Refused { name, .. } => name.bytes(),
     }
 }

@@ -50,6 +50,8 @@ pub fn refusal_line(
             line_of(alloc, format!(in alloc; "refused has superblock {uuid}"))
         }
         Refusal::Idle => line(alloc, "refused idle"),
+        Refusal::Mounted => line(alloc, "refused mounted"),
+        Refusal::NotMounted => line(alloc, "refused not mounted"),
         Refusal::NoLine { line, lines } => {
             line_of(alloc, format!(in alloc; "refused no line {line} {lines}"))
         }

@@ -77,6 +77,8 @@ fn cause_status(cause: &Refusal) -> Status
         Refusal::Dirty(_) => Status::Refused,
         Refusal::HasSuper(_) => Status::Refused,
         Refusal::Idle => Status::Refused,
+        Refusal::Mounted => Status::Refused,
+        Refusal::NotMounted => Status::Refused,
         Refusal::NoLine { .. } => Status::Refused,
         Refusal::NoFile(_) => Status::Refused,
         Refusal::CopyLimit(_) => Status::Refused,
@@ -98,6 +100,7 @@ pub fn note_status(note: &Note) -> Status
         Note::Answered { answer, .. } => answer_status(answer),
         Note::Stop { .. } => Status::Done,
         Note::Halt { .. } => Status::Done,
+        Note::Umount { .. } => Status::Done,
         Note::Refused { cause, .. } => cause_status(cause),
     }
 }
@@ -150,6 +153,7 @@ pub fn note_stops(note: &Note) -> bool
         Note::Writes { .. } => false,
         Note::Stop { .. } => false,
         Note::Halt { .. } => false,
+        Note::Umount { .. } => false,
     }
 }
 

@@ -38,6 +38,7 @@ fn declare(note: &Note, names: &mut Vec<HostName>) -> Result<(), OutOfMemory>
         Note::Answered { .. } => Ok(()),
         Note::Stop { .. } => Ok(()),
         Note::Halt { .. } => Ok(()),
+        Note::Umount { .. } => Ok(()),
         Note::Refused { .. } => Ok(()),
     }
 }
