@@ -165,6 +165,18 @@ impl Replay {
         }
     }
 
+    /// Takes over what is kept, where nothing was found yet and it is of this reading.
+    #[inline(always)]
+    fn resume(&mut self, params: &Params, gate: u64)
+        requires { IsReplayOf params.now gate self.old }
+        ensures same { entries_in self.new ≡ entries_in self.old }
+        ensures fits { IsReplayOf params.now gate self.new }
+    {
+        if self.replica.is_none() {
+            self.replica = take_over(&mut self.kept, self.keeps, params, gate);
+        }
+    }
+
     /// Whether the words of the next slot are those that are kept of it. Then its entry joins those that were found.
     #[inline(always)]
     fn find(&mut self, params: &Params, gate: u64, words: &[u64; SLOT_WORDS]) -> bool
@@ -173,9 +185,7 @@ impl Replay {
         ensures other { result ≡ false → entries_in self.new ≡ entries_in self.old }
         ensures fits { IsReplayOf params.now gate self.new }
     {
-        if self.replica.is_none() {
-            self.replica = take_over(&mut self.kept, self.keeps, params, gate);
-        }
+        self.resume(params, gate);
         match &mut self.replica {
             Some(replica) => replica.find(words),
             None => false,
@@ -191,9 +201,7 @@ impl Replay {
         ensures fits { IsReplayOf params.now gate self.new }
         ensures none { OnErr result (entries_in self.old ≡ []) }
     {
-        if self.replica.is_none() {
-            self.replica = take_over(&mut self.kept, self.keeps, params, gate);
-        }
+        self.resume(params, gate);
         if self.replica.is_none() {
             self.replica = Some(Replica::new(self.alloc, params, self.keeps)?);
         }
