@@ -13,7 +13,7 @@ use std::marker::Model;
 use std::mem::replace;
 
 /// How many entries a chunk has.
-pub(crate) const CHUNK: usize = 128;
+pub(crate) const CHUNK: usize = 256;
 
 /// Entries in the order in which they were added. The last of them stand in a chunk of their own, which is shared once it
 /// is full, so that one more changes no chunk that another list has.

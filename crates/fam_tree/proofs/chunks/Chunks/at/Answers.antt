@@ -15,14 +15,14 @@ returns-then-chunk-len c =
     let i = c.args.place in
     let chunk = c.index.result.now in
     let count : c.len.result ≡ length full = c.len.ensures ∙ c.self.inside.full.ok.0 in
-    let below : i / 128 < length full = omega (arith, count, c.if-chunk-len.true) in
-    let there = in_chunk 128 last full (i / 128) (i % 128) chunk c.self.invariant.each below (omega arith) c.index.ensures in
-    let size : length c.entries.result.now ≡ 128 = ap (λ (l : List Entry). length l) c.entries.ensures ∙ chunk_size 128 full (i / 128) chunk c.self.invariant.each below c.index.ensures in
-    let own : slice_get chunk (i % 128) ≡ Some c.index-entries-place.result =
-    ap (λ (l : List Entry). slice_get l (i % 128)) (sym c.entries.ensures)
-    ∙ slice_get_read c.entries.result.now 128 (i % 128) c.index-entries-place.result (sym size) (omega arith) c.index-entries-place.is in
+    let below : i / 256 < length full = omega (arith, count, c.if-chunk-len.true) in
+    let there = in_chunk 256 last full (i / 256) (i % 256) chunk c.self.invariant.each below (omega arith) c.index.ensures in
+    let size : length c.entries.result.now ≡ 256 = ap (λ (l : List Entry). length l) c.entries.ensures ∙ chunk_size 256 full (i / 256) chunk c.self.invariant.each below c.index.ensures in
+    let own : slice_get chunk (i % 256) ≡ Some c.index-entries-place.result =
+    ap (λ (l : List Entry). slice_get l (i % 256)) (sym c.entries.ensures)
+    ∙ slice_get_read c.entries.result.now 256 (i % 256) c.index-entries-place.result (sym size) (omega arith) c.index-entries-place.is in
     let all : slice_get c.args.self.now i ≡ Some c.index-entries-place.result =
-    ap (λ (l : List Entry). slice_get l i) (sym c.self.view_is) ∙ sym (ap (slice_get (entries_of full last)) (div-add-mod i 128)) ∙ there ∙ own in
+    ap (λ (l : List Entry). slice_get l i) (sym c.self.view_is) ∙ sym (ap (slice_get (entries_of full last)) (div-add-mod i 256)) ∙ there ∙ own in
     sym (get_or_from_slice_get c.args.self.now i c.index-entries-place.result no_entry all)
 
 pub index-requires-2 : goal.index-requires-2
@@ -30,8 +30,8 @@ index-requires-2 c =
     let full = c.self.inside.full.items in
     let last = c.self.inside.last.items in
     let count : c.len-2.result ≡ length full = c.len-2.ensures ∙ c.self.inside.full.ok.0 in
-    let whole : length c.args.self.now ≡ 128 * length full + length last =
-    ap (λ (l : List Entry). length l) (sym c.self.view_is) ∙ count_of 128 last full c.self.invariant.each in
+    let whole : length c.args.self.now ≡ 256 * length full + length last =
+    ap (λ (l : List Entry). length l) (sym c.self.view_is) ∙ count_of 256 last full c.self.invariant.each in
     omega (arith, whole, c.requires, count, c.self.inside.last.ok.0, c.if-chunk-len.false, c.len.ensures, c.len-2.ensures)
 
 pub returns : goal.returns
@@ -40,12 +40,12 @@ returns c =
     let last = c.self.inside.last.items in
     let i = c.args.place in
     let count : c.len-2.result ≡ length full = c.len-2.ensures ∙ c.self.inside.full.ok.0 in
-    let past : 128 * length full ≤ i = omega (arith, count, c.if-chunk-len.false, c.len.ensures, c.len-2.ensures) in
-    let whole : length c.args.self.now ≡ 128 * length full + length last =
-    ap (λ (l : List Entry). length l) (sym c.self.view_is) ∙ count_of 128 last full c.self.invariant.each in
-    let is : c.index-2.result.now ≡ get_or last (i - 128 * length full) c.index-2.result.now =
-    subst (λ (n : ℕ). c.index-2.result.now ≡ get_or last (i - 128 * n) c.index-2.result.now) count c.index-2.ensures in
+    let past : 256 * length full ≤ i = omega (arith, count, c.if-chunk-len.false, c.len.ensures, c.len-2.ensures) in
+    let whole : length c.args.self.now ≡ 256 * length full + length last =
+    ap (λ (l : List Entry). length l) (sym c.self.view_is) ∙ count_of 256 last full c.self.invariant.each in
+    let is : c.index-2.result.now ≡ get_or last (i - 256 * length full) c.index-2.result.now =
+    subst (λ (n : ℕ). c.index-2.result.now ≡ get_or last (i - 256 * n) c.index-2.result.now) count c.index-2.ensures in
     let all : slice_get c.args.self.now i ≡ Some c.index-2.result.now =
-    ap (λ (l : List Entry). slice_get l i) (sym c.self.view_is) ∙ in_last 128 last full i c.self.invariant.each past
-    ∙ slice_get_read last (length last) (i - 128 * length full) c.index-2.result.now refl (omega (arith, whole, past, c.requires)) is in
+    ap (λ (l : List Entry). slice_get l i) (sym c.self.view_is) ∙ in_last 256 last full i c.self.invariant.each past
+    ∙ slice_get_read last (length last) (i - 256 * length full) c.index-2.result.now refl (omega (arith, whole, past, c.requires)) is in
     sym (get_or_from_slice_get c.args.self.now i c.index-2.result.now no_entry all)

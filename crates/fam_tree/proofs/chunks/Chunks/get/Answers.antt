@@ -13,12 +13,12 @@ returns-in-Some c =
     let i = c.args.place in
     let chunk = c.in-Some.chunk.now in
     let found = c.in-Some.ensures.lookup in
-    let below : i / 128 < length full = rw (← c.deref.ensures.value) found.3.0 in
-    let is : chunk ≡ get_or full (i / 128) chunk = rw (← c.deref.ensures.value) (found.3.1 chunk) in
-    told c.entries.result.now (i % 128) c.get-in-Some.result c.get-in-Some.ensures.lookup
-    ∙ ap (λ (l : List Entry). slice_get l (i % 128)) c.entries.ensures
-    ∙ sym (in_chunk 128 last full (i / 128) (i % 128) chunk c.self.invariant.each below (omega arith) is)
-    ∙ ap (slice_get (entries_of full last)) (div-add-mod i 128)
+    let below : i / 256 < length full = rw (← c.deref.ensures.value) found.3.0 in
+    let is : chunk ≡ get_or full (i / 256) chunk = rw (← c.deref.ensures.value) (found.3.1 chunk) in
+    told c.entries.result.now (i % 256) c.get-in-Some.result c.get-in-Some.ensures.lookup
+    ∙ ap (λ (l : List Entry). slice_get l (i % 256)) c.entries.ensures
+    ∙ sym (in_chunk 256 last full (i / 256) (i % 256) chunk c.self.invariant.each below (omega arith) is)
+    ∙ ap (slice_get (entries_of full last)) (div-add-mod i 256)
     ∙ ap (λ (l : List Entry). slice_get l i) c.self.view_is
 
 pub returns-in-None : goal.returns-in-None
@@ -26,10 +26,10 @@ returns-in-None c =
     let full = c.self.inside.full.items in
     let last = c.self.inside.last.items in
     let i = c.args.place in
-    let past : length full ≤ i / 128 = rw (← c.deref.ensures.value) c.in-None.ensures.lookup.3 in
+    let past : length full ≤ i / 256 = rw (← c.deref.ensures.value) c.in-None.ensures.lookup.3 in
     let count : c.len.result ≡ length full = c.len.ensures ∙ c.self.inside.full.ok.0 in
-    told c.deref-in-None.result.now (i - 128 * c.len.result) c.get-in-None.result c.get-in-None.ensures.lookup
-    ∙ ap (λ (l : List Entry). slice_get l (i - 128 * c.len.result)) c.deref-in-None.ensures.value
-    ∙ ap (λ (n : ℕ). slice_get last (i - 128 * n)) count
-    ∙ sym (in_last 128 last full i c.self.invariant.each (omega (arith, past)))
+    told c.deref-in-None.result.now (i - 256 * c.len.result) c.get-in-None.result c.get-in-None.ensures.lookup
+    ∙ ap (λ (l : List Entry). slice_get l (i - 256 * c.len.result)) c.deref-in-None.ensures.value
+    ∙ ap (λ (n : ℕ). slice_get last (i - 256 * n)) count
+    ∙ sym (in_last 256 last full i c.self.invariant.each (omega (arith, past)))
     ∙ ap (λ (l : List Entry). slice_get l i) c.self.view_is
