@@ -1,5 +1,5 @@
 -- The entries with which a task begins to read slots.
-use Rattle.std.proofs.Common.{◌≡◌, ℕ, ◌≤◌, Bool, true, false, cond, nat_lt, List, [], ◌∷◌, length, take, Option, Some, None, refl, sym, ap, ◌∙◌, arith}
+use Rattle.std.proofs.Common.{◌≡◌, ℕ, ◌≤◌, Bool, true, false, cond, nat_lt, List, [], ◌∷◌, length, Option, Some, None, refl, sym, ap, ◌∙◌, arith}
 use Rattle.std.specs.Prelude.{◌&&◌, nat_le}
 use Rattle.std.proofs.lemmas.Bool.{ltb-true}
 use Rattle.std.proofs.lemmas.Bool.Decides.{nat_tests}
@@ -13,10 +13,10 @@ use Rattle.fam_commands.specs.Task.{Task}
 use Rattle.fam_commands.specs.declared.phase.Part.TheVariants.{Slot}
 use Rattle.fam_commands.specs.declared.phase.Phase.TheVariants as at
 use Rattle.fam_commands.proofs.UsedCounts.{used_below}
-use Rattle.fam_replay.specs.Replay.{IsReplayOf, entries_in}
+use Rattle.fam_replay.specs.Replay.{entries_in}
 use Rattle.fam_replay.specs.Replica.{ReplicaState}
 use Rattle.fam_tasks.specs.Commands.{slots_told}
-use Rattle.fam_tasks.specs.History.{MayServe, kept_of, read_by}
+use Rattle.fam_tasks.specs.History.{read_by}
 use Rattle.fam_tasks.specs.Sound.{HasValidGate, IsSoundAt}
 
 -- a check of the whole file system begins with none
@@ -92,14 +92,6 @@ read_aside serves (Some k) replay is = ap (λ (b : Bool). read_by b (Some k) rep
 
 pub read_alone : (serves : Bool) (kept : Option Kept) (replay : Option ReplicaState) → kept ≡ None → read_by serves kept replay ≡ replay
 read_alone serves kept replay is = ap (λ (o : Option Kept). read_by serves o replay) is
-
--- where the kept entries serve, these are what was read
-pub serving_kept : (serves : Bool) (kept : Option Kept) (replay : Option ReplicaState) (p : Params) (gate : ℕ) → serves ≡ true → MayServe serves kept → IsReplayOf p gate (read_by serves kept replay) → kept ≡ Some (kept_of p (read_by serves kept replay))
-serving_kept true None replay p gate is may of = absurd may
-serving_kept true (Some k) replay p gate is may of =
-    ap (λ (l : List Entry). Some (record { params = k.params; entries = l })) (sym (take_all (length k.entries) k.entries (omega arith)))
-    ∙ ap (λ (q : Params). Some (record { params = q; entries = take (length k.entries) k.entries })) of.0
-serving_kept false kept replay p gate is may of = absurd cc
 
 -- The phase behind the gate: the first slot, or the decision.
 pub begun_sound : (t : Task) (i n : ℕ) (b : Bool) → nat_lt i n ≡ b → n ≡ slots_told t.cmd t.params t.gate → HasValidGate t → length t.words ≡ 0 → IsSoundAt (cond b (at.Drop (Slot i) 0) at.Decide) t

@@ -158,12 +158,15 @@ impl History {
         self.replay.remember(replica);
     }
 
-    /// What the host keeps, and what its next command may find again, if there is anything.
+    /// What the host keeps; and where that is nothing, what its next command may find again.
     pub(crate) fn into_parts(self) -> (Option<Kept>, Option<Replica>)
         ensures { result.0 ≡ self.kept }
     {
         let History { kept, replay, .. } = self;
-        (kept, replay.into_kept())
+        match kept {
+            Some(kept) => (Some(kept), None),
+            None => (None, replay.into_kept()),
+        }
     }
 
     /// Begins with the kept entries, where they serve, and says how many these are: the first slot that is to be read.

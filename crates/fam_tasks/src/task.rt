@@ -183,7 +183,7 @@ impl Task {
     }
 
     /// What the host keeps behind the task: what it kept before, or what a mount has read, or a logplay where it kept
-    /// something. And what its next command may find again, if there is anything.
+    /// something. Where that is nothing, what its next command may find again.
     pub fn into_parts(self) -> (Option<Kept>, Option<Replica>)
         ensures { result.0 ≡ self.kept }
     {

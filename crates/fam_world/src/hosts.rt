@@ -28,7 +28,7 @@ pub(crate) struct Host {
     pub(crate) task: Option<Task>,
     /// What it keeps of the log. While it runs a task that has it.
     pub(crate) kept: Option<Kept>,
-    /// What its last command kept of the log for the next one. No answer hangs on it.
+    /// What its last command found of the log, for the next one, where it keeps nothing. No answer hangs on it.
     pub(crate) replica: Option<Replica>,
     /// Whether it has begun a command: from the second one on they keep what they read.
     pub(crate) has_begun: bool,
