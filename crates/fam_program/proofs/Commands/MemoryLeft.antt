@@ -45,6 +45,7 @@ use Rattle.fam_journal.specs.View.{StandsAs}
 use Rattle.fam_journal.specs.Notes.{Answered, MediaFault, Note, Replied}
 use Rattle.fam_outcomes.specs.Programs.{last_passes}
 use Rattle.fam_journal.proofs.Calls.Cases.{by_host, by_refusal, place_same}
+use Rattle.fam_journal.proofs.Forms.EventRows.{begun_free}
 use Rattle.fam_journal.proofs.Calls.Members.{changed_at_member}
 use Rattle.fam_journal.proofs.Calls.TaskRows.{row_served}
 use Rattle.fam_world.proofs.UpToOn.{first_behind, reads_clean, reads_leave}
@@ -332,7 +333,7 @@ module _ (files : Files) (name : List ℕ) (what : Ask) (old new : Session) (not
   unfolding refusal_of
   begun_spares x =
       by_host (call.Begins name x.begun.cmd) old.machines x.mid.machines x.first
-      (subst (λ (o : Option Refusal). ByRefusal name o x.first old.machines x.mid.machines (Acts (call.Begins name x.begun.cmd) old.machines x.first x.mid.machines)) x.begun.free x.begun.does) begun
+      (subst (λ (o : Option Refusal). ByRefusal name o x.first old.machines x.mid.machines (Acts (call.Begins name x.begun.cmd) old.machines x.first x.mid.machines)) (begun_free files name what old x.mid x.first x.begun) x.begun.does) begun
     where
       joined : (last_passes is_short x.rest ≡ true) ⊎ (new.machines.memory ≡ old.machines.memory) → IsSparedBy old new notes
       joined (inl short) = inl (behind_of is_short x.first x.rest notes x.joined short)
