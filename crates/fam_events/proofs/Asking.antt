@@ -1,8 +1,9 @@
 -- Telling a host to begin what it is asked for.
-use Rattle.std.proofs.Common.{◌≡◌, ℕ, inl, inr, true, List, [], ◌∷◌, length, map, Option, Some, None, Result, Ok, Err, refl, ap, sym, ◌∙◌, subst}
+use Rattle.std.proofs.Common.{◌≡◌, ℕ, inl, inr, Bool, true, false, List, [], ◌∷◌, length, map, Option, Some, None, Result, Ok, Err, refl, ap, sym, ◌∙◌, subst}
 use Rattle.std.specs.Prelude.{IfErr, IfOk, OnErr, option_map, slice_get}
 use Rattle.fam_base.specs.declared.cmd.Cmd.{Cmd}
-use Rattle.fam_base.specs.declared.cmd.Cmd.TheVariants.{Logplay}
+use Rattle.fam_base.specs.declared.cmd.Cmd.TheVariants.{Logplay, Mount}
+use Rattle.fam_commands.specs.Classes.{is_mount}
 use Rattle.fam_base.specs.Image.{Image}
 use Rattle.fam_media.specs.Files.{Files}
 use Rattle.fam_media.specs.Outside.{IfModelled}
@@ -13,6 +14,7 @@ use Rattle.fam_sources.specs.declared.sourced.Sourced.{Sourced as Came}
 use Rattle.fam_sources.specs.declared.sourced.Sourced.TheVariants as came_of
 use Rattle.fam_sources.specs.Sourced.{IsEnded, HoldsSource, IsSourced, IsUnfit, HasEndCause}
 use Rattle.fam_journal.specs.declared.event.Ask.{Ask}
+use Rattle.fam_journal.specs.declared.event.Ask.TheVariants as ask
 use Rattle.fam_journal.specs.declared.event.Event.TheVariants.{Begin}
 use Rattle.fam_journal.specs.declared.refusal.Refusal.{Refusal}
 use Rattle.fam_journal.specs.declared.refusal.Refusal.TheVariants as why
@@ -20,7 +22,7 @@ use Rattle.fam_journal.specs.Calls as call
 use Rattle.fam_journal.specs.Calls.{Does, IsOfSource, may_begin, number_of, refusal_of}
 use Rattle.fam_journal.specs.CallRecords.{FitsMedia, WorldCall, heading}
 use Rattle.fam_journal.specs.EventForms.{UnfitForm}
-use Rattle.fam_journal.specs.Events.{event_source, named_source}
+use Rattle.fam_journal.specs.Events.{event_source, mounts, named_source, source_of}
 use Rattle.fam_journal.specs.Forms as form
 use Rattle.fam_journal.specs.Forms.{AtForm, DoesForm, FormByRefusal, FreeForm, HostForm, IsFormed, OfHostForm, forms_behind, forms_of, runs_form, shown_forms}
 use Rattle.fam_journal.specs.Kept.{Held}
@@ -29,6 +31,7 @@ use Rattle.fam_journal.specs.Notes.{Note, Refused, Start}
 use Rattle.fam_journal.specs.View.{HostView, WorldView}
 use Rattle.fam_journal.specs.ByWorld.{acted_by, number_in, refusal_in, with_host}
 use Rattle.fam_journal.proofs.Calls.Members.{changed_here}
+use Rattle.fam_journal.proofs.Forms.EventRows.{mounts_asked}
 use Rattle.fam_journal.proofs.Forms.Operations.{forms_both}
 use Rattle.fam_journal.proofs.Forms.Views.{number_formed, refusal_formed}
 use Rattle.fam_world.proofs.Finishing.{number_same}
@@ -61,6 +64,8 @@ of_source what (why.NoFile name) is = tt
 of_source what (why.CopyLimit sum) is = tt
 of_source what (why.BadListing at) is = tt
 of_source what (why.MediaFault at) is = absurd is
+of_source what why.Mounted is = absurd is
+of_source what why.NotMounted is = absurd is
 
 -- the notes of a call that refuses
 refuses_form : (name : List ℕ) (cause : Refusal) (lines : ℕ) (hosts : List HostForm) (notes : List Note) → DoesForm (call.Refuses name cause) lines hosts notes → notes ≡ Refused name cause ∷ []
@@ -71,8 +76,24 @@ refuses_row : (name : List ℕ) (cause : Refusal) (old new : Machines) (notes : 
 unfolding refusal_of
 refuses_row name cause old new notes row = (row.0, row.1)
 
--- a command may begin by its host alone
-begins_as : (name : List ℕ) (cmd : Cmd) (m : Machines) → refusal_of (call.Begins name cmd) m ≡ may_begin name m
+-- a mount, or another command
+abbrev pub some_cmd : Bool → Cmd
+some_cmd true = Mount
+some_cmd false = Logplay
+
+pub some_mounts : (mount : Bool) → is_mount (some_cmd mount) ≡ mount
+some_mounts true = refl
+some_mounts false = refl
+
+-- a mount has no source
+source_plain : (what : Ask) (source : List ℕ) → source_of what ≡ Some source → mounts what ≡ false
+source_plain (ask.Plain own) source is = absurd cc
+source_plain (ask.Cp from path attr stripe) source is = refl
+source_plain (ask.VerifySource path from) source is = refl
+source_plain (ask.Check from) source is = refl
+
+-- whether a command may begin hangs on its host, and on whether it is a mount
+begins_as : (name : List ℕ) (cmd : Cmd) (m : Machines) → refusal_of (call.Begins name cmd) m ≡ may_begin name (is_mount cmd) m
 unfolding refusal_of
 begins_as name cmd m = refl
 
@@ -81,13 +102,16 @@ module _ (name : List ℕ) (what : Ask) (lines : ℕ) (old : WorldView) (formed 
   forms = forms_of old.journal
 
   abbrev first : Option Refusal
-  first = refusal_in (call.Begins name Logplay) old lines
+  first = refusal_in (call.Begins name (some_cmd (mounts what))) old lines
 
-  told_first : may_begin name (shown_forms lines forms) ≡ first
-  told_first = sym (refusal_formed lines old formed (call.Begins name Logplay) tt ∙ begins_as name Logplay (shown_forms lines forms))
+  some_as : (m : Machines) → refusal_of (call.Begins name (some_cmd (mounts what))) m ≡ may_begin name (mounts what) m
+  some_as m = begins_as name (some_cmd (mounts what)) m ∙ ap (λ (mount : Bool). may_begin name mount m) (some_mounts (mounts what))
 
-  state_first : (start : Image) (state : Machines) → Held start state old state.memory → length state.memory ≡ lines → may_begin name state ≡ first
-  state_first start state held lines_are = sym (begins_as name Logplay state) ∙ first_refusal start state old held (call.Begins name Logplay) lines lines_are
+  told_first : may_begin name (mounts what) (shown_forms lines forms) ≡ first
+  told_first = sym (refusal_formed lines old formed (call.Begins name (some_cmd (mounts what))) tt ∙ some_as (shown_forms lines forms))
+
+  state_first : (start : Image) (state : Machines) → Held start state old state.memory → length state.memory ≡ lines → may_begin name (mounts what) state ≡ first
+  state_first start state held lines_are = sym (some_as state) ∙ first_refusal start state old held (call.Begins name (some_cmd (mounts what))) lines lines_are
 
   -- no memory was left
   pub undone : (now : ℕ) → AskUndone (asking lines old old told faults files copied now)
@@ -99,9 +123,9 @@ module _ (name : List ℕ) (what : Ask) (lines : ℕ) (old : WorldView) (formed 
   -- nothing may begin there
   pub may_not : (new : WorldView) (cause : Refusal) → first ≡ Some cause → WorldCall (call.Refuses name cause) lines None old new → AskRefused name what (asking lines old new told faults files copied copied)
   may_not new cause is w = record {
-    adds = of_form (quiet_adds (call.Refuses name cause) lines None old new w (inr is) formed fits told faults files copied copied);
+    adds = of_form (quiet_adds (call.Refuses name cause) lines None old new w (inr (some_cmd (mounts what), is)) formed fits told faults files copied copied);
     keeps = λ start files_now state files_are told_is held.
-        let d = quiet_row (call.Refuses name cause) lines None old new w (inr is) tt start state held (modelled state.memory told_is) in
+        let d = quiet_row (call.Refuses name cause) lines None old new w (inr (some_cmd (mounts what), is)) tt start state held (modelled state.memory told_is) in
         let r = refuses_row name cause state d.state d.notes d.row in
         record {
           comes = record {
@@ -174,14 +198,14 @@ module _ (name : List ℕ) (what : Ask) (lines : ℕ) (old : WorldView) (formed 
     ended end change same e = (
       record {
         adds = still_adds (asking lines old old told faults files copied copied) record { world = refl; media = refl; count = refl } (SourceForm (Begin name what)) formed fits
-            record { none = refl; host = name; source = e.name; reads = reads; free = told_first ∙ free };
+            record { none = refl; host = name; source = e.name; reads = reads; free = ap (λ (mount : Bool). may_begin name mount (shown_forms lines forms)) (sym (source_plain what e.name e.source)) ∙ told_first ∙ free };
         keeps = still_keeps (asking lines old old told faults files copied copied) record { world = refl; media = refl; count = refl } (IsToSource (Begin name what) end)
             (λ files_now start state files_are told_is held. (
               record {
                 host = name;
                 source = e.name;
                 reads = reads;
-                free = state_first start state held (modelled state.memory told_is) ∙ free;
+                free = ap (λ (mount : Bool). may_begin name mount state) (sym (source_plain what e.name e.source)) ∙ state_first start state held (modelled state.memory told_is) ∙ free;
                 ends = e.short files_now (same ∙ files_are);
               },
               refl,
@@ -199,6 +223,9 @@ module _ (name : List ℕ) (what : Ask) (lines : ℕ) (old : WorldView) (formed 
       abbrev a : WorldChange
       a = asking lines old new told faults files copied now
 
+      own_first : may_begin name (is_mount cmd) (shown_forms lines forms) ≡ None
+      own_first = ap (λ (mount : Bool). may_begin name mount (shown_forms lines forms)) (sym (mounts_asked what cmd ready.form)) ∙ told_first ∙ free
+
       record Placed (notes : List Note) : Type 0 where
         host : ℕ
         number : number_of name (shown_forms lines forms) ≡ Some host
@@ -208,7 +235,7 @@ module _ (name : List ℕ) (what : Ask) (lines : ℕ) (old : WorldView) (formed 
 
       placed : (notes : List Note) → DoesForm (call.Begins name cmd) lines forms notes → Placed notes
       unfolding refusal_of
-      placed notes form = by_number (number_of name (shown_forms lines forms)) refl (subst (λ (o : Option Refusal). FormByRefusal name o notes (FreeForm (call.Begins name cmd) lines forms notes)) (told_first ∙ free) form)
+      placed notes form = by_number (number_of name (shown_forms lines forms)) refl (subst (λ (o : Option Refusal). FormByRefusal name o notes (FreeForm (call.Begins name cmd) lines forms notes)) own_first form)
         where
           by_host : (h : ℕ) → number_of name (shown_forms lines forms) ≡ Some h → (o : Option HostForm) → slice_get forms h ≡ o → OfHostForm o (λ f. notes ≡ Start h cmd ∷ []) → Placed notes
           by_host h number None is x = absurd x

@@ -22,7 +22,7 @@ use Rattle.fam_journal.specs.Calls as call
 use Rattle.fam_journal.specs.Calls.{Acts, ActsAt, AtNumber, BreaksOff, ByRefusal, Call, Completes, CutsAt, Does, OnHost, Unfinished, name_of, DoesOperations, busy_at, may_begin, number_of, refusal_of, when}
 use Rattle.fam_journal.specs.CallRecords.{FinishPart, FitsMedia}
 use Rattle.fam_journal.specs.EventForms.{BeginForm, EventBreaksForm, EventForm, NoMore, StartForm, UnfitNotes}
-use Rattle.fam_journal.specs.Events.{BreaksEvent, Calls, DoesEvent, Session}
+use Rattle.fam_journal.specs.Events.{BreaksEvent, Calls, DoesEvent, Session, mounts}
 use Rattle.fam_journal.specs.Forms.{ActsForm, AtForm, BreaksForm, CompletesForm, DoesForm, FormByRefusal, FreeForm, HostForm, IsFormed, OfHostForm, PartForm, UnfinishedForm, forms_after, forms_behind, forms_of, runs_form, shown_forms}
 use Rattle.fam_journal.specs.Kept.{Held}
 use Rattle.fam_journal.specs.Machines.{HostState, Machines}
@@ -145,6 +145,16 @@ halt_call name = record {
   partly = λ lines hosts notes x. inl x;
 }
 
+pub umount_call : (name : List ℕ) → IsCallOf (event.Umount name) (call.Umounts name)
+umount_call name = record {
+  does = λ files old notes new x. x;
+  form = λ lines hosts notes x. x;
+  breaks = λ old notes new x. none_cut (call.Umounts name) old.machines new.machines notes (λ h host z. z) x.0;
+  broken = λ lines hosts notes x. x;
+  part = λ files old notes new x. inl (x.0.0, same_session old new x.0.1 x.1);
+  partly = λ lines hosts notes x. inl x;
+}
+
 pub evict_call : (name : List ℕ) (line : LineNo) → IsCallOf (event.Evict name line) (call.Moves name line.0 Evict)
 evict_call name line = record {
   does = λ files old notes new x. x;
@@ -210,13 +220,13 @@ finish_call name = record {
 
 -- a refusal is the event's own
 refused_as : (Q : ℕ → List HostForm → List Note → Type 0) (name : List ℕ) (what : Ask) (lines : ℕ) (hosts : List HostForm) (notes : List Note) → RefusedForm name what lines hosts notes → BeginForm Q name what lines hosts notes
-refused_as Q name what lines hosts notes form = by_refusal (may_begin name (shown_forms lines hosts)) form
+refused_as Q name what lines hosts notes form = by_refusal (may_begin name (mounts what) (shown_forms lines hosts)) form
   where
     by_refusal : (o : Option Refusal) → FormByRefusal name o notes (UnfitNotes name what notes) → FormByRefusal name o notes (UnfitNotes name what notes ⊎ StartForm Q name what lines hosts notes)
     by_refusal None x = inl x
     by_refusal (Some cause) x = x
 
-started_as : (Q : ℕ → List HostForm → List Note → Type 0) (name : List ℕ) (what : Ask) (lines : ℕ) (hosts : List HostForm) (notes : List Note) → may_begin name (shown_forms lines hosts) ≡ None → StartForm Q name what lines hosts notes → BeginForm Q name what lines hosts notes
+started_as : (Q : ℕ → List HostForm → List Note → Type 0) (name : List ℕ) (what : Ask) (lines : ℕ) (hosts : List HostForm) (notes : List Note) → may_begin name (mounts what) (shown_forms lines hosts) ≡ None → StartForm Q name what lines hosts notes → BeginForm Q name what lines hosts notes
 started_as Q name what lines hosts notes free starts =
     subst (λ (o : Option Refusal). FormByRefusal name o notes (UnfitNotes name what notes ⊎ StartForm Q name what lines hosts notes)) (sym free) (inr starts)
 

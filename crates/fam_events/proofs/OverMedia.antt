@@ -43,6 +43,7 @@ no_break (call.Steps name) lines hosts notes other is = absurd is
 no_break (call.Finishes name) lines hosts notes other is = absurd is
 no_break (call.Stops name) lines hosts notes other is = absurd is
 no_break (call.Halts name) lines hosts notes other is = absurd is
+no_break (call.Umounts name) lines hosts notes other is = absurd is
 no_break (call.Moves name line move) lines hosts notes other is = absurd is
 no_break (call.Refuses name cause) lines hosts notes other is = absurd is
 
@@ -203,6 +204,8 @@ module _ (name : List ℕ) (request : MkfsRequest) (a : WorldChange) (formed : I
   refused_says (why.Dirty host) w = make_done (Some (why.Dirty host)) refl w.answers w.leaves
   refused_says (why.HasSuper uuid) w = make_done (Some (why.HasSuper uuid)) refl w.answers w.leaves
   refused_says why.Idle w = make_done (Some why.Idle) refl w.answers w.leaves
+  refused_says why.Mounted w = make_done (Some why.Mounted) refl w.answers w.leaves
+  refused_says why.NotMounted w = make_done (Some why.NotMounted) refl w.answers w.leaves
   refused_says (why.NoLine at lines) w = make_done (Some (why.NoLine at lines)) refl w.answers w.leaves
   refused_says (why.NoFile name) w = make_done (Some (why.NoFile name)) refl w.answers w.leaves
   refused_says (why.CopyLimit sum) w = make_done (Some (why.CopyLimit sum)) refl w.answers w.leaves

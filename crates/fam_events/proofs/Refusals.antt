@@ -1,20 +1,21 @@
 -- What a call that takes no media notes: it names declared hosts, and tells no fault.
 use Rattle.std.proofs.Common.{◌≡◌, ◌⊎◌, ℕ, ◌+◌, ◌<◌, inl, inr, Bool, true, false, List, [], ◌∷◌, ◌++◌, length, Option, Some, None, refl, sym, subst, arith}
-use Rattle.std.specs.Prelude.{⊤, nat_le, nat_lt, not, if◌then◌else◌}
+use Rattle.std.specs.Prelude.{⊤, ◌&&◌, nat_le, nat_lt, not, if◌then◌else◌}
 use Rattle.std.proofs.lemmas.List.{append-nil, length-map}
 use Rattle.std.proofs.lemmas.Option.{same_Some}
-use Rattle.fam_base.specs.declared.cmd.Cmd.TheVariants.{Logplay}
+use Rattle.fam_base.specs.declared.cmd.Cmd.{Cmd}
+use Rattle.fam_commands.specs.Classes.{is_mount}
 use Rattle.fam_format.specs.Layout.{least_lines}
 use Rattle.fam_format.specs.Stop.{or_else}
 use Rattle.fam_journal.specs.declared.refusal.Refusal.{Refusal}
 use Rattle.fam_journal.specs.declared.refusal.Refusal.TheVariants as why
 use Rattle.fam_journal.specs.Calls as call
-use Rattle.fam_journal.specs.Calls.{Call, IsOfSource, begins_refusal, busy_at, has_name, host_limit, idle_refusal, is_same, name_of, number_of, on_host, refusal_of, same_refusal, when}
+use Rattle.fam_journal.specs.Calls.{Call, IsOfSource, begins_refusal, busy_at, has_name, keeps_at, umounts_refusal, host_limit, idle_refusal, is_same, name_of, number_of, on_host, refusal_of, same_refusal, when}
 use Rattle.fam_journal.specs.Ends.{cause_faults, faults_of}
 use Rattle.fam_journal.specs.Machines.{Machines}
 use Rattle.fam_journal.specs.Members.{index_from, index_of}
 use Rattle.fam_journal.specs.Names.{AreNamed, NamesCause}
-use Rattle.fam_journal.specs.Notes.{Note, Host, Start, Stop, Halt, Refused}
+use Rattle.fam_journal.specs.Notes.{Note, Host, Start, Stop, Halt, Umount, Refused}
 use Rattle.fam_journal.specs.View.{HostView, WorldView}
 use Rattle.fam_journal.specs.ByWorld.{TakesNoMedia, acted, acted_by, number_in, refusal_in, shown_host, shown_state, with_host, world_after}
 
@@ -65,6 +66,7 @@ TakesHostsAlone (call.Steps name) = ⊤
 TakesHostsAlone (call.Finishes name) = ⊥
 TakesHostsAlone (call.Stops name) = ⊤
 TakesHostsAlone (call.Halts name) = ⊤
+TakesHostsAlone (call.Umounts name) = ⊤
 TakesHostsAlone (call.Moves name line move) = ⊥
 TakesHostsAlone (call.Refuses name cause) = ⊤
 
@@ -86,10 +88,12 @@ module _ (m : Machines) where
       (own_when count (nat_le host_limit count) why.TooManyHosts record { named = tt; faultless = refl })
   first_own (call.Makes name request) quiet = absurd quiet
   first_own (call.Begins name cmd) quiet =
-      own_on count (number_of name m) (λ h. begins_refusal h m) (λ h is.
-      own_or count (when (nat_lt (length m.memory) least_lines) (why.ImageSmall (length m.memory))) (when (busy_at h m) (why.Busy (record { 0 = h })))
+      own_on count (number_of name m) (λ h. begins_refusal h (is_mount cmd) m) (λ h is.
+      own_or count (when (nat_lt (length m.memory) least_lines) (why.ImageSmall (length m.memory))) (or_else (when (busy_at h m) (why.Busy (record { 0 = h }))) (when (is_mount cmd && keeps_at h m) why.Mounted))
       (own_when count (nat_lt (length m.memory) least_lines) (why.ImageSmall (length m.memory)) record { named = tt; faultless = refl })
-      (own_when count (busy_at h m) (why.Busy (record { 0 = h })) record { named = number_within name h is; faultless = refl }))
+      (own_or count (when (busy_at h m) (why.Busy (record { 0 = h }))) (when (is_mount cmd && keeps_at h m) why.Mounted)
+      (own_when count (busy_at h m) (why.Busy (record { 0 = h })) record { named = number_within name h is; faultless = refl })
+      (own_when count (is_mount cmd && keeps_at h m) why.Mounted record { named = tt; faultless = refl })))
   first_own (call.Steps name) quiet = idle_own name
   first_own (call.Finishes name) quiet = absurd quiet
   first_own (call.Stops name) quiet = idle_own name
@@ -97,6 +101,11 @@ module _ (m : Machines) where
     where
       none : IfCause count None
       none = tt
+  first_own (call.Umounts name) quiet =
+      own_on count (number_of name m) (λ h. umounts_refusal h m) (λ h is.
+      own_or count (when (busy_at h m) (why.Busy (record { 0 = h }))) (when (not (keeps_at h m)) why.NotMounted)
+      (own_when count (busy_at h m) (why.Busy (record { 0 = h })) record { named = number_within name h is; faultless = refl })
+      (own_when count (not (keeps_at h m)) why.NotMounted record { named = tt; faultless = refl }))
   first_own (call.Moves name line move) quiet = absurd quiet
   first_own (call.Refuses name cause) quiet = none
     where
@@ -133,6 +142,8 @@ module _ (lines : ℕ) (old : WorldView) where
   source_own (why.CopyLimit sum) is = record { named = tt; faultless = refl }
   source_own (why.BadListing at) is = record { named = tt; faultless = refl }
   source_own (why.MediaFault at) is = absurd is
+  source_own why.Mounted is = absurd is
+  source_own why.NotMounted is = absurd is
 
   -- notes of a call that takes no media
   pub record HostsNotes (c : Call) (new : WorldView) : Type 0 where
@@ -157,12 +168,13 @@ module _ (lines : ℕ) (old : WorldView) where
   acted_notes (call.Finishes name) takes = absurd takes
   acted_notes (call.Stops name) takes = at_host (call.Stops name) (number_in name old) _ Stop (λ h is. (number_below name h is, tt)) (λ h. refl)
   acted_notes (call.Halts name) takes = at_host (call.Halts name) (number_in name old) _ Halt (λ h is. (number_below name h is, tt)) (λ h. refl)
+  acted_notes (call.Umounts name) takes = at_host (call.Umounts name) (number_in name old) _ Umount (λ h is. (number_below name h is, tt)) (λ h. refl)
   acted_notes (call.Moves name line move) takes = absurd takes
   acted_notes (call.Refuses name cause) takes = one_refused (call.Refuses name cause) name cause _ (by_takes takes) refl
     where
-      by_takes : IsOfSource cause ⊎ (refusal_in (call.Begins name Logplay) old lines ≡ Some cause) → IsOwn (length old.hosts) cause
+      by_takes : IsOfSource cause ⊎ ((cmd : Cmd) × (refusal_in (call.Begins name cmd) old lines ≡ Some cause)) → IsOwn (length old.hosts) cause
       by_takes (inl x) = source_own cause x
-      by_takes (inr x) = world_own (call.Begins name Logplay) tt cause x
+      by_takes (inr x) = world_own (call.Begins name x.0) tt cause x.1
 
   is_quiet : (c : Call) → TakesNoMedia c lines old → TakesHostsAlone c
   is_quiet (call.Declares name uuid) takes = tt
@@ -172,6 +184,7 @@ module _ (lines : ℕ) (old : WorldView) where
   is_quiet (call.Finishes name) takes = takes
   is_quiet (call.Stops name) takes = tt
   is_quiet (call.Halts name) takes = tt
+  is_quiet (call.Umounts name) takes = tt
   is_quiet (call.Moves name line move) takes = takes
   is_quiet (call.Refuses name cause) takes = tt
 

@@ -13,7 +13,7 @@ use Rattle.fam_journal.specs.Forms.{AnswerForm, Begun, CommandStage, EntryForm, 
 use Rattle.fam_journal.specs.Kept.{Held}
 use Rattle.fam_journal.specs.Machines.{Machines}
 use Rattle.fam_journal.specs.Members.{changed_at}
-use Rattle.fam_journal.specs.Notes.{Note, Host, Made, Start, Mark, Found, Writes, Answered, Stop, Halt, Refused}
+use Rattle.fam_journal.specs.Notes.{Note, Host, Made, Start, Mark, Found, Writes, Answered, Stop, Halt, Umount, Refused}
 use Rattle.fam_journal.specs.View.{WorldStands, WorldView}
 use Rattle.fam_journal.specs.ByWorld.{number_in, refusal_in, shown_state}
 use Rattle.fam_journal.proofs.Calls.Members.{changed_here}
@@ -137,6 +137,7 @@ note_runs h hosts (Answered host answer) x runs =
     ap (λ (k : ℕ). runs_form (slice_get (changed_at k (λ (f : HostForm). record f { task = None }) hosts) h)) (of_answer (slice_get hosts h) (λ me t. AnswerForm me t.cmd t.stage answer) host h x) ∙ over_runs h hosts
 note_runs h hosts (Stop host) x runs = absurd (of_none (slice_get hosts h) x)
 note_runs h hosts (Halt host) x runs = absurd (of_none (slice_get hosts h) x)
+note_runs h hosts (Umount host) x runs = absurd (of_none (slice_get hosts h) x)
 note_runs h hosts (Refused name cause) x runs = absurd (of_none (slice_get hosts h) x)
 
 or_false : (t : Bool) → Rattle.std.specs.Prelude.◌||◌ t false ≡ t

@@ -72,6 +72,7 @@ nothing_form (call.Steps name) lines hosts = refl
 nothing_form (call.Finishes name) lines hosts = inl refl
 nothing_form (call.Stops name) lines hosts = refl
 nothing_form (call.Halts name) lines hosts = refl
+nothing_form (call.Umounts name) lines hosts = refl
 nothing_form (call.Moves name line move) lines hosts = refl
 nothing_form (call.Refuses name cause) lines hosts = refl
 
@@ -83,6 +84,7 @@ nothing_part (call.Steps name) state = (refl, refl)
 nothing_part (call.Finishes name) state = inr (refl, refl)
 nothing_part (call.Stops name) state = (refl, refl)
 nothing_part (call.Halts name) state = (refl, refl)
+nothing_part (call.Umounts name) state = (refl, refl)
 nothing_part (call.Moves name line move) state = (refl, refl)
 nothing_part (call.Refuses name cause) state = (refl, refl)
 

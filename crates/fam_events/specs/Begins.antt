@@ -7,7 +7,7 @@ use Rattle.fam_journal.specs.declared.event.Ask.{Ask}
 use Rattle.fam_journal.specs.declared.event.Event.TheVariants.{Begin}
 use Rattle.fam_journal.specs.Calls.{may_begin}
 use Rattle.fam_journal.specs.EventForms.{NoMore, StartForm, UnfitNotes}
-use Rattle.fam_journal.specs.Events.{IsBegun, RefusesEvent, Session}
+use Rattle.fam_journal.specs.Events.{IsBegun, RefusesEvent, Session, mounts}
 use Rattle.fam_journal.specs.Forms.{FormByRefusal, HostForm, shown_forms}
 use Rattle.fam_journal.specs.Notes.{Note}
 use Rattle.fam_journal.specs.ByWorld.{number_in, refusal_in}
@@ -21,7 +21,7 @@ use Rattle.fam_events.specs.Happens.{EventEnded}
 
 -- nothing may begin there, or the source is none
 abbrev pub RefusedForm : List ℕ → Ask → ℕ → List HostForm → List Note → Type 0
-RefusedForm name what lines hosts notes = FormByRefusal name (may_begin name (shown_forms lines hosts)) notes (UnfitNotes name what notes)
+RefusedForm name what lines hosts notes = FormByRefusal name (may_begin name (mounts what) (shown_forms lines hosts)) notes (UnfitNotes name what notes)
 
 -- an ask is refused, and its media isn't touched
 abbrev pub Refuses : List ℕ → Ask → ℕ → Files → Session → List Note → Session → Type 0
@@ -34,7 +34,7 @@ pub record AskRefused (name : List ℕ) (what : Ask) (a : WorldChange) : Type 0 
 
 -- the command begins: nothing stood against it, and now it runs
 pub record BegunForm (name : List ℕ) (what : Ask) (lines : ℕ) (hosts : List HostForm) (notes : List Note) : Type 0 where
-  pub free : may_begin name (shown_forms lines hosts) ≡ None
+  pub free : may_begin name (mounts what) (shown_forms lines hosts) ≡ None
   pub starts : StartForm NoMore name what lines hosts notes
 
 -- a host begins what it is asked for

@@ -1,5 +1,5 @@
 -- What comes of an event, on every media and shelf, by how it ends.
-use Rattle.std.specs.Prelude.{ℕ, ◌≡◌, ◌⊎◌, List, [], Some, None, Result, Ok, Err}
+use Rattle.std.specs.Prelude.{ℕ, ◌≡◌, ◌⊎◌, false, List, [], Some, None, Result, Ok, Err}
 use Rattle.fam_media.specs.Files.{Files}
 use Rattle.fam_media.specs.States.{ShelfChange}
 use Rattle.fam_sources.specs.declared.sourced.SourceEnd.{SourceEnd}
@@ -29,13 +29,13 @@ pub record EventBroken (e : Event) (a : WorldChange) : Type 0 where
   pub adds : AddsForm (EventBreaksForm e) a
   pub keeps : Told (λ files start. Breaks (BreaksEvent e) start) a
 
--- it came to its source, of which the reading ended early: nothing is noted
+-- it came to its source, of which the reading ended early, and is no mount: nothing is noted
 pub record SourceForm (e : Event) (lines : ℕ) (hosts : List HostForm) (notes : List Note) : Type 0 where
   pub none : notes ≡ []
   pub host : List ℕ
   pub source : List ℕ
   pub reads : event_source e ≡ Some (host, source)
-  pub free : may_begin host (shown_forms lines hosts) ≡ None
+  pub free : may_begin host false (shown_forms lines hosts) ≡ None
 
 -- an event came to its source, which failed so
 abbrev pub IsToSource : Event → SourceEnd → Files → Session → List Note → Session → Type 0

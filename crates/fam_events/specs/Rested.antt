@@ -25,6 +25,7 @@ IsRun (event.Step name count) = ⊥
 IsRun (event.Finish name) = ⊥
 IsRun (event.Stop name) = ⊥
 IsRun (event.Halt name) = ⊥
+IsRun (event.Umount name) = ⊥
 IsRun (event.Evict name line) = ⊥
 IsRun (event.Leak name line mask) = ⊥
 IsRun (event.Fetch name line mask) = ⊥

@@ -8,6 +8,8 @@ ghost use Rattle.fam_journal.specs.CallRecords.{FitsMedia};
 ghost use Rattle.fam_journal.specs.CallRecords.{WorldCall};
 ghost use Rattle.fam_journal.specs.Calls.{Begins, Refuses};
 ghost use Rattle.fam_journal.specs.ByWorld.{refusal_in};
+ghost use Rattle.fam_journal.specs.Events.{mounts};
+ghost use Rattle.fam_commands.specs.Classes.{is_mount};
 ghost use Rattle.fam_journal.specs.Forms.{IsFormed};
 ghost use Rattle.fam_grammar.specs.Sound.{IsSoundAsk};
 ghost use Rattle.fam_protocol.specs.Tasks.{IsCommand};
@@ -37,6 +39,16 @@ pub(crate) enum Asked {
     Refused,
     /// The command begins.
     Begun,
+}
+
+/// Whether a mount is asked for.
+fn mounts(what: &Ask) -> bool
+    ensures { result ≡ mounts what.now }
+{
+    match what {
+        Ask::Plain(Cmd::Mount) => true,
+        _ => false,
+    }
 }
 
 /// Notes that nothing begins.
@@ -86,7 +98,8 @@ fn read<S: Shelf>(
     requires sound { IsSoundAsk what }
     requires most { lines ≤ most_lines }
     requires formed { IsFormed world.old }
-    requires free { (cmd : Command) → refusal_in (Begins name.now cmd) world.old lines ≡ None }
+    requires free { (cmd : Command) → is_mount cmd ≡ mounts what
+        → refusal_in (Begins name.now cmd) world.old lines ≡ None }
     ensures says { (told : Option Image) (faults : ℕ) → IfModelled told (λ image. length image ≡ lines)
         → FitsMedia lines world.old.hosts
         → AskSays name.now what (change S.state shelf.old shelf.new) (asking lines world.old world.new
@@ -112,8 +125,8 @@ fn read<S: Shelf>(
     }
 }
 
-/// Tells a host to begin what it is asked for: `NoHost`, `ImageSmall` and `Busy` are tried first, and then its source is
-/// read. `copied` bytes of sources were read before, and are told behind it.
+/// Tells a host to begin what it is asked for: `NoHost`, `ImageSmall` and `Busy` are tried first, and `Mounted` of a
+/// mount, and then its source is read. `copied` bytes of sources were read before, and are told behind it.
 pub(crate) fn ask<S: Shelf>(
     alloc: Global,
     world: &mut World,
@@ -133,10 +146,10 @@ pub(crate) fn ask<S: Shelf>(
     ensures unstored { IfOk result (λ asked. asked ≡ Begun → IsRested world.old
         → IsUnstoredOf name.now world.old world.new) }
     ensures free { IfOk result (λ asked. asked ≡ Begun
-        → (cmd : Command) → refusal_in (Begins name.now cmd) world.old lines ≡ None) }
+        → (cmd : Command) → is_mount cmd ≡ mounts what → refusal_in (Begins name.now cmd) world.old lines ≡ None) }
     ensures steady { IsShelfSteady (S.state shelf.old) (S.state shelf.new) }
 {
-    match world.may_begin(lines, name) {
+    match world.may_begin(lines, name, mounts(&what)) {
         Ok(()) => read(alloc, world, shelf, copied, lines, name, what),
         Err(cause) => refuse(world, name, cause),
     }

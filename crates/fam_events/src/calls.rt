@@ -2,7 +2,7 @@
 
 ghost use Rattle.std.specs.Prelude.{◌≡◌, length, ℕ, OnErr, Option, Some};
 ghost use Rattle.fam_base.specs.Image.{Image};
-ghost use Rattle.fam_journal.specs.Calls.{Declares, Finishes, Halts, Makes, Moves, Stops};
+ghost use Rattle.fam_journal.specs.Calls.{Declares, Finishes, Halts, Makes, Moves, Stops, Umounts};
 ghost use Rattle.fam_journal.specs.ByWorld.{number_in};
 ghost use Rattle.fam_journal.specs.CallRecords.{FitsMedia, IsUnstoredAt};
 ghost use Rattle.fam_journal.specs.Forms.{IsFormed};
@@ -65,7 +65,7 @@ pub(crate) fn stop(world: &mut World, name: &HostName) -> Result<(), EventFault>
     noted(world.stop(name))
 }
 
-/// Ends a host's task, and loses its cache.
+/// Ends a host's task, and loses its cache and what it keeps of the log.
 pub(crate) fn halt(world: &mut World, name: &HostName) -> Result<(), EventFault>
     requires formed { IsFormed world.old }
     ensures says { (lines : ℕ) (told : Option Image) (faults : ℕ) (files : Option Files) (copied : ℕ)
@@ -73,6 +73,16 @@ pub(crate) fn halt(world: &mut World, name: &HostName) -> Result<(), EventFault>
         → CallSays (Halts name.now) (still lines world.old world.new told faults files copied) result }
 {
     noted(world.halt(name))
+}
+
+/// A host forgets what it keeps of the log.
+pub(crate) fn umount(world: &mut World, name: &HostName) -> Result<(), EventFault>
+    requires formed { IsFormed world.old }
+    ensures says { (lines : ℕ) (told : Option Image) (faults : ℕ) (files : Option Files) (copied : ℕ)
+        → IfModelled told (λ image. length image ≡ lines) → FitsMedia lines world.old.hosts
+        → CallSays (Umounts name.now) (still lines world.old world.new told faults files copied) result }
+{
+    noted(world.umount(name))
 }
 
 /// A host makes a file system.

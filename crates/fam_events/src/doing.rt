@@ -15,7 +15,7 @@ ghost use Rattle.fam_events.specs.Rested.{IsRested, IsRun};
 ghost use Rattle.fam_events.specs.Untouched.{IsUntouchedBy};
 
 use crate::asks::{Asked, ask};
-use crate::calls::{declare, evict, fetch, finish, halt, leak, make, stop};
+use crate::calls::{declare, evict, fetch, finish, halt, leak, make, stop, umount};
 use crate::fault::EventFault;
 use crate::steps::step;
 use fam_base::HostName;
@@ -130,6 +130,7 @@ pub fn happen<M: Media, S: Shelf>(
         Event::Finish(name) => finish(world, media, &name),
         Event::Stop(name) => stop(world, &name),
         Event::Halt(name) => halt(world, &name),
+        Event::Umount(name) => umount(world, &name),
         Event::Evict(name, line) => evict(world, media, &name, line),
         Event::Leak(name, line, mask) => leak(world, media, &name, line, mask),
         Event::Fetch(name, line, mask) => fetch(world, media, &name, line, mask),

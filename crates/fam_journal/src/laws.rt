@@ -44,10 +44,10 @@ pub fn what_a_task_says_is_legal()
 {}
 
 /// Whatever a call of the world does, as its row has it, a world that was held is held again once it stands for the
-/// state behind the row and has the row's notes: with stops, halts, media faults and steps of other hosts at any
+/// state behind the row and has the row's notes: with stops, halts, umounts, media faults and steps of other hosts at any
 /// moment. Every call is one of these: a host is declared; a file system is made, or a superblock stands there; a
-/// command begins, does an operation, or runs to its answer; it is stopped or halted; a cache moves, or the media fails
-/// in it; something is refused.
+/// command begins, does an operation, or runs to its answer; it is stopped or halted; what a host keeps is forgotten; a
+/// cache moves, or the media fails in it; something is refused.
 pub fn a_row_keeps_what_is_held()
     ensures held { (start : Image) (state left : Machines) (old new : WorldView) (call : Call) (notes : List Note)
         → Held start state old state.memory → IsSoundCall call → Does call state notes left

@@ -31,6 +31,7 @@ IsShotEvent (event.Step name count) = ⊥
 IsShotEvent (event.Finish name) = ⊥
 IsShotEvent (event.Stop name) = ⊥
 IsShotEvent (event.Halt name) = ⊥
+IsShotEvent (event.Umount name) = ⊥
 IsShotEvent (event.Evict name line) = ⊥
 IsShotEvent (event.Leak name line mask) = ⊥
 IsShotEvent (event.Fetch name line mask) = ⊥

@@ -90,6 +90,8 @@ fn cause_number(cause: &Refusal) -> Option<NumberLine>
         Refusal::NoFile(_) => None,
         Refusal::CopyLimit(_) => None,
         Refusal::BadListing(_) => None,
+        Refusal::Mounted => None,
+        Refusal::NotMounted => None,
     }
 }
 
@@ -110,6 +112,7 @@ fn note_number(note: &Note) -> Option<NumberLine>
         Note::Writes { .. } => None,
         Note::Stop { .. } => None,
         Note::Halt { .. } => None,
+        Note::Umount { .. } => None,
     }
 }
 

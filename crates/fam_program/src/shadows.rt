@@ -74,6 +74,7 @@ fn tree_in(note: &Note) -> Option<(u64, &Tree)>
         Note::Writes { .. } => None,
         Note::Stop { .. } => None,
         Note::Halt { .. } => None,
+        Note::Umount { .. } => None,
         Note::Refused { .. } => None,
     }
 }

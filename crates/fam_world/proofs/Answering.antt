@@ -32,6 +32,7 @@ told_of (call.Steps name) lines world other is = sym (refusal_formed lines world
 told_of (call.Finishes name) lines world other is = sym (refusal_formed lines world is (call.Finishes name) tt)
 told_of (call.Stops name) lines world other is = sym (refusal_formed lines world is (call.Stops name) tt)
 told_of (call.Halts name) lines world other is = sym (refusal_formed lines world is (call.Halts name) tt)
+told_of (call.Umounts name) lines world other is = sym (refusal_formed lines world is (call.Umounts name) tt)
 told_of (call.Moves name line move) lines world other is = sym (refusal_formed lines world is (call.Moves name line move) tt)
 told_of (call.Refuses name cause) lines world other is = sym (refusal_formed lines world is (call.Refuses name cause) tt)
 

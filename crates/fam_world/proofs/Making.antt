@@ -94,6 +94,8 @@ leaves_refused (why.NoFile name) c start told now old new none keeps = keeps
 leaves_refused (why.CopyLimit sum) c start told now old new none keeps = keeps
 leaves_refused (why.BadListing at) c start told now old new none keeps = keeps
 leaves_refused (why.MediaFault at) c start told now old new none keeps = absurd cc
+leaves_refused why.Mounted c start told now old new none keeps = keeps
+leaves_refused why.NotMounted c start told now old new none keeps = keeps
 
 none_before : (o : Option EarlyRefusal) → option_map end_of o ≡ None → o ≡ None
 none_before None e = refl

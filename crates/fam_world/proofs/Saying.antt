@@ -21,7 +21,6 @@ use Rattle.fam_commands.specs.Stands.{note_of, task_after, turn_given}
 use Rattle.fam_commands.specs.Task.{Task, op_of}
 use Rattle.fam_commands.specs.Turns as turns
 use Rattle.fam_commands.specs.Turns.{turn_of}
-use Rattle.fam_rules.specs.Reply as replies
 use Rattle.fam_rules.specs.Reply.{Reply}
 use Rattle.fam_tasks.specs.declared.answer.Answer.{Answer}
 use Rattle.fam_tasks.specs.declared.answer.Answer.TheVariants as answer

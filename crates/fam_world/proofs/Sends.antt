@@ -1,5 +1,5 @@
 -- What a fence sends of a cache whose lines are the media's.
-use Rattle.std.proofs.Common.{◌≡◌, ℕ, ◌<◌, true, refl}
+use Rattle.std.proofs.Common.{ℕ, ◌<◌, refl}
 use Rattle.fam_machine.specs.declared.cell.Cell.{Cell}
 use Rattle.fam_machine.specs.declared.cell.Cell.TheVariants.{Absent, Clean, Dirty}
 use Rattle.fam_machine.specs.declared.op.Op.{Op}

@@ -44,7 +44,9 @@ pub(crate) fn retire(
     ensures kept { kept.new ≡ kept_in task.old kept.old }
 {
     if let Some(task) = task.take() {
-        (*kept, *replica) = task.into_parts();
+        let (left, found) = task.into_parts();
+        *kept = left;
+        *replica = found;
     }
 }
 
@@ -61,6 +63,29 @@ fn task_on(alloc: Global, cmd: Cmd, me: Uuid, lines: u64, kept: Option<Kept>) ->
     }
 }
 
+/// The next command of a host. The task takes what the host keeps; from the host's second one on it keeps what it reads.
+fn next_task(
+    alloc: Global,
+    kept: &mut Option<Kept>,
+    replica: &mut Option<Replica>,
+    has_begun: &mut bool,
+    cmd: Cmd,
+    me: Uuid,
+    lines: u64,
+) -> Task
+    requires command { IsSoundCmd cmd }
+    requires least { least_lines ≤ lines }
+    requires most { lines ≤ most_lines }
+    ensures { result ≡ mounted kept.old cmd me lines }
+{
+    let mut task = task_on(alloc, cmd, me, lines, kept.take());
+    if *has_begun {
+        task.remember(replica.take());
+    }
+    *has_begun = true;
+    task
+}
+
 /// A host begins a command on an image of so many lines, with what it keeps.
 fn begin_on(alloc: Global, host: &mut Host, lines: u64, cmd: Cmd)
     requires command { IsSoundCmd cmd }
@@ -69,11 +94,15 @@ fn begin_on(alloc: Global, host: &mut Host, lines: u64, cmd: Cmd)
     ensures { host_view host.new ≡ record (host_view host.old) { task = Some (mounted (host_view host.old).kept cmd host.old.uuid lines) } }
 {
     end_on(host);
-    let mut task = task_on(alloc, cmd, host.uuid, lines, host.kept.take());
-    if host.has_begun {
-        task.remember(host.replica.take());
-    }
-    host.has_begun = true;
+    let task = next_task(
+        alloc,
+        &mut host.kept,
+        &mut host.replica,
+        &mut host.has_begun,
+        cmd,
+        host.uuid,
+        lines,
+    );
     host.task = Some(task);
 }
 

@@ -13,11 +13,12 @@ use Rattle.fam_journal.specs.declared.event.Event.TheVariants as event
 use Rattle.fam_journal.specs.declared.refusal.Refusal.{Refusal}
 use Rattle.fam_journal.specs.declared.refusal.Refusal.TheVariants as why
 use Rattle.fam_journal.specs.Calls as call
+use Rattle.fam_journal.specs.Events.{mounts}
 use Rattle.fam_journal.specs.Calls.{has_name, may_begin, number_of}
 use Rattle.fam_journal.specs.Ends.{is_answer_note}
 use Rattle.fam_journal.specs.EventForms.{FollowsForm, StartForm, UnfitNotes}
 use Rattle.fam_journal.specs.Forms.{ActsForm, AtForm, CompletesForm, DirtyForm, FormByRefusal, HostActsForm, HostForm, OfHostForm, OfRunning, OfTask, OperationsForm, TaskForm, TaskNote, forms_after, forms_behind, refusal_told, runs_form, shown_form, shown_forms}
-use Rattle.fam_journal.specs.Notes.{Note, Host, Made, Start, Mark, Found, Writes, Answered, Stop, Halt, Refused}
+use Rattle.fam_journal.specs.Notes.{Note, Host, Made, Start, Mark, Found, Writes, Answered, Stop, Halt, Umount, Refused}
 use Rattle.fam_outcomes.specs.Programs.{ends_command, ends_mkfs, last_passes}
 use Rattle.fam_outcomes.specs.Statuses.{last_stops, note_stops}
 use Rattle.fam_machine.specs.Mkfs.{asked}
@@ -36,6 +37,7 @@ stops_end (Writes host seq entry) h = cc
 stops_end (Answered host answer) h = refl
 stops_end (Stop host) h = cc
 stops_end (Halt host) h = cc
+stops_end (Umount host) h = cc
 stops_end (Refused name cause) h = refl
 
 pub stopped_end : (journal : List Note) → last_stops journal ≡ true → last_passes ends_command journal ≡ true
@@ -70,6 +72,7 @@ answer_ends (Writes host seq entry) h = cc
 answer_ends (Answered host answer) h = refl
 answer_ends (Stop host) h = cc
 answer_ends (Halt host) h = cc
+answer_ends (Umount host) h = cc
 answer_ends (Refused name cause) h = cc
 
 operations_end : (h : ℕ) (hosts : List HostForm) (notes : List Note) → runs_form (slice_get hosts h) ≡ true → OperationsForm h hosts notes → runs_form (slice_get (forms_behind hosts notes) h) ≡ false → last_passes ends_command notes ≡ true
@@ -104,7 +107,7 @@ run_end name what lines hosts notes (Some cause) x = refused_end name cause note
 pub runs_end : {A : Type 0} (name : List ℕ) (ask : A → Ask) (first : A) (more : List A) (lines : ℕ) (hosts : List HostForm) (journal : List Note) → FollowsForm lines (map (λ x. event.Run name (ask x)) (first ∷ more)) hosts journal → last_passes ends_command journal ≡ true
 runs_end name ask first [] lines hosts journal f =
     subst (λ (ns : List Note). last_passes ends_command ns ≡ true) (sym (f.4 ∙ ap (λ (ns : List Note). f.0 ++ ns) f.3 ∙ append-nil f.0))
-    (run_end name (ask first) lines hosts f.0 (may_begin name (shown_forms lines hosts)) f.2)
+    (run_end name (ask first) lines hosts f.0 (may_begin name (mounts (ask first)) (shown_forms lines hosts)) f.2)
 runs_end name ask first (next ∷ more) lines hosts journal f =
     subst (λ (ns : List Note). last_passes ends_command ns ≡ true) (sym f.4)
     (last_behind ends_command f.0 f.1 (runs_end name ask next more lines (forms_behind hosts f.0) f.1 f.3))

@@ -11,7 +11,7 @@ use Rattle.fam_journal.specs.declared.refusal.Refusal.TheVariants as why
 use Rattle.fam_journal.specs.Ends.{IsFaultless, cause_faults, faults_of, is_answer_note, note_faults}
 use Rattle.fam_journal.specs.EventForms.{EventPartForm}
 use Rattle.fam_journal.specs.Forms.{HostForm, OfRunning, OfTask, OperationsForm, TaskForm, TaskNote, forms_after, forms_behind, forms_of, runs_form}
-use Rattle.fam_journal.specs.Notes.{Note, Host, Made, Start, Mark, Found, Writes, Answered, Stop, Halt, Refused, Replied, MediaFault}
+use Rattle.fam_journal.specs.Notes.{Note, Host, Made, Start, Mark, Found, Writes, Answered, Stop, Halt, Umount, Refused, Replied, MediaFault}
 use Rattle.fam_outcomes.specs.Programs.{last_passes, without_last}
 use Rattle.fam_outcomes.specs.Statuses.{note_stops}
 use Rattle.fam_journal.proofs.Runs.Unique.{faults_both}
@@ -39,6 +39,7 @@ go_faults (Answered host (Replied given)) is = refl
 go_faults (Answered host (MediaFault line)) is = absurd cc
 go_faults (Stop host) is = refl
 go_faults (Halt host) is = refl
+go_faults (Umount host) is = refl
 go_faults (Refused name cause) is = absurd cc
 
 -- one for whose line memory is wanted
@@ -58,6 +59,8 @@ long_cause (why.NoFile name) is = refl
 long_cause (why.CopyLimit sum) is = refl
 long_cause (why.BadListing at) is = refl
 long_cause (why.MediaFault at) is = absurd cc
+long_cause why.Mounted is = refl
+long_cause why.NotMounted is = refl
 
 long_faults : (note : Note) → is_short note ≡ false → note_faults note ≡ 0
 long_faults (Host name uuid) is = refl
@@ -70,6 +73,7 @@ long_faults (Answered host (Replied given)) is = refl
 long_faults (Answered host (MediaFault line)) is = absurd cc
 long_faults (Stop host) is = refl
 long_faults (Halt host) is = refl
+long_faults (Umount host) is = refl
 long_faults (Refused name cause) is = long_cause cause is
 
 -- one of a command that isn't its answer
@@ -83,6 +87,7 @@ quiet_faults h o (Writes host seq entry) x is = refl
 quiet_faults h o (Answered host answer) x is = absurd cc
 quiet_faults h o (Stop host) x is = refl
 quiet_faults h o (Halt host) x is = refl
+quiet_faults h o (Umount host) x is = refl
 quiet_faults h o (Refused name cause) x is = absurd (of_none o x)
 
 -- Notes that tell none.
@@ -148,6 +153,7 @@ part_faultless (event.Step name count) is lines hosts notes x = absurd is
 part_faultless (event.Finish name) is lines hosts notes x = absurd is
 part_faultless (event.Stop name) is lines hosts notes x = absurd is
 part_faultless (event.Halt name) is lines hosts notes x = absurd is
+part_faultless (event.Umount name) is lines hosts notes x = absurd is
 part_faultless (event.Evict name line) is lines hosts notes x = absurd is
 part_faultless (event.Leak name line mask) is lines hosts notes x = absurd is
 part_faultless (event.Fetch name line mask) is lines hosts notes x = absurd is

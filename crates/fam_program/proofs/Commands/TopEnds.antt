@@ -21,7 +21,7 @@ use Rattle.fam_journal.specs.Ends.{AllDone, Ending, IsFaultless, EndsOutOfMemory
 use Rattle.fam_journal.specs.EventForms.{FollowsForm}
 use Rattle.fam_journal.specs.Follows.{SourceEnd}
 use Rattle.fam_journal.specs.Names.{NameDeclared}
-use Rattle.fam_journal.specs.Notes.{Answer, Replied, MediaFault, Note, Host, Made, Start, Mark, Found, Writes, Answered, Stop, Halt, Refused}
+use Rattle.fam_journal.specs.Notes.{Answer, Replied, MediaFault, Note, Host, Made, Start, Mark, Found, Writes, Answered, Stop, Halt, Umount, Refused}
 use Rattle.fam_outcomes.specs.Programs.{IsWholeRun, LeavesImage, Makes, MakesParents, OneShot, Runs, ShotPuts, Single, ShotRuns, SparesImage, TopEnds, done_status, ends_command, ends_mkfs, ends_shot, last_passes, memory_line, path_prefixes, shot_events, shot_status, source_line}
 use Rattle.fam_outcomes.specs.Runs.{EndsBroken, IsPut, NoneFalls, Outside}
 use Rattle.fam_outcomes.specs.Statuses.{answer_status, cause_status, is_checked_equal, last_status, last_stops, note_status, parents_status, reply_status, sound_status}
@@ -94,6 +94,8 @@ cause_told (why.NoFile name) = refl
 cause_told (why.CopyLimit sum) = refl
 cause_told (why.BadListing at) = refl
 cause_told (why.MediaFault at) = refl
+cause_told why.Mounted = refl
+cause_told why.NotMounted = refl
 
 note_told : (note : Note) → is_lost (note_status note) ≡ false
 note_told (Host name uuid) = refl
@@ -105,6 +107,7 @@ note_told (Writes host seq entry) = refl
 note_told (Answered host answer) = answer_told answer
 note_told (Stop host) = refl
 note_told (Halt host) = refl
+note_told (Umount host) = refl
 note_told (Refused name cause) = cause_told cause
 
 last_told : (journal : List Note) → is_lost (last_status journal) ≡ false

@@ -1,5 +1,5 @@
 -- A run ends.
-use Rattle.std.proofs.Common.{◌≡◌, ◌⊎◌, ℕ, ◌≤◌, inl, inr, List, [], ◌++◌, take, Some, None, refl, ap, sym, ◌∙◌, subst, arith}
+use Rattle.std.proofs.Common.{◌≡◌, ◌⊎◌, ℕ, ◌≤◌, inl, inr, false, List, [], ◌++◌, take, Some, None, refl, ap, sym, ◌∙◌, subst, arith}
 use Rattle.std.specs.Prelude.{slice_get}
 use Rattle.std.proofs.lemmas.List.{append-nil}
 use Rattle.fam_base.specs.Image.{Image}
@@ -114,6 +114,7 @@ module _ (b : Base) (count : ℕ) (n m : Now) (far : Far b count n) (e : Event) 
   broken_caused (event.Finish name) at lines hosts notes form joined = absurd form
   broken_caused (event.Stop name) at lines hosts notes form joined = absurd form
   broken_caused (event.Halt name) at lines hosts notes form joined = absurd form
+  broken_caused (event.Umount name) at lines hosts notes form joined = absurd form
   broken_caused (event.Evict name line) at lines hosts notes form joined = absurd form
   broken_caused (event.Leak name line mask) at lines hosts notes form joined = absurd form
   broken_caused (event.Fetch name line mask) at lines hosts notes form joined = absurd form
@@ -195,7 +196,7 @@ module _ (b : Base) (count : ℕ) (n m : Now) (far : Far b count n) (e : Event) 
       host = x.adds.form.host;
       source = x.adds.form.source;
       reads = x.adds.form.reads;
-      free = subst (λ (j : List Note). Rattle.fam_journal.specs.Calls.may_begin x.adds.form.host (Rattle.fam_journal.specs.Forms.shown_forms b.lines (forms_behind [] j)) ≡ None) (sym same) x.adds.form.free;
+      free = subst (λ (j : List Note). Rattle.fam_journal.specs.Calls.may_begin x.adds.form.host false (Rattle.fam_journal.specs.Forms.shown_forms b.lines (forms_behind [] j)) ≡ None) (sym same) x.adds.form.free;
       follows = subst (λ (j : List Note). FollowsForm b.lines (take count b.events) [] j) (sym same) far.form;
     };
     counted = counted_more x.adds.notes x.adds.counted x.adds.later x.adds.joined;

@@ -11,7 +11,7 @@ use Rattle.fam_journal.specs.Forms.{HostForm, HostFormed, IsFormed, forms_after,
 use Rattle.fam_journal.specs.Laws.{IsImage}
 use Rattle.fam_journal.specs.Members.{changed_at}
 use Rattle.fam_journal.specs.Names.{AreNamed}
-use Rattle.fam_journal.specs.Notes.{Note, Host, Made, Start, Mark, Found, Writes, Answered, Stop, Halt, Refused}
+use Rattle.fam_journal.specs.Notes.{Note, Host, Made, Start, Mark, Found, Writes, Answered, Stop, Halt, Umount, Refused}
 use Rattle.fam_outcomes.specs.Texts.{names_after, names_behind}
 use Rattle.fam_journal.specs.View.{WorldView, empty_world}
 use Rattle.fam_journal.proofs.Forms.Pairs.{pairs_length}
@@ -61,6 +61,7 @@ after_count hosts names (Writes host seq entry) same = changed_length host _ hos
 after_count hosts names (Answered host answer) same = changed_length host _ hosts ∙ same
 after_count hosts names (Stop host) same = changed_length host _ hosts ∙ same
 after_count hosts names (Halt host) same = changed_length host _ hosts ∙ same
+after_count hosts names (Umount host) same = changed_length host _ hosts ∙ same
 after_count hosts names (Refused name cause) same = same
 
 behind_count : (hosts : List HostForm) (names : List (List ℕ)) (notes : List Note) → length hosts ≡ length names → length (forms_behind hosts notes) ≡ length (names_behind names notes)

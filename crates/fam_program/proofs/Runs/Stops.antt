@@ -12,11 +12,12 @@ use Rattle.fam_journal.specs.declared.event.Event.TheVariants as event
 use Rattle.fam_journal.specs.declared.refusal.Refusal.{Refusal}
 use Rattle.fam_journal.specs.declared.refusal.Refusal.TheVariants as why
 use Rattle.fam_journal.specs.Calls as call
+use Rattle.fam_journal.specs.Events.{mounts}
 use Rattle.fam_journal.specs.Calls.{may_begin, number_of}
 use Rattle.fam_journal.specs.EventForms.{EventBreaksForm, EventForm, EventPartForm, StartForm, UnfitNotes}
 use Rattle.fam_journal.specs.Forms.{ActsForm, AnswerForm, AtForm, CompletesForm, DirtyForm, FormByRefusal, HostActsForm, HostForm, OfHostForm, OfRunning, OfTask, OperationsForm, UnfinishedForm, TaskForm, TaskNote, forms_after, refusal_told, shown_forms}
 use Rattle.fam_journal.specs.Members.{changed_at}
-use Rattle.fam_journal.specs.Notes.{Note, Host, Made, Start, Mark, Found, Writes, Answered, Stop, Halt, Refused}
+use Rattle.fam_journal.specs.Notes.{Note, Host, Made, Start, Mark, Found, Writes, Answered, Stop, Halt, Umount, Refused}
 use Rattle.fam_outcomes.specs.Programs.{without_last}
 use Rattle.fam_outcomes.specs.Statuses.{last_stops, note_stops}
 use Rattle.fam_journal.proofs.Calls.Members.{changed_here}
@@ -71,6 +72,7 @@ goes_behind h hosts (Answered host answer) next x y =
     absurd (not_answered h host hosts (λ me t. TaskNote h me t next) (of_here (slice_get hosts h) (λ me t. AnswerForm me t.cmd t.stage answer) host h x) y)
 goes_behind h hosts (Stop host) next x y = refl
 goes_behind h hosts (Halt host) next x y = refl
+goes_behind h hosts (Umount host) next x y = refl
 goes_behind h hosts (Refused name cause) next x y = absurd (of_none (slice_get hosts h) x)
 
 operations_go : (h : ℕ) (hosts : List HostForm) (notes : List Note) → OperationsForm h hosts notes → GoesOn notes
@@ -121,11 +123,12 @@ pub step_goes : (e : Event) → IsShotEvent e → (lines : ℕ) (hosts : List Ho
 step_goes (event.Host name uuid) is lines hosts notes x = declared name uuid notes (refusal_told (call.Declares name uuid) lines hosts) x
 step_goes (event.Mkfs name fs unit log force) is lines hosts notes x = made name (mkfs_request fs unit log force) lines hosts notes (refusal_told (call.Makes name (mkfs_request fs unit log force)) lines hosts) x
 step_goes (event.Begin name what) is lines hosts notes x = absurd is
-step_goes (event.Run name what) is lines hosts notes x = begun name what lines hosts notes (may_begin name (shown_forms lines hosts)) x
+step_goes (event.Run name what) is lines hosts notes x = begun name what lines hosts notes (may_begin name (mounts what) (shown_forms lines hosts)) x
 step_goes (event.Step name count) is lines hosts notes x = absurd is
 step_goes (event.Finish name) is lines hosts notes x = absurd is
 step_goes (event.Stop name) is lines hosts notes x = absurd is
 step_goes (event.Halt name) is lines hosts notes x = absurd is
+step_goes (event.Umount name) is lines hosts notes x = absurd is
 step_goes (event.Evict name line) is lines hosts notes x = absurd is
 step_goes (event.Leak name line mask) is lines hosts notes x = absurd is
 step_goes (event.Fetch name line mask) is lines hosts notes x = absurd is
@@ -140,6 +143,7 @@ part_goes (event.Step name count) is lines hosts notes x = absurd is
 part_goes (event.Finish name) is lines hosts notes x = absurd is
 part_goes (event.Stop name) is lines hosts notes x = absurd is
 part_goes (event.Halt name) is lines hosts notes x = absurd is
+part_goes (event.Umount name) is lines hosts notes x = absurd is
 part_goes (event.Evict name line) is lines hosts notes x = absurd is
 part_goes (event.Leak name line mask) is lines hosts notes x = absurd is
 part_goes (event.Fetch name line mask) is lines hosts notes x = absurd is
@@ -195,6 +199,7 @@ breaks_goes (event.Step name count) lines hosts notes x = absurd x
 breaks_goes (event.Finish name) lines hosts notes x = absurd x
 breaks_goes (event.Stop name) lines hosts notes x = absurd x
 breaks_goes (event.Halt name) lines hosts notes x = absurd x
+breaks_goes (event.Umount name) lines hosts notes x = absurd x
 breaks_goes (event.Evict name line) lines hosts notes x = absurd x
 breaks_goes (event.Leak name line mask) lines hosts notes x = absurd x
 breaks_goes (event.Fetch name line mask) lines hosts notes x = absurd x

@@ -2,7 +2,7 @@
 use Rattle.std.proofs.Common.{◌≡◌, ℕ, ◌+◌, ◌-◌, ◌<◌, get_or, List, [], ◌∷◌, ◌++◌, length, take, drop, refl, ap, sym, ◌∙◌, subst, arith}
 use Rattle.std.proofs.lemmas.List.{append-nil, append_assoc, drop-map, length-append, length-drop, map_more, take-append-drop, take-map, take_all}
 use Rattle.fam_journal.specs.Names.{NameDeclared, declared_after}
-use Rattle.fam_journal.specs.Notes.{Note, Host, Made, Start, Mark, Found, Writes, Answered, Stop, Halt, Refused}
+use Rattle.fam_journal.specs.Notes.{Note, Host, Made, Start, Mark, Found, Writes, Answered, Stop, Halt, Umount, Refused}
 use Rattle.fam_outcomes.specs.Texts.{names_after, names_behind, note_line, render_behind}
 use Rattle.fam_notes.specs.declared.note.Note.{Note as Kept}
 use Rattle.fam_notes.specs.Notes.{note_view, notes_view}
@@ -22,6 +22,7 @@ name_count names (Writes host seq entry) = refl
 name_count names (Answered host answer) = refl
 name_count names (Stop host) = refl
 name_count names (Halt host) = refl
+name_count names (Umount host) = refl
 name_count names (Refused name cause) = refl
 
 named_rest : (names : List (List ℕ)) (a b : List Note) → NameDeclared (length names) (a ++ b) → NameDeclared (length (names_behind names a)) b

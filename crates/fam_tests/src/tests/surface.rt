@@ -17,22 +17,51 @@ fn a_world_tells_who_may_begin(rt: HostRuntime) -> Result<(), Fail> {
     let c = HostName::read(b"c")?;
     let x = HostName::read(b"x")?;
     assert!(rt; world.host(&c, Uuid::from_bytes([2; 16])).is_ok());
-    assert!(rt; matches!(world.may_begin(LINES, &x), Err(Refusal::NoHost)));
+    assert!(rt; matches!(world.may_begin(LINES, &x, false), Err(Refusal::NoHost)));
     assert!(rt;
         matches!(
-            world.may_begin(32_769, &c),
+            world.may_begin(32_769, &c, false),
             Err(Refusal::ImageSmall(32_769))
         )
     );
-    assert!(rt; world.may_begin(32_770, &c).is_ok());
+    assert!(rt; world.may_begin(32_770, &c, true).is_ok());
     let small = world.begin(32_769, &c, &Cmd::Logplay);
     assert!(rt; matches!(small, Err(WorldFault::Refused(Refusal::ImageSmall(32_769)))));
     assert!(rt; world.begin(LINES, &c, &Cmd::Logplay).is_ok());
-    assert!(rt; matches!(world.may_begin(LINES, &c), Err(Refusal::Busy(HostId(0)))));
+    assert!(rt;
+        matches!(
+            world.may_begin(LINES, &c, true),
+            Err(Refusal::Busy(HostId(0)))
+        )
+    );
     assert!(rt; world.refuse(&c, Refusal::CopyLimit(9)).is_ok());
     assert_eq!(rt; world.journal().len(), 4);
     assert!(rt; world.name(HostId(0)) == Some(c));
     assert!(rt; world.name(HostId(1)) == None);
+    Ok(())
+}
+
+#[test]
+fn a_host_that_keeps_nothing_forgets_nothing(rt: HostRuntime) -> Result<(), Fail> {
+    let mut world = World::new(rt.alloc());
+    let c = HostName::read(b"c")?;
+    assert!(rt; matches!(world.umount(&c), Err(WorldFault::Refused(Refusal::NoHost))));
+    assert!(rt; world.mounted(&c) == None);
+    assert!(rt; world.host(&c, Uuid::from_bytes([2; 16])).is_ok());
+    assert!(rt;
+        matches!(
+            world.umount(&c),
+            Err(WorldFault::Refused(Refusal::NotMounted))
+        )
+    );
+    assert!(rt; world.mounted(&c) == None);
+    assert!(rt; world.begin(LINES, &c, &Cmd::Mount).is_ok());
+    assert!(rt;
+        matches!(
+            world.umount(&c),
+            Err(WorldFault::Refused(Refusal::Busy(HostId(0))))
+        )
+    );
     Ok(())
 }
 

@@ -21,7 +21,7 @@ ghost use Rattle.fam_world.specs.View.{notes_view, views};
 
 use super::World;
 use crate::fault::WorldFault;
-use crate::find::{engaged_host, dirty_host, number};
+use crate::find::{dirty_host, engaged_host, number};
 use crate::hosts::{Host, MOST_HOSTS};
 use crate::notes::{add, make_room, refused};
 use fam_base::{HostName, OutOfMemory};

@@ -13,9 +13,7 @@ ghost use Rattle.fam_world.specs.View.{count_named, host_view, views};
 
 use super::World;
 use crate::fault::WorldFault;
-use crate::find::{
-    declared, declared_before, entries_kept, is_mount, may_begin, mounted, running,
-};
+use crate::find::{declared, declared_before, entries_kept, is_mount, may_begin, mounted, running};
 use crate::hosts::{Host, begin_task, end_task, forget, lose};
 use crate::notes::{add, make_room, refused};
 use fam_base::{Cmd, HostName, OutOfMemory};

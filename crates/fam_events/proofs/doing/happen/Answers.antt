@@ -8,7 +8,7 @@ use Rattle.fam_machine.specs.HostMoves as how
 use Rattle.fam_events.specs.WorldChange.{WorldChange, world_change}
 use Rattle.fam_events.specs.Happens.{EventSays}
 use Rattle.fam_events.specs.Rested.{IsRun}
-use Rattle.fam_events.proofs.Events.{event_says, evict_call, fetch_call, finish_call, halt_call, host_call, leak_call, mkfs_call, stop_call}
+use Rattle.fam_events.proofs.Events.{event_says, evict_call, fetch_call, finish_call, halt_call, host_call, leak_call, mkfs_call, stop_call, umount_call}
 use Rattle.fam_events.proofs.doing.happen.Goals as goal
 
 pub returns-in-Host-clause-says : goal.returns-in-Host-clause-says
@@ -53,6 +53,13 @@ returns-in-Halt-clause-says g c =
     subst (λ (e : Event). EventSays e shelf a c.halt.result) (sym c.in-Halt.is)
     (event_says (event.Halt c.in-Halt.name) (call.Halts c.in-Halt.name) shelf a (halt_call c.in-Halt.name) refl c.halt.result (c.halt.ensures.says (g.M.Media.size c.args.media.now) (g.M.Media.state c.args.media.now).image (g.M.Media.state c.args.media.now).faults (g.S.Shelf.state c.args.shelf.now).files c.args.copied.now (λ image is. g.met.M.Media.modelled c.args.media.now image is) c.requires.fits))
 
+pub returns-in-Umount-clause-says : goal.returns-in-Umount-clause-says
+returns-in-Umount-clause-says g c =
+    let shelf : ShelfChange = change g.S.Shelf.state c.args.shelf.now c.args.shelf.now in
+    let a : WorldChange = world_change g.M.Media.size g.M.Media.state c.args.media.now c.args.media.now c.args.world.now c.umount.new.world (g.S.Shelf.state c.args.shelf.now).files c.args.copied.now c.args.copied.now in
+    subst (λ (e : Event). EventSays e shelf a c.umount.result) (sym c.in-Umount.is)
+    (event_says (event.Umount c.in-Umount.name) (call.Umounts c.in-Umount.name) shelf a (umount_call c.in-Umount.name) refl c.umount.result (c.umount.ensures.says (g.M.Media.size c.args.media.now) (g.M.Media.state c.args.media.now).image (g.M.Media.state c.args.media.now).faults (g.S.Shelf.state c.args.shelf.now).files c.args.copied.now (λ image is. g.met.M.Media.modelled c.args.media.now image is) c.requires.fits))
+
 pub returns-in-Evict-clause-says : goal.returns-in-Evict-clause-says
 returns-in-Evict-clause-says g c =
     let shelf : ShelfChange = change g.S.Shelf.state c.args.shelf.now c.args.shelf.now in
@@ -94,6 +101,9 @@ returns-in-Stop-clause-same g c = λ run. absurd (subst IsRun c.in-Stop.is run)
 
 pub returns-in-Halt-clause-same : goal.returns-in-Halt-clause-same
 returns-in-Halt-clause-same g c = λ run. absurd (subst IsRun c.in-Halt.is run)
+
+pub returns-in-Umount-clause-same : goal.returns-in-Umount-clause-same
+returns-in-Umount-clause-same g c = λ run. absurd (subst IsRun c.in-Umount.is run)
 
 pub returns-in-Evict-clause-same : goal.returns-in-Evict-clause-same
 returns-in-Evict-clause-same g c = λ run. absurd (subst IsRun c.in-Evict.is run)

@@ -1,9 +1,7 @@
-use Rattle.std.proofs.Common.{refl, sym, ◌≡◌, ◌∙◌, ap, ap₂, arith, true, false, Bool, None, Option, length}
-use Rattle.std.specs.Prelude.{not, slice_get, is_some}
+use Rattle.std.proofs.Common.{refl, sym, ◌≡◌, ◌∙◌, ap, ap₂, arith, true, false, Bool, length}
+use Rattle.std.specs.Prelude.{slice_get, is_some}
 use Rattle.std.proofs.lemmas.List.{length-map}
 use Rattle.std.proofs.lemmas.Option.{same_Some, slice_get_read}
-use Rattle.fam_commands.specs.Task.{Task}
-use Rattle.fam_journal.specs.declared.refusal.Refusal.TheVariants as why
 use Rattle.fam_journal.specs.Calls as call
 use Rattle.fam_journal.specs.Calls.{is_busy_host, is_kept_host}
 use Rattle.fam_journal.specs.View.{HostView}
