@@ -33,7 +33,7 @@ module _ (line : LineNo) (t : Task) (modelled : Option Image) (old : Cache) (sou
     led = led;
     sound = sound;
     within = first_within;
-    same = refl;
+    kept = refl;
     copies = subst (λ (o : Op). LeavesFailed o old new) (sym op) copies;
     failed = load_failed (op_of t) line 0 modelled shown old new op (λ held. absurd (let no : is_held Absent ≡ is_held (cell_at old line.0) = sym (ap is_held absent) in cc)) same copies;
     rose = rose;

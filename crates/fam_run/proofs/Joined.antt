@@ -90,7 +90,7 @@ module _ (a : TaskChange) (same : a.media.new.image ≡ a.media.old.image) (done
         led = led_both a.media.old.image a.task a.next then.task a.old a.new then.held (done_led a same done) then.led;
         sound = then.sound;
         within = then.within;
-        same = then.same;
+        kept = then.kept;
         copies = then.copies;
         failed = then.failed;
         rose = rose_since a.media.old.faults before now later then.rose;

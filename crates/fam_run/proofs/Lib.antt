@@ -16,3 +16,4 @@ pub mod FirstStores
 pub mod SentRuns
 pub mod Gathered
 pub mod RunAlone
+pub mod SentLeft

@@ -56,7 +56,7 @@ module _ (a : TaskChange) (op : Op) (is : op ≡ op_of a.task) (sound : IsSound 
 -- one operation is none and one behind it
 pub alone : (a : TaskChange) (r : Result Turn OperationFault) → Operated a r → Advanced a r
 alone a (Ok turn) x = record { task = a.task; held = a.old; led = none; sound = x.sound; within = x.within; leaves = x.leaves; goes = x.goes; kept = x.kept; turned = x.turned; own = x.own }
-alone a (Err (fault.MediaFault line)) x = record { task = a.task; held = a.old; led = none; sound = x.sound; within = x.within; same = x.task; copies = x.copies; failed = x.failed; rose = x.rose; inside = x.inside }
+alone a (Err (fault.MediaFault line)) x = record { task = a.task; held = a.old; led = none; sound = x.sound; within = x.within; kept = ap (λ (t : Task). t.kept) x.task; copies = x.copies; failed = x.failed; rose = x.rose; inside = x.inside }
 alone a (Err fault.OutOfMemory) x = x
 
 -- what came from where nothing was done before

@@ -1,5 +1,5 @@
 -- Lines of the new file that are stored and sent one behind another, by one write.
-use Rattle.std.proofs.Common.{ℕ, zero, suc, ◌≡◌, ◌≢◌, ◌<◌, ◌≤◌, ◌+◌, List, [], length, Option, Some, None, refl, sym, ap, subst, ◌∙◌, arith, inl, inr}
+use Rattle.std.proofs.Common.{ℕ, zero, suc, ◌≡◌, ◌≢◌, ◌<◌, ◌≤◌, ◌+◌, false, List, [], length, Option, Some, None, unwrap_or, refl, sym, ap, subst, ◌∙◌, arith, inl, inr}
 use Rattle.std.specs.Option.{option_map}
 use Rattle.std.proofs.lemmas.Bool.{cases_eq}
 use Rattle.fam_base.specs.Image.{Image, IsNormal, eight, with_line}
@@ -10,11 +10,17 @@ use Rattle.fam_machine.specs.Caches.{Cache, cell_at, with_cell}
 use Rattle.fam_machine.specs.Operations.{line_no}
 use Rattle.fam_cache.specs.States.{CacheState}
 use Rattle.fam_commands.specs.Task.{Task}
-use Rattle.fam_commands.specs.Turns.{turn_of}
+use Rattle.fam_commands.specs.Turns as turns
+use Rattle.fam_commands.specs.Turns.{Goes, turn_of}
+use Rattle.fam_commands.proofs.TurnTells as told
+use Rattle.fam_commands.proofs.TurnTells.{turn_tells}
 use Rattle.fam_media.specs.Causes.{Rose}
 use Rattle.fam_media.specs.Outside.{IsTorn}
 use Rattle.fam_media.specs.Runs.{IsRunTorn, line_in, run_written, with_run}
 use Rattle.fam_tasks.specs.declared.answer.Turn.TheVariants.{Go}
+use Rattle.fam_base.specs.declared.line.LineNo.{LineNo}
+use Rattle.fam_tasks.specs.Rest as rest
+use Rattle.fam_tasks.specs.Rest.{Stores}
 use Rattle.fam_tasks.specs.Sound.{IsSound}
 use Rattle.fam_tasks.specs.Tells.{Tells}
 use Rattle.fam_run.specs.Led.{HasBrokenOff, HasDone}
@@ -35,6 +41,31 @@ around task next old new modelled shown size before now = record {
   lines = size;
   media = record { old = record { image = modelled; faults = before }; new = record { image = shown; faults = now } };
 }
+
+-- What the host keeps, behind the first lines of a run.
+
+goes_kept : (t next : Task) (word : Option ℕ) → turn_of t word ≡ Goes next → next.kept ≡ t.kept
+goes_kept t next word is = subst (told.Tells t t.phase) is (turn_tells t.phase t (unwrap_or word 0))
+
+stores_kept : (line : LineNo) (words : List ℕ) (t next : Task) (n : ℕ) → Stores line words t next n → next.kept ≡ t.kept
+stores_kept line words t _ _ rest.begins = refl
+stores_kept line words t next _ (rest.stores {mid = mid} {n = n} before sound op within turn) = goes_kept mid next None turn ∙ stores_kept line words t mid n before
+
+sending_kept : (first : ℕ) (lines : List (List ℕ)) (k : ℕ) (t sending : Task) → StoresNext first lines k t sending → sending.kept ≡ t.kept
+sending_kept first lines k t sending s =
+    stores_kept (line_no (first + k)) (line_in lines k) s.stores.begun sending 7 s.stores.rest ∙ goes_kept t s.stores.begun None s.stores.turn
+
+told_kept : (t next : Task) (turn : turns.Turn) → told.Tells t t.phase turn → Tells turn Go next → next.kept ≡ t.kept
+told_kept t next (turns.Goes on) keeps goes = ap (λ (u : Task). u.kept) goes.1 ∙ keeps
+told_kept t next (turns.Marks on) keeps goes = absurd (let is = goes.0 in cc)
+told_kept t next (turns.Finds n on) keeps goes = absurd (let is = goes.0 in cc)
+told_kept t next (turns.Writes seq e on) keeps goes = absurd (let is = goes.0 in cc)
+told_kept t next (turns.Ends reply) keeps goes = absurd goes
+
+pub chain_kept : (first : ℕ) (lines : List (List ℕ)) (t next : Task) (n : ℕ) → StoresRun first lines t next n → next.kept ≡ t.kept
+chain_kept first lines t _ _ run.none = refl
+chain_kept first lines t next _ (run.more {mid = mid} {sending = sending} {n = n} before s tells) =
+    told_kept sending next (turn_of sending None) (turn_tells sending.phase sending 0) tells ∙ sending_kept first lines n mid sending s ∙ chain_kept first lines t mid n before
 
 -- Memory behind the first lines of a run.
 
@@ -107,8 +138,8 @@ begins_line first lines t next _ k (run.more {mid = mid} {sending = sending} {n 
     ]
 
 module _ (first : ℕ) (lines : List (List ℕ)) (modelled : Option Image) (old : Cache) (normal : IsNormal modelled) where
-  pub run_torn : (t next : Task) (n k : ℕ) → StoresRun first lines t next n → k < n → ((j : ℕ) → j < n → cell_at old (first + j) ≡ Absent) → (size before now : ℕ) (after : Task) (new : Cache) (shown : Option Image) → new ≡ with_cell (first + k) (Dirty false (eight (line_in lines k))) old → IsRunTorn modelled shown first lines k → Rose before now → first + k < size → HasRunOff (around t after old new modelled shown size before now) (line_no (first + k))
-  run_torn t next n k chain below absent size before now after new shown same torn rose inside =
+  pub run_torn : (t next : Task) (n k : ℕ) → StoresRun first lines t next n → k < n → ((j : ℕ) → j < n → cell_at old (first + j) ≡ Absent) → (size before now : ℕ) (after : Task) (new : Cache) (shown : Option Image) → after.kept ≡ t.kept → new ≡ with_cell (first + k) (Dirty false (eight (line_in lines k))) old → IsRunTorn modelled shown first lines k → Rose before now → first + k < size → HasRunOff (around t after old new modelled shown size before now) (line_no (first + k))
+  run_torn t next n k chain below absent size before now after new shown keeps same torn rose inside =
       let b = begins_line first lines t next n k chain below in
       record {
         mid = run_written first lines k modelled;
@@ -116,7 +147,7 @@ module _ (first : ℕ) (lines : List (List ℕ)) (modelled : Option Image) (old 
         held = old;
         sent = run_sent first lines modelled old normal t b.mid k b.earlier b.next.sound (λ j under. absent j (omega (arith, under, below)));
         broken = line_torn (line_no (first + k)) (line_in lines k) b.mid b.sending (run_written first lines k modelled) old (normal_written first lines k modelled normal) b.next.stores (absent k below) b.next.sound b.next.sending_sound
-            size before now after new shown same torn rose inside;
+            size before now after new shown (keeps ∙ sym (sending_kept first lines k b.mid b.sending b.next ∙ chain_kept first lines t b.mid k b.earlier)) same torn rose inside;
       }
 
 -- a run keeps the places of an append

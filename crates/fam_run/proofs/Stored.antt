@@ -151,14 +151,14 @@ module _ (line : LineNo) (words : List ℕ) (t u : Task) (modelled : Option Imag
         }
 
     -- the media failed in it
-    pub line_torn : after ≡ u → new ≡ full → IsTorn modelled shown line.0 words → Rose before now → line.0 < size → HasBrokenOff around line
-    line_torn stands same torn rose inside = record {
+    pub line_torn : after.kept ≡ u.kept → new ≡ full → IsTorn modelled shown line.0 words → Rose before now → line.0 < size → HasBrokenOff around line
+    line_torn keeps same torn rose inside = record {
       task = u;
       held = full;
       led = led;
       sound = u_sound;
       within = u_within;
-      same = stands;
+      kept = keeps;
       copies = subst (λ (o : Op). LeavesFailed o full new) (sym stores.sends) same;
       failed =
           invalidate_failed (op_of u) line modelled shown full new stores.sends

@@ -43,14 +43,14 @@ pub record HasDone (a : TaskChange) (turn : Turn) : Type 0 where
   pub turned : IfModelled a.media.old.image (λ image. HasTurned task (machine image held) turn a.next a.media.new.image a.new)
   pub own : IsNoFault turn
 
--- behind such operations the media failed in one more, at this line. The task still stands before that
+-- behind such operations the media failed in one more, at this line. The task keeps what it kept before that
 pub record HasBrokenOff (a : TaskChange) (line : LineNo) : Type 0 where
   pub task : Task
   pub held : Cache
   pub led : Led a.media.old.image a.task a.old task held
   pub sound : IsSound task
   pub within : IsWithin task.lines (op_of task)
-  pub same : a.next ≡ task
+  pub kept : a.next.kept ≡ task.kept
   pub copies : LeavesFailed (op_of task) held a.new
   pub failed : IfModelled a.media.old.image (λ image. HasFailed (op_of task) (machine image held) line a.media.new.image a.new)
   pub rose : Rose a.media.old.faults a.media.new.faults

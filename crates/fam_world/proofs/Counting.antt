@@ -35,14 +35,7 @@ use Rattle.fam_world.proofs.Deciding.{steps_first}
 use Rattle.fam_world.proofs.Finishing.{far_on, first_so_far, number_same}
 use Rattle.fam_world.proofs.Members.{length_kept, map_at, map_kept, put_own, put_twice}
 use Rattle.fam_world.proofs.Stepping.{step_call}
-use Rattle.fam_world.proofs.TaskSteps.{Reached, done_step, standing_at}
-
--- some behind others
-pub iterated_both : {S : Type 0} (R : S → S → Type 0) (a b c : S) (n k : ℕ) → Iterated R a b n → Iterated R b c k → Iterated R a c (n + k)
-iterated_both R a b _ n _ first none = let same : n ≡ n + 0 = omega arith in subst (Iterated R a b) same first
-iterated_both R a b c n _ first (more {b = mid} {n = k} before last) =
-    let same : suc (n + k) ≡ n + suc k = omega arith in
-    subst (Iterated R a c) same (more (iterated_both R a b mid n k first before) last)
+use Rattle.fam_world.proofs.TaskSteps.{Reached, done_step, iterated_both, standing_at}
 
 -- Operations on copies of the host alone.
 

@@ -1,5 +1,5 @@
 -- Operations of a task, as its cache and its media tell them, are steps of the host that runs it.
-use Rattle.std.proofs.Common.{◌≡◌, ℕ, suc, ◌<◌, ◌≤◌, inl, inr, List, [], ◌∷◌, ◌++◌, length, Bool, true, false, Option, Some, None, Result, Ok, Err, refl, ap, ap₂, sym, subst, ◌∙◌, arith, append-nil}
+use Rattle.std.proofs.Common.{◌≡◌, ℕ, suc, ◌+◌, ◌<◌, ◌≤◌, inl, inr, List, [], ◌∷◌, ◌++◌, length, Bool, true, false, Option, Some, None, Result, Ok, Err, refl, ap, ap₂, sym, subst, ◌∙◌, arith, append-nil}
 use Rattle.fam_base.specs.declared.line.LineNo.{LineNo}
 use Rattle.fam_base.specs.declared.line.OutOfMemory.{OutOfMemory}
 use Rattle.fam_cache.specs.declared.fault.OperationFault.{OperationFault}
@@ -8,7 +8,10 @@ use Rattle.fam_cache.proofs.Performed.{left_held}
 use Rattle.fam_cache.specs.Operations.{word_of}
 use Rattle.fam_commands.specs.Kept.{Kept}
 use Rattle.fam_commands.specs.Task.{Task, op_of}
+use Rattle.fam_base.specs.Image.{Image}
 use Rattle.fam_machine.specs.Caches.{Cache, cell_at}
+use Rattle.fam_machine.specs.Operations.{machine, operated}
+use Rattle.fam_machine.proofs.OneOperation.{operated_length}
 use Rattle.fam_machine.specs.OneLine.{IsHeld}
 use Rattle.fam_media.specs.Outside.{IfModelled}
 use Rattle.fam_media.specs.States.{MediaState}
@@ -16,10 +19,13 @@ use Rattle.fam_tasks.specs.declared.answer.Turn.{Turn}
 use Rattle.fam_tasks.specs.declared.answer.Turn.TheVariants.{Go, Note as Notes, Done}
 use Rattle.fam_tasks.proofs.Keeping.{go_keeps}
 use Rattle.fam_run.specs.Led as led
-use Rattle.fam_run.specs.Led.{Advanced, HasBrokenOff, HasDone, Led}
+use Rattle.fam_run.specs.Led.{HasBrokenOff, HasDone, Led}
 use Rattle.fam_run.specs.Operation.{IsBroken, IsDone, IsUndone, Operated, ended}
 use Rattle.fam_run.specs.TaskChange.{TaskChange}
+use Rattle.fam_run.specs.Runs as sends
+use Rattle.fam_run.specs.Runs.{HasAdvanced, HasRun, HasRunOff, SendsOne, Sent, later, quiet_change}
 use Rattle.fam_run.proofs.Led.{led_lines}
+use Rattle.fam_run.proofs.SentLeft.{sent_lines}
 use Rattle.fam_run.proofs.Running.{lines_kept}
 use Rattle.fam_journal.specs.Notes.{Answered, MediaFault, Note}
 use Rattle.fam_journal.specs.View.{HostView}
@@ -63,6 +69,13 @@ pub stands_still : (view : HostView) (b : TaskChange) (notes notes_now : List No
 stands_still view b notes notes_now undone same =
     ap₂ (λ (t : Task) (k : Cache). standing_at view (Some t) t.kept k notes_now b.media.new) undone.task undone.cache
     ∙ ap₂ (λ (n : List Note) (m : MediaState). standing_at view (Some b.task) b.task.kept b.old n m) same undone.media
+
+-- some behind others
+pub iterated_both : {S : Type 0} (R : S → S → Type 0) (a b c : S) (n k : ℕ) → Iterated R a b n → Iterated R b c k → Iterated R a c (n + k)
+iterated_both R a b _ n _ first none = let same : n ≡ n + 0 = omega arith in subst (Iterated R a b) same first
+iterated_both R a b c n _ first (more {b = mid} {n = k} before last) =
+    let same : suc (n + k) ≡ n + suc k = omega arith in
+    subst (Iterated R a c) same (more (iterated_both R a b mid n k first before) last)
 
 module _ (at lines : ℕ) (view : HostView) where
   -- an operation that was done
@@ -168,9 +181,66 @@ module _ (at lines : ℕ) (view : HostView) where
           task = x.task;
           runs = refl;
           modelled = modelled;
-          step = step_cut at x.task a line (ap (λ (t : Task). t.kept) x.same) noted refl later refl (left_held (op_of x.task) x.held b.new x.copies) x.failed x.rose;
+          step = step_cut at x.task a line x.kept noted refl later refl (left_held (op_of x.task) x.held b.new x.copies) x.failed x.rose;
         };
       }
+
+  -- Lines that were sent one behind another.
+
+  -- memory has as many lines behind one of them
+  still_lines : (told left : Option Image) (t next : Task) (held after : Cache) → SendsOne told t held left next after → IfModelled told (λ image. length image ≡ lines) → IfModelled left (λ image. length image ≡ lines)
+  still_lines None left t next held after one modelled now is = absurd (let none : None ≡ Some now = sym (one.unknown refl) ∙ is in cc)
+  still_lines (Some image) left t next held after one modelled now is =
+      let x = one.done lines 0 in
+      let same : now ≡ (operated (op_of x.task) (machine image x.held)).image = some_is now _ (sym is ∙ (x.turned image refl).is.image) in
+      ap length same ∙ operated_length (op_of x.task) (machine image x.held) ∙ modelled image refl
+    where
+      some_is : (x y : Image) → Some x ≡ Some y → x ≡ y
+      some_is x y e = cc
+
+  -- some, and that memory has as many lines behind them
+  pub record SentRuns (a c : HostStanding) (left : Option Image) : Type 0 where
+    pub runs : Runs at lines a c
+    pub modelled : IfModelled left (λ image. length image ≡ lines)
+
+  pub sent_runs : (faults : ℕ) (notes : List Note) (told left : Option Image) (t next : Task) (held after : Cache) → Sent told t held left next after → IfModelled told (λ image. length image ≡ lines) → t.lines ≡ lines
+      → SentRuns (standing_at view (Some t) t.kept held notes (record { image = told; faults = faults })) (standing_at view (Some next) next.kept after notes (record { image = left; faults = faults })) left
+  sent_runs faults notes told _ t _ held _ sends.none modelled fits = record { runs = record { count = 0; goes = none }; modelled = modelled }
+  sent_runs faults notes told left t next held after (sends.more {mid = mid} {here = here} {now = now} first one) modelled fits =
+      let before = sent_runs faults notes told mid t here held now first modelled fits in
+      let reached = done_reached (quiet_change lines faults mid here now left next after) Go notes notes (one.done lines faults) before.modelled (sent_lines told mid t here held now first ∙ fits) (omega arith) (sym (append-nil notes)) in
+      record {
+        runs = record {
+          count = before.runs.count + suc reached.runs.count;
+          goes = iterated_both (HostStep at lines false) _ _ _ before.runs.count (suc reached.runs.count) before.runs.goes (more reached.runs.goes reached.last);
+        };
+        modelled = still_lines mid left here next now after one before.modelled;
+      }
+
+  -- behind them, some operations and one more
+  reached_behind : (a b : HostStanding) (over : Bool) (c : HostStanding) → Runs at lines a b → Reached b over c → Reached a over c
+  reached_behind a b over c first reached = record {
+    before = reached.before;
+    runs = record {
+      count = first.count + reached.runs.count;
+      goes = iterated_both (HostStep at lines false) _ _ _ first.count reached.runs.count first.goes reached.runs.goes;
+    };
+    last = reached.last;
+  }
+
+  pub run_reached : (b : TaskChange) (said : Turn) (notes notes_now : List Note) → HasRun b said → IfModelled b.media.old.image (λ image. length image ≡ lines) → b.task.lines ≡ lines → b.media.old.faults ≤ b.media.new.faults → notes_now ≡ notes ++ turn_notes at said
+      → Reached (standing_at view (Some b.task) b.task.kept b.old notes b.media.old) (is_done said) (standing_at view (kept_by said (Some b.next)) b.next.kept b.new notes_now b.media.new)
+  run_reached b said notes notes_now x modelled fits late noted =
+      let first = sent_runs b.media.old.faults notes b.media.old.image x.mid b.task x.task b.old x.held x.sent modelled fits in
+      reached_behind _ _ (is_done said) _ first.runs
+      (done_reached (later b x.mid x.task x.held) said notes notes_now x.done first.modelled (sent_lines b.media.old.image x.mid b.task x.task b.old x.held x.sent ∙ fits) late noted)
+
+  pub off_reached : (b : TaskChange) (line : LineNo) (notes notes_now : List Note) → HasRunOff b line → IfModelled b.media.old.image (λ image. length image ≡ lines) → b.task.lines ≡ lines → b.media.old.faults ≤ b.media.new.faults → notes_now ≡ notes ++ Answered at (MediaFault line.0) ∷ []
+      → Reached (standing_at view (Some b.task) b.task.kept b.old notes b.media.old) true (standing_at view None b.next.kept b.new notes_now b.media.new)
+  off_reached b line notes notes_now x modelled fits late noted =
+      let first = sent_runs b.media.old.faults notes b.media.old.image x.mid b.task x.task b.old x.held x.sent modelled fits in
+      reached_behind _ _ true _ first.runs
+      (broken_reached (later b x.mid x.task x.held) line notes notes_now x.broken first.modelled (sent_lines b.media.old.image x.mid b.task x.task b.old x.held x.sent ∙ fits) late noted)
 
   module _ (b : TaskChange) (r : Result Turn OperationFault) (notes notes_now : List Note) (res : Result Moved OutOfMemory) (noted : IsNoted at r notes notes_now res) (modelled : IfModelled b.media.old.image (λ image. length image ≡ lines)) (fits : b.task.lines ≡ lines) (later : b.media.old.faults ≤ b.media.new.faults) where
     -- what stands before and behind
@@ -192,10 +262,10 @@ module _ (at lines : ℕ) (view : HostView) where
 
     -- of several
 
-    pub all_go : Advanced b r → res ≡ Ok moved.Going → Runs at lines start (end (Some b.next))
+    pub all_go : HasAdvanced b r → res ≡ Ok moved.Going → Runs at lines start (end (Some b.next))
     all_go x is =
         let w = went at r notes notes_now res noted is in
-        let reached = done_reached b w.said notes notes_now (subst (Advanced b) w.is x) modelled fits later w.noted in
+        let reached = run_reached b w.said notes notes_now (subst (HasAdvanced b) w.is x) modelled fits later w.noted in
         let last : HostStep at lines false reached.before (end (Some b.next)) =
         subst (λ (over : Bool). HostStep at lines over reached.before (end (Some b.next))) w.over
         (subst (λ (o : Option Task). HostStep at lines (is_done w.said) reached.before (end o)) (w.kept b.next) reached.last) in
@@ -210,12 +280,12 @@ module _ (at lines : ℕ) (view : HostView) where
   one_ends b (Err (fault.MediaFault line)) notes notes_now res noted modelled fits later x is = broken_step b line notes notes_now x modelled later noted.0
   one_ends b (Err fault.OutOfMemory) notes notes_now res noted modelled fits later x is = absurd (let full : Err record {} ≡ Ok moved.Answered = sym noted.1 ∙ is in cc)
 
-  pub all_end : (b : TaskChange) (r : Result Turn OperationFault) (notes notes_now : List Note) (res : Result Moved OutOfMemory) → IsNoted at r notes notes_now res → IfModelled b.media.old.image (λ image. length image ≡ lines) → b.task.lines ≡ lines → b.media.old.faults ≤ b.media.new.faults → Advanced b r → res ≡ Ok moved.Answered
+  pub all_end : (b : TaskChange) (r : Result Turn OperationFault) (notes notes_now : List Note) (res : Result Moved OutOfMemory) → IsNoted at r notes notes_now res → IfModelled b.media.old.image (λ image. length image ≡ lines) → b.task.lines ≡ lines → b.media.old.faults ≤ b.media.new.faults → HasAdvanced b r → res ≡ Ok moved.Answered
       → Reached (standing_at view (Some b.task) b.task.kept b.old notes b.media.old) true (standing_at view None b.next.kept b.new notes_now b.media.new)
   all_end b (Ok Go) notes notes_now res noted modelled fits later x is = absurd (let on : Ok moved.Going ≡ Ok moved.Answered = sym noted.1 ∙ is in cc)
   all_end b (Ok (Notes note)) notes notes_now res noted modelled fits later x is = absurd (let on : Ok moved.Going ≡ Ok moved.Answered = sym noted.1 ∙ is in cc)
-  all_end b (Ok (Done answer)) notes notes_now res noted modelled fits later x is = done_reached b (Done answer) notes notes_now x modelled fits later noted.0
-  all_end b (Err (fault.MediaFault line)) notes notes_now res noted modelled fits later x is = broken_reached b line notes notes_now x modelled fits later noted.0
+  all_end b (Ok (Done answer)) notes notes_now res noted modelled fits later x is = run_reached b (Done answer) notes notes_now x modelled fits later noted.0
+  all_end b (Err (fault.MediaFault line)) notes notes_now res noted modelled fits later x is = off_reached b line notes notes_now x modelled fits later noted.0
   all_end b (Err fault.OutOfMemory) notes notes_now res noted modelled fits later x is = absurd (let full : Err record {} ≡ Ok moved.Answered = sym noted.1 ∙ is in cc)
 
 -- The lines that a host holds are still those of the media.

@@ -22,6 +22,7 @@ use fam_media::Media;
 use fam_notes::Note;
 use fam_run::{advance, operate, operate_cached};
 use fam_tasks::{Answer, Kept, Replica, Task, TaskNote, Turn};
+use std::alloc::Global;
 use std::mem::replace;
 
 /// A note of a host's task.
@@ -141,6 +142,7 @@ fn run_most<M: Media>(
 /// Does operations of a host's task up to its answer. Where no memory was found those before stand; but where nothing of
 /// the task was stored at first, and its host's cache had nothing to send, memory is as it was then.
 fn run_up<M: Media>(
+    alloc: Global,
     cache: &mut HostCache,
     task: &mut Task,
     journal: &mut Vec<Note>,
@@ -158,6 +160,7 @@ fn run_up<M: Media>(
     ensures size { M.size media.new ≡ M.size media.old }
 {
     let mut turn = Turn::Go;
+    let mut lines = Vec::new(alloc);
     'operations: loop {
         if make_room(journal).is_err() {
             return Err(OutOfMemory);
@@ -165,7 +168,7 @@ fn run_up<M: Media>(
         match note_turn(
             journal,
             host,
-            advance(cache, task, media, &mut turn),
+            advance(cache, task, media, &mut turn, &mut lines),
             &mut turn,
         ) {
             Ok(Moved::Going) => {
@@ -229,6 +232,7 @@ pub(crate) fn steps_of<M: Media>(
 
 /// As `run_up`, of the task that a host runs, which there is. Behind its answer the host has no task.
 pub(crate) fn finish_of<M: Media>(
+    alloc: Global,
     host: &mut Host,
     journal: &mut Vec<Note>,
     media: &mut M,
@@ -250,7 +254,14 @@ pub(crate) fn finish_of<M: Media>(
     let Some(task) = &mut host.task else {
         unreachable!();
     };
-    run_up(&mut host.cache, task, journal, media, HostId(at as u32))?;
+    run_up(
+        alloc,
+        &mut host.cache,
+        task,
+        journal,
+        media,
+        HostId(at as u32),
+    )?;
     retire(&mut host.task, &mut host.kept, &mut host.replica);
     Ok(())
 }

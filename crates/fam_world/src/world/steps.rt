@@ -82,6 +82,12 @@ impl World {
             Ok(at) => at,
             Err(cause) => return Err(refused(&mut self.journal, name, cause)),
         };
-        or_fault(finish_of(&mut self.hosts[at], &mut self.journal, media, at))
+        or_fault(finish_of(
+            self.alloc,
+            &mut self.hosts[at],
+            &mut self.journal,
+            media,
+            at,
+        ))
     }
 }

@@ -12,8 +12,8 @@ use Rattle.fam_journal.specs.View.{HostView}
 use Rattle.fam_world.specs.Counted.{HostStanding, HostStep, Iterated, more, none, task_standing}
 use Rattle.fam_world.specs.Turns.{IsNoted}
 use Rattle.fam_world.specs.View.{notes_view}
-use Rattle.fam_world.proofs.Counting.{held_steps, iterated_both}
-use Rattle.fam_world.proofs.TaskSteps.{lacked, one_ends, one_goes, stands_still, steps_below, went}
+use Rattle.fam_world.proofs.Counting.{held_steps}
+use Rattle.fam_world.proofs.TaskSteps.{iterated_both, lacked, one_ends, one_goes, stands_still, steps_below, went}
 use Rattle.fam_world.proofs.run.run_most.Goals as goal
 
 pub operations-init : goal.operations-init

@@ -4,12 +4,14 @@ use Rattle.std.specs.Result.{is_err}
 use Rattle.fam_world.proofs.Sends.{held_sends}
 use Rattle.fam_commands.specs.Task.{op_of}
 use Rattle.fam_media.specs.Outside.{IfModelled}
-use Rattle.fam_run.specs.Led.{Advanced, HasDone}
+use Rattle.fam_run.specs.Led.{HasDone}
+use Rattle.fam_run.specs.Runs.{HasAdvanced, HasRun, later}
 use Rattle.fam_run.specs.Operation.{IsUndone, said_of}
 use Rattle.fam_run.specs.Places.{PlacesMade}
 use Rattle.fam_run.specs.TaskChange.{TaskChange, task_change}
 use Rattle.fam_run.proofs.Cached.{cached_left, cached_lines}
 use Rattle.fam_run.proofs.Led.{led_left, led_lines}
+use Rattle.fam_run.proofs.SentLeft.{sent_left, sent_lines}
 use Rattle.fam_run.proofs.Running.{kept_on, lines_kept}
 use Rattle.fam_journal.specs.Notes.{Note}
 use Rattle.fam_journal.specs.View.{HostView}
@@ -18,7 +20,7 @@ use Rattle.fam_world.specs.Turns.{IsNoted}
 use Rattle.fam_world.specs.View.{notes_view}
 use Rattle.fam_world.proofs.Counting.{ends_behind, held_steps, runs_all, runs_both}
 use Rattle.fam_world.proofs.TaskSteps.{all_end, all_go, lacked, stands_still, runs_below, went}
-use Rattle.fam_world.proofs.UpToOn.{full_same, held_safe, lacks_same, safe_on}
+use Rattle.fam_world.proofs.UpToOn.{full_same, held_safe, lacks_same, run_safe}
 use Rattle.fam_world.proofs.run.run_up.Goals as goal
 
 ok_then : {T E P : Type 0} (r : Result T E) → is_err r ≡ false → OnOk r P → P
@@ -53,11 +55,13 @@ operations-smaller g c =
     let m = g.M.Media in
     let b : TaskChange = task_change m.size m.state c.operations.task c.advance.new.task c.operations.cache c.advance.new.cache c.operations.media c.advance.new.media in
     let w = went c.args.host.0 (said_of c.advance.result c.advance.new.turn) _ _ c.note_turn.result c.note_turn.ensures.noted (c.in-Ok-Going.is ∙ ap Ok c.in-Ok-Going.field-0-is) in
-    let done : HasDone b w.said = subst (Advanced b) w.is c.advance.ensures.advanced in
+    let ran : HasRun b w.said = subst (HasAdvanced b) w.is c.advance.ensures.advanced in
+    let done : HasDone (later b ran.mid ran.task ran.held) w.said = ran.done in
     let fell = (kept_on b.new done.task b.next w.said w.on done.sound done.goes).falls c.is_sound.ensures.stands in
-    let up_to = led_left b.media.old.image b.task done.task b.old done.held done.led done.sound in
+    let up_to = led_left ran.mid ran.task done.task ran.held done.held done.led done.sound in
+    let sent = sent_left b.media.old.image ran.mid b.task ran.task b.old ran.held ran.sent in
     let near = cached_left c.advance.new.task c.operate_cached.new.task c.advance.new.cache.lines c.operate_cached.new.cache.lines c.operate_cached.ensures.run c.is_sound-in-Ok-Going.ensures in
-    omega (arith, fell, up_to, near)
+    omega (arith, fell, up_to, sent, near)
 
 pub operations-preserved : goal.operations-preserved
 operations-preserved g c =
@@ -76,9 +80,11 @@ operations-preserved g c =
     let same_size : m.size next.media ≡ size = c.advance.ensures.steady.size ∙ inv.size in
     let modelled : IfModelled (m.state c.operations.media).image (λ image. length image ≡ size) = λ i told. g.met.M.Media.modelled c.operations.media i told ∙ inv.size in
     let w = went at (said_of c.advance.result c.advance.new.turn) notes notes_now c.note_turn.result noted is in
-    let done : HasDone b w.said = subst (Advanced b) w.is c.advance.ensures.advanced in
+    let ran : HasRun b w.said = subst (HasAdvanced b) w.is c.advance.ensures.advanced in
+    let done : HasDone (later b ran.mid ran.task ran.held) w.said = ran.done in
     let fits : next.task.lines ≡ size =
-    lines_kept b.new done.task b.next w.said done.sound done.goes w.on ∙ led_lines b.media.old.image b.task done.task b.old done.held done.led ∙ inv.fits in
+    lines_kept b.new done.task b.next w.said done.sound done.goes w.on ∙ led_lines ran.mid ran.task done.task ran.held done.held done.led
+    ∙ sent_lines b.media.old.image ran.mid b.task ran.task b.old ran.held ran.sent ∙ inv.fits in
     let here : HostView → HostStanding = λ view. task_standing m.state c.operations.media view (Some c.operations.task) c.operations.task.kept c.operations.cache notes in
     let mid : HostView → HostStanding = λ view. task_standing m.state next.media view (Some next.task) next.task.kept next.cache notes_now in
     let end : HostView → HostStanding = λ view. task_standing m.state next.media view (Some z.task) z.task.kept z.cache notes_now in
@@ -99,8 +105,8 @@ operations-preserved g c =
       safe = λ start.
           held_safe next.task z.task next.cache z.cache (m.state c.args.media.now).image (m.state next.media).image (vec_len c.note_turn.new.journal) (vec_capacity c.note_turn.new.journal)
           c.operate_cached.ensures.run c.operate_cached.ensures.places c.operate_cached.ensures.idle
-          (safe_on b w.said (m.state c.args.media.now).image c.operations.cache next.cache _ _ (vec_len c.note_turn.new.journal) (vec_capacity c.note_turn.new.journal)
-          w.on done (g.met.M.Media.normal c.operations.media) refl refl (places w.on)
+          (run_safe b w.said (m.state c.args.media.now).image c.operations.cache next.cache _ _ (vec_len c.note_turn.new.journal) (vec_capacity c.note_turn.new.journal)
+          w.on ran (g.met.M.Media.normal c.operations.media) refl refl (places w.on)
           (λ go. subst (λ j. vec_len j < vec_capacity j) (sym (c.note_turn.ensures.quiet (w.is ∙ ap Ok go))) (ok_then c.make_room.result (sym c.if-is_err.ensures.value) c.make_room.ensures.room))
           (inv.safe start));
     }
@@ -141,7 +147,7 @@ returns-in-Err-clause-runs g c = λ view.
     let next = c.advance.new in
     let b : TaskChange = task_change m.size m.state c.operations.task next.task c.operations.cache next.cache c.operations.media next.media in
     let full = lacked at (said_of c.advance.result c.advance.new.turn) (notes_view c.make_room.new.journal.items) (notes_view c.note_turn.new.journal.items) c.note_turn.result c.in-Err.field-0 c.note_turn.ensures.noted c.in-Err.is in
-    let undone : IsUndone b = subst (Advanced b) full.0 c.advance.ensures.advanced in
+    let undone : IsUndone b = subst (HasAdvanced b) full.0 c.advance.ensures.advanced in
     let start : HostStanding = task_standing m.state c.args.media.now view (Some c.args.task.now) c.args.task.now.kept c.args.cache.now (notes_view c.args.journal.now.items) in
     subst (λ (s : HostStanding). Runs at size start s)
     (sym (stands_still view b (notes_view c.operations.journal.items) (notes_view c.note_turn.new.journal.items) undone (full.1 ∙ ap notes_view c.make_room.ensures.same))) (inv.far view)
@@ -153,6 +159,6 @@ returns-in-Err-clause-same g c = λ start.
     let next = c.advance.new in
     let b : TaskChange = task_change m.size m.state c.operations.task next.task c.operations.cache next.cache c.operations.media next.media in
     let full = lacked c.args.host.0 (said_of c.advance.result c.advance.new.turn) (notes_view c.make_room.new.journal.items) (notes_view c.note_turn.new.journal.items) c.note_turn.result c.in-Err.field-0 c.note_turn.ensures.noted c.in-Err.is in
-    let undone : IsUndone b = subst (Advanced b) full.0 c.advance.ensures.advanced in
+    let undone : IsUndone b = subst (HasAdvanced b) full.0 c.advance.ensures.advanced in
     let lacks : ¬ (Rattle.fam_run.specs.Places.HasPlaces c.operations.task c.operations.cache) = subst (PlacesMade c.operations.task c.operations.cache next.task next.cache) full.0 c.advance.ensures.places in
     λ image told. ap (λ s. s.image) undone.media ∙ lacks_same (m.state c.args.media.now).image (m.state c.operations.media).image c.operations.task c.operations.cache (vec_len c.operations.journal) (vec_capacity c.operations.journal) lacks (inv.safe start) image told
