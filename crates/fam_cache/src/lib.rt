@@ -15,6 +15,7 @@ mod copies;
 mod fault;
 mod perform;
 mod renewal;
+mod sending;
 
 pub use cache::HostCache;
 pub use fault::{CacheFault, FenceFailed, OperationFault};

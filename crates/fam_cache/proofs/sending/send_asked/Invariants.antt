@@ -5,7 +5,7 @@ use Rattle.fam_media.specs.Causes.{IsSteady}
 use Rattle.fam_cache.specs.Blocks.{AskedWithin, IsKept, lines_of}
 use Rattle.fam_cache.specs.Runs.{over}
 use Rattle.fam_cache.proofs.Fenced.{HasSent}
-use Rattle.fam_cache.proofs.cache.send_asked.Given as goal
+use Rattle.fam_cache.proofs.sending.send_asked.Given as goal
 
 abbrev pub invariant-loop-at : goal.invariant-loop-at
 invariant-loop-at g l = record {

@@ -6,7 +6,7 @@ use Rattle.fam_cache.specs.Runs.{over}
 use Rattle.fam_cache.proofs.AskedLines.{next_line, none_more}
 use Rattle.fam_cache.proofs.AskedRange.{within_next}
 use Rattle.fam_cache.proofs.Fenced.{all_cleaned, all_sent_here, none_sent, not_all_sent, sent_next, was_asked}
-use Rattle.fam_cache.proofs.cache.send_asked.Goals as goal
+use Rattle.fam_cache.proofs.sending.send_asked.Goals as goal
 
 pub loop-at-init : goal.loop-at-init
 loop-at-init g c = record {
