@@ -9,11 +9,11 @@ use Rattle.fam_journal.specs.Calls as call
 use Rattle.fam_journal.specs.Calls.{busy_at, idle_refusal, is_busy_host, on_host, refusal_of, when}
 use Rattle.fam_journal.specs.Ends.{is_answer_note}
 use Rattle.fam_commands.specs.Appends.{HasWish}
-use Rattle.fam_journal.specs.Forms.{AnswerForm, Begun, CommandStage, EntryForm, HostForm, Marked, Met, Named, IsFormed, OfRunning, OfTask, OperationsForm, TaskForm, TaskNote, forms_after, forms_behind, forms_of, runs_form, shown_form, shown_forms, shown_running, with_stage}
+use Rattle.fam_journal.specs.Forms.{AnswerForm, Begun, CommandStage, EntryForm, HostForm, Marked, Met, Named, IsFormed, OfRunning, OfTask, OperationsForm, TaskForm, TaskNote, forms_after, forms_behind, forms_of, keeps_behind, runs_form, shown_form, shown_forms, shown_running, with_stage}
 use Rattle.fam_journal.specs.Kept.{Held}
 use Rattle.fam_journal.specs.Machines.{Machines}
 use Rattle.fam_journal.specs.Members.{changed_at}
-use Rattle.fam_journal.specs.Notes.{Note, Host, Made, Start, Mark, Found, Writes, Answered, Stop, Halt, Umount, Refused}
+use Rattle.fam_journal.specs.Notes.{Answer, Note, Host, Made, Start, Mark, Found, Writes, Answered, Stop, Halt, Umount, Refused}
 use Rattle.fam_journal.specs.View.{WorldStands, WorldView}
 use Rattle.fam_journal.specs.ByWorld.{number_in, refusal_in, shown_state}
 use Rattle.fam_journal.proofs.Calls.Members.{changed_here}
@@ -90,10 +90,10 @@ staged_runs h hosts stage = ap runs_form (changed_here h (with_stage stage) host
     by_host None = refl
     by_host (Some f) = by_task f.task
 
-over_runs : (h : ℕ) (hosts : List HostForm) → runs_form (slice_get (changed_at h (λ (f : HostForm). record f { task = None }) hosts) h) ≡ false
-over_runs h hosts = ap runs_form (changed_here h (λ (f : HostForm). record f { task = None }) hosts) ∙ by_host (slice_get hosts h)
+over_runs : (answer : Answer) (h : ℕ) (hosts : List HostForm) → runs_form (slice_get (changed_at h (λ (f : HostForm). record f { task = None; keeps = keeps_behind answer f.keeps }) hosts) h) ≡ false
+over_runs answer h hosts = ap runs_form (changed_here h (λ (f : HostForm). record f { task = None; keeps = keeps_behind answer f.keeps }) hosts) ∙ by_host (slice_get hosts h)
   where
-    by_host : (o : Option HostForm) → runs_form (option_map (λ (f : HostForm). record f { task = None }) o) ≡ false
+    by_host : (o : Option HostForm) → runs_form (option_map (λ (f : HostForm). record f { task = None; keeps = keeps_behind answer f.keeps }) o) ≡ false
     by_host None = refl
     by_host (Some f) = refl
 
@@ -134,7 +134,7 @@ note_runs h hosts (Mark host) x runs = staged_on host h hosts Marked (of_answer 
 note_runs h hosts (Found host n) x runs = staged_on host h hosts (Met n) (of_three (slice_get hosts h) (λ t. HasWish t.cmd) (λ t. t.stage ≡ Marked) host h x) runs
 note_runs h hosts (Writes host seq entry) x runs = staged_on host h hosts (Named seq) (of_three (slice_get hosts h) (λ t. EntryForm t.cmd entry) (λ t. t.stage ≡ Met seq) host h x) runs
 note_runs h hosts (Answered host answer) x runs =
-    ap (λ (k : ℕ). runs_form (slice_get (changed_at k (λ (f : HostForm). record f { task = None }) hosts) h)) (of_answer (slice_get hosts h) (λ me t. AnswerForm me t.cmd t.stage answer) host h x) ∙ over_runs h hosts
+    ap (λ (k : ℕ). runs_form (slice_get (changed_at k (λ (f : HostForm). record f { task = None; keeps = keeps_behind answer f.keeps }) hosts) h)) (of_answer (slice_get hosts h) (λ me t. AnswerForm me t.cmd t.stage answer) host h x) ∙ over_runs answer h hosts
 note_runs h hosts (Stop host) x runs = absurd (of_none (slice_get hosts h) x)
 note_runs h hosts (Halt host) x runs = absurd (of_none (slice_get hosts h) x)
 note_runs h hosts (Umount host) x runs = absurd (of_none (slice_get hosts h) x)

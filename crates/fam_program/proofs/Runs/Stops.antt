@@ -15,9 +15,9 @@ use Rattle.fam_journal.specs.Calls as call
 use Rattle.fam_journal.specs.Events.{mounts}
 use Rattle.fam_journal.specs.Calls.{may_begin, number_of}
 use Rattle.fam_journal.specs.EventForms.{EventBreaksForm, EventForm, EventPartForm, StartForm, UnfitNotes}
-use Rattle.fam_journal.specs.Forms.{ActsForm, AnswerForm, AtForm, CompletesForm, DirtyForm, FormByRefusal, HostActsForm, HostForm, OfHostForm, OfRunning, OfTask, OperationsForm, UnfinishedForm, TaskForm, TaskNote, forms_after, refusal_told, shown_forms}
+use Rattle.fam_journal.specs.Forms.{ActsForm, AnswerForm, AtForm, CompletesForm, DirtyForm, FormByRefusal, HostActsForm, HostForm, OfHostForm, OfRunning, OfTask, OperationsForm, UnfinishedForm, TaskForm, TaskNote, forms_after, keeps_behind, refusal_told, shown_forms}
 use Rattle.fam_journal.specs.Members.{changed_at}
-use Rattle.fam_journal.specs.Notes.{Note, Host, Made, Start, Mark, Found, Writes, Answered, Stop, Halt, Umount, Refused}
+use Rattle.fam_journal.specs.Notes.{Answer, Note, Host, Made, Start, Mark, Found, Writes, Answered, Stop, Halt, Umount, Refused}
 use Rattle.fam_outcomes.specs.Programs.{without_last}
 use Rattle.fam_outcomes.specs.Statuses.{last_stops, note_stops}
 use Rattle.fam_journal.proofs.Calls.Members.{changed_here}
@@ -33,9 +33,9 @@ alone note notes is = ap (λ (ns : List Note). list_any note_stops (without_last
 -- Notes of a command.
 
 -- a host without a command runs none
-of_idle : (o : Option HostForm) (P : List ℕ → TaskForm → Type 0) → OfRunning (option_map (λ (f : HostForm). record f { task = None }) o) P → ⊥
-of_idle None P x = x
-of_idle (Some f) P x = x
+of_idle : (answer : Answer) (o : Option HostForm) (P : List ℕ → TaskForm → Type 0) → OfRunning (option_map (λ (f : HostForm). record f { task = None; keeps = keeps_behind answer f.keeps }) o) P → ⊥
+of_idle answer None P x = x
+of_idle answer (Some f) P x = x
 
 of_here : (o : Option HostForm) (P : List ℕ → TaskForm → Type 0) (host h : ℕ) → OfRunning o (λ me t. (host ≡ h) × P me t) → host ≡ h
 of_here None P host h x = absurd x
@@ -54,11 +54,11 @@ of_none (Some f) x = by_task f.task x
     by_task (Some t) x = x
 
 -- behind its answer nothing comes
-not_answered : (h host : ℕ) (hosts : List HostForm) (P : List ℕ → TaskForm → Type 0) → host ≡ h → OfRunning (slice_get (changed_at host (λ (f : HostForm). record f { task = None }) hosts) h) P → ⊥
-not_answered h host hosts P same x =
-    of_idle (slice_get hosts h) P
-    (subst (λ (o : Option HostForm). OfRunning o P) (changed_here h (λ (f : HostForm). record f { task = None }) hosts)
-    (subst (λ (k : ℕ). OfRunning (slice_get (changed_at k (λ (f : HostForm). record f { task = None }) hosts) h) P) same x))
+not_answered : (answer : Answer) (h host : ℕ) (hosts : List HostForm) (P : List ℕ → TaskForm → Type 0) → host ≡ h → OfRunning (slice_get (changed_at host (λ (f : HostForm). record f { task = None; keeps = keeps_behind answer f.keeps }) hosts) h) P → ⊥
+not_answered answer h host hosts P same x =
+    of_idle answer (slice_get hosts h) P
+    (subst (λ (o : Option HostForm). OfRunning o P) (changed_here h (λ (f : HostForm). record f { task = None; keeps = keeps_behind answer f.keeps }) hosts)
+    (subst (λ (k : ℕ). OfRunning (slice_get (changed_at k (λ (f : HostForm). record f { task = None; keeps = keeps_behind answer f.keeps }) hosts) h) P) same x))
 
 -- a note behind which another one comes doesn't stop
 goes_behind : (h : ℕ) (hosts : List HostForm) (note next : Note) → OfRunning (slice_get hosts h) (λ me t. TaskNote h me t note) → OfRunning (slice_get (forms_after hosts note) h) (λ me t. TaskNote h me t next) → note_stops note ≡ false
@@ -69,7 +69,7 @@ goes_behind h hosts (Mark host) next x y = refl
 goes_behind h hosts (Found host n) next x y = refl
 goes_behind h hosts (Writes host seq entry) next x y = refl
 goes_behind h hosts (Answered host answer) next x y =
-    absurd (not_answered h host hosts (λ me t. TaskNote h me t next) (of_here (slice_get hosts h) (λ me t. AnswerForm me t.cmd t.stage answer) host h x) y)
+    absurd (not_answered answer h host hosts (λ me t. TaskNote h me t next) (of_here (slice_get hosts h) (λ me t. AnswerForm me t.cmd t.stage answer) host h x) y)
 goes_behind h hosts (Stop host) next x y = refl
 goes_behind h hosts (Halt host) next x y = refl
 goes_behind h hosts (Umount host) next x y = refl
