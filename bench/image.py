@@ -1,6 +1,6 @@
-"""Writes an image whose log has a directory in each slot but the last one.
+"""Writes an image whose log has a directory in each slot but the last one, or but the last LEFT.
 
-  image.py LOG DEVICE FILE      LOG and DEVICE in bytes
+  image.py LOG DEVICE FILE [LEFT]      LOG and DEVICE in bytes
 """
 import struct, sys, zlib
 log, unit, device = int(sys.argv[1]), 4096, int(sys.argv[2])
@@ -15,9 +15,10 @@ def put(line, words):
 put(0, [int.from_bytes(b"famfs-01", "little")])
 put(1, summed([1, 2097152, log, unit, device] + halves(fs) + halves(master) + [0] * 6))
 slots = log // 512 - 1
+count = slots - (int(sys.argv[4]) if len(sys.argv) > 4 else 1)
 put(32768, summed([int.from_bytes(b"famfslog", "little"), log, slots] + halves(fs) + [0, 0]))
-put(32769, [slots - 1])
-for i in range(slots - 1):
+put(32769, [count])
+for i in range(count):
     path = b"directory-%05d" % (i * 7919 % slots)
     words = [i, 2, 0, 0o755, 0, 0, len(path), 0, 0, 0] + [0] * 32
     words += struct.unpack("<21Q", path + bytes(168 - len(path)))

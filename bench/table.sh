@@ -1,6 +1,7 @@
 #!/usr/bin/env bash
 # Prints a table of what large commands cost: instructions (by valgrind's callgrind), system calls (by strace, where it is
-# there) and peak memory. Instructions don't depend on what else the machine does. It takes some minutes.
+# there) and peak memory, and a second one of what commands of mounted hosts cost. Instructions don't depend on what else
+# the machine does. It takes some minutes.
 set -eu
 top=$(cd "$(dirname "${BASH_SOURCE[0]}")/.." && pwd)
 "$top/famfs" logplay "$top/crates/famfs/data/img" >/dev/null
@@ -9,6 +10,8 @@ trap 'rm -rf "$work"' EXIT
 cd "$work"
 python3 "$top/bench/image.py" 8388608 16777216 "$work/log"
 python3 "$top/bench/image.py" 67108864 134217728 "$work/large"
+python3 "$top/bench/image.py" 8454144 16777216 "$work/some" 128
+python3 "$top/bench/image.py" 67108864 134217728 "$work/many" 128
 python3 - <<'PY'
 lines = ["host m 00000000-0000-0000-0000-000000000001", "mkfs m 11111111-1111-4111-8111-111111111111 unit=4K log=1M"]
 lines += ["run m mkdir directory-%05d" % i for i in range(2000)]
@@ -63,6 +66,25 @@ def dup():
     os.replace("image", "filled")
     blank(128 << 20)
 
+HOSTS = ["host m 00000000-0000-0000-0000-000000000001", "host c 00000000-0000-0000-0000-000000000002"]
+
+def cost(make, lines):
+    with open("events", "w") as events:
+        events.write("\n".join(HOSTS + lines) + "\n")
+    make()
+    return instructions(["script", "events", "image"])
+
+def mounted(what, make):
+    start = ["run c mount", "run m mount", "run m creat first 64"]
+    before = cost(make, start)
+    mkdir = cost(make, start + ["run m mkdir second"]) - before
+    verify = cost(make, start + ["run c verify first"]) - before
+    listed = cost(make, start + ["run c logplay"])
+    again = cost(make, start + ["run c logplay", "run c logplay"])
+    logplay = 2 * listed - before - again
+    many = cost(make, start + ["run m mkdir more-%02d" % i for i in range(100)]) - before
+    print("| %s | %s | %s | %s | %s |" % (what, format(mkdir, ","), format(verify, ","), format(logplay, ","), format(many, ",")))
+
 print("| Command | Instructions | System calls | Peak memory |")
 print("|---|---|---|---|")
 row("logplay of 16,382 directories", log, ["logplay", "image"])
@@ -74,4 +96,9 @@ row("dup of 64 MiB", dup, ["dup", "filled", "image"])
 row("script of 2,000 mkdirs, log of 1 MiB", lambda: blank(16 << 20), ["script", "mkdirs", "image"])
 row("`storm 7 20000`", lambda: blank(4 << 20), ["storm", "7", "20000", "image"])
 row("logplay of 131,070 directories", large, ["logplay", "image"])
+print()
+print("| Of mounted hosts, with one new slot, instructions | mkdir | verify | logplay, beside one with no new slot | 100 mkdirs |")
+print("|---|---|---|---|---|")
+mounted("behind 16,383 kept entries", lambda: shutil.copyfile("some", "image"))
+mounted("behind 130,943 kept entries", lambda: shutil.copyfile("many", "image"))
 PY
