@@ -3,6 +3,5 @@
 mod copies;
 mod free_runs;
 mod large;
-mod mounted;
 mod random;
 mod surface;

@@ -1,14 +1,17 @@
 //! Copies that find their memory: what each fault leaves is proved, and that a copy is made is not.
 
 ghost use Rattle.std.specs.Prelude.{◌<◌, length};
+ghost use Rattle.fam_format.specs.Params.{SoundParams};
 
 use fam_base::{Entry, Extent, Extents, Kind, Line, LineNo, MapKind, Params, Path};
 use fam_dup::{DupFault, DupRefusal, dup};
 use fam_entry::{spell, spell_log};
 use fam_format::{GATE_LINE, LINE_BYTES, LOG_LINE, SLOT_LINES};
 use fam_media::{Media, MemMedia};
+use fam_plan::Plan;
 use fam_replay::line_of_slot;
 use fam_super::Super;
+use fam_tasks::Kept;
 use std::alloc::Global;
 use std::test::Fail;
 use uuid::Uuid;
@@ -141,5 +144,27 @@ fn a_copy_without_room_writes_nothing(rt: HostRuntime) -> Result<(), Fail> {
     };
     assert!(rt; copied(alloc, &mut from, &mut to) == Err(stopped));
     assert!(rt; word(&mut to, GATE_LINE) == Some(0));
+    Ok(())
+}
+
+/// A log of 64 KiB on a device of 4 MiB.
+fn small_log() -> Params
+    ensures { SoundParams result }
+{
+    Params {
+        log_length: 65_536,
+        slots: 127,
+        unit: 4_096,
+        device: 4_194_304,
+        fs: Uuid::from_bytes([3; 16]),
+        master: Uuid::from_bytes([1; 16]),
+    }
+}
+
+#[test]
+fn what_a_host_keeps_is_copied(rt: HostRuntime) -> Result<(), Fail> {
+    let kept = Kept::of(Plan::new(rt.alloc(), &small_log())?);
+    let copy = kept.copy(rt.alloc())?;
+    assert_eq!(rt; copy.count(), kept.count());
     Ok(())
 }

@@ -45,9 +45,7 @@ fn add_letter(tree: &mut Tree, first: u8) -> Result<(), Fail> {
 }
 
 #[test]
-fn more_entries_than_a_run_holds_are_added_and_a_copy_stays(
-    rt: HostRuntime,
-) -> Result<(), Fail> {
+fn more_entries_than_a_run_holds_are_added_and_a_copy_stays(rt: HostRuntime) -> Result<(), Fail> {
     let mut tree = Tree::new(rt.alloc());
     for i in 0..26u8 {
         add_letter(&mut tree, i * 7 % 26)?;
