@@ -1,7 +1,7 @@
 -- Faults that come later in a pass.
 use Rattle.std.proofs.Common.{◌≡◌, ℕ, ◌≤◌, inl, inr, subst, sym, arith}
 use Rattle.fam_media.specs.Causes.{Rose}
-use Rattle.fam_dup.specs.Ends.{IsCausedByFrom, IsFailure}
+use Rattle.fam_dup.specs.Ends.{IsCausedBy, IsCausedByFrom, IsFailure}
 use Rattle.fam_dup.specs.Findings.{FailsFrom, FailsTo, FaultClass, Finding, Names, Refuses, WantsMemory}
 
 -- a count that rose has risen from what it was before
@@ -20,6 +20,13 @@ failure_later from_first from from_now to_first to to_now (Refuses found) later_
 failure_later from_first from from_now to_first to to_now FailsFrom later_from later_to fails = rose_later from_first from from_now later_from fails
 failure_later from_first from from_now to_first to to_now FailsTo later_from later_to fails = rose_later to_first to to_now later_to fails
 failure_later from_first from from_now to_first to to_now WantsMemory later_from later_to fails = fails
+
+-- a failure is a cause
+pub failure_cause : (from from_now to to_now : ℕ) (class : FaultClass) → IsFailure from from_now to to_now class → IsCausedBy from from_now to to_now class
+failure_cause from from_now to to_now (Refuses found) fails = tt
+failure_cause from from_now to to_now FailsFrom fails = fails
+failure_cause from from_now to to_now FailsTo fails = fails
+failure_cause from from_now to to_now WantsMemory fails = tt
 
 -- TO failed
 pub failure_to : (from from_now to_first to to_now : ℕ) (class : FaultClass) → class ≡ FailsTo → to_first ≤ to → Rose to to_now → IsFailure from from_now to_first to_now class

@@ -9,6 +9,7 @@ use Rattle.fam_rules.specs.Written.{put_lines}
 use Rattle.fam_dup.specs.Findings.{class_of, finding}
 use Rattle.fam_dup.specs.Lines.{AreCut, copy_puts}
 use Rattle.fam_dup.proofs.Cutting.{cut_others, cut_reads, cut_some}
+use Rattle.fam_dup.proofs.Failing.{failure_cause, failure_later}
 use Rattle.fam_dup.proofs.Finding.{copied_to, entries_or, failed_ends, free_to, large_from, left_alone, names_found, small_from, sound_from, wanted_memory}
 use Rattle.fam_dup.proofs.Following.{copies_follow}
 use Rattle.fam_dup.proofs.Whole.{whole_copy}
@@ -112,6 +113,13 @@ returns-in_err-write_copy-clause-ends g c =
             others = cut_others p s.entries k.entries source old t.sound fits so.history so.are after.0 left;
           })),
     ))
+
+pub returns-in_err-write_copy-clause-cause : goal.returns-in_err-write_copy-clause-cause
+returns-in_err-write_copy-clause-cause g c =
+    let q = err_from_is_err_and c.from_residual-in_err-write_copy.result c.from_residual-in_err-write_copy.ensures.1 in
+    rw (q.1, q.2)
+    (failure_cause _ _ _ _ (class_of c.in_err-write_copy.field-0.0)
+    (failure_later _ _ _ _ _ _ (class_of c.in_err-write_copy.field-0.0) c.in_ok-source.ensures.steady.later c.in_ok-check_target.ensures.steady.later c.in_err-write_copy.ensures.failed))
 
 pub returns-clause-ends : goal.returns-clause-ends
 returns-clause-ends g c = λ source told old is.
