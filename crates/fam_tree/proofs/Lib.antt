@@ -5,6 +5,7 @@ pub mod Edits
 pub mod Nested
 pub mod Search
 pub mod ChunkPlaces
+pub mod RowLemmas
 pub mod RunPlaces
 pub mod Words
 pub mod Printed

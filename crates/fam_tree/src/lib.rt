@@ -8,10 +8,12 @@
 mod beside;
 mod chunk;
 mod chunks;
+mod entry_list;
 mod fault;
 mod line_words;
 mod lines;
 mod listings;
+mod row;
 mod run;
 mod runs;
 mod tree;

@@ -3,7 +3,7 @@
 ghost use Rattle.std.specs.Prelude.{◌≡◌, ◌<◌, ◌≤◌, ◌++◌, ◌∷◌, [], IfOk, IfErr, OnOk, OnErr, IfSome, IfNone, length, vec_len};
 ghost use Rattle.std.specs.List.{insert};
 ghost use Rattle.std.specs.Bool.{OnTrue, OnFalse};
-ghost use Rattle.fam_tree.specs.Runs.{AreWithin, InOrder, IsAbsent, IsAt, IsFound, IsGap, IsPut, ends_before, place_cmp, run_of};
+ghost use Rattle.fam_tree.specs.Runs.{AreWithin, InOrder, IsAbsent, IsAt, IsFound, IsGap, IsPut, ends_before, entry_at, place_cmp, run_of};
 
 use crate::beside::Beside;
 use crate::chunks::Chunks;
@@ -45,8 +45,8 @@ impl Clone for Run {
 fn order_at(entries: &Chunks, place: usize, path: &Path) -> Ordering
     ensures { result ≡ place_cmp entries.now path.now place }
 {
-    match entries.get(place) {
-        Some(entry) => entry.path.cmp(path),
+    match entries.path_at(place) {
+        Some(own) => own.cmp(&path.bytes()),
         None => Ordering::Less,
     }
 }
@@ -141,15 +141,16 @@ impl Run {
             .binary_search_by(|place| order_at(entries, *place, path))
     }
 
-    /// The entry at a path.
-    pub(crate) fn get<'a>(&self, entries: &'a Chunks, path: &Path) -> Option<&'a Entry>
+    /// Where the entry at a path stands in the list of all entries.
+    pub(crate) fn place_of(&self, entries: &Chunks, path: &Path) -> Option<usize>
         requires order { InOrder (run_of entries.now self.now) }
         requires inside { AreWithin (length entries.now) self.now }
-        ensures found { IfSome result (λ entry. IsFound (run_of entries.now self.now) path.now entry.now) }
+        ensures found { IfSome result (λ place. IsFound (run_of entries.now self.now) path.now (entry_at entries.now place)) }
+        ensures within { IfSome result (λ place. place < length entries.now) }
         ensures none { IfNone result (IsAbsent (run_of entries.now self.now) path.now) }
     {
         match self.seek(entries, path) {
-            Ok(i) => entries.get(self.places[i]),
+            Ok(i) => Some(self.places[i]),
             Err(_) => None,
         }
     }

@@ -4,7 +4,7 @@ ghost use Rattle.std.specs.Prelude.{◌≡◌, ◌+◌, ◌<◌, [], IfSome, IfN
 ghost use Rattle.std.specs.Bool.{OnTrue, OnFalse};
 ghost use Rattle.std.specs.FinMap as map;
 ghost use Rattle.fam_format.specs.Tree.{with_entry};
-ghost use Rattle.fam_tree.specs.Runs.{AreRunsOf, IsRunFor, listed, runs_of, tree_of};
+ghost use Rattle.fam_tree.specs.Runs.{AreRunsOf, IsRunFor, entry_at, listed, runs_of, tree_of};
 
 use crate::beside::Beside;
 use crate::chunks::Chunks;
@@ -27,15 +27,16 @@ fn run_for(entries: &Chunks, runs: &[Run], path: &Path) -> Option<usize>
     Some(before.min(last))
 }
 
-/// The entry at a path.
-pub(crate) fn entry_in<'a>(entries: &'a Chunks, runs: &[Run], path: &Path) -> Option<&'a Entry>
+/// Where the entry at a path stands in the list of all entries.
+pub(crate) fn place_in(entries: &Chunks, runs: &[Run], path: &Path) -> Option<usize>
     requires { AreRunsOf entries.now runs.now }
-    ensures value { option_map (λ entry. entry.now) result
+    ensures value { option_map (entry_at entries.now) result
         ≡ map.get (tree_of (listed entries.now runs.now)) path.now }
-    ensures own { IfSome result (λ entry. entry.now.path ≡ path.now) }
+    ensures own { IfSome result (λ place. (entry_at entries.now place).path ≡ path.now) }
+    ensures within { IfSome result (λ place. place < length entries.now) }
 {
     match run_for(entries, runs, path) {
-        Some(k) => runs[k].get(entries, path),
+        Some(k) => runs[k].place_of(entries, path),
         None => None,
     }
 }
