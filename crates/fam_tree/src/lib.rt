@@ -6,6 +6,7 @@
 #![tactic(auto)]
 
 mod beside;
+mod byte_order;
 mod chunk;
 mod chunks;
 mod entry_list;

@@ -6,6 +6,7 @@ ghost use Rattle.std.specs.Bool.{OnTrue, OnFalse};
 ghost use Rattle.fam_tree.specs.Runs.{AreWithin, InOrder, IsAbsent, IsAt, IsFound, IsGap, IsPut, ends_before, entry_at, place_cmp, run_of};
 
 use crate::beside::Beside;
+use crate::byte_order::order;
 use crate::chunks::Chunks;
 use fam_base::{Entry, OutOfMemory, Path};
 use std::alloc::{AllocError, Global};
@@ -46,7 +47,7 @@ fn order_at(entries: &Chunks, place: usize, path: &Path) -> Ordering
     ensures { result ≡ place_cmp entries.now path.now place }
 {
     match entries.path_at(place) {
-        Some(own) => own.cmp(&path.bytes()),
+        Some(own) => order(own, path.bytes()),
         None => Ordering::Less,
     }
 }
