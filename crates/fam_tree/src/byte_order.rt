@@ -27,7 +27,8 @@ fn word(bytes: &[u8], at: usize) -> u64
 }
 
 /// The order of two lists of bytes, of which one has fewer than a word's: byte by byte.
-#[inline]
+#[cold]
+#[inline(never)]
 fn order_short(a: &[u8], b: &[u8]) -> Ordering
     ensures { result ≡ path_cmp a.now b.now }
 {
@@ -43,7 +44,7 @@ fn order_short(a: &[u8], b: &[u8]) -> Ordering
 }
 
 /// The order of two lists of bytes: by their words, the last of which may begin within the one before it.
-#[inline]
+#[inline(always)]
 pub(crate) fn order(a: &[u8], b: &[u8]) -> Ordering
     ensures { result ≡ path_cmp a.now b.now }
 {

@@ -155,7 +155,7 @@ impl Chunks {
         let Ok(full) = self.full.clone() else {
             return Err(OutOfMemory);
         };
-        let last = self.last.copy()?;
+        let last = self.last.copy(alloc)?;
         Ok(Chunks {
             alloc,
             full,

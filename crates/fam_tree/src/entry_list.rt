@@ -130,16 +130,16 @@ impl EntryList {
     }
 
     /// The same entries, in memory of their own.
-    pub(crate) fn copy(&self) -> Result<EntryList, OutOfMemory>
+    pub(crate) fn copy(&self, alloc: Global) -> Result<EntryList, OutOfMemory>
         ensures { IfOk result (λ list. list ≡ self.now) }
     {
-        let Ok(rows) = self.rows.clone() else {
+        let Ok(rows) = Vec::from_slice(alloc, self.rows.as_slice()) else {
             return Err(OutOfMemory);
         };
-        let Ok(paths) = self.paths.clone() else {
+        let Ok(paths) = Vec::from_slice(alloc, self.paths.as_slice()) else {
             return Err(OutOfMemory);
         };
-        match self.extents.clone() {
+        match Vec::from_slice(alloc, self.extents.as_slice()) {
             Ok(extents) => Ok(EntryList {
                 rows,
                 paths,

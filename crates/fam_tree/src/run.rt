@@ -18,7 +18,7 @@ use std::rc::Rc;
 /// entry. Copies share the places until one of them changes.
 #[derive(Drop)]
 pub(crate) struct Run {
-    places: Rc<Vec<usize>>,
+    places: Rc<Vec<u32>>,
 }
 
 impl Model for Run {
@@ -41,13 +41,13 @@ impl Clone for Run {
     }
 }
 
-/// The order of the path of the entry at a place and another.
+/// The order of the path of the entry at a place and another, by its bytes.
 #[inline(always)]
-fn order_at(entries: &Chunks, place: usize, path: &Path) -> Ordering
+fn order_at(entries: &Chunks, place: u32, path: &[u8]) -> Ordering
     ensures { result ≡ place_cmp entries.now path.now place }
 {
-    match entries.path_at(place) {
-        Some(own) => order(own, path.bytes()),
+    match entries.path_at(place as usize) {
+        Some(own) => order(own, path),
         None => Ordering::Less,
     }
 }
@@ -55,7 +55,7 @@ fn order_at(entries: &Chunks, place: usize, path: &Path) -> Ordering
 /// Inserts the place of an entry that is put behind all entries, where something else grows by it. Else, and if there is no
 /// memory, nothing changes.
 fn insert<B: Beside>(
-    places: &mut Vec<usize>,
+    places: &mut Vec<u32>,
     i: usize,
     entries: &mut Chunks,
     entry: &Entry,
@@ -70,7 +70,9 @@ fn insert<B: Beside>(
     ensures kept { OnFalse result (entries.new ≡ entries.old) }
     ensures same { OnFalse result (beside.new ≡ beside.old) }
 {
-    let place = entries.len();
+    let Ok(place) = u32::try_from(entries.len()) else {
+        return false;
+    };
     if places.reserve(1).is_err() || !entries.push(entry, beside) {
         return false;
     }
@@ -79,7 +81,7 @@ fn insert<B: Beside>(
 }
 
 /// Some places, shared anew.
-fn shared(alloc: Global, places: &[usize]) -> Result<Rc<Vec<usize>>, OutOfMemory>
+fn shared(alloc: Global, places: &[u32]) -> Result<Rc<Vec<u32>>, OutOfMemory>
     ensures { IfOk result (λ shared. shared.value.items ≡ places.now) }
 {
     let mut own = Vec::new(alloc);
@@ -111,7 +113,7 @@ impl Run {
     }
 
     /// The places of the entries.
-    pub(crate) fn places(&self) -> &[usize]
+    pub(crate) fn places(&self) -> &[u32]
         ensures { result.now ≡ self.now }
     {
         self.places.as_slice()
@@ -119,7 +121,7 @@ impl Run {
 
     /// Whether the last entry is below a path.
     #[inline]
-    pub(crate) fn is_below(&self, entries: &Chunks, path: &Path) -> bool
+    pub(crate) fn is_below(&self, entries: &Chunks, path: &[u8]) -> bool
         ensures { result ≡ ends_before entries.now path.now self.now }
     {
         match self.places.last() {
@@ -138,8 +140,9 @@ impl Run {
         ensures within { IfOk result (λ i. i < length self.now) }
         ensures end { IfErr result (λ i. i ≤ length self.now) }
     {
+        let bytes = path.bytes();
         self.places
-            .binary_search_by(|place| order_at(entries, *place, path))
+            .binary_search_by(|place| order_at(entries, *place, bytes))
     }
 
     /// Where the entry at a path stands in the list of all entries.
@@ -151,7 +154,7 @@ impl Run {
         ensures none { IfNone result (IsAbsent (run_of entries.now self.now) path.now) }
     {
         match self.seek(entries, path) {
-            Ok(i) => Some(self.places[i]),
+            Ok(i) => Some(self.places[i] as usize),
             Err(_) => None,
         }
     }

@@ -13,7 +13,7 @@ use fam_base::{Entry, Path};
 use std::alloc::Global;
 
 /// The most entries of a run, where there is memory to cut it.
-const MOST: usize = 256;
+const MOST: usize = 128;
 
 /// The run that has a path or would have it, and `None` where there is no run.
 fn run_for(entries: &Chunks, runs: &[Run], path: &Path) -> Option<usize>
@@ -23,7 +23,8 @@ fn run_for(entries: &Chunks, runs: &[Run], path: &Path) -> Option<usize>
     ensures none { IfNone result (runs.now ≡ []) }
 {
     let last = runs.len().checked_sub(1)?;
-    let before = runs.partition_point(|run| run.is_below(entries, path));
+    let bytes = path.bytes();
+    let before = runs.partition_point(|run| run.is_below(entries, bytes));
     Some(before.min(last))
 }
 

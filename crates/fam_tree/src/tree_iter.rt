@@ -13,7 +13,7 @@ use fam_base::Entry;
 #[derive(Drop)]
 pub struct TreeIter<'a> {
     pub(crate) entries: &'a Chunks,
-    pub(crate) run: &'a [usize],
+    pub(crate) run: &'a [u32],
     pub(crate) runs: &'a [Run],
     ghost filled: { AreFilled (runs_of entries.now runs.now) } by { Prim.hlevel props },
     ghost inside: { AreWithin (length entries.now) run.now } by { Prim.hlevel props },
@@ -40,6 +40,6 @@ impl<'a> Iterator for TreeIter<'a> {
             return None;
         };
         self.run = rest;
-        Some(self.entries.at(*first))
+        Some(self.entries.at(*first as usize))
     }
 }
