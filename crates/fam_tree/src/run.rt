@@ -141,8 +141,18 @@ impl Run {
         ensures end { IfErr result (λ i. i ≤ length self.now) }
     {
         let bytes = path.bytes();
-        self.places
-            .binary_search_by(|place| order_at(entries, *place, bytes))
+        let places = self.places.as_slice();
+        let mut low = 0;
+        let mut high = places.len();
+        while low < high {
+            let middle = low + (high - low) / 2;
+            match order_at(entries, places[middle], bytes) {
+                Ordering::Less => low = middle + 1,
+                Ordering::Equal => return Ok(middle),
+                Ordering::Greater => high = middle,
+            }
+        }
+        Err(low)
     }
 
     /// Where the entry at a path stands in the list of all entries.

@@ -22,10 +22,18 @@ fn run_for(entries: &Chunks, runs: &[Run], path: &Path) -> Option<usize>
     ensures within { IfSome result (λ k. k < length runs.now) }
     ensures none { IfNone result (runs.now ≡ []) }
 {
-    let last = runs.len().checked_sub(1)?;
     let bytes = path.bytes();
-    let before = runs.partition_point(|run| run.is_below(entries, bytes));
-    Some(before.min(last))
+    let mut low = 0;
+    let mut high = runs.len().checked_sub(1)?;
+    while low < high {
+        let middle = low + (high - low) / 2;
+        if runs[middle].is_below(entries, bytes) {
+            low = middle + 1;
+        } else {
+            high = middle;
+        }
+    }
+    Some(low)
 }
 
 /// Where the entry at a path stands in the list of all entries.
