@@ -21,7 +21,7 @@ within_at n [] j d within below = absurd (omega arith)
 within_at n (x ∷ xs) zero d within below = within.0
 within_at n (x ∷ xs) (suc j) d within below = within_at n xs j d within.1 (omega arith)
 
-within_get : (n : ℕ) (xs : List ℕ) (k i : ℕ) → AreWithin n xs → slice_get xs k ≡ Some i → i < n
+pub within_get : (n : ℕ) (xs : List ℕ) (k i : ℕ) → AreWithin n xs → slice_get xs k ≡ Some i → i < n
 within_get n [] k i within is = absurd (cc (is))
 within_get n (x ∷ xs) zero i within is = let same : x ≡ i = cc (is) in subst (λ (y : ℕ). y < n) same within.0
 within_get n (x ∷ xs) (suc k) i within is = within_get n xs k i within.1 is
@@ -39,7 +39,7 @@ grown_run es more (x ∷ xs) within =
 
 -- ---- the order of the path at a place and another
 
-place_told : (es : List Entry) (q : List ℕ) (i : ℕ) → i < length es → place_cmp es q i ≡ path_cmp (entry_at es i).path q
+pub place_told : (es : List Entry) (q : List ℕ) (i : ℕ) → i < length es → place_cmp es q i ≡ path_cmp (entry_at es i).path q
 place_told [] q i within = absurd (omega arith)
 place_told (e ∷ es) q zero within = refl
 place_told (e ∷ es) q (suc i) within = place_told es q i (omega arith)

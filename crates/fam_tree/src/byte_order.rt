@@ -43,15 +43,15 @@ fn order_short(a: &[u8], b: &[u8]) -> Ordering
     a.len().cmp(&b.len())
 }
 
-/// The order of two lists of bytes: by their words, the last of which may begin within the one before it.
-#[inline(always)]
-pub(crate) fn order(a: &[u8], b: &[u8]) -> Ordering
+/// The order of two lists of bytes of a word or more: by their words, the last of which may begin within the one before
+/// it.
+#[inline(never)]
+fn order_long(a: &[u8], b: &[u8]) -> Ordering
+    requires a { 8 ≤ length a.now }
+    requires b { 8 ≤ length b.now }
     ensures { result ≡ path_cmp a.now b.now }
 {
     let both = a.len().min(b.len());
-    if both < WORD {
-        return order_short(a, b);
-    }
     let last = both - WORD;
     let mut at = 0;
     while at < last {
@@ -64,6 +64,31 @@ pub(crate) fn order(a: &[u8], b: &[u8]) -> Ordering
     }
     let x = word(a, last);
     let y = word(b, last);
+    if x != y {
+        return x.cmp(&y);
+    }
+    a.len().cmp(&b.len())
+}
+
+/// The order of two lists of bytes. Two words, which may overlap, tell it for most paths.
+#[inline(always)]
+pub(crate) fn order(a: &[u8], b: &[u8]) -> Ordering
+    ensures { result ≡ path_cmp a.now b.now }
+{
+    let both = a.len().min(b.len());
+    if both < WORD {
+        return order_short(a, b);
+    }
+    let x = word(a, 0);
+    let y = word(b, 0);
+    if x != y {
+        return x.cmp(&y);
+    }
+    if both > 2 * WORD {
+        return order_long(a, b);
+    }
+    let x = word(a, both - WORD);
+    let y = word(b, both - WORD);
     if x != y {
         return x.cmp(&y);
     }

@@ -1,6 +1,6 @@
 //! The list of the entries of a tree, in chunks that its copies share. `specs/Chunks.antt` says how.
 
-ghost use Rattle.std.specs.Prelude.{◌≡◌, ◌<◌, ◌++◌, ◌∷◌, [], IfOk, length, option_map, slice_get};
+ghost use Rattle.std.specs.Prelude.{◌≡◌, ◌<◌, ◌++◌, ◌∷◌, [], IfOk, length, slice_get};
 ghost use Rattle.std.specs.Bool.{OnTrue, OnFalse};
 ghost use Rattle.fam_tree.specs.Chunks.{AreFull, entries_of};
 ghost use Rattle.fam_tree.specs.Runs.{entry_at};
@@ -118,10 +118,11 @@ impl Chunks {
         list.kind_at(i)
     }
 
-    /// The bytes of the path of the entry at a place, if there is one.
+    /// The bytes of the path of the entry at a place.
     #[inline(always)]
-    pub(crate) fn path_at(&self, place: usize) -> Option<&[u8]>
-        ensures { option_map (λ bytes. bytes.now) result ≡ option_map (λ e. e.path) (slice_get self.now place) }
+    pub(crate) fn path_at(&self, place: usize) -> &[u8]
+        requires { place < length self.now }
+        ensures { result.now ≡ (entry_at self.now place).path }
     {
         let (list, i) = self.find(place);
         list.path_at(i)

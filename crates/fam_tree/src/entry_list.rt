@@ -2,7 +2,7 @@
 //!
 //! A contract sees an `EntryList` as the list of the entries. `specs/Rows.antt` says which ones.
 
-ghost use Rattle.std.specs.Prelude.{◌≡◌, ◌<◌, ◌++◌, ◌∷◌, [], IfOk, length, option_map, slice_get};
+ghost use Rattle.std.specs.Prelude.{◌≡◌, ◌+◌, ◌<◌, ◌≤◌, ◌++◌, ◌∷◌, [], IfOk, length, vec_capacity, vec_len};
 ghost use Rattle.std.specs.Bool.{OnTrue, OnFalse};
 ghost use Rattle.fam_tree.specs.Runs.{entry_at};
 
@@ -34,6 +34,17 @@ impl Model for EntryList {
     ghost view = { λ l. entries_of_rows l.paths.items l.extents.items l.rows.items };
 
     ghost invariant = { λ l. AreRows l.paths.items l.extents.items l.rows.items };
+}
+
+/// Puts items behind others that have room for them. Most entries have no extents, and then nothing is done.
+#[inline(always)]
+fn put<T: Copy>(items: &mut Vec<T>, more: &[T])
+    requires { vec_len items.old + length more.now ≤ vec_capacity items.old }
+    ensures { items.new.items ≡ items.old.items ++ more.now }
+{
+    if !more.is_empty() {
+        let _ = items.extend_from_slice(more);
+    }
 }
 
 impl EntryList {
@@ -86,15 +97,13 @@ impl EntryList {
         self.rows[place].kind
     }
 
-    /// The bytes of the path of the entry at a place, if there is one.
+    /// The bytes of the path of the entry at a place.
     #[inline(always)]
-    pub(crate) fn path_at(&self, place: usize) -> Option<&[u8]>
-        ensures { option_map (λ bytes. bytes.now) result ≡ option_map (λ e. e.path) (slice_get self.now place) }
+    pub(crate) fn path_at(&self, place: usize) -> &[u8]
+        requires { place < length self.now }
+        ensures { result.now ≡ (entry_at self.now place).path }
     {
-        match self.rows.get(place) {
-            Some(row) => Some(row.path(self.paths.as_slice())),
-            None => None,
-        }
+        self.rows[place].path(self.paths.as_slice())
     }
 
     /// Puts an entry behind the others, where something else grows by it. Else, and if there is no memory, nothing changes.
@@ -124,8 +133,8 @@ impl EntryList {
             return false;
         }
         let _ = self.rows.push(row);
-        let _ = self.paths.extend_from_slice(path);
-        let _ = self.extents.extend_from_slice(extents);
+        put(&mut self.paths, path);
+        put(&mut self.extents, extents);
         true
     }
 

@@ -44,12 +44,10 @@ impl Clone for Run {
 /// The order of the path of the entry at a place and another, by its bytes.
 #[inline(always)]
 fn order_at(entries: &Chunks, place: u32, path: &[u8]) -> Ordering
+    requires { place < length entries.now }
     ensures { result ≡ place_cmp entries.now path.now place }
 {
-    match entries.path_at(place as usize) {
-        Some(own) => order(own, path),
-        None => Ordering::Less,
-    }
+    order(entries.path_at(place as usize), path)
 }
 
 /// Inserts the place of an entry that is put behind all entries, where something else grows by it. Else, and if there is no
@@ -122,6 +120,7 @@ impl Run {
     /// Whether the last entry is below a path.
     #[inline]
     pub(crate) fn is_below(&self, entries: &Chunks, path: &[u8]) -> bool
+        requires { AreWithin (length entries.now) self.now }
         ensures { result ≡ ends_before entries.now path.now self.now }
     {
         match self.places.last() {

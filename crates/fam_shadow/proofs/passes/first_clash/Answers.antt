@@ -13,7 +13,7 @@ pub loop-entry-preserved : goal.loop-entry-preserved
 loop-entry-preserved g c =
     let entries : List Entry = map.values c.args.tree.now in
     let held : Option Nodes = (g.D.Shade.state c.args.shade.now).nodes in
-    let e : Entry = c.in-Some.entry.now in
+    let e : Entry = c.in-Some.entry in
     let rest : List Entry = tree_iter_rest c.next.new.self in
     let given : tree_iter_rest c.loop-entry.entry-iterator ≡ e ∷ rest = cc (c.in-Some.ensures.steps) in
     let before : AreSeen entries (e ∷ rest) held c.loop-entry.first = subst (λ (l : List Entry). AreSeen entries l held c.loop-entry.first) given c.loop-entry.invariant.seen in

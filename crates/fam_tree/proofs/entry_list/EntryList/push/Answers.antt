@@ -7,7 +7,7 @@ use Rattle.fam_tree.specs.Rows.{row_of}
 use Rattle.fam_tree.specs.declared.row.Row.{Row}
 use Rattle.fam_tree.proofs.RowLemmas.{put_entries, put_rows}
 use Rattle.fam_tree.proofs.entry_list.EntryList.push.Goals as goal
-use Rattle.fam_tree.proofs.entry_list.EntryList.push.Goals.{After-extend_from_slice-2}
+use Rattle.fam_tree.proofs.entry_list.EntryList.push.Goals.{After-put-2}
 use Rattle.fam_tree.proofs.entry_list.EntryList.push.Given.{Over}
 
 -- there was room
@@ -20,40 +20,36 @@ done : {T E X : Type 0} (r : Result T E) (x y z : X) → IsOk r → z ≡ cond (
 done (Ok t) x y z ok is = is
 done (Err e) x y z ok is = absurd (cc (ok))
 
-row_is : (g : Over) (c : After-extend_from_slice-2 g) → c.in-Some.row ≡ row_of c.args.entry.now (length c.self.inside.paths.items) (length c.self.inside.extents.items)
+row_is : (g : Over) (c : After-put-2 g) → c.in-Some.row ≡ row_of c.args.entry.now (length c.self.inside.paths.items) (length c.self.inside.extents.items)
 row_is g c = c.in-Some.ensures ∙ ap₂ (row_of c.args.entry.now) (c.len.ensures ∙ c.self.inside.paths.ok.0) (c.len-2.ensures ∙ c.self.inside.extents.ok.0)
 
-rows_longer : (g : Over) (c : After-extend_from_slice-2 g) → c.push.new.self.items ≡ c.self.inside.rows.items ++ c.in-Some.row ∷ []
+rows_longer : (g : Over) (c : After-put-2 g) → c.push.new.self.items ≡ c.self.inside.rows.items ++ c.in-Some.row ∷ []
 rows_longer g c =
     let room = with_room c.reserve.result _ (sym c.is_err.ensures.value ∙ c.if-is_err.false) c.reserve.ensures.ok in
     done {X = List Row} c.push.result _ _ _ (c.push.ensures.succeeds (omega (arith, room))) c.push.ensures.items
     ∙ ap (λ (l : List Row). l ++ c.in-Some.row ∷ []) c.reserve.ensures.items
 
-paths_longer : (g : Over) (c : After-extend_from_slice-2 g) → c.extend_from_slice.new.self.items ≡ c.self.inside.paths.items ++ c.args.entry.now.path
+paths_longer : (g : Over) (c : After-put-2 g) → c.put.new.items.items ≡ c.self.inside.paths.items ++ c.args.entry.now.path
 paths_longer g c =
-    let room = with_room c.reserve-2.result _ (sym c.is_err-2.ensures.value ∙ c.if-is_err-2.false) c.reserve-2.ensures.ok in
-    let size : c.bytes-path.result.now ≡ c.args.entry.now.path = c.bytes-path.ensures.same in
-    done {X = List ℕ} c.extend_from_slice.result _ _ _ (c.extend_from_slice.ensures.succeeds room) c.extend_from_slice.ensures.items
+    c.put.ensures
     ∙ ap (λ (l : List ℕ). l ++ c.bytes-path.result.now) c.reserve-2.ensures.items
-    ∙ ap (λ (l : List ℕ). c.self.inside.paths.items ++ l) size
+    ∙ ap (λ (l : List ℕ). c.self.inside.paths.items ++ l) c.bytes-path.ensures.same
 
-extents_longer : (g : Over) (c : After-extend_from_slice-2 g) → c.extend_from_slice-2.new.self.items ≡ c.self.inside.extents.items ++ c.args.entry.now.extents
+extents_longer : (g : Over) (c : After-put-2 g) → c.put-2.new.items.items ≡ c.self.inside.extents.items ++ c.args.entry.now.extents
 extents_longer g c =
-    let room = with_room c.reserve-3.result _ (sym c.is_err-3.ensures.value ∙ c.if-is_err-3.false) c.reserve-3.ensures.ok in
-    let size : c.as_slice-extents.result.now ≡ c.args.entry.now.extents = c.as_slice-extents.ensures.same in
-    done {X = List Extent} c.extend_from_slice-2.result _ _ _ (c.extend_from_slice-2.ensures.succeeds room) c.extend_from_slice-2.ensures.items
+    c.put-2.ensures
     ∙ ap (λ (l : List Extent). l ++ c.as_slice-extents.result.now) c.reserve-3.ensures.items
-    ∙ ap (λ (l : List Extent). c.self.inside.extents.items ++ l) size
+    ∙ ap (λ (l : List Extent). c.self.inside.extents.items ++ l) c.as_slice-extents.ensures.same
 
 pub invariant_of-self-2 : goal.invariant_of-self-2
 invariant_of-self-2 g c =
     let own = c.self.inside in
-    put_rows own.paths.items c.extend_from_slice.new.self.items own.extents.items c.extend_from_slice-2.new.self.items own.rows.items c.push.new.self.items c.in-Some.row c.args.entry.now
+    put_rows own.paths.items c.put.new.items.items own.extents.items c.put-2.new.items.items own.rows.items c.push.new.self.items c.in-Some.row c.args.entry.now
     c.self.invariant (row_is g c) (paths_longer g c) (extents_longer g c) (rows_longer g c) c.bytes-path.ensures.path c.as_slice-extents.ensures.few
 
 pub returns-clause-added : goal.returns-clause-added
 returns-clause-added g c =
     let own = c.self.inside in
-    put_entries own.paths.items c.extend_from_slice.new.self.items own.extents.items c.extend_from_slice-2.new.self.items own.rows.items c.push.new.self.items c.in-Some.row c.args.entry.now
+    put_entries own.paths.items c.put.new.items.items own.extents.items c.put-2.new.items.items own.rows.items c.push.new.self.items c.in-Some.row c.args.entry.now
     c.self.invariant (row_is g c) (paths_longer g c) (extents_longer g c) (rows_longer g c)
     ∙ ap (λ (l : List Entry). l ++ c.args.entry.now ∷ []) c.self.view_is

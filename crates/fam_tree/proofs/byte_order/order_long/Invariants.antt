@@ -1,6 +1,6 @@
 use Rattle.std.proofs.Common.{◌+◌, ◌-◌, ◌≤◌}
 use Rattle.fam_tree.proofs.ByteOrder.{SameFront}
-use Rattle.fam_tree.proofs.byte_order.order.Given as goal
+use Rattle.fam_tree.proofs.byte_order.order_long.Given as goal
 
 abbrev pub invariant-loop-at : goal.invariant-loop-at
 invariant-loop-at l = record {
