@@ -1,5 +1,5 @@
 -- A fault at one entry of a pass is one of the pass.
-use Rattle.std.proofs.Common.{◌≡◌, ℕ, ◌<◌, ◌≤◌, List, ◌∷◌, ◌++◌, inl, inr, arith}
+use Rattle.std.proofs.Common.{◌≡◌, ℕ, ◌≤◌, List, ◌∷◌, ◌++◌, inl, inr, arith}
 use Rattle.fam_base.specs.declared.entry.Entry.{Entry}
 use Rattle.fam_media.specs.Causes.{Rose}
 use Rattle.fam_shadow.specs.declared.fault.ShadowFault.{ShadowFault}

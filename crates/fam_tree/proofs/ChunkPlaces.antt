@@ -1,10 +1,9 @@
 -- What stands at a place, in one of many chunks or behind them.
-use Rattle.std.proofs.Common.{◌≡◌, ℕ, zero, suc, ◌+◌, ◌-◌, ◌*◌, ◌<◌, ◌≤◌, List, [], ◌∷◌, ◌++◌, length, get_or, refl, sym, ap, inl, inr, ◌∙◌, arith, length-append}
+use Rattle.std.proofs.Common.{◌≡◌, ℕ, zero, suc, ◌+◌, ◌-◌, ◌*◌, ◌<◌, ◌≤◌, List, [], ◌∷◌, ◌++◌, length, get_or, refl, sym, ap, inl, inr, ◌∙◌, arith}
 use Rattle.std.specs.Prelude.{slice_get}
 use Rattle.std.proofs.lemmas.Option.{get_or_from_slice_get, slice_get-get_or, slice_get_cases, slice_get_within}
 use Rattle.std.specs.List.{AllByRecursion, flat_map}
 use Rattle.std.proofs.lemmas.List.{append_assoc}
-use Rattle.fam_tree.proofs.Edits.{all_at}
 
 -- ---- lists that have the same at two places
 
@@ -39,11 +38,6 @@ module _ {X : Type 0} where
   abbrev pub joined_chunks : List (List X) → List X
   joined_chunks full = flat_map (λ c. c) full
 
-  -- each chunk has as many
-  pub chunk_size : (size : ℕ) (full : List (List X)) (n : ℕ) (chunk : List X) → AllByRecursion (λ c. length c ≡ size) full → n < length full
-      → chunk ≡ get_or full n chunk → length chunk ≡ size
-  chunk_size size full n chunk each within is = ap length is ∙ all_at (λ c. length c ≡ size) full n chunk each within
-
   module _ (size : ℕ) (last : List X) where
     -- that of a chunk
     pub in_chunk : (full : List (List X)) (n r : ℕ) (chunk : List X) → AllByRecursion (λ c. length c ≡ size) full → n < length full → r < size
@@ -70,10 +64,3 @@ module _ {X : Type 0} where
         ∙ behind x (joined_chunks full ++ last) size (i - size) each.0
         ∙ in_last full (i - size) each.1 more
         ∙ ap (slice_get last) (omega arith)
-
-    -- how many there are
-    pub count_of : (full : List (List X)) → AllByRecursion (λ c. length c ≡ size) full → length (joined_chunks full ++ last) ≡ size * length full + length last
-    count_of [] each = omega arith
-    count_of (x ∷ full) each =
-        ap length (append_assoc x (joined_chunks full) last) ∙ length-append x (joined_chunks full ++ last)
-        ∙ omega (arith, each.0, count_of full each.1)

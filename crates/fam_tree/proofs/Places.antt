@@ -8,7 +8,7 @@ use Rattle.std.specs.declared.cmp.Ordering.TheVariants.{Less, Equal, Greater}
 use Rattle.std.specs.List.{AllWithin, HoldsAt}
 use Rattle.std.specs.List.Sorted.{IsNonDecreasingBy}
 use Rattle.std.proofs.lemmas.List.{get_or_append_left, get_or_default, length-map}
-use Rattle.std.proofs.lemmas.Option.{slice_get-get_or, slice_get-map}
+use Rattle.std.proofs.lemmas.Option.{slice_get-map}
 use Rattle.fam_base.specs.PathOrder.{path_cmp}
 use Rattle.fam_base.specs.declared.entry.Entry.{Entry}
 use Rattle.fam_tree.specs.Runs.{AllAbove, AllBelow, AreWithin, InOrder, IsAt, IsGap, ends_before, ends_below, entry_at, is_before, is_below, no_entry, place_cmp, run_of}

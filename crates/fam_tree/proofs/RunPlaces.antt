@@ -1,20 +1,18 @@
 -- Runs of places, as runs of the entries there.
 use Rattle.std.proofs.Common.{◌≡◌, ℕ, ◌+◌, ◌-◌, ◌<◌, ◌≤◌, min, true, false, List, [], ◌∷◌, ◌++◌, length, get_or, set, None, refl, sym, ap, subst, ◌∙◌, inl, inr, arith, length-append}
 use Rattle.std.specs.FinMap as finmap
-use Rattle.std.specs.List.{AllByRecursion, AllWithin, insert, remove}
+use Rattle.std.specs.List.{AllWithin, insert}
 use Rattle.std.specs.List.Sorted.{IsPartitionedBy, IsPartitionPoint}
 use Rattle.std.proofs.lemmas.Bool.{cases_lt}
 use Rattle.std.proofs.lemmas.List.{get_or-map, get_or_default, get_or_read, length-map, map-append, map-set}
-use Rattle.fam_base.specs.PathOrder.{path_cmp}
 use Rattle.fam_base.specs.declared.entry.Entry.{Entry}
-use Rattle.std.specs.declared.cmp.Ordering.TheVariants.{Equal}
 use Rattle.fam_format.specs.Tree.{with_entry}
-use Rattle.fam_tree.specs.Runs.{AreFilled, AreRuns, AreRunsOf, AreWithin, InOrder, IsAbsent, IsPut, IsRunFor, RunsWithin, ends_before, ends_below, entries_in, entry_at, listed, run_of, runs_of, tree_of}
-use Rattle.fam_tree.proofs.Ordered.{all_back, all_front, itself}
+use Rattle.fam_tree.specs.Runs.{AreRuns, AreRunsOf, AreWithin, InOrder, IsPut, IsRunFor, RunsWithin, ends_before, ends_below, entries_in, entry_at, listed, run_of, runs_of, tree_of}
+use Rattle.fam_tree.proofs.Ordered.{all_back, all_front}
 use Rattle.fam_tree.proofs.Places.{ends_told, grown_run, within_more}
 use Rattle.fam_tree.proofs.Edits.{all_at, all_insert, all_set, map_insert}
 use Rattle.fam_tree.proofs.Search.{parted, placed, run_order}
-use Rattle.fam_tree.proofs.Nested.{absent_of_run, cut_runs, cut_whole, filled_set, put_count, put_free, put_runs, put_view}
+use Rattle.fam_tree.proofs.Nested.{cut_runs, cut_whole, put_count, put_free, put_runs, put_view}
 
 abbrev pub Places : Type 0
 Places = List (List ℕ)

@@ -51,7 +51,7 @@ fn order_at(entries: &Chunks, place: u32, path: &[u8]) -> Ordering
 }
 
 /// Inserts the place of an entry that is put behind all entries, where something else grows by it. Else, and if there is no
-/// memory, nothing changes.
+/// memory, or no place below 2^32, nothing changes.
 fn insert<B: Beside>(
     places: &mut Vec<u32>,
     i: usize,

@@ -1,4 +1,4 @@
-use Rattle.std.proofs.Common.{◌≡◌, ◌∙◌, ◌+◌, ◌-◌, ◌<◌, ◌≤◌, arith, rules, length, min, subst, ℕ}
+use Rattle.std.proofs.Common.{◌∙◌, ◌+◌, ◌-◌, arith, rules, ℕ}
 use Rattle.fam_base.proofs.FieldOrder.{AreBytes}
 use Rattle.fam_tree.proofs.ByteOrder.{SameFront, ended, shorter, word_decides, word_same}
 use Rattle.fam_tree.proofs.byte_order.order_long.Goals as goal

@@ -1,5 +1,5 @@
-use Rattle.std.proofs.Common.{◌≡◌, ◌∙◌, ◌<◌, arith, rules, length, min, subst, ℕ}
-use Rattle.fam_tree.proofs.ByteOrder.{SameFront, byte_decides, ended}
+use Rattle.std.proofs.Common.{◌∙◌, arith}
+use Rattle.fam_tree.proofs.ByteOrder.{byte_decides, ended}
 use Rattle.fam_tree.proofs.byte_order.order_short.Goals as goal
 
 pub returns-then-x-y : goal.returns-then-x-y

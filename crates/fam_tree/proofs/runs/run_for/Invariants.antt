@@ -1,4 +1,4 @@
-use Rattle.std.proofs.Common.{◌≡◌, ◌+◌, ◌-◌, ◌<◌, ◌≤◌, List, ℕ, true, false, length}
+use Rattle.std.proofs.Common.{◌≡◌, ◌+◌, ◌-◌, ◌≤◌, List, ℕ, true, false, length}
 use Rattle.std.specs.List.{AllWithin}
 use Rattle.fam_tree.specs.Runs.{ends_before}
 use Rattle.fam_tree.proofs.runs.run_for.Given as goal

@@ -1,5 +1,5 @@
 use Rattle.fam_tree.specs.Runs.{no_entry}
-use Rattle.std.proofs.Common.{ap, ◌∙◌}
+use Rattle.std.proofs.Common.{◌∙◌}
 use Rattle.fam_tree.proofs.ChunkPlaces.{same_place, within_too}
 use Rattle.fam_tree.proofs.chunks.Chunks.at.Goals as goal
 
