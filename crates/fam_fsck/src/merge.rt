@@ -111,7 +111,7 @@ pub fn check(tree: &Tree, listing: &[Entry]) -> Checked
     let mut rest = listing;
     for entry in tree.iter() {
         rest = pass(&mut checked, &entry.path, rest);
-        rest = meet(&mut checked, entry, rest);
+        rest = meet(&mut checked, &entry, rest);
     }
     pass_all(&mut checked, rest);
     checked

@@ -4,3 +4,4 @@ pub mod Looks
 pub mod Puts
 pub mod Later
 pub mod Ends
+pub mod Faults

@@ -65,7 +65,7 @@ fn first_clash<D: Shade>(
 {
     let mut first = None;
     for entry in tree.iter() {
-        let met = clash_at(alloc, entry, shade)?;
+        let met = clash_at(alloc, &entry, shade)?;
         first = first.or(met);
     }
     Ok(first)
@@ -121,7 +121,7 @@ fn put_all<D: Shade>(alloc: Global, tree: &Tree, shade: &mut D) -> Result<(), Sh
     ensures later { (D.state shade.old).faults ≤ (D.state shade.new).faults }
 {
     for entry in tree.iter() {
-        put_entry(alloc, entry, shade)?;
+        put_entry(alloc, &entry, shade)?;
     }
     Ok(())
 }

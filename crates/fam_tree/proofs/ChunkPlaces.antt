@@ -1,16 +1,25 @@
 -- What stands at a place, in one of many chunks or behind them.
-use Rattle.std.proofs.Common.{◌≡◌, ℕ, zero, suc, ◌+◌, ◌-◌, ◌*◌, ◌<◌, ◌≤◌, List, [], ◌∷◌, ◌++◌, length, get_or, Option, None, Some, Bor, refl, sym, ap, ◌∙◌, arith, length-append}
-use Rattle.std.specs.Prelude.{option_map, slice_get}
-use Rattle.std.specs.Slice.{IsItemAt}
-use Rattle.std.proofs.lemmas.Option.{slice_get-get_or, slice_get_past}
+use Rattle.std.proofs.Common.{◌≡◌, ℕ, zero, suc, ◌+◌, ◌-◌, ◌*◌, ◌<◌, ◌≤◌, List, [], ◌∷◌, ◌++◌, length, get_or, refl, sym, ap, inl, inr, ◌∙◌, arith}
+use Rattle.std.specs.Prelude.{slice_get}
+use Rattle.std.proofs.lemmas.Option.{get_or_from_slice_get, slice_get-get_or, slice_get_cases, slice_get_within}
 use Rattle.std.specs.List.{AllByRecursion, flat_map}
 use Rattle.std.proofs.lemmas.List.{append_assoc}
-use Rattle.fam_tree.proofs.Edits.{all_at}
 
--- what a slice gives at a place
-pub told : {X : Type 0} (xs : List X) (i : ℕ) (o : Option (Bor X)) → IsItemAt xs i o → option_map (λ x. x.now) o ≡ slice_get xs i
-told xs i None got = sym (slice_get_past xs i got.3)
-told xs i (Some x) got = ap (λ y. Some y) (got.3.1 x.now) ∙ sym (slice_get-get_or xs i x.now got.3.0)
+-- ---- lists that have the same at two places
+
+module _ {X : Type 0} (xs ys : List X) (i j : ℕ) where
+  pub within_too : slice_get xs i ≡ slice_get ys j → j < length ys → i < length xs
+  within_too same below =
+      elim (slice_get_cases ys j).1 [
+        | inl w ↦ slice_get_within xs i w.0 (same ∙ w.2)
+        | inr past ↦ absurd (omega (arith, past.0, below))
+      ]
+
+  pub same_place : (d : X) → slice_get xs i ≡ slice_get ys j → j < length ys → get_or xs i d ≡ get_or ys j d
+  same_place d same below =
+      get_or_from_slice_get xs i (get_or ys j d) d (same ∙ slice_get-get_or ys j d below)
+
+-- ---- chunks
 
 module _ {X : Type 0} where
   front : (a b : List X) (i : ℕ) → i < length a → slice_get (a ++ b) i ≡ slice_get a i
@@ -28,11 +37,6 @@ module _ {X : Type 0} where
   -- all chunks, one behind another
   abbrev pub joined_chunks : List (List X) → List X
   joined_chunks full = flat_map (λ c. c) full
-
-  -- each chunk has as many
-  pub chunk_size : (size : ℕ) (full : List (List X)) (n : ℕ) (chunk : List X) → AllByRecursion (λ c. length c ≡ size) full → n < length full
-      → chunk ≡ get_or full n chunk → length chunk ≡ size
-  chunk_size size full n chunk each within is = ap length is ∙ all_at (λ c. length c ≡ size) full n chunk each within
 
   module _ (size : ℕ) (last : List X) where
     -- that of a chunk
@@ -60,10 +64,3 @@ module _ {X : Type 0} where
         ∙ behind x (joined_chunks full ++ last) size (i - size) each.0
         ∙ in_last full (i - size) each.1 more
         ∙ ap (slice_get last) (omega arith)
-
-    -- how many there are
-    pub count_of : (full : List (List X)) → AllByRecursion (λ c. length c ≡ size) full → length (joined_chunks full ++ last) ≡ size * length full + length last
-    count_of [] each = omega arith
-    count_of (x ∷ full) each =
-        ap length (append_assoc x (joined_chunks full) last) ∙ length-append x (joined_chunks full ++ last)
-        ∙ omega (arith, each.0, count_of full each.1)

@@ -1,12 +1,11 @@
 -- What becomes of a run's places.
-use Rattle.std.proofs.Common.{◌≡◌, ℕ, zero, suc, ◌+◌, ◌<◌, ◌⊎◌, ⊎_elim, Bool, true, false, Vec, Global, List, [], ◌∷◌, ◌++◌, length, get_or, set, map as list_map, take, drop, Some, refl, sym, ap, subst, ◌∙◌, arith, length-append}
-use Rattle.std.specs.Prelude.{option_map}
+use Rattle.std.proofs.Common.{◌≡◌, ℕ, zero, suc, ◌+◌, ◌<◌, ◌⊎◌, ⊎_elim, Bool, true, false, Vec, Global, List, [], ◌∷◌, ◌++◌, length, get_or, set, map as list_map, take, drop, refl, sym, ap, subst, ◌∙◌, arith, length-append}
 use Rattle.std.specs.Bool.{OnTrue, OnFalse}
-use Rattle.std.specs.List.{AllByRecursion, AllZip, insert, remove}
+use Rattle.std.specs.List.{AllByRecursion, AllZip, insert}
 use Rattle.std.proofs.Math.Seq.{get_or-append_seam}
 use Rattle.std.proofs.lemmas.List.{drop-map, map-append, take-append-drop, take-map}
 use Rattle.fam_base.specs.declared.entry.Entry.{Entry}
-use Rattle.fam_tree.specs.Runs.{AreWithin, IsAt, IsGap, IsPut, entry_at, no_entry, run_of}
+use Rattle.fam_tree.specs.Runs.{AreWithin, IsGap, IsPut, entry_at, no_entry, run_of}
 use Rattle.fam_tree.proofs.Ordered.{IsCut, all_back, all_front, all_joined}
 use Rattle.fam_tree.proofs.Places.{grown_run, within_more}
 

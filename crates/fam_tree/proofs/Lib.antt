@@ -5,6 +5,8 @@ pub mod Edits
 pub mod Nested
 pub mod Search
 pub mod ChunkPlaces
+pub mod RowLemmas
+pub mod ByteOrder
 pub mod RunPlaces
 pub mod Words
 pub mod Printed

@@ -1,19 +1,16 @@
 -- What stands in one of many runs.
-use Rattle.std.proofs.Common.{◌≡◌, ℕ, zero, suc, ◌+◌, ◌<◌, ◌≤◌, List, [], ◌∷◌, ◌++◌, length, get_or, set, take, drop, cond, Some, None, refl, sym, ap, subst, ◌∙◌, arith, length-append}
+use Rattle.std.proofs.Common.{◌≡◌, ℕ, zero, suc, ◌+◌, ◌<◌, ◌≤◌, List, [], ◌∷◌, ◌++◌, length, get_or, set, take, drop, Some, None, refl, sym, ap, subst, ◌∙◌, arith, length-append}
 use Rattle.std.specs.Prelude.{slice_get}
-use Rattle.std.specs.Ordering.{eq_by_cmp, is_eq}
-use Rattle.std.specs.Cmp.Lexicographic.{nat_list_cmp_total}
-use Rattle.std.specs.declared.cmp.Ordering.TheVariants.{Less, Equal, Greater}
+use Rattle.std.specs.declared.cmp.Ordering.TheVariants.{Less}
 use Rattle.std.specs.FinMap as finmap
-use Rattle.std.specs.FinMap.{get-remove, get_tied, same_map}
-use Rattle.std.specs.List.{insert, remove}
+use Rattle.std.specs.List.{insert}
 use Rattle.std.proofs.lemmas.List.{append_assoc}
 use Rattle.fam_base.specs.PathOrder.{path_cmp}
 use Rattle.fam_base.specs.declared.entry.Entry.{Entry}
-use Rattle.fam_format.specs.Tree.{Tree, with_entry}
+use Rattle.fam_format.specs.Tree.{with_entry}
 use Rattle.fam_tree.specs.Runs.{AreFilled, AreRuns, InOrder, IsAbsent, IsFound, IsPut, IsRunFor, entries_in, tree_of}
 use Rattle.fam_tree.proofs.Ordered.{IsCut, cut_absent, cut_order, cut_view, IsHeld, held_found, all_joined}
-use Rattle.fam_tree.proofs.Views.{get_of_view, path_cmp-IsAntisymmetric}
+use Rattle.fam_tree.proofs.Views.{get_of_view}
 use Rattle.fam_tree.proofs.Edits.{cut_of_gap}
 
 abbrev pub Runs : Type 0

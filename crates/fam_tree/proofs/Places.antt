@@ -1,14 +1,14 @@
 -- Where a path stands in a run, by a binary search of its places.
-use Rattle.std.proofs.Common.{◌≡◌, ℕ, zero, suc, ◌-◌, ◌<◌, ◌≤◌, List, [], ◌∷◌, ◌++◌, length, get_or, take, drop, Option, Some, None, Result, Ok, Err, IfOk, IfErr, refl, sym, ap, subst, ◌∙◌, arith}
+use Rattle.std.proofs.Common.{◌≡◌, ℕ, zero, suc, ◌+◌, ◌-◌, ◌<◌, ◌≤◌, List, [], ◌∷◌, ◌++◌, length, get_or, take, drop, Option, Some, None, refl, sym, ap, subst, ◌∙◌, arith}
 use Rattle.std.specs.Prelude.{option_map, slice_get}
 use Rattle.std.specs.Ordering.{is_lt, ordering_index}
 use Rattle.std.specs.Cmp.Lexicographic.{nat_list_cmp_total}
 use Rattle.std.specs.declared.cmp.Ordering.{Ordering}
 use Rattle.std.specs.declared.cmp.Ordering.TheVariants.{Less, Equal, Greater}
 use Rattle.std.specs.List.{AllWithin, HoldsAt}
-use Rattle.std.specs.List.Sorted.{IsSearchInRange, IsBinarySearchResult, IsNonDecreasingBy}
-use Rattle.std.proofs.lemmas.List.{get_or_append_left, length-map}
-use Rattle.std.proofs.lemmas.Option.{slice_get-get_or, slice_get-map}
+use Rattle.std.specs.List.Sorted.{IsNonDecreasingBy}
+use Rattle.std.proofs.lemmas.List.{get_or_append_left, get_or_default, length-map}
+use Rattle.std.proofs.lemmas.Option.{slice_get-map}
 use Rattle.fam_base.specs.PathOrder.{path_cmp}
 use Rattle.fam_base.specs.declared.entry.Entry.{Entry}
 use Rattle.fam_tree.specs.Runs.{AllAbove, AllBelow, AreWithin, InOrder, IsAt, IsGap, ends_before, ends_below, entry_at, is_before, is_below, no_entry, place_cmp, run_of}
@@ -21,7 +21,7 @@ within_at n [] j d within below = absurd (omega arith)
 within_at n (x ∷ xs) zero d within below = within.0
 within_at n (x ∷ xs) (suc j) d within below = within_at n xs j d within.1 (omega arith)
 
-within_get : (n : ℕ) (xs : List ℕ) (k i : ℕ) → AreWithin n xs → slice_get xs k ≡ Some i → i < n
+pub within_get : (n : ℕ) (xs : List ℕ) (k i : ℕ) → AreWithin n xs → slice_get xs k ≡ Some i → i < n
 within_get n [] k i within is = absurd (cc (is))
 within_get n (x ∷ xs) zero i within is = let same : x ≡ i = cc (is) in subst (λ (y : ℕ). y < n) same within.0
 within_get n (x ∷ xs) (suc k) i within is = within_get n xs k i within.1 is
@@ -39,10 +39,20 @@ grown_run es more (x ∷ xs) within =
 
 -- ---- the order of the path at a place and another
 
-place_told : (es : List Entry) (q : List ℕ) (i : ℕ) → i < length es → place_cmp es q i ≡ path_cmp (entry_at es i).path q
+pub place_told : (es : List Entry) (q : List ℕ) (i : ℕ) → i < length es → place_cmp es q i ≡ path_cmp (entry_at es i).path q
 place_told [] q i within = absurd (omega arith)
 place_told (e ∷ es) q zero within = refl
 place_told (e ∷ es) q (suc i) within = place_told es q i (omega arith)
+
+least : (o : Ordering) → ordering_index o ≤ ordering_index Less → o ≡ Less
+least Less low = refl
+least Equal low = absurd (omega (arith, low))
+least Greater low = absurd (omega (arith, low))
+
+most : (o : Ordering) → ordering_index Greater ≤ ordering_index o → o ≡ Greater
+most Less high = absurd (omega (arith, high))
+most Equal high = absurd (omega (arith, high))
+most Greater high = refl
 
 at_most : (o : Ordering) → ordering_index o ≤ 2
 at_most Less = omega arith
@@ -99,21 +109,36 @@ module _ (es : List Entry) (q : List ℕ) where
       (turned (entry_at es x).path q (sym (place_told es q x within.0) ∙ all 0 x (omega arith) (omega arith)), behind xs 0 within.1 (λ k d low high. all (suc k) d (omega arith) (omega arith)))
   behind (x ∷ xs) (suc i) within all = behind xs i within.1 (λ k d low high. all (suc k) d (omega arith) (omega arith))
 
-  -- what a search answers
-  pub searched : (xs : List ℕ) → AreWithin (length es) xs → InOrder (run_of es xs) → (r : Result ℕ ℕ) → IsSearchInRange r (length xs)
-      → IsBinarySearchResult (place_cmp es q) xs r
-      → record { found : IfOk r (λ i. IsAt (run_of es xs) q i); gap : IfErr r (λ i. IsGap (run_of es xs) q i) }
-  searched xs within order (Ok i) below same = record {
-    found = record { within = rw (length-map xs (entry_at es)) below; own = here xs i within below same };
-    gap = tt;
-  }
-  searched xs within order (Err i) most parted = record {
-    found = tt;
-    gap = record {
-      within = rw (length-map xs (entry_at es)) most;
-      below = before xs i within most (parted (rises xs within order)).0;
-      above = behind xs i within (parted (rises xs within order)).1;
-    };
+  -- ---- what one comparison tells of the others
+
+  module _ (xs : List ℕ) (within : AreWithin (length es) xs) (order : InOrder (run_of es xs)) (m : ℕ) (below : m < length xs) where
+    -- what stands before a lower path is lower
+    pub less_to : place_cmp es q (get_or xs m 0) ≡ Less → AllWithin (λ (y : ℕ). place_cmp es q y ≡ Less) xs 0 (m + 1)
+    less_to less i d low high =
+        let at : get_or xs m d ≡ get_or xs m 0 = get_or_default xs m d 0 below in
+        least (place_cmp es q (get_or xs i d))
+        (subst (λ (n : ℕ). ordering_index (place_cmp es q (get_or xs i d)) ≤ n) (ap (λ (y : ℕ). ordering_index (place_cmp es q y)) at ∙ ap ordering_index less) (rises xs within order i m d (omega arith) below))
+
+    -- what stands behind a higher one is higher
+    pub greater_from : place_cmp es q (get_or xs m 0) ≡ Greater → AllWithin (λ (y : ℕ). place_cmp es q y ≡ Greater) xs m (length xs)
+    greater_from greater i d low high =
+        let at : get_or xs m d ≡ get_or xs m 0 = get_or_default xs m d 0 below in
+        most (place_cmp es q (get_or xs i d))
+        (subst (λ (n : ℕ). n ≤ ordering_index (place_cmp es q (get_or xs i d))) (ap (λ (y : ℕ). ordering_index (place_cmp es q y)) at ∙ ap ordering_index greater) (rises xs within order m i d low high))
+
+    -- the path stands there
+    pub found_at : place_cmp es q (get_or xs m 0) ≡ Equal → IsAt (run_of es xs) q m
+    found_at same = record {
+      within = rw (length-map xs (entry_at es)) below;
+      own = here xs m within below (λ d. ap (place_cmp es q) (get_or_default xs m d 0 below) ∙ same);
+    }
+
+  -- a path between lower ones and higher ones would stand there
+  pub gap_at : (xs : List ℕ) (i : ℕ) → AreWithin (length es) xs → i ≤ length xs → AllWithin (λ (y : ℕ). place_cmp es q y ≡ Less) xs 0 i → AllWithin (λ (y : ℕ). place_cmp es q y ≡ Greater) xs i (length xs) → IsGap (run_of es xs) q i
+  gap_at xs i within bound lower higher = record {
+    within = rw (length-map xs (entry_at es)) bound;
+    below = before xs i within bound lower;
+    above = behind xs i within higher;
   }
 
   -- whether the last is below a path

@@ -1,19 +1,18 @@
 -- Runs of places, as runs of the entries there.
-use Rattle.std.proofs.Common.{◌≡◌, ℕ, ◌+◌, ◌<◌, ◌≤◌, min, true, false, List, [], ◌∷◌, ◌++◌, length, get_or, set, None, refl, sym, ap, subst, ◌∙◌, arith, length-append}
+use Rattle.std.proofs.Common.{◌≡◌, ℕ, ◌+◌, ◌-◌, ◌<◌, ◌≤◌, min, true, false, List, [], ◌∷◌, ◌++◌, length, get_or, set, None, refl, sym, ap, subst, ◌∙◌, inl, inr, arith, length-append}
 use Rattle.std.specs.FinMap as finmap
-use Rattle.std.specs.List.{AllByRecursion, insert, remove}
+use Rattle.std.specs.List.{AllWithin, insert}
 use Rattle.std.specs.List.Sorted.{IsPartitionedBy, IsPartitionPoint}
-use Rattle.std.proofs.lemmas.List.{get_or-map, length-map, map-append, map-set}
-use Rattle.fam_base.specs.PathOrder.{path_cmp}
+use Rattle.std.proofs.lemmas.Bool.{cases_lt}
+use Rattle.std.proofs.lemmas.List.{get_or-map, get_or_default, get_or_read, length-map, map-append, map-set}
 use Rattle.fam_base.specs.declared.entry.Entry.{Entry}
-use Rattle.std.specs.declared.cmp.Ordering.TheVariants.{Equal}
 use Rattle.fam_format.specs.Tree.{with_entry}
-use Rattle.fam_tree.specs.Runs.{AreFilled, AreRuns, AreRunsOf, AreWithin, InOrder, IsAbsent, IsPut, IsRunFor, RunsWithin, ends_before, ends_below, entries_in, entry_at, listed, run_of, runs_of, tree_of}
-use Rattle.fam_tree.proofs.Ordered.{all_back, all_front, itself}
+use Rattle.fam_tree.specs.Runs.{AreRuns, AreRunsOf, AreWithin, InOrder, IsPut, IsRunFor, RunsWithin, ends_before, ends_below, entries_in, entry_at, listed, run_of, runs_of, tree_of}
+use Rattle.fam_tree.proofs.Ordered.{all_back, all_front}
 use Rattle.fam_tree.proofs.Places.{ends_told, grown_run, within_more}
 use Rattle.fam_tree.proofs.Edits.{all_at, all_insert, all_set, map_insert}
 use Rattle.fam_tree.proofs.Search.{parted, placed, run_order}
-use Rattle.fam_tree.proofs.Nested.{absent_of_run, cut_runs, cut_whole, filled_set, put_count, put_free, put_runs, put_view}
+use Rattle.fam_tree.proofs.Nested.{cut_runs, cut_whole, put_count, put_free, put_runs, put_view}
 
 abbrev pub Places : Type 0
 Places = List (List ℕ)
@@ -60,18 +59,68 @@ module _ (es : List Entry) (q : List ℕ) (runs : Places) (are : AreRunsOf es ru
   as_many : length (runs_of es runs) ≡ length runs
   as_many = length-map runs (run_of es)
 
-  pub parted_places : IsPartitionedBy (ends_before es q) runs
+  parted_places : IsPartitionedBy (ends_before es q) runs
   parted_places i j d le below ends =
       ends_at i d [] (omega arith)
       ∙ parted q (runs_of es runs) are.held.order are.held.filled i j [] le (omega (arith, as_many)) (sym (ends_at j d [] below) ∙ ends)
 
-  pub placed_places : (n m : ℕ) → m + 1 ≡ length runs → n ≤ length runs
+  placed_places : (n m : ℕ) → m + 1 ≡ length runs → n ≤ length runs
       → IsPartitionPoint (λ r. ends_before es q r ≡ true) (λ r. ends_before es q r ≡ false) runs n → IsRunFor (runs_of es runs) q (min n m)
   placed_places n m last most point =
       placed q (runs_of es runs) are.held n m (last ∙ sym as_many) (omega (arith, as_many, most)) (
         λ k e low high. sym (ends_at k [] e (omega (arith, most, high))) ∙ point.0 k [] low high,
         λ k e low high. sym (ends_at k [] e (omega (arith, as_many, high))) ∙ point.1 k [] low (omega (arith, as_many, high)),
       )
+
+  -- runs before one that ends below the path do so too
+  pub ends_to : (m : ℕ) (run : List ℕ) → m < length runs → run ≡ get_or runs m run → ends_before es q run ≡ true → AllWithin (λ (r : List ℕ). ends_before es q r ≡ true) runs 0 (m + 1)
+  ends_to m run below is ends k d low high =
+      parted_places k m d (omega arith) below (ap (ends_before es q) (sym (get_or_read runs m run below is d)) ∙ ends)
+
+  -- and those behind one that doesn't don't either
+  pub ends_from : (m : ℕ) (run : List ℕ) → m < length runs → run ≡ get_or runs m run → ends_before es q run ≡ false → AllWithin (λ (r : List ℕ). ends_before es q r ≡ false) runs m (length runs - 1)
+  ends_from m run below is not k d low high =
+      elim (ends_before es q (get_or runs k d)) as (λ b. ends_before es q (get_or runs k d) ≡ b → b ≡ false) [
+        | true ↦ λ h. absurd (cc (parted_places m k d low (omega arith) h, get_or_read runs m run below is d, not))
+        | false ↦ λ h. refl
+      ] refl
+
+  -- the first run that doesn't end below the path, or else the last
+  module _ (low : ℕ) (within : low + 1 ≤ length runs) (below : AllWithin (λ (r : List ℕ). ends_before es q r ≡ true) runs 0 low) (above : AllWithin (λ (r : List ℕ). ends_before es q r ≡ false) runs low (length runs - 1)) where
+    at_last : (k : ℕ) (d : List ℕ) → k ≡ length runs - 1 → ends_before es q (get_or runs k d) ≡ ends_before es q (get_or runs (length runs - 1) [])
+    at_last k d is =
+        ap (λ (n : ℕ). ends_before es q (get_or runs n d)) is
+        ∙ ap (ends_before es q) (get_or_default runs (length runs - 1) d [] (omega (arith, within)))
+
+    last_ends : low ≡ length runs - 1 → ends_before es q (get_or runs (length runs - 1) []) ≡ true → IsRunFor (runs_of es runs) q low
+    last_ends is ends =
+        subst (IsRunFor (runs_of es runs) q) {x = min (length runs) (length runs - 1)} (omega (arith, is, within)) (placed_places (length runs) (length runs - 1) (omega (arith, within)) (omega arith) (
+          λ k d from to. elim (cases_lt k low) [
+            | inl less ↦ below k d from less
+            | inr not ↦ at_last k d (omega (arith, is, to, not)) ∙ ends
+          ],
+          λ k d from to. absurd (omega (arith, from, to)),
+        ))
+
+    last_goes_on : ends_before es q (get_or runs (length runs - 1) []) ≡ false → IsRunFor (runs_of es runs) q low
+    last_goes_on not =
+        subst (IsRunFor (runs_of es runs) q) {x = min low (length runs - 1)} (omega (arith, within)) (placed_places low (length runs - 1) (omega (arith, within)) (omega (arith, within)) (
+          λ k d from to. below k d from to,
+          λ k d from to. elim (cases_lt k (length runs - 1)) [
+            | inl less ↦ above k d from less
+            | inr past ↦ at_last k d (omega (arith, to, past)) ∙ not
+          ],
+        ))
+
+    pub first_placed : IsRunFor (runs_of es runs) q low
+    first_placed =
+        elim (ends_before es q (get_or runs (length runs - 1) [])) as (λ b. ends_before es q (get_or runs (length runs - 1) []) ≡ b → IsRunFor (runs_of es runs) q low) [
+          | true ↦ λ h. elim (cases_lt low (length runs - 1)) [
+            | inl less ↦ absurd (cc (parted_places low (length runs - 1) [] (omega arith) (omega (arith, within)) h, above low [] (omega arith) less))
+            | inr not ↦ last_ends (omega (arith, within, not)) h
+          ]
+          | false ↦ λ h. last_goes_on h
+        ] refl
 
 -- ---- an entry that was put into a run
 

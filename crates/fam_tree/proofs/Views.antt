@@ -1,5 +1,5 @@
 -- The map that a `BTreeMap` of paths is.
-use Rattle.std.proofs.Common.{◌≡◌, ℕ, Bool, true, T, ◌&&◌, cond, List, [], ◌∷◌, Some, None, length, map as list_map, refl, sym, ap, subst, ◌∙◌}
+use Rattle.std.proofs.Common.{◌≡◌, ℕ, Bool, true, T, ◌&&◌, cond, List, [], ◌∷◌, Some, length, map as list_map, refl, sym, ap, subst, ◌∙◌}
 use Rattle.std.specs.Ordering.{eq_by_cmp, is_lt}
 use Rattle.std.specs.Cmp.{eq_by_cmp_equiv}
 use Rattle.std.specs.Cmp.Lexicographic.{nat_list_cmp_total}
@@ -10,7 +10,7 @@ use Rattle.std.specs.List.Sorted.{IsStrictlySortedBy}
 use Rattle.std.specs.Map.{lookup}
 use Rattle.std.specs.BTreeMap.{is_at}
 use Rattle.std.specs.FinMap as map
-use Rattle.std.specs.FinMap.{is_sorted, find, entries-from_sorted, get-from_sorted, len-entries, get-from_entries, get-insert, get-remove, same_map, IsAntisymmetric, slice_cmp-IsAntisymmetric, nat_cmp-IsAntisymmetric}
+use Rattle.std.specs.FinMap.{is_sorted, find, entries-from_sorted, get-from_sorted, len-entries, get-from_entries, get-insert, same_map, IsAntisymmetric, slice_cmp-IsAntisymmetric, nat_cmp-IsAntisymmetric}
 use Rattle.std.specs.FinMap.Entries.{below_all}
 use Rattle.std.proofs.lemmas.Map.Keys.{sorted_head, sorted_tail}
 use Rattle.fam_base.specs.PathOrder.{path_cmp}

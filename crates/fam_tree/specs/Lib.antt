@@ -1,4 +1,5 @@
 pub mod Runs
+pub mod Rows
 pub mod Chunks
 pub mod Lines
 pub mod NextExtent

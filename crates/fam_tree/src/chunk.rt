@@ -2,7 +2,7 @@
 
 ghost use Rattle.std.specs.Prelude.{◌≡◌, IfOk, IfErr};
 
-use fam_base::Entry;
+use crate::entry_list::EntryList;
 use std::alloc::{AllocError, Global};
 use std::marker::Model;
 use std::rc::Rc;
@@ -10,7 +10,7 @@ use std::rc::Rc;
 /// Entries that several trees may have at once.
 #[derive(Drop)]
 pub(crate) struct Chunk {
-    entries: Rc<Vec<Entry>>,
+    entries: Rc<EntryList>,
 }
 
 impl Model for Chunk {
@@ -23,7 +23,7 @@ impl Model for Chunk {
 
     ghost coded = { coded_list entry_type.the_row.coded };
 
-    ghost view = { λ c. c.entries.value.items };
+    ghost view = { λ c. c.entries.value };
 }
 
 impl Clone for Chunk {
@@ -37,8 +37,8 @@ impl Clone for Chunk {
 
 impl Chunk {
     /// The same entries, to be shared from here on. If there is no memory, they come back.
-    pub(crate) fn new(alloc: Global, entries: Vec<Entry>) -> Result<Chunk, Vec<Entry>>
-        ensures chunk { IfOk result (λ chunk. chunk ≡ entries.items) }
+    pub(crate) fn new(alloc: Global, entries: EntryList) -> Result<Chunk, EntryList>
+        ensures chunk { IfOk result (λ chunk. chunk ≡ entries) }
         ensures back { IfErr result (λ back. back ≡ entries) }
     {
         match Rc::new(alloc, entries) {
@@ -49,9 +49,9 @@ impl Chunk {
 
     /// The entries.
     #[inline(always)]
-    pub(crate) fn entries(&self) -> &[Entry]
+    pub(crate) fn entries(&self) -> &EntryList
         ensures { result.now ≡ self.now }
     {
-        self.entries.as_slice()
+        &self.entries
     }
 }

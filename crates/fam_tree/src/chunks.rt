@@ -1,13 +1,14 @@
 //! The list of the entries of a tree, in chunks that its copies share. `specs/Chunks.antt` says how.
 
-ghost use Rattle.std.specs.Prelude.{◌≡◌, ◌<◌, ◌++◌, ◌∷◌, [], IfOk, OnOk, OnErr, length, vec_len, option_map, slice_get};
+ghost use Rattle.std.specs.Prelude.{◌≡◌, ◌<◌, ◌++◌, ◌∷◌, [], IfOk, length, slice_get};
 ghost use Rattle.std.specs.Bool.{OnTrue, OnFalse};
 ghost use Rattle.fam_tree.specs.Chunks.{AreFull, entries_of};
 ghost use Rattle.fam_tree.specs.Runs.{entry_at};
 
 use crate::beside::Beside;
 use crate::chunk::Chunk;
-use fam_base::{Entry, OutOfMemory};
+use crate::entry_list::EntryList;
+use fam_base::{Entry, Kind, OutOfMemory};
 use std::alloc::Global;
 use std::marker::Model;
 use std::mem::replace;
@@ -21,7 +22,7 @@ pub(crate) const CHUNK: usize = 256;
 pub(crate) struct Chunks {
     alloc: Global,
     full: Vec<Chunk>,
-    last: Vec<Entry>,
+    last: EntryList,
     len: usize,
 }
 
@@ -36,19 +37,19 @@ impl Model for Chunks {
 
     ghost coded = { coded_list entry_type.the_row.coded };
 
-    ghost view = { λ c. entries_of c.full.items c.last.items };
+    ghost view = { λ c. entries_of c.full.items c.last };
 
-    ghost invariant = { λ c. AreChunks c.full.items c.last.items c.len };
+    ghost invariant = { λ c. AreChunks c.full.items c.last c.len };
 }
 
 /// Makes a chunk of the last entries, so that the next ones have room of their own.
-fn close(full: &mut Vec<Chunk>, last: &mut Vec<Entry>, alloc: Global) -> Result<(), OutOfMemory>
+fn close(full: &mut Vec<Chunk>, last: &mut EntryList, alloc: Global) -> Result<(), OutOfMemory>
     requires full { AreFull full.old.items }
-    requires last { vec_len last.old ≡ CHUNK }
+    requires last { length last.old ≡ CHUNK }
     ensures full { AreFull full.new.items }
-    ensures entries { entries_of full.new.items last.new.items ≡ entries_of full.old.items last.old.items }
+    ensures entries { entries_of full.new.items last.new ≡ entries_of full.old.items last.old }
 {
-    let Ok(next) = Vec::with_capacity(alloc, CHUNK) else {
+    let Ok(next) = EntryList::with_rows(alloc, CHUNK) else {
         return Err(OutOfMemory);
     };
     if full.reserve(1).is_err() {
@@ -66,22 +67,6 @@ fn close(full: &mut Vec<Chunk>, last: &mut Vec<Entry>, alloc: Global) -> Result<
     }
 }
 
-/// Puts an entry behind the last ones, beside which something grows, or does neither.
-#[inline(always)]
-fn append<B: Beside>(last: &mut Vec<Entry>, entry: &Entry, beside: &mut B) -> bool
-    requires { B.may_grow beside.old entry.now }
-    ensures added { OnTrue result (last.new.items ≡ last.old.items ++ entry.now ∷ []) }
-    ensures grown { OnTrue result (B.grown beside.old entry.now beside.new) }
-    ensures kept { OnFalse result (last.new.items ≡ last.old.items) }
-    ensures same { OnFalse result (beside.new ≡ beside.old) }
-{
-    if last.reserve(1).is_err() || !beside.grow(entry) {
-        return false;
-    }
-    let _ = last.push(*entry);
-    true
-}
-
 impl Chunks {
     /// No entries.
     pub(crate) fn new(alloc: Global) -> Chunks
@@ -90,7 +75,7 @@ impl Chunks {
         Chunks {
             alloc,
             full: Vec::new(alloc),
-            last: Vec::new(alloc),
+            last: EntryList::new(alloc),
             len: 0,
         }
     }
@@ -102,28 +87,45 @@ impl Chunks {
         self.len
     }
 
-    /// The entry at a place, if there is one.
+    /// The list in which the entry at a place stands, and where. Past all entries it is a place past those of the list.
     #[inline(always)]
-    pub(crate) fn get(&self, place: usize) -> Option<&Entry>
-        ensures { option_map (λ entry. entry.now) result ≡ slice_get self.now place }
+    fn find(&self, place: usize) -> (&EntryList, usize)
+        ensures { slice_get result.0.now result.1 ≡ slice_get self.now place }
     {
         match self.full.get(place / CHUNK) {
-            Some(chunk) => chunk.entries().get(place % CHUNK),
-            None => self.last.get(place - CHUNK * self.full.len()),
+            Some(chunk) => (chunk.entries(), place % CHUNK),
+            None => (&self.last, place - CHUNK * self.full.len()),
         }
     }
 
     /// The entry at a place.
-    #[inline(always)]
-    pub(crate) fn at(&self, place: usize) -> &Entry
+    #[inline]
+    pub(crate) fn at(&self, place: usize) -> Entry
         requires { place < length self.now }
-        ensures { result.now ≡ entry_at self.now place }
+        ensures { result ≡ entry_at self.now place }
     {
-        let chunk = place / CHUNK;
-        if chunk < self.full.len() {
-            return &self.full[chunk].entries()[place % CHUNK];
-        }
-        &self.last[place - CHUNK * self.full.len()]
+        let (list, i) = self.find(place);
+        list.at(i)
+    }
+
+    /// The kind of the entry at a place.
+    #[inline]
+    pub(crate) fn kind_at(&self, place: usize) -> Kind
+        requires { place < length self.now }
+        ensures { result ≡ (entry_at self.now place).kind }
+    {
+        let (list, i) = self.find(place);
+        list.kind_at(i)
+    }
+
+    /// The bytes of the path of the entry at a place.
+    #[inline(always)]
+    pub(crate) fn path_at(&self, place: usize) -> &[u8]
+        requires { place < length self.now }
+        ensures { result.now ≡ (entry_at self.now place).path }
+    {
+        let (list, i) = self.find(place);
+        list.path_at(i)
     }
 
     /// Puts an entry behind the others, where something else grows by it. Else, and if there is no memory, nothing changes.
@@ -140,7 +142,7 @@ impl Chunks {
         if self.last.len() == CHUNK && close(&mut self.full, &mut self.last, self.alloc).is_err() {
             return false;
         }
-        if !append(&mut self.last, entry, beside) {
+        if !self.last.push(entry, beside) {
             return false;
         }
         self.len = len;
@@ -154,14 +156,12 @@ impl Chunks {
         let Ok(full) = self.full.clone() else {
             return Err(OutOfMemory);
         };
-        match self.last.clone() {
-            Ok(last) => Ok(Chunks {
-                alloc,
-                full,
-                last,
-                len: self.len,
-            }),
-            Err(_) => Err(OutOfMemory),
-        }
+        let last = self.last.copy(alloc)?;
+        Ok(Chunks {
+            alloc,
+            full,
+            last,
+            len: self.len,
+        })
     }
 }

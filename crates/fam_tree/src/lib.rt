@@ -6,12 +6,15 @@
 #![tactic(auto)]
 
 mod beside;
+mod byte_order;
 mod chunk;
 mod chunks;
+mod entry_list;
 mod fault;
 mod line_words;
 mod lines;
 mod listings;
+mod row;
 mod run;
 mod runs;
 mod tree;

@@ -156,7 +156,7 @@ pub fn print_listing(alloc: Global, tree: &Tree) -> Result<Vec<u8>, OutOfMemory>
 {
     let mut text = Vec::new(alloc);
     for entry in tree.iter() {
-        put_line(entry, &mut text)?;
+        put_line(&entry, &mut text)?;
     }
     Ok(text)
 }

@@ -3,9 +3,10 @@
 ghost use Rattle.std.specs.Prelude.{◌≡◌, ◌<◌, ◌≤◌, ◌++◌, ◌∷◌, [], IfOk, IfErr, OnOk, OnErr, IfSome, IfNone, length, vec_len};
 ghost use Rattle.std.specs.List.{insert};
 ghost use Rattle.std.specs.Bool.{OnTrue, OnFalse};
-ghost use Rattle.fam_tree.specs.Runs.{AreWithin, InOrder, IsAbsent, IsAt, IsFound, IsGap, IsPut, ends_before, place_cmp, run_of};
+ghost use Rattle.fam_tree.specs.Runs.{AreWithin, InOrder, IsAbsent, IsAt, IsFound, IsGap, IsPut, ends_before, entry_at, place_cmp, run_of};
 
 use crate::beside::Beside;
+use crate::byte_order::order;
 use crate::chunks::Chunks;
 use fam_base::{Entry, OutOfMemory, Path};
 use std::alloc::{AllocError, Global};
@@ -17,7 +18,7 @@ use std::rc::Rc;
 /// entry. Copies share the places until one of them changes.
 #[derive(Drop)]
 pub(crate) struct Run {
-    places: Rc<Vec<usize>>,
+    places: Rc<Vec<u32>>,
 }
 
 impl Model for Run {
@@ -40,21 +41,19 @@ impl Clone for Run {
     }
 }
 
-/// The order of the path of the entry at a place and another.
+/// The order of the path of the entry at a place and another, by its bytes.
 #[inline(always)]
-fn order_at(entries: &Chunks, place: usize, path: &Path) -> Ordering
+fn order_at(entries: &Chunks, place: u32, path: &[u8]) -> Ordering
+    requires { place < length entries.now }
     ensures { result ≡ place_cmp entries.now path.now place }
 {
-    match entries.get(place) {
-        Some(entry) => entry.path.cmp(path),
-        None => Ordering::Less,
-    }
+    order(entries.path_at(place as usize), path)
 }
 
 /// Inserts the place of an entry that is put behind all entries, where something else grows by it. Else, and if there is no
-/// memory, nothing changes.
+/// memory, or no place below 2^32, nothing changes.
 fn insert<B: Beside>(
-    places: &mut Vec<usize>,
+    places: &mut Vec<u32>,
     i: usize,
     entries: &mut Chunks,
     entry: &Entry,
@@ -69,7 +68,9 @@ fn insert<B: Beside>(
     ensures kept { OnFalse result (entries.new ≡ entries.old) }
     ensures same { OnFalse result (beside.new ≡ beside.old) }
 {
-    let place = entries.len();
+    let Ok(place) = u32::try_from(entries.len()) else {
+        return false;
+    };
     if places.reserve(1).is_err() || !entries.push(entry, beside) {
         return false;
     }
@@ -78,7 +79,7 @@ fn insert<B: Beside>(
 }
 
 /// Some places, shared anew.
-fn shared(alloc: Global, places: &[usize]) -> Result<Rc<Vec<usize>>, OutOfMemory>
+fn shared(alloc: Global, places: &[u32]) -> Result<Rc<Vec<u32>>, OutOfMemory>
     ensures { IfOk result (λ shared. shared.value.items ≡ places.now) }
 {
     let mut own = Vec::new(alloc);
@@ -110,7 +111,7 @@ impl Run {
     }
 
     /// The places of the entries.
-    pub(crate) fn places(&self) -> &[usize]
+    pub(crate) fn places(&self) -> &[u32]
         ensures { result.now ≡ self.now }
     {
         self.places.as_slice()
@@ -118,7 +119,8 @@ impl Run {
 
     /// Whether the last entry is below a path.
     #[inline]
-    pub(crate) fn is_below(&self, entries: &Chunks, path: &Path) -> bool
+    pub(crate) fn is_below(&self, entries: &Chunks, path: &[u8]) -> bool
+        requires { AreWithin (length entries.now) self.now }
         ensures { result ≡ ends_before entries.now path.now self.now }
     {
         match self.places.last() {
@@ -137,19 +139,31 @@ impl Run {
         ensures within { IfOk result (λ i. i < length self.now) }
         ensures end { IfErr result (λ i. i ≤ length self.now) }
     {
-        self.places
-            .binary_search_by(|place| order_at(entries, *place, path))
+        let bytes = path.bytes();
+        let places = self.places.as_slice();
+        let mut low = 0;
+        let mut high = places.len();
+        while low < high {
+            let middle = low + (high - low) / 2;
+            match order_at(entries, places[middle], bytes) {
+                Ordering::Less => low = middle + 1,
+                Ordering::Equal => return Ok(middle),
+                Ordering::Greater => high = middle,
+            }
+        }
+        Err(low)
     }
 
-    /// The entry at a path.
-    pub(crate) fn get<'a>(&self, entries: &'a Chunks, path: &Path) -> Option<&'a Entry>
+    /// Where the entry at a path stands in the list of all entries.
+    pub(crate) fn place_of(&self, entries: &Chunks, path: &Path) -> Option<usize>
         requires order { InOrder (run_of entries.now self.now) }
         requires inside { AreWithin (length entries.now) self.now }
-        ensures found { IfSome result (λ entry. IsFound (run_of entries.now self.now) path.now entry.now) }
+        ensures found { IfSome result (λ place. IsFound (run_of entries.now self.now) path.now (entry_at entries.now place)) }
+        ensures within { IfSome result (λ place. place < length entries.now) }
         ensures none { IfNone result (IsAbsent (run_of entries.now self.now) path.now) }
     {
         match self.seek(entries, path) {
-            Ok(i) => entries.get(self.places[i]),
+            Ok(i) => Some(self.places[i] as usize),
             Err(_) => None,
         }
     }

@@ -4,7 +4,7 @@ ghost use Rattle.std.specs.Prelude.{◌≡◌, ◌+◌, ◌<◌, [], IfSome, IfN
 ghost use Rattle.std.specs.Bool.{OnTrue, OnFalse};
 ghost use Rattle.std.specs.FinMap as map;
 ghost use Rattle.fam_format.specs.Tree.{with_entry};
-ghost use Rattle.fam_tree.specs.Runs.{AreRunsOf, IsRunFor, listed, runs_of, tree_of};
+ghost use Rattle.fam_tree.specs.Runs.{AreRunsOf, IsRunFor, entry_at, listed, runs_of, tree_of};
 
 use crate::beside::Beside;
 use crate::chunks::Chunks;
@@ -13,7 +13,7 @@ use fam_base::{Entry, Path};
 use std::alloc::Global;
 
 /// The most entries of a run, where there is memory to cut it.
-const MOST: usize = 256;
+const MOST: usize = 128;
 
 /// The run that has a path or would have it, and `None` where there is no run.
 fn run_for(entries: &Chunks, runs: &[Run], path: &Path) -> Option<usize>
@@ -22,20 +22,30 @@ fn run_for(entries: &Chunks, runs: &[Run], path: &Path) -> Option<usize>
     ensures within { IfSome result (λ k. k < length runs.now) }
     ensures none { IfNone result (runs.now ≡ []) }
 {
-    let last = runs.len().checked_sub(1)?;
-    let before = runs.partition_point(|run| run.is_below(entries, path));
-    Some(before.min(last))
+    let bytes = path.bytes();
+    let mut low = 0;
+    let mut high = runs.len().checked_sub(1)?;
+    while low < high {
+        let middle = low + (high - low) / 2;
+        if runs[middle].is_below(entries, bytes) {
+            low = middle + 1;
+        } else {
+            high = middle;
+        }
+    }
+    Some(low)
 }
 
-/// The entry at a path.
-pub(crate) fn entry_in<'a>(entries: &'a Chunks, runs: &[Run], path: &Path) -> Option<&'a Entry>
+/// Where the entry at a path stands in the list of all entries.
+pub(crate) fn place_in(entries: &Chunks, runs: &[Run], path: &Path) -> Option<usize>
     requires { AreRunsOf entries.now runs.now }
-    ensures value { option_map (λ entry. entry.now) result
+    ensures value { option_map (entry_at entries.now) result
         ≡ map.get (tree_of (listed entries.now runs.now)) path.now }
-    ensures own { IfSome result (λ entry. entry.now.path ≡ path.now) }
+    ensures own { IfSome result (λ place. (entry_at entries.now place).path ≡ path.now) }
+    ensures within { IfSome result (λ place. place < length entries.now) }
 {
     match run_for(entries, runs, path) {
-        Some(k) => runs[k].get(entries, path),
+        Some(k) => runs[k].place_of(entries, path),
         None => None,
     }
 }

@@ -18,7 +18,7 @@ use crate::beside::{Beside, Nothing};
 use crate::chunks::Chunks;
 use crate::fault::ApplyFault;
 use crate::run::Run;
-use crate::runs::{entry_in, put};
+use crate::runs::{place_in, put};
 use crate::tree_iter::TreeIter;
 use fam_base::{Entry, Kind, OutOfMemory, Path};
 use std::alloc::Global;
@@ -71,7 +71,10 @@ impl Tree {
         ensures value { result ≡ map.get self.now path.now }
         ensures own { IfSome result (λ entry. entry.path ≡ path.now) }
     {
-        self.entry_at(path).copied()
+        match place_in(&self.entries, &self.runs, path) {
+            Some(place) => Some(self.entries.at(place)),
+            None => None,
+        }
     }
 
     /// How many entries there are.
@@ -96,20 +99,22 @@ impl Tree {
         }
     }
 
-    /// The entry at a path, which isn't copied.
-    fn entry_at(&self, path: &Path) -> Option<&Entry>
-        ensures value { option_map (λ entry. entry.now) result ≡ map.get self.now path.now }
-        ensures own { IfSome result (λ entry. entry.now.path ≡ path.now) }
+    /// The kind of what stands at a path.
+    fn kind_at(&self, path: &Path) -> Option<Kind>
+        ensures { result ≡ option_map (λ e. e.kind) (map.get self.now path.now) }
     {
-        entry_in(&self.entries, &self.runs, path)
+        match place_in(&self.entries, &self.runs, path) {
+            Some(place) => Some(self.entries.kind_at(place)),
+            None => None,
+        }
     }
 
     /// What stands at a path, as a fault, or else this one.
     fn fault_at(&self, path: &Path, fault: ApplyFault) -> ApplyFault
         ensures { reason_of result ≡ or_else (exists_fault (map.get self.now path.now)) (reason_of fault) }
     {
-        match self.entry_at(path) {
-            Some(old) => ApplyFault::Exists(old.kind),
+        match self.kind_at(path) {
+            Some(kind) => ApplyFault::Exists(kind),
             None => fault,
         }
     }
@@ -118,12 +123,9 @@ impl Tree {
     pub fn parent_kind(&self, path: &Path) -> Option<Kind>
         ensures { result ≡ parents.parent_kind self.now (parent_of path.now) }
     {
-        let Some(parent) = path.parent() else {
-            return Some(Kind::Directory);
-        };
-        match self.entry_at(&parent) {
-            Some(entry) => Some(entry.kind),
-            None => None,
+        match path.parent() {
+            Some(parent) => self.kind_at(&parent),
+            None => Some(Kind::Directory),
         }
     }
 

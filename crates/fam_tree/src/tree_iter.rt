@@ -1,7 +1,7 @@
 //! The entries of a tree one by one.
 
 ghost use Rattle.std.specs.Prelude.{length};
-ghost use Rattle.std.specs.Iterator.{YieldsFirstRef, item_count};
+ghost use Rattle.std.specs.Iterator.{YieldsFirst, item_count};
 ghost use Rattle.std.proofs.Props.{props};
 ghost use Rattle.fam_tree.specs.Runs.{AreFilled, AreWithin, RunsWithin, runs_of};
 
@@ -13,7 +13,7 @@ use fam_base::Entry;
 #[derive(Drop)]
 pub struct TreeIter<'a> {
     pub(crate) entries: &'a Chunks,
-    pub(crate) run: &'a [usize],
+    pub(crate) run: &'a [u32],
     pub(crate) runs: &'a [Run],
     ghost filled: { AreFilled (runs_of entries.now runs.now) } by { Prim.hlevel props },
     ghost inside: { AreWithin (length entries.now) run.now } by { Prim.hlevel props },
@@ -23,13 +23,13 @@ pub struct TreeIter<'a> {
 impl<'a> Iterator for TreeIter<'a> {
     ghost use Rattle.fam_tree.specs.Iter.{tree_iter_rest};
 
-    type Item = &'a Entry;
+    type Item = Entry;
 
-    ghost next_gives = { YieldsFirstRef tree_iter_rest };
+    ghost next_gives = { YieldsFirst tree_iter_rest };
 
     ghost remaining = { item_count tree_iter_rest };
 
-    fn next(&mut self) -> Option<&'a Entry> {
+    fn next(&mut self) -> Option<Entry> {
         if let [run, runs @ ..] = self.runs
             && self.run.is_empty()
         {
@@ -40,6 +40,6 @@ impl<'a> Iterator for TreeIter<'a> {
             return None;
         };
         self.run = rest;
-        Some(self.entries.at(*first))
+        Some(self.entries.at(*first as usize))
     }
 }

@@ -1,10 +1,12 @@
 use Rattle.std.proofs.Common.{◌≡◌, ◌∷◌, [], List, Option, subst, sym, ◌∙◌, arith}
 use Rattle.std.specs.FinMap as map
+use Rattle.std.proofs.lemmas.Result.{err_from_is_err_and}
 use Rattle.fam_base.specs.declared.entry.Entry.{Entry}
 use Rattle.fam_media.specs.Outside.{IfModelled}
 use Rattle.fam_tree.specs.Iter.{tree_iter_rest}
 use Rattle.fam_shadow.specs.Nodes.{Nodes}
 use Rattle.fam_shadow.specs.Passes.{AreSeen, first_met}
+use Rattle.fam_shadow.proofs.Faults.{fault_of_pass}
 use Rattle.fam_shadow.proofs.Looks.{more_seen}
 use Rattle.fam_shadow.proofs.OwnNames.{distinct}
 use Rattle.fam_shadow.proofs.passes.first_clash.Goals as goal
@@ -13,7 +15,7 @@ pub loop-entry-preserved : goal.loop-entry-preserved
 loop-entry-preserved g c =
     let entries : List Entry = map.values c.args.tree.now in
     let held : Option Nodes = (g.D.Shade.state c.args.shade.now).nodes in
-    let e : Entry = c.in-Some.entry.now in
+    let e : Entry = c.in-Some.entry in
     let rest : List Entry = tree_iter_rest c.next.new.self in
     let given : tree_iter_rest c.loop-entry.entry-iterator ≡ e ∷ rest = cc (c.in-Some.ensures.steps) in
     let before : AreSeen entries (e ∷ rest) held c.loop-entry.first = subst (λ (l : List Entry). AreSeen entries l held c.loop-entry.first) given c.loop-entry.invariant.seen in
@@ -31,3 +33,14 @@ returns-clause-distinct g c =
     let done : tree_iter_rest c.loop-entry.entry-iterator ≡ [] = c.in-None.ensures.steps.0 in
     let seen = subst (λ (l : List Entry). AreSeen entries l (g.D.Shade.state c.args.shade.now).nodes c.loop-entry.first) done c.loop-entry.invariant.seen in
     distinct entries (seen.proper tt) c.iter-entry-items.ensures.order
+
+pub returns-in_err-met-clause-fault : goal.returns-in_err-met-clause-fault
+returns-in_err-met-clause-fault g c =
+    let entries : List Entry = map.values c.args.tree.now in
+    let held : Option Nodes = (g.D.Shade.state c.args.shade.now).nodes in
+    let e : Entry = c.in-Some.entry in
+    let rest : List Entry = tree_iter_rest c.next.new.self in
+    let given : tree_iter_rest c.loop-entry.entry-iterator ≡ e ∷ rest = cc (c.in-Some.ensures.steps) in
+    let before : AreSeen entries (e ∷ rest) held c.loop-entry.first = subst (λ (l : List Entry). AreSeen entries l held c.loop-entry.first) given c.loop-entry.invariant.seen in
+    let p = err_from_is_err_and c.from_residual.result c.from_residual.ensures.1 in
+    rw (p.1, p.2) (fault_of_pass entries before.done rest e (g.D.Shade.state c.args.shade.now).faults (g.D.Shade.state c.loop-entry.shade).faults (g.D.Shade.state c.clash_at.new.shade).faults before.parts c.loop-entry.invariant.later c.in_err-met.field-0.0 c.in_err-met.ensures.fault)

@@ -1,9 +1,11 @@
 use Rattle.std.proofs.Common.{◌≡◌, ◌∷◌, List, Option, subst, arith}
 use Rattle.std.specs.FinMap as map
+use Rattle.std.proofs.lemmas.Result.{err_from_is_err_and}
 use Rattle.fam_base.specs.declared.entry.Entry.{Entry}
 use Rattle.fam_tree.specs.Iter.{tree_iter_rest}
 use Rattle.fam_shadow.specs.Nodes.{Nodes}
 use Rattle.fam_shadow.specs.Passes.{ArePut}
+use Rattle.fam_shadow.proofs.Faults.{fault_of_pass}
 use Rattle.fam_shadow.proofs.Puts.{clear_at, more_put}
 use Rattle.fam_shadow.proofs.passes.put_all.Goals as goal
 
@@ -12,7 +14,7 @@ put_entry-requires g c =
     let entries : List Entry = map.values c.args.tree.now in
     let old : Option Nodes = (g.D.Shade.state c.args.shade.now).nodes in
     let now : Option Nodes = (g.D.Shade.state c.loop-entry.shade).nodes in
-    let e : Entry = c.in-Some.entry.now in
+    let e : Entry = c.in-Some.entry in
     let rest : List Entry = tree_iter_rest c.next.new.self in
     let given : tree_iter_rest c.loop-entry.entry-iterator ≡ e ∷ rest = cc (c.in-Some.ensures.steps) in
     let before : ArePut entries (e ∷ rest) old now = subst (λ (l : List Entry). ArePut entries l old now) given c.loop-entry.invariant.put in
@@ -23,7 +25,7 @@ loop-entry-preserved g c =
     let entries : List Entry = map.values c.args.tree.now in
     let old : Option Nodes = (g.D.Shade.state c.args.shade.now).nodes in
     let now : Option Nodes = (g.D.Shade.state c.loop-entry.shade).nodes in
-    let e : Entry = c.in-Some.entry.now in
+    let e : Entry = c.in-Some.entry in
     let rest : List Entry = tree_iter_rest c.next.new.self in
     let given : tree_iter_rest c.loop-entry.entry-iterator ≡ e ∷ rest = cc (c.in-Some.ensures.steps) in
     let before : ArePut entries (e ∷ rest) old now = subst (λ (l : List Entry). ArePut entries l old now) given c.loop-entry.invariant.put in
@@ -31,3 +33,15 @@ loop-entry-preserved g c =
       put = more_put entries old e rest now before (g.D.Shade.state c.put_entry.new.shade).nodes c.in_ok-put_entry.ensures.put;
       later = omega (arith, c.in_ok-put_entry.ensures.later, c.loop-entry.invariant.later);
     }
+
+pub returns-in_err-put_entry-clause-fault : goal.returns-in_err-put_entry-clause-fault
+returns-in_err-put_entry-clause-fault g c =
+    let entries : List Entry = map.values c.args.tree.now in
+    let old : Option Nodes = (g.D.Shade.state c.args.shade.now).nodes in
+    let now : Option Nodes = (g.D.Shade.state c.loop-entry.shade).nodes in
+    let e : Entry = c.in-Some.entry in
+    let rest : List Entry = tree_iter_rest c.next.new.self in
+    let given : tree_iter_rest c.loop-entry.entry-iterator ≡ e ∷ rest = cc (c.in-Some.ensures.steps) in
+    let before : ArePut entries (e ∷ rest) old now = subst (λ (l : List Entry). ArePut entries l old now) given c.loop-entry.invariant.put in
+    let p = err_from_is_err_and c.from_residual.result c.from_residual.ensures.1 in
+    rw (p.1, p.2) (fault_of_pass entries before.done rest e (g.D.Shade.state c.args.shade.now).faults (g.D.Shade.state c.loop-entry.shade).faults (g.D.Shade.state c.put_entry.new.shade).faults before.parts c.loop-entry.invariant.later c.in_err-put_entry.field-0.0 c.in_err-put_entry.ensures.fault)

@@ -1,0 +1,160 @@
+//! Entries one behind another, packed: a row for each, and the bytes of all paths and all extents end to end.
+//!
+//! A contract sees an `EntryList` as the list of the entries. `specs/Rows.antt` says which ones.
+
+ghost use Rattle.std.specs.Prelude.{◌≡◌, ◌+◌, ◌<◌, ◌≤◌, ◌++◌, ◌∷◌, [], IfOk, length, vec_capacity, vec_len};
+ghost use Rattle.std.specs.Bool.{OnTrue, OnFalse};
+ghost use Rattle.fam_tree.specs.Runs.{entry_at};
+
+use crate::beside::Beside;
+use crate::row::Row;
+use fam_base::{Entry, Extent, Kind, OutOfMemory};
+use std::alloc::Global;
+use std::marker::Model;
+
+/// Entries in the order in which they were added. An entry takes a row and the bytes of its own path and extents.
+#[derive(Drop)]
+pub(crate) struct EntryList {
+    rows: Vec<Row>,
+    paths: Vec<u8>,
+    extents: Vec<Extent>,
+}
+
+impl Model for EntryList {
+    ghost use Rattle.std.specs.Prelude.{List};
+    ghost use Rattle.std.specs.Coded.{coded_list};
+    ghost use Rattle.fam_base.specs.declared.entry.Entry.{Entry};
+    ghost use Rattle.fam_base.specs.contracts.entry.Entry as entry_type;
+    ghost use Rattle.fam_tree.specs.Rows.{AreRows, entries_of_rows};
+
+    ghost Value = { List Entry };
+
+    ghost coded = { coded_list entry_type.the_row.coded };
+
+    ghost view = { λ l. entries_of_rows l.paths.items l.extents.items l.rows.items };
+
+    ghost invariant = { λ l. AreRows l.paths.items l.extents.items l.rows.items };
+}
+
+/// Puts items behind others that have room for them. Most entries have no extents, and then nothing is done.
+#[inline(always)]
+fn put<T: Copy>(items: &mut Vec<T>, more: &[T])
+    requires { vec_len items.old + length more.now ≤ vec_capacity items.old }
+    ensures { items.new.items ≡ items.old.items ++ more.now }
+{
+    if !more.is_empty() {
+        let _ = items.extend_from_slice(more);
+    }
+}
+
+impl EntryList {
+    /// No entries.
+    pub(crate) fn new(alloc: Global) -> EntryList
+        ensures { result ≡ [] }
+    {
+        EntryList {
+            rows: Vec::new(alloc),
+            paths: Vec::new(alloc),
+            extents: Vec::new(alloc),
+        }
+    }
+
+    /// No entries, and memory for the rows of so many.
+    pub(crate) fn with_rows(alloc: Global, count: usize) -> Result<EntryList, OutOfMemory>
+        ensures { IfOk result (λ list. list ≡ []) }
+    {
+        match Vec::with_capacity(alloc, count) {
+            Ok(rows) => Ok(EntryList {
+                rows,
+                paths: Vec::new(alloc),
+                extents: Vec::new(alloc),
+            }),
+            Err(_) => Err(OutOfMemory),
+        }
+    }
+
+    /// How many entries there are.
+    #[inline(always)]
+    pub(crate) fn len(&self) -> usize
+        ensures { result ≡ length self.now }
+    {
+        self.rows.len()
+    }
+
+    /// The entry at a place.
+    pub(crate) fn at(&self, place: usize) -> Entry
+        requires { place < length self.now }
+        ensures { result ≡ entry_at self.now place }
+    {
+        self.rows[place].entry(self.paths.as_slice(), self.extents.as_slice())
+    }
+
+    /// The kind of the entry at a place.
+    pub(crate) fn kind_at(&self, place: usize) -> Kind
+        requires { place < length self.now }
+        ensures { result ≡ (entry_at self.now place).kind }
+    {
+        self.rows[place].kind
+    }
+
+    /// The bytes of the path of the entry at a place.
+    #[inline(always)]
+    pub(crate) fn path_at(&self, place: usize) -> &[u8]
+        requires { place < length self.now }
+        ensures { result.now ≡ (entry_at self.now place).path }
+    {
+        self.rows[place].path(self.paths.as_slice())
+    }
+
+    /// Puts an entry behind the others, where something else grows by it. Else, and if there is no memory, nothing changes.
+    #[inline(always)]
+    pub(crate) fn push<B: Beside>(&mut self, entry: &Entry, beside: &mut B) -> bool
+        requires { B.may_grow beside.old entry.now }
+        ensures added { OnTrue result (self.new ≡ self.old ++ entry.now ∷ []) }
+        ensures grown { OnTrue result (B.grown beside.old entry.now beside.new) }
+        ensures kept { OnFalse result (self.new ≡ self.old) }
+        ensures same { OnFalse result (beside.new ≡ beside.old) }
+    {
+        let Some(row) = Row::new(entry, self.paths.len(), self.extents.len()) else {
+            return false;
+        };
+        let path = entry.path.bytes();
+        let extents = entry.extents.as_slice();
+        if self.rows.reserve(1).is_err() {
+            return false;
+        }
+        if self.paths.reserve(path.len()).is_err() {
+            return false;
+        }
+        if self.extents.reserve(extents.len()).is_err() {
+            return false;
+        }
+        if !beside.grow(entry) {
+            return false;
+        }
+        let _ = self.rows.push(row);
+        put(&mut self.paths, path);
+        put(&mut self.extents, extents);
+        true
+    }
+
+    /// The same entries, in memory of their own.
+    pub(crate) fn copy(&self, alloc: Global) -> Result<EntryList, OutOfMemory>
+        ensures { IfOk result (λ list. list ≡ self.now) }
+    {
+        let Ok(rows) = Vec::from_slice(alloc, self.rows.as_slice()) else {
+            return Err(OutOfMemory);
+        };
+        let Ok(paths) = Vec::from_slice(alloc, self.paths.as_slice()) else {
+            return Err(OutOfMemory);
+        };
+        match Vec::from_slice(alloc, self.extents.as_slice()) {
+            Ok(extents) => Ok(EntryList {
+                rows,
+                paths,
+                extents,
+            }),
+            Err(_) => Err(OutOfMemory),
+        }
+    }
+}

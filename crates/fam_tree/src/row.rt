@@ -1,0 +1,110 @@
+//! What an entry of a packed list has of fixed size. `specs/Rows.antt` says where its path and its extents stand.
+
+ghost use Rattle.std.specs.Prelude.{◌≡◌, ◌+◌, ◌≤◌, IfSome, IsTrue, length};
+ghost use Rattle.fam_base.specs.ExtentLists.{extent_limit};
+ghost use Rattle.fam_base.specs.Paths.{is_path};
+ghost use Rattle.fam_tree.specs.Rows.{IsRow, entry_of, path_in, row_of};
+
+use fam_base::{Entry, Extent, Extents, Kind, MapKind, PATH_LIMIT, Path};
+
+/// How many places a row can tell from one another.
+const PLACES: usize = 0x1_0000_0000;
+
+/// An entry but for its path and its extents, and where these stand among those of all entries of its list.
+#[derive(Clone, Copy)]
+pub(crate) struct Row {
+    pub(crate) map: MapKind,
+    pub(crate) size: u64,
+    /// Where its path begins, in bytes.
+    pub(crate) path_start: u32,
+    /// Where its extents begin, in extents.
+    pub(crate) extents_start: u32,
+    pub(crate) mode: u32,
+    pub(crate) uid: u32,
+    pub(crate) gid: u32,
+    pub(crate) kind: Kind,
+    /// How many bytes its path has.
+    pub(crate) path_len: u8,
+    /// How many extents it has.
+    pub(crate) extents_len: u8,
+}
+
+/// The path of bytes that are one. They are copied, and not looked at.
+#[tactic(auto, unfolding(fam_base::specs::Paths::is_path))]
+#[inline]
+fn path_of(bytes: &[u8]) -> Path
+    requires { IsTrue (is_path bytes.now) }
+    ensures { result ≡ bytes.now }
+{
+    let len = bytes.len();
+    let mut field = [0; PATH_LIMIT];
+    field[..len].copy_from_slice(bytes);
+    Path::in_field(&field, len)
+}
+
+/// At most sixteen extents.
+#[inline]
+fn extents_of(items: &[Extent]) -> Extents
+    requires { length items.now ≤ extent_limit }
+    ensures { result ≡ items.now }
+{
+    let mut extents = Extents::new();
+    for item in items {
+        let _ = extents.push(*item);
+    }
+    extents
+}
+
+impl Row {
+    /// The row of an entry whose path and extents begin at these places. `None` comes where a place is too far back.
+    #[tactic(auto, unfolding(fam_base::specs::Paths::is_path))]
+    #[inline]
+    pub(crate) fn new(entry: &Entry, path_start: usize, extents_start: usize) -> Option<Row>
+        ensures { IfSome result (λ row. row ≡ row_of entry.now path_start extents_start) }
+    {
+        if path_start >= PLACES || extents_start >= PLACES {
+            return None;
+        }
+        Some(Row {
+            map: entry.map,
+            size: entry.size,
+            path_start: path_start as u32,
+            extents_start: extents_start as u32,
+            mode: entry.mode,
+            uid: entry.uid,
+            gid: entry.gid,
+            kind: entry.kind,
+            path_len: entry.path.bytes().len() as u8,
+            extents_len: entry.extents.as_slice().len() as u8,
+        })
+    }
+
+    /// The bytes of its path.
+    #[inline(always)]
+    pub(crate) fn path<'a>(&self, paths: &'a [u8]) -> &'a [u8]
+        requires { self.now.path_start + self.now.path_len ≤ length paths.now }
+        ensures { result.now ≡ path_in paths.now self.now }
+    {
+        let start = self.path_start as usize;
+        &paths[start..start + self.path_len as usize]
+    }
+
+    /// Its entry.
+    #[inline]
+    pub(crate) fn entry(&self, paths: &[u8], extents: &[Extent]) -> Entry
+        requires { IsRow paths.now extents.now self.now }
+        ensures { result ≡ entry_of paths.now extents.now self.now }
+    {
+        let start = self.extents_start as usize;
+        Entry {
+            kind: self.kind,
+            path: path_of(self.path(paths)),
+            size: self.size,
+            mode: self.mode,
+            uid: self.uid,
+            gid: self.gid,
+            map: self.map,
+            extents: extents_of(&extents[start..start + self.extents_len as usize]),
+        }
+    }
+}
