@@ -6,3 +6,4 @@ pub mod NameLemmas
 pub mod UnitLemmas
 pub mod FieldOrder
 pub mod PathTests
+pub mod Eights

@@ -1,6 +1,7 @@
 //! Names in print: paths and the names of files. `specs/Escapes.antt` has the printed form.
 
-ghost use Rattle.std.specs.Prelude.{◌≡◌, ◌<◌, ◌≤◌, ℕ, List, ◌++◌, OnOk, OnErr, IfOk, length, take, slice_index};
+ghost use Rattle.std.specs.Prelude.{◌≡◌, ◌<◌, ◌≤◌, ℕ, List, ◌++◌, OnOk, OnErr, IfOk, length, take, slice_index, true};
+ghost use Rattle.std.specs.Bool.{OnTrue};
 ghost use Rattle.std.specs.List.{All, list_all};
 ghost use Rattle.fam_base.specs.Escapes.{is_plain, hex_digit, escaped_byte, escaped, AreBytes, IsVisible};
 
@@ -11,7 +12,7 @@ use std::alloc::Global;
 fn is_plain(byte: u8) -> bool
     ensures { result ≡ is_plain byte }
 {
-    (0x21..=0x7e).contains(&byte) && byte != b'\\'
+    (0x21 <= byte) & (byte <= 0x7e) & (byte != b'\\')
 }
 
 /// The digit of a number below 16 in hexadecimal, in small letters.
@@ -48,11 +49,55 @@ fn escape_byte(byte: u8, into: &mut Vec<u8>) -> Result<(), OutOfMemory>
     }
 }
 
-/// Whether each byte of a name stands for itself.
-fn are_plain(bytes: &[u8]) -> bool
+/// Whether bytes begin with eight that stand for themselves. No test waits for the one before it, so that they are made
+/// together.
+#[inline(always)]
+fn begin_plain(bytes: &[u8]) -> bool
+    ensures long { OnTrue result (8 ≤ length bytes.now) }
+    ensures plain { OnTrue result ((k : ℕ) → k < 8 → is_plain (slice_index bytes.now k) ≡ true) }
+{
+    match bytes {
+        [a, b, c, d, e, f, g, h, ..] => {
+            is_plain(*a)
+                & is_plain(*b)
+                & is_plain(*c)
+                & is_plain(*d)
+                & is_plain(*e)
+                & is_plain(*f)
+                & is_plain(*g)
+                & is_plain(*h)
+        }
+        _ => false,
+    }
+}
+
+/// So many of the first bytes stand for themselves, found by eight at a time.
+#[inline(always)]
+fn count_plain(bytes: &[u8]) -> usize
+    ensures within { result ≤ length bytes.now }
+    ensures plain { (k : ℕ) → k < result → is_plain (slice_index bytes.now k) ≡ true }
+{
+    let mut count = 0;
+    while begin_plain(&bytes[count..]) {
+        count += 8;
+    }
+    count
+}
+
+/// Whether each of some bytes stands for itself, one by one.
+#[inline(always)]
+fn is_each_plain(bytes: &[u8]) -> bool
     ensures { result ≡ list_all is_plain bytes.now }
 {
     bytes.iter().all(|byte| is_plain(*byte))
+}
+
+/// Whether each byte of a name stands for itself.
+#[tactic(auto, using(crate::proofs::Eights::all_behind))]
+fn are_plain(bytes: &[u8]) -> bool
+    ensures { result ≡ list_all is_plain bytes.now }
+{
+    is_each_plain(&bytes[count_plain(bytes)..])
 }
 
 /// Adds the printed form of a name's bytes, one by one.

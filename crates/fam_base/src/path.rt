@@ -2,7 +2,8 @@
 //!
 //! A contract sees a `Path` as its list of bytes, which is known to be a path once `bytes` was called.
 
-ghost use Rattle.std.specs.Prelude.{◌≡◌, ◌↔◌, ℕ, ◌<◌, ◌≤◌, ◌&&◌, List, ◌∷◌, ◌++◌, true, false, Some, None, IsTrue, IsOk, IfOk, length, take};
+ghost use Rattle.std.specs.Prelude.{◌≡◌, ◌≢◌, ◌↔◌, ℕ, ◌<◌, ◌≤◌, ◌&&◌, List, ◌∷◌, ◌++◌, true, false, Some, None, IsTrue, IsOk, IfOk, length, slice_index, take};
+ghost use Rattle.std.specs.Bool.{OnTrue};
 ghost use Rattle.std.specs.List.{list_all, list_any};
 ghost use Rattle.fam_base.specs.Paths.{slash, is_name, is_slash, names, has_no_nul, is_path, padded, parent_of, IsPathField};
 
@@ -45,6 +46,40 @@ fn has_name(name: &[u8]) -> bool
         [] | [b'.'] | [b'.', b'.'] => false,
         _ => true,
     }
+}
+
+/// Whether bytes begin with eight that are no slash. No test waits for the one before it, so that they are made together.
+#[inline(always)]
+fn begin_in_name(bytes: &[u8]) -> bool
+    ensures long { OnTrue result (8 ≤ length bytes.now) }
+    ensures none { OnTrue result ((k : ℕ) → k < 8 → slice_index bytes.now k ≢ slash) }
+{
+    match bytes {
+        [a, b, c, d, e, f, g, h, ..] => {
+            (*a != b'/')
+                & (*b != b'/')
+                & (*c != b'/')
+                & (*d != b'/')
+                & (*e != b'/')
+                & (*f != b'/')
+                & (*g != b'/')
+                & (*h != b'/')
+        }
+        _ => false,
+    }
+}
+
+/// A place behind which no slash stands, found by eight bytes at a time.
+#[inline(always)]
+fn place_in_name(bytes: &[u8]) -> usize
+    ensures within { result ≤ length bytes.now }
+    ensures none { (k : ℕ) → result ≤ k → k < length bytes.now → slice_index bytes.now k ≢ slash }
+{
+    let mut end = bytes.len();
+    while end >= 8 && begin_in_name(&bytes[end - 8..]) {
+        end -= 8;
+    }
+    end
 }
 
 /// Whether bytes have no 0, and are proper names between slashes: one pass.
@@ -136,7 +171,7 @@ impl Path {
         ensures { result ≡ parent_of self.now }
     {
         let bytes = self.bytes();
-        for i in (0..bytes.len()).rev() {
+        for i in (0..place_in_name(bytes)).rev() {
             if bytes[i] == b'/' {
                 return Some(stored(&bytes[..i]));
             }

@@ -64,9 +64,9 @@ outside words i u b used none =
           ap (λ (byte : ℕ). nat_le (slice_index words 6) (8 * (i - path_word) + b) && not (byte == 0)) zero ∙ and_false (nat_le (slice_index words 6) (8 * (i - path_word) + b))
     ]
 
--- a word of eight in a part that are 0
-pub zero_within : (words : List ℕ) (i n k : ℕ) → i ≤ k → k < i + 8 → 8 ≤ length (take n (drop i words)) → ((j : ℕ) → j < 8 → slice_index (take n (drop i words)) j ≡ 0) → slice_index words k ≡ 0
-zero_within words i n k from below long zeros =
+-- one of so many words in a part that are 0
+pub zero_within : (words : List ℕ) (i n count k : ℕ) → i ≤ k → k < i + count → count ≤ length (take n (drop i words)) → ((j : ℕ) → j < count → slice_index (take n (drop i words)) j ≡ 0) → slice_index words k ≡ 0
+zero_within words i n count k from below long zeros =
     let place : i + (k - i) ≡ k = omega arith in
     let room : k - i < n = omega (arith, length-take n (drop i words)) in
     sym (get_or-take n (drop i words) (k - i) 0 room ∙ get_or-drop i words (k - i) 0 ∙ ap (λ (m : ℕ). slice_index words m) place) ∙ zeros (k - i) (omega arith)

@@ -144,22 +144,44 @@ fn is_stray_there(words: &[u64; SLOT_WORDS], i: usize) -> bool
     has_stray_byte(words, i)
 }
 
-/// Whether words begin with eight of 0. No test waits for the one before it, so that they are made together.
+/// Whether words begin with sixteen of 0. They are looked at as those of `begin_with_zeros`.
 #[inline(always)]
-fn begin_with_zeros(words: &[u64]) -> bool
-    ensures long { OnTrue result (8 ≤ length words.now) }
-    ensures zeros { OnTrue result ((k : ℕ) → k < 8 → slice_index words.now k ≡ 0) }
+fn begin_with_sixteen(words: &[u64]) -> bool
+    ensures long { OnTrue result (16 ≤ length words.now) }
+    ensures zeros { OnTrue result ((k : ℕ) → k < 16 → slice_index words.now k ≡ 0) }
 {
     match words {
-        [a, b, c, d, e, f, g, h, ..] => {
-            (*a == 0)
-                & (*b == 0)
+        [0, b, c, d, e, f, g, h, i, j, k, l, m, n, o, p, ..] => {
+            (*b == 0)
                 & (*c == 0)
                 & (*d == 0)
                 & (*e == 0)
                 & (*f == 0)
                 & (*g == 0)
                 & (*h == 0)
+                & (*i == 0)
+                & (*j == 0)
+                & (*k == 0)
+                & (*l == 0)
+                & (*m == 0)
+                & (*n == 0)
+                & (*o == 0)
+                & (*p == 0)
+        }
+        _ => false,
+    }
+}
+
+/// Whether words begin with eight of 0. The first is looked at alone, and then no test waits for the one before it, so that
+/// they are made together.
+#[inline(always)]
+fn begin_with_zeros(words: &[u64]) -> bool
+    ensures long { OnTrue result (8 ≤ length words.now) }
+    ensures zeros { OnTrue result ((k : ℕ) → k < 8 → slice_index words.now k ≡ 0) }
+{
+    match words {
+        [0, b, c, d, e, f, g, h, ..] => {
+            (*b == 0) & (*c == 0) & (*d == 0) & (*e == 0) & (*f == 0) & (*g == 0) & (*h == 0)
         }
         _ => false,
     }
@@ -170,7 +192,9 @@ fn check_rest(words: &[u64; SLOT_WORDS]) -> Result<(), Reason>
 {
     let mut i = EXTENTS_WORD;
     while i < CRC_WORD {
-        if begin_with_zeros(&words[i..CRC_WORD]) {
+        if begin_with_sixteen(&words[i..CRC_WORD]) {
+            i += 16;
+        } else if begin_with_zeros(&words[i..CRC_WORD]) {
             i += 8;
         } else if is_stray(words, i) {
             return Err(Reason::Rest(i as u64));

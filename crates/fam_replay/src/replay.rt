@@ -173,8 +173,18 @@ impl Replay {
         ensures fits { IsReplayOf params.now gate self.new }
     {
         if self.replica.is_none() {
-            self.replica = take_over(&mut self.kept, self.keeps, params, gate);
+            self.take_kept(params, gate);
         }
+    }
+
+    /// Takes over what an earlier reading kept. It stands apart, since it is done once.
+    #[inline(never)]
+    fn take_kept(&mut self, params: &Params, gate: u64)
+        requires { self.old ≡ None }
+        ensures same { entries_in self.new ≡ entries_in self.old }
+        ensures fits { IsReplayOf params.now gate self.new }
+    {
+        self.replica = take_over(&mut self.kept, self.keeps, params, gate);
     }
 
     /// Whether the words of the next slot are those that are kept of it. Then its entry joins those that were found.
@@ -193,6 +203,7 @@ impl Replay {
     }
 
     /// Makes a replica of no entries, where there is none.
+    #[inline(always)]
     fn begin(&mut self, params: &Params, gate: u64) -> Result<(), OutOfMemory>
         requires sound { SoundParams params.now }
         requires fits { IsReplayOf params.now gate self.old }
@@ -202,9 +213,23 @@ impl Replay {
         ensures none { OnErr result (entries_in self.old ≡ []) }
     {
         self.resume(params, gate);
-        if self.replica.is_none() {
-            self.replica = Some(Replica::new(self.alloc, params, self.keeps)?);
+        if self.replica.is_some() {
+            return Ok(());
         }
+        self.begin_anew(params)
+    }
+
+    /// Makes a replica of no entries. It stands apart, since it is done once.
+    #[inline(never)]
+    fn begin_anew(&mut self, params: &Params) -> Result<(), OutOfMemory>
+        requires sound { SoundParams params.now }
+        requires none { self.old ≡ None }
+        ensures some { OnOk result (IsSome self.new) }
+        ensures same { entries_in self.new ≡ entries_in self.old }
+        ensures fits { (gate : ℕ) → IsReplayOf params.now gate self.new }
+        ensures err { OnErr result (self.new ≡ self.old) }
+    {
+        self.replica = Some(Replica::new(self.alloc, params, self.keeps)?);
         Ok(())
     }
 

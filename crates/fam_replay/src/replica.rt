@@ -47,8 +47,9 @@ impl Model for Replica {
     ghost invariant = { λ r. IsReplica r.plan r.slots.items r.found };
 }
 
-/// Forgets the entries behind the first `found`, and the words of their slots: the plan is made anew. Where memory lacks
+/// Forgets the entries behind the first `found`, and the words of their slots, where there are any. Where memory lacks
 /// nothing changes.
+#[inline(always)]
 fn forget(
     alloc: Global,
     plan: &mut Plan,
@@ -63,9 +64,28 @@ fn forget(
     ensures params { plan.new.params ≡ plan.old.params }
 {
     if found < plan.count() {
-        *plan = plan.first(alloc, found)?;
-        slots.truncate(found as usize);
+        return forget_some(alloc, plan, slots, found);
     }
+    Ok(())
+}
+
+/// Forgets entries: the plan is made anew. It stands apart, since it is rare.
+#[inline(never)]
+fn forget_some(
+    alloc: Global,
+    plan: &mut Plan,
+    slots: &mut Vec<[u64; SLOT_WORDS]>,
+    found: u64,
+) -> Result<(), OutOfMemory>
+    requires read { AreRead plan.old.params slots.old.items plan.old.entries }
+    requires within { found < length plan.old.entries }
+    ensures read { AreRead plan.new.params slots.new.items plan.new.entries }
+    ensures first { OnOk result (plan.new.entries ≡ take found plan.old.entries) }
+    ensures same { OnErr result (plan.new ≡ plan.old) }
+    ensures params { plan.new.params ≡ plan.old.params }
+{
+    *plan = plan.first(alloc, found)?;
+    slots.truncate(found as usize);
     Ok(())
 }
 

@@ -49,7 +49,8 @@ impl Model for History {
     ghost invariant = { λ h. MayServe h.serves h.kept };
 }
 
-/// The kept entries become those of a replay, in a copy.
+/// The kept entries become those of a replay, in a copy. It stands apart, since it is done once.
+#[inline(never)]
 fn begin_behind(alloc: Global, kept: &Option<Kept>, replay: &mut Replay) -> Result<(), OutOfMemory>
     requires some { MayServe true kept.now }
     ensures read { OnOk result (replay.new ≡ read_by true kept.now replay.old) }

@@ -3,6 +3,7 @@
 ghost use Rattle.std.specs.Prelude.{◌≡◌, ◌+◌, ◌<◌, ℕ, None, Some, OnOk, OnErr};
 ghost use Rattle.fam_format.specs.Params.{SoundParams};
 ghost use Rattle.fam_rules.specs.Reports.{report_by, survey_slot};
+ghost use Rattle.fam_fsck.specs.Scan.{first_scan};
 ghost use Rattle.fam_tasks.specs.Survey.{added_in, survey_in, IsScanFor, ShowWants};
 
 use fam_base::{OutOfMemory, Params};
@@ -29,9 +30,26 @@ fn begin_scan(
     ensures err { OnErr result (scan.new ≡ scan.old) }
     ensures none { OnErr result (scan.old ≡ None) }
 {
-    if scan.is_none() {
-        *scan = Some(Fsck::new(alloc, params, gate)?);
+    if scan.is_some() {
+        return Ok(());
     }
+    begin_anew(alloc, scan, params, gate)
+}
+
+/// Makes a check that was shown no slot. It stands apart, since it is done once.
+#[inline(never)]
+fn begin_anew(
+    alloc: Global,
+    scan: &mut Option<Fsck>,
+    params: &Params,
+    gate: u64,
+) -> Result<(), OutOfMemory>
+    requires sound { SoundParams params.now }
+    requires none { scan.old ≡ None }
+    ensures made { OnOk result (scan.new ≡ Some (first_scan params.now gate)) }
+    ensures err { OnErr result (scan.new ≡ scan.old) }
+{
+    *scan = Some(Fsck::new(alloc, params, gate)?);
     Ok(())
 }
 

@@ -22,13 +22,23 @@ loop-i-preserved c = record {
       ];
 }
 
+pub loop-i-preserved-then-begin_with_sixteen : goal.loop-i-preserved-then-begin_with_sixteen
+loop-i-preserved-then-begin_with_sixteen c = record {
+  from = omega (arith, c.loop-i.invariant.from);
+  none = λ k low below.
+      elim (cases_lt k c.loop-i.i) [
+        | inl before ↦ c.loop-i.invariant.none k low before
+        | inr at ↦ zero_is_none c.args.words.now k (zero_within c.args.words.now c.loop-i.i (63 - c.loop-i.i) 16 k at below c.if-begin_with_sixteen.ensures.long c.if-begin_with_sixteen.ensures.zeros)
+      ];
+}
+
 pub loop-i-preserved-then-begin_with_zeros : goal.loop-i-preserved-then-begin_with_zeros
 loop-i-preserved-then-begin_with_zeros c = record {
   from = omega (arith, c.loop-i.invariant.from);
   none = λ k low below.
       elim (cases_lt k c.loop-i.i) [
         | inl before ↦ c.loop-i.invariant.none k low before
-        | inr at ↦ zero_is_none c.args.words.now k (zero_within c.args.words.now c.loop-i.i (63 - c.loop-i.i) k at below c.if-begin_with_zeros.ensures.long c.if-begin_with_zeros.ensures.zeros)
+        | inr at ↦ zero_is_none c.args.words.now k (zero_within c.args.words.now c.loop-i.i (63 - c.loop-i.i) 8 k at below c.if-begin_with_zeros.ensures.long c.if-begin_with_zeros.ensures.zeros)
       ];
 }
 
