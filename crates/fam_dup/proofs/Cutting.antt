@@ -1,26 +1,21 @@
 -- A copy that was cut at any of its writes.
-use Rattle.std.proofs.Common.{◌≡◌, ℕ, ◌*◌, ◌<◌, ◌≤◌, Bool, List, [], ◌∷◌, ◌++◌, length, Option, Some, if◌then◌else◌, refl, sym, ap, ap₂, subst, ◌∙◌, inl, inr, arith}
-use Rattle.std.specs.Prelude.{◌≢◌, ◌⊎◌, slice_index}
-use Rattle.std.proofs.lemmas.Bool.{cases_Bool}
+use Rattle.std.proofs.Common.{◌≡◌, ℕ, ◌*◌, ◌<◌, ◌≤◌, List, ◌∷◌, ◌++◌, length, Option, Some, refl, sym, ap, subst, ◌∙◌, inl, inr, arith}
+use Rattle.std.specs.Prelude.{◌≢◌, ◌⊎◌}
 use Rattle.std.proofs.lemmas.Option.{same_Some}
 use Rattle.fam_base.specs.declared.entry.Params.{Params}
 use Rattle.fam_base.specs.declared.entry.Entry.{Entry}
-use Rattle.fam_base.specs.Image.{Image, line_at, masked, with_line, with_masked}
-use Rattle.fam_base.proofs.ImageLemmas.{line_at-with_line, line_at-with_line_other, length-with_line, with_masked-with_line}
-use Rattle.fam_format.specs.declared.faults.SuperFault.TheVariants as super
+use Rattle.fam_base.specs.Image.{Image, line_at, masked, with_masked}
+use Rattle.fam_base.proofs.ImageLemmas.{line_at-with_line_other, with_masked-with_line}
 use Rattle.fam_format.specs.Params.{SoundParams}
-use Rattle.fam_format.specs.Reading.{NoSuperblock, reading}
-use Rattle.fam_format.specs.Super.{magic_line}
+use Rattle.fam_format.specs.Reading.{reading}
 use Rattle.fam_plan.specs.State.{IsHistory}
 use Rattle.fam_rules.specs.Place.{line_bytes}
-use Rattle.fam_rules.specs.Written.{Put, put_line, put_lines, zero_line}
-use Rattle.fam_rules.proofs.Puts.{AreElsewhere, length-put_lines, put_elsewhere}
+use Rattle.fam_rules.specs.Written.{Put, put_lines}
+use Rattle.fam_rules.proofs.CutPuts.{IsPutInPart, Left, cut_left}
+use Rattle.fam_rules.proofs.Puts.{AreElsewhere, elsewhere-left, elsewhere-right, put_elsewhere}
 use Rattle.fam_dup.specs.Copies.{AreCopies}
 use Rattle.fam_dup.specs.Ends.{IsCopied, IsOldOrNone}
 use Rattle.fam_dup.specs.Lines.{AreCut, IsOffCopy, IsPartlyPut, body_puts, copy_puts}
-use Rattle.fam_dup.proofs.Cuts.{bit, magic_whole, none_there, torn_clear, torn_word}
-use Rattle.fam_dup.proofs.Passing.{put_lines-append}
-use Rattle.fam_dup.proofs.PutPlaces.{elsewhere-left, elsewhere-right}
 use Rattle.fam_dup.proofs.Whole.{body_off, enough, off_all, whole_copy}
 
 module _ (q : Params) (es cs : List Entry) (from to : Image) (sound : SoundParams q) (fits : q.device ≤ line_bytes * length to) (history : IsHistory (record { params = q; entries = cs })) (copies : AreCopies es cs) where
