@@ -1,5 +1,5 @@
 -- What the image reads as behind a mkfs that a media fault cut.
-use Rattle.std.proofs.Common.{◌≡◌, ℕ, ◌+◌, ◌*◌, ◌<◌, ◌≤◌, inl, inr, List, [], ◌∷◌, ◌++◌, length, Option, Some, None, refl, ap, sym, ◌∙◌, subst, arith}
+use Rattle.std.proofs.Common.{◌≡◌, ℕ, ◌≤◌, inl, inr, List, [], ◌∷◌, ◌++◌, length, Option, Some, None, refl, ap, sym, ◌∙◌, subst, arith}
 use Rattle.std.specs.Prelude.{slice_get}
 use Rattle.std.proofs.lemmas.Option.{same_Some}
 use Rattle.fam_base.specs.declared.entry.Params.{Params}
@@ -8,7 +8,6 @@ use Rattle.fam_base.specs.Image.{Image}
 use Rattle.fam_format.specs.Params.{IsUuid}
 use Rattle.fam_format.specs.Reading.{reading}
 use Rattle.fam_machine.specs.declared.request.MkfsRequest.{MkfsRequest}
-use Rattle.fam_machine.specs.Caches.{Cache, cell_at}
 use Rattle.fam_machine.specs.Cuts.{Cuts}
 use Rattle.fam_machine.specs.EightWords.{HasEightWords}
 use Rattle.fam_machine.specs.Mkfs.{IsHeadSent, IsOldNoneOrNew, asked, expected_ops}
