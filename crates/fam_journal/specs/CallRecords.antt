@@ -89,7 +89,7 @@ abbrev pub CallParts : Call → Image → Option Image → Option Image → Worl
 CallParts call start before told old new =
     (state : Machines) → before ≡ Some state.memory → Held start state old state.memory → DoesRow start told (DoesPart call state) old new
 
--- on an image that is modelled a mkfs was cut by a media fault, as its row has it
+-- on an image that is modelled a mkfs was cut by a media fault, as its row has it, and what the image reads as then is told
 abbrev pub CallBreaks : Call → Image → Option Image → Option Image → WorldView → WorldView → Type 0
 CallBreaks call start before told old new =
     (state : Machines) → before ≡ Some state.memory → Held start state old state.memory → LeavesBroken start told call state old new
