@@ -13,7 +13,6 @@ pub mod Heads
 pub mod ReadParts
 pub mod Whole
 pub mod Chains
-pub mod Cuts
 pub mod Cutting
 pub mod Finding
 pub mod Naming

@@ -4,14 +4,10 @@ use Rattle.std.specs.Option.{option_map}
 use Rattle.std.proofs.lemmas.List.{append-nil}
 use Rattle.fam_base.specs.Image.{Image}
 use Rattle.fam_media.specs.Outside.{IsTorn}
-use Rattle.fam_rules.specs.Written.{Put, put_line, put_lines}
+use Rattle.fam_rules.specs.Written.{Put, put_lines}
+use Rattle.fam_rules.proofs.Puts.{put_lines-append}
 use Rattle.fam_dup.specs.Lines.{AreCut, ArePut, IsPartlyPut}
 use Rattle.fam_dup.specs.Passes.{ArePassed}
-
--- lines put behind others
-pub put_lines-append : (a b : List Put) (image : Image) → put_lines (a ++ b) image ≡ put_lines b (put_lines a image)
-put_lines-append [] b image = refl
-put_lines-append (put ∷ a) b image = put_lines-append a b (put_line image put)
 
 -- without any an image is as before
 pub put_none : (old : Option Image) → ArePut [] old old

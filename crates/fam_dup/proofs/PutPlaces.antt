@@ -11,23 +11,14 @@ use Rattle.fam_rules.specs.Content.{file_words}
 use Rattle.fam_rules.specs.Place.{line_bytes}
 use Rattle.fam_rules.specs.Written.{Put, file_line, file_puts, lines_of, put_lines, slot_part, slot_puts}
 use Rattle.fam_rules.specs.WrittenLaws.{IsOffFile, IsOffSlot}
-use Rattle.fam_rules.proofs.Puts.{AreElsewhere, at_put, length-put_lines, put_elsewhere, puts_from}
+use Rattle.fam_rules.proofs.Puts.{AreElsewhere, at_put, length-put_lines, put_elsewhere, put_lines-append, puts_from}
 use Rattle.fam_dup.specs.Lines.{bytes_in, files_puts, slots_puts}
-use Rattle.fam_dup.proofs.Passing.{put_lines-append}
 
 -- Puts elsewhere.
 
 pub elsewhere-append : (l : ℕ) (a b : List Put) → AreElsewhere l a → AreElsewhere l b → AreElsewhere l (a ++ b)
 elsewhere-append l [] b first second = second
 elsewhere-append l (put ∷ a) b first second = (first.0, elsewhere-append l a b first.1 second)
-
-pub elsewhere-left : (l : ℕ) (a b : List Put) → AreElsewhere l (a ++ b) → AreElsewhere l a
-elsewhere-left l [] b off = tt
-elsewhere-left l (put ∷ a) b off = (off.0, elsewhere-left l a b off.1)
-
-pub elsewhere-right : (l : ℕ) (a b : List Put) → AreElsewhere l (a ++ b) → AreElsewhere l b
-elsewhere-right l [] b off = off
-elsewhere-right l (put ∷ a) b off = elsewhere-right l a b off.1
 
 -- puts by their numbers
 pub elsewhere_from : (f : ℕ → ℕ) (g : ℕ → List ℕ) (l a n : ℕ) → ((j : ℕ) → a ≤ j → j < a + n → l ≢ f j) → AreElsewhere l (puts_from f g a n)

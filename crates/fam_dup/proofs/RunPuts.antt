@@ -12,10 +12,11 @@ use Rattle.fam_base.specs.ExtentLists.{no_extent}
 use Rattle.fam_rules.specs.Place.{line_bytes, place, striped_place}
 use Rattle.fam_rules.specs.Written.{Put, file_line, put_lines}
 use Rattle.fam_rules.proofs.Puts.{puts_from}
+use Rattle.fam_rules.proofs.Puts.{put_lines-append}
 use Rattle.fam_dup.specs.Lines.{AreCut, ArePut}
 use Rattle.fam_dup.specs.Passes.{ArePassed}
 use Rattle.fam_dup.specs.Runs.{AreParts, AreTogether, part_puts, run_puts}
-use Rattle.fam_dup.proofs.Passing.{pass_cut, pass_part, put_lines-append, put_none}
+use Rattle.fam_dup.proofs.Passing.{pass_cut, pass_part, put_none}
 
 -- Places.
 

@@ -31,14 +31,13 @@ use Rattle.fam_rules.proofs.ContentLines.{byte_of_line}
 use Rattle.fam_rules.proofs.FilePlaces.{line_place}
 use Rattle.fam_rules.proofs.LinesApart.{file_behind, file_within, slot_before, slot_within}
 use Rattle.fam_rules.proofs.ListPlaces.{bytes_apart, laid_apart}
-use Rattle.fam_rules.proofs.Puts.{AreElsewhere, last_put, length-put_lines, put_elsewhere}
+use Rattle.fam_rules.proofs.Puts.{AreElsewhere, last_put, length-put_lines, put_elsewhere, put_lines-append}
 use Rattle.fam_plan.specs.State.{IsHistory}
 use Rattle.fam_dup.specs.Copies.{AreCopies}
 use Rattle.fam_dup.specs.Ends.{IsCopied}
 use Rattle.fam_dup.specs.Lines.{IsOffCopy, body_puts, bytes_in, copy_puts, files_puts, gate_words, head_puts, slots_puts}
 use Rattle.fam_dup.proofs.Heads.{eight_word}
 use Rattle.fam_dup.proofs.Parts.{byte_at, no_byte_at}
-use Rattle.fam_dup.proofs.Passing.{put_lines-append}
 use Rattle.fam_dup.proofs.PutPlaces.{AreFilesApart, elsewhere-append, files_elsewhere, line_there, slot_there, slots_elsewhere}
 
 -- Words.

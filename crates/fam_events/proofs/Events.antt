@@ -21,12 +21,14 @@ use Rattle.fam_journal.specs.declared.refusal.Refusal.TheVariants as why
 use Rattle.fam_journal.specs.Calls as call
 use Rattle.fam_journal.specs.Calls.{Acts, ActsAt, AtNumber, BreaksOff, ByRefusal, Call, Completes, CutsAt, Does, OnHost, Unfinished, name_of, DoesOperations, busy_at, may_begin, number_of, refusal_of, when}
 use Rattle.fam_journal.specs.CallRecords.{FinishPart, FitsMedia}
+use Rattle.fam_journal.specs.Ends.{CutCallReads, CutEventReads}
 use Rattle.fam_journal.specs.EventForms.{BeginForm, EventBreaksForm, EventForm, NoMore, StartForm, UnfitNotes}
 use Rattle.fam_journal.specs.Events.{BreaksEvent, Calls, DoesEvent, Session, mounts}
 use Rattle.fam_journal.specs.Forms.{ActsForm, AtForm, BreaksForm, CompletesForm, DoesForm, FormByRefusal, FreeForm, HostForm, IsFormed, OfHostForm, PartForm, UnfinishedForm, forms_after, forms_behind, forms_of, runs_form, shown_forms}
 use Rattle.fam_journal.specs.Kept.{Held}
 use Rattle.fam_journal.specs.Machines.{HostState, Machines}
 use Rattle.fam_journal.specs.Notes.{Note, Start}
+use Rattle.fam_journal.specs.Past.{State}
 use Rattle.fam_journal.specs.Names.{AreNamed}
 use Rattle.fam_journal.specs.View.{WorldView}
 use Rattle.fam_journal.proofs.Calls.Shown.{number_shown}
@@ -57,12 +59,14 @@ keeps_as P Q a weaker x start files state files_are told_is held =
       held = k.held;
     }
 
-breaks_as : (P Q : Session → List Note → Session → Type 0) (a : WorldChange) → ((old : Session) (notes : List Note) (new : Session) → P old notes new → Q old notes new) → Told (λ files start. Breaks P start) a → Told (λ files start. Breaks Q start) a
-breaks_as P Q a weaker x start files state files_are told_is held =
+breaks_as : (P Q : Session → List Note → Session → Type 0) (R S : Session → State → Image → Type 0) (a : WorldChange) → ((old : Session) (notes : List Note) (new : Session) → P old notes new → Q old notes new) → ((old : Session) (state : State) (after : Image) → R old state after → S old state after)
+    → Told (λ files start. Breaks P R start) a → Told (λ files start. Breaks Q S start) a
+breaks_as P Q R S a weaker left x start files state files_are told_is held =
     let k = x start files state files_are told_is held in
     record {
       comes = record { last = k.comes.last; notes = k.comes.notes; does = weaker _ k.comes.notes k.comes.last k.comes.does; told_is = k.comes.told_is; joined = k.comes.joined };
       legal = k.legal;
+      reads = left _ _ _ k.reads;
     }
 
 -- an event that is a call
@@ -70,6 +74,7 @@ pub record IsCallOf (e : Event) (c : Call) : Type 0 where
   pub does : (files : Files) (old : Session) (notes : List Note) (new : Session) → Calls c old notes new → DoesEvent files e old notes new
   pub form : (lines : ℕ) (hosts : List HostForm) (notes : List Note) → DoesForm c lines hosts notes → EventForm e lines hosts notes
   pub breaks : (old : Session) (notes : List Note) (new : Session) → CallsBreak c old notes new → BreaksEvent e old notes new
+  pub left : (old : Session) (state : State) (after : Image) → CutCallReads c old.machines state after → CutEventReads e old state after
   pub broken : (lines : ℕ) (hosts : List HostForm) (notes : List Note) → BreaksForm c lines hosts notes → EventBreaksForm e lines hosts notes
   pub part : (files : Files) (old : Session) (notes : List Note) (new : Session) → CallsPart c old notes new → IsPart e files old notes new
   pub partly : (lines : ℕ) (hosts : List HostForm) (notes : List Note) → PartForm c lines hosts notes → FormOfPart e lines hosts notes
@@ -81,7 +86,7 @@ event_says e c shelf a of same (Ok x) says = record {
 }
 event_says e c shelf a of same (Err fault.MkfsFailed) says = record {
   adds = adds_as (BreaksForm c) (EventBreaksForm e) a of.broken says.adds;
-  keeps = breaks_as (CallsBreak c) (BreaksEvent e) a of.breaks says.keeps;
+  keeps = breaks_as (CallsBreak c) (BreaksEvent e) (λ old. CutCallReads c old.machines) (CutEventReads e) a of.breaks of.left says.keeps;
 }
 event_says e c shelf a of same (Err (fault.SourceEnded end)) says = absurd says
 event_says e c shelf a of same (Err fault.OutOfMemory) says = record {
@@ -110,6 +115,7 @@ host_call name uuid = record {
   does = λ files old notes new x. x;
   form = λ lines hosts notes x. x;
   breaks = λ old notes new x. none_cut (call.Declares name uuid) old.machines new.machines notes (λ h host z. z) x.0;
+  left = λ old state after x. x;
   broken = λ lines hosts notes x. x;
   part = λ files old notes new x. inl (x.0.0, same_session old new x.0.1 x.1);
   partly = λ lines hosts notes x. inl x;
@@ -120,6 +126,7 @@ mkfs_call name request = record {
   does = λ files old notes new x. x;
   form = λ lines hosts notes x. x;
   breaks = λ old notes new x. x;
+  left = λ old state after x. x;
   broken = λ lines hosts notes x. x;
   part = λ files old notes new x. inl (x.0.0, same_session old new x.0.1 x.1);
   partly = λ lines hosts notes x. inl x;
@@ -130,6 +137,7 @@ stop_call name = record {
   does = λ files old notes new x. x;
   form = λ lines hosts notes x. x;
   breaks = λ old notes new x. none_cut (call.Stops name) old.machines new.machines notes (λ h host z. z) x.0;
+  left = λ old state after x. x;
   broken = λ lines hosts notes x. x;
   part = λ files old notes new x. inl (x.0.0, same_session old new x.0.1 x.1);
   partly = λ lines hosts notes x. inl x;
@@ -140,6 +148,7 @@ halt_call name = record {
   does = λ files old notes new x. x;
   form = λ lines hosts notes x. x;
   breaks = λ old notes new x. none_cut (call.Halts name) old.machines new.machines notes (λ h host z. z) x.0;
+  left = λ old state after x. x;
   broken = λ lines hosts notes x. x;
   part = λ files old notes new x. inl (x.0.0, same_session old new x.0.1 x.1);
   partly = λ lines hosts notes x. inl x;
@@ -150,6 +159,7 @@ umount_call name = record {
   does = λ files old notes new x. x;
   form = λ lines hosts notes x. x;
   breaks = λ old notes new x. none_cut (call.Umounts name) old.machines new.machines notes (λ h host z. z) x.0;
+  left = λ old state after x. x;
   broken = λ lines hosts notes x. x;
   part = λ files old notes new x. inl (x.0.0, same_session old new x.0.1 x.1);
   partly = λ lines hosts notes x. inl x;
@@ -160,6 +170,7 @@ evict_call name line = record {
   does = λ files old notes new x. x;
   form = λ lines hosts notes x. x;
   breaks = λ old notes new x. none_cut (call.Moves name line.0 Evict) old.machines new.machines notes (λ h host z. z) x.0;
+  left = λ old state after x. x;
   broken = λ lines hosts notes x. x;
   part = λ files old notes new x. inl (x.0.0, same_session old new x.0.1 x.1);
   partly = λ lines hosts notes x. inl x;
@@ -170,6 +181,7 @@ leak_call name line mask = record {
   does = λ files old notes new x. x;
   form = λ lines hosts notes x. x;
   breaks = λ old notes new x. none_cut (call.Moves name line.0 (Leak mask.0)) old.machines new.machines notes (λ h host z. z) x.0;
+  left = λ old state after x. x;
   broken = λ lines hosts notes x. x;
   part = λ files old notes new x. inl (x.0.0, same_session old new x.0.1 x.1);
   partly = λ lines hosts notes x. inl x;
@@ -180,6 +192,7 @@ fetch_call name line mask = record {
   does = λ files old notes new x. x;
   form = λ lines hosts notes x. x;
   breaks = λ old notes new x. none_cut (call.Moves name line.0 (Fetch mask.0)) old.machines new.machines notes (λ h host z. z) x.0;
+  left = λ old state after x. x;
   broken = λ lines hosts notes x. x;
   part = λ files old notes new x. inl (x.0.0, same_session old new x.0.1 x.1);
   partly = λ lines hosts notes x. inl x;
@@ -211,6 +224,7 @@ finish_call name = record {
   does = λ files old notes new x. x;
   form = λ lines hosts notes x. x;
   breaks = λ old notes new x. none_cut (call.Finishes name) old.machines new.machines notes (λ h host z. z) x.0;
+  left = λ old state after x. x;
   broken = λ lines hosts notes x. x;
   part = λ files old notes new x. finish_part files name old new notes x.0 x.1;
   partly = finish_form name;

@@ -16,7 +16,7 @@ use Rattle.fam_journal.specs.declared.refusal.Refusal.TheVariants as why
 use Rattle.fam_journal.specs.Calls as call
 use Rattle.fam_journal.specs.Calls.{Call, busy_refusal, cause_of, is_engaged, number_of, on_host}
 use Rattle.fam_journal.specs.CallRecords.{Adds, Answers, CallForm, CallKeeps, CallBreaks, CallParts, FinishOutOfMemory, FitsMedia, MakeCall, MediaCall, heading, refusal_noted}
-use Rattle.fam_journal.specs.Ends.{cause_faults}
+use Rattle.fam_journal.specs.Ends.{CutCallReads, cause_faults}
 use Rattle.fam_journal.specs.Forms.{ActsForm, AtForm, BreaksForm, DoesForm, FormByRefusal, FreeForm, HostForm, IsFormed, OfHostForm, PartForm, forms_of, makes_told, refusal_told, shown_forms}
 use Rattle.fam_journal.specs.Names.{AreNamed}
 use Rattle.fam_journal.specs.Notes.{Note}
@@ -87,12 +87,13 @@ module _ (c : Call) (a : WorldChange) (formed : IsFormed a.old) (fits : FitsMedi
           held = d.held;
         }
 
-    pub broken_kept : ((start : Image) → CallBreaks c start a.media.old.image a.media.new.image a.old a.new) → Told (λ files start. Breaks (CallsBreak c) start) a
+    pub broken_kept : ((start : Image) → CallBreaks c start a.media.old.image a.media.new.image a.old a.new) → Told (λ files start. Breaks (CallsBreak c) (λ old. CutCallReads c old.machines) start) a
     broken_kept keeps start files state files_are told_is held =
         let d = keeps start state told_is held in
         record {
           comes = record { last = session d.state a.copied; notes = d.notes; does = (d.row, refl); told_is = d.told_is; joined = d.joined };
           legal = d.legal;
+          reads = d.reads;
         }
 
     pub call_done : IsNoMake c → (answered : Option Refusal) → MediaCall c a.lines answered a.media a.old a.new → CallDone c a

@@ -3,6 +3,7 @@ use Rattle.std.specs.Prelude.{◌≡◌, List, Result, Ok, Err}
 use Rattle.fam_journal.specs.declared.refusal.Refusal.{Refusal}
 use Rattle.fam_journal.specs.Calls.{BreaksOff, Call}
 use Rattle.fam_journal.specs.CallRecords.{DoesPart}
+use Rattle.fam_journal.specs.Ends.{CutCallReads}
 use Rattle.fam_journal.specs.Events.{Calls, Session}
 use Rattle.fam_journal.specs.Forms.{BreaksForm, DoesForm, PartForm}
 use Rattle.fam_journal.specs.Notes.{Note}
@@ -53,7 +54,7 @@ pub record CallDone (c : Call) (a : WorldChange) : Type 0 where
 -- a mkfs was cut
 pub record CallBroken (c : Call) (a : WorldChange) : Type 0 where
   pub adds : AddsForm (BreaksForm c) a
-  pub keeps : Told (λ files start. Breaks (CallsBreak c) start) a
+  pub keeps : Told (λ files start. Breaks (CallsBreak c) (λ old. CutCallReads c old.machines) start) a
 
 -- no memory was left
 pub record CallPart (c : Call) (a : WorldChange) : Type 0 where

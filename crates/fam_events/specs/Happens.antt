@@ -6,6 +6,7 @@ use Rattle.fam_sources.specs.declared.sourced.SourceEnd.{SourceEnd}
 use Rattle.fam_sources.specs.Sourced.{HasEndCause, end_of}
 use Rattle.fam_journal.specs.declared.event.Event.{Event}
 use Rattle.fam_journal.specs.Calls.{may_begin}
+use Rattle.fam_journal.specs.Ends.{CutEventReads}
 use Rattle.fam_journal.specs.EventForms.{EventBreaksForm, EventForm, EventPartForm}
 use Rattle.fam_journal.specs.Events.{BreaksEvent, DoesEvent, PartOf, Session, event_source}
 use Rattle.fam_journal.specs.Follows.{ReadsSource}
@@ -27,7 +28,7 @@ pub record EventDone (e : Event) (a : WorldChange) : Type 0 where
 -- it was a mkfs in which the media failed
 pub record EventBroken (e : Event) (a : WorldChange) : Type 0 where
   pub adds : AddsForm (EventBreaksForm e) a
-  pub keeps : Told (λ files start. Breaks (BreaksEvent e) start) a
+  pub keeps : Told (λ files start. Breaks (BreaksEvent e) (CutEventReads e) start) a
 
 -- it came to its source, of which the reading ended early, and is no mount: nothing is noted
 pub record SourceForm (e : Event) (lines : ℕ) (hosts : List HostForm) (notes : List Note) : Type 0 where

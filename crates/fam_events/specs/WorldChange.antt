@@ -12,6 +12,7 @@ use Rattle.fam_journal.specs.Legal.{Legal}
 use Rattle.fam_journal.specs.Machines.{Machines}
 use Rattle.fam_journal.specs.Names.{AreNamed}
 use Rattle.fam_journal.specs.Notes.{Note}
+use Rattle.fam_journal.specs.Past.{State, past_of}
 use Rattle.fam_journal.specs.View.{WorldView}
 
 -- the media's image and the shelf's files are told where they are modelled; the media's number of lines and its count of
@@ -85,10 +86,11 @@ pub record Keeps (P : Session → List Note → Session → Type 0) (start : Ima
   pub comes : Comes P a state
   pub held : Held start comes.last.machines a.new comes.last.machines.memory
 
--- or the journal is legal, and no more is held
-pub record Breaks (P : Session → List Note → Session → Type 0) (start : Image) (a : WorldChange) (state : Machines) : Type 0 where
+-- or the journal is legal and no more is held, but what the image reads as, by the session before and what its journal settles
+pub record Breaks (P : Session → List Note → Session → Type 0) (R : Session → State → Image → Type 0) (start : Image) (a : WorldChange) (state : Machines) : Type 0 where
   pub comes : Comes P a state
   pub legal : Legal start a.new.journal
+  pub reads : R (session state a.copied) (past_of start a.old.journal).state comes.last.machines.memory
 
 -- from every state that the image tells, with the shelf's files
 abbrev pub Told : (Files → Image → WorldChange → Machines → Type 0) → WorldChange → Type 0

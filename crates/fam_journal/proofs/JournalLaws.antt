@@ -3,7 +3,7 @@ use Rattle.std.proofs.Common.{◌≡◌, inl, inr, List, ◌∷◌, [], ◌++◌
 use Rattle.fam_base.specs.Image.{Image}
 use Rattle.fam_journal.specs.Calls as call
 use Rattle.fam_journal.specs.Calls.{BreaksOff, Call, Does}
-use Rattle.fam_journal.specs.Ends.{ReadsAs}
+use Rattle.fam_journal.specs.Ends.{CutCallReads, ReadsAs}
 use Rattle.fam_journal.specs.View.{WorldStands, WorldView, empty_world}
 use Rattle.fam_journal.specs.Kept.{Held, Reached}
 use Rattle.fam_journal.specs.CallRecords.{DoesPart, IsSoundCall}
@@ -15,6 +15,7 @@ use Rattle.fam_journal.specs.Past.{first_past, past_of}
 use Rattle.fam_journal.proofs.Calls.Begin.{held_first}
 use Rattle.fam_journal.proofs.Runs.Following.{cut_notes, does_kept, kept_quiet, operates_kept}
 use Rattle.fam_journal.proofs.Settled.Journals.{legal_both}
+use Rattle.fam_journal.proofs.Runs.CutReads.{call_cut}
 use Rattle.fam_journal.proofs.Runs.Left.{held_reads}
 use Rattle.fam_journal.proofs.Calls.Stepped.{Bridged, bridged}
 
@@ -62,6 +63,10 @@ pub cut_legal : (start : Image) (state left : Machines) (old : WorldView) (call 
 cut_legal start state left old call notes held breaks =
     let b = cut_notes call state left notes breaks in
     subst (λ (z : List Note). Legal start (old.journal ++ z)) (sym b.2) (legal_both (first_past start) old.journal (Refused b.0 b.1 ∷ []) held.kept.held.legal (tt, tt))
+
+pub cut_reads_as : (start : Image) (state left : Machines) (old : WorldView) (call : Call) (notes : List Note) → Held start state old state.memory → IsSoundCall call → BreaksOff call state notes left
+    → CutCallReads call state (past_of start old.journal).state left.memory
+cut_reads_as start state left old call notes held sound breaks = call_cut start state old.journal held.kept call sound notes left breaks
 
 pub held_reads_as : (start : Image) (state : Machines) (world : WorldView) (image : Image) → Held start state world image → ReadsAs (past_of start world.journal).state image
 held_reads_as start state world image held =

@@ -1,4 +1,5 @@
 -- Whole runs: their journals are legal, their answers are of the rules, and they come to an end.
+pub mod CutReads
 pub mod Following
 pub mod Completing
 pub mod Ending

@@ -18,12 +18,13 @@ use Rattle.fam_protocol.specs.Tasks.{IsCommand}
 use Rattle.fam_journal.specs.Calls as call
 use Rattle.fam_journal.specs.declared.refusal.Refusal.{Refusal}
 use Rattle.fam_journal.specs.Calls.{Call, Does, BreaksOff, Unfinished, name_of, number_of}
-use Rattle.fam_journal.specs.Ends.{HasCounted, is_answer_note}
+use Rattle.fam_journal.specs.Ends.{CutCallReads, HasCounted, is_answer_note}
 use Rattle.fam_journal.specs.Forms.{BreaksForm, DoesForm, HostForm, IsFormed, PartForm, forms_of}
 use Rattle.fam_journal.specs.Legal.{Legal}
 use Rattle.fam_journal.specs.Machines.{Machines, notes_of}
 use Rattle.fam_journal.specs.Names.{AreNamed}
 use Rattle.fam_journal.specs.Notes.{Note, Refused}
+use Rattle.fam_journal.specs.Past.{past_of}
 use Rattle.fam_journal.specs.View.{HostView, WorldView, WorldStands}
 use Rattle.fam_journal.specs.Kept.{Held}
 use Rattle.fam_journal.specs.ByWorld.{busy_in, number_in, refusal_in, world_after}
@@ -42,15 +43,16 @@ pub record DoesRow (start : Image) (told : Option Image) (does : List Note → M
   pub held : Held start state new state.memory
 
 -- the media failed in a mkfs: the same, but that the world is held is no longer said. It stands for the state behind it: the
--- maker's cache, and every other host as before
-pub record LeavesBroken (start : Image) (told : Option Image) (does : List Note → Machines → Type 0) (old new : WorldView) : Type 0 where
+-- maker's cache, and every other host as before. The image reads as before the call, as no superblock, or as the new file system
+pub record LeavesBroken (start : Image) (told : Option Image) (c : Call) (begun : Machines) (old new : WorldView) : Type 0 where
   pub state : Machines
   pub notes : List Note
-  pub row : does notes state
+  pub row : BreaksOff c begun notes state
   pub told_is : told ≡ Some state.memory
   pub joined : new.journal ≡ old.journal ++ notes
   pub stands : WorldStands (length start) state new
   pub legal : Legal start new.journal
+  pub reads : CutCallReads c begun (past_of start old.journal).state state.memory
 
 -- what is left where no memory was found for an operation: a call that runs a task to its answer has done some of the
 -- operations before it, and any other call nothing
@@ -87,10 +89,10 @@ abbrev pub CallParts : Call → Image → Option Image → Option Image → Worl
 CallParts call start before told old new =
     (state : Machines) → before ≡ Some state.memory → Held start state old state.memory → DoesRow start told (DoesPart call state) old new
 
--- on an image that is modelled a mkfs was cut by a media fault, as its row has it
+-- on an image that is modelled a mkfs was cut by a media fault, as its row has it, and what the image reads as then is told
 abbrev pub CallBreaks : Call → Image → Option Image → Option Image → WorldView → WorldView → Type 0
 CallBreaks call start before told old new =
-    (state : Machines) → before ≡ Some state.memory → Held start state old state.memory → LeavesBroken start told (BreaksOff call state) old new
+    (state : Machines) → before ≡ Some state.memory → Held start state old state.memory → LeavesBroken start told call state old new
 
 -- UUIDs are such, and a command's numbers, path and bytes fit
 abbrev pub IsSoundCall : Call → Type 0

@@ -1,16 +1,24 @@
 -- How a run of events ends: one journal and one last state. What is counted of it, what a script puts of it, and what the
 -- image reads as.
-use Rattle.std.specs.Prelude.{ℕ, ⊤, ◌≡◌, ◌⊎◌, ◌+◌, ◌^◌, ◌-◌, ◌≤◌, min, Bool, true, false, List, [], ◌∷◌, count_by, if◌then◌else◌}
+use Rattle.std.specs.Prelude.{ℕ, ◌≡◌, ◌⊎◌, ◌+◌, ◌^◌, ◌-◌, ◌≤◌, min, Bool, true, false, List, [], ◌∷◌, length, count_by, if◌then◌else◌}
 use Rattle.std.specs.List.{list_any}
 use Rattle.fam_base.specs.Image.{Image}
+use Rattle.fam_base.specs.declared.entry.Params.{Params}
+use Rattle.fam_format.specs.declared.faults.SuperFault.TheVariants as super
 use Rattle.fam_format.specs.Reading.{reading}
 use Rattle.fam_format.specs.Reading as read
 use Rattle.fam_media.specs.Files.{Files}
 use Rattle.fam_rules.specs.Asks.{entries_of}
 use Rattle.fam_journal.specs.declared.event.Event.{Event}
+use Rattle.fam_machine.specs.Mkfs.{asked}
+use Rattle.fam_machine.specs.MkfsRequest.{mkfs_request}
+use Rattle.fam_journal.specs.declared.event.Event.TheVariants as event
 use Rattle.fam_journal.specs.declared.refusal.Refusal.{Refusal}
+use Rattle.fam_journal.specs.Calls as call
+use Rattle.fam_journal.specs.Calls.{AtNumber, Call, number_of}
 use Rattle.fam_journal.specs.Events.{Session}
 use Rattle.fam_journal.specs.Follows.{Follows, FollowsBroken, FollowsCut, FollowsPrefix, FollowsLast, FollowsToSource, SourceEnd}
+use Rattle.fam_journal.specs.Machines.{Machines}
 use Rattle.fam_journal.specs.Notes.{Answer, Replied, MediaFault, Note}
 use Rattle.fam_journal.specs.Past.{State, Bad, Sound, past_of, settled_length, with_pending}
 use Rattle.fam_journal.specs.NoteClasses.{NoteClass, note_class, Declared, Formatted, Going, Answering, Refusing}
@@ -92,14 +100,56 @@ ReadsAs (Bad image damage gate) after = after ≡ image
 ReadsAs (Sound p history pending) after =
     (reading after ≡ read.Sound p (entries_of history)) ⊎ (reading after ≡ read.Sound p (entries_of (with_pending history pending)))
 
--- so it is but behind a mkfs in which the media failed
-abbrev pub ReadsAfter : Ending → State → Image → Type 0
-ReadsAfter AllDone state after = ReadsAs state after
-ReadsAfter MkfsFails state after = ⊤
-ReadsAfter (SourceFails end) state after = ReadsAs state after
-ReadsAfter EndsOutOfMemory state after = ReadsAs state after
-ReadsAfter EndsOutOfMemoryBroken state after = ⊤
-ReadsAfter SinkFails state after = ReadsAs state after
+-- the image reads as before, of a state: a damaged one by its fault; a sound one as its history, or with the pending entry
+abbrev pub StillReads : State → Image → Type 0
+StillReads (Bad image damage gate) after = reading after ≡ reading image
+StillReads (Sound p history pending) after = ReadsAs (Sound p history pending) after
+
+-- behind a mkfs with these parameters in which the media failed: the image reads as before; or it has no superblock, since word
+-- 0 of line 0 is zero from the first line that is sent to the last; or it reads as the new file system, without entries
+abbrev pub CutReads : Params → State → Image → Type 0
+CutReads p state after = StillReads state after ⊎ ((reading after ≡ read.NoSuperblock (super.NoSuper 0)) ⊎ (reading after ≡ read.Sound p []))
+
+-- so it is behind a call that a media fault cut, which only a mkfs may be: with the parameters that it asks for, of its host, on
+-- the machine on which it began
+abbrev pub CutCallReads : Call → Machines → State → Image → Type 0
+CutCallReads (call.Makes name request) begun state after =
+    AtNumber (number_of name begun) begun (λ h host. CutReads (asked request host.uuid (length begun.memory)) state after)
+CutCallReads (call.Declares name uuid) begun state after = ⊥
+CutCallReads (call.Begins name cmd) begun state after = ⊥
+CutCallReads (call.Steps name) begun state after = ⊥
+CutCallReads (call.Finishes name) begun state after = ⊥
+CutCallReads (call.Stops name) begun state after = ⊥
+CutCallReads (call.Halts name) begun state after = ⊥
+CutCallReads (call.Umounts name) begun state after = ⊥
+CutCallReads (call.Moves name line move) begun state after = ⊥
+CutCallReads (call.Refuses name cause) begun state after = ⊥
+
+-- so it is behind an event of a script that a media fault cut
+abbrev pub CutEventReads : Event → Session → State → Image → Type 0
+CutEventReads (event.Mkfs name fs unit log force) begun state after =
+    CutCallReads (call.Makes name (mkfs_request fs unit log force)) begun.machines state after
+CutEventReads (event.Host name uuid) begun state after = ⊥
+CutEventReads (event.Begin name what) begun state after = ⊥
+CutEventReads (event.Run name what) begun state after = ⊥
+CutEventReads (event.Step name count) begun state after = ⊥
+CutEventReads (event.Finish name) begun state after = ⊥
+CutEventReads (event.Stop name) begun state after = ⊥
+CutEventReads (event.Halt name) begun state after = ⊥
+CutEventReads (event.Umount name) begun state after = ⊥
+CutEventReads (event.Evict name line) begun state after = ⊥
+CutEventReads (event.Leak name line mask) begun state after = ⊥
+CutEventReads (event.Fetch name line mask) begun state after = ⊥
+
+-- what the image reads as behind a run that ended so: as the journal settles; and behind a mkfs in which the media failed as
+-- that mkfs, the last event of which something was done, leaves it
+abbrev pub ReadsAfter : (ending : Ending) (files : Files) (events : List Event) (old : Session) (journal : List Note) (new : Session) → EventsDone ending files events old journal new → State → Image → Type 0
+ReadsAfter AllDone files events old journal new done state after = ReadsAs state after
+ReadsAfter MkfsFails files events old journal new done state after = CutEventReads done.event done.mid state after
+ReadsAfter (SourceFails end) files events old journal new done state after = ReadsAs state after
+ReadsAfter EndsOutOfMemory files events old journal new done state after = ReadsAs state after
+ReadsAfter EndsOutOfMemoryBroken files events old journal new done state after = CutEventReads done.event done.mid state after
+ReadsAfter SinkFails files events old journal new done state after = ReadsAs state after
 
 -- The counts of a storm: answers, refusals, and the history's length at the end. That is 0 before the first mkfs that
 -- succeeded.

@@ -1,9 +1,10 @@
 -- What laws say of journals.
 use Rattle.std.specs.Prelude.{ℕ, ⊤, ◌≡◌, ◌*◌, ◌≤◌, false, List, [], ◌∷◌, ◌++◌, length, map, slice_get, take, Option, Some, None, Result}
 use Rattle.fam_base.specs.declared.entry.Entry.{Entry}
-use Rattle.fam_journal.specs.Events.{Session}
+use Rattle.fam_journal.specs.Events.{Session, first_session}
 use Rattle.fam_tree.specs.Listings.{ListingSays}
 use Rattle.fam_base.specs.Image.{Image, eight}
+use Rattle.fam_media.specs.Files.{Files}
 use Rattle.fam_commands.specs.Kept.{IsKept, Kept}
 use Rattle.fam_commands.specs.Stands.{StandsFor, turn_given}
 use Rattle.fam_commands.specs.Task.{Task}
@@ -17,7 +18,7 @@ use Rattle.fam_format.specs.Params.{IsUuid}
 use Rattle.fam_rules.specs.Place.{line_bytes}
 use Rattle.fam_journal.specs.declared.event.Event.{Event}
 use Rattle.fam_journal.specs.declared.event.Event.TheVariants as event
-use Rattle.fam_journal.specs.Ends.{Ending, ReadsAfter, is_made_note}
+use Rattle.fam_journal.specs.Ends.{Ending, EventsDone, ReadsAfter, is_made_note}
 use Rattle.fam_rules.specs.Asks.{File}
 use Rattle.fam_rules.specs.Reply.{Reply}
 use Rattle.fam_journal.specs.Legal.{Legal}
@@ -107,10 +108,11 @@ pub record IsImage (image : Image) : Type 0 where
   pub limit : line_bytes * length image ≤ device_limit
   pub normal : map eight image ≡ image
 
--- a run's journal is legal, and the image that is left reads as what the journal settles
-pub record IsSettled (ending : Ending) (start : Image) (journal : List Note) (left : Image) : Type 0 where
+-- the journal of a run that ended so is legal, and the image that is left reads as it settles; behind a mkfs in which the media
+-- failed as before it, as no superblock, or as the new file system
+pub record IsSettled (ending : Ending) (start : Image) (files : Files) (events : List Event) (journal : List Note) (last : Session) (done : EventsDone ending files events (first_session start) journal last) : Type 0 where
   pub legal : Legal start journal
-  pub reads : ReadsAfter ending (past_of start journal).state left
+  pub reads : ReadsAfter ending files events (first_session start) journal last done (past_of start journal).state last.machines.memory
 
 -- a task of a host at a moment of a run: what its journal tells, and the turn that comes of its operation
 pub record TaskAt : Type 0 where

@@ -8,7 +8,7 @@ ghost use Rattle.fam_journal.specs.CallRecords.{IsStepped, DoesPart, HasForm, Is
 ghost use Rattle.fam_commands.specs.Keeping.{kept_after};
 ghost use Rattle.fam_commands.specs.Task.{Task};
 ghost use Rattle.fam_journal.specs.Complete.{AreRuled, CanEnd, EndsInAnswer};
-ghost use Rattle.fam_journal.specs.Ends.{Ending, EventsDone, IsFaultless, ReadsAs};
+ghost use Rattle.fam_journal.specs.Ends.{CutCallReads, Ending, EventsDone, IsFaultless, ReadsAs};
 ghost use Rattle.fam_journal.specs.Events.{Continues, Session, first_session};
 ghost use Rattle.fam_journal.specs.EventForms.{EndsForm, FollowsForm};
 ghost use Rattle.fam_journal.specs.Follows.{Follows};
@@ -60,10 +60,14 @@ pub fn a_row_keeps_what_is_held()
         → WorldStands (length start) left new → new.journal ≡ old.journal ++ notes
         → Held start left new left.memory }
 
-    // Where the media fails in a mkfs the journal is legal, and that the world is held is no longer said.
+    // Where the media fails in a mkfs the journal is legal, and that the world is held is no longer said. The image reads
+    // as before, as no superblock, or as the new file system with the parameters that this mkfs asks for.
     ensures cut { (start : Image) (state left : Machines) (old : WorldView) (call : Call) (notes : List Note)
         → Held start state old state.memory → BreaksOff call state notes left
         → Legal start (old.journal ++ notes) }
+    ensures cut_reads { (start : Image) (state left : Machines) (old : WorldView) (call : Call) (notes : List Note)
+        → Held start state old state.memory → IsSoundCall call → BreaksOff call state notes left
+        → CutCallReads call state (past_of start old.journal).state left.memory }
 {}
 
 /// While a world is held, the image reads as what its journal settles (`reads`). The image of a journal's damaged state
@@ -76,12 +80,12 @@ pub fn a_held_image_reads_as_its_journal()
 {}
 
 /// However the run of a script's events ends, its journal is legal. The image that is left reads as what the journal
-/// settles, but behind a mkfs that a media fault cut.
+/// settles; but behind a mkfs that a media fault cut it may have no superblock, or read as that mkfs's new file system.
 pub fn a_run_is_settled()
     ensures { (start : Image) (files : Files) (events : List Event) (ending : Ending) (journal : List Note) (last : Session)
         → IsImage start → AreSound events
-        → EventsDone ending files events (first_session start) journal last
-        → IsSettled ending start journal last.machines.memory }
+        → (done : EventsDone ending files events (first_session start) journal last)
+        → IsSettled ending start files events journal last done }
 {}
 
 /// Of two answers with no file system made between them, the one of fewer entries has those that stand first in the

@@ -8,4 +8,5 @@ pub mod Failing
 pub mod WideLines
 pub mod OneOperation
 pub mod MkfsOps
+pub mod CutMkfs
 pub mod Slipping

@@ -39,11 +39,11 @@ whole_with line words cell m new old q =
     ]
 
 -- one put
-put_one : (put : Put) (m : Machine) → HasEightWords m → operated_all (put_ops put) m ≡ machine (put_line m.image put) (drop_line m.cache put)
+pub put_one : (put : Put) (m : Machine) → HasEightWords m → operated_all (put_ops put) m ≡ machine (put_line m.image put) (drop_line m.cache put)
 unfolding put_ops
 put_one put m whole = line_put put.0 put.1 m (whole put.0)
 
-whole_put : (put : Put) (m : Machine) → HasEightWords m → HasEightWords (machine (put_line m.image put) (drop_line m.cache put))
+pub whole_put : (put : Put) (m : Machine) → HasEightWords m → HasEightWords (machine (put_line m.image put) (drop_line m.cache put))
 whole_put put m whole = whole_with put.0 put.1 Absent m (λ memory. refl) whole
 
 -- puts, one after another
@@ -80,7 +80,7 @@ loaded_length line m = ap (λ (x : Machine). length x.image) (line_loaded line m
 pub read_length : (m : Machine) → length (operated_all read_ops m).image ≡ length m.image
 read_length m = ap (λ (x : Machine). length x.image) (read_in_turn m) ∙ loaded_length 2 _ ∙ loaded_length 1 _ ∙ loaded_length 0 m
 
-loaded_normal : (line : ℕ) (m : Machine) → map eight m.image ≡ m.image → map eight (operated_all (load_ops line 8) m).image ≡ (operated_all (load_ops line 8) m).image
+pub loaded_normal : (line : ℕ) (m : Machine) → map eight m.image ≡ m.image → map eight (operated_all (load_ops line 8) m).image ≡ (operated_all (load_ops line 8) m).image
 loaded_normal line m normal =
     subst (λ (x : Machine). map eight x.image ≡ x.image) (sym (line_loaded line m)) (normal-with_line m.image normal line (sent (line_at m.image line) (cell_at m.cache line)))
 
@@ -238,7 +238,7 @@ with_undirty line c cache l never dirty =
       | inr other ↦ subst IsDirty (cell_at-with_cell_other line c cache l other) dirty
     ]
 
-loaded_dirty : (line : ℕ) (m : Machine) (l : ℕ) → IsDirty (cell_at (operated_all (load_ops line 8) m).cache l) → IsDirty (cell_at m.cache l)
+pub loaded_dirty : (line : ℕ) (m : Machine) (l : ℕ) → IsDirty (cell_at (operated_all (load_ops line 8) m).cache l) → IsDirty (cell_at m.cache l)
 loaded_dirty line m l dirty = with_undirty line (Clean _) m.cache l (λ is. false≢true is) (subst (λ (z : Machine). IsDirty (cell_at z.cache l)) (line_loaded line m) dirty)
 
 read_dirty : (m : Machine) (l : ℕ) → IsDirty (cell_at (operated_all read_ops m).cache l) → IsDirty (cell_at m.cache l)

@@ -1,19 +1,21 @@
 -- The operations that make a file system, on the maker's cache and the one memory; and what is refused before any.
-use Rattle.std.specs.Prelude.{ℕ, ◌*◌, ◌&&◌, nat_lt, if◌then◌else◌, Bool, true, false, List, [], ◌∷◌, ◌++◌, Option, Some, None, Result, Ok, Err}
+use Rattle.std.specs.Prelude.{ℕ, ◌≡◌, ◌⊎◌, ◌<◌, ◌*◌, ◌&&◌, nat_lt, if◌then◌else◌, Bool, true, false, List, [], ◌∷◌, ◌++◌, Option, Some, None, Result, Ok, Err}
 use Rattle.std.specs.List.{flat_map, fold}
 use Rattle.fam_machine.specs.declared.request.MkfsRequest.{MkfsRequest}
 use Rattle.fam_base.specs.declared.entry.Params.{Params}
-use Rattle.fam_base.specs.Image.{line_at}
+use Rattle.fam_base.specs.Image.{Image, line_at}
 use Rattle.fam_format.specs.declared.faults.SuperFault.{SuperFault}
+use Rattle.fam_format.specs.declared.faults.SuperFault.TheVariants as super
 use Rattle.fam_format.specs.Layout.{slots_of}
 use Rattle.fam_format.specs.Params.{is_unit, is_log_length, need}
-use Rattle.fam_format.specs.Reading.{super_in}
+use Rattle.fam_format.specs.Reading.{NoSuperblock, Sound, reading, super_in}
 use Rattle.fam_rules.specs.Place.{line_bytes}
 use Rattle.fam_rules.specs.Written.{Put, format_puts}
 use Rattle.fam_machine.specs.declared.cell.Cell.TheVariants.{Absent}
 use Rattle.fam_machine.specs.declared.op.Op.{Op}
 use Rattle.fam_machine.specs.declared.op.Op.TheVariants.{Invalidate}
-use Rattle.fam_machine.specs.Caches.{Cache, with_cell}
+use Rattle.fam_machine.specs.Caches.{Cache, cell_at, with_cell}
+use Rattle.fam_machine.specs.OneLine.{IsDirty}
 use Rattle.fam_machine.specs.Operations.{Machine, operated_all, load_ops, store_ops, line_no}
 
 -- the first 27 operations: each of lines 0, 1 and 2 is dropped, and its eight words are loaded
@@ -78,3 +80,14 @@ expected_by false p = read_ops
 -- the operations that are expected, by what is superblock_found
 abbrev pub expected_ops : Bool → Params → Machine → List Op
 expected_ops force p m = expected_by (goes_on force (superblock_found p m)) p
+
+-- Where the media fails in one of them.
+
+-- the cache has nothing to send of lines 0, 1 and 2
+abbrev pub IsHeadSent : Cache → Type 0
+IsHeadSent cache = (line : ℕ) → line < 3 → IsDirty (cell_at cache line) → ⊥
+
+-- the image that is left reads as the old one; or it has no superblock, since word 0 of line 0 is zero from the first line that
+-- is sent to the last; or it reads as the new file system, without entries
+abbrev pub IsOldNoneOrNew : Params → Image → Image → Type 0
+IsOldNoneOrNew p old left = (reading left ≡ reading old) ⊎ ((reading left ≡ NoSuperblock (super.NoSuper 0)) ⊎ (reading left ≡ Sound p []))

@@ -1,12 +1,17 @@
 //! What all operations of making a file system come to.
 
-ghost use Rattle.std.specs.Prelude.{◌≡◌, ℕ, length, map as map_list};
+ghost use Rattle.std.specs.Prelude.{◌≡◌, ◌*◌, ◌≤◌, Bool, length, map as map_list};
 ghost use Rattle.fam_base.specs.declared.entry.Params.{Params};
+ghost use Rattle.fam_base.specs.declared.line.LineNo.{LineNo};
 ghost use Rattle.fam_base.specs.Image.{Image, eight};
+ghost use Rattle.fam_format.specs.Layout.{least_lines};
+ghost use Rattle.fam_format.specs.Params.{SoundParams};
+ghost use Rattle.fam_machine.specs.Cuts.{Cuts};
 ghost use Rattle.fam_machine.specs.Caches.{Cache, IsClean};
-ghost use Rattle.fam_machine.specs.Mkfs.{drop_lines, mkfs_ops, read_ops};
+ghost use Rattle.fam_machine.specs.Mkfs.{IsHeadSent, IsOldNoneOrNew, drop_lines, expected_ops, mkfs_ops, read_ops};
 ghost use Rattle.fam_machine.specs.Operations.{Machine, machine, operated_all};
 ghost use Rattle.fam_machine.specs.EightWords.{HasEightWords};
+ghost use Rattle.fam_rules.specs.Place.{line_bytes};
 ghost use Rattle.fam_rules.specs.Written.{format_puts, formatted};
 
 /// A new file system is made by 81 operations, of which the first 27 read. They leave a new file system in memory,
@@ -28,4 +33,14 @@ pub fn a_file_system_is_made()
         → IsClean (operated_all read_ops (machine image cache)).cache }
     ensures sent { (p : Params) (image : Image) (cache : Cache) → map_list eight image ≡ image → IsClean cache
         → IsClean (operated_all (mkfs_ops p) (machine image cache)).cache }
+{}
+
+/// Where the media fails in one of these operations, the image that is left reads as before, as no superblock, or as
+/// the new file system. The maker's cache must have nothing to send of lines 0, 1 and 2, which the first 27 operations
+/// drop; any other line may be dirty, since all eight words of a line are stored before it is sent.
+pub fn a_cut_mkfs_is_old_none_or_new()
+    ensures { (p : Params) (m left : Machine) (force : Bool) (line : LineNo) → SoundParams p
+        → least_lines ≤ length m.image → p.device ≤ line_bytes * length m.image → map_list eight m.image ≡ m.image
+        → HasEightWords m → IsHeadSent m.cache → Cuts (expected_ops force p m) m line left
+        → IsOldNoneOrNew p m.image left.image }
 {}

@@ -90,13 +90,13 @@ IsCaused SinkFails events journal out = HasRisen out.sink.old.faults out.sink.ne
 -- The run.
 
 -- on an image and files that are modelled: the journal is legal and follows the events, the media has the last image, and that
--- reads as the journal settles
+-- reads as the journal settles, or behind a mkfs that a media fault cut as that mkfs leaves it
 pub record RunsOn (ending : Ending) (files : Files) (events : List Event) (start : Image) (now : Option Image) (journal : List Note) : Type 0 where
   pub last : Session
   pub legal : Legal start journal
   pub follows : EventsDone ending files events (first_session start) journal last
   pub left : now ≡ Some last.machines.memory
-  pub reads : ReadsAfter ending (past_of start journal).state last.machines.memory
+  pub reads : ReadsAfter ending files events (first_session start) journal last follows (past_of start journal).state last.machines.memory
 
 -- events ran: one journal, whose notes name hosts declared before them and which has the form of the events, the text that is
 -- to be put of it, and its status. the media's count rose by at least as many faults as the journal tells

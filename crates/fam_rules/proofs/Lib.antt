@@ -13,6 +13,8 @@ pub mod RefusalTests
 pub mod DecideProofs
 mod Vectors
 pub mod Puts
+pub mod TornHead
+pub mod CutPuts
 pub mod FormattedProofs
 pub mod LinesApart
 pub mod AppendedProofs

@@ -23,6 +23,19 @@ put_elsewhere [] image l other = refl
 put_elsewhere (put ∷ more) image l other =
     put_elsewhere more (put_line image put) l other.1 ∙ line_at-with_line_other image put.0 put.1 l other.0
 
+-- puts one after another, in two parts
+pub put_lines-append : (a b : List Put) (image : Image) → put_lines (a ++ b) image ≡ put_lines b (put_lines a image)
+put_lines-append [] b image = refl
+put_lines-append (put ∷ a) b image = put_lines-append a b (put_line image put)
+
+pub elsewhere-left : (l : ℕ) (a b : List Put) → AreElsewhere l (a ++ b) → AreElsewhere l a
+elsewhere-left l [] b off = tt
+elsewhere-left l (put ∷ a) b off = (off.0, elsewhere-left l a b off.1)
+
+pub elsewhere-right : (l : ℕ) (a b : List Put) → AreElsewhere l (a ++ b) → AreElsewhere l b
+elsewhere-right l [] b off = off
+elsewhere-right l (put ∷ a) b off = elsewhere-right l a b off.1
+
 -- of several puts of a line the last one stays
 pub last_put : (prefix back : List Put) (image : Image) (l : ℕ) (words : List ℕ) → l < length image → AreElsewhere l back → line_at (put_lines (prefix ++ (l, words) ∷ back) image) l ≡ eight words
 last_put [] back image l words within other = put_elsewhere back (with_line l words image) l other ∙ line_at-with_line image l words within

@@ -12,17 +12,19 @@ use Rattle.fam_commands.specs.Classes.{is_mount}
 use Rattle.fam_journal.specs.Calls as call
 use Rattle.fam_journal.specs.Calls.{Acts, ActsAt, AtNumber, ByRefusal, Call, Does, OnHost, DoesOperations, busy_at, idle_refusal, may_begin, name_of, number_of, on_host, refusal_of, when}
 use Rattle.fam_journal.specs.CallRecords.{FinishPart, Answers, IsSoundCall, DoesRow, WorldCall, refusal_noted}
-use Rattle.fam_journal.specs.Ends.{AllDone, EventsDone, MkfsFails, EndsOutOfMemory}
+use Rattle.fam_journal.specs.Ends.{AllDone, CutEventReads, EventsDone, MkfsFails, EndsOutOfMemory}
 use Rattle.fam_journal.specs.Events.{DoesEvent, Session, first_session}
 use Rattle.fam_journal.specs.Kept.{Held}
 use Rattle.fam_journal.specs.Laws.{IsImage}
 use Rattle.fam_journal.specs.Machines.{HostState, Machines, unused}
 use Rattle.fam_journal.specs.Notes.{Note, Refused}
+use Rattle.fam_journal.specs.Past.{State}
 use Rattle.fam_journal.specs.View.{WorldStands, WorldView, empty_world}
 use Rattle.fam_journal.specs.ByWorld.{TakesNoMedia, refusal_in, world_after}
 use Rattle.fam_journal.proofs.JournalLaws.{begun, kept_on}
 use Rattle.fam_journal.proofs.Calls.Shown.{refusal_shown}
 use Rattle.fam_journal.proofs.Calls.WorldRows.{row_done}
+use Rattle.fam_journal.proofs.Runs.Following.{broken_state}
 use Rattle.fam_samples.specs.Caller.{ComesTo, ComesToCut, CutTrace, Trace, OutOfMemoryTrace, Wishes, events}
 
 module _ (start : Image) (state : Machines) (old : WorldView) (held : Held start state old state.memory) where
@@ -197,6 +199,8 @@ module _ (start : Image) (files : Files) (w : Wishes) (image : IsImage start) wh
         };
         left = m2.told_is;
         legal = m2.legal;
+        reads = subst (λ (s : State). CutEventReads (event.Mkfs w.name w.fs 4096 65536 false) (at_session m1.state) s m2.state.memory)
+            (sym (broken_state start (event.Mkfs w.name w.fs 4096 65536 false) (at_session m1.state) (at_session m2.state) t.declared.journal m2.notes t.cut.world.journal (m2.row, refl) m2.joined)) m2.reads;
       }
 
   pub out_of_memory : (t : OutOfMemoryTrace start w) → ComesTo start EndsOutOfMemory files (event.Host w.name w.uuid ∷ event.Finish w.name ∷ []) t.wanting.world t.wanting.told

@@ -29,7 +29,7 @@ use Rattle.fam_journal.specs.Notes.{Note, Refused}
 use Rattle.fam_journal.specs.View.{HostStands, WorldStands, WorldView}
 use Rattle.fam_journal.specs.ByWorld.{refusal_in}
 use Rattle.fam_journal.proofs.Calls.Hosts.{stands_changed}
-use Rattle.fam_journal.proofs.JournalLaws.{cut_legal}
+use Rattle.fam_journal.proofs.JournalLaws.{cut_legal, cut_reads_as}
 use Rattle.fam_journal.proofs.Calls.Shown.{number_shown, refusal_shown}
 use Rattle.fam_journal.proofs.Calls.Stepped.{find_host}
 use Rattle.fam_samples.specs.Bodies.{after_cut, before_mkfs, host_m}
@@ -135,7 +135,7 @@ module _ (me fs : List ℕ) (is_uuid : IsUuid fs) (image : Image) (enough : need
         (stands_changed 0 (host_m me finmap.empty None) old.hosts refl (λ v. record v { cache = with_cell 0 Absent finmap.empty }) (length state.memory) state.hosts host host_is (λ z. record z { cache = behind.cache; task = host.task })
         record { name = mine.name; uuid = mine.uuid; cache = ap (with_cell 0 Absent) mine.cache; task = mine.task; kept = mine.kept; joined = mine.joined } stands)
 
-    breaks : LeavesBroken start (Some image) (BreaksOff call state) old new
+    breaks : LeavesBroken start (Some image) call state old new
     breaks = record {
       state = left;
       notes = fault ∷ [];
@@ -144,6 +144,7 @@ module _ (me fs : List ℕ) (is_uuid : IsUuid fs) (image : Image) (enough : need
       joined = refl;
       stands = new_stands;
       legal = cut_legal start state left old call (fault ∷ []) held row;
+      reads = cut_reads_as start state left old call (fault ∷ []) held is_uuid row;
     }
 
   leaves : (start : Image) → CallBreaks call start (Some image) (Some image) old new

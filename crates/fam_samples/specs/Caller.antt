@@ -15,10 +15,11 @@ use Rattle.fam_journal.specs.declared.event.Event.TheVariants as event
 use Rattle.fam_journal.specs.declared.refusal.Refusal.TheVariants as why
 use Rattle.fam_journal.specs.Calls.{Begins, Declares, Finishes, Halts, Makes, Moves}
 use Rattle.fam_journal.specs.CallRecords.{FinishOutOfMemory, MakeCall, MediaCall, StepCall, WorldCall}
-use Rattle.fam_journal.specs.Ends.{Ending, EventsDone}
+use Rattle.fam_journal.specs.Ends.{Ending, EventsDone, ReadsAfter}
 use Rattle.fam_journal.specs.Events.{Session, first_session}
 use Rattle.fam_journal.specs.Kept.{Held}
 use Rattle.fam_journal.specs.Legal.{Legal}
+use Rattle.fam_journal.specs.Past.{past_of}
 use Rattle.fam_machine.specs.HostMoves.{Evict}
 use Rattle.fam_journal.specs.View.{WorldView, empty_world}
 
@@ -78,12 +79,13 @@ pub record CutTrace (start : Image) (w : Wishes) : Type 0 where
   pub host : WorldCall (Declares w.name w.uuid) (length start) None empty_world declared
   pub mkfs : MakeCall (Makes w.name (mkfs_request w.fs 4096 65536 false)) (length start) (Some (why.MediaFault line)) (media_change (Some start) first cut.told cut.faults) declared cut.world
 
--- the journal is legal and follows, up to the mkfs
+-- the journal is legal and follows, up to the mkfs, and the image reads as that mkfs leaves it
 pub record ComesToCut (start : Image) (ending : Ending) (files : Files) (events : List Event) (world : WorldView) (told : Option Image) : Type 0 where
   pub last : Session
   pub follows : EventsDone ending files events (first_session start) world.journal last
   pub left : told ≡ Some last.machines.memory
   pub legal : Legal start world.journal
+  pub reads : ReadsAfter ending files events (first_session start) world.journal last follows (past_of start world.journal).state last.machines.memory
 
 -- a finish of a declared host finds no memory, not even for its note
 pub record OutOfMemoryTrace (start : Image) (w : Wishes) : Type 0 where

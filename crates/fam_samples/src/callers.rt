@@ -18,8 +18,8 @@ ghost use Rattle.fam_samples.specs.Bodies.{after_cut, after_mkfs, after_step, be
 ghost use Rattle.fam_samples.specs.Caller.{ComesTo, ComesToCut, CutTrace, Trace, OutOfMemoryTrace, Wishes, events};
 
 /// What seven calls promise is enough to know that their notes follow a script's events, that the media has the last
-/// image, and that the world is held (`done`). Where a media fault cuts a mkfs the notes follow up to it, and are legal
-/// (`cut`). Where a finish finds no memory the world is held still, and may go on (`out_of_memory`).
+/// image, and that the world is held (`done`). Where a media fault cuts a mkfs the notes follow up to it and are legal,
+/// and the image reads as that mkfs leaves it (`cut`). Where a finish finds no memory the world is held still, and may go on (`out_of_memory`).
 pub fn a_caller_chains_what_calls_promise()
     ensures done { (start : Image) (files : Files) (w : Wishes) → IsImage start → (t : Trace start w)
         → ComesTo start AllDone files (events w) t.halted t.evicted.told }

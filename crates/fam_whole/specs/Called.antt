@@ -16,11 +16,11 @@ use Rattle.fam_outcomes.specs.Runs.{NoneRose, Outside, RunsOn}
 use Rattle.fam_storm.specs.Storm.{storm}
 
 -- these events ran from the image, with the files, and ended so with this journal. It is legal, and the image that is left reads as
--- it settles, but behind a mkfs that a media fault cut; where all events are done each answer is of the rules; and where no count
+-- it settles, or behind a mkfs that a media fault cut as that mkfs leaves it; where all events are done each answer is of the rules; and where no count
 -- rose they are, or memory ran out
 pub record RunsLawfully (out : Outside) (files : Files) (start : Image) (ending : Ending) (events : List Event) (journal : List Note) : Type 0 where
   pub runs : RunsOn ending files events start out.media.new.image journal
-  pub settled : IsSettled ending start journal runs.last.machines.memory
+  pub settled : IsSettled ending start files events journal runs.last runs.follows
   pub ruled : ending ≡ AllDone → AreRuled (first_past start) journal
   pub complete : NoneRose out → ((ending ≡ AllDone) × IsComplete files events start journal) ⊎ (ending ≡ EndsOutOfMemory)
 

@@ -81,9 +81,9 @@ pub fn a_run_is_exact_up_to_a_fault()
 {}
 
 /// The run that the clause of the top call tells, of a script, a storm or a command of its own, keeps the laws of runs, where
-/// image and files are modelled. Its journal is legal, and the image that is left reads as what that settles, but behind a
-/// mkfs that a media fault cut; where all events are done each answer is of the rules; and where no count rose they are done,
-/// or memory ran out.
+/// image and files are modelled. Its journal is legal, and the image that is left reads as what that settles, or behind a
+/// mkfs that a media fault cut as before it, as no superblock, or as the new file system; where all events are done each
+/// answer is of the rules; and where no count rose they are done, or memory ran out.
 pub fn what_a_call_runs_keeps_the_laws()
     ensures { (asked : Option Invocation) (me random : List ℕ) (out : Outside) (given : Status) (files : Files) (start : Image)
         → (call : CallEnds asked me random out given) → out.media.old.image ≡ Some start → out.shelf.old.files ≡ Some files

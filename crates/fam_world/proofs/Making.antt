@@ -43,7 +43,7 @@ use Rattle.fam_journal.specs.ByWorld.{number_in, refusal_in}
 use Rattle.fam_journal.proofs.Calls.Hosts.{stands_changed}
 use Rattle.fam_journal.proofs.Calls.Tests.{both_first}
 use Rattle.fam_journal.proofs.Calls.Shown.{number_shown}
-use Rattle.fam_journal.proofs.JournalLaws.{cut_legal}
+use Rattle.fam_journal.proofs.JournalLaws.{cut_legal, cut_reads_as}
 use Rattle.fam_world.specs.declared.fault.WorldFault.{WorldFault}
 use Rattle.fam_world.specs.Answers.{IfAnswered, IsRefused}
 use Rattle.fam_world.specs.Makes.{end_note, end_result}
@@ -245,6 +245,7 @@ module _ (name : List ℕ) (request : MkfsRequest) (is_uuid : IsUuid request.fs)
             joined = journal;
             stands = stands start state told_is held cut.left cut.is.cache;
             legal = subst (λ (j : List Note). Rattle.fam_journal.specs.Legal.Legal start j) (sym journal) (cut_legal start state left old c notes held row);
+            reads = cut_reads_as start state left old c notes held is_uuid row;
           }
 
       pub cut_call : MakeCall c lines (Some (why.MediaFault line)) (media_change told faults now faults_now) old new

@@ -116,7 +116,7 @@ module _ (start : Image) (state : Machines) (journal : List Note) (kept : Reache
   -- A host of the state.
 
   module _ (h : ℕ) (d : Declared start state world h) where
-    same_cache : machine_of state d.host ≡ record { image = state.memory; cache = d.view.cache }
+    pub same_cache : machine_of state d.host ≡ record { image = state.memory; cache = d.view.cache }
     same_cache = ap (λ (c : Cache). record { image = state.memory; cache = c }) d.stands.cache
 
     -- One operation.
@@ -256,7 +256,7 @@ module _ (start : Image) (state : Machines) (journal : List Note) (kept : Reache
         let idle : is_busy d.host ≡ false = sym (ap is_busy_host d.host_is) ∙ no_when _ _ (or_first _ _ free) in
         record { views = _; held = umounted_held start state world held h d (idle_of (length start) d.host d.view d.stands idle); uuids = uuids_kept h _ (λ z. refl) state.hosts kept.uuids }
 
-    makes_sound : (request : MkfsRequest) → IsUuid request.fs → makes_refusal request.unit request.log h state ≡ None → SoundParams (asked request d.host.uuid (length state.memory))
+    pub makes_sound : (request : MkfsRequest) → IsUuid request.fs → makes_refusal request.unit request.log h state ≡ None → SoundParams (asked request d.host.uuid (length state.memory))
     makes_sound request uuid free =
         let may = may_make request.unit request.log h state free in
         record {

@@ -54,7 +54,7 @@ module _ (start : Image) (state : Machines) (world : WorldView) (held : Agrees s
   abbrev m : Machine
   m = record { image = state.memory; cache = d.view.cache }
 
-  whole : HasEightWords m
+  pub whole : HasEightWords m
   whole l =
       eight_whole (current (line_at state.memory l) (cell_at d.view.cache l))
       (subst (λ (o : Option HostView). length (current (line_at state.memory l) (copy_at o l)) ≡ 8) d.view_is (held.invariant.wide.copies h l))

@@ -16,7 +16,7 @@ use Rattle.fam_journal.specs.declared.refusal.Refusal.{Refusal}
 use Rattle.fam_journal.specs.declared.refusal.Refusal.TheVariants as why
 use Rattle.fam_journal.specs.Calls as call
 use Rattle.fam_journal.specs.Calls.{ActsAt, ActsOf, Acts, AtNumber, BreaksOff, ByRefusal, Call, Completes, CutsAt, Does, OnHost, DoesOperations, Unfinished, begins_refusal, line_refusal, makes_refusal, name_of, number_of, on_host, refusal_of, umounts_refusal}
-use Rattle.fam_journal.specs.Ends.{AllDone, Ending, EventsDone, MkfsFails, EndsOutOfMemory, EndsOutOfMemoryBroken, ReadsAs, SinkFails, SourceFails}
+use Rattle.fam_journal.specs.Ends.{AllDone, CutEventReads, Ending, EventsDone, MkfsFails, EndsOutOfMemory, EndsOutOfMemoryBroken, ReadsAs, SinkFails, SourceFails}
 use Rattle.fam_journal.specs.Events.{BreaksEvent, DoesEvent, Continues, IsBegun, RefusesEvent, MayNotStep, PartOf, Session, first_session}
 use Rattle.fam_journal.specs.Follows.{Follows, FollowsBroken}
 use Rattle.fam_journal.specs.Kept.{Reached}
@@ -25,10 +25,11 @@ use Rattle.fam_journal.specs.Laws.{AreSound, IsImage, IsSettled, IsSoundEvent}
 use Rattle.fam_journal.specs.Legal.{Legal}
 use Rattle.fam_journal.specs.Machines.{HostState, Machines, Operation, host_done, operation, unused, with_parts, with_task}
 use Rattle.fam_journal.specs.Notes.{Halt, Note, Refused, Stop}
-use Rattle.fam_journal.specs.Past.{first_past, past_of}
+use Rattle.fam_journal.specs.Past.{State, first_past, past_of}
 use Rattle.fam_journal.proofs.Calls.Begin.{held_first}
 use Rattle.fam_journal.proofs.Settled.Journals.{legal_both}
 use Rattle.fam_journal.proofs.Calls.Keeping.{begins_kept, declared_kept, enough_to_make, kept_as, made_kept, met_kept, move_failed_kept, moved_kept, operation_at, refused_kept, umounts_kept, uuids_kept}
+use Rattle.fam_journal.proofs.Runs.CutReads.{event_cut, refused_state}
 use Rattle.fam_journal.proofs.Runs.Left.{held_reads}
 use Rattle.fam_journal.proofs.Calls.Rows.{Declared, declared, halted_held, stopped_held}
 use Rattle.fam_journal.proofs.Calls.Tests.{below_of, no_when}
@@ -232,6 +233,26 @@ cut_notes c old new notes x = by_number (number_of (name_of c) old) x.1
     by_number None y = absurd y
     by_number (Some h) y = by_host h (slice_get old.hosts h) y
 
+broken_notes : (e : Event) (old new : Session) (notes : List Note) → BreaksEvent e old notes new → (name : List ℕ) × (cause : Refusal) × (notes ≡ Refused name cause ∷ [])
+broken_notes (event.Host name uuid) old new notes x = absurd x
+broken_notes (event.Mkfs name fs unit log force) old new notes x = cut_notes (call.Makes name (mkfs_request fs unit log force)) old.machines new.machines notes x.0
+broken_notes (event.Begin name what) old new notes x = absurd x
+broken_notes (event.Run name what) old new notes x = absurd x
+broken_notes (event.Step name count) old new notes x = absurd x
+broken_notes (event.Finish name) old new notes x = absurd x
+broken_notes (event.Stop name) old new notes x = absurd x
+broken_notes (event.Halt name) old new notes x = absurd x
+broken_notes (event.Umount name) old new notes x = absurd x
+broken_notes (event.Evict name line) old new notes x = absurd x
+broken_notes (event.Leak name line mask) old new notes x = absurd x
+broken_notes (event.Fetch name line mask) old new notes x = absurd x
+
+-- so the state behind it is the one before
+pub broken_state : (start : Image) (e : Event) (old new : Session) (journal notes all : List Note) → BreaksEvent e old notes new → all ≡ journal ++ notes → (past_of start all).state ≡ (past_of start journal).state
+broken_state start e old new journal notes all x joined =
+    let b = broken_notes e old new notes x in
+    ap (λ (z : List Note). (past_of start z).state) joined ∙ refused_state start journal notes b.0 b.1 b.2
+
 -- Whole runs.
 
 module _ (start : Image) (image : IsImage start) (files : Files) (events : List Event) (sound : AreSound events) where
@@ -245,20 +266,6 @@ module _ (start : Image) (image : IsImage start) (files : Files) (events : List 
   whole_kept : (count : ℕ) (journal : List Note) (last : Session) → Follows files (take count events) (first_session start) journal last → Reached start last.machines journal
   whole_kept count journal last follows = follows_kept start files (take count events) (prefix_sound start files count events sound) (first_session start) last [] journal first_kept follows
 
-  broken_notes : (e : Event) (old new : Session) (notes : List Note) → BreaksEvent e old notes new → (name : List ℕ) × (cause : Refusal) × (notes ≡ Refused name cause ∷ [])
-  broken_notes (event.Host name uuid) old new notes x = absurd x
-  broken_notes (event.Mkfs name fs unit log force) old new notes x = cut_notes (call.Makes name (mkfs_request fs unit log force)) old.machines new.machines notes x.0
-  broken_notes (event.Begin name what) old new notes x = absurd x
-  broken_notes (event.Run name what) old new notes x = absurd x
-  broken_notes (event.Step name count) old new notes x = absurd x
-  broken_notes (event.Finish name) old new notes x = absurd x
-  broken_notes (event.Stop name) old new notes x = absurd x
-  broken_notes (event.Halt name) old new notes x = absurd x
-  broken_notes (event.Umount name) old new notes x = absurd x
-  broken_notes (event.Evict name line) old new notes x = absurd x
-  broken_notes (event.Leak name line mask) old new notes x = absurd x
-  broken_notes (event.Fetch name line mask) old new notes x = absurd x
-
   -- the media failed in the last event, a mkfs
   broken_legal : (journal : List Note) (last : Session) → FollowsBroken files events (first_session start) journal last → Legal start journal
   broken_legal journal last x =
@@ -266,12 +273,18 @@ module _ (start : Image) (image : IsImage start) (files : Files) (events : List 
       let b = broken_notes x.event x.mid last x.part_notes x.part in
       subst (λ (z : List Note). Legal start z) (sym (x.joined ∙ ap (λ (z : List Note). x.whole_notes ++ z) b.2)) (legal_both (first_past start) x.whole_notes (Refused b.0 b.1 ∷ []) s.0 (tt, tt))
 
-  pub run_settled : (ending : Ending) (journal : List Note) (last : Session) → EventsDone ending files events (first_session start) journal last → IsSettled ending start journal last.machines.memory
+  -- and the image reads as that mkfs leaves it
+  broken_reads : (journal : List Note) (last : Session) (x : FollowsBroken files events (first_session start) journal last) → CutEventReads x.event x.mid (past_of start journal).state last.machines.memory
+  broken_reads journal last x =
+      subst (λ (s : State). CutEventReads x.event x.mid s last.machines.memory) (sym (broken_state start x.event x.mid last x.whole_notes x.part_notes journal x.part x.joined))
+      (event_cut start x.event (one_sound start files events x.count x.event sound x.is) x.mid last x.whole_notes x.part_notes (whole_kept x.count x.whole_notes x.mid x.whole) x.part)
+
+  pub run_settled : (ending : Ending) (journal : List Note) (last : Session) (done : EventsDone ending files events (first_session start) journal last) → IsSettled ending start files events journal last done
   run_settled AllDone journal last x =
       let s = settled last.machines journal (follows_kept start files events sound (first_session start) last [] journal first_kept x) in
       record { legal = s.0; reads = s.1 }
-  run_settled MkfsFails journal last x = record { legal = broken_legal journal last x; reads = tt }
-  run_settled EndsOutOfMemoryBroken journal last x = record { legal = broken_legal journal last x; reads = tt }
+  run_settled MkfsFails journal last x = record { legal = broken_legal journal last x; reads = broken_reads journal last x }
+  run_settled EndsOutOfMemoryBroken journal last x = record { legal = broken_legal journal last x; reads = broken_reads journal last x }
   run_settled SinkFails journal last x =
       let before = whole_kept x.count x.whole_notes x.mid x.whole in
       let after = event_kept start files x.event (one_sound start files events x.count x.event sound x.is) x.mid last x.whole_notes x.part_notes before x.part in

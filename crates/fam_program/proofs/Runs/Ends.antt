@@ -12,7 +12,7 @@ use Rattle.fam_sources.specs.declared.sourced.SourceEnd.TheVariants.{Faulted, Sh
 use Rattle.fam_sources.specs.Sourced.{HasEndCause, end_of}
 use Rattle.fam_journal.specs.declared.event.Event.{Event}
 use Rattle.fam_journal.specs.declared.event.Event.TheVariants as event
-use Rattle.fam_journal.specs.Ends.{AllDone, EndsOutOfMemory, EndsOutOfMemoryBroken, HasCounted, MkfsFails, SinkFails, SourceFails}
+use Rattle.fam_journal.specs.Ends.{AllDone, CutEventReads, EndsOutOfMemory, EndsOutOfMemoryBroken, HasCounted, MkfsFails, SinkFails, SourceFails}
 use Rattle.fam_journal.specs.EventForms.{EndsForm, EventBreaksForm, EventPartForm, FollowsForm, FormUpTo}
 use Rattle.fam_journal.specs.Events.{BreaksEvent, DoesEvent, PartOf, Session, first_session}
 use Rattle.fam_journal.specs.Follows.{Follows, FollowsBroken, FollowsLast, ReadsSource}
@@ -20,8 +20,10 @@ use Rattle.fam_journal.specs.Forms.{HostForm, forms_behind}
 use Rattle.fam_journal.specs.Kept.{Held}
 use Rattle.fam_journal.specs.Legal.{Legal}
 use Rattle.fam_journal.specs.Notes.{Note}
+use Rattle.fam_journal.specs.Past.{State, past_of}
 use Rattle.fam_outcomes.specs.Runs.{EndsBroken, HasRisen, Outside, RunsOn, SourceCaused}
 use Rattle.fam_journal.proofs.JournalLaws.{held_reads_as}
+use Rattle.fam_journal.proofs.Runs.Following.{broken_state}
 use Rattle.fam_journal.proofs.Runs.Unique.{faults_both}
 use Rattle.fam_events.specs.WorldChange.{WorldChange, session}
 use Rattle.fam_events.specs.Happens.{EventBroken, EventDone, EventEnded, EventPart}
@@ -126,6 +128,7 @@ module _ (b : Base) (count : ℕ) (n m : Now) (far : Far b count n) (e : Event) 
     pub follows : FollowsBroken files b.events (first_session start) m.world.journal last
     pub whole : follows.whole_notes ≡ n.world.journal
     pub left : m.media.image ≡ Some last.machines.memory
+    pub reads : CutEventReads follows.event follows.mid (past_of start m.world.journal).state last.machines.memory
 
   pub broken_on : EventBroken e a → (start : Image) (files : Files) → b.media.image ≡ Some start → b.files ≡ Some files → BrokenOn start files
   broken_on x start files told_is files_are =
@@ -147,6 +150,9 @@ module _ (b : Base) (count : ℕ) (n m : Now) (far : Far b count n) (e : Event) 
         };
         whole = refl;
         left = k.comes.told_is;
+        reads = subst (λ (s : State). CutEventReads e f.last s k.comes.last.machines.memory)
+            (sym (broken_state start e (session f.last.machines n.copied) k.comes.last n.world.journal k.comes.notes m.world.journal k.comes.does k.comes.joined))
+            (subst (λ (s : Session). CutEventReads e s (past_of start n.world.journal).state k.comes.last.machines.memory) (same_last f.last f.copied) k.reads);
       }
 
   broken_form : EventBroken e a → FormUpTo EventBreaksForm b.lines b.events [] m.world.journal
@@ -155,12 +161,12 @@ module _ (b : Base) (count : ℕ) (n m : Now) (far : Far b count n) (e : Event) 
   broken_told : (x : EventBroken e a) → IfModelled b.media.image (λ start. IfModelled b.files (λ files. RunsOn MkfsFails files b.events start m.media.image m.world.journal))
   broken_told x start told_is files files_are =
       let r = broken_on x start files told_is files_are in
-      record { last = r.last; legal = r.legal; follows = r.follows; left = r.left; reads = tt }
+      record { last = r.last; legal = r.legal; follows = r.follows; left = r.left; reads = r.reads }
 
   broken_want : (x : EventBroken e a) → IfModelled b.media.image (λ start. IfModelled b.files (λ files. RunsOn EndsOutOfMemoryBroken files b.events start m.media.image m.world.journal))
   broken_want x start told_is files files_are =
       let r = broken_on x start files told_is files_are in
-      record { last = r.last; legal = r.legal; follows = r.follows; left = r.left; reads = tt }
+      record { last = r.last; legal = r.legal; follows = r.follows; left = r.left; reads = r.reads }
 
   pub broken_ended : EventBroken e a → HasEnded MkfsFails end_out b.events m.world.journal
   broken_ended x = record {
@@ -298,6 +304,9 @@ module _ (b : Base) (count : ℕ) (n m : Now) (far : Far b count n) (e : Event) 
         };
         whole = refl;
         left = k.comes.told_is;
+        reads = subst (λ (s : State). CutEventReads e f.last s k.comes.last.machines.memory)
+            (sym (broken_state start e (session f.last.machines n.copied) k.comes.last n.world.journal k.comes.notes m.world.journal k.comes.does k.comes.joined))
+            (subst (λ (s : Session). CutEventReads e s (past_of start n.world.journal).state k.comes.last.machines.memory) (same_last f.last f.copied) k.reads);
       }
 
   pub sink_ended : EventDone e a → HasRisen all.old.faults all.new.faults → HasEnded SinkFails end_out b.events m.world.journal

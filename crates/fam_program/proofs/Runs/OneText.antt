@@ -108,7 +108,7 @@ broken_wants out events journal x = record {
   caused = x.caused;
   told = λ start told_is files files_are.
       let r = x.told start told_is files files_are in
-      record { last = r.last; legal = r.legal; follows = r.follows; left = r.left; reads = tt };
+      record { last = r.last; legal = r.legal; follows = r.follows; left = r.left; reads = r.reads };
 }
 
 pub source_wants : (end : SourceEnd) (out : Outside) (events : List Event) (journal : List Note) → HasEnded (SourceFails end) out events journal → HasEnded EndsOutOfMemory out events journal

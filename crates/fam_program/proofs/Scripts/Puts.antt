@@ -210,7 +210,7 @@ module _ (b : Base) (shelf : ShelfChange) (all : SinkChange) where
         whole = λ e. absurd cc;
         each = λ start told_is files files_are.
             let r = broken_on b count n m far e is shelf all x start files told_is files_are in (
-              record { last = r.last; legal = r.legal; follows = r.follows; left = r.left; reads = tt },
+              record { last = r.last; legal = r.legal; follows = r.follows; left = r.left; reads = r.reads },
               subst (λ (ns : List Note). HasPut (out_at m) (render ns)) (sym r.whole) (has_put (out_at m) (render n.world.journal) text s now_is sink_is later mid status.MediaFault given put),
             );
         put = put_both (out_at m) (render n.world.journal) text s now_is sink_is later mid status.MediaFault given media_own put;
@@ -226,7 +226,7 @@ module _ (b : Base) (shelf : ShelfChange) (all : SinkChange) where
         whole = λ e. absurd cc;
         each = λ start told_is files files_are.
             let r = broken_on b count n m far e is shelf all x start files told_is files_are in (
-              record { last = r.last; legal = r.legal; follows = r.follows; left = r.left; reads = tt },
+              record { last = r.last; legal = r.legal; follows = r.follows; left = r.left; reads = r.reads },
               subst (λ (ns : List Note). HasPut (out_at m) (render ns)) (sym r.whole) (put_before m x.adds.notes put),
             );
         put = put_both (out_at m) (render n.world.journal) (short_text put.0 x.adds.notes) s now_is sink_is later mid status.OutOfMemory given memory_own put.1;

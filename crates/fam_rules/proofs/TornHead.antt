@@ -1,6 +1,6 @@
--- What a copy that was cut reads as.
+-- What an image reads as of which line 0 was written in part: word 0 of it and the other lines are all that is read.
 use Rattle.std.proofs.Common.{◌≡◌, ℕ, zero, suc, ◌+◌, ◌*◌, ◌/◌, ◌%◌, ◌^◌, ◌<◌, Bool, true, false, List, [], ◌∷◌, ◌++◌, length, get_or, Option, Some, None, Result, Ok, Err, if◌then◌else◌, refl, ap, ap₂, ◌∙◌, inl, inr, arith}
-use Rattle.std.specs.Prelude.{◌≢◌, ◌==◌, slice_index}
+use Rattle.std.specs.Prelude.{◌≢◌, ◌⊎◌, ◌==◌, slice_index}
 use Rattle.std.proofs.lemmas.Bool.{cases_Bool}
 use Rattle.std.proofs.lemmas.List.{ext_get_or}
 use Rattle.fam_base.specs.declared.entry.Params.{Params}
@@ -20,7 +20,6 @@ use Rattle.fam_format.specs.Tree.{join_fault}
 use Rattle.fam_rules.specs.Place.{line_bytes}
 use Rattle.fam_rules.specs.Written.{zero_line}
 use Rattle.fam_rules.proofs.RoomSame.{map_range_same}
-use Rattle.fam_dup.specs.Ends.{IsOldOrNone}
 
 -- Readings.
 
@@ -104,7 +103,7 @@ module _ (image : Image) (mask : ℕ) (words : List ℕ) (some : 0 < length imag
   torn_count = ap (λ (m : Image). length m) (with_masked-with_line image 0 words mask) ∙ length-with_line image 0 (masked mask words (line_at image 0))
 
   -- cleared in part it reads as before, or as none
-  pub torn_clear : slice_index words 0 ≡ 0 → IsOldOrNone (reading image) (reading (with_masked 0 words mask image))
+  pub torn_clear : slice_index words 0 ≡ 0 → (reading (with_masked 0 words mask image) ≡ reading image) ⊎ (reading (with_masked 0 words mask image) ≡ NoSuperblock (super.NoSuper 0))
   torn_clear zero_word =
       elim (cases_Bool (bit mask)) [
         | inl set ↦ inr (none_there torn (torn_word ∙ ap (λ (b : Bool). if b then slice_index words 0 else slice_index (line_at image 0) 0) set ∙ zero_word))
