@@ -115,12 +115,14 @@ pub fn happen<M: Media, S: Shelf>(
             unit,
             log,
             force,
+            halt,
         } => {
             let request = MkfsRequest {
                 fs,
                 unit,
                 log,
                 force,
+                halt,
             };
             make(world, media, &name, request)
         }

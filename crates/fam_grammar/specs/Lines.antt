@@ -141,7 +141,7 @@ mkfs_line end words =
     then_reads (word_of name_of end words) (λ name rest.
     then_reads (word_of uuid_of end rest) (λ fs rest.
     then_reads (mkfs_options no_mkfs_options rest) (λ o none.
-    Reads (event.Mkfs name fs (unwrap_or o.unit default_unit) (unwrap_or o.log default_log) o.force) none)))
+    Reads (event.Mkfs name fs (unwrap_or o.unit default_unit) (unwrap_or o.log default_log) o.force o.halt) none)))
 
 -- begin and run: NAME, a command
 abbrev pub begin_line : ℕ → List Word → Reading Event

@@ -85,6 +85,7 @@ mkfs_option_of word =
 abbrev pub with_mkfs_option : MkfsOptions → MkfsOption → Option MkfsOptions
 with_mkfs_option given (mkfs.Unit unit) = once given.unit (record given { unit = Some unit })
 with_mkfs_option given (mkfs.Log log) = once given.log (record given { log = Some log })
+with_mkfs_option given (mkfs.Halt count) = once given.halt (record given { halt = Some count })
 with_mkfs_option given mkfs.Force = if given.force then None else Some (record given { force = true })
 
 -- a word joins the options before it, where it is one
@@ -102,4 +103,4 @@ mkfs_options given (word ∷ words) =
 
 -- no option is given
 abbrev pub no_mkfs_options : MkfsOptions
-no_mkfs_options = record { unit = None; log = None; force = false }
+no_mkfs_options = record { unit = None; log = None; force = false; halt = None }

@@ -16,7 +16,7 @@ IsSoundAsk (Check source) = ⊤
 -- its ask is within its limits, and some operations are done
 abbrev pub IsSoundEvent : Event → Type 0
 IsSoundEvent (event.Host name uuid) = ⊤
-IsSoundEvent (event.Mkfs name fs unit log force) = ⊤
+IsSoundEvent (event.Mkfs name fs unit log force halt) = ⊤
 IsSoundEvent (event.Begin name what) = IsSoundAsk what
 IsSoundEvent (event.Run name what) = IsSoundAsk what
 IsSoundEvent (event.Step name count) = 0 < count

@@ -59,6 +59,7 @@ fn mkfs(words: &mut Words<'_>, line: Line) -> Result<Event, LineFault>
         unit: options.unit.unwrap_or(DEFAULT_UNIT),
         log: options.log.unwrap_or(DEFAULT_LOG),
         force: options.force,
+        halt: options.halt,
     })
 }
 

@@ -41,6 +41,7 @@ pub(crate) enum MkfsOption {
     Unit(u64),
     Log(u64),
     Force,
+    Halt(u64),
 }
 
 /// The options of mkfs that are given so far.
@@ -49,6 +50,7 @@ pub(crate) struct MkfsOptions {
     pub(crate) unit: Option<u64>,
     pub(crate) log: Option<u64>,
     pub(crate) force: bool,
+    pub(crate) halt: Option<u64>,
 }
 
 /// A word's option of mkdir, creat or cp.
@@ -162,6 +164,7 @@ impl MkfsOptions {
             unit: None,
             log: None,
             force: false,
+            halt: None,
         }
     }
 
@@ -188,6 +191,12 @@ impl MkfsOptions {
                     return None;
                 }
                 more.force = true;
+            }
+            MkfsOption::Halt(count) => {
+                if self.halt.is_some() {
+                    return None;
+                }
+                more.halt = Some(count);
             }
         }
         Some(more)

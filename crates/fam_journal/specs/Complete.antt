@@ -166,7 +166,7 @@ pub record CanEnd (h : ℕ) (state : Machines) : Type 0 where
 -- a command that is run and isn't refused ends in an answer
 abbrev pub RunEnds : Event → List Note → Type 0
 RunEnds (event.Host name uuid) notes = ⊤
-RunEnds (event.Mkfs name fs unit log force) notes = ⊤
+RunEnds (event.Mkfs name fs unit log force halt) notes = ⊤
 RunEnds (event.Begin name what) notes = ⊤
 RunEnds (event.Run name what) notes = EndsInAnswer notes ⊎ ((why : Refusal) × (notes ≡ Refused name why ∷ []))
 RunEnds (event.Step name count) notes = ⊤

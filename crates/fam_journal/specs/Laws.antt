@@ -86,7 +86,7 @@ pub record AreSame (notes other : List Note) (state left : Session) : Type 0 whe
 -- an event's UUIDs are such
 abbrev pub IsSoundEvent : Event → Type 0
 IsSoundEvent (event.Host name uuid) = IsUuid uuid
-IsSoundEvent (event.Mkfs name fs unit log force) = IsUuid fs
+IsSoundEvent (event.Mkfs name fs unit log force halt) = IsUuid fs
 IsSoundEvent (event.Begin name what) = ⊤
 IsSoundEvent (event.Run name what) = ⊤
 IsSoundEvent (event.Step name count) = ⊤

@@ -1,7 +1,8 @@
 -- What memory is left where the media fails in one of the operations that make a file system, and what it reads as.
-use Rattle.std.proofs.Common.{ℕ, ◌≡◌, ◌*◌, ◌<◌, ◌≤◌, Bool, true, false, List, [], ◌∷◌, ◌++◌, length, map, Some, None, inl, inr, refl, sym, ap, subst, ◌∙◌, arith}
-use Rattle.std.specs.Prelude.{◌⊎◌, slice_index, slice_range}
+use Rattle.std.proofs.Common.{ℕ, ◌≡◌, ◌*◌, ◌-◌, ◌<◌, ◌≤◌, Bool, true, false, List, [], ◌∷◌, ◌++◌, length, map, Option, Some, None, inl, inr, refl, sym, ap, subst, ◌∙◌, arith}
+use Rattle.std.specs.Prelude.{◌⊎◌, min, take, drop, slice_index, slice_range}
 use Rattle.std.specs.List.{flat_map, range_with_len}
+use Rattle.std.proofs.lemmas.List.{append_assoc, take-append-drop}
 use Rattle.std.proofs.lemmas.Option.{same_Some}
 use Rattle.fam_base.specs.declared.entry.Params.{Params}
 use Rattle.fam_base.specs.declared.line.LineNo.{LineNo}
@@ -24,7 +25,7 @@ use Rattle.fam_machine.specs.declared.op.Op.TheVariants.{Load, Store, Invalidate
 use Rattle.fam_machine.specs.Caches.{Cache, cell_at, with_cell}
 use Rattle.fam_machine.specs.Cuts.{Cuts, Fails}
 use Rattle.fam_machine.specs.EightWords.{HasEightWords}
-use Rattle.fam_machine.specs.Mkfs.{IsHeadSent, IsOldNoneOrNew, drop_line, expected_by, expected_ops, goes_on, put_ops, read_ops, superblock_found, write_ops}
+use Rattle.fam_machine.specs.Mkfs.{IsHeadSent, IsOldNoneOrNew, done_ops, drop_line, expected_by, expected_ops, goes_on, mkfs_ops, put_ops, read_ops, superblock_found, write_ops}
 use Rattle.fam_machine.specs.OneLine.{IsDirty, failed_send, sent}
 use Rattle.fam_machine.specs.Operations.{Failure, Machine, line_no, load_ops, machine, operated, operated_all, store_ops}
 use Rattle.fam_machine.proofs.CacheLemmas.{cell_at-with_cell_same}
@@ -68,6 +69,18 @@ module _ (at : LineNo) (left : Machine) where
         | inl fails ↦ inl record { done = []; op = op; rest = a; split = refl; fails = fails }
         | inr behind ↦ elim (cut_parts a b (operated op m) behind) [ inl first ↦ inl (cut_more op a m first) | inr second ↦ inr second ]
       ]
+
+  -- so is the longer row of which these are the first operations
+  longer : (a b : List Op) (done : List Op) (op : Op) (rest : List Op) → a ≡ done ++ op ∷ rest → a ++ b ≡ done ++ op ∷ (rest ++ b)
+  longer a b done op rest split = ap (λ (l : List Op). l ++ b) split ∙ append_assoc done (op ∷ rest) b
+
+  cut_longer : (a b : List Op) (m : Machine) → Cuts a m at left → Cuts (a ++ b) m at left
+  cut_longer a b m c = record { done = c.done; op = c.op; rest = c.rest ++ b; split = longer a b c.done c.op c.rest c.split; fails = c.fails }
+
+  cut_front : (a : List Op) (n : ℕ) (b : List Op) (m : Machine) → Cuts (a ++ take n b) m at left → Cuts (a ++ b) m at left
+  cut_front a n b m c =
+      subst (λ (l : List Op). Cuts l m at left) (append_assoc a (take n b) (drop n b) ∙ ap (λ (l : List Op). a ++ l) (take-append-drop n b))
+      (cut_longer (a ++ take n b) (drop n b) m c)
 
   -- Loads and stores send nothing.
 
@@ -196,10 +209,12 @@ module _ (line : ℕ) (words : List ℕ) (image : Image) (cache : Cache) (at : L
       let failure = send_fails (line_no line) stored_line (failed_send mask (line_at image line) (cell_at stored_line.cache line)) _ fails.is in
       let through : failed_send mask (line_at image line) (cell_at stored_line.cache line) ≡ Some (masked mask (eight words) (line_at image line)) =
       ap (failed_send mask (line_at image line)) (cell_at-with_cell_same line (Dirty false (eight words)) cache) in
-      inr (mask,
-      ap (λ (f : Failure). f.left.image) failure.2
-      ∙ ap (λ (w : List ℕ). with_line line w image) (same_Some failure.0 (masked mask (eight words) (line_at image line)) (sym failure.1 ∙ through) ∙ masked_eight mask words (line_at image line))
-      ∙ sym (with_masked-with_line image line words mask))
+      inr (
+        mask,
+        ap (λ (f : Failure). f.left.image) failure.2
+            ∙ ap (λ (w : List ℕ). with_line line w image) (same_Some failure.0 (masked mask (eight words) (line_at image line)) (sym failure.1 ∙ through) ∙ masked_eight mask words (line_at image line))
+            ∙ sym (with_masked-with_line image line words mask),
+      )
 
 put_cut : (put : Put) (m : Machine) (at : LineNo) (left : Machine) → HasEightWords m → Cuts (put_ops put) m at left → IsPutInPart put m.image left.image
 unfolding put_ops
@@ -269,13 +284,21 @@ module _ (p : Params) (m : Machine) (at : LineNo) (left : Machine) (sound : Soun
       (subst (λ (i : Image). CutPut (format_puts p) i left.image) (read_stays m normal head)
       (puts_cut (format_puts p) (operated_all read_ops m) at left (whole_read m whole) c))
 
-  cut_by : (go : Bool) → Cuts (expected_by go p) m at left → IsOldNoneOrNew p m.image left.image
-  cut_by false c = inl (ap reading (read_cut m normal head at left c))
-  cut_by true c =
+  cut_all : Cuts (mkfs_ops p) m at left → IsOldNoneOrNew p m.image left.image
+  cut_all c =
       elim (cut_parts at left read_ops (write_ops p) m c) [
         | inl read ↦ inl (ap reading (read_cut m normal head at left read))
         | inr write ↦ write_cut write
       ]
 
-  pub cut_is : (force : Bool) → Cuts (expected_ops force p m) m at left → IsOldNoneOrNew p m.image left.image
-  cut_is force c = cut_by (goes_on force (superblock_found p m)) c
+  -- the operations of a maker that is to halt are the first of all
+  cut_done : (halt : Option ℕ) → Cuts (done_ops halt p) m at left → IsOldNoneOrNew p m.image left.image
+  cut_done None c = cut_all c
+  cut_done (Some k) c = cut_all (cut_front at left (read_ops) (min k 80 - 27) (write_ops p) m c)
+
+  cut_by : (go : Bool) (halt : Option ℕ) → Cuts (expected_by go halt p) m at left → IsOldNoneOrNew p m.image left.image
+  cut_by false halt c = inl (ap reading (read_cut m normal head at left c))
+  cut_by true halt c = cut_done halt c
+
+  pub cut_is : (force : Bool) (halt : Option ℕ) → Cuts (expected_ops force halt p m) m at left → IsOldNoneOrNew p m.image left.image
+  cut_is force halt c = cut_by (goes_on force (superblock_found p m)) halt c

@@ -9,4 +9,5 @@ pub mod WideLines
 pub mod OneOperation
 pub mod MkfsOps
 pub mod CutMkfs
+pub mod HaltedMkfs
 pub mod Slipping

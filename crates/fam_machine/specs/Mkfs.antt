@@ -1,5 +1,5 @@
 -- The operations that make a file system, on the maker's cache and the one memory; and what is refused before any.
-use Rattle.std.specs.Prelude.{ℕ, ◌≡◌, ◌⊎◌, ◌<◌, ◌*◌, ◌&&◌, nat_lt, if◌then◌else◌, Bool, true, false, List, [], ◌∷◌, ◌++◌, Option, Some, None, Result, Ok, Err}
+use Rattle.std.specs.Prelude.{ℕ, ◌≡◌, ◌⊎◌, ◌<◌, ◌-◌, ◌*◌, ◌/◌, ◌&&◌, min, take, nat_lt, if◌then◌else◌, Bool, true, false, List, [], ◌∷◌, ◌++◌, Option, Some, None, Result, Ok, Err}
 use Rattle.std.specs.List.{flat_map, fold}
 use Rattle.fam_machine.specs.declared.request.MkfsRequest.{MkfsRequest}
 use Rattle.fam_base.specs.declared.entry.Params.{Params}
@@ -10,7 +10,7 @@ use Rattle.fam_format.specs.Layout.{slots_of}
 use Rattle.fam_format.specs.Params.{is_unit, is_log_length, need}
 use Rattle.fam_format.specs.Reading.{NoSuperblock, Sound, reading, super_in}
 use Rattle.fam_rules.specs.Place.{line_bytes}
-use Rattle.fam_rules.specs.Written.{Put, format_puts}
+use Rattle.fam_rules.specs.Written.{Put, format_puts, put_lines}
 use Rattle.fam_machine.specs.declared.cell.Cell.TheVariants.{Absent}
 use Rattle.fam_machine.specs.declared.op.Op.{Op}
 use Rattle.fam_machine.specs.declared.op.Op.TheVariants.{Invalidate}
@@ -33,6 +33,24 @@ write_ops p = flat_map put_ops (format_puts p)
 -- all 81 operations
 abbrev pub mkfs_ops : Params → List Op
 mkfs_ops p = read_ops ++ write_ops p
+
+-- the first 80 operations at most, after which the maker halts: all that read, and the first that write
+abbrev pub halted_ops : ℕ → Params → List Op
+halted_ops k p = read_ops ++ take (min k 80 - 27) (write_ops p)
+
+-- the operations that are done, by after how many the maker halts. None: it does all
+abbrev pub done_ops : Option ℕ → Params → List Op
+done_ops None p = mkfs_ops p
+done_ops (Some k) p = halted_ops k p
+
+-- the operation that sends the first line, which is line 0, all zero
+abbrev pub first_sent : ℕ
+first_sent = 36
+
+-- the image with the lines that were put before the maker halted: nine operations put one, so there is one more at the
+-- 36th, 45th, 54th, 63rd and 72nd
+abbrev pub halted_image : ℕ → Params → Image → Image
+halted_image k p image = put_lines (take ((min k 80 - 27) / 9) (format_puts p)) image
 
 -- the cache without a line that was put
 abbrev pub drop_line : Cache → Put → Cache
@@ -72,14 +90,14 @@ goes_on true superblock_found = true
 goes_on false (Ok other) = false
 goes_on false (Err fault) = true
 
--- the operations that are expected, by whether it goes on
-abbrev pub expected_by : Bool → Params → List Op
-expected_by true p = mkfs_ops p
-expected_by false p = read_ops
+-- the operations that are expected, by whether it goes on, and by after how many the maker halts
+abbrev pub expected_by : Bool → Option ℕ → Params → List Op
+expected_by true halt p = done_ops halt p
+expected_by false halt p = read_ops
 
 -- the operations that are expected, by what is superblock_found
-abbrev pub expected_ops : Bool → Params → Machine → List Op
-expected_ops force p m = expected_by (goes_on force (superblock_found p m)) p
+abbrev pub expected_ops : Bool → Option ℕ → Params → Machine → List Op
+expected_ops force halt p m = expected_by (goes_on force (superblock_found p m)) halt p
 
 -- Where the media fails in one of them.
 

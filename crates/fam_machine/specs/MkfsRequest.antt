@@ -1,7 +1,8 @@
 -- What a mkfs is asked for, from its parts.
-use Rattle.std.specs.Prelude.{ℕ, Bool, List}
+use Rattle.std.specs.Prelude.{ℕ, Bool, List, Option}
 use Rattle.fam_machine.specs.declared.request.MkfsRequest.{MkfsRequest}
 
--- a file system of this UUID, unit and log, and whether one that stands there is written over
-abbrev pub mkfs_request : List ℕ → ℕ → ℕ → Bool → MkfsRequest
-mkfs_request fs unit log force = record { fs = fs; unit = unit; log = log; force = force }
+-- a file system of this UUID, unit and log, whether one that stands there is written over, and after how many operations
+-- the maker halts
+abbrev pub mkfs_request : List ℕ → ℕ → ℕ → Bool → Option ℕ → MkfsRequest
+mkfs_request fs unit log force halt = record { fs = fs; unit = unit; log = log; force = force; halt = halt }

@@ -21,7 +21,9 @@ pub use caches::{copies_by_line, no_dirty_line};
 pub use cell::Cell;
 pub use failures::an_operation_fails_at_its_line;
 pub use lines::{a_line_is_loaded, a_line_is_put};
-pub use mkfs::{a_cut_mkfs_is_old_none_or_new, a_file_system_is_made};
+pub use mkfs::{
+    a_cut_mkfs_is_old_none_or_new, a_file_system_is_made, a_halted_mkfs_leaves_its_first_lines,
+};
 pub use op::Op;
 pub use request::MkfsRequest;
 pub use transfers::{

@@ -13,4 +13,7 @@ pub struct MkfsRequest {
     pub log: u64,
     /// Whether a file system that stands there is written over.
     pub force: bool,
+    /// After so many operations the maker halts: after 80 where the number is greater, and never before the 27 that
+    /// read. None: it does all.
+    pub halt: Option<u64>,
 }

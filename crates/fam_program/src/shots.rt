@@ -148,6 +148,7 @@ pub fn make_file_system<M: Media, S: Shelf, K: Sink>(
         unit: request.unit,
         log: request.log,
         force: request.force,
+        halt: request.halt,
     };
     let Ok(events) = two_events(alloc, name, me, making) else {
         return put_memory(out);

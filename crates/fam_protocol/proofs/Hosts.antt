@@ -4,6 +4,7 @@ pub mod Resting
 pub mod Bystanders
 pub mod Events
 pub mod Formats
+pub mod Clears
 pub mod Given
 pub mod Gives
 pub mod Acts

@@ -1,6 +1,6 @@
 -- What an event that is no operation of a task changes: the declared hosts, their tasks and their caches.
 -- docs/MODEL.md, "The protocol".
-use Rattle.std.specs.Prelude.{ℕ, ◌≡◌, ◌≢◌, ◌⊎◌, ◌*◌, ◌<◌, ◌≤◌, List, Some, None, slice_range}
+use Rattle.std.specs.Prelude.{ℕ, ◌≡◌, ◌≢◌, ◌⊎◌, ◌*◌, ◌<◌, ◌≤◌, List, Some, None, slice_index, slice_range}
 use Rattle.fam_base.specs.declared.cmd.Cmd.{Cmd}
 use Rattle.fam_base.specs.declared.entry.Params.{Params}
 use Rattle.fam_format.specs.Layout.{gate_line, log_line}
@@ -58,6 +58,13 @@ pub record Formats (maker : ℕ) (p : Params) (old new : SharedState) : Type 0 w
   pub head : (l : ℕ) → IsHeadLine l → new.copy maker l ≡ Absent
   pub dropped : new.copy maker gate_line ≡ Absent
   pub dirty : (l : ℕ) → IsDirty (new.copy maker l) → IsDirty (old.copy maker l)
+  pub hosts : (h l : ℕ) → h ≢ maker → new.copy h l ≡ old.copy h l
+
+-- what a maker leaves that halted behind its first send: word 0 of line 0 is zero, so there is no superblock; the maker has no
+-- copy of any line, and other hosts have theirs. Any other word of memory may be otherwise than before
+pub record Clears (maker : ℕ) (old new : SharedState) : Type 0 where
+  pub magic : slice_index (new.memory 0) 0 ≡ 0
+  pub lost : (l : ℕ) → new.copy maker l ≡ Absent
   pub hosts : (h l : ℕ) → h ≢ maker → new.copy h l ≡ old.copy h l
 
 -- a declared host may make a file system of these parameters on an image of so many lines: no host has a task or

@@ -7,10 +7,10 @@ ghost use Rattle.fam_base.specs.declared.entry.Params.{Params};
 ghost use Rattle.fam_format.specs.Layout.{device_limit, least_lines};
 ghost use Rattle.fam_protocol.specs.After.{Run};
 ghost use Rattle.fam_protocol.specs.Core.{IsWide};
-ghost use Rattle.fam_protocol.specs.Events.{Declares, Formats, MayFormat, Starts, Stops};
+ghost use Rattle.fam_protocol.specs.Events.{Clears, Declares, Formats, MayFormat, Starts, Stops};
 ghost use Rattle.fam_protocol.specs.SharedState.{Breaks, TransfersAt, Loses, SharedState};
 ghost use Rattle.fam_protocol.specs.Steps.{StepHolds, Steps};
-ghost use Rattle.fam_protocol.specs.Invariant.{AreHosts, Hosts, KeepFronts, Known, Rests, Settled, Invariant, solo, no_hosts, shared_with, settled_at_first};
+ghost use Rattle.fam_protocol.specs.Invariant.{AreHosts, Damaged, Hosts, Invariant, KeepFronts, Known, Rests, Settled, no_hosts, settled_at_first, shared_with, solo};
 ghost use Rattle.fam_machine.specs.declared.cell.Cell.{Cell};
 ghost use Rattle.fam_rules.specs.Asks.{File};
 ghost use Rattle.fam_rules.specs.Place.{line_bytes};
@@ -75,4 +75,9 @@ pub fn every_step_keeps_the_protocol()
     ensures made { (p : Params) (lines maker : ℕ) (hosts : Hosts) (s s2 : SharedState)
         → AreHosts hosts s → MayFormat maker p lines hosts s → Formats maker p s s2 → IsWide s2
         → Invariant (Known p [] 0) lines hosts s2 }
+
+    // The maker of a file system halts behind its first send, on any image. Then the image has no superblock.
+    ensures cleared { (p : Params) (lines maker : ℕ) (hosts : Hosts) (s s2 : SharedState)
+        → AreHosts hosts s → MayFormat maker p lines hosts s → Clears maker s s2 → IsWide s2
+        → Invariant (Damaged s2.memory) lines hosts s2 }
 {}

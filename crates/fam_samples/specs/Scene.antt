@@ -154,8 +154,8 @@ ten_events =
     ∷ event.Finish (codes "m")
     ∷ event.Evict (codes "m") (record { 0 = 0 })
     ∷ event.Halt (codes "m")
-    ∷ event.Mkfs (codes "m") (uuid 255) 5000 8388608 false
-    ∷ event.Mkfs (codes "m") (uuid 255) 4096 65536 false ∷ []
+    ∷ event.Mkfs (codes "m") (uuid 255) 5000 8388608 false None
+    ∷ event.Mkfs (codes "m") (uuid 255) 4096 65536 false None ∷ []
 
 -- the notes that they come to
 abbrev pub ten_notes : List Note

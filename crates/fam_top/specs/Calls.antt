@@ -27,7 +27,7 @@ fs_or random (Some fs) = fs
 
 -- a command of its own, as the journal's definitions speak of it
 abbrev pub shot_of : List ℕ → Shot → OneShot
-shot_of random (shot.Mkfs fs unit log force) = Makes (mkfs_request (fs_or random fs) unit log force)
+shot_of random (shot.Mkfs fs unit log force) = Makes (mkfs_request (fs_or random fs) unit log force None)
 shot_of random (shot.Run what) = Runs what
 shot_of random (shot.Parents path attr) = MakesParents path attr
 

@@ -48,6 +48,7 @@ fn request_of(random: [u8; 16], call: &DupCall) -> MkfsRequest
         unit: call.unit,
         log: call.log,
         force: call.force,
+        halt: None,
     }
 }
 

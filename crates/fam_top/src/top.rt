@@ -67,6 +67,7 @@ fn run_shot<M: Media, S: Shelf, K: Sink>(
                 unit,
                 log,
                 force,
+                halt: None,
             };
             make_file_system(alloc, me, request, media, shelf, out)
         }

@@ -311,10 +311,10 @@ module _ (start : Image) (files : Files) (old : Machines) (journal : List Note) 
   event_exact (event.Host name uuid) sound whole s new same notes clean does =
       by_refusal (call.Declares name uuid) old new.machines notes (subst (λ (z : Machines). Does (call.Declares name uuid) z notes new.machines) same does.0)
       (λ cause e f. quiet name cause new.machines notes e f) (λ free acts. declared_exact name uuid new.machines notes acts)
-  event_exact (event.Mkfs name fs unit log force) sound whole s new same notes clean does =
-      by_refusal (call.Makes name (mkfs_request fs unit log force)) old new.machines notes (subst (λ (z : Machines). Does (call.Makes name (mkfs_request fs unit log force)) z notes new.machines) same does.0)
+  event_exact (event.Mkfs name fs unit log force halt) sound whole s new same notes clean does =
+      by_refusal (call.Makes name (mkfs_request fs unit log force halt)) old new.machines notes (subst (λ (z : Machines). Does (call.Makes name (mkfs_request fs unit log force halt)) z notes new.machines) same does.0)
       (λ cause e f. quiet name cause new.machines notes e f)
-      (λ free acts. by_host (call.Makes name (mkfs_request fs unit log force)) old new.machines notes acts (λ h host number is at. makes_exact name (mkfs_request fs unit log force) new.machines notes h host is at))
+      (λ free acts. by_host (call.Makes name (mkfs_request fs unit log force halt)) old new.machines notes acts (λ h host number is at. makes_exact name (mkfs_request fs unit log force halt) new.machines notes h host is at))
   event_exact (event.Begin name what) sound whole s new same notes clean does = absurd whole
   event_exact (event.Run name what) sound whole s new same notes clean (inl run) = run_exact name what s new same notes clean run
   event_exact (event.Run name what) sound whole s new same notes clean (inr (inl x)) =

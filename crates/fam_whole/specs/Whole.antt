@@ -32,7 +32,7 @@ use Rattle.fam_commands.specs.ReplyClasses.{ReplyClass, reply_class, Appending, 
 -- an event that no other host's step interrupts
 abbrev pub IsWholeEvent : Event → Type 0
 IsWholeEvent (event.Host name uuid) = ⊤
-IsWholeEvent (event.Mkfs name fs unit log force) = ⊤
+IsWholeEvent (event.Mkfs name fs unit log force halt) = ⊤
 IsWholeEvent (event.Begin name what) = ⊥
 IsWholeEvent (event.Run name what) = ⊤
 IsWholeEvent (event.Step name count) = ⊥
@@ -168,7 +168,7 @@ pub record IsExact {files : Files} {events : List Event} {start : Image} (run : 
 -- an event that is a cache's own move
 abbrev pub is_move : Event → Bool
 is_move (event.Host name uuid) = false
-is_move (event.Mkfs name fs unit log force) = false
+is_move (event.Mkfs name fs unit log force halt) = false
 is_move (event.Begin name what) = false
 is_move (event.Run name what) = false
 is_move (event.Step name count) = false

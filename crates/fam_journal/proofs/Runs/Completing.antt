@@ -145,7 +145,7 @@ module _ (start : Image) where
   module _ (files : Files) where
     event_ruled : (e : Event) → IsSoundEvent e → (old new : Session) (journal notes : List Note) → Reached start old.machines journal → DoesEvent files e old notes new → AreRuled (past_of start journal) notes
     event_ruled (event.Host name uuid) sound old new journal notes kept x = does_ruled old.machines journal kept notes new.machines (call.Declares name uuid) x.0
-    event_ruled (event.Mkfs name fs unit log force) sound old new journal notes kept x = does_ruled old.machines journal kept notes new.machines (call.Makes name (mkfs_request fs unit log force)) x.0
+    event_ruled (event.Mkfs name fs unit log force halt) sound old new journal notes kept x = does_ruled old.machines journal kept notes new.machines (call.Makes name (mkfs_request fs unit log force halt)) x.0
     event_ruled (event.Begin name what) sound old new journal notes kept (inl x) = does_ruled old.machines journal kept notes new.machines (call.Begins name x.cmd) x.does
     event_ruled (event.Begin name what) sound old new journal notes kept (inr (inl x)) = refusal_ruled old.machines journal kept notes new.machines name x.cause x.notes_are
     event_ruled (event.Begin name what) sound old new journal notes kept (inr (inr x)) = does_ruled old.machines journal kept notes new.machines (call.Refuses name x.cause) x.does

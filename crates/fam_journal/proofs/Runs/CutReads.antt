@@ -127,8 +127,8 @@ module _ (start : Image) (state : Machines) (journal : List Note) (kept : Reache
 
 -- of an event
 pub event_cut : (start : Image) (e : Event) → IsSoundEvent e → (old new : Session) (journal notes : List Note) → Reached start old.machines journal → BreaksEvent e old notes new → CutEventReads e old (past_of start journal).state new.machines.memory
-event_cut start (event.Mkfs name fs unit log force) sound old new journal notes kept x =
-    call_cut start old.machines journal kept (call.Makes name (mkfs_request fs unit log force)) sound notes new.machines x.0
+event_cut start (event.Mkfs name fs unit log force halt) sound old new journal notes kept x =
+    call_cut start old.machines journal kept (call.Makes name (mkfs_request fs unit log force halt)) sound notes new.machines x.0
 event_cut start (event.Host name uuid) sound old new journal notes kept x = absurd x
 event_cut start (event.Begin name what) sound old new journal notes kept x = absurd x
 event_cut start (event.Run name what) sound old new journal notes kept x = absurd x

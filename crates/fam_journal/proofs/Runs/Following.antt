@@ -163,7 +163,7 @@ module _ (start : Image) (files : Files) where
 
   pub event_kept : (e : Event) → IsSoundEvent e → (old new : Session) (journal notes : List Note) → Reached start old.machines journal → DoesEvent files e old notes new → Reached start new.machines (journal ++ notes)
   event_kept (event.Host name uuid) sound old new journal notes kept x = does_kept start old.machines journal kept notes new.machines (call.Declares name uuid) sound x.0
-  event_kept (event.Mkfs name fs unit log force) sound old new journal notes kept x = does_kept start old.machines journal kept notes new.machines (call.Makes name (mkfs_request fs unit log force)) sound x.0
+  event_kept (event.Mkfs name fs unit log force halt) sound old new journal notes kept x = does_kept start old.machines journal kept notes new.machines (call.Makes name (mkfs_request fs unit log force halt)) sound x.0
   event_kept (event.Begin name what) sound old new journal notes kept (inl x) = begun_kept name what old new journal notes kept x
   event_kept (event.Begin name what) sound old new journal notes kept (inr x) = refused_event_kept name what old new journal notes kept x
   event_kept (event.Run name what) sound old new journal notes kept (inl x) = goes_kept Completes completes_kept name what old new journal notes kept x
@@ -180,7 +180,7 @@ module _ (start : Image) (files : Files) where
 
   part_kept : (e : Event) → IsSoundEvent e → (old new : Session) (journal notes : List Note) → Reached start old.machines journal → PartOf files e old notes new → Reached start new.machines (journal ++ notes)
   part_kept (event.Host name uuid) sound old new journal notes kept x = absurd x
-  part_kept (event.Mkfs name fs unit log force) sound old new journal notes kept x = absurd x
+  part_kept (event.Mkfs name fs unit log force halt) sound old new journal notes kept x = absurd x
   part_kept (event.Begin name what) sound old new journal notes kept x = absurd x
   part_kept (event.Run name what) sound old new journal notes kept x = goes_kept Unfinished unfinished_kept name what old new journal notes kept x
   part_kept (event.Step name count) sound old new journal notes kept x = unfinished_kept x.host old.machines journal kept notes new.machines x.does.does
@@ -235,7 +235,7 @@ cut_notes c old new notes x = by_number (number_of (name_of c) old) x.1
 
 broken_notes : (e : Event) (old new : Session) (notes : List Note) → BreaksEvent e old notes new → (name : List ℕ) × (cause : Refusal) × (notes ≡ Refused name cause ∷ [])
 broken_notes (event.Host name uuid) old new notes x = absurd x
-broken_notes (event.Mkfs name fs unit log force) old new notes x = cut_notes (call.Makes name (mkfs_request fs unit log force)) old.machines new.machines notes x.0
+broken_notes (event.Mkfs name fs unit log force halt) old new notes x = cut_notes (call.Makes name (mkfs_request fs unit log force halt)) old.machines new.machines notes x.0
 broken_notes (event.Begin name what) old new notes x = absurd x
 broken_notes (event.Run name what) old new notes x = absurd x
 broken_notes (event.Step name count) old new notes x = absurd x

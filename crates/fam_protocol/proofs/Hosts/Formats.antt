@@ -25,6 +25,10 @@ both_lines : (p : Params) → slice_range (super_words p) 0 8 ++ slice_range (su
 unfolding super_words
 both_lines p = refl
 
+-- where a file system may be made there are more lines than a gate needs
+pub enough_there : (maker : ℕ) (p : Params) (lines : ℕ) (hosts : Hosts) (s : SharedState) → MayFormat maker p lines hosts s → least_lines ≤ lines
+enough_there maker p lines hosts s may = omega (arith, may.sound.need, may.device, (unit_told p.unit may.sound.unit).least)
+
 module _ (maker : ℕ) (p : Params) (lines : ℕ) (hosts : Hosts) (old new : SharedState) (may : MayFormat maker p lines hosts old) (formats : Formats maker p old new) where
   -- the new superblock reads
   super_reads : super_in new.memory (line_bytes * lines) ≡ Ok p
@@ -64,7 +68,7 @@ module _ (maker : ℕ) (p : Params) (lines : ℕ) (hosts : Hosts) (old new : Sha
 
   -- superblock and log need more lines than a gate
   enough_lines : least_lines ≤ lines
-  enough_lines = omega (arith, may.sound.need, may.device, (unit_told p.unit may.sound.unit).least)
+  enough_lines = enough_there maker p lines hosts old may
 
   hosts_formatted : AreHosts hosts old → AreHosts hosts new
   hosts_formatted are = record {

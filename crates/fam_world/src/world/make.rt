@@ -144,9 +144,9 @@ impl World {
         log: u64,
         force: bool,
     ) -> Result<(), WorldFault>
-        ensures answered { IfAnswered result (λ answered. MakeCall (Makes name.now (mkfs_request fs unit log force)) (M.size media.old)
+        ensures answered { IfAnswered result (λ answered. MakeCall (Makes name.now (mkfs_request fs unit log force None)) (M.size media.old)
             answered (change M.state media.old media.new) self.old self.new) }
-        ensures untouched { IsUntouched (Makes name.now (mkfs_request fs unit log force)) (M.size media.old) self.old media.old media.new }
+        ensures untouched { IsUntouched (Makes name.now (mkfs_request fs unit log force None)) (M.size media.old) self.old media.old media.new }
         ensures undone { IsErrOf result WorldFault.OutOfMemory → media.new ≡ media.old }
         ensures err { IsErrOf result WorldFault.OutOfMemory → self.new ≡ self.old }
         ensures size { M.size media.new ≡ M.size media.old }
@@ -156,6 +156,7 @@ impl World {
             unit,
             log,
             force,
+            halt: None,
         };
         is_uuid(fs);
         if make_room(&mut self.journal).is_err() {

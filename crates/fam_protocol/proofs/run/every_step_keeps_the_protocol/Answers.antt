@@ -1,4 +1,5 @@
 use Rattle.fam_protocol.proofs.Hosts.Events.{invariant_declared, invariant_begun, invariant_stopped, invariant_halted}
+use Rattle.fam_protocol.proofs.Hosts.Clears.{invariant_cleared}
 use Rattle.fam_protocol.proofs.Hosts.Formats.{invariant_formatted}
 use Rattle.fam_protocol.proofs.Hosts.Steps.{invariant_broken, invariant_transferred, invariant_stepped}
 use Rattle.fam_protocol.proofs.run.every_step_keeps_the_protocol.Goals as goal
@@ -13,4 +14,5 @@ returns c = record {
   stop = λ settled lines host old new s invariant stops. invariant_stopped settled lines host old new s invariant stops;
   halt = λ settled lines host old new s s2 invariant stops loses. invariant_halted settled lines host old new s s2 invariant stops loses;
   made = λ p lines maker hosts s s2 are may formats wide. invariant_formatted maker p lines hosts s s2 may formats are wide;
+  cleared = λ p lines maker hosts s s2 are may clears wide. invariant_cleared maker p lines hosts s s2 may clears are wide;
 }
