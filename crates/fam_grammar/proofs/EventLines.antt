@@ -1,8 +1,8 @@
 -- A line that has an event, or none.
-use Rattle.std.proofs.Common.{◌≡◌, ℕ, true, false, List, [], ◌∷◌, None, Ok, ap, refl}
+use Rattle.std.proofs.Common.{◌≡◌, ℕ, List, [], ◌∷◌, None, Ok, ap, refl}
 use Rattle.std.specs.Prelude.{Bool, if◌then◌else◌}
 use Rattle.fam_grammar.specs.Reading.{Reading}
-use Rattle.fam_grammar.specs.Scripts.{AreEvent, AreNoEvent, LineReading, event_or_column, is_comment, line_of_words}
+use Rattle.fam_grammar.specs.Scripts.{AreEvent, AreNoEvent, event_or_column, line_of_words}
 use Rattle.fam_grammar.specs.Words.{Word}
 
 -- no grammar finds an event in it

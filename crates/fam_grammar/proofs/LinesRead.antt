@@ -1,6 +1,5 @@
 -- The events of a script's lines, one behind another, whatever a line reads as.
 use Rattle.std.proofs.Common.{◌≡◌, ℕ, ◌+◌, ◌<◌, ◌≤◌, get_or, arith, length, List, [], ◌∷◌, ◌++◌, drop, Some, None, Result, Ok, Err, refl, ap, sym, ◌∙◌}
-use Rattle.std.specs.List.{slice_split}
 use Rattle.std.specs.Prelude.{count_by}
 use Rattle.std.proofs.lemmas.List.{append-nil, append_assoc, at_drop_more}
 use Rattle.std.proofs.lemmas.List.Splits.{length-slice_split}

@@ -10,7 +10,7 @@ use Rattle.fam_grammar.specs.declared.options.MkfsOptions.{MkfsOptions}
 use Rattle.fam_grammar.specs.declared.options.Takes.{Takes}
 use Rattle.fam_grammar.specs.Numbers.{number_of_text, size_of_text}
 use Rattle.fam_grammar.specs.Reading.{Reading, Reads, Misfit}
-use Rattle.fam_grammar.specs.Spellings.{id_of, mode_of, stripe_of, value_behind}
+use Rattle.fam_grammar.specs.Spellings.{halted_of, id_of, mode_of, stripe_of, value_behind}
 use Rattle.fam_grammar.specs.Words.{Word}
 
 -- a word with this key and a value that is spelled so; or else another word
@@ -79,7 +79,8 @@ unfoldable pub mkfs_option_of : List ℕ → Option MkfsOption
 mkfs_option_of word =
     keyed (value_behind (codes "unit=") word) (λ v. option_map mkfs.Unit (size_of_text v))
     (keyed (value_behind (codes "log=") word) (λ v. option_map mkfs.Log (size_of_text v))
-    (if bytes_eq word (codes "force") then Some mkfs.Force else None))
+    (keyed (value_behind (codes "halt=") word) (λ v. option_map mkfs.Halt (halted_of v))
+    (if bytes_eq word (codes "force") then Some mkfs.Force else None)))
 
 -- an option joins those before it; none is given twice
 abbrev pub with_mkfs_option : MkfsOptions → MkfsOption → Option MkfsOptions

@@ -82,6 +82,10 @@ count_of word = below 4097 (number_of_text word)
 abbrev pub steps_of : List ℕ → Option ℕ
 steps_of word = not_zero (below 1000000001 (number_of_text word))
 
+-- the K of halt=: 1 to 80
+abbrev pub halted_of : List ℕ → Option ℕ
+halted_of word = not_zero (below 81 (number_of_text word))
+
 -- an octal digit
 abbrev pub is_octal : ℕ → Bool
 is_octal byte = nat_le 48 byte && nat_le byte 55

@@ -5,7 +5,7 @@ ghost use Rattle.fam_grammar.specs.Options.{file_option_of, with_file_option, wi
 
 use crate::keywords::is;
 use crate::numbers::{number, size};
-use crate::spellings::{id_of, mode_of, stripe_of, value_behind};
+use crate::spellings::{halted_of, id_of, mode_of, stripe_of, value_behind};
 use fam_base::Stripe;
 
 /// An option of mkdir, creat or cp.
@@ -148,6 +148,9 @@ fn mkfs_option_of(word: &[u8]) -> Option<MkfsOption>
     }
     if let Some(value) = value_behind("log=", word) {
         return size(value).map(MkfsOption::Log);
+    }
+    if let Some(value) = value_behind("halt=", word) {
+        return halted_of(value).map(MkfsOption::Halt);
     }
     if is(word, "force") {
         return Some(MkfsOption::Force);

@@ -3,7 +3,7 @@
 ghost use Rattle.std.specs.Prelude.{◌≡◌, ◌<◌, ◌≤◌, IfOk, IfSome, IsTrue, MatchOption, fold, length, option_map, position, ◌==◌};
 ghost use Rattle.fam_base.specs.Commands.{mode_limit, read_limit};
 ghost use Rattle.fam_base.specs.Escapes.{is_plain};
-ghost use Rattle.fam_grammar.specs.Spellings.{name_of, uuid_of, unescaped, in_prefix, byte_of, with_octal, path_of, file_of, id_of, mask_of, count_of, steps_of, is_octal, mode_of, at_comma, stripe_of, stripe_with, value_behind};
+ghost use Rattle.fam_grammar.specs.Spellings.{name_of, uuid_of, unescaped, in_prefix, byte_of, with_octal, path_of, file_of, id_of, mask_of, count_of, steps_of, halted_of, is_octal, mode_of, at_comma, stripe_of, stripe_with, value_behind};
 ghost use Rattle.uuid.specs.Text.{hex_digit_value, parsed};
 ghost use Rattle.std.specs.List.{list_all};
 
@@ -176,6 +176,17 @@ pub(crate) fn steps_of(word: &[u8]) -> Option<u64>
     match number(word) {
         Some(0) => None,
         Some(n) if n < 1_000_000_001 => Some(n),
+        _ => None,
+    }
+}
+
+/// A number from 1 to 80: after how many operations of a mkfs its maker halts.
+pub(crate) fn halted_of(word: &[u8]) -> Option<u64>
+    ensures { result ≡ halted_of word.now }
+{
+    match number(word) {
+        Some(0) => None,
+        Some(n) if n < 81 => Some(n),
         _ => None,
     }
 }

@@ -5,6 +5,7 @@ pub mod Hosts
 pub mod Views
 pub mod Rows
 pub mod MkfsRows
+pub mod HaltRows
 pub mod Declares
 pub mod TornLines
 pub mod Stepped

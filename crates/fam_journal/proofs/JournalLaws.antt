@@ -26,9 +26,9 @@ begun image is = record {
   kept = record { views = []; held = held_first image is.limit is.normal; uuids = λ k host none. absurd cc };
 }
 
-pub said : (at : TaskAt) → MaySayNext at → Bridged at.past at.host (turn_at at)
+pub said : (at : TaskAt) (says : MaySayNext at) → Bridged at.past says.now at.host (turn_at at)
 said at says =
-    bridged at.past.start at.past.hosts at.host at.told at.is at.kept at.task.cmd at.task.me at.task at.words at.made at.word at.joined at.standing (turn_at at) refl at.was at.me says.hosts says.shared at.past.state says.bad says.stage says.says
+    bridged at.past.start at.past.hosts at.host at.told at.is at.kept at.task.cmd at.task.me at.task at.words at.made at.word at.joined at.standing (turn_at at) refl at.was at.me says.hosts says.shared says.now at.past.state says.bad says.halted says.stage says.says
 
 pub kept_on : (start : Image) (state left : Machines) (old new : WorldView) (call : Call) (notes : List Note) → Held start state old state.memory → IsSoundCall call → Does call state notes left
     → WorldStands (length start) left new → new.journal ≡ old.journal ++ notes → Held start left new left.memory

@@ -1,5 +1,6 @@
 -- What notes settle, and what turns of tasks may say of it.
 pub mod BadStates
+pub mod OverMemory
 pub mod Settles
 pub mod ReplyCases
 pub mod Journals

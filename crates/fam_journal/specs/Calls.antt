@@ -11,7 +11,7 @@ use Rattle.fam_format.specs.Stop.{or_else}
 use Rattle.fam_base.specs.declared.line.LineNo.{LineNo}
 use Rattle.fam_machine.specs.declared.request.MkfsRequest.{MkfsRequest}
 use Rattle.fam_machine.specs.Caches.{dirty_count}
-use Rattle.fam_machine.specs.Operations.{Machine, operated_all}
+use Rattle.fam_machine.specs.Operations.{Machine, machine, operated_all}
 use Rattle.fam_rules.specs.Place.{line_bytes}
 use Rattle.fam_journal.specs.declared.refusal.Refusal.{Refusal}
 use Rattle.fam_journal.specs.declared.refusal.Refusal.TheVariants as why
@@ -20,8 +20,8 @@ use Rattle.fam_machine.specs.Cuts.{Cuts}
 use Rattle.fam_journal.specs.Machines.{HostState, Machines, Operation, machine_of, task_begun, with_kept, with_parts, with_machine, with_memory, with_task}
 use Rattle.fam_journal.specs.Members.{index_of}
 use Rattle.fam_machine.specs.Mkfs as early
-use Rattle.fam_machine.specs.Mkfs.{EarlyRefusal, asked, expected_ops, early_refusal, superblock_found, goes_on, mkfs_ops, read_ops}
-use Rattle.fam_journal.specs.Notes.{Note, Host, Made, Start, Stop, Halt, Umount, Refused}
+use Rattle.fam_machine.specs.Mkfs.{EarlyRefusal, asked, expected_ops, early_refusal, superblock_found, goes_on, halted_ops, mkfs_ops, read_ops}
+use Rattle.fam_journal.specs.Notes.{Note, Host, Made, Cut, Start, Stop, Halt, Umount, Refused}
 use Rattle.fam_journal.specs.RefusalClasses.{RefusalClass, refusal_class, AtOnce, ByHost, ByImage, BySource, ByFault}
 
 -- what the world is asked for, of the host of a name
@@ -220,13 +220,24 @@ OnHost (Some host) P = P host
 abbrev pub AtHost : ℕ → Machines → (HostState → Type 0) → Type 0
 AtHost h m P = OnHost (slice_get m.hosts h) P
 
--- a file system is made, all 81 operations; or a superblock stands there, and 27 are
+-- a file system is made, by all 81 operations
 pub record MakesFileSystem (h : ℕ) (p : Params) (force : Bool) (host : HostState) (old : Machines) (notes : List Note) (new : Machines) : Type 0 where
   pub free : goes_on force (superblock_found p (machine_of old host)) ≡ true
   pub notes_are : notes ≡ Made h p ∷ []
   pub left : new ≡ with_machine h (operated_all (mkfs_ops p) (machine_of old host)) host.task old
 
--- a mkfs that isn't forced meets a superblock, and is refused
+-- the maker halts after so many operations: what these leave in memory stays, and its cache is lost
+pub record HaltsMaking (h : ℕ) (p : Params) (force : Bool) (k : ℕ) (host : HostState) (old : Machines) (notes : List Note) (new : Machines) : Type 0 where
+  pub free : goes_on force (superblock_found p (machine_of old host)) ≡ true
+  pub notes_are : notes ≡ Cut h k ∷ []
+  pub left : new ≡ with_machine h (machine (operated_all (halted_ops k p) (machine_of old host)).image map.empty) host.task old
+
+-- by after how many operations the maker halts. None: it does all
+abbrev pub MakesOrHalts : Option ℕ → ℕ → Params → Bool → HostState → Machines → List Note → Machines → Type 0
+MakesOrHalts None h p force host old notes new = MakesFileSystem h p force host old notes new
+MakesOrHalts (Some k) h p force host old notes new = HaltsMaking h p force k host old notes new
+
+-- a mkfs that isn't forced meets a superblock, and is refused: the 27 operations that read were done
 pub record Meets (h : ℕ) (p : Params) (force : Bool) (name : List ℕ) (host : HostState) (old : Machines) (notes : List Note) (new : Machines) : Type 0 where
   pub unforced : force ≡ false
   pub other : Params
@@ -235,10 +246,10 @@ pub record Meets (h : ℕ) (p : Params) (force : Bool) (name : List ℕ) (host :
   pub left : new ≡ with_machine h (operated_all read_ops (machine_of old host)) host.task old
 
 -- the media failed in one of the operations that are expected
-pub record MakesCut (h : ℕ) (p : Params) (force : Bool) (name : List ℕ) (host : HostState) (old : Machines) (notes : List Note) (new : Machines) : Type 0 where
+pub record MakesCut (h : ℕ) (p : Params) (force : Bool) (halt : Option ℕ) (name : List ℕ) (host : HostState) (old : Machines) (notes : List Note) (new : Machines) : Type 0 where
   pub line : LineNo
   pub left : Machine
-  pub cuts : Cuts (expected_ops force p (machine_of old host)) (machine_of old host) line left
+  pub cuts : Cuts (expected_ops force halt p (machine_of old host)) (machine_of old host) line left
   pub notes_are : notes ≡ Refused name (why.MediaFault line) ∷ []
   pub left_is : new ≡ with_machine h left host.task old
 
@@ -259,7 +270,7 @@ pub record MoveFails (h line : ℕ) (move : Move) (name : List ℕ) (host : Host
 abbrev pub ActsAt : Call → ℕ → HostState → Machines → List Note → Machines → Type 0
 ActsAt (Declares name uuid) h host old notes new = ⊥
 ActsAt (Makes name request) h host old notes new =
-    MakesFileSystem h (asked request host.uuid (length old.memory)) request.force host old notes new ⊎ Meets h (asked request host.uuid (length old.memory)) request.force name host old notes new
+    MakesOrHalts request.halt h (asked request host.uuid (length old.memory)) request.force host old notes new ⊎ Meets h (asked request host.uuid (length old.memory)) request.force name host old notes new
 ActsAt (Begins name cmd) h host old notes new =
     (notes ≡ Start h cmd ∷ []) × (new ≡ with_task h (Some (task_begun host.kept cmd host.uuid)) old)
 ActsAt (Steps name) h host old notes new = Operation h old notes new
@@ -305,7 +316,7 @@ Does call old notes new = ByRefusal (name_of call) (refusal_of call old) notes o
 
 -- making a file system is cut by a media fault: nothing goes on behind it
 abbrev pub CutsAt : Call → ℕ → HostState → Machines → List Note → Machines → Type 0
-CutsAt (Makes name request) h host old notes new = MakesCut h (asked request host.uuid (length old.memory)) request.force name host old notes new
+CutsAt (Makes name request) h host old notes new = MakesCut h (asked request host.uuid (length old.memory)) request.force request.halt name host old notes new
 CutsAt (Declares name uuid) h host old notes new = ⊥
 CutsAt (Begins name cmd) h host old notes new = ⊥
 CutsAt (Steps name) h host old notes new = ⊥

@@ -1,19 +1,17 @@
 -- What a command may answer at last, by the rules: in each state, for each command. A master's append that the decision
 -- doesn't refuse, unless the media fails, answers that it is done.
-use Rattle.std.specs.Prelude.{ℕ, ⊤, ◌≡◌, ◌≢◌, ◌⊎◌, ◌*◌, List, [], ◌∷◌, ◌++◌, length, take, slice_get, Option, Some, None, Err}
+use Rattle.std.specs.Prelude.{ℕ, ⊤, ◌≡◌, ◌≢◌, ◌⊎◌, List, [], ◌∷◌, ◌++◌, take, slice_get, Option, Some, None, Err}
 use Rattle.fam_base.specs.declared.cmd.Cmd.{Cmd}
 use Rattle.fam_base.specs.declared.cmd.Cmd.TheVariants.{Logplay, Mount, Mkdir, Creat, Cp, Verify, Read, Check, Fsck}
 use Rattle.fam_base.specs.declared.entry.Params.{Params}
-use Rattle.fam_base.specs.Image.{Image, line_at}
+use Rattle.fam_base.specs.Image.{Image}
 use Rattle.fam_rules.specs.declared.answers.Refused.{Refused as Cause}
 use Rattle.fam_rules.specs.declared.answers.Refused.TheVariants as cause
 use Rattle.fam_rules.specs.declared.answers.Report.{Report}
 use Rattle.fam_rules.specs.Asks.{File, ask, entries_of}
 use Rattle.fam_rules.specs.Decide.{decide}
-use Rattle.fam_rules.specs.Place.{line_bytes}
 use Rattle.fam_rules.specs.Reply as reply
 use Rattle.fam_rules.specs.Reply.{Reply}
-use Rattle.fam_rules.specs.Reports.{report_of}
 use Rattle.fam_media.specs.Files.{Files}
 use Rattle.fam_journal.specs.declared.event.Event.{Event}
 use Rattle.fam_journal.specs.declared.event.Event.TheVariants as event
@@ -23,9 +21,9 @@ use Rattle.fam_journal.specs.Events.{Session, first_session}
 use Rattle.fam_journal.specs.Follows.{Follows}
 use Rattle.fam_journal.specs.Ends.{IsFaultless}
 use Rattle.fam_journal.specs.Machines.{Machines}
-use Rattle.fam_journal.specs.Legal.{InBounds, IsReportOf, OfHost, damaged_master}
+use Rattle.fam_journal.specs.Legal.{InBounds, IsReportOf, OfHost, damaged_master, damaged_report}
 use Rattle.fam_journal.specs.Notes.{Answer, Replied, MediaFault, Note, Answered, Refused}
-use Rattle.fam_journal.specs.Past.{first_past, Damage, FewLines, NoSuperblock, BadHeader, BadSlot, State, Bad, Sound, HostPast, Past, past_after, with_pending}
+use Rattle.fam_journal.specs.Past.{first_past, Damage, FewLines, NoSuperblock, BadHeader, BadSlot, Origin, State, Bad, Sound, HostPast, Past, past_after, with_pending}
 use Rattle.fam_commands.specs.Classes.{Class, class_of, Replays, Appends, Compares, Reads, Surveys}
 use Rattle.fam_journal.specs.NoteClasses.{NoteClass, note_class, Declared, Formatted, Going, Answering, Refusing}
 use Rattle.fam_commands.specs.ReplyClasses.{ReplyClass, reply_class, Appending, Declining, Showing, Reporting, Faulty}
@@ -85,37 +83,37 @@ IsFaultAnswer (BadHeader fault) given = given ≡ reply.BadHeader fault
 IsFaultAnswer (BadSlot i reason) given = given ≡ reply.BadSlot i reason
 
 -- another host than the one that the superblock names, where it reads
-pub record IsDamagedClient (image : Image) (damage : Damage) (host : HostPast) (given : Reply) : Type 0 where
+pub record IsDamagedClient (origin : Origin) (damage : Damage) (host : HostPast) (given : Reply) : Type 0 where
   pub master : List ℕ
-  pub master_is : damaged_master image damage ≡ Some master
+  pub master_is : damaged_master origin damage ≡ Some master
   pub other : host.uuid ≢ master
   pub is : given ≡ reply.NotAppended (cause.NotMaster host.uuid master)
 
 -- the fault; and whose command appends is the one that the superblock names, where it reads
-pub record IsDamagedMaster (image : Image) (damage : Damage) (host : HostPast) (given : Reply) : Type 0 where
+pub record IsDamagedMaster (origin : Origin) (damage : Damage) (host : HostPast) (given : Reply) : Type 0 where
   pub is : IsFaultAnswer damage given
-  pub own : (master : List ℕ) → damaged_master image damage ≡ Some master → host.uuid ≡ master
+  pub own : (master : List ℕ) → damaged_master origin damage ≡ Some master → host.uuid ≡ master
 
 -- an append answers that its host is a client, just where it is one; and else the fault
-abbrev pub IsDamagedAppend : Image → Damage → HostPast → Reply → Type 0
-IsDamagedAppend image damage host given = IsDamagedMaster image damage host given ⊎ IsDamagedClient image damage host given
+abbrev pub IsDamagedAppend : Origin → Damage → HostPast → Reply → Type 0
+IsDamagedAppend origin damage host given = IsDamagedMaster origin damage host given ⊎ IsDamagedClient origin damage host given
 
 -- a check of the whole file system reports; another command that reads answers the fault, whoever asks; by the class of the command
-abbrev pub IsDamagedAnswerIn : Image → Damage → HostPast → Class → Reply → Type 0
-IsDamagedAnswerIn image damage host Surveys given = given ≡ reply.Reports (report_of (line_at image) (line_bytes * length image))
-IsDamagedAnswerIn image damage host Replays given = IsFaultAnswer damage given
-IsDamagedAnswerIn image damage host Appends given = IsDamagedAppend image damage host given
-IsDamagedAnswerIn image damage host (Compares path against) given = IsFaultAnswer damage given
-IsDamagedAnswerIn image damage host (Reads path offset count) given = IsFaultAnswer damage given
+abbrev pub IsDamagedAnswerIn : Origin → Damage → HostPast → Class → Reply → Type 0
+IsDamagedAnswerIn origin damage host Surveys given = given ≡ reply.Reports (damaged_report origin)
+IsDamagedAnswerIn origin damage host Replays given = IsFaultAnswer damage given
+IsDamagedAnswerIn origin damage host Appends given = IsDamagedAppend origin damage host given
+IsDamagedAnswerIn origin damage host (Compares path against) given = IsFaultAnswer damage given
+IsDamagedAnswerIn origin damage host (Reads path offset count) given = IsFaultAnswer damage given
 
 -- so of a command, by its class
-abbrev pub IsDamagedAnswer : Image → Damage → HostPast → Cmd → Reply → Type 0
-IsDamagedAnswer image damage host cmd given = IsDamagedAnswerIn image damage host (class_of cmd) given
+abbrev pub IsDamagedAnswer : Origin → Damage → HostPast → Cmd → Reply → Type 0
+IsDamagedAnswer origin damage host cmd given = IsDamagedAnswerIn origin damage host (class_of cmd) given
 
 -- an answer of the rules, in a state
 abbrev pub IsRuled : State → HostPast → Cmd → Reply → Type 0
 IsRuled (Sound p history pending) host cmd given = IsSoundAnswer p history pending host cmd given
-IsRuled (Bad image damage gate) host cmd given = IsDamagedAnswer image damage host cmd given
+IsRuled (Bad origin damage gate) host cmd given = IsDamagedAnswer origin damage host cmd given
 
 -- Journals.
 

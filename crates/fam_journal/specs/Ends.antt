@@ -1,6 +1,6 @@
 -- How a run of events ends: one journal and one last state. What is counted of it, what a script puts of it, and what the
 -- image reads as.
-use Rattle.std.specs.Prelude.{ℕ, ◌≡◌, ◌⊎◌, ◌+◌, ◌^◌, ◌-◌, ◌≤◌, min, Bool, true, false, List, [], ◌∷◌, length, count_by, if◌then◌else◌}
+use Rattle.std.specs.Prelude.{ℕ, ◌≡◌, ◌⊎◌, ◌+◌, ◌^◌, ◌-◌, ◌≤◌, min, not, nat_lt, Bool, true, false, List, [], ◌∷◌, length, count_by, if◌then◌else◌}
 use Rattle.std.specs.List.{list_any}
 use Rattle.fam_base.specs.Image.{Image}
 use Rattle.fam_base.specs.declared.entry.Params.{Params}
@@ -10,7 +10,7 @@ use Rattle.fam_format.specs.Reading as read
 use Rattle.fam_media.specs.Files.{Files}
 use Rattle.fam_rules.specs.Asks.{entries_of}
 use Rattle.fam_journal.specs.declared.event.Event.{Event}
-use Rattle.fam_machine.specs.Mkfs.{asked}
+use Rattle.fam_machine.specs.Mkfs.{asked, first_sent}
 use Rattle.fam_machine.specs.MkfsRequest.{mkfs_request}
 use Rattle.fam_journal.specs.declared.event.Event.TheVariants as event
 use Rattle.fam_journal.specs.declared.refusal.Refusal.{Refusal}
@@ -19,8 +19,8 @@ use Rattle.fam_journal.specs.Calls.{AtNumber, Call, number_of}
 use Rattle.fam_journal.specs.Events.{Session}
 use Rattle.fam_journal.specs.Follows.{Follows, FollowsBroken, FollowsCut, FollowsPrefix, FollowsLast, FollowsToSource, SourceEnd}
 use Rattle.fam_journal.specs.Machines.{Machines}
-use Rattle.fam_journal.specs.Notes.{Answer, Replied, MediaFault, Note}
-use Rattle.fam_journal.specs.Past.{State, Bad, Sound, past_of, settled_length, with_pending}
+use Rattle.fam_journal.specs.Notes.{Answer, Replied, MediaFault, Note, Host, Made, Cut, Start, Mark, Found, Writes, Answered, Stop, Halt, Umount, Refused}
+use Rattle.fam_journal.specs.Past.{Origin, Given, Halted, State, Bad, Sound, past_of, settled_length, with_pending}
 use Rattle.fam_journal.specs.NoteClasses.{NoteClass, note_class, Declared, Formatted, Going, Answering, Refusing}
 use Rattle.fam_journal.specs.RefusalClasses.{RefusalClass, refusal_class, AtOnce, ByHost, ByImage, BySource, ByFault}
 
@@ -94,15 +94,25 @@ EventsDone EndsOutOfMemory files events old journal new = FollowsPrefix files ev
 EventsDone EndsOutOfMemoryBroken files events old journal new = FollowsBroken files events old journal new
 EventsDone SinkFails files events old journal new = FollowsLast files events old journal new
 
--- the image reads as what a journal settles; a damaged one is left as it is
+-- a damaged image that was handed in is left as it is; behind a mkfs whose maker halted there is no superblock
+abbrev pub StaysBad : Origin → Image → Type 0
+StaysBad (Given image) after = after ≡ image
+StaysBad Halted after = reading after ≡ read.NoSuperblock (super.NoSuper 0)
+
+-- the image reads as what a journal settles
 abbrev pub ReadsAs : State → Image → Type 0
-ReadsAs (Bad image damage gate) after = after ≡ image
+ReadsAs (Bad origin damage gate) after = StaysBad origin after
 ReadsAs (Sound p history pending) after =
     (reading after ≡ read.Sound p (entries_of history)) ⊎ (reading after ≡ read.Sound p (entries_of (with_pending history pending)))
 
+-- a damaged image reads by its fault
+abbrev pub StillBad : Origin → Image → Type 0
+StillBad (Given image) after = reading after ≡ reading image
+StillBad Halted after = reading after ≡ read.NoSuperblock (super.NoSuper 0)
+
 -- the image reads as before, of a state: a damaged one by its fault; a sound one as its history, or with the pending entry
 abbrev pub StillReads : State → Image → Type 0
-StillReads (Bad image damage gate) after = reading after ≡ reading image
+StillReads (Bad origin damage gate) after = StillBad origin after
 StillReads (Sound p history pending) after = ReadsAs (Sound p history pending) after
 
 -- behind a mkfs with these parameters in which the media failed: the image reads as before; or it has no superblock, since word
@@ -189,6 +199,21 @@ is_made_note_in (Refusing name cause) = false
 -- so of a note, by its class
 abbrev pub is_made_note : Note → Bool
 is_made_note note = is_made_note_in (note_class note)
+
+-- the note ends the history before it: a file system was made, or its maker halted behind its first send
+abbrev pub ends_history : Note → Bool
+ends_history (Host name uuid) = false
+ends_history (Made h p) = true
+ends_history (Cut h k) = not (nat_lt k first_sent)
+ends_history (Start h cmd) = false
+ends_history (Mark h) = false
+ends_history (Found h n) = false
+ends_history (Writes h seq e) = false
+ends_history (Answered h answer) = false
+ends_history (Stop h) = false
+ends_history (Halt h) = false
+ends_history (Umount h) = false
+ends_history (Refused name cause) = false
 
 -- how many answers, refusals and settled entries there are
 pub record Counted : Type 0 where

@@ -5,6 +5,7 @@ use Rattle.std.specs.FinMap as finmap
 use Rattle.fam_base.specs.declared.cmd.Cmd.{Cmd}
 use Rattle.fam_base.specs.declared.cmd.Cmd.TheVariants.{Logplay, Mount, Fsck}
 use Rattle.fam_base.specs.declared.entry.Entry.{Entry}
+use Rattle.fam_base.specs.declared.entry.Params.{Params}
 use Rattle.fam_format.specs.Stop.{or_else}
 use Rattle.fam_commands.specs.declared.phase.Part.TheVariants.{Superblock, Header, Slot, File}
 use Rattle.fam_commands.specs.declared.phase.Phase.{Phase}
@@ -27,7 +28,7 @@ use Rattle.fam_journal.specs.Calls as call
 use Rattle.fam_journal.specs.Calls.{Call, IsOfSource, busy_refusal, cause_of, is_engaged, may_begin, name_of, number_of, on_host, refusal_of}
 use Rattle.fam_journal.specs.Machines.{HostState, Machines, TaskState, task_begun}
 use Rattle.fam_journal.specs.Members.{changed_at, index_of}
-use Rattle.fam_journal.specs.Notes.{Answer, Replied, MediaFault, Note, Host, Made, Start, Mark, Found, Writes, Answered, Stop, Halt, Umount, Refused}
+use Rattle.fam_journal.specs.Notes.{Answer, Replied, MediaFault, Note, Host, Made, Cut, Start, Mark, Found, Writes, Answered, Stop, Halt, Umount, Refused}
 use Rattle.fam_journal.specs.Past.{reported_count}
 use Rattle.fam_journal.specs.View.{HostView, StandsAs, WorldView}
 
@@ -68,6 +69,7 @@ keeps_behind (MediaFault line) keeps = keeps
 abbrev pub forms_after : List HostForm → Note → List HostForm
 forms_after hosts (Host name uuid) = hosts ++ record { name = name; uuid = uuid; task = None; keeps = false } ∷ []
 forms_after hosts (Made h p) = hosts
+forms_after hosts (Cut h k) = hosts
 forms_after hosts (Start h cmd) = changed_at h (λ host. record host { task = Some (record { cmd = cmd; stage = Begun }) }) hosts
 forms_after hosts (Mark h) = changed_at h (with_stage Marked) hosts
 forms_after hosts (Found h n) = changed_at h (with_stage (Met n)) hosts
@@ -167,6 +169,7 @@ EntryForm cmd entry = (w : Wish) × (wish_of cmd ≡ Some w) × IsWished w entry
 abbrev pub TaskNote : ℕ → List ℕ → TaskForm → Note → Type 0
 TaskNote h me t (Host name uuid) = ⊥
 TaskNote h me t (Made host p) = ⊥
+TaskNote h me t (Cut host k) = ⊥
 TaskNote h me t (Start host cmd) = ⊥
 TaskNote h me t (Mark host) = (host ≡ h) × (t.stage ≡ Begun)
 TaskNote h me t (Found host n) = (host ≡ h) × HasWish t.cmd × (t.stage ≡ Marked)
@@ -265,12 +268,17 @@ pub record SuperForm (force : Bool) (name : List ℕ) (notes : List Note) : Type
 abbrev pub FaultForm : List ℕ → List Note → Type 0
 FaultForm name notes = (line : ℕ) × (notes ≡ Refused name (why.MediaFault (record { 0 = line })) ∷ [])
 
+-- what a mkfs notes that goes on, by after how many operations its maker halts
+abbrev pub made_note : Option ℕ → ℕ → Params → Note
+made_note None h p = Made h p
+made_note (Some k) h p = Cut h k
+
 -- what a call adds that isn't refused as the notes tell it, of a declared host: a file system is made of just what was asked
--- for
+-- for, or its maker halts
 abbrev pub ActsForm : Call → ℕ → HostForm → ℕ → List HostForm → List Note → Type 0
 ActsForm (call.Declares name uuid) h host lines hosts notes = ⊥
 ActsForm (call.Makes name request) h host lines hosts notes =
-    (notes ≡ Made h (asked request host.uuid lines) ∷ []) ⊎ SuperForm request.force name notes
+    (notes ≡ made_note request.halt h (asked request host.uuid lines) ∷ []) ⊎ SuperForm request.force name notes
 ActsForm (call.Begins name cmd) h host lines hosts notes = notes ≡ Start h cmd ∷ []
 ActsForm (call.Steps name) h host lines hosts notes = OperationsForm h hosts notes × (length notes ≤ 1)
 ActsForm (call.Finishes name) h host lines hosts notes = CompletesForm h hosts notes

@@ -1,6 +1,7 @@
 -- What a world keeps: it stands for a state of the machine, its journal is legal, and what the protocol keeps holds.
-use Rattle.std.specs.Prelude.{ℕ, ⊤, ◌≡◌, ◌*◌, ◌≤◌, List, length, map, slice_get, Option, Some, None}
+use Rattle.std.specs.Prelude.{ℕ, ⊤, ◌≡◌, ◌*◌, ◌≤◌, List, length, map, slice_get, slice_index, Option, Some, None}
 use Rattle.fam_base.specs.Image.{Image, eight, line_at}
+use Rattle.fam_format.specs.declared.faults.SuperFault.TheVariants as super
 use Rattle.fam_format.specs.Layout.{device_limit}
 use Rattle.fam_format.specs.Reading.{Lines}
 use Rattle.fam_machine.specs.declared.cell.Cell.{Cell}
@@ -16,7 +17,7 @@ use Rattle.fam_format.specs.Params.{IsUuid}
 use Rattle.fam_journal.specs.Legal.{Legal}
 use Rattle.fam_journal.specs.Machines.{HostState, Machines}
 use Rattle.fam_journal.specs.Notes.{Note}
-use Rattle.fam_journal.specs.Past.{Damage, FewLines, NoSuperblock, BadHeader, BadSlot, State, Bad, Sound, HostPast, past_of, with_pending}
+use Rattle.fam_journal.specs.Past.{Damage, FewLines, NoSuperblock, BadHeader, BadSlot, Origin, Given, Halted, State, Bad, Sound, HostPast, past_of, with_pending}
 use Rattle.fam_journal.specs.View.{HostView, WorldView, HostStandsAt, WorldStands}
 
 -- The world and its journal agree.
@@ -52,10 +53,31 @@ settled_bad image (NoSuperblock fault) = Damaged image
 settled_bad image (BadHeader fault) = Damaged image
 settled_bad image (BadSlot i reason) = Damaged image
 
--- what the protocol has settled, as a journal's state tells it
-abbrev pub settled_of : State → Settled
-settled_of (Bad image damage gate) = settled_bad (line_at image) damage
-settled_of (Sound p history pending) = Known p (with_pending history pending) (length history)
+-- the lines of a damaged image: those that were handed in; or behind a mkfs whose maker halted memory's own, which nobody
+-- changes while it is damaged
+abbrev pub origin_lines : Origin → Lines → Lines
+origin_lines (Given image) now = line_at image
+origin_lines Halted now = now
+
+-- what the protocol has settled, as a journal's state tells it, over a memory of these lines
+abbrev pub settled_of : State → Lines → Settled
+settled_of (Bad origin damage gate) now = settled_bad (origin_lines origin now) damage
+settled_of (Sound p history pending) now = Known p (with_pending history pending) (length history)
+
+-- there is no superblock, since word 0 of line 0 is zero
+pub record IsCleared (damage : Damage) (now : Lines) : Type 0 where
+  pub damage_is : damage ≡ NoSuperblock (super.NoSuper 0)
+  pub word : slice_index (now 0) 0 ≡ 0
+
+-- so it is of damage that comes from a mkfs whose maker halted
+abbrev pub IsClearedFrom : Origin → Damage → Lines → Type 0
+IsClearedFrom (Given image) damage now = ⊤
+IsClearedFrom Halted damage now = IsCleared damage now
+
+-- so it is in a state
+abbrev pub IfHalted : State → Lines → Type 0
+IfHalted (Bad origin damage gate) now = IsClearedFrom origin damage now
+IfHalted (Sound p history pending) now = ⊤
 
 -- a task as a run of the protocol: with the floor that the journal tells, and the entry that it named
 abbrev pub run_of : Task → HostPast → Run
@@ -98,8 +120,8 @@ shared_of image views = record { memory = line_at image; copy = λ h l. copy_at 
 
 -- What is kept, from the image that was handed in.
 
--- tasks stand for those of the state, whose memory is the image; the journal agrees with them and is legal; and what the
--- protocol keeps holds of them
+-- tasks stand for those of the state, whose memory is the image; the journal agrees with them and is legal; where a mkfs's maker
+-- halted there is no superblock; and what the protocol keeps holds of them
 pub record Agrees (start : Image) (state : Machines) (world : WorldView) (image : Image) : Type 0 where
   pub memory : state.memory ≡ image
   pub lines : length image ≡ length start
@@ -109,7 +131,8 @@ pub record Agrees (start : Image) (state : Machines) (world : WorldView) (image 
   pub stands : (h : ℕ) → HostStandsAt (length start) (slice_get state.hosts h) (slice_get world.hosts h)
   pub told : (h : ℕ) → ToldAt (slice_get world.hosts h) (slice_get (past_of start world.journal).hosts h)
   pub legal : Legal start world.journal
-  pub invariant : Invariant (settled_of (past_of start world.journal).state) (length start) (hosts_of world.hosts (past_of start world.journal).hosts) (shared_of image world.hosts)
+  pub halted : IfHalted (past_of start world.journal).state (line_at image)
+  pub invariant : Invariant (settled_of (past_of start world.journal).state (line_at image)) (length start) (hosts_of world.hosts (past_of start world.journal).hosts) (shared_of image world.hosts)
 
 -- of some tasks: those that stand for the state's
 pub record Reached (start : Image) (state : Machines) (journal : List Note) : Type 0 where

@@ -12,32 +12,33 @@ use Rattle.fam_commands.specs.Turns.{Turn}
 use Rattle.fam_protocol.specs.SharedState.{SharedState}
 use Rattle.fam_protocol.specs.Steps.{TurnSays}
 use Rattle.fam_protocol.specs.Invariant.{Hosts, InvariantBy}
-use Rattle.fam_journal.specs.Kept.{TaskTold, run_of, settled_of}
+use Rattle.fam_journal.specs.Kept.{IfHalted, TaskTold, run_of, settled_of}
 use Rattle.fam_format.specs.Layout.{device_limit}
 use Rattle.fam_format.specs.Params.{IsUuid}
+use Rattle.fam_format.specs.Reading.{Lines}
 use Rattle.fam_rules.specs.Place.{line_bytes}
 use Rattle.fam_journal.specs.declared.event.Event.{Event}
 use Rattle.fam_journal.specs.declared.event.Event.TheVariants as event
-use Rattle.fam_journal.specs.Ends.{Ending, EventsDone, ReadsAfter, is_made_note}
+use Rattle.fam_journal.specs.Ends.{Ending, EventsDone, ReadsAfter, ends_history}
 use Rattle.fam_rules.specs.Asks.{File}
 use Rattle.fam_rules.specs.Reply.{Reply}
 use Rattle.fam_journal.specs.Legal.{Legal}
 use Rattle.fam_journal.specs.Notes.{Note, Answered, Replied}
-use Rattle.fam_journal.specs.Past.{Damage, HostPast, Past, State, Bad, Sound, count_of, first_state, past_of, with_pending}
+use Rattle.fam_journal.specs.Past.{Damage, Given, HostPast, Past, State, Bad, Sound, count_of, first_state, past_of, with_pending}
 
 -- the entries that an answer may be of: the history, and the pending entry behind it
 abbrev pub entries_at : State → List File
-entries_at (Bad image damage gate) = []
+entries_at (Bad origin damage gate) = []
 entries_at (Sound p history pending) = with_pending history pending
 
--- no file system is made
-abbrev pub NoneMade : List Note → Type 0
-NoneMade [] = ⊤
-NoneMade (note ∷ notes) = (is_made_note note ≡ false) × NoneMade notes
+-- no note ends the history before it
+abbrev pub NoneEnds : List Note → Type 0
+NoneEnds [] = ⊤
+NoneEnds (note ∷ notes) = (ends_history note ≡ false) × NoneEnds notes
 
 -- the entries that are settled
 abbrev pub history_at : State → List File
-history_at (Bad image damage gate) = []
+history_at (Bad origin damage gate) = []
 history_at (Sound p history pending) = history
 
 -- the one stands in front of the other
@@ -47,10 +48,10 @@ pub record IsPrefix (first all : List File) : Type 0 where
 
 -- nothing is pending, and so many entries are settled
 abbrev pub IsFree : ℕ → State → Type 0
-IsFree seq (Bad image damage gate) = ⊥
+IsFree seq (Bad origin damage gate) = ⊥
 IsFree seq (Sound p history pending) = (pending ≡ None) × (seq ≡ length history)
 
--- two answers of entries in one legal journal, with no file system made between them
+-- two answers of entries in one legal journal, with no note between them that ends a history
 pub record TwoAnswers (start : Image) : Type 0 where
   pub before : List Note
   pub between : List Note
@@ -59,7 +60,7 @@ pub record TwoAnswers (start : Image) : Type 0 where
   pub first : Reply
   pub second : Reply
   pub legal : Legal start (before ++ (Answered first_host (Replied first) ∷ (between ++ Answered second_host (Replied second) ∷ [])))
-  pub none : NoneMade between
+  pub none : NoneEnds between
   pub m : ℕ
   pub n : ℕ
   pub first_count : count_of first ≡ Some m
@@ -134,15 +135,17 @@ pub record TaskAt : Type 0 where
 abbrev pub turn_at : TaskAt → Turn
 turn_at at = turn_given at.task at.word
 
--- a bad state is what its own image reads as, which has so many lines
+-- a damaged state of an image that was handed in is what that reads as, and it has so many lines
 pub record IsOwn (lines : ℕ) (image : Image) (damage : Damage) (gate : ℕ) : Type 0 where
-  pub reads : first_state image ≡ Bad image damage gate
+  pub reads : first_state image ≡ Bad (Given image) damage gate
   pub lines_are : length image ≡ lines
 
--- the protocol lets it say so, while what it keeps holds
+-- the protocol lets it say so, while what it keeps holds of a memory of these lines
 pub record MaySayNext (at : TaskAt) : Type 0 where
+  pub now : Lines
   pub hosts : Hosts
   pub shared : SharedState
-  pub bad : (image : Image) (damage : Damage) (gate : ℕ) → at.past.state ≡ Bad image damage gate → IsOwn (length at.past.start) image damage gate
-  pub stage : InvariantBy (settled_of at.past.state) (length at.past.start) hosts shared
-  pub says : TurnSays (turn_at at) (run_of at.task at.told) (settled_of at.past.state) (length at.past.start) hosts
+  pub bad : (image : Image) (damage : Damage) (gate : ℕ) → at.past.state ≡ Bad (Given image) damage gate → IsOwn (length at.past.start) image damage gate
+  pub halted : IfHalted at.past.state now
+  pub stage : InvariantBy (settled_of at.past.state now) (length at.past.start) hosts shared
+  pub says : TurnSays (turn_at at) (run_of at.task at.told) (settled_of at.past.state now) (length at.past.start) hosts

@@ -8,7 +8,9 @@ use Rattle.fam_format.specs.declared.faults.SuperFault.{SuperFault}
 use Rattle.fam_format.specs.Reading.{super_in}
 use Rattle.fam_rules.specs.declared.answers.Refused.{Refused as Cause}
 use Rattle.fam_rules.specs.declared.answers.Refused.TheVariants as cause
+use Rattle.fam_rules.specs.declared.answers.LogState.TheVariants as log
 use Rattle.fam_rules.specs.declared.answers.Report.{Report}
+use Rattle.fam_rules.specs.declared.answers.SuperState.TheVariants as superblock
 use Rattle.fam_rules.specs.Asks.{File, ask, entries_of}
 use Rattle.fam_rules.specs.Decide.{decide}
 use Rattle.fam_rules.specs.Place.{line_bytes}
@@ -16,8 +18,8 @@ use Rattle.fam_rules.specs.Reply as reply
 use Rattle.fam_rules.specs.Reply.{Reply}
 use Rattle.fam_rules.specs.ReportLaws.{IsSoundReport}
 use Rattle.fam_rules.specs.Reports.{report_of}
-use Rattle.fam_journal.specs.Notes.{Answer, Replied, MediaFault, Note, Host, Made, Start, Mark, Found, Writes, Answered, Stop, Halt, Umount, Refused}
-use Rattle.fam_journal.specs.Past.{Damage, FewLines, NoSuperblock, BadHeader, BadSlot, State, Bad, Sound, HostPast, Past, acknowledges, first_past, past_after, with_pending}
+use Rattle.fam_journal.specs.Notes.{Answer, Replied, MediaFault, Note, Host, Made, Cut, Start, Mark, Found, Writes, Answered, Stop, Halt, Umount, Refused}
+use Rattle.fam_journal.specs.Past.{Damage, FewLines, NoSuperblock, BadHeader, BadSlot, Origin, Given, Halted, State, Bad, Sound, HostPast, Past, acknowledges, first_past, past_after, with_pending}
 
 -- The master's notes.
 
@@ -37,7 +39,7 @@ FoundBad n (BadSlot i reason) gate = n ≡ gate
 -- a master may find so many entries
 abbrev pub FoundAllowed : ℕ → State → Type 0
 FoundAllowed n (Sound p history pending) = FoundPending n (length history) pending
-FoundAllowed n (Bad image damage gate) = FoundBad n damage gate
+FoundAllowed n (Bad origin damage gate) = FoundBad n damage gate
 
 -- what a command that appends is decided to give on the history, with nothing pending
 pub record IsDecided (p : Params) (host : HostPast) (history : List File) (pending : Option File) (decision : Result Entry Cause) : Type 0 where
@@ -49,12 +51,12 @@ pub record IsDecided (p : Params) (host : HostPast) (history : List File) (pendi
 -- the rules decide so of the host's command, by the entries before it
 abbrev pub DecideAllowed : HostPast → Result Entry Cause → State → Type 0
 DecideAllowed host decision (Sound p history pending) = IsDecided p host history pending decision
-DecideAllowed host decision (Bad image damage gate) = ⊥
+DecideAllowed host decision (Bad origin damage gate) = ⊥
 
 -- the entry that the rules decide on, numbered by what is settled
 abbrev pub WritesAllowed : ℕ → Entry → HostPast → State → Type 0
 WritesAllowed seq e host (Sound p history pending) = (seq ≡ length history) × IsDecided p host history pending (Ok e)
-WritesAllowed seq e host (Bad image damage gate) = ⊥
+WritesAllowed seq e host (Bad origin damage gate) = ⊥
 
 -- Answers of a command that appends.
 
@@ -68,24 +70,29 @@ pub record IsAcknowledged (seq : ℕ) (host : HostPast) (history : List File) : 
 -- entry seq may be acknowledged: it is the host's own
 abbrev pub AppendedAllowed : ℕ → HostPast → State → Type 0
 AppendedAllowed seq host (Sound p history pending) = IsAcknowledged seq host history
-AppendedAllowed seq host (Bad image damage gate) = ⊥
+AppendedAllowed seq host (Bad origin damage gate) = ⊥
 
 -- the master that a superblock names
 abbrev pub master_read : Result Params SuperFault → Option (List ℕ)
 master_read (Ok p) = Some p.master
 master_read (Err fault) = None
 
--- the UUID of the host that may append to a damaged image, where its superblock reads
-abbrev pub damaged_master : Image → Damage → Option (List ℕ)
-damaged_master image (FewLines lines) = None
-damaged_master image (NoSuperblock fault) = None
-damaged_master image (BadHeader fault) = master_read (super_in (line_at image) (line_bytes * length image))
-damaged_master image (BadSlot i reason) = master_read (super_in (line_at image) (line_bytes * length image))
+-- the UUID of the host that may append to a damaged image that was handed in, where its superblock reads
+abbrev pub given_master : Image → Damage → Option (List ℕ)
+given_master image (FewLines lines) = None
+given_master image (NoSuperblock fault) = None
+given_master image (BadHeader fault) = master_read (super_in (line_at image) (line_bytes * length image))
+given_master image (BadSlot i reason) = master_read (super_in (line_at image) (line_bytes * length image))
+
+-- the UUID of the host that may append to a damaged image: behind a mkfs whose maker halted there is no superblock
+abbrev pub damaged_master : Origin → Damage → Option (List ℕ)
+damaged_master (Given image) damage = given_master image damage
+damaged_master Halted damage = None
 
 -- the UUID of the host that may append, where there is one
 abbrev pub master_of : State → Option (List ℕ)
 master_of (Sound p history pending) = Some p.master
-master_of (Bad image damage gate) = damaged_master image damage
+master_of (Bad origin damage gate) = damaged_master origin damage
 
 -- the host isn't the one that the superblock names
 pub record IsOther (me master : List ℕ) (host : HostPast) (state : State) : Type 0 where
@@ -122,7 +129,7 @@ pub record IsAskedOf (host : HostPast) (m : ℕ) (all : List File) (given : Repl
 -- a command that reads may reply so of the first m entries
 abbrev pub AskAllowed : ℕ → Reply → HostPast → State → Type 0
 AskAllowed m given host (Sound p history pending) = IsAskedOf host m (with_pending history pending) given
-AskAllowed m given host (Bad image damage gate) = ⊥
+AskAllowed m given host (Bad origin damage gate) = ⊥
 
 -- the report of a sound file system of the first m entries
 pub record IsReportOf (p : Params) (host : HostPast) (all : List File) (report : Report) : Type 0 where
@@ -130,10 +137,29 @@ pub record IsReportOf (p : Params) (host : HostPast) (all : List File) (report :
   pub bounds : InBounds host m all
   pub is : IsSoundReport p (entries_of (take m all)) report
 
--- a report may say so: of the settled entries, or of the damaged image as it reads
+-- the report of an image without a superblock, since word 0 of line 0 is zero: nothing more is looked at
+abbrev pub cleared_report : Report
+cleared_report = record {
+  superblock = superblock.NoSuper 0;
+  log = log.Unread;
+  files = 0;
+  directories = 0;
+  used = 0;
+  free = 0;
+  overlap = None;
+  bad = None;
+  past = 0;
+}
+
+-- the report of a damaged image: of the one that was handed in, as it reads; or behind a mkfs whose maker halted
+abbrev pub damaged_report : Origin → Report
+damaged_report (Given image) = report_of (line_at image) (line_bytes * length image)
+damaged_report Halted = cleared_report
+
+-- a report may say so: of the settled entries, or of the damaged image
 abbrev pub ReportAllowed : Report → HostPast → State → Type 0
 ReportAllowed report host (Sound p history pending) = IsReportOf p host (with_pending history pending) report
-ReportAllowed report host (Bad image damage gate) = report ≡ report_of (line_at image) (line_bytes * length image)
+ReportAllowed report host (Bad origin damage gate) = report ≡ damaged_report origin
 
 -- a fault is the image's own
 abbrev pub DamageAllowed : Damage → State → Type 0
@@ -174,6 +200,7 @@ OfHost (Some host) P = P host
 abbrev pub Allowed : Past → Note → Type 0
 Allowed past (Host name uuid) = ⊤
 Allowed past (Made h p) = ⊤
+Allowed past (Cut h k) = ⊤
 Allowed past (Start h cmd) = ⊤
 Allowed past (Mark h) = ⊤
 Allowed past (Found h n) = FoundAllowed n past.state

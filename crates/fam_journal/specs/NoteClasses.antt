@@ -3,7 +3,7 @@
 use Rattle.std.specs.Prelude.{ℕ, List}
 use Rattle.fam_base.specs.declared.entry.Params.{Params}
 use Rattle.fam_journal.specs.declared.refusal.Refusal.{Refusal}
-use Rattle.fam_journal.specs.Notes.{Note, Answer, Host, Made, Start, Mark, Found, Writes, Answered, Stop, Halt, Umount, Refused}
+use Rattle.fam_journal.specs.Notes.{Note, Answer, Host, Made, Cut, Start, Mark, Found, Writes, Answered, Stop, Halt, Umount, Refused}
 
 -- what a note tells
 pub data NoteClass : Type 0 where
@@ -11,7 +11,7 @@ pub data NoteClass : Type 0 where
   Declared : (name uuid : List ℕ) → NoteClass
   -- there is a new file system
   Formatted : (host : ℕ) (params : Params) → NoteClass
-  -- a host's command begins, goes on or is given up, or the host forgets what it kept
+  -- a host's command begins, goes on or is given up, the host forgets what it kept, or it halts in making a file system
   Going : (host : ℕ) → NoteClass
   -- a host's command ended with an answer
   Answering : (host : ℕ) (answer : Answer) → NoteClass
@@ -22,6 +22,7 @@ pub data NoteClass : Type 0 where
 abbrev pub note_class : Note → NoteClass
 note_class (Host name uuid) = Declared name uuid
 note_class (Made host params) = Formatted host params
+note_class (Cut host k) = Going host
 note_class (Start host cmd) = Going host
 note_class (Mark host) = Going host
 note_class (Found host n) = Going host

@@ -17,6 +17,9 @@ pub data Note : Type 0 where
   Host : (name uuid : List ℕ) → Note
   -- a host made a file system
   Made : (host : ℕ) (params : Params) → Note
+  -- a host halted in making a file system, after so many of its operations, and its cache was lost: after 80 where the number
+  -- is greater, and never before the 27 that read
+  Cut : (host k : ℕ) → Note
   -- a host begins a command
   Start : (host : ℕ) (cmd : Cmd) → Note
   -- its task dropped the gate's line: all that was settled by now will be read

@@ -6,9 +6,11 @@ use Rattle.fam_base.specs.Image.{Image, line_at}
 use Rattle.fam_format.specs.declared.faults.LogFault.{LogFault}
 use Rattle.fam_format.specs.declared.faults.Reason.{Reason}
 use Rattle.fam_format.specs.declared.faults.SuperFault.{SuperFault}
+use Rattle.fam_format.specs.declared.faults.SuperFault.TheVariants as super
 use Rattle.fam_format.specs.Layout.{least_lines}
 use Rattle.fam_format.specs.Reading as read
 use Rattle.fam_format.specs.Reading.{Reading, gate_in, reading}
+use Rattle.fam_machine.specs.Mkfs.{first_sent}
 use Rattle.fam_rules.specs.declared.answers.LogState.{LogState}
 use Rattle.fam_rules.specs.declared.answers.LogState.TheVariants as log
 use Rattle.fam_rules.specs.Solo.{content_of, held_file}
@@ -17,7 +19,7 @@ use Rattle.fam_rules.specs.Content.{fill}
 use Rattle.fam_rules.specs.Reply.{Reply}
 use Rattle.fam_protocol.specs.After.{Named}
 use Rattle.fam_journal.specs.Members.{changed_at}
-use Rattle.fam_journal.specs.Notes.{Answer, Replied, MediaFault, Note, Host, Made, Start, Mark, Found, Writes, Answered, Stop, Halt, Umount, Refused}
+use Rattle.fam_journal.specs.Notes.{Answer, Replied, MediaFault, Note, Host, Made, Cut, Start, Mark, Found, Writes, Answered, Stop, Halt, Umount, Refused}
 use Rattle.fam_commands.specs.ReplyClasses.{ReplyClass, reply_class, Appending, Declining, Showing, Reporting, Faulty}
 
 -- The settled state.
@@ -31,24 +33,29 @@ pub data Damage : Type 0 where
   BadHeader : (fault : LogFault) → Damage
   BadSlot : (i : ℕ) (reason : Reason) → Damage
 
--- the image that is damaged, how, and what its gate says; or parameters, the entries that are settled with their bytes, and
--- one more of which no note has said yet whether it is. No note makes a damaged state, so its image is
--- the one that was handed in
+-- where a damaged state comes from: the image that was handed in; or a mkfs whose maker halted behind its first send, whatever
+-- else that left
+pub data Origin : Type 0 where
+  Given : (image : Image) → Origin
+  Halted : Origin
+
+-- where the damage comes from, what it is, and what the image's gate says; or parameters, the entries that are settled with
+-- their bytes, and one more of which no note has said yet whether it is. No note but `Cut` makes a damaged state
 pub data State : Type 0 where
-  Bad : (image : Image) (damage : Damage) (gate : ℕ) → State
+  Bad : (origin : Origin) (damage : Damage) (gate : ℕ) → State
   Sound : (params : Params) (history : List File) (pending : Option File) → State
 
 -- by what an image says
 abbrev pub state_read : Image → Reading → State
-state_read image (read.NoSuperblock fault) = Bad image (NoSuperblock fault) (gate_in (line_at image))
-state_read image (read.BadHeader fault) = Bad image (BadHeader fault) (gate_in (line_at image))
-state_read image (read.BadSlot i reason) = Bad image (BadSlot i reason) (gate_in (line_at image))
+state_read image (read.NoSuperblock fault) = Bad (Given image) (NoSuperblock fault) (gate_in (line_at image))
+state_read image (read.BadHeader fault) = Bad (Given image) (BadHeader fault) (gate_in (line_at image))
+state_read image (read.BadSlot i reason) = Bad (Given image) (BadSlot i reason) (gate_in (line_at image))
 state_read image (read.Sound p entries) = Sound p (map (held_file (line_at image)) entries) None
 
 -- before the first note
 abbrev pub first_state : Image → State
 first_state image =
-    if nat_lt (length image) least_lines then Bad image (FewLines (length image)) 0 else state_read image (reading image)
+    if nat_lt (length image) least_lines then Bad (Given image) (FewLines (length image)) 0 else state_read image (reading image)
 
 -- the history, and the pending entry behind it
 abbrev pub with_pending : List File → Option File → List File
@@ -57,27 +64,27 @@ with_pending history (Some f) = history ++ f ∷ []
 
 -- the history's length
 abbrev pub settled_length : State → ℕ
-settled_length (Bad image damage gate) = 0
+settled_length (Bad origin damage gate) = 0
 settled_length (Sound p history pending) = length history
 
 -- an entry is named, with the bytes of its command
 abbrev pub pends : File → State → State
-pends f (Bad image damage gate) = Bad image damage gate
+pends f (Bad origin damage gate) = Bad origin damage gate
 pends f (Sound p history pending) = Sound p history (Some f)
 
 -- the first m entries were shown: the pending one joins the history where it is one of them
 abbrev pub shows : ℕ → State → State
-shows m (Bad image damage gate) = Bad image damage gate
+shows m (Bad origin damage gate) = Bad origin damage gate
 shows m (Sound p history pending) = if m == length history + 1 then Sound p (with_pending history pending) None else Sound p history pending
 
 -- the master found n entries: the pending one is dropped where it isn't one of them, and else joins the history
 abbrev pub finds : ℕ → State → State
-finds n (Bad image damage gate) = Bad image damage gate
+finds n (Bad origin damage gate) = Bad origin damage gate
 finds n (Sound p history pending) = if n == length history then Sound p history None else shows n (Sound p history pending)
 
 -- entry seq is acknowledged: the pending one joins the history where it is this one
 abbrev pub acknowledges : ℕ → State → State
-acknowledges seq (Bad image damage gate) = Bad image damage gate
+acknowledges seq (Bad origin damage gate) = Bad origin damage gate
 acknowledges seq (Sound p history pending) = if seq == length history then Sound p (with_pending history pending) None else Sound p history pending
 
 -- how many entries a report is of, where its log is sound
@@ -120,6 +127,11 @@ abbrev pub ended : Answer → State → State
 ended (Replied given) state = replied given state
 ended (MediaFault line) state = state
 
+-- the maker of a file system halted after so many operations: from its first send on there is no superblock, since word 0 of
+-- line 0 is zero, and before it all is as it was
+abbrev pub halted : ℕ → State → State
+halted k state = if nat_lt k first_sent then state else Bad Halted (NoSuperblock (super.NoSuper 0)) 0
+
 -- What is known of each host.
 
 -- its name and UUID, its last command, how much was settled at that command's mark, and what it named
@@ -150,6 +162,7 @@ cmd_of (Some host) = host.cmd
 abbrev pub state_after : Past → Note → State
 state_after past (Host name uuid) = past.state
 state_after past (Made h p) = Sound p [] None
+state_after past (Cut h k) = halted k past.state
 state_after past (Start h cmd) = past.state
 state_after past (Mark h) = past.state
 state_after past (Found h n) = finds n past.state
@@ -168,6 +181,7 @@ new_host name uuid = record { name = name; uuid = uuid; cmd = None; floor = None
 abbrev pub hosts_after : Past → Note → List HostPast
 hosts_after past (Host name uuid) = past.hosts ++ new_host name uuid ∷ []
 hosts_after past (Made h p) = past.hosts
+hosts_after past (Cut h k) = past.hosts
 hosts_after past (Start h cmd) = changed_at h (λ x. record x { cmd = Some cmd; floor = None; wrote = None }) past.hosts
 hosts_after past (Mark h) = changed_at h (λ x. record x { floor = Some (settled_length past.state) }) past.hosts
 hosts_after past (Found h n) = past.hosts

@@ -16,11 +16,11 @@ ghost use Rattle.fam_journal.specs.Forms.{AreFormed, BreaksForm, DoesForm, HostF
 ghost use Rattle.fam_journal.specs.View.{HostView, WorldStands, WorldView, empty_world};
 ghost use Rattle.fam_journal.specs.Kept.{Held, Reached, settled_of};
 ghost use Rattle.fam_journal.specs.ByWorld.{number_in, refusal_in, IsRow, TakesNoMedia, world_after};
-ghost use Rattle.fam_journal.specs.Laws.{AreSame, AreSound, IsFree, IsPrefix, NoneMade, MaySayNext, IsImage, IsSettled, TaskAt, TwoAnswers, first_entries, history_at, second_entries, turn_at};
+ghost use Rattle.fam_journal.specs.Laws.{AreSame, AreSound, IsFree, IsPrefix, NoneEnds, MaySayNext, IsImage, IsSettled, TaskAt, TwoAnswers, first_entries, history_at, second_entries, turn_at};
 ghost use Rattle.fam_journal.specs.Legal.{Legal, LegalBehind};
 ghost use Rattle.fam_journal.specs.Machines.{Machines, notes_of, unused};
 ghost use Rattle.fam_journal.specs.Notes.{Note, Writes};
-ghost use Rattle.fam_journal.specs.Past.{Bad, Damage, first_past, past_behind, past_of};
+ghost use Rattle.fam_journal.specs.Past.{Bad, Damage, Given, first_past, past_behind, past_of};
 ghost use Rattle.fam_journal.specs.declared.event.Ask.{Ask};
 ghost use Rattle.fam_journal.specs.declared.event.Event.{Event};
 ghost use Rattle.fam_journal.specs.Members.{changed_at};
@@ -38,15 +38,15 @@ pub fn a_new_world_is_held()
 /// what the journal settles (`settles`): for every turn, on sound and on damaged images.
 pub fn what_a_task_says_is_legal()
     ensures legal { (at : TaskAt) → MaySayNext at → LegalBehind at.past (notes_of at.host (note_of (turn_at at))) }
-    ensures settles { (at : TaskAt) → MaySayNext at
-        → settled_of (past_behind at.past (notes_of at.host (note_of (turn_at at)))).state
-        ≡ turn_settles (turn_at at) (settled_of at.past.state) }
+    ensures settles { (at : TaskAt) → (says : MaySayNext at)
+        → settled_of (past_behind at.past (notes_of at.host (note_of (turn_at at)))).state says.now
+        ≡ turn_settles (turn_at at) (settled_of at.past.state says.now) }
 {}
 
 /// Whatever a call of the world does, as its row has it, a world that was held is held again once it stands for the
 /// state behind the row and has the row's notes: with stops, halts, umounts, media faults and steps of other hosts at any
-/// moment. Every call is one of these: a host is declared; a file system is made, or a superblock stands there; a
-/// command begins, does an operation, or runs to its answer; it is stopped or halted; what a host keeps is forgotten; a
+/// moment. Every call is one of these: a host is declared; a file system is made, or its maker halts, or a superblock
+/// stands there; a command begins, does an operation, or runs to its answer; it is stopped or halted; what a host keeps is forgotten; a
 /// cache moves, or the media fails in it; something is refused.
 pub fn a_row_keeps_what_is_held()
     ensures held { (start : Image) (state left : Machines) (old new : WorldView) (call : Call) (notes : List Note)
@@ -71,12 +71,12 @@ pub fn a_row_keeps_what_is_held()
 {}
 
 /// While a world is held, the image reads as what its journal settles (`reads`). The image of a journal's damaged state
-/// is the one that was handed in, so a damaged image is left as it was (`bad`).
+/// is the one that was handed in, so a damaged image is left as it was (`bad`), until a mkfs's maker halts.
 pub fn a_held_image_reads_as_its_journal()
     ensures reads { (start : Image) (state : Machines) (world : WorldView) (image : Image)
         → Held start state world image → ReadsAs (past_of start world.journal).state image }
     ensures bad { (start image : Image) (damage : Damage) (gate : ℕ) (journal : List Note)
-        → (past_of start journal).state ≡ Bad image damage gate → image ≡ start }
+        → (past_of start journal).state ≡ Bad (Given image) damage gate → image ≡ start }
 {}
 
 /// However the run of a script's events ends, its journal is legal. The image that is left reads as what the journal
@@ -88,7 +88,7 @@ pub fn a_run_is_settled()
         → IsSettled ending start files events journal last done }
 {}
 
-/// Of two answers with no file system made between them, the one of fewer entries has those that stand first in the
+/// Of two answers with no file system made between them, nor a maker halted behind its first send, the one of fewer entries has those that stand first in the
 /// other one's, whichever came first.
 pub fn the_history_only_grows()
     ensures more { (start : Image) (two : TwoAnswers start) → two.m ≤ two.n
@@ -98,11 +98,12 @@ pub fn the_history_only_grows()
 {}
 
 /// At most one entry is pending: one is written only where nothing is, and it is numbered by what is settled
-/// (`writes`). What a journal settles only grows until the next file system is made (`grows`).
+/// (`writes`). What a journal settles only grows until the next file system is made, or its maker halts behind its first
+/// send (`grows`).
 pub fn at_most_one_entry_is_pending()
     ensures writes { (start : Image) (before rest : List Note) (host seq : ℕ) (entry : Entry)
         → Legal start (before ++ Writes host seq entry ∷ rest) → IsFree seq (past_of start before).state }
-    ensures grows { (start : Image) (before behind : List Note) → NoneMade behind
+    ensures grows { (start : Image) (before behind : List Note) → NoneEnds behind
         → IsPrefix (history_at (past_of start before).state) (history_at (past_of start (before ++ behind)).state) }
 {}
 

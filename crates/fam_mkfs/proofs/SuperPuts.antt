@@ -1,5 +1,6 @@
 -- Six lines are put, one after another.
-use Rattle.std.proofs.Common.{ℕ, ◌≡◌, List, [], ◌∷◌, ◌++◌, get_or, refl, sym, ap, ◌∙◌}
+use Prim.Native.Nat.{zero, suc}
+use Rattle.std.proofs.Common.{ℕ, ◌≡◌, ◌-◌, List, [], ◌∷◌, ◌++◌, length, take, get_or, refl, sym, ap, ◌∙◌, arith}
 use Rattle.std.specs.Prelude.{slice_range}
 use Rattle.std.specs.List.{flat_map}
 use Rattle.fam_base.specs.declared.entry.Params.{Params}
@@ -68,10 +69,55 @@ as_puts : (lines : List (List ℕ)) (header : List ℕ) → flat_map put_ops (pu
 unfolding put_ops
 as_puts lines header = refl
 
-pub as_written : (p : Params) (lines : List (List ℕ)) (header : List ℕ) → Spelled p lines header → puts lines header ≡ write_ops p
+as_written : (p : Params) (lines : List (List ℕ)) (header : List ℕ) → Spelled p lines header → puts lines header ≡ write_ops p
 unfolding write_ops
 as_written p lines header s =
     sym (as_puts lines header)
     ∙ ap (λ (ws : List ℕ). flat_map put_ops (puts_of ws (line_at lines 1 ++ line_at lines 2) (line_at lines 0))) s.log
     ∙ ap (λ (ws : List ℕ). flat_map put_ops (puts_of (log_words p) ws (line_at lines 0))) s.words
     ∙ ap (λ (ws : List ℕ). flat_map put_ops (puts_of (log_words p) (super_words p) ws)) s.magic
+
+-- The first so many of the operations that write.
+
+-- of two rows: of the first, and what is left of the second
+front_both : (n : ℕ) (a b : List Op) → take n (a ++ b) ≡ take n a ++ take (n - length a) b
+front_both zero [] b = refl
+front_both (suc n) [] b = ap (λ (k : ℕ). take k b) (let e : suc n ≡ suc n - 0 = omega arith in e)
+front_both zero (x ∷ a) b = ap (λ (k : ℕ). take k b) (let e : 0 ≡ 0 - suc (length a) = omega arith in e)
+front_both (suc n) (x ∷ a) b =
+    ap (λ (ops : List Op). x ∷ ops) (front_both n a b ∙ ap (λ (k : ℕ). take n a ++ take k b) (let e : n - length a ≡ suc n - suc (length a) = omega arith in e))
+
+-- of a put and what is left: nine operations put a line
+front_put : (n m : ℕ) (put : Put) (b : List Op) → m ≡ n - 9 → take n (put_ops put) ++ take m b ≡ take n (put_ops put ++ b)
+unfolding put_ops
+front_put n m put b is = ap (λ (k : ℕ). take n (put_ops put) ++ take k b) is ∙ sym (front_both n (put_ops put) b)
+
+-- how many operations are left before each of the six puts
+pub record Left (n0 n1 n2 n3 n4 n5 : ℕ) : Type 0 where
+  pub second : n1 ≡ n0 - 9
+  pub third : n2 ≡ n1 - 9
+  pub fourth : n3 ≡ n2 - 9
+  pub fifth : n4 ≡ n3 - 9
+  pub sixth : n5 ≡ n4 - 9
+
+-- six fronts are the front of all
+pub front_written : (p : Params) (lines : List (List ℕ)) (header : List ℕ) (n0 n1 n2 n3 n4 n5 : ℕ) → Left n0 n1 n2 n3 n4 n5 → Spelled p lines header
+    → six (take n0 (put_ops (0, zero_line))) (take n1 (put_ops (gate_line, zero_line))) (take n2 (put_ops (log_line, header))) (take n3 (put_ops (1, element lines 1))) (take n4 (put_ops (2, element lines 2))) (take n5 (put_ops (0, element lines 0))) ≡ take n0 (write_ops p)
+front_written p lines header n0 n1 n2 n3 n4 n5 left spelled =
+    let a = put_ops (0, zero_line) in
+    let b = put_ops (gate_line, zero_line) in
+    let c = put_ops (log_line, header) in
+    let d = put_ops (1, element lines 1) in
+    let e = put_ops (2, element lines 2) in
+    let f = put_ops (0, element lines 0) in
+    ap (λ (x : List Op). take n0 a ++ (take n1 b ++ (take n2 c ++ (take n3 d ++ x)))) (front_put n4 n5 (2, element lines 2) f left.sixth)
+    ∙ ap (λ (x : List Op). take n0 a ++ (take n1 b ++ (take n2 c ++ x))) (front_put n3 n4 (1, element lines 1) (e ++ f) left.fifth)
+    ∙ ap (λ (x : List Op). take n0 a ++ (take n1 b ++ x)) (front_put n2 n3 (log_line, header) (d ++ (e ++ f)) left.fourth)
+    ∙ ap (λ (x : List Op). take n0 a ++ x) (front_put n1 n2 (gate_line, zero_line) (c ++ (d ++ (e ++ f))) left.third)
+    ∙ front_put n0 n1 (0, zero_line) (b ++ (c ++ (d ++ (e ++ f)))) left.second
+    ∙ ap (λ (ops : List Op). take n0 ops) (as_written p lines header spelled)
+
+-- 54 operations are all of them
+pub all_written : (p : Params) → write_ops p ≡ take 54 (write_ops p)
+unfolding write_ops put_ops
+all_written p = refl

@@ -1,8 +1,9 @@
 -- A whole line, by its operations.
 use Prim.Native.Nat.{zero, suc}
-use Rattle.std.proofs.Common.{ℕ, ◌≡◌, ◌≢◌, ◌+◌, ◌-◌, ◌<◌, ◌≤◌, Option, Some, set, get_or-set_other, get_or-set_same, below_more, List, [], ◌∷◌, ◌++◌, length, map, get_or, Result, append_assoc, refl, sym, ap, subst, ◌∙◌, arith, IsErr, IsErrAnd, IfErr, Ok, Err}
+use Rattle.std.proofs.Common.{ℕ, ◌≡◌, ◌≢◌, ◌+◌, ◌-◌, ◌<◌, ◌≤◌, Option, Some, take, set, get_or-set_other, get_or-set_same, below_more, List, [], ◌∷◌, ◌++◌, length, map, get_or, Result, append_assoc, refl, sym, ap, subst, ◌∙◌, arith, IsErr, IsErrAnd, IfErr, OnOk, Ok, Err}
 use Rattle.std.specs.List.{range_with_len}
-use Rattle.std.proofs.lemmas.List.FromFn.{map-range_with_len_more}
+use Rattle.std.proofs.lemmas.List.{take-append-le, take_all}
+use Rattle.std.proofs.lemmas.List.FromFn.{map-range_with_len_more, take-map-range_with_len}
 use Rattle.std.proofs.lemmas.Bool.{false≢true}
 use Rattle.fam_base.specs.Image.{Image, eight}
 use Rattle.fam_machine.specs.declared.cell.Cell.{Cell}
@@ -13,17 +14,27 @@ use Rattle.fam_cache.proofs.Performed.{held_loaded}
 use Rattle.std.proofs.lemmas.Option.{same_Some}
 use Rattle.fam_base.specs.declared.line.LineNo.{LineNo}
 use Rattle.fam_cache.specs.Runs.{AreCut, AreDone, CacheOver}
-use Rattle.fam_cache.proofs.Runs.{cut_as, cut_first, cut_second, done_both}
+use Rattle.fam_cache.proofs.Runs.{cut_as, cut_first, cut_second, done_as, done_both}
 use Rattle.fam_machine.specs.declared.op.Op.{Op}
 use Rattle.fam_machine.specs.declared.op.Op.TheVariants.{Load, Store, Invalidate}
 use Rattle.fam_machine.specs.Operations.{load_ops, store_ops, line_no}
 use Rattle.fam_machine.specs.Mkfs.{put_ops}
+use Rattle.fam_mkfs.specs.Parts.{stores}
 use Rattle.fam_mkfs.specs.declared.lines.FailedAt.{FailedAt}
 
 -- an error that is handed on says what it said
 pub cut_on : {T : Type 0} (ops : List Op) (s t : CacheOver) (at : FailedAt) (r : Result T FailedAt) → IsErr r × IsErrAnd r (λ x. x ≡ at) → AreCut ops at.0 s t → IfErr r (λ x. AreCut ops x.0 s t)
 cut_on ops s t at (Ok x) is cut = absurd (false≢true is.0)
 cut_on ops s t at (Err x) is cut = subst (λ (x : FailedAt). AreCut ops x.0 s t) (sym is.1) cut
+
+-- the same operations, told of a result
+pub done_on : {T : Type 0} (a b : List Op) (s t : CacheOver) (r : Result T FailedAt) → a ≡ b → OnOk r (AreDone a s t) → OnOk r (AreDone b s t)
+done_on a b s t (Ok x) is done = done_as a b s t is done
+done_on a b s t (Err x) is done = tt
+
+pub cut_as_told : {T : Type 0} (a b : List Op) (s t : CacheOver) (r : Result T FailedAt) → a ≡ b → IfErr r (λ x. AreCut a x.0 s t) → IfErr r (λ x. AreCut b x.0 s t)
+cut_as_told a b s t (Ok x) is cut = tt
+cut_as_told a b s t (Err x) is cut = cut_as a b x.0 s t is cut
 
 -- eight operations: those before one of them, it, and those behind it
 split : (f : ℕ → Op) (k : ℕ) → k < 8 → map f (range_with_len 0 k) ++ ((f k ∷ []) ++ map f (range_with_len (k + 1) (7 - k))) ≡ map f (range_with_len 0 8)
@@ -64,28 +75,40 @@ drop_cut line at s t cut = cut_first (Invalidate (line_no line) ∷ []) (map (λ
 
 -- A line is stored, sent and dropped.
 
--- the stores of its first so many words
-abbrev pub stores : ℕ → List ℕ → ℕ → List Op
-stores line words count = map (λ k. Store (line_no line) k (get_or words k 0)) (range_with_len 0 count)
-
 pub store_more : (line : ℕ) (words : List ℕ) (k : ℕ) (s t u : CacheOver) → AreDone (stores line words k) s t → AreDone (Store (line_no line) k (get_or words k 0) ∷ []) t u → AreDone (stores line words (k + 1)) s u
 store_more line words k s t u p q = more [] (λ k. Store (line_no line) k (get_or words k 0)) k s t u p q
 
-pub store_cut : (line : ℕ) (words : List ℕ) (k : ℕ) (at : LineNo) (s t u : CacheOver) → k < 8 → AreDone (stores line words k) s t → AreCut (Store (line_no line) k (get_or words k 0) ∷ []) at t u → AreCut (put_ops (line, words)) at s u
-unfolding put_ops
-store_cut line words k at s t u below p q =
-    cut_first (store_ops line words) (Invalidate (line_no line) ∷ []) at s u (fails_at [] (λ k. Store (line_no line) k (get_or words k 0)) k at s t u below p q)
+-- what is cut in some of the stores is cut in more of them
+cut_more : (line : ℕ) (words : List ℕ) (k more : ℕ) (at : LineNo) (s u : CacheOver) → AreCut (stores line words k) at s u → AreCut (stores line words (k + more)) at s u
+cut_more line words k zero at s u cut = subst (λ (n : ℕ). AreCut (stores line words n) at s u) (let e : k ≡ k + 0 = omega arith in e) cut
+cut_more line words k (suc more) at s u cut =
+    let upto = cut_more line words k more at s u cut in
+    let f : ℕ → Op = λ (k : ℕ). Store (line_no line) k (get_or words k 0) in
+    let last = cut_as _ _ at s u (sym (map-range_with_len_more f 0 (k + more) (k + more) (omega arith))) (cut_first (stores line words (k + more)) (f (k + more) ∷ []) at s u upto) in
+    subst (λ (n : ℕ). AreCut (stores line words n) at s u) (let e : k + more + 1 ≡ k + suc more = omega arith in e) last
 
-all_stored : (line : ℕ) (words : List ℕ) (k : ℕ) (s t : CacheOver) → k ≡ 8 → AreDone (stores line words k) s t → AreDone (store_ops line words) s t
-all_stored line words k s t is p = subst (λ (k : ℕ). AreDone (stores line words k) s t) is p
+pub store_cut : (line : ℕ) (words : List ℕ) (k count : ℕ) (at : LineNo) (s t u : CacheOver) → k < count → AreDone (stores line words k) s t → AreCut (Store (line_no line) k (get_or words k 0) ∷ []) at t u → AreCut (stores line words count) at s u
+store_cut line words k count at s t u below p q =
+    let f : ℕ → Op = λ (k : ℕ). Store (line_no line) k (get_or words k 0) in
+    let here = cut_as _ _ at s u (sym (map-range_with_len_more f 0 k k (omega arith))) (cut_second (stores line words k) (f k ∷ []) at s t u p q) in
+    subst (λ (n : ℕ). AreCut (stores line words n) at s u) (let e : k + 1 + (count - (k + 1)) ≡ count = omega arith in e) (cut_more line words (k + 1) (count - (k + 1)) at s u here)
 
-pub send_cut : (line : ℕ) (words : List ℕ) (k : ℕ) (at : LineNo) (s t u : CacheOver) → k ≡ 8 → AreDone (stores line words k) s t → AreCut (Invalidate (line_no line) ∷ []) at t u → AreCut (put_ops (line, words)) at s u
-unfolding put_ops
-send_cut line words k at s t u is p cut = cut_second (store_ops line words) (Invalidate (line_no line) ∷ []) at s t u (all_stored line words k s t is p) cut
+pub all_stored : (line : ℕ) (words : List ℕ) (k count : ℕ) (s t : CacheOver) → k ≡ count → AreDone (stores line words k) s t → AreDone (stores line words count) s t
+all_stored line words k count s t is p = subst (λ (k : ℕ). AreDone (stores line words k) s t) is p
 
-pub put_done : (line : ℕ) (words : List ℕ) (k : ℕ) (s t u : CacheOver) → k ≡ 8 → AreDone (stores line words k) s t → AreDone (Invalidate (line_no line) ∷ []) t u → AreDone (put_ops (line, words)) s u
+-- A line is put, by the first so many of nine operations.
+
+-- at most eight: some of its words are stored
+pub few_stored : (line : ℕ) (words : List ℕ) (most : ℕ) → most ≤ 8 → stores line words most ≡ take most (put_ops (line, words))
 unfolding put_ops
-put_done line words k s t u is p q = done_both (store_ops line words) (Invalidate (line_no line) ∷ []) s t u (all_stored line words k s t is p) q
+few_stored line words most few =
+    let f : ℕ → Op = λ (k : ℕ). Store (line_no line) k (get_or words k 0) in
+    sym (take-append-le most (store_ops line words) (Invalidate (line_no line) ∷ []) few ∙ take-map-range_with_len f 0 8 most few)
+
+-- more: all nine are done
+pub all_put : (line : ℕ) (words : List ℕ) (most : ℕ) → 8 < most → stores line words 8 ++ Invalidate (line_no line) ∷ [] ≡ take most (put_ops (line, words))
+unfolding put_ops
+all_put line words most many = sym (take_all most (store_ops line words ++ Invalidate (line_no line) ∷ []) many)
 
 -- What the loops keep.
 

@@ -1,10 +1,14 @@
 -- What the parts of making a file system promise.
-use Rattle.std.specs.Prelude.{ℕ, ◌≡◌, ◌≢◌, Bool, false, List, Result, Ok}
+use Rattle.std.specs.Prelude.{ℕ, ◌≡◌, ◌≢◌, Bool, false, List, Result, Ok, get_or, map}
+use Rattle.std.specs.List.{range_with_len}
 use Rattle.fam_base.specs.declared.entry.Params.{Params}
 use Rattle.fam_format.specs.declared.faults.SuperFault.{SuperFault}
 use Rattle.fam_format.specs.Layout.{gate_line, log_line}
 use Rattle.fam_machine.specs.Caches.{Cache, cell_at}
 use Rattle.fam_machine.specs.OneLine.{IsHeld}
+use Rattle.fam_machine.specs.declared.op.Op.{Op}
+use Rattle.fam_machine.specs.declared.op.Op.TheVariants.{Store}
+use Rattle.fam_machine.specs.Operations.{line_no}
 
 -- lines 0, 1 and 2 are held
 pub record HeldLines (cache : Cache) : Type 0 where
@@ -26,3 +30,7 @@ pub record IsElsewhere (line : ℕ) : Type 0 where
   pub rest : line ≢ 2
   pub log : line ≢ log_line
   pub gate : line ≢ gate_line
+
+-- the stores of the first so many words of a line
+abbrev pub stores : ℕ → List ℕ → ℕ → List Op
+stores line words count = map (λ k. Store (line_no line) k (get_or words k 0)) (range_with_len 0 count)

@@ -1,11 +1,12 @@
 //! Whole lines through a cache: a line is dropped and read, or written and sent.
 
-ghost use Rattle.std.specs.Prelude.{◌≡◌, ◌≢◌, ◌∷◌, ◌+◌, ◌<◌, ◌≤◌, ℕ, [], IfOk, IfErr, OnErr, OnOk, Some};
+ghost use Rattle.std.specs.Prelude.{◌≡◌, ◌≢◌, ◌∷◌, ◌+◌, ◌<◌, ◌≤◌, ℕ, [], IfOk, IfErr, OnErr, OnOk, Some, take};
 ghost use Rattle.fam_base.specs.Image.{eight};
 ghost use Rattle.fam_machine.specs.Caches.{cell_at};
 ghost use Rattle.fam_machine.specs.OneLine.{IsHeld, words_of};
 ghost use Rattle.fam_machine.specs.Operations.{IsWithin, line_no, load_ops, op_line};
 ghost use Rattle.fam_machine.specs.Mkfs.{put_ops};
+ghost use Rattle.fam_mkfs.specs.Parts.{stores};
 ghost use Rattle.fam_media.specs.Causes.{IsSteady, Rose};
 ghost use Rattle.fam_cache.specs.Operations.{BringsNone, IsOneLine, LeavesCache, word_of};
 ghost use Rattle.fam_cache.specs.Runs.{AreCut, AreDone, over};
@@ -79,19 +80,52 @@ pub(crate) fn read_line<M: Media>(
     Ok(words)
 }
 
-/// Puts a line: its words are stored, and it is sent and dropped.
+/// Stores the first so many of a line's words.
+fn store_words<M: Media>(
+    cache: &mut HostCache,
+    media: &mut M,
+    line: LineNo,
+    words: &Line,
+    count: u8,
+) -> Result<(), FailedAt>
+    requires few { count ≤ 8 }
+    requires within { line.0 < M.size media.old }
+    requires room { ¬ (IsHeld (cell_at cache.old.lines line.0)) → 0 < cache.old.spare }
+
+    ensures done { OnOk result (AreDone (stores line.0 words.now count)
+        (over (M.state media.old).image cache.old.lines) (over (M.state media.new).image cache.new.lines)) }
+    ensures cut { IfErr result (λ at. AreCut (stores line.0 words.now count) at.0
+        (over (M.state media.old).image cache.old.lines) (over (M.state media.new).image cache.new.lines)) }
+    ensures held { OnOk result (0 < count → IsHeld (cell_at cache.new.lines line.0)) }
+    ensures others { (other : ℕ) → other ≢ line.0
+        → cell_at cache.new.lines other ≡ cell_at cache.old.lines other }
+    ensures spare { cache.old.spare ≤ cache.new.spare + 1 }
+    ensures held_spare { IsHeld (cell_at cache.old.lines line.0)
+        → cache.old.spare ≤ cache.new.spare }
+    ensures within { IfErr result (λ at. at.0.0 < M.size media.old) }
+    ensures rose { OnErr result (Rose (M.state media.old).faults (M.state media.new).faults) }
+    ensures steady { IsSteady M.size M.state media.old media.new }
+{
+    for word in 0..count {
+        operate(cache, media, Op::Store(line, word, words[word as usize]))?;
+    }
+    Ok(())
+}
+
+/// Puts a line, by the first so many of nine operations: its words are stored, and it is sent and dropped.
 pub(crate) fn write_line<M: Media>(
     cache: &mut HostCache,
     media: &mut M,
     line: LineNo,
     words: &Line,
+    most: u64,
 ) -> Result<(), FailedAt>
     requires within { line.0 < M.size media.old }
     requires room { ¬ (IsHeld (cell_at cache.old.lines line.0)) → 0 < cache.old.spare }
 
-    ensures done { OnOk result (AreDone (put_ops (line.0, words.now))
+    ensures done { OnOk result (AreDone (take most (put_ops (line.0, words.now)))
         (over (M.state media.old).image cache.old.lines) (over (M.state media.new).image cache.new.lines)) }
-    ensures cut { IfErr result (λ at. AreCut (put_ops (line.0, words.now)) at.0
+    ensures cut { IfErr result (λ at. AreCut (take most (put_ops (line.0, words.now))) at.0
         (over (M.state media.old).image cache.old.lines) (over (M.state media.new).image cache.new.lines)) }
     ensures others { (other : ℕ) → other ≢ line.0
         → cell_at cache.new.lines other ≡ cell_at cache.old.lines other }
@@ -102,9 +136,10 @@ pub(crate) fn write_line<M: Media>(
     ensures rose { OnErr result (Rose (M.state media.old).faults (M.state media.new).faults) }
     ensures steady { IsSteady M.size M.state media.old media.new }
 {
-    for word in 0..8 {
-        operate(cache, media, Op::Store(line, word, words[word as usize]))?;
+    if most <= 8 {
+        return store_words(cache, media, line, words, most as u8);
     }
+    store_words(cache, media, line, words, 8)?;
     operate(cache, media, Op::Invalidate(line))?;
     Ok(())
 }

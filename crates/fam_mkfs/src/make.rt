@@ -1,6 +1,6 @@
 //! Making a file system: what is refused, what is read, and what is written.
 
-ghost use Rattle.std.specs.Prelude.{◌≡◌, ◌*◌, ◌+◌, ◌≤◌, ◌<◌, IfOk, IfErr, IfSome, OnOk, OnErr, Some, None, Ok, true, ℕ};
+ghost use Rattle.std.specs.Prelude.{◌≡◌, ◌*◌, ◌+◌, ◌++◌, ◌≤◌, ◌<◌, IfOk, IfErr, IfSome, OnOk, OnErr, Some, None, Ok, take, true, ℕ};
 ghost use Rattle.fam_base.specs.Image.{Image, line_at};
 ghost use Rattle.fam_format.specs.Layout.{least_lines};
 ghost use Rattle.fam_format.specs.Reading.{super_in};
@@ -8,7 +8,8 @@ ghost use Rattle.fam_machine.specs.Caches.{cell_at};
 ghost use Rattle.fam_machine.specs.Operations.{machine, operated_all};
 ghost use Rattle.fam_rules.specs.Place.{line_bytes};
 ghost use Rattle.fam_machine.specs.Mkfs as spec;
-ghost use Rattle.fam_mkfs.specs.Ends.{MkfsEnds};
+ghost use Rattle.fam_machine.specs.Mkfs.{expected_by};
+ghost use Rattle.fam_mkfs.specs.Ends.{MkfsEnds, done_end};
 ghost use Rattle.fam_mkfs.specs.Parts.{HeldLines, IsElsewhere, Stands};
 ghost use Rattle.fam_mkfs.specs.Refusals as refusals;
 ghost use Rattle.fam_media.specs.Causes.{IsSteady, Rose};
@@ -27,6 +28,18 @@ use uuid::Uuid;
 /// How many lines are brought: 0, 1 and 2, the gate's, the log's first one, and 0 again.
 const ROOM: u64 = 6;
 
+/// How many operations read.
+const READS: u64 = 27;
+
+/// How many operations put a line.
+const PUTS: u64 = 9;
+
+/// How many operations write.
+const WRITES: u64 = 54;
+
+/// After how many operations a maker halts at most: one is always left.
+const MOST_HALTED: u64 = 80;
+
 /// How making a file system ended.
 #[derive(Clone, Copy, Debug, PartialEq, Eq)]
 pub enum MkfsEnd {
@@ -40,6 +53,8 @@ pub enum MkfsEnd {
     HasSuper(Uuid),
     /// The media failed at this line. The operations before were done.
     Failed(LineNo),
+    /// The maker is to halt: the first operations, so many of them as were asked for, were done.
+    Halted(u64),
 }
 
 /// Whether a file system can have this unit and a log of so many bytes.
@@ -121,19 +136,31 @@ fn standing(lines: &[Line; 3], have: u64, force: bool) -> Option<Uuid>
     }
 }
 
-/// Writes superblock, header and gate. Line 0 is cleared first, and has the magic last.
+/// How many operations are done of those that write, by after how many of all the maker halts.
+fn writes(halt: Option<u64>) -> u64
+    ensures { (p : Params) → expected_by true halt p ≡ spec.read_ops ++ take result (spec.write_ops p) }
+{
+    match halt {
+        Some(most) => most.min(MOST_HALTED).saturating_sub(READS),
+        None => WRITES,
+    }
+}
+
+/// Writes superblock, header and gate, by the first so many of 54 operations. Line 0 is cleared first, and has the magic
+/// last.
 fn write_super<M: Media>(
     cache: &mut HostCache,
     media: &mut M,
     params: &Params,
+    most: u64,
 ) -> Result<(), FailedAt>
     requires within { least_lines ≤ M.size media.old }
     requires held { HeldLines cache.old.lines }
     requires room { 3 ≤ cache.old.spare }
 
-    ensures done { OnOk result (AreDone (spec.write_ops params.now)
+    ensures done { OnOk result (AreDone (take most (spec.write_ops params.now))
         (over (M.state media.old).image cache.old.lines) (over (M.state media.new).image cache.new.lines)) }
-    ensures cut { IfErr result (λ at. AreCut (spec.write_ops params.now) at.0
+    ensures cut { IfErr result (λ at. AreCut (take most (spec.write_ops params.now)) at.0
         (over (M.state media.old).image cache.old.lines) (over (M.state media.new).image cache.new.lines)) }
     ensures others { (line : ℕ) → IsElsewhere line
         → cell_at cache.new.lines line ≡ cell_at cache.old.lines line }
@@ -143,21 +170,42 @@ fn write_super<M: Media>(
 {
     let [magic, first, second] = Super::spell(params);
     let header = spell_log(params);
-    write_line(cache, media, LineNo(0), &[0; 8])?;
-    write_line(cache, media, LineNo(GATE_LINE), &[0; 8])?;
-    write_line(cache, media, LineNo(LOG_LINE), &header)?;
-    write_line(cache, media, LineNo(1), &first)?;
-    write_line(cache, media, LineNo(2), &second)?;
-    write_line(cache, media, LineNo(0), &magic)?;
+    write_line(cache, media, LineNo(0), &[0; 8], most)?;
+    let most = most.saturating_sub(PUTS);
+    write_line(cache, media, LineNo(GATE_LINE), &[0; 8], most)?;
+    let most = most.saturating_sub(PUTS);
+    write_line(cache, media, LineNo(LOG_LINE), &header, most)?;
+    let most = most.saturating_sub(PUTS);
+    write_line(cache, media, LineNo(1), &first, most)?;
+    let most = most.saturating_sub(PUTS);
+    write_line(cache, media, LineNo(2), &second, most)?;
+    let most = most.saturating_sub(PUTS);
+    write_line(cache, media, LineNo(0), &magic, most)?;
     Ok(())
 }
 
-/// Reads lines 0, 1 and 2, and makes a file system where none stands in the way.
-fn make<M: Media>(cache: &mut HostCache, media: &mut M, params: &Params, force: bool) -> MkfsEnd
+/// How it ends where all that was expected was done.
+fn end_of(params: &Params, halt: Option<u64>) -> MkfsEnd
+    ensures { result ≡ done_end params.now halt }
+{
+    match halt {
+        Some(most) => MkfsEnd::Halted(most),
+        None => MkfsEnd::Made(*params),
+    }
+}
+
+/// Reads lines 0, 1 and 2, and makes a file system where none stands in the way, up to where its maker halts.
+fn make<M: Media>(
+    cache: &mut HostCache,
+    media: &mut M,
+    params: &Params,
+    force: bool,
+    halt: Option<u64>,
+) -> MkfsEnd
     requires within { least_lines ≤ M.size media.old }
     requires room { 6 ≤ cache.old.spare }
 
-    ensures ends { MkfsEnds params.now force (M.size media.old)
+    ensures ends { MkfsEnds params.now force halt (M.size media.old)
         (over (M.state media.old).image cache.old.lines) (over (M.state media.new).image cache.new.lines)
         (M.state media.old).faults (M.state media.new).faults result }
     ensures others { (line : ℕ) → IsElsewhere line
@@ -171,14 +219,15 @@ fn make<M: Media>(cache: &mut HostCache, media: &mut M, params: &Params, force: 
     if let Some(id) = standing(&lines, params.device, force) {
         return MkfsEnd::HasSuper(id);
     }
-    match write_super(cache, media, params) {
-        Ok(()) => MkfsEnd::Made(*params),
+    match write_super(cache, media, params, writes(halt)) {
+        Ok(()) => end_of(params, halt),
         Err(FailedAt(line)) => MkfsEnd::Failed(line),
     }
 }
 
 /// Makes the file system that is asked for through the cache of its maker, which has the UUID `me`. The device is the
-/// whole media.
+/// whole media. Where the maker is to halt, only the first operations are done, so many of them as are asked for, and the
+/// cache stays: who calls it loses it.
 ///
 /// `BadGeometry` and `TooSmall` come before anything else. Room for six lines is taken then, so `OutOfMemory`
 /// changes no line. The clauses hold for any cache; where it holds no line, `fam_machine::a_file_system_is_made` says
@@ -198,7 +247,7 @@ pub fn mkfs<M: Media>(
         → cache.new ≡ cache.old }
 
     ensures ends { refusals.refusal request.now.unit request.now.log (line_bytes * M.size media.old) ≡ None → IfOk result
-        (MkfsEnds (spec.asked request.now me (M.size media.old)) request.now.force (M.size media.old)
+        (MkfsEnds (spec.asked request.now me (M.size media.old)) request.now.force request.now.halt (M.size media.old)
         (over (M.state media.old).image cache.old.lines) (over (M.state media.new).image cache.new.lines)
         (M.state media.old).faults (M.state media.new).faults) }
 
@@ -217,5 +266,5 @@ pub fn mkfs<M: Media>(
         return Ok(end);
     }
     cache.reserve(ROOM)?;
-    Ok(make(cache, media, &params, request.force))
+    Ok(make(cache, media, &params, request.force, request.halt))
 }

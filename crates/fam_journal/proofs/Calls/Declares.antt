@@ -125,9 +125,9 @@ module _ (start : Image) (state : Machines) (world : WorldView) (held : Agrees s
 
   pub declared_held : Agrees start (record { memory = state.memory; hosts = state.hosts ++ new_state ∷ [] }) (record { hosts = views; journal = world.journal ++ Host name uuid ∷ [] }) state.memory
   declared_held =
-      held_with start state world state.memory held (record { memory = state.memory; hosts = state.hosts ++ new_state ∷ [] }) views (Host name uuid ∷ []) held.lines held.normal (tt, tt) stands told
-      (subst (λ (s : SharedState). Invariant (settled_of x.state) (length start) (hosts_of views (x.hosts ++ new_host name uuid ∷ [])) s) (sym shared_same)
-      (invariant_declared (settled_of x.state) (length start) n uuid (hosts_of world.hosts x.hosts) (hosts_of views (x.hosts ++ new_host name uuid ∷ [])) (shared_of state.memory world.hosts) held.invariant
+      held_with start state world state.memory held (record { memory = state.memory; hosts = state.hosts ++ new_state ∷ [] }) views (Host name uuid ∷ []) (line_at state.memory) held.lines held.normal (tt, tt) stands told held.halted
+      (subst (λ (s : SharedState). Invariant (settled_of x.state (line_at state.memory)) (length start) (hosts_of views (x.hosts ++ new_host name uuid ∷ [])) s) (sym shared_same)
+      (invariant_declared (settled_of x.state (line_at state.memory)) (length start) n uuid (hosts_of world.hosts x.hosts) (hosts_of views (x.hosts ++ new_host name uuid ∷ [])) (shared_of state.memory world.hosts) held.invariant
       record {
         fresh = ap uuid_at view_past;
         solo = λ k. apart k (slice_get world.hosts k) refl;

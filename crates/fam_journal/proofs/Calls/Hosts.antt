@@ -2,26 +2,30 @@
 use Rattle.std.proofs.Common.{◌≡◌, ◌≢◌, ℕ, List, ◌++◌, length, map, Option, Some, inl, inr, refl, ap, ap₂, sym, ◌∙◌, subst}
 use Rattle.std.specs.Prelude.{slice_get}
 use Rattle.std.proofs.lemmas.Bool.{cases_eq}
-use Rattle.fam_base.specs.Image.{Image, eight}
+use Rattle.fam_base.specs.Image.{Image, eight, line_at}
+use Rattle.fam_format.specs.Reading.{Lines}
 use Rattle.fam_protocol.specs.Invariant.{Invariant}
 use Rattle.fam_journal.specs.View.{HostStands, HostView, HostStandsAt, WorldView}
-use Rattle.fam_journal.specs.Kept.{Agrees, HostTold, ToldAt, hosts_of, kept_at, run_at, shared_of, settled_of, uuid_at}
+use Rattle.fam_journal.specs.Kept.{Agrees, HostTold, IfHalted, ToldAt, hosts_of, kept_at, run_at, shared_of, settled_of, uuid_at}
 use Rattle.fam_journal.specs.Legal.{LegalBehind}
 use Rattle.fam_journal.specs.Machines.{HostState, Machines}
 use Rattle.fam_journal.specs.Members.{changed_at}
 use Rattle.fam_journal.specs.Notes.{Note}
 use Rattle.fam_journal.specs.Past.{HostPast, Past, first_past, past_behind, past_of}
 use Rattle.fam_journal.proofs.Settled.Journals.{legal_both, past_both}
+use Rattle.fam_journal.proofs.Settled.OverMemory.{over_memory, still_cleared}
 use Rattle.fam_journal.proofs.Calls.Members.{changed_at_member, changed_other}
 
 -- what is held, from its parts over the past behind some more notes
-pub held_with : (start : Image) (state : Machines) (world : WorldView) (image : Image) (held : Agrees start state world image) (next : Machines) (views : List HostView) (notes : List Note)
+pub held_with : (start : Image) (state : Machines) (world : WorldView) (image : Image) (held : Agrees start state world image) (next : Machines) (views : List HostView) (notes : List Note) (now : Lines)
     → length next.memory ≡ length start → map eight next.memory ≡ next.memory → LegalBehind (past_of start world.journal) notes
     → ((k : ℕ) → HostStandsAt (length start) (slice_get next.hosts k) (slice_get views k))
     → ((k : ℕ) → ToldAt (slice_get views k) (slice_get (past_behind (past_of start world.journal) notes).hosts k))
-    → Invariant (settled_of (past_behind (past_of start world.journal) notes).state) (length start) (hosts_of views (past_behind (past_of start world.journal) notes).hosts) (shared_of next.memory views)
+    → IfHalted (past_behind (past_of start world.journal) notes).state now
+    → Invariant (settled_of (past_behind (past_of start world.journal) notes).state now) (length start) (hosts_of views (past_behind (past_of start world.journal) notes).hosts) (shared_of next.memory views)
     → Agrees start next (record { hosts = views; journal = world.journal ++ notes }) next.memory
-held_with start state world image held next views notes lines normal legal stands told invariant =
+held_with start state world image held next views notes now lines normal legal stands told halted invariant =
+    let x : Past = past_behind (past_of start world.journal) notes in
     let same : past_of start (world.journal ++ notes) ≡ past_behind (past_of start world.journal) notes = past_both (first_past start) world.journal notes in
     record {
       memory = refl;
@@ -32,7 +36,9 @@ held_with start state world image held next views notes lines normal legal stand
       stands = stands;
       told = λ k. subst (λ (z : Past). ToldAt (slice_get views k) (slice_get z.hosts k)) (sym same) (told k);
       legal = legal_both (first_past start) world.journal notes held.legal legal;
-      invariant = subst (λ (z : Past). Invariant (settled_of z.state) (length start) (hosts_of views z.hosts) (shared_of next.memory views)) (sym same) invariant;
+      halted = subst (λ (z : Past). IfHalted z.state (line_at next.memory)) (sym same) (still_cleared now (length start) (hosts_of views x.hosts) (shared_of next.memory views) x.state invariant halted);
+      invariant = subst (λ (z : Past). Invariant (settled_of z.state (line_at next.memory)) (length start) (hosts_of views z.hosts) (shared_of next.memory views)) (sym same)
+          (over_memory now (length start) (hosts_of views x.hosts) (shared_of next.memory views) x.state invariant);
     }
 
 -- one host changes, in the machine, in the world and in the past

@@ -4,7 +4,7 @@ use Rattle.std.specs.Prelude.{slice_get, option_map, is_some, unwrap_or, ◌||�
 use Rattle.std.specs.FinMap as finmap
 use Rattle.std.proofs.lemmas.Bool.{cases_eq}
 use Rattle.std.proofs.lemmas.Option.{same_Some}
-use Rattle.fam_base.specs.Image.{Image}
+use Rattle.fam_base.specs.Image.{Image, line_at}
 use Rattle.fam_format.proofs.UnitPowers.{unit_told}
 use Rattle.fam_protocol.specs.Tasks.{IsCommand}
 use Rattle.fam_journal.specs.Past.{past_of}
@@ -13,7 +13,7 @@ use Rattle.fam_format.specs.Stop.{or_else}
 use Rattle.fam_format.specs.Params.{IsUuid, SoundParams, is_log_length, is_unit, need}
 use Rattle.fam_machine.specs.declared.request.MkfsRequest.{MkfsRequest}
 use Rattle.fam_machine.specs.Caches.{Cache, dirty_count}
-use Rattle.fam_machine.specs.Operations.{Breaking, IsInImage, Failure, Machine, failed, given, operated_all}
+use Rattle.fam_machine.specs.Operations.{Breaking, IsInImage, Failure, Machine, failed, given, machine, operated_all}
 use Rattle.fam_machine.specs.declared.op.Op.{Op}
 use Rattle.fam_commands.specs.Classes.{is_mount}
 use Rattle.fam_commands.specs.Kept.{Kept}
@@ -31,11 +31,12 @@ use Rattle.fam_journal.specs.Kept.{copy_at, Agrees, IfRuns, Reached, TaskTold, h
 use Rattle.fam_machine.specs.HostMoves.{Move, move_failed, moved}
 use Rattle.fam_journal.specs.Machines.{Done, Fails, HostState, Machines, Operation, Outcome, Passes, TaskState, cut, host_done, machine_of, next_op, notes_of, op_done, operation, task_done, with_kept, with_machine, with_memory, with_task}
 use Rattle.fam_journal.specs.Members.{changed_at, index_of}
-use Rattle.fam_machine.specs.Mkfs.{asked, early_refusal, is_geometry, mkfs_ops, read_ops}
+use Rattle.fam_machine.specs.Mkfs.{asked, early_refusal, halted_ops, is_geometry, mkfs_ops, read_ops}
 use Rattle.fam_journal.specs.Notes.{Answered, MediaFault, Note, Refused}
 use Rattle.fam_journal.proofs.Calls.Declares.{declared_held, member_before, member_last, none_passes}
 use Rattle.fam_protocol.proofs.Hosts.Inside.{asks_inside}
 use Rattle.fam_journal.proofs.Calls.Members.{changed_alike, changed_at_member, changed_other}
+use Rattle.fam_journal.proofs.Calls.HaltRows.{halted_holds}
 use Rattle.fam_journal.proofs.Calls.MkfsRows.{made_held, met_held}
 use Rattle.fam_journal.proofs.Calls.Rows.{Declared, begun_held, refused_held, umounted_held}
 use Rattle.fam_machine.proofs.Slipping.{move_tears_line}
@@ -136,7 +137,7 @@ module _ (start : Image) (state : Machines) (journal : List Note) (kept : Reache
     module _ (t : Task) (runs : d.view.task ≡ Some t) (s : TaskState) (s_is : d.host.task ≡ Some s) (standing : StandsAs (length start) s t) where
       inside : IsInImage (op_of t) (record { image = state.memory; cache = d.view.cache })
       inside =
-          asks_inside (settled_of (past_of start journal).state) (length start) (hosts_of kept.views (past_of start journal).hosts) (shared_of state.memory kept.views) held.limit held.invariant.stage h (run_of t d.told)
+          asks_inside (settled_of (past_of start journal).state (line_at state.memory)) (length start) (hosts_of kept.views (past_of start journal).hosts) (shared_of state.memory kept.views) held.limit held.invariant.stage h (run_of t d.told)
           (ap₂ run_at d.view_is d.told_is ∙ ap (λ (o : Option Task). run_with o (Some d.told)) runs) (record { image = state.memory; cache = d.view.cache })
           record { memory = λ l. refl; copies = λ l. ap (λ (o : Option HostView). copy_at o l) d.view_is } held.lines
 
@@ -281,6 +282,21 @@ module _ (start : Image) (state : Machines) (journal : List Note) (kept : Reache
               (λ k v is. let host = view_of k v is in idle_of (length start) host.0 v host.2 (not_busy host.0 (none_passes is_engaged state.hosts 0 may.busy k host.0 host.1)))
               (λ k v is. let host = view_of k v is in bare_of (length start) host.0 v host.2 (none_passes is_engaged state.hosts 0 may.busy k host.0 host.1))
               (λ k v ne is l. let host = view_of k v is in none_dirty v.cache (ap dirty_count (sym host.2.cache) ∙ none_dirty_from h state.hosts 0 may.dirty k host.0 host.1 (λ e. ne (zero_plus k ∙ e))) l));
+          uuids = uuids_kept h _ (λ z. refl) state.hosts kept.uuids;
+        }
+
+    pub halts_kept : (request : MkfsRequest) → IsUuid request.fs → makes_refusal request.unit request.log h state ≡ None → (k : ℕ)
+        → Reached start (with_machine h (machine (operated_all (halted_ops k (asked request d.host.uuid (length state.memory))) (machine_of state d.host)).image finmap.empty) d.host.task state) (journal ++ Rattle.fam_journal.specs.Notes.Cut h k ∷ [])
+    halts_kept request uuid free k =
+        let p = asked request d.host.uuid (length state.memory) in
+        let may = may_make request.unit request.log h state free in
+        record {
+          views = _;
+          held = subst (λ (z : Machine). Agrees start (with_machine h (machine (operated_all (halted_ops k p) z).image finmap.empty) d.host.task state) (record { hosts = changed_at h (λ v. record v { cache = finmap.empty }) kept.views; journal = journal ++ Rattle.fam_journal.specs.Notes.Cut h k ∷ [] }) (operated_all (halted_ops k p) z).image) (sym same_cache)
+              (halted_holds start state world held h d p (makes_sound request uuid free) refl (sym d.stands.uuid)
+              (λ k v is. let host = view_of k v is in idle_of (length start) host.0 v host.2 (not_busy host.0 (none_passes is_engaged state.hosts 0 may.busy k host.0 host.1)))
+              (λ k v is. let host = view_of k v is in bare_of (length start) host.0 v host.2 (none_passes is_engaged state.hosts 0 may.busy k host.0 host.1))
+              (λ k v ne is l. let host = view_of k v is in none_dirty v.cache (ap dirty_count (sym host.2.cache) ∙ none_dirty_from h state.hosts 0 may.dirty k host.0 host.1 (λ e. ne (zero_plus k ∙ e))) l) k);
           uuids = uuids_kept h _ (λ z. refl) state.hosts kept.uuids;
         }
 

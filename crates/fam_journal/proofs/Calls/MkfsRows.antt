@@ -10,7 +10,7 @@ use Rattle.fam_format.specs.Params.{SoundParams}
 use Rattle.fam_format.proofs.UnitPowers.{unit_told}
 use Rattle.fam_machine.specs.declared.cell.Cell.{Cell}
 use Rattle.fam_machine.specs.declared.cell.Cell.TheVariants.{Absent, Clean, Dirty}
-use Rattle.fam_machine.specs.Caches.{cell_at, with_cell}
+use Rattle.fam_machine.specs.Caches.{Cache, cell_at, with_cell}
 use Rattle.fam_machine.specs.Moves as moves
 use Rattle.fam_machine.specs.Moves.{Transfers}
 use Rattle.fam_machine.specs.OneLine.{IsDirty, current, sent}
@@ -62,6 +62,66 @@ module _ (start : Image) (state : Machines) (world : WorldView) (held : Agrees s
   -- A file system is made.
 
   module _ (p : Params) (sound : SoundParams p) (device : p.device ≡ line_bytes * length state.memory) (mine : d.view.uuid ≡ p.master) (idle : (k : ℕ) (v : HostView) → slice_get world.hosts k ≡ Some v → v.task ≡ None) (bare : (k : ℕ) (v : HostView) → slice_get world.hosts k ≡ Some v → v.kept ≡ None) (clean : (k : ℕ) (v : HostView) → k ≢ h → slice_get world.hosts k ≡ Some v → (l : ℕ) → IsDirty (cell_at v.cache l) → ⊥) where
+    -- Whatever the maker's cache is then, its hosts are as before.
+    module _ (now : Cache) where
+      abbrev pub recached : HostView → HostView
+      recached v = record v { cache = now }
+
+      abbrev pub changed : List HostView
+      changed = changed_at h recached world.hosts
+
+      pub copy_here : (l : ℕ) → copy_at (slice_get changed h) l ≡ cell_at now l
+      copy_here l = ap (λ (o : Option HostView). copy_at o l) (changed_at_member h recached world.hosts d.view d.view_is)
+
+      pub copy_else : (k l : ℕ) → k ≢ h → copy_at (slice_get changed k) l ≡ copy_at (slice_get world.hosts k) l
+      copy_else k l ne = ap (λ (o : Option HostView). copy_at o l) (changed_other h k recached world.hosts ne)
+
+      no_run : (o : Option HostView) (told : Option HostPast) → ((v : HostView) → o ≡ Some v → v.task ≡ None) → run_at o told ≡ None
+      no_run None told none = refl
+      no_run (Some v) told none = ap (λ (t : Option Task). run_with t told) (none v refl)
+
+      pub run_same : (k : ℕ) → run_at (slice_get changed k) (slice_get x.hosts k) ≡ None
+      run_same k =
+          elim (cases_eq k h) [
+            | inl e ↦
+                subst (λ (i : ℕ). run_at (slice_get changed i) (slice_get x.hosts i) ≡ None) (sym e)
+                (ap (λ (o : Option HostView). run_at o (slice_get x.hosts h)) (changed_at_member h recached world.hosts d.view d.view_is)
+                ∙ ap (λ (t : Option Task). run_with t (slice_get x.hosts h)) (idle h d.view d.view_is))
+            | inr ne ↦
+                ap (λ (o : Option HostView). run_at o (slice_get x.hosts k)) (changed_other h k recached world.hosts ne)
+                ∙ no_run (slice_get world.hosts k) (slice_get x.hosts k) (idle k)
+          ]
+
+      none_kept : (k : ℕ) (o : Option HostView) → slice_get world.hosts k ≡ o → kept_at o ≡ None
+      none_kept k None is = refl
+      none_kept k (Some v) is = bare k v is
+
+      keep_none : (k : ℕ) → kept_at (slice_get changed k) ≡ None
+      keep_none k = kept_same h d.view world.hosts d.view_is recached refl k ∙ none_kept k (slice_get world.hosts k) refl
+
+      pub are : AreHosts (hosts_of changed x.hosts) (shared_of state.memory world.hosts)
+      are = record {
+        apart = λ a b id is_a is_b. held.invariant.declared.apart a b id (sym (uuids_same h d.view world.hosts d.view_is recached refl a) ∙ is_a) (sym (uuids_same h d.view world.hosts d.view_is recached refl b) ∙ is_b);
+        absent = λ k l none. held.invariant.declared.absent k l (sym (uuids_same h d.view world.hosts d.view_is recached refl k) ∙ none);
+        idle = λ k none. run_same k;
+        bare = λ k none. keep_none k;
+      }
+
+      never_dirty : (k l : ℕ) → k ≢ h → (o : Option HostView) → slice_get world.hosts k ≡ o → IsDirty (copy_at o l) → ⊥
+      never_dirty k l ne None is dirty = absurd (Rattle.std.proofs.lemmas.Bool.false≢true dirty)
+      never_dirty k l ne (Some v) is dirty = clean k v ne is l dirty
+
+      pub may : MayFormat h p (length start) (hosts_of changed x.hosts) (shared_of state.memory world.hosts)
+      may = record {
+        sound = sound;
+        device = omega (arith, device, held.lines);
+        maker_is = ap uuid_at (changed_at_member h recached world.hosts d.view d.view_is) ∙ ap Some mine;
+        idle = run_same;
+        bare = keep_none;
+        clean = λ k l ne dirty. never_dirty k l ne (slice_get world.hosts k) refl dirty;
+        inside = λ l dirty. dirty_inside (settled_of x.state (line_at state.memory)) (length start) (hosts_of world.hosts x.hosts) (shared_of state.memory world.hosts) held.invariant.stage h l dirty;
+      }
+
     abbrev done : Machine
     done = operated_all (mkfs_ops p) m
 
@@ -69,22 +129,16 @@ module _ (start : Image) (state : Machines) (world : WorldView) (held : Agrees s
     left = machine (formatted (operated_all read_ops m).image p) (drop_lines (format_puts p) (operated_all read_ops m).cache)
 
     abbrev makes : HostView → HostView
-    makes v = record v { cache = left.cache }
+    makes = recached left.cache
 
     abbrev views : List HostView
-    views = changed_at h makes world.hosts
+    views = changed left.cache
 
-    enough : least_lines ≤ length state.memory
+    pub enough : least_lines ≤ length state.memory
     enough = omega (arith, sound.need, device, (unit_told p.unit sound.unit).least)
 
     form : IsFormatted p (operated_all read_ops m).image left.image
     form = lines_formatted (operated_all read_ops m).image p (omega (arith, enough, read_length m))
-
-    copy_here : (l : ℕ) → copy_at (slice_get views h) l ≡ cell_at left.cache l
-    copy_here l = ap (λ (o : Option HostView). copy_at o l) (changed_at_member h makes world.hosts d.view d.view_is)
-
-    copy_else : (k l : ℕ) → k ≢ h → copy_at (slice_get views k) l ≡ copy_at (slice_get world.hosts k) l
-    copy_else k l ne = ap (λ (o : Option HostView). copy_at o l) (changed_other h k makes world.hosts ne)
 
     small_line : (l : ℕ) → l ≤ 2 → cell_at left.cache l ≡ Absent
     small_line zero small = magic_dropped p (operated_all read_ops m).cache
@@ -103,10 +157,10 @@ module _ (start : Image) (state : Machines) (world : WorldView) (held : Agrees s
       second = form.super_rest;
       header = form.header;
       gate = form.gate;
-      head = λ l head. copy_here l ∙ head_line l head;
-      dropped = copy_here gate_line ∙ gate_dropped p (operated_all read_ops m).cache;
-      dirty = λ l dirty. subst IsDirty (sym (ap (λ (o : Option HostView). copy_at o l) d.view_is)) (made_dirty p m l (subst IsDirty (copy_here l) dirty));
-      hosts = λ k l ne. copy_else k l ne;
+      head = λ l head. copy_here left.cache l ∙ head_line l head;
+      dropped = copy_here left.cache gate_line ∙ gate_dropped p (operated_all read_ops m).cache;
+      dirty = λ l dirty. subst IsDirty (sym (ap (λ (o : Option HostView). copy_at o l) d.view_is)) (made_dirty p m l (subst IsDirty (copy_here left.cache l) dirty));
+      hosts = λ k l ne. copy_else left.cache k l ne;
     }
 
     wide : IsWide (shared_of left.image views)
@@ -117,68 +171,23 @@ module _ (start : Image) (state : Machines) (world : WorldView) (held : Agrees s
             elim (cases_eq k h) [
               | inl e ↦
                   subst (λ (i : ℕ). length (current (line_at left.image l) (copy_at (slice_get views i) l)) ≡ 8) (sym e)
-                  (subst (λ (c : Cell). length (current (line_at left.image l) c) ≡ 8) (sym (copy_here l))
+                  (subst (λ (c : Cell). length (current (line_at left.image l) c) ≡ 8) (sym (copy_here left.cache l))
                   (subst (λ (w : List ℕ). length w ≡ 8) (whole_left p m whole l) (length-eight (current (line_at left.image l) (cell_at left.cache l)))))
               | inr ne ↦
-                  subst (λ (c : Cell). length (current (line_at left.image l) c) ≡ 8) (sym (copy_else k l ne))
+                  subst (λ (c : Cell). length (current (line_at left.image l) c) ≡ 8) (sym (copy_else left.cache k l ne))
                   (current_wide (line_at state.memory l) (line_at left.image l) (copy_at (slice_get world.hosts k) l) refl (held.invariant.wide.copies k l))
             ]
 
-    no_run : (o : Option HostView) (told : Option HostPast) → ((v : HostView) → o ≡ Some v → v.task ≡ None) → run_at o told ≡ None
-    no_run None told none = refl
-    no_run (Some v) told none = ap (λ (t : Option Task). run_with t told) (none v refl)
-
-    run_same : (k : ℕ) → run_at (slice_get views k) (slice_get x.hosts k) ≡ None
-    run_same k =
-        elim (cases_eq k h) [
-          | inl e ↦
-              subst (λ (i : ℕ). run_at (slice_get views i) (slice_get x.hosts i) ≡ None) (sym e)
-              (ap (λ (o : Option HostView). run_at o (slice_get x.hosts h)) (changed_at_member h makes world.hosts d.view d.view_is)
-              ∙ ap (λ (t : Option Task). run_with t (slice_get x.hosts h)) (idle h d.view d.view_is))
-          | inr ne ↦
-              ap (λ (o : Option HostView). run_at o (slice_get x.hosts k)) (changed_other h k makes world.hosts ne)
-              ∙ no_run (slice_get world.hosts k) (slice_get x.hosts k) (idle k)
-        ]
-
-    none_kept : (k : ℕ) (o : Option HostView) → slice_get world.hosts k ≡ o → kept_at o ≡ None
-    none_kept k None is = refl
-    none_kept k (Some v) is = bare k v is
-
-    keep_none : (k : ℕ) → kept_at (slice_get views k) ≡ None
-    keep_none k = kept_same h d.view world.hosts d.view_is makes refl k ∙ none_kept k (slice_get world.hosts k) refl
-
-    are : AreHosts (hosts_of views x.hosts) (shared_of state.memory world.hosts)
-    are = record {
-      apart = λ a b id is_a is_b. held.invariant.declared.apart a b id (sym (uuids_same h d.view world.hosts d.view_is makes refl a) ∙ is_a) (sym (uuids_same h d.view world.hosts d.view_is makes refl b) ∙ is_b);
-      absent = λ k l none. held.invariant.declared.absent k l (sym (uuids_same h d.view world.hosts d.view_is makes refl k) ∙ none);
-      idle = λ k none. run_same k;
-      bare = λ k none. keep_none k;
-    }
-
-    never_dirty : (k l : ℕ) → k ≢ h → (o : Option HostView) → slice_get world.hosts k ≡ o → IsDirty (copy_at o l) → ⊥
-    never_dirty k l ne None is dirty = absurd (Rattle.std.proofs.lemmas.Bool.false≢true dirty)
-    never_dirty k l ne (Some v) is dirty = clean k v ne is l dirty
-
-    may : MayFormat h p (length start) (hosts_of views x.hosts) (shared_of state.memory world.hosts)
-    may = record {
-      sound = sound;
-      device = omega (arith, device, held.lines);
-      maker_is = ap uuid_at (changed_at_member h makes world.hosts d.view d.view_is) ∙ ap Some mine;
-      idle = run_same;
-      bare = keep_none;
-      clean = λ k l ne dirty. never_dirty k l ne (slice_get world.hosts k) refl dirty;
-      inside = λ l dirty. dirty_inside (settled_of x.state) (length start) (hosts_of world.hosts x.hosts) (shared_of state.memory world.hosts) held.invariant.stage h l dirty;
-    }
-
     formatted_held : Agrees start (with_machine h left d.host.task state) (record { hosts = views; journal = world.journal ++ Made h p ∷ [] }) left.image
     formatted_held =
-        held_with start state world state.memory held (with_machine h left d.host.task state) views (Made h p ∷ [])
+        held_with start state world state.memory held (with_machine h left d.host.task state) views (Made h p ∷ []) (line_at left.image)
         (form.count ∙ read_length m ∙ held.lines) (formatted_normal p (operated_all read_ops m).image (read_normal m held.normal)) (tt, tt)
         (stands_changed h d.view world.hosts d.view_is makes (length start) state.hosts d.host d.host_is (λ z. record z { cache = left.cache; task = d.host.task })
         record { name = d.stands.name; uuid = d.stands.uuid; cache = refl; task = d.stands.task; kept = d.stands.kept; joined = d.stands.joined } held.stands)
         (told_changed h d.view world.hosts d.view_is makes x.hosts x.hosts d.told d.told_is (λ k ne. refl)
         record { name = d.host_told.name; uuid = d.host_told.uuid; task = d.host_told.task } held.told)
-        (invariant_formatted h p (length start) (hosts_of views x.hosts) (shared_of state.memory world.hosts) (shared_of left.image views) may formats are wide)
+        tt
+        (invariant_formatted h p (length start) (hosts_of views x.hosts) (shared_of state.memory world.hosts) (shared_of left.image views) (may left.cache) formats (are left.cache) wide)
 
     -- the same, by the operations
     pub made_held : Agrees start (with_machine h done d.host.task state) (record { hosts = changed_at h (λ v. record v { cache = done.cache }) world.hosts; journal = world.journal ++ Made h p ∷ [] }) done.image

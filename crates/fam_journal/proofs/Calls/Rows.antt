@@ -32,6 +32,7 @@ use Rattle.fam_journal.specs.Members.{changed_at}
 use Rattle.fam_journal.specs.Notes.{Halt, Umount, Refused, Start, Stop}
 use Rattle.fam_journal.specs.Past.{HostPast, Past, past_behind, past_of}
 use Rattle.fam_journal.proofs.Calls.Hosts.{held_with, kept_else, kept_here, kept_same, kept_was, run_here, runs_else, stands_changed, told_changed, uuids_same}
+use Rattle.fam_journal.proofs.Settled.OverMemory.{over_memory, still_cleared}
 use Rattle.fam_protocol.proofs.Hosts.Acts.{transfers_by}
 use Rattle.fam_journal.proofs.Calls.Views.{acts_at}
 use Rattle.fam_journal.proofs.Calls.Members.{changed_at_member, changed_other}
@@ -40,7 +41,7 @@ use Rattle.fam_journal.proofs.Calls.Members.{changed_at_member, changed_other}
 pub refused_held : (start : Image) (state : Machines) (world : WorldView) → Agrees start state world state.memory → (name : List ℕ) (cause : Refusal)
     → Agrees start state (record { hosts = world.hosts; journal = world.journal ++ Refused name cause ∷ [] }) state.memory
 refused_held start state world held name cause =
-    held_with start state world state.memory held state world.hosts (Refused name cause ∷ []) held.lines held.normal (tt, tt) held.stands held.told held.invariant
+    held_with start state world state.memory held state world.hosts (Refused name cause ∷ []) (line_at state.memory) held.lines held.normal (tt, tt) held.stands held.told held.halted held.invariant
 
 -- what is known of a declared host
 pub record Declared (start : Image) (state : Machines) (world : WorldView) (h : ℕ) : Type 0 where
@@ -83,7 +84,7 @@ module _ (start : Image) (state : Machines) (world : WorldView) (held : Agrees s
   x = past_of start world.journal
 
   abbrev settled : Settled
-  settled = settled_of x.state
+  settled = settled_of x.state (line_at state.memory)
 
   -- where a change of the host keeps its cache, the protocol sees the same
   cache_kept : (change : HostView → HostView) → ((l : ℕ) → copy_at (Some (change d.view)) l ≡ copy_at (Some d.view) l) → (image : Image) → shared_of image (changed_at h change world.hosts) ≡ shared_of image world.hosts
@@ -121,7 +122,7 @@ module _ (start : Image) (state : Machines) (world : WorldView) (held : Agrees s
 
     pub begun_held : Agrees start (with_task h (Some (task_begun d.host.kept cmd d.host.uuid)) state) (record { hosts = changed_at h begins world.hosts; journal = world.journal ++ Start h cmd ∷ [] }) state.memory
     begun_held =
-        held_with start state world state.memory held (with_task h (Some (task_begun d.host.kept cmd d.host.uuid)) state) (changed_at h begins world.hosts) (Start h cmd ∷ []) held.lines held.normal (tt, tt)
+        held_with start state world state.memory held (with_task h (Some (task_begun d.host.kept cmd d.host.uuid)) state) (changed_at h begins world.hosts) (Start h cmd ∷ []) (line_at state.memory) held.lines held.normal (tt, tt)
         (stands_changed h d.view world.hosts d.view_is begins (length start) state.hosts d.host d.host_is (λ z. record z { task = Some (task_begun d.host.kept cmd d.host.uuid) })
         record {
           name = d.stands.name;
@@ -134,6 +135,7 @@ module _ (start : Image) (state : Machines) (world : WorldView) (held : Agrees s
         } held.stands)
         (told_changed h d.view world.hosts d.view_is begins x.hosts y.hosts told_begun begun_told_is begun_told_else
         record { name = d.host_told.name; uuid = d.host_told.uuid; task = record { cmd = refl } } held.told)
+        held.halted
         (subst (λ (s : SharedState). Invariant settled (length start) (hosts_of (changed_at h begins world.hosts) y.hosts) s) (sym begun_shared)
         (invariant_begun settled (length start) h (hosts_of world.hosts x.hosts) (hosts_of (changed_at h begins world.hosts) y.hosts) (shared_of state.memory world.hosts) cmd enough held.invariant
         record {
@@ -177,7 +179,7 @@ module _ (start : Image) (state : Machines) (world : WorldView) (held : Agrees s
 
   pub stopped_held : Agrees start (with_task h None state) (record { hosts = changed_at h drops world.hosts; journal = world.journal ++ Stop h ∷ [] }) state.memory
   stopped_held =
-      held_with start state world state.memory held (with_task h None state) (changed_at h drops world.hosts) (Stop h ∷ []) held.lines held.normal (tt, tt) drops_stands drops_told
+      held_with start state world state.memory held (with_task h None state) (changed_at h drops world.hosts) (Stop h ∷ []) (line_at state.memory) held.lines held.normal (tt, tt) drops_stands drops_told held.halted
       (subst (λ (s : SharedState). Invariant settled (length start) (hosts_of (changed_at h drops world.hosts) x.hosts) s) (sym (dropped_shared state.memory))
       (invariant_stopped settled (length start) h (hosts_of world.hosts x.hosts) (hosts_of (changed_at h drops world.hosts) x.hosts) (shared_of state.memory world.hosts) held.invariant drops_stops))
 
@@ -188,11 +190,12 @@ module _ (start : Image) (state : Machines) (world : WorldView) (held : Agrees s
 
   pub halted_held : Agrees start (with_parts h (record { image = state.memory; cache = finmap.empty }) None None state) (record { hosts = changed_at h halts world.hosts; journal = world.journal ++ Halt h ∷ [] }) state.memory
   halted_held =
-      held_with start state world state.memory held (with_parts h (record { image = state.memory; cache = finmap.empty }) None None state) (changed_at h halts world.hosts) (Halt h ∷ []) held.lines held.normal (tt, tt)
+      held_with start state world state.memory held (with_parts h (record { image = state.memory; cache = finmap.empty }) None None state) (changed_at h halts world.hosts) (Halt h ∷ []) (line_at state.memory) held.lines held.normal (tt, tt)
       (stands_changed h d.view world.hosts d.view_is halts (length start) state.hosts d.host d.host_is (λ z. record z { cache = finmap.empty; task = None; kept = None })
       record { name = d.stands.name; uuid = d.stands.uuid; cache = refl; task = tt; kept = refl; joined = tt } held.stands)
       (told_changed h d.view world.hosts d.view_is halts x.hosts x.hosts d.told d.told_is (λ k ne. refl)
       record { name = d.host_told.name; uuid = d.host_told.uuid; task = tt } held.told)
+      held.halted
       (invariant_halted settled (length start) h (hosts_of world.hosts x.hosts) (hosts_of (changed_at h halts world.hosts) x.hosts) (shared_of state.memory world.hosts) (shared_of state.memory (changed_at h halts world.hosts)) held.invariant
       record {
         is = run_here h d.view world.hosts d.view_is halts x.hosts d.told d.told_is;
@@ -224,11 +227,12 @@ module _ (start : Image) (state : Machines) (world : WorldView) (held : Agrees s
 
     pub umounted_held : Agrees start (with_kept h None state) (record { hosts = changed_at h forgets world.hosts; journal = world.journal ++ Umount h ∷ [] }) state.memory
     umounted_held =
-        held_with start state world state.memory held (with_kept h None state) (changed_at h forgets world.hosts) (Umount h ∷ []) held.lines held.normal (tt, tt)
+        held_with start state world state.memory held (with_kept h None state) (changed_at h forgets world.hosts) (Umount h ∷ []) (line_at state.memory) held.lines held.normal (tt, tt)
         (stands_changed h d.view world.hosts d.view_is forgets (length start) state.hosts d.host d.host_is (λ z. record z { kept = None })
         record { name = d.stands.name; uuid = d.stands.uuid; cache = d.stands.cache; task = d.stands.task; kept = refl; joined = tt } held.stands)
         (told_changed h d.view world.hosts d.view_is forgets x.hosts x.hosts d.told d.told_is (λ k ne. refl)
         record { name = d.host_told.name; uuid = d.host_told.uuid; task = d.host_told.task } held.told)
+        held.halted
         (subst (λ (s : SharedState). Invariant settled (length start) (hosts_of (changed_at h forgets world.hosts) x.hosts) s) (sym (cache_kept forgets (λ l. refl) state.memory))
         (invariant_stopped settled (length start) h (hosts_of world.hosts x.hosts) (hosts_of (changed_at h forgets world.hosts) x.hosts) (shared_of state.memory world.hosts) held.invariant forgets_stops))
 
@@ -280,5 +284,6 @@ module _ (start : Image) (state : Machines) (world : WorldView) (held : Agrees s
       told = told_changed h d.view world.hosts d.view_is moves x.hosts x.hosts d.told d.told_is (λ k ne. refl)
           record { name = d.host_told.name; uuid = d.host_told.uuid; task = d.host_told.task } held.told;
       legal = held.legal;
-      invariant = moved_invariant;
+      halted = still_cleared (line_at state.memory) (length start) (hosts_of (changed_at h moves world.hosts) x.hosts) (shared_of left (changed_at h moves world.hosts)) x.state moved_invariant held.halted;
+      invariant = over_memory (line_at state.memory) (length start) (hosts_of (changed_at h moves world.hosts) x.hosts) (shared_of left (changed_at h moves world.hosts)) x.state moved_invariant;
     }

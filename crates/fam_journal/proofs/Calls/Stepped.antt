@@ -21,12 +21,12 @@ use Rattle.fam_protocol.proofs.Hosts.Steps.{invariant_stepped}
 use Rattle.fam_rules.specs.Asks.{File}
 use Rattle.fam_rules.specs.Place.{line_bytes}
 use Rattle.fam_journal.specs.View.{HostStands, HostView, HostStandsAt, StandsAs, TaskStands, WorldView}
-use Rattle.fam_journal.specs.Kept.{Agrees, HostTold, IfRuns, TaskTold, ToldAt, hosts_of, run_at, run_of, run_with, shared_of, settled_of, uuid_at}
+use Rattle.fam_journal.specs.Kept.{Agrees, HostTold, IfHalted, IfRuns, IsCleared, TaskTold, ToldAt, hosts_of, run_at, run_of, run_with, shared_of, settled_of, uuid_at}
 use Rattle.fam_base.specs.declared.entry.Entry.{Entry}
 use Rattle.fam_base.specs.declared.entry.Params.{Params}
 use Rattle.fam_format.specs.Layout.{least_lines}
 use Rattle.fam_format.specs.Reading as read
-use Rattle.fam_format.specs.Reading.{reading_of}
+use Rattle.fam_format.specs.Reading.{Lines, reading_of}
 use Rattle.fam_protocol.specs.Bad.{MaySayBad}
 use Rattle.fam_journal.specs.Laws.{IsOwn}
 use Rattle.fam_journal.specs.Legal.{LegalBehind}
@@ -35,10 +35,11 @@ use Rattle.fam_journal.specs.Machines.{HostState, Machines, Passes, TaskState, m
 use Rattle.fam_journal.specs.Members.{changed_at}
 use Rattle.fam_journal.specs.Notes.{Note}
 use Rattle.fam_journal.specs.Past as past
-use Rattle.fam_journal.specs.Past.{Damage, FewLines, State, Bad, Sound, HostPast, Past, first_past, past_behind, past_of, settled_length}
+use Rattle.fam_journal.specs.Past.{Damage, FewLines, Given, Halted, State, Bad, Sound, HostPast, Past, first_past, past_behind, past_of, settled_length}
 use Rattle.fam_journal.proofs.Settled.BadStates.{bad_own, first_read, start_kept}
-use Rattle.fam_journal.proofs.Settled.DamagedTurns.{bad_settles, damaged_legal}
+use Rattle.fam_journal.proofs.Settled.DamagedTurns.{bad_settles, bad_stays, cleared_legal, damaged_legal}
 use Rattle.fam_journal.proofs.Settled.Journals.{legal_both, past_both}
+use Rattle.fam_journal.proofs.Settled.OverMemory.{known_free, over_memory, still_cleared}
 use Rattle.fam_journal.proofs.Calls.Members.{changed_at_member, changed_other}
 use Rattle.fam_journal.proofs.Settled.SoundTurns.{KeepsCommand, sound_legal, sound_settles}
 use Rattle.fam_journal.proofs.Calls.TaskRows.{kept_joined, row_served, task_stands}
@@ -49,11 +50,12 @@ use Rattle.fam_journal.proofs.Calls.Views.{acts_at}
 
 -- The bridge: what the protocol says of a turn is what the journal asks of its note.
 
-pub record Bridged (x : Past) (h : ℕ) (turn : Turn) : Type 0 where
+pub record Bridged (x : Past) (now : Lines) (h : ℕ) (turn : Turn) : Type 0 where
   pub legal : LegalBehind x (notes_of h (note_of turn))
-  pub settles : settled_of (past_behind x (notes_of h (note_of turn))).state ≡ turn_settles turn (settled_of x.state)
+  pub settles : settled_of (past_behind x (notes_of h (note_of turn))).state now ≡ turn_settles turn (settled_of x.state now)
+  pub halted : IfHalted (past_behind x (notes_of h (note_of turn))).state now
 
-module _ (start : Image) (hosts : List HostPast) (h : ℕ) (told : HostPast) (host_is : slice_get hosts h ≡ Some told) (kept : Option Kept) (cmd : Cmd) (uuid : List ℕ) (t : Task) (words : List ℕ) (made word : ℕ) (joined : IsKept kept) (standing : StandsFor kept cmd uuid (length start) t words made) (turn : Turn) (is : turn_given t word ≡ turn) (was : TaskTold t told) (me : told.uuid ≡ t.me) (all_hosts : Hosts) (shared : SharedState) where
+module _ (start : Image) (hosts : List HostPast) (h : ℕ) (told : HostPast) (host_is : slice_get hosts h ≡ Some told) (kept : Option Kept) (cmd : Cmd) (uuid : List ℕ) (t : Task) (words : List ℕ) (made word : ℕ) (joined : IsKept kept) (standing : StandsFor kept cmd uuid (length start) t words made) (turn : Turn) (is : turn_given t word ≡ turn) (was : TaskTold t told) (me : told.uuid ≡ t.me) (all_hosts : Hosts) (shared : SharedState) (now : Lines) where
   keeps_command : (p : Params) (history : List File) (pending : Option File) (have : ℕ) (uuids : ℕ → Option (List ℕ)) (master : Option ℕ) (x : Turn) → turn ≡ x → KeepsCommand p history pending start hosts h told host_is t was.cmd me have uuids master x
   keeps_command p history pending have uuids master (Goes next) e = tt
   keeps_command p history pending have uuids master (Marks next) e = tt
@@ -64,24 +66,41 @@ module _ (start : Image) (hosts : List HostPast) (h : ℕ) (told : HostPast) (ho
   -- a damaged image has as many lines as the one that was handed in
   damaged_bridged : (image : Image) (damage : Damage) (g : ℕ) → IsOwn (length start) image damage g → least_lines ≤ length start
       → ((p : Params) (entries : List Entry) → reading_of (line_at image) (line_bytes * length start) ≢ read.Sound p entries)
-      → MaySayBad turn (line_at image) (line_bytes * length start) t → Bridged (record { start = start; state = Bad image damage g; hosts = hosts }) h turn
+      → MaySayBad turn (line_at image) (line_bytes * length start) t → Bridged (record { start = start; state = Bad (Given image) damage g; hosts = hosts }) now h turn
   damaged_bridged image damage g own enough bad says = record {
-    legal = damaged_legal start image (Bad image damage g) hosts h told host_is t me (sym own.reads ∙ first_read image (subst (λ (n : ℕ). least_lines ≤ n) (sym own.lines_are) enough))
+    legal = damaged_legal start image (Bad (Given image) damage g) hosts h told host_is t me (sym own.reads ∙ first_read image (subst (λ (n : ℕ). least_lines ≤ n) (sym own.lines_are) enough))
         (subst (λ (n : ℕ). (p : Params) (entries : List Entry) → reading_of (line_at image) (line_bytes * n) ≢ read.Sound p entries) (sym own.lines_are) bad) turn
         (subst (λ (n : ℕ). MaySayBad turn (line_at image) (line_bytes * n) t) (sym own.lines_are) says);
-    settles = bad_settles start hosts h image damage g turn;
+    settles = bad_settles now start hosts h (Given image) damage g turn;
+    halted = subst (λ (s : State). IfHalted s now) (sym (bad_stays start hosts h (Given image) damage g turn)) tt;
   }
 
-  pub bridged : (state : State) → ((i : Image) (d : Damage) (g : ℕ) → state ≡ Bad i d g → IsOwn (length start) i d g) → InvariantBy (settled_of state) (length start) all_hosts shared
-      → TurnSays turn (run_of t told) (settled_of state) (length start) all_hosts → Bridged (record { start = start; state = state; hosts = hosts }) h turn
-  bridged (Sound p history pending) first stage says = record {
-    legal = sound_legal p history pending start hosts h told host_is t was.cmd me (line_bytes * length start) all_hosts.uuid says.master turn says.may;
-    settles = sound_settles p history pending start hosts h told host_is t was.cmd me (line_bytes * length start) all_hosts.uuid says.master turn says.may (keeps_command p history pending (line_bytes * length start) all_hosts.uuid says.master turn refl);
+  -- behind a mkfs whose maker halted there is no superblock
+  cleared_bridged : (damage : Damage) (g : ℕ) → IsCleared damage now → MaySayBad turn now (line_bytes * length start) t → Bridged (record { start = start; state = Bad Halted damage g; hosts = hosts }) now h turn
+  cleared_bridged damage g cleared says = record {
+    legal = cleared_legal start now (line_bytes * length start) damage g cleared hosts h told host_is t turn says;
+    settles = bad_settles now start hosts h Halted damage g turn;
+    halted = subst (λ (s : State). IfHalted s now) (sym (bad_stays start hosts h Halted damage g turn)) cleared;
   }
-  bridged (Bad image (FewLines lines) g) first stage says = absurd says
-  bridged (Bad image (past.NoSuperblock fault) g) own stage says = damaged_bridged image (past.NoSuperblock fault) g (own image (past.NoSuperblock fault) g refl) stage.enough stage.still.bad says
-  bridged (Bad image (past.BadHeader fault) g) own stage says = damaged_bridged image (past.BadHeader fault) g (own image (past.BadHeader fault) g refl) stage.enough stage.still.bad says
-  bridged (Bad image (past.BadSlot i reason) g) own stage says = damaged_bridged image (past.BadSlot i reason) g (own image (past.BadSlot i reason) g refl) stage.enough stage.still.bad says
+
+  pub bridged : (state : State) → ((i : Image) (d : Damage) (g : ℕ) → state ≡ Bad (Given i) d g → IsOwn (length start) i d g) → IfHalted state now → InvariantBy (settled_of state now) (length start) all_hosts shared
+      → TurnSays turn (run_of t told) (settled_of state now) (length start) all_hosts → Bridged (record { start = start; state = state; hosts = hosts }) now h turn
+  bridged (Sound p history pending) first halted stage says = record {
+    legal = sound_legal p history pending start hosts h told host_is t was.cmd me (line_bytes * length start) all_hosts.uuid says.master turn says.may;
+    settles = settled;
+    halted = known_free _ now p _ _ settled;
+  }
+    where
+      settled : settled_of (past_behind (record { start = start; state = Sound p history pending; hosts = hosts }) (notes_of h (note_of turn))).state now ≡ turn_settles turn (settled_of (Sound p history pending) now)
+      settled = sound_settles p history pending start hosts h told host_is t was.cmd me (line_bytes * length start) all_hosts.uuid says.master now turn says.may (keeps_command p history pending (line_bytes * length start) all_hosts.uuid says.master turn refl)
+  bridged (Bad (Given image) (FewLines lines) g) first halted stage says = absurd says
+  bridged (Bad (Given image) (past.NoSuperblock fault) g) own halted stage says = damaged_bridged image (past.NoSuperblock fault) g (own image (past.NoSuperblock fault) g refl) stage.enough stage.still.bad says
+  bridged (Bad (Given image) (past.BadHeader fault) g) own halted stage says = damaged_bridged image (past.BadHeader fault) g (own image (past.BadHeader fault) g refl) stage.enough stage.still.bad says
+  bridged (Bad (Given image) (past.BadSlot i reason) g) own halted stage says = damaged_bridged image (past.BadSlot i reason) g (own image (past.BadSlot i reason) g refl) stage.enough stage.still.bad says
+  bridged (Bad Halted (FewLines lines) g) first halted stage says = absurd says
+  bridged (Bad Halted (past.NoSuperblock fault) g) own halted stage says = cleared_bridged (past.NoSuperblock fault) g halted says
+  bridged (Bad Halted (past.BadHeader fault) g) own halted stage says = cleared_bridged (past.BadHeader fault) g halted says
+  bridged (Bad Halted (past.BadSlot i reason) g) own halted stage says = cleared_bridged (past.BadSlot i reason) g halted says
 
 -- What is known of a host that has a task.
 
@@ -144,8 +163,11 @@ module _ (start : Image) (state : Machines) (world : WorldView) (held : Agrees s
 
     -- What the protocol says.
 
+    abbrev now : Lines
+    now = line_at state.memory
+
     abbrev settled : Settled
-    settled = settled_of x.state
+    settled = settled_of x.state now
 
     abbrev old_hosts : Hosts
     old_hosts = hosts_of world.hosts x.hosts
@@ -170,7 +192,7 @@ module _ (start : Image) (state : Machines) (world : WorldView) (held : Agrees s
       mine =
           ap₂ run_at (changed_at_member h changed world.hosts view view_is) (told_here x h turn told told_is)
           ∙ run_same turn (settled_length x.state) t told
-          ∙ ap (λ (n : ℕ). run_after turn n (run_of t told)) (sym (settled_same x.state))
+          ∙ ap (λ (n : ℕ). run_after turn n (run_of t told)) (sym (settled_same x.state now))
           ∙ ap (λ (z : Turn). run_after z (settled_count settled) (run_of t told)) (sym is);
       runs = λ k ne. ap₂ run_at (changed_other h k changed world.hosts ne) (told_other x h turn k ne);
       keeps =
@@ -191,17 +213,17 @@ module _ (start : Image) (state : Machines) (world : WorldView) (held : Agrees s
         same_Some told.uuid t.me
         (ap Some host_told.uuid ∙ ap uuid_at (sym view_is) ∙ me_of settled (length start) old_hosts (shared_of state.memory world.hosts) h (run_of t told) held.invariant.stage run_is)
 
-    bridge : Bridged x h turn
+    bridge : Bridged x now h turn
     bridge =
-        subst (λ (i : Image). Bridged (record { start = i; state = x.state; hosts = x.hosts }) h turn) (sym (start_kept world.journal (first_past start)))
-        (bridged start x.hosts h told told_is s.kept s.cmd s.me t s.words s.made word standing.joined standing.stands turn is task_was me_is old_hosts (shared_of state.memory world.hosts) x.state
-        (λ i d g e. bad_own start i d g world.journal e) held.invariant.stage
+        subst (λ (i : Image). Bridged (record { start = i; state = x.state; hosts = x.hosts }) now h turn) (sym (start_kept world.journal (first_past start)))
+        (bridged start x.hosts h told told_is s.kept s.cmd s.me t s.words s.made word standing.joined standing.stands turn is task_was me_is old_hosts (shared_of state.memory world.hosts) now x.state
+        (λ i d g e. bad_own start i d g world.journal e) held.halted held.invariant.stage
         (subst (λ (z : Turn). TurnSays z (run_of t told) settled (length start) old_hosts) is step_holds.says))
 
-    settles : settled_of y.state ≡ turn_settles turn settled
+    settles : settled_of y.state now ≡ turn_settles turn settled
     settles = bridge.settles
 
-    invariant_next : Invariant (settled_of y.state) (length start) (hosts_of views y.hosts) (shared_of after.image views)
+    invariant_next : Invariant (settled_of y.state now) (length start) (hosts_of views y.hosts) (shared_of after.image views)
     invariant_next = subst (λ (z : Settled). Invariant z (length start) (hosts_of views y.hosts) (shared_of after.image views)) (ap (λ (z : Turn). turn_settles z settled) is ∙ sym settles) step_holds.invariant
 
     -- The world again.
@@ -267,5 +289,7 @@ module _ (start : Image) (state : Machines) (world : WorldView) (held : Agrees s
       stands = stands_on;
       told = λ k. subst (λ (z : Past). ToldAt (slice_get views k) (slice_get z.hosts k)) (sym past_is) (told_on k);
       legal = legal_both (first_past start) world.journal notes held.legal bridge.legal;
-      invariant = subst (λ (z : Past). Invariant (settled_of z.state) (length start) (hosts_of views z.hosts) (shared_of after.image views)) (sym past_is) invariant_next;
+      halted = subst (λ (z : Past). IfHalted z.state (line_at after.image)) (sym past_is) (still_cleared now (length start) (hosts_of views y.hosts) (shared_of after.image views) y.state invariant_next bridge.halted);
+      invariant = subst (λ (z : Past). Invariant (settled_of z.state (line_at after.image)) (length start) (hosts_of views z.hosts) (shared_of after.image views)) (sym past_is)
+          (over_memory now (length start) (hosts_of views y.hosts) (shared_of after.image views) y.state invariant_next);
     }

@@ -38,7 +38,7 @@ module _ (start : Image) (state : Machines) (world : WorldView) (held : Agrees s
   x = past_of start world.journal
 
   abbrev settled : Settled
-  settled = settled_of x.state
+  settled = settled_of x.state (line_at state.memory)
 
   -- A cache's own move.
 
@@ -80,7 +80,7 @@ module _ (start : Image) (state : Machines) (world : WorldView) (held : Agrees s
     -- in a move of a cache: nothing but memory is other than before, and the call is refused
     pub line_torn_held : (name : List ℕ) (cause : Refusal) → Agrees start (with_memory left state) (record { hosts = world.hosts; journal = world.journal ++ Refused name cause ∷ [] }) left
     line_torn_held name cause =
-        held_with start state world state.memory held (with_memory left state) world.hosts (Refused name cause ∷ []) line_torn_lines line_torn_normal (tt, tt) held.stands held.told line_torn_invariant
+        held_with start state world state.memory held (with_memory left state) world.hosts (Refused name cause ∷ []) (line_at state.memory) line_torn_lines line_torn_normal (tt, tt) held.stands held.told held.halted line_torn_invariant
 
   -- in a task's operation: the task is gone
   module _ (op : Op) (inside : IsInImage op (record { image = state.memory; cache = d.view.cache })) (failure : Failure) (broken : HasBroken op (record { image = state.memory; cache = d.view.cache }) failure) where
@@ -108,13 +108,14 @@ module _ (start : Image) (state : Machines) (world : WorldView) (held : Agrees s
 
     pub failed_held : Agrees start (with_machine h failure.left None state) (record { hosts = views; journal = world.journal ++ Answered h (MediaFault failure.line.0) ∷ [] }) failure.left.image
     failed_held =
-        held_with start state world state.memory held (with_machine h failure.left None state) views (Answered h (MediaFault failure.line.0) ∷ [])
+        held_with start state world state.memory held (with_machine h failure.left None state) views (Answered h (MediaFault failure.line.0) ∷ []) (line_at state.memory)
         (breaks_length own failure breaks ∙ held.lines) (breaks_normal own failure breaks held.normal)
         (subst (λ (o : Option HostPast). OfHost o (λ z. ⊤)) (sym d.told_is) tt, tt)
         (stands_changed h d.view world.hosts d.view_is fails (length start) state.hosts d.host d.host_is (λ z. record z { cache = failure.left.cache; task = None })
         record { name = d.stands.name; uuid = d.stands.uuid; cache = refl; task = tt; kept = d.stands.kept; joined = d.stands.joined } held.stands)
         (told_changed h d.view world.hosts d.view_is fails x.hosts x.hosts d.told d.told_is (λ k ne. refl)
         record { name = d.host_told.name; uuid = d.host_told.uuid; task = tt } held.told)
+        held.halted
         (invariant_stopped settled (length start) h (hosts_of world.hosts x.hosts) (hosts_of views x.hosts) (shared_of failure.left.image views) broken_invariant
         record {
           is = run_here h d.view world.hosts d.view_is fails x.hosts d.told d.told_is;

@@ -5,7 +5,8 @@ use Rattle.std.specs.FinMap as finmap
 use Rattle.std.proofs.lemmas.List.{length-replicate}
 use Rattle.fam_base.proofs.ImageLemmas.{length-with_line}
 use Rattle.fam_format.specs.Stop.{or_else}
-use Rattle.fam_machine.specs.Mkfs.{asked, early_refusal, mkfs_ops, read_ops}
+use Rattle.fam_machine.specs.Mkfs.{asked, early_refusal, halted_ops, mkfs_ops, read_ops}
+use Rattle.fam_base.specs.declared.entry.Params.{Params}
 use Rattle.fam_base.specs.Image.{line_at}
 use Rattle.fam_machine.specs.declared.request.MkfsRequest.{MkfsRequest}
 use Rattle.fam_machine.specs.Caches.{cell_at}
@@ -17,11 +18,11 @@ use Rattle.fam_rules.specs.Place.{line_bytes}
 use Rattle.fam_journal.specs.declared.refusal.Refusal.{Refusal}
 use Rattle.fam_journal.specs.declared.refusal.Refusal.TheVariants as why
 use Rattle.fam_journal.specs.Calls as call
-use Rattle.fam_journal.specs.Calls.{Acts, ActsAt, AtNumber, BreaksOff, ByRefusal, Call, CutsAt, Does, MayBeRefused, OnHost, Unfinished, busy_refusal, cause_of, dirty_from, dirty_refusal, is_engaged, makes_refusal, may_begin, name_of, number_of, on_host, refusal_of}
-use Rattle.fam_journal.specs.Forms.{ActsForm, AreFormed, AtForm, BreaksForm, DirtyForm, DoesForm, FaultForm, FormByRefusal, FreeForm, HostActsForm, HostForm, OfHostForm, Pairs, StateFormed, UnfinishedForm, forms_behind, makes_told, refusal_told, shown_forms}
+use Rattle.fam_journal.specs.Calls.{Acts, ActsAt, AtNumber, BreaksOff, ByRefusal, Call, CutsAt, Does, MakesOrHalts, MayBeRefused, OnHost, Unfinished, busy_refusal, cause_of, dirty_from, dirty_refusal, is_engaged, makes_refusal, may_begin, name_of, number_of, on_host, refusal_of}
+use Rattle.fam_journal.specs.Forms.{ActsForm, AreFormed, AtForm, BreaksForm, DirtyForm, DoesForm, FaultForm, FormByRefusal, FreeForm, HostActsForm, HostForm, OfHostForm, Pairs, StateFormed, SuperForm, UnfinishedForm, forms_behind, made_note, makes_told, refusal_told, shown_forms}
 use Rattle.fam_journal.specs.Machines.{HostState, Machines, machine_of, with_machine}
 use Rattle.fam_journal.specs.Members.{index_of}
-use Rattle.fam_journal.specs.Notes.{Note, Made, Refused}
+use Rattle.fam_journal.specs.Notes.{Note, Made, Cut, Refused}
 use Rattle.fam_journal.proofs.Forms.Operations.{all_length, all_look, form_halted, form_moved, move_length, operates_form, operation_form, runs_same}
 use Rattle.fam_journal.proofs.Forms.Pairs.{Looks, engaged_place, dirty_other, may_same, number_same, pairs_at, pairs_changed, pairs_last, pairs_length, refusal_looks, step_same}
 
@@ -73,12 +74,25 @@ module _ (lines : ℕ) (m : Machines) (hosts : List HostForm) (formed : AreForme
 
     act_form : (c : Call) (notes : List Note) (new : Machines) → ActsAt c h host m notes new → Formed (ActsForm c h f lines hosts) lines hosts notes new
     act_form (call.Declares name uuid) notes new x = absurd x
-    act_form (call.Makes name request) notes new (inl x) =
-        formed_as (ActsForm (call.Makes name request) h f lines hosts) lines hosts notes _ new _ x.notes_are x.left
-        record {
-          form = inl (ap₂ (λ (me : List ℕ) (n : ℕ). Made h (asked request me n) ∷ []) (sym is.uuid) formed.lines_are);
-          next = stays (Made h (asked request host.uuid (length m.memory)) ∷ []) _ refl (all_length (mkfs_ops (asked request host.uuid (length m.memory))) (machine_of m host));
-        }
+    act_form (call.Makes name request) notes new (inl x) = make_form request.halt notes new x
+      where
+        params : asked request host.uuid (length m.memory) ≡ asked request f.uuid lines
+        params = ap₂ (asked request) (sym is.uuid) formed.lines_are
+
+        make_form : (halt : Option ℕ) (notes : List Note) (new : Machines) → MakesOrHalts halt h (asked request host.uuid (length m.memory)) request.force host m notes new
+            → Formed (λ z. (z ≡ made_note halt h (asked request f.uuid lines) ∷ []) ⊎ SuperForm request.force name z) lines hosts notes new
+        make_form None notes new x =
+            formed_as (λ z. (z ≡ made_note None h (asked request f.uuid lines) ∷ []) ⊎ SuperForm request.force name z) lines hosts notes _ new _ x.notes_are x.left
+            record {
+              form = inl (ap (λ (p : Params). Made h p ∷ []) params);
+              next = stays (Made h (asked request host.uuid (length m.memory)) ∷ []) _ refl (all_length (mkfs_ops (asked request host.uuid (length m.memory))) (machine_of m host));
+            }
+        make_form (Some k) notes new x =
+            formed_as (λ z. (z ≡ made_note (Some k) h (asked request f.uuid lines) ∷ []) ⊎ SuperForm request.force name z) lines hosts notes _ new _ x.notes_are x.left
+            record {
+              form = inl refl;
+              next = stays (Cut h k ∷ []) _ refl (all_length (halted_ops k (asked request host.uuid (length m.memory))) (machine_of m host));
+            }
     act_form (call.Makes name request) notes new (inr x) =
         formed_as (ActsForm (call.Makes name request) h f lines hosts) lines hosts notes _ new _ x.notes_are x.left
         record {

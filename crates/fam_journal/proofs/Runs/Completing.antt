@@ -4,7 +4,8 @@ use Rattle.std.proofs.Common.{◌≡◌, ℕ, ◌⊎◌, inl, inr, Bool, true, f
 use Rattle.std.specs.Prelude.{slice_get, is_some}
 use Rattle.std.proofs.lemmas.List.{append-nil, append_assoc}
 use Rattle.std.proofs.lemmas.Option.{same_Some}
-use Rattle.fam_base.specs.Image.{Image}
+use Rattle.fam_base.specs.declared.entry.Params.{Params}
+use Rattle.fam_base.specs.Image.{Image, line_at}
 use Rattle.fam_machine.specs.MkfsRequest.{mkfs_request}
 use Rattle.fam_media.specs.Files.{Files}
 use Rattle.fam_machine.specs.declared.op.Op.{Op}
@@ -22,7 +23,7 @@ use Rattle.fam_journal.specs.declared.event.Event.{Event}
 use Rattle.fam_journal.specs.declared.event.Event.TheVariants as event
 use Rattle.fam_journal.specs.declared.refusal.Refusal.{Refusal}
 use Rattle.fam_journal.specs.Calls as call
-use Rattle.fam_journal.specs.Calls.{Acts, ActsAt, AtNumber, ByRefusal, Call, Completes, Does, OnHost, DoesOperations, busy_at, has_name, is_busy_host, name_of, number_of, refusal_of}
+use Rattle.fam_journal.specs.Calls.{Acts, ActsAt, AtNumber, ByRefusal, Call, Completes, Does, MakesOrHalts, OnHost, DoesOperations, busy_at, has_name, is_busy_host, name_of, number_of, refusal_of}
 use Rattle.fam_journal.specs.Complete.{AreRuled, EndsInAnswer}
 use Rattle.fam_journal.specs.Ends.{IsFaultless}
 use Rattle.fam_journal.specs.Events.{DoesEvent, Continues, Session, first_session}
@@ -73,7 +74,7 @@ module _ (start : Image) where
       mine : (d : Declared start state (record { hosts = kept.views; journal = journal }) h) → (t : Turned start state journal kept h d notes) → d.told.uuid ≡ t.t.me
       mine d t =
           same_Some d.told.uuid t.t.me
-          (ap Some d.host_told.uuid ∙ ap uuid_at (sym d.view_is) ∙ me_of (settled_of (past_of start journal).state) (length start) (hosts_kept state journal kept) (shared_kept state journal kept) h (run_of t.t d.told) kept.held.invariant.stage (runs d t))
+          (ap Some d.host_told.uuid ∙ ap uuid_at (sym d.view_is) ∙ me_of (settled_of (past_of start journal).state (line_at state.memory)) (length start) (hosts_kept state journal kept) (shared_kept state journal kept) h (run_of t.t d.told) kept.held.invariant.stage (runs d t))
 
       by_turn : (d : Declared start state (record { hosts = kept.views; journal = journal }) h) → Turned start state journal kept h d notes ⊎ ((line : ℕ) × (notes ≡ Answered h (MediaFault line) ∷ [])) → AreRuled (past_of start journal) notes
       by_turn d (inl t) =
@@ -81,7 +82,7 @@ module _ (start : Image) where
           (turn_ruled (past_of start journal) h (turn_given t.t t.word) d.told t.s.cmd d.told_is t.cmd_is (turn_fits t.s.kept t.s.cmd t.s.me (length start) t.t t.s.words t.s.made t.word t.standing.joined t.standing.stands)
           (λ given is. owns_fault (length start) (hosts_kept state journal kept) (shared_kept state journal kept) h (run_of t.t d.told) (runs d t) t.s.cmd d.told
           (standing_tied t.s.kept t.s.cmd t.s.me (length start) t.t t.s.words t.s.made t.standing.joined t.standing.stands).cmd_is (mine d t)
-          (past_of start journal).state (λ i g n e. bad_own start i g n journal e) kept.held.invariant.stage t.word given is)
+          (past_of start journal).state (λ i g n e. bad_own start i g n journal e) (line_at state.memory) kept.held.invariant.stage t.word given is)
           (subst (LegalBehind (past_of start journal)) t.notes_are legal))
       by_turn d (inr fault) = subst (AreRuled (past_of start journal)) (sym fault.1) (tt, tt)
 
@@ -98,9 +99,13 @@ module _ (start : Image) where
 
   -- one note that is no answer
   module _ (state : Machines) (journal : List Note) (kept : Reached start state journal) (notes : List Note) (new : Machines) where
+    make_ruled : (halt : Option ℕ) (h : ℕ) (p : Params) (force : Bool) (host : HostState) → MakesOrHalts halt h p force host state notes new → AreRuled (past_of start journal) notes
+    make_ruled None h p force host x = subst (AreRuled (past_of start journal)) (sym x.notes_are) (tt, tt)
+    make_ruled (Some k) h p force host x = subst (AreRuled (past_of start journal)) (sym x.notes_are) (tt, tt)
+
     act_ruled : (c : Call) (h : ℕ) (host : HostState) → ActsAt c h host state notes new → AreRuled (past_of start journal) notes
     act_ruled (call.Declares name uuid) h host x = absurd x
-    act_ruled (call.Makes name request) h host (inl x) = subst (AreRuled (past_of start journal)) (sym x.notes_are) (tt, tt)
+    act_ruled (call.Makes name request) h host (inl x) = make_ruled request.halt h _ request.force host x
     act_ruled (call.Makes name request) h host (inr x) = subst (AreRuled (past_of start journal)) (sym x.notes_are) (tt, tt)
     act_ruled (call.Begins name cmd) h host x = subst (AreRuled (past_of start journal)) (sym x.0) (tt, tt)
     act_ruled (call.Steps name) h host x = operation_ruled h state journal kept notes new x

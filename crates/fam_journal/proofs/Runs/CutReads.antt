@@ -1,10 +1,10 @@
 -- What the image reads as behind a mkfs that a media fault cut.
-use Rattle.std.proofs.Common.{◌≡◌, ℕ, ◌≤◌, inl, inr, List, [], ◌∷◌, ◌++◌, length, Option, Some, None, refl, ap, sym, ◌∙◌, subst, arith}
+use Rattle.std.proofs.Common.{◌≡◌, ℕ, inl, inr, List, [], ◌∷◌, ◌++◌, length, Option, Some, None, refl, ap, sym, ◌∙◌, subst, arith}
 use Rattle.std.specs.Prelude.{slice_get}
 use Rattle.std.proofs.lemmas.Option.{same_Some}
 use Rattle.fam_base.specs.declared.entry.Params.{Params}
 use Rattle.fam_base.specs.declared.line.LineNo.{LineNo}
-use Rattle.fam_base.specs.Image.{Image}
+use Rattle.fam_base.specs.Image.{Image, line_at}
 use Rattle.fam_format.specs.Params.{IsUuid}
 use Rattle.fam_format.specs.Reading.{reading}
 use Rattle.fam_machine.specs.declared.request.MkfsRequest.{MkfsRequest}
@@ -15,8 +15,6 @@ use Rattle.fam_machine.specs.MkfsRequest.{mkfs_request}
 use Rattle.fam_machine.specs.OneLine.{IsDirty}
 use Rattle.fam_machine.specs.Operations.{Machine}
 use Rattle.fam_machine.proofs.CutMkfs.{cut_is}
-use Rattle.fam_protocol.specs.Invariant.{Damaged, Hosts, InvariantBy, Known, Settled, Small}
-use Rattle.fam_protocol.specs.SharedState.{SharedState}
 use Rattle.fam_journal.specs.declared.event.Event.{Event}
 use Rattle.fam_journal.specs.declared.refusal.Refusal.{Refusal}
 use Rattle.fam_journal.specs.declared.event.Event.TheVariants as event
@@ -29,9 +27,10 @@ use Rattle.fam_journal.specs.Kept.{Reached, copy_at, hosts_of, settled_of, share
 use Rattle.fam_journal.specs.Laws.{IsSoundEvent}
 use Rattle.fam_journal.specs.Machines.{HostState, Machines, machine_of}
 use Rattle.fam_journal.specs.Notes.{Note, Refused}
-use Rattle.fam_journal.specs.Past.{Bad, Past, Sound, State, first_past, past_of}
+use Rattle.fam_journal.specs.Past.{Bad, Given, Halted, Past, Sound, State, first_past, past_of}
 use Rattle.fam_journal.specs.View.{HostView}
 use Rattle.fam_journal.proofs.Calls.Keeping.{enough_to_make, makes_sound, same_cache}
+use Rattle.fam_journal.proofs.Calls.HaltRows.{head_sent}
 use Rattle.fam_journal.proofs.Calls.MkfsRows.{whole}
 use Rattle.fam_journal.proofs.Calls.Rows.{Declared, declared}
 use Rattle.fam_journal.proofs.Runs.Left.{held_reads}
@@ -39,19 +38,14 @@ use Rattle.fam_journal.proofs.Settled.Journals.{past_both}
 
 -- an image that reads as one before it, which read as a state
 still_reads : (s : State) (old new : Image) → ReadsAs s old → reading new ≡ reading old → StillReads s new
-still_reads (Bad image damage gate) old new is same = same ∙ ap reading is
+still_reads (Bad (Given image) damage gate) old new is same = same ∙ ap reading is
+still_reads (Bad Halted damage gate) old new is same = same ∙ is
 still_reads (Sound p history pending) old new (inl is) same = inl (same ∙ is)
 still_reads (Sound p history pending) old new (inr is) same = inr (same ∙ is)
 
 cut_reads : (p : Params) (s : State) (old new : Image) → ReadsAs s old → IsOldNoneOrNew p old new → CutReads p s new
 cut_reads p s old new is (inl same) = inl (still_reads s old new is same)
 cut_reads p s old new is (inr other) = inr other
-
--- no cache has anything to send of lines 0, 1 and 2
-head_sent : (settled : Settled) (lines : ℕ) (hosts : Hosts) (s : SharedState) → InvariantBy settled lines hosts s → (h l : ℕ) → l ≤ 2 → IsDirty (s.copy h l) → ⊥
-head_sent (Small image) lines hosts s stage h l small dirty = stage.clean h l dirty
-head_sent (Damaged image) lines hosts s stage h l small dirty = stage.still.clean h l dirty
-head_sent (Known p all settled) lines hosts s stage h l small dirty = stage.core.head.clean h l (inl small) dirty
 
 module _ (start : Image) (state : Machines) (journal : List Note) (kept : Reached start state journal) where
   abbrev s : State
@@ -61,7 +55,7 @@ module _ (start : Image) (state : Machines) (journal : List Note) (kept : Reache
     head : IsHeadSent d.host.cache
     head =
         subst IsHeadSent (sym d.stands.cache)
-        (λ l below dirty. head_sent (settled_of s) (length start) (hosts_of kept.views (past_of start journal).hosts) (shared_of state.memory kept.views) kept.held.invariant.stage h l (omega (arith, below))
+        (λ l below dirty. head_sent (settled_of s (line_at state.memory)) (length start) (hosts_of kept.views (past_of start journal).hosts) (shared_of state.memory kept.views) kept.held.invariant.stage h l (omega (arith, below))
         (subst IsDirty (sym (ap (λ (o : Option HostView). copy_at o l) d.view_is)) dirty))
 
     eight_words : HasEightWords (machine_of state d.host)
@@ -69,37 +63,37 @@ module _ (start : Image) (state : Machines) (journal : List Note) (kept : Reache
 
     -- of the maker's machine
     maker_cut : (request : MkfsRequest) → IsUuid request.fs → makes_refusal request.unit request.log h state ≡ None → (line : LineNo) (left : Machine)
-        → Cuts (expected_ops request.force (asked request d.host.uuid (length state.memory)) (machine_of state d.host)) (machine_of state d.host) line left
+        → Cuts (expected_ops request.force request.halt (asked request d.host.uuid (length state.memory)) (machine_of state d.host)) (machine_of state d.host) line left
         → CutReads (asked request d.host.uuid (length state.memory)) s left.image
     maker_cut request uuid free line left cuts =
         cut_reads (asked request d.host.uuid (length state.memory)) s state.memory left.image
         (held_reads start state (record { hosts = kept.views; journal = journal }) state.memory kept.held)
         (cut_is (asked request d.host.uuid (length state.memory)) (machine_of state d.host) line left (makes_sound start state journal kept h d request uuid free)
-        (enough_to_make start state journal kept h d request.unit request.log free) (omega arith) kept.held.normal eight_words head request.force cuts)
+        (enough_to_make start state journal kept h d request.unit request.log free) (omega arith) kept.held.normal eight_words head request.force request.halt cuts)
 
   -- of a mkfs
   make_cut : (name : List ℕ) (request : MkfsRequest) → IsUuid request.fs → refusal_of (call.Makes name request) state ≡ None → (notes : List Note) (new : Machines)
-      → AtNumber (number_of name state) state (λ h host. MakesCut h (asked request host.uuid (length state.memory)) request.force name host state notes new)
+      → AtNumber (number_of name state) state (λ h host. MakesCut h (asked request host.uuid (length state.memory)) request.force request.halt name host state notes new)
       → CutCallReads (call.Makes name request) state s new.memory
   unfolding refusal_of
   make_cut name request uuid free notes new x = by_number (number_of name state) refl x
     where
       by_host : (h : ℕ) → number_of name state ≡ Some h → (o : Option HostState) → slice_get state.hosts h ≡ o
-          → OnHost o (λ host. MakesCut h (asked request host.uuid (length state.memory)) request.force name host state notes new)
+          → OnHost o (λ host. MakesCut h (asked request host.uuid (length state.memory)) request.force request.halt name host state notes new)
           → OnHost o (λ host. CutReads (asked request host.uuid (length state.memory)) s new.memory)
       by_host h number None is x = absurd x
       by_host h number (Some host) is x =
           let may : makes_refusal request.unit request.log h state ≡ None = sym (ap (λ (o : Option ℕ). on_host o (λ h. makes_refusal request.unit request.log h state)) number) ∙ free in
           let d = declared start state (record { hosts = kept.views; journal = journal }) state.memory kept.held h host is in
           let own : host ≡ d.host = same_Some host d.host (sym is ∙ d.host_is) in
-          let y : MakesCut h (asked request d.host.uuid (length state.memory)) request.force name d.host state notes new =
-          subst (λ (z : HostState). MakesCut h (asked request z.uuid (length state.memory)) request.force name z state notes new) own x in
+          let y : MakesCut h (asked request d.host.uuid (length state.memory)) request.force request.halt name d.host state notes new =
+          subst (λ (z : HostState). MakesCut h (asked request z.uuid (length state.memory)) request.force request.halt name z state notes new) own x in
           subst (λ (z : HostState). CutReads (asked request z.uuid (length state.memory)) s new.memory) (sym own)
           (subst (λ (m : Machines). CutReads (asked request d.host.uuid (length state.memory)) s m.memory) (sym y.left_is)
           (maker_cut h d request uuid may y.line y.left y.cuts))
 
       by_number : (o : Option ℕ) → number_of name state ≡ o
-          → AtNumber o state (λ h host. MakesCut h (asked request host.uuid (length state.memory)) request.force name host state notes new)
+          → AtNumber o state (λ h host. MakesCut h (asked request host.uuid (length state.memory)) request.force request.halt name host state notes new)
           → AtNumber o state (λ h host. CutReads (asked request host.uuid (length state.memory)) s new.memory)
       by_number None is x = absurd x
       by_number (Some h) is x = by_host h is (slice_get state.hosts h) refl x

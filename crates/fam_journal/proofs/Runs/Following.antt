@@ -7,6 +7,9 @@ use Rattle.std.proofs.lemmas.List.{append-nil, append_assoc}
 use Rattle.std.proofs.lemmas.Option.{same_Some}
 use Rattle.fam_base.specs.Image.{Image}
 use Rattle.fam_commands.specs.Classes.{is_mount}
+use Rattle.fam_format.specs.Params.{IsUuid}
+use Rattle.fam_machine.specs.declared.request.MkfsRequest.{MkfsRequest}
+use Rattle.fam_machine.specs.Mkfs.{asked}
 use Rattle.fam_machine.specs.MkfsRequest.{mkfs_request}
 use Rattle.fam_media.specs.Files.{Files}
 use Rattle.fam_journal.specs.declared.event.Ask.{Ask}
@@ -15,7 +18,7 @@ use Rattle.fam_journal.specs.declared.event.Event.TheVariants as event
 use Rattle.fam_journal.specs.declared.refusal.Refusal.{Refusal}
 use Rattle.fam_journal.specs.declared.refusal.Refusal.TheVariants as why
 use Rattle.fam_journal.specs.Calls as call
-use Rattle.fam_journal.specs.Calls.{ActsAt, ActsOf, Acts, AtNumber, BreaksOff, ByRefusal, Call, Completes, CutsAt, Does, OnHost, DoesOperations, Unfinished, begins_refusal, line_refusal, makes_refusal, name_of, number_of, on_host, refusal_of, umounts_refusal}
+use Rattle.fam_journal.specs.Calls.{ActsAt, ActsOf, Acts, AtNumber, BreaksOff, ByRefusal, Call, Completes, CutsAt, Does, MakesOrHalts, OnHost, DoesOperations, Unfinished, begins_refusal, line_refusal, makes_refusal, name_of, number_of, on_host, refusal_of, umounts_refusal}
 use Rattle.fam_journal.specs.Ends.{AllDone, CutEventReads, Ending, EventsDone, MkfsFails, EndsOutOfMemory, EndsOutOfMemoryBroken, ReadsAs, SinkFails, SourceFails}
 use Rattle.fam_journal.specs.Events.{BreaksEvent, DoesEvent, Continues, IsBegun, RefusesEvent, MayNotStep, PartOf, Session, first_session}
 use Rattle.fam_journal.specs.Follows.{Follows, FollowsBroken}
@@ -28,7 +31,7 @@ use Rattle.fam_journal.specs.Notes.{Halt, Note, Refused, Stop}
 use Rattle.fam_journal.specs.Past.{State, first_past, past_of}
 use Rattle.fam_journal.proofs.Calls.Begin.{held_first}
 use Rattle.fam_journal.proofs.Settled.Journals.{legal_both}
-use Rattle.fam_journal.proofs.Calls.Keeping.{begins_kept, declared_kept, enough_to_make, kept_as, made_kept, met_kept, move_failed_kept, moved_kept, operation_at, refused_kept, umounts_kept, uuids_kept}
+use Rattle.fam_journal.proofs.Calls.Keeping.{begins_kept, declared_kept, enough_to_make, halts_kept, kept_as, made_kept, met_kept, move_failed_kept, moved_kept, operation_at, refused_kept, umounts_kept, uuids_kept}
 use Rattle.fam_journal.proofs.Runs.CutReads.{event_cut, refused_state}
 use Rattle.fam_journal.proofs.Runs.Left.{held_reads}
 use Rattle.fam_journal.proofs.Calls.Rows.{Declared, declared, halted_held, stopped_held}
@@ -67,13 +70,19 @@ operates_kept start h (suc count) state journal kept notes new (inr o) =
 -- Calls.
 
 module _ (start : Image) (state : Machines) (journal : List Note) (kept : Reached start state journal) (notes : List Note) (new : Machines) where
+  -- a file system is made, or its maker halts
+  make_kept : (request : MkfsRequest) → IsUuid request.fs → (h : ℕ) (d : Declared start state (record { hosts = kept.views; journal = journal }) h) → makes_refusal request.unit request.log h state ≡ None
+      → (halt : Option ℕ) → MakesOrHalts halt h (asked request d.host.uuid (length state.memory)) request.force d.host state notes new → Reached start new (journal ++ notes)
+  make_kept request uuid h d may None x = kept_as start journal notes _ new _ x.notes_are x.left (made_kept start state journal kept h d request uuid may)
+  make_kept request uuid h d may (Some k) x = kept_as start journal notes _ new _ x.notes_are x.left (halts_kept start state journal kept h d request uuid may k)
+
   -- of a declared host
   act_kept : (c : Call) → IsSoundCall c → refusal_of c state ≡ None → (h : ℕ) → number_of (name_of c) state ≡ Some h → (d : Declared start state (record { hosts = kept.views; journal = journal }) h) → ActsAt c h d.host state notes new → Reached start new (journal ++ notes)
   unfolding refusal_of
   act_kept (call.Declares name uuid) sound free h number d x = absurd x
   act_kept (call.Makes name request) sound free h number d (inl x) =
       let may : makes_refusal request.unit request.log h state ≡ None = sym (ap (λ (o : Option ℕ). on_host o (λ h. makes_refusal request.unit request.log h state)) number) ∙ free in
-      kept_as start journal notes _ new _ x.notes_are x.left (made_kept start state journal kept h d request sound may)
+      make_kept request sound h d may request.halt x
   act_kept (call.Makes name request) sound free h number d (inr x) =
       let may : makes_refusal request.unit request.log h state ≡ None = sym (ap (λ (o : Option ℕ). on_host o (λ h. makes_refusal request.unit request.log h state)) number) ∙ free in
       kept_as start journal notes _ new _ x.notes_are x.left (met_kept start state journal kept h d name (why.HasSuper x.other.fs) (enough_to_make start state journal kept h d request.unit request.log may))

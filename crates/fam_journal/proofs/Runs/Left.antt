@@ -14,16 +14,17 @@ use Rattle.fam_format.specs.Reading as read
 use Rattle.fam_format.specs.Reading.{gate_in, joined_or, read_below, read_log, read_slots, read_super, reading, reading_of, slot_or}
 use Rattle.fam_rules.specs.Asks.{File, entries_of}
 use Rattle.fam_rules.specs.Place.{line_bytes}
+use Rattle.fam_rules.proofs.TornHead.{none_there}
 use Rattle.fam_protocol.specs.Core.{Core, EntryStands, System}
 use Rattle.fam_protocol.specs.SharedState.{SharedState}
 use Rattle.fam_protocol.specs.Invariant.{Hosts, Invariant}
 use Rattle.fam_protocol.proofs.Settled.Lists.{entries_more, some_at}
 use Rattle.fam_journal.specs.Ends.{ReadsAs}
 use Rattle.fam_journal.specs.View.{WorldView}
-use Rattle.fam_journal.specs.Kept.{Agrees, hosts_of, shared_of, settled_of}
+use Rattle.fam_journal.specs.Kept.{Agrees, IfHalted, hosts_of, shared_of, settled_of}
 use Rattle.fam_journal.specs.Machines.{Machines}
 use Rattle.fam_journal.specs.Past as past
-use Rattle.fam_journal.specs.Past.{Damage, FewLines, State, Bad, Sound, past_of, with_pending}
+use Rattle.fam_journal.specs.Past.{Damage, FewLines, Given, Halted, State, Bad, Sound, past_of, with_pending}
 use Rattle.fam_journal.proofs.Settled.BadStates.{bad_image}
 use Rattle.fam_journal.proofs.Settled.Settles.{prefix-pending, length-pending, take_whole}
 
@@ -86,12 +87,13 @@ module _ (start : Image) (state : Machines) (world : WorldView) (image : Image) 
   same_as_own : (own : Image) → own ≡ start → ((l : ℕ) → line_at image l ≡ line_at own l) → image ≡ own
   same_as_own own e lines = same_as_first (λ l. lines l ∙ ap (λ (x : Image). line_at x l) e) ∙ sym e
 
-  by_state : (s : State) (hosts : Hosts) → ((own : Image) (d : Damage) (g : ℕ) → s ≡ Bad own d g → own ≡ start) → Invariant (settled_of s) (length start) hosts (shared_of image world.hosts) → ReadsAs s image
-  by_state (Bad own (FewLines lines) g) hosts first invariant = same_as_own own (first own (FewLines lines) g refl) invariant.stage.memory
-  by_state (Bad own (past.NoSuperblock fault) g) hosts first invariant = same_as_own own (first own (past.NoSuperblock fault) g refl) invariant.stage.still.memory
-  by_state (Bad own (past.BadHeader fault) g) hosts first invariant = same_as_own own (first own (past.BadHeader fault) g refl) invariant.stage.still.memory
-  by_state (Bad own (past.BadSlot i reason) g) hosts first invariant = same_as_own own (first own (past.BadSlot i reason) g refl) invariant.stage.still.memory
-  by_state (Sound p history pending) hosts first invariant =
+  by_state : (s : State) (hosts : Hosts) → ((own : Image) (d : Damage) (g : ℕ) → s ≡ Bad (Given own) d g → own ≡ start) → IfHalted s (line_at image) → Invariant (settled_of s (line_at image)) (length start) hosts (shared_of image world.hosts) → ReadsAs s image
+  by_state (Bad (Given own) (FewLines lines) g) hosts first halted invariant = same_as_own own (first own (FewLines lines) g refl) invariant.stage.memory
+  by_state (Bad (Given own) (past.NoSuperblock fault) g) hosts first halted invariant = same_as_own own (first own (past.NoSuperblock fault) g refl) invariant.stage.still.memory
+  by_state (Bad (Given own) (past.BadHeader fault) g) hosts first halted invariant = same_as_own own (first own (past.BadHeader fault) g refl) invariant.stage.still.memory
+  by_state (Bad (Given own) (past.BadSlot i reason) g) hosts first halted invariant = same_as_own own (first own (past.BadSlot i reason) g refl) invariant.stage.still.memory
+  by_state (Bad Halted damage g) hosts first halted invariant = none_there image halted.word
+  by_state (Sound p history pending) hosts first halted invariant =
       let sys : System = record { params = p; have = line_bytes * length start; uuid = hosts.uuid; master = invariant.stage.master } in
       let core : Core sys (shared_of image world.hosts) (with_pending history pending) (length history) = invariant.stage.core in
       by_gate p history pending (gate_in (line_at image)) core.low (omega (arith, core.order, core.high))
@@ -99,4 +101,4 @@ module _ (start : Image) (state : Machines) (world : WorldView) (image : Image) 
 
   -- the image reads as what the journal settles
   pub held_reads : ReadsAs (past_of start world.journal).state image
-  held_reads = by_state (past_of start world.journal).state (hosts_of world.hosts (past_of start world.journal).hosts) (λ own d g e. bad_image start own d g world.journal e) held.invariant
+  held_reads = by_state (past_of start world.journal).state (hosts_of world.hosts (past_of start world.journal).hosts) (λ own d g e. bad_image start own d g world.journal e) held.halted held.invariant

@@ -5,7 +5,6 @@ use Rattle.std.proofs.lemmas.Option.{same_Some}
 use Rattle.fam_base.specs.declared.cmd.Cmd.{Cmd}
 use Rattle.fam_base.specs.declared.cmd.Cmd.TheVariants.{Logplay, Mount, Mkdir, Creat, Cp, Verify, Read, Check, Fsck}
 use Rattle.fam_base.specs.declared.entry.Params.{Params}
-use Rattle.fam_base.specs.Image.{Image}
 use Rattle.fam_commands.specs.declared.phase.Phase.{Phase}
 use Rattle.fam_commands.specs.declared.phase.Phase.TheVariants as at
 use Rattle.fam_commands.specs.Stands.{StandsFor, goes, note_of, starts, task_after, turn_given}
@@ -28,7 +27,8 @@ use Rattle.fam_journal.specs.Machines.{notes_of}
 use Rattle.fam_journal.specs.Notes.{Replied, Note}
 use Rattle.fam_journal.specs.Past as past
 use Rattle.fam_journal.proofs.Settled.Owners.{OwnsFault}
-use Rattle.fam_journal.specs.Past.{Damage, State, Bad, Sound, HostPast, Past, past_after, past_behind, with_pending}
+use Rattle.fam_format.specs.declared.faults.SuperFault.{SuperFault}
+use Rattle.fam_journal.specs.Past.{Given, Halted, Origin, Damage, State, Bad, Sound, HostPast, Past, past_after, past_behind, with_pending}
 
 -- which command gives such an answer; of the others the journal's rules say it
 abbrev pub Fits : Cmd → Reply → Type 0
@@ -209,8 +209,13 @@ module _ (p : Params) (history : List File) (pending : Option File) (host : Host
   sound_ruled cmd (reply.BadHeader fault) told fits says = absurd says
   sound_ruled cmd (reply.BadSlot i reason) told fits says = absurd says
 
-module _ (image : Image) (damage : Damage) (host : HostPast) where
-  fault_case : (cmd : Cmd) (given : Reply) → (cmd ≡ Fsck → ⊥) → IsFaultAnswer damage given → (HasWish cmd → (master : List ℕ) → damaged_master image damage ≡ Some master → host.uuid ≡ master) → IsDamagedAnswer image damage host cmd given
+-- without a superblock there is no master
+no_master : (origin : Origin) (fault : SuperFault) → damaged_master origin (past.NoSuperblock fault) ≡ None
+no_master (Given image) fault = refl
+no_master Halted fault = refl
+
+module _ (origin : Origin) (damage : Damage) (host : HostPast) where
+  fault_case : (cmd : Cmd) (given : Reply) → (cmd ≡ Fsck → ⊥) → IsFaultAnswer damage given → (HasWish cmd → (master : List ℕ) → damaged_master origin damage ≡ Some master → host.uuid ≡ master) → IsDamagedAnswer origin damage host cmd given
   fault_case Logplay given other is owns = is
   fault_case Mount given other is owns = is
   fault_case (Mkdir path attr) given other is owns = inl record { is = is; own = owns (_, refl) }
@@ -221,7 +226,7 @@ module _ (image : Image) (damage : Damage) (host : HostPast) where
   fault_case (Check entries) given other is owns = is
   fault_case Fsck given other is owns = absurd (other refl)
 
-  client_case : (cmd : Cmd) (given : Reply) → HasWish cmd → IsDamagedClient image damage host given → IsDamagedAnswer image damage host cmd given
+  client_case : (cmd : Cmd) (given : Reply) → HasWish cmd → IsDamagedClient origin damage host given → IsDamagedAnswer origin damage host cmd given
   client_case Logplay given wish is = absurd (let none = wish.1 in cc)
   client_case Mount given wish is = absurd (let none = wish.1 in cc)
   client_case (Mkdir path attr) given wish is = inr is
@@ -235,7 +240,7 @@ module _ (image : Image) (damage : Damage) (host : HostPast) where
   own_fault : (own : Damage) (given : Reply) → own ≡ damage → IsFaultAnswer own given → IsFaultAnswer damage given
   own_fault own given e is = subst (λ (d : Damage). IsFaultAnswer d given) e is
 
-  damaged_ruled : (gate : ℕ) (cmd : Cmd) (given : Reply) → Fits cmd given → OwnsFault cmd host (Bad image damage gate) given → ReplyAllowed given host (Bad image damage gate) → IsDamagedAnswer image damage host cmd given
+  damaged_ruled : (gate : ℕ) (cmd : Cmd) (given : Reply) → Fits cmd given → OwnsFault cmd host (Bad origin damage gate) given → ReplyAllowed given host (Bad origin damage gate) → IsDamagedAnswer origin damage host cmd given
   damaged_ruled gate cmd (reply.Appended seq) fits owns says = absurd says
   damaged_ruled gate cmd (reply.NotAppended (cause.NotMaster me master)) fits owns says =
       client_case cmd _ fits record {
@@ -259,16 +264,16 @@ module _ (image : Image) (damage : Damage) (host : HostPast) where
   damaged_ruled gate cmd (reply.NotFound m) fits owns says = absurd says
   damaged_ruled gate cmd (reply.IsDirectory m) fits owns says = absurd says
   damaged_ruled gate cmd (reply.Checks m checked) fits owns says = absurd says
-  damaged_ruled gate cmd (reply.Reports report) fits owns says = subst (λ (c : Cmd). IsDamagedAnswer image damage host c (reply.Reports report)) (sym fits) (ap reply.Reports says)
+  damaged_ruled gate cmd (reply.Reports report) fits owns says = subst (λ (c : Cmd). IsDamagedAnswer origin damage host c (reply.Reports report)) (sym fits) (ap reply.Reports says)
   damaged_ruled gate cmd (reply.NoSuperblock fault) fits owns says =
       fault_case cmd _ fits (own_fault (past.NoSuperblock fault) (reply.NoSuperblock fault) says refl)
-      (λ wish master is. absurd (let none : damaged_master image damage ≡ None = sym (ap (damaged_master image) says) in cc))
+      (λ wish master is. absurd (let none : damaged_master origin damage ≡ None = sym (ap (damaged_master origin) says) ∙ no_master origin fault in cc))
   damaged_ruled gate cmd (reply.BadHeader fault) fits owns says = fault_case cmd _ fits (own_fault (past.BadHeader fault) (reply.BadHeader fault) says refl) (owns.header fault refl)
   damaged_ruled gate cmd (reply.BadSlot i reason) fits owns says = fault_case cmd _ fits (own_fault (past.BadSlot i reason) (reply.BadSlot i reason) says refl) (owns.slot i reason refl)
 
 pub ruled : (state : State) (host : HostPast) (cmd : Cmd) (given : Reply) → host.cmd ≡ Some cmd → Fits cmd given → OwnsFault cmd host state given → ReplyAllowed given host state → IsRuled state host cmd given
 ruled (Sound p history pending) host cmd given told fits owns says = sound_ruled p history pending host cmd given told fits says
-ruled (Bad image damage gate) host cmd given told fits owns says = damaged_ruled image damage host gate cmd given fits owns says
+ruled (Bad origin damage gate) host cmd given told fits owns says = damaged_ruled origin damage host gate cmd given fits owns says
 
 -- journals, one behind another
 pub ruled_both : (x : Past) (a b : List Note) → AreRuled x a → AreRuled (past_behind x a) b → AreRuled x (a ++ b)

@@ -19,13 +19,13 @@ use Rattle.fam_journal.specs.declared.event.Event.{Event}
 use Rattle.fam_journal.specs.declared.event.Event.TheVariants as event
 use Rattle.fam_journal.specs.declared.refusal.Refusal.{Refusal}
 use Rattle.fam_journal.specs.Calls as call
-use Rattle.fam_journal.specs.Calls.{Call, Acts, ActsAt, AtNumber, ByRefusal, Completes, Does, Meets, DoesOperations, busy_at, OnHost, name_of, number_of, refusal_of}
+use Rattle.fam_journal.specs.Calls.{Call, Acts, ActsAt, AtNumber, ByRefusal, Completes, Does, MakesOrHalts, Meets, DoesOperations, busy_at, OnHost, name_of, number_of, refusal_of}
 use Rattle.fam_journal.specs.Ends.{IsFaultless, faults_of, note_faults}
 use Rattle.fam_journal.specs.Events.{BytesSay, DoesEvent, Continues, HasNoSource, IsBegun, RefusesEvent, ListingIs, MayNot, MayNotStep, Ready, Session, SourceSays, Sourced, StepsBy, Unfit, WithinSays, copy_limit}
 use Rattle.fam_journal.specs.Follows.{Follows}
 use Rattle.fam_journal.specs.Laws.{AreSame, OneListing}
 use Rattle.fam_journal.specs.Machines.{Done, Fails, HostState, Machines, Operation, Outcome, Passes, TaskState, cut, host_done, machine_of, op_done, operation, task_done}
-use Rattle.fam_machine.specs.Mkfs.{goes_on}
+use Rattle.fam_machine.specs.Mkfs.{goes_on, superblock_found}
 use Rattle.fam_journal.specs.Notes.{Note}
 
 -- Notes without faults.
@@ -121,6 +121,11 @@ met_or_made true r other free unforced stands = absurd cc
 met_or_made false (Ok p) other free unforced stands = absurd cc
 met_or_made false (Err fault) other free unforced stands = absurd cc
 
+-- a mkfs that goes on meets nothing, whether or not its maker is to halt
+pub goes_free : (old new : Machines) (notes : List Note) (halt : Option ℕ) (h : ℕ) (p : Params) (force : Bool) (host : HostState) → MakesOrHalts halt h p force host old notes new → goes_on force (superblock_found p (machine_of old host)) ≡ true
+goes_free old new notes None h p force host x = x.free
+goes_free old new notes (Some k) h p force host x = x.free
+
 module _ (old : Machines) (a b : List Note) (m n : Machines) (clean_a : IsFaultless a) (clean_b : IsFaultless b) where
   one_meeting : (h : ℕ) (p : Params) (force : Bool) (name : List ℕ) (host : HostState) → Meets h p force name host old a m → Meets h p force name host old b n → Same a b m n
   one_meeting h p force name host x y =
@@ -133,11 +138,15 @@ module _ (old : Machines) (a b : List Note) (m n : Machines) (clean_a : IsFaultl
       same_ok : {u v : Params} → ◌≡◌ {A = Result Params SuperFault} (Ok u) (Ok v) → u ≡ v
       same_ok e = cc
 
+  one_making : (halt : Option ℕ) (h : ℕ) (p : Params) (force : Bool) (host : HostState) → MakesOrHalts halt h p force host old a m → MakesOrHalts halt h p force host old b n → Same a b m n
+  one_making None h p force host x y = same_by x.notes_are x.left y.notes_are y.left
+  one_making (Some k) h p force host x y = same_by x.notes_are x.left y.notes_are y.left
+
   one_act_at : (c : Call) (h : ℕ) (host : HostState) → ActsAt c h host old a m → ActsAt c h host old b n → Same a b m n
   one_act_at (call.Declares name uuid) h host x y = absurd x
-  one_act_at (call.Makes name request) h host (inl x) (inl y) = same_by x.notes_are x.left y.notes_are y.left
-  one_act_at (call.Makes name request) h host (inl x) (inr y) = absurd (met_or_made request.force _ y.other x.free y.unforced y.stands)
-  one_act_at (call.Makes name request) h host (inr x) (inl y) = absurd (met_or_made request.force _ x.other y.free x.unforced x.stands)
+  one_act_at (call.Makes name request) h host (inl x) (inl y) = one_making request.halt h _ request.force host x y
+  one_act_at (call.Makes name request) h host (inl x) (inr y) = absurd (met_or_made request.force _ y.other (goes_free old m a request.halt h _ request.force host x) y.unforced y.stands)
+  one_act_at (call.Makes name request) h host (inr x) (inl y) = absurd (met_or_made request.force _ x.other (goes_free old n b request.halt h _ request.force host y) x.unforced x.stands)
   one_act_at (call.Makes name request) h host (inr x) (inr y) = one_meeting h _ request.force name host x y
   one_act_at (call.Begins name c) h host x y = same_by x.0 x.1 y.0 y.1
   one_act_at (call.Steps name) h host x y = one_operation h old a b m n x y clean_a clean_b

@@ -1,4 +1,4 @@
--- A bad state is the image's own: notes keep it, and it never comes back.
+-- A bad state with an image that was handed in is that image's own: notes keep it or end it, and it never comes back.
 use Rattle.std.proofs.Common.{◌≡◌, ℕ, zero, suc, ◌+◌, ◌≤◌, Bool, true, false, List, [], ◌∷◌, ◌++◌, length, Option, Some, None, refl, ap, sym, ◌∙◌, arith}
 use Rattle.std.specs.Prelude.{◌==◌, nat_lt, if◌then◌else◌, Result, Ok, Err}
 use Rattle.std.proofs.lemmas.Bool.Decides.{nat_tests}
@@ -8,57 +8,64 @@ use Rattle.fam_base.specs.Image.{Image}
 use Rattle.fam_format.specs.declared.faults.LogFault.{LogFault}
 use Rattle.fam_format.specs.declared.faults.Reason.{Reason}
 use Rattle.fam_format.specs.declared.faults.SuperFault.{SuperFault}
+use Rattle.fam_format.specs.declared.faults.SuperFault.TheVariants as super
 use Rattle.fam_format.specs.Layout.{least_lines, log_line}
 use Rattle.fam_format.specs.Log.{gate_fault, log_fault}
 use Rattle.fam_format.specs.Reading as read
 use Rattle.fam_format.specs.Reading.{Lines, Reading, gate_in, joined_or, read_below, read_log, read_slots, read_super, reading, reading_of, slot_in, slot_or, super_in}
 use Rattle.fam_format.specs.Tree.{join_fault}
+use Rattle.fam_machine.specs.Mkfs.{first_sent}
 use Rattle.fam_rules.specs.Asks.{File}
 use Rattle.fam_rules.specs.Reply.{Reply}
 use Rattle.fam_journal.specs.Laws.{IsOwn}
 use Rattle.fam_journal.proofs.Settled.ReplyCases.{replied_by}
-use Rattle.fam_journal.specs.Notes.{Answer, Replied, MediaFault, Note, Host, Made, Start, Mark, Found, Writes, Answered, Stop, Halt, Umount, Refused}
-use Rattle.fam_journal.specs.Past.{Damage, FewLines, State, Bad, Sound, Past, acknowledges, ended, finds, first_past, first_state, past_after, past_behind, past_of, pends, replied, shows, state_after, state_read, with_pending}
+use Rattle.fam_journal.specs.Notes.{Answer, Replied, MediaFault, Note, Host, Made, Cut, Start, Mark, Found, Writes, Answered, Stop, Halt, Umount, Refused}
+use Rattle.fam_journal.specs.Past.{Damage, FewLines, NoSuperblock, Given, Halted, Origin, State, Bad, Sound, Past, acknowledges, ended, finds, first_past, first_state, past_after, past_behind, past_of, pends, replied, shows, state_after, state_read, with_pending}
 
 -- no sound state is bad
-no_bad : {p : Params} {history : List File} {pending : Option File} {i : Image} {d : Damage} {g : ℕ} → Sound p history pending ≡ Bad i d g → ⊥
+no_bad : {p : Params} {history : List File} {pending : Option File} {i : Origin} {d : Damage} {g : ℕ} → Sound p history pending ≡ Bad i d g → ⊥
 no_bad e = absurd cc
 
 module _ (i : Image) (d : Damage) (g : ℕ) where
-  either_sound : (t : Bool) (p q : Params) (a b : List File) (x y : Option File) → (if t then Sound p a x else Sound q b y) ≡ Bad i d g → ⊥
+  either_sound : (t : Bool) (p q : Params) (a b : List File) (x y : Option File) → (if t then Sound p a x else Sound q b y) ≡ Bad (Given i) d g → ⊥
   either_sound true p q a b x y e = no_bad e
   either_sound false p q a b x y e = no_bad e
 
-  was_shown : (m : ℕ) (s : State) → shows m s ≡ Bad i d g → s ≡ Bad i d g
+  was_shown : (m : ℕ) (s : State) → shows m s ≡ Bad (Given i) d g → s ≡ Bad (Given i) d g
   was_shown m (Bad image own gate) e = e
   was_shown m (Sound p history pending) e = absurd (either_sound (m == length history + 1) p p (with_pending history pending) history None pending e)
 
-  was_found : (n : ℕ) (s : State) → finds n s ≡ Bad i d g → s ≡ Bad i d g
+  was_found : (n : ℕ) (s : State) → finds n s ≡ Bad (Given i) d g → s ≡ Bad (Given i) d g
   was_found n (Bad image own gate) e = e
   was_found n (Sound p history pending) e = go (n == length history) e
     where
-      go : (t : Bool) → (if t then Sound p history None else shows n (Sound p history pending)) ≡ Bad i d g → Sound p history pending ≡ Bad i d g
+      go : (t : Bool) → (if t then Sound p history None else shows n (Sound p history pending)) ≡ Bad (Given i) d g → Sound p history pending ≡ Bad (Given i) d g
       go true e = absurd (no_bad e)
       go false e = was_shown n (Sound p history pending) e
 
-  was_acknowledged : (seq : ℕ) (s : State) → acknowledges seq s ≡ Bad i d g → s ≡ Bad i d g
+  was_acknowledged : (seq : ℕ) (s : State) → acknowledges seq s ≡ Bad (Given i) d g → s ≡ Bad (Given i) d g
   was_acknowledged seq (Bad image own gate) e = e
   was_acknowledged seq (Sound p history pending) e = absurd (either_sound (seq == length history) p p (with_pending history pending) history None pending e)
 
-  was_pending : (f : File) (s : State) → pends f s ≡ Bad i d g → s ≡ Bad i d g
+  was_pending : (f : File) (s : State) → pends f s ≡ Bad (Given i) d g → s ≡ Bad (Given i) d g
   was_pending f (Bad image own gate) e = e
   was_pending f (Sound p history pending) e = absurd (no_bad e)
 
-  was_replied : (given : Reply) (s : State) → replied given s ≡ Bad i d g → s ≡ Bad i d g
-  was_replied = replied_by (λ f. (s : State) → f s ≡ Bad i d g → s ≡ Bad i d g) (λ s e. e) was_shown was_acknowledged
+  was_replied : (given : Reply) (s : State) → replied given s ≡ Bad (Given i) d g → s ≡ Bad (Given i) d g
+  was_replied = replied_by (λ f. (s : State) → f s ≡ Bad (Given i) d g → s ≡ Bad (Given i) d g) (λ s e. e) was_shown was_acknowledged
 
-  was_ended : (answer : Answer) (s : State) → ended answer s ≡ Bad i d g → s ≡ Bad i d g
+  was_ended : (answer : Answer) (s : State) → ended answer s ≡ Bad (Given i) d g → s ≡ Bad (Given i) d g
   was_ended (Replied given) s e = was_replied given s e
   was_ended (MediaFault at) s e = e
 
-  was_before : (x : Past) (note : Note) → state_after x note ≡ Bad i d g → x.state ≡ Bad i d g
+  was_cut : (early : Bool) (s : State) → (if early then s else Bad Halted (NoSuperblock (super.NoSuper 0)) 0) ≡ Bad (Given i) d g → s ≡ Bad (Given i) d g
+  was_cut true s e = e
+  was_cut false s e = absurd cc
+
+  was_before : (x : Past) (note : Note) → state_after x note ≡ Bad (Given i) d g → x.state ≡ Bad (Given i) d g
   was_before x (Host name uuid) e = e
   was_before x (Made h p) e = absurd (no_bad e)
+  was_before x (Cut h k) e = was_cut (nat_lt k first_sent) x.state e
   was_before x (Start h cmd) e = e
   was_before x (Mark h) e = e
   was_before x (Found h n) e = was_found n x.state e
@@ -69,18 +76,19 @@ module _ (i : Image) (d : Damage) (g : ℕ) where
   was_before x (Umount h) e = e
   was_before x (Refused name cause) e = e
 
-  was_first : (notes : List Note) (x : Past) → (past_behind x notes).state ≡ Bad i d g → x.state ≡ Bad i d g
+  was_first : (notes : List Note) (x : Past) → (past_behind x notes).state ≡ Bad (Given i) d g → x.state ≡ Bad (Given i) d g
   was_first [] x e = e
   was_first (note ∷ notes) x e = was_before x note (was_first notes (past_after x note) e)
 
-  -- a journal's bad state is the first one
-  pub bad_first : (start : Image) (journal : List Note) → (past_of start journal).state ≡ Bad i d g → first_state start ≡ Bad i d g
+  -- a journal's bad state is the first one, where it has an image that was handed in
+  pub bad_first : (start : Image) (journal : List Note) → (past_of start journal).state ≡ Bad (Given i) d g → first_state start ≡ Bad (Given i) d g
   bad_first start journal e = was_first journal (first_past start) e
 
 -- an image's own bad state has this image
 module _ (start image : Image) (damage : Damage) (gate : ℕ) where
   abbrev image_in : State → Image
-  image_in (Bad own d g) = own
+  image_in (Bad (Given own) d g) = own
+  image_in (Bad Halted d g) = start
   image_in (Sound p history pending) = start
 
   read_own : (r : Reading) → image_in (state_read start r) ≡ start
@@ -89,18 +97,18 @@ module _ (start image : Image) (damage : Damage) (gate : ℕ) where
   read_own (read.BadSlot i reason) = refl
   read_own (read.Sound p entries) = refl
 
-  first_own : (few : Bool) → image_in (if few then Bad start (FewLines (length start)) 0 else state_read start (reading start)) ≡ start
+  first_own : (few : Bool) → image_in (if few then Bad (Given start) (FewLines (length start)) 0 else state_read start (reading start)) ≡ start
   first_own true = refl
   first_own false = read_own (reading start)
 
-  pub first_image : first_state start ≡ Bad image damage gate → image ≡ start
+  pub first_image : first_state start ≡ Bad (Given image) damage gate → image ≡ start
   first_image e = sym (ap image_in e) ∙ first_own (nat_lt (length start) least_lines)
 
   -- so a journal's bad state has the image that was handed in
-  pub bad_image : (journal : List Note) → (past_of start journal).state ≡ Bad image damage gate → image ≡ start
+  pub bad_image : (journal : List Note) → (past_of start journal).state ≡ Bad (Given image) damage gate → image ≡ start
   bad_image journal e = first_image (bad_first image damage gate start journal e)
 
-  pub bad_own : (journal : List Note) → (past_of start journal).state ≡ Bad image damage gate → IsOwn (length start) image damage gate
+  pub bad_own : (journal : List Note) → (past_of start journal).state ≡ Bad (Given image) damage gate → IsOwn (length start) image damage gate
   bad_own journal e =
       let same = bad_image journal e in
       record { reads = ap first_state same ∙ bad_first image damage gate start journal e; lines_are = ap (λ (x : Image). length x) same }
@@ -114,7 +122,7 @@ start_kept (note ∷ notes) x = start_kept notes (past_after x note)
 pub first_read : (start : Image) → least_lines ≤ length start → first_state start ≡ state_read start (reading start)
 first_read start enough = go (nat_lt (length start) least_lines) refl
   where
-    go : (few : Bool) → nat_lt (length start) least_lines ≡ few → (if few then Bad start (FewLines (length start)) 0 else state_read start (reading start)) ≡ state_read start (reading start)
+    go : (few : Bool) → nat_lt (length start) least_lines ≡ few → (if few then Bad (Given start) (FewLines (length start)) 0 else state_read start (reading start)) ≡ state_read start (reading start)
     go true is = absurd (grind (arith, nat_tests))
     go false is = refl
 

@@ -1,10 +1,12 @@
 -- On a damaged image: what a turn may say is legal, and settles nothing.
-use Rattle.std.proofs.Common.{◌≡◌, ◌≢◌, ℕ, ◌*◌, List, length, Option, Some, refl, ap, sym, ◌∙◌, subst}
-use Rattle.std.specs.Prelude.{slice_get, Ok}
+use Rattle.std.proofs.Common.{◌≡◌, ◌≢◌, ℕ, ◌*◌, List, ◌++◌, length, Option, Some, refl, ap, sym, ◌∙◌, subst}
+use Rattle.std.specs.Prelude.{slice_get, slice_index, Ok}
 use Rattle.std.proofs.lemmas.Option.{same_Some}
 use Rattle.fam_base.specs.declared.entry.Entry.{Entry}
 use Rattle.fam_base.specs.declared.entry.Params.{Params}
 use Rattle.fam_base.specs.Image.{Image, line_at}
+use Rattle.fam_format.specs.declared.faults.SuperFault.TheVariants as super
+use Rattle.fam_format.specs.Super.{super_of}
 use Rattle.fam_format.specs.Reading as read
 use Rattle.fam_format.specs.Reading.{Lines, Reading, reading_of, super_in}
 use Rattle.fam_commands.specs.Stands.{note_of}
@@ -14,19 +16,21 @@ use Rattle.fam_rules.specs.declared.answers.Refused.TheVariants as refused
 use Rattle.fam_rules.specs.Place.{line_bytes}
 use Rattle.fam_rules.specs.Reply as reply
 use Rattle.fam_rules.specs.Reply.{Reply}
+use Rattle.fam_rules.specs.Reports.{report_of, report_super}
+use Rattle.fam_rules.proofs.TornHead.{none_read}
 use Rattle.fam_protocol.specs.Bad.{MayReplyBad, MaySayBad, fault_of}
 use Rattle.fam_protocol.specs.Steps.{turn_settles}
 use Rattle.fam_journal.proofs.Settled.ReplyCases.{replied_by}
-use Rattle.fam_journal.specs.Kept.{settled_bad, settled_of}
-use Rattle.fam_journal.specs.Legal.{DamageAllowed, FoundAllowed, LegalBehind, OfHost, ReplyAllowed, ReportAllowed, master_of, master_read}
+use Rattle.fam_journal.specs.Kept.{IsCleared, origin_lines, settled_bad, settled_of}
+use Rattle.fam_journal.specs.Legal.{DamageAllowed, cleared_report, FoundAllowed, LegalBehind, OfHost, ReplyAllowed, ReportAllowed, master_of, master_read}
 use Rattle.fam_journal.specs.Machines.{notes_of}
 use Rattle.fam_journal.specs.Past as past
-use Rattle.fam_journal.specs.Past.{Damage, FewLines, State, Bad, Sound, HostPast, past_behind, replied, state_read}
+use Rattle.fam_journal.specs.Past.{Damage, FewLines, Halted, Origin, State, Bad, Sound, HostPast, past_behind, replied, state_read}
 use Rattle.fam_journal.proofs.Settled.BadStates.{not_super}
 
 -- Nothing is settled.
 
-pub replied_bad : (i : Image) (d : Damage) (g : ℕ) (given : Reply) → replied given (Bad i d g) ≡ Bad i d g
+pub replied_bad : (i : Origin) (d : Damage) (g : ℕ) (given : Reply) → replied given (Bad i d g) ≡ Bad i d g
 replied_bad i d g = replied_by (λ f. f (Bad i d g) ≡ Bad i d g) refl (λ m. refl) (λ seq. refl)
 
 turn_keeps_bad : (image : Lines) (turn : Turn) (d : Damage) → turn_settles turn (settled_bad image d) ≡ settled_bad image d
@@ -35,18 +39,18 @@ turn_keeps_bad image turn (past.NoSuperblock fault) = refl
 turn_keeps_bad image turn (past.BadHeader fault) = refl
 turn_keeps_bad image turn (past.BadSlot i reason) = refl
 
-bad_stays : (start : Image) (hosts : List HostPast) (h : ℕ) (i : Image) (d : Damage) (g : ℕ) (turn : Turn) → (past_behind (record { start = start; state = Bad i d g; hosts = hosts }) (notes_of h (note_of turn))).state ≡ Bad i d g
+pub bad_stays : (start : Image) (hosts : List HostPast) (h : ℕ) (i : Origin) (d : Damage) (g : ℕ) (turn : Turn) → (past_behind (record { start = start; state = Bad i d g; hosts = hosts }) (notes_of h (note_of turn))).state ≡ Bad i d g
 bad_stays start hosts h i d g (Goes next) = refl
 bad_stays start hosts h i d g (Marks next) = refl
 bad_stays start hosts h i d g (Finds n next) = refl
 bad_stays start hosts h i d g (Writes seq e next) = refl
 bad_stays start hosts h i d g (Ends given) = replied_bad i d g given
 
-pub bad_settles : (start : Image) (hosts : List HostPast) (h : ℕ) (i : Image) (d : Damage) (g : ℕ) (turn : Turn)
-    → settled_of (past_behind (record { start = start; state = Bad i d g; hosts = hosts }) (notes_of h (note_of turn))).state ≡ turn_settles turn (settled_of (Bad i d g))
-bad_settles start hosts h i d g turn = ap settled_of (bad_stays start hosts h i d g turn) ∙ sym (turn_keeps_bad (line_at i) turn d)
+pub bad_settles : (now : Lines) (start : Image) (hosts : List HostPast) (h : ℕ) (i : Origin) (d : Damage) (g : ℕ) (turn : Turn)
+    → settled_of (past_behind (record { start = start; state = Bad i d g; hosts = hosts }) (notes_of h (note_of turn))).state now ≡ turn_settles turn (settled_of (Bad i d g) now)
+bad_settles now start hosts h i d g turn = ap (λ (s : State). settled_of s now) (bad_stays start hosts h i d g turn) ∙ sym (turn_keeps_bad (origin_lines i now) turn d)
 
--- What is legal.
+-- What is legal of an image that was handed in.
 
 module _ (first start : Image) (state : State) (hosts : List HostPast) (h : ℕ) (told : HostPast) (host_is : slice_get hosts h ≡ Some told) (t : Task) (me : told.uuid ≡ t.me) (state_is : state ≡ state_read start (reading_of (line_at start) (line_bytes * length start))) (bad : (p : Params) (entries : List Entry) → reading_of (line_at start) (line_bytes * length start) ≢ read.Sound p entries) where
   abbrev have : ℕ
@@ -115,3 +119,49 @@ module _ (first start : Image) (state : State) (hosts : List HostPast) (h : ℕ)
   damaged_legal (Writes seq e next) may = absurd may
   damaged_legal (Ends given) may =
       (subst (λ (o : Option HostPast). OfHost o (λ x. ReplyAllowed given x state)) (sym host_is) (reply_legal given may), tt)
+
+-- What is legal behind a mkfs whose maker halted.
+
+-- the report of an image of which word 0 of line 0 is zero
+pub report_cleared : (now : Lines) (have : ℕ) → slice_index (now 0) 0 ≡ 0 → report_of now have ≡ cleared_report
+unfolding report_of super_of
+report_cleared now have word = ap (λ (w : ℕ). report_super now (super_of w (now 1 ++ now 2) have)) word
+
+module _ (first : Image) (now : Lines) (have : ℕ) (damage : Damage) (gate : ℕ) (cleared : IsCleared damage now) (hosts : List HostPast) (h : ℕ) (told : HostPast) (host_is : slice_get hosts h ≡ Some told) (t : Task) where
+  -- there is no superblock
+  none : reading_of now have ≡ read.NoSuperblock (super.NoSuper 0)
+  none = none_read now have cleared.word
+
+  reply_cleared : (given : Reply) → MayReplyBad given now have t → ReplyAllowed given told (Bad Halted damage gate)
+  reply_cleared (reply.NotAppended (refused.NotMaster own master)) a = absurd (not_super now a.params (super.NoSuper 0) have a.super none)
+  reply_cleared (reply.NotAppended refused.BadStripe) a = absurd a
+  reply_cleared (reply.NotAppended (refused.Exists kind)) a = absurd a
+  reply_cleared (reply.NotAppended refused.NoParent) a = absurd a
+  reply_cleared (reply.NotAppended refused.ParentIsFile) a = absurd a
+  reply_cleared (reply.NotAppended (refused.LogFull slots)) a = absurd a
+  reply_cleared (reply.NotAppended (refused.NoSpace units)) a = absurd a
+  reply_cleared (reply.Reports report) a = a ∙ report_cleared now have cleared.word
+  reply_cleared (reply.NoSuperblock fault) a =
+      let same : Some (reply.NoSuperblock fault) ≡ Some (reply.NoSuperblock (super.NoSuper 0)) = sym a ∙ ap fault_of none in
+      let fault_is : fault ≡ super.NoSuper 0 = cc in
+      ap past.NoSuperblock fault_is ∙ sym cleared.damage_is
+  reply_cleared (reply.BadHeader fault) a = absurd (let same : Some (reply.BadHeader fault) ≡ Some (reply.NoSuperblock (super.NoSuper 0)) = sym a ∙ ap fault_of none in cc)
+  reply_cleared (reply.BadSlot i reason) a = absurd (let same : Some (reply.BadSlot i reason) ≡ Some (reply.NoSuperblock (super.NoSuper 0)) = sym a ∙ ap fault_of none in cc)
+  reply_cleared (reply.Appended seq) a = absurd a
+  reply_cleared (reply.Played m tree) a = absurd a
+  reply_cleared (reply.Mounted m) a = absurd a
+  reply_cleared (reply.Same m) a = absurd a
+  reply_cleared (reply.Differs m offset found wanted) a = absurd a
+  reply_cleared (reply.Length m size wanted) a = absurd a
+  reply_cleared (reply.Bytes m bytes) a = absurd a
+  reply_cleared (reply.NotFound m) a = absurd a
+  reply_cleared (reply.IsDirectory m) a = absurd a
+  reply_cleared (reply.Checks m checked) a = absurd a
+
+  pub cleared_legal : (turn : Turn) → MaySayBad turn now have t → LegalBehind (record { start = first; state = Bad Halted damage gate; hosts = hosts }) (notes_of h (note_of turn))
+  cleared_legal (Goes next) may = tt
+  cleared_legal (Marks next) may = (tt, tt)
+  cleared_legal (Finds n next) may = absurd (let bad = may.is in let same = none in cc)
+  cleared_legal (Writes seq e next) may = absurd may
+  cleared_legal (Ends given) may =
+      (subst (λ (o : Option HostPast). OfHost o (λ x. ReplyAllowed given x (Bad Halted damage gate))) (sym host_is) (reply_cleared given may), tt)

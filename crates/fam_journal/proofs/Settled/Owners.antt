@@ -26,14 +26,14 @@ use Rattle.fam_protocol.specs.Invariant.{Hosts, IsDamaged, InvariantBy}
 use Rattle.fam_commands.proofs.BeforeWrites.{EndsAt, IsBehindSuper, SaysAt, turn_says}
 use Rattle.fam_journal.specs.Kept.{settled_bad, settled_of}
 use Rattle.fam_journal.specs.Laws.{IsOwn}
-use Rattle.fam_journal.specs.Legal.{damaged_master, master_read}
+use Rattle.fam_journal.specs.Legal.{damaged_master, given_master, master_read}
 use Rattle.fam_journal.specs.Past as past
-use Rattle.fam_journal.specs.Past.{Damage, FewLines, State, Bad, Sound, HostPast}
+use Rattle.fam_journal.specs.Past.{Damage, FewLines, Given, Halted, State, Bad, Sound, HostPast}
 
 -- where the command appends, its host is the one that a damaged image's superblock names
 abbrev pub Owns : Cmd → HostPast → State → Type 0
 Owns cmd host (Sound p history pending) = ⊤
-Owns cmd host (Bad image damage gate) = HasWish cmd → (master : List ℕ) → damaged_master image damage ≡ Some master → host.uuid ≡ master
+Owns cmd host (Bad origin damage gate) = HasWish cmd → (master : List ℕ) → damaged_master origin damage ≡ Some master → host.uuid ≡ master
 
 -- so it is where a fault behind the superblock is answered
 pub record OwnsFault (cmd : Cmd) (host : HostPast) (state : State) (given : Reply) : Type 0 where
@@ -109,21 +109,22 @@ module _ (lines : ℕ) (hosts : Hosts) (shared : SharedState) (h : ℕ) (r : Run
       known.master wish.0 wish.1
       ∙ same_Some r.task.params.master master (sym (ap master_read (ap (λ (n : ℕ). super_in (line_at image) (line_bytes * n)) same ∙ known.super)) ∙ is)
 
-  owned : (image : Image) (damage : Damage) → length image ≡ lines → InvariantBy (settled_bad (line_at image) damage) lines hosts shared → HasWish r.task.cmd → (master : List ℕ) → damaged_master image damage ≡ Some master → r.task.me ≡ master
+  owned : (image : Image) (damage : Damage) → length image ≡ lines → InvariantBy (settled_bad (line_at image) damage) lines hosts shared → HasWish r.task.cmd → (master : List ℕ) → given_master image damage ≡ Some master → r.task.me ≡ master
   owned image (FewLines n) same stage wish master is = absurd cc
   owned image (past.NoSuperblock fault) same stage wish master is = absurd cc
   owned image (past.BadHeader fault) same stage wish master is = by_super image same stage wish master is
   owned image (past.BadSlot i reason) same stage wish master is = by_super image same stage wish master is
 
-  owns : (cmd : Cmd) (told : HostPast) → r.task.cmd ≡ cmd → told.uuid ≡ r.task.me → (state : State) → ((i : Image) (d : Damage) (g : ℕ) → state ≡ Bad i d g → IsOwn lines i d g) → InvariantBy (settled_of state) lines hosts shared → Owns cmd told state
-  owns cmd told cmds me (Sound p history pending) own stage = tt
-  owns cmd told cmds me (Bad image damage gate) own stage = λ wish master is.
+  owns : (cmd : Cmd) (told : HostPast) → r.task.cmd ≡ cmd → told.uuid ≡ r.task.me → (state : State) → ((i : Image) (d : Damage) (g : ℕ) → state ≡ Bad (Given i) d g → IsOwn lines i d g) → (now : Lines) → InvariantBy (settled_of state now) lines hosts shared → Owns cmd told state
+  owns cmd told cmds me (Sound p history pending) own now stage = tt
+  owns cmd told cmds me (Bad Halted damage gate) own now stage = λ wish master is. absurd cc
+  owns cmd told cmds me (Bad (Given image) damage gate) own now stage = λ wish master is.
       me ∙ owned image damage (own image damage gate refl).lines_are stage (subst HasWish (sym cmds) wish) master is
 
 pub owns_fault : (lines : ℕ) (hosts : Hosts) (shared : SharedState) (h : ℕ) (r : Run) → hosts.run h ≡ Some r → (cmd : Cmd) (told : HostPast) → r.task.cmd ≡ cmd → told.uuid ≡ r.task.me
-    → (state : State) → ((i : Image) (d : Damage) (g : ℕ) → state ≡ Bad i d g → IsOwn lines i d g) → InvariantBy (settled_of state) lines hosts shared
+    → (state : State) → ((i : Image) (d : Damage) (g : ℕ) → state ≡ Bad (Given i) d g → IsOwn lines i d g) → (now : Lines) → InvariantBy (settled_of state now) lines hosts shared
     → (word : ℕ) (given : Reply) → turn_given r.task word ≡ Ends given → OwnsFault cmd told state given
-owns_fault lines hosts shared h r run cmd told cmds me state own stage word given is = record {
-  header = λ fault e. owns lines hosts shared h r run (header_behind r.task word given is fault e) cmd told cmds me state own stage;
-  slot = λ i reason e. owns lines hosts shared h r run (slot_behind r.task word given is i reason e) cmd told cmds me state own stage;
+owns_fault lines hosts shared h r run cmd told cmds me state own now stage word given is = record {
+  header = λ fault e. owns lines hosts shared h r run (header_behind r.task word given is fault e) cmd told cmds me state own now stage;
+  slot = λ i reason e. owns lines hosts shared h r run (slot_behind r.task word given is i reason e) cmd told cmds me state own now stage;
 }

@@ -1,21 +1,24 @@
--- The history only grows until the next mkfs: of two answers the first one's entries are a prefix of the second one's.
+-- The history only grows until the next note that ends it: of two answers the first one's entries are a prefix of the second one's.
 use Rattle.std.proofs.Common.{◌≡◌, ℕ, zero, suc, ◌+◌, ◌≤◌, Bool, true, false, List, [], ◌∷◌, ◌++◌, length, take, drop, Option, Some, None, refl, ap, sym, ◌∙◌, subst, arith}
-use Rattle.std.specs.Prelude.{◌==◌, if◌then◌else◌, slice_get}
+use Rattle.std.specs.Prelude.{◌==◌, nat_lt, not, if◌then◌else◌, slice_get}
 use Rattle.std.proofs.lemmas.Bool.Decides.{nat_tests}
 use Rattle.std.proofs.lemmas.List.{take-append-drop, take-take, take-append-le}
 use Rattle.fam_base.specs.declared.entry.Entry.{Entry}
 use Rattle.fam_base.specs.declared.entry.Params.{Params}
 use Rattle.fam_base.specs.Image.{Image}
+use Rattle.fam_format.specs.declared.faults.SuperFault.TheVariants as super
+use Rattle.fam_machine.specs.Mkfs.{first_sent}
 use Rattle.fam_rules.specs.Asks.{File, entries_of}
 use Rattle.fam_protocol.proofs.Settled.Lists.{entries_count}
 use Rattle.fam_rules.specs.Reply.{Reply, Appended, NotAppended, Played, Mounted, Same, Differs, Length, Bytes, NotFound, IsDirectory, Checks, Reports, NoSuperblock, BadHeader, BadSlot}
 use Rattle.fam_journal.proofs.Settled.DamagedTurns.{replied_bad}
 use Rattle.fam_journal.proofs.Settled.ReplyCases.{replied_by}
-use Rattle.fam_journal.specs.Laws.{IsFree, IsPrefix, NoneMade, TwoAnswers, entries_at, first_entries, history_at, second_entries}
-use Rattle.fam_journal.specs.Ends.{is_made_note}
+use Rattle.fam_journal.specs.Laws.{IsFree, IsPrefix, NoneEnds, TwoAnswers, entries_at, first_entries, history_at, second_entries}
+use Rattle.fam_journal.specs.Ends.{ends_history}
 use Rattle.fam_journal.specs.Legal.{Legal, OfHost, ReplyAllowed, WritesAllowed}
-use Rattle.fam_journal.specs.Notes.{Answer, Replied, MediaFault, Note, Host, Made, Start, Mark, Found, Writes, Answered, Stop, Halt, Umount, Refused}
-use Rattle.fam_journal.specs.Past.{HostPast, Past, State, Bad, Sound, acknowledges, count_of, ended, finds, first_past, past_after, past_behind, past_of, pends, replied, reported_count, shows, shows_count, state_after, with_pending}
+use Rattle.fam_journal.specs.Notes.{Answer, Replied, MediaFault, Note, Host, Made, Cut, Start, Mark, Found, Writes, Answered, Stop, Halt, Umount, Refused}
+use Rattle.fam_journal.specs.Past as past
+use Rattle.fam_journal.specs.Past.{Halted, HostPast, Origin, Past, State, Bad, Sound, acknowledges, count_of, ended, finds, first_past, past_after, past_behind, past_of, pends, replied, reported_count, shows, shows_count, state_after, with_pending}
 use Rattle.fam_journal.proofs.Settled.Journals.{legal_rest, past_both}
 use Rattle.fam_journal.proofs.Settled.Settles.{length-pending, shows_less, shows_more, take_whole}
 
@@ -45,22 +48,22 @@ keeps_either false m old a b ka kb = kb
 
 module _ (m : ℕ) where
   shows_keeps : (n : ℕ) (s : State) → m ≤ length (history_at s) → Keeps m s (shows n s)
-  shows_keeps n (Bad image damage gate) within = keeps_same m (Bad image damage gate) within
+  shows_keeps n (Bad origin damage gate) within = keeps_same m (Bad origin damage gate) within
   shows_keeps n (Sound p history pending) within =
       keeps_either (n == length history + 1) m (Sound p history pending) (Sound p (with_pending history pending) None) (Sound p history pending) (keeps_joined m p history pending None within) (keeps_same m (Sound p history pending) within)
 
   finds_keeps : (n : ℕ) (s : State) → m ≤ length (history_at s) → Keeps m s (finds n s)
-  finds_keeps n (Bad image damage gate) within = keeps_same m (Bad image damage gate) within
+  finds_keeps n (Bad origin damage gate) within = keeps_same m (Bad origin damage gate) within
   finds_keeps n (Sound p history pending) within =
       keeps_either (n == length history) m (Sound p history pending) (Sound p history None) (shows n (Sound p history pending)) (record { within = within; same = refl }) (shows_keeps n (Sound p history pending) within)
 
   acknowledges_keeps : (seq : ℕ) (s : State) → m ≤ length (history_at s) → Keeps m s (acknowledges seq s)
-  acknowledges_keeps seq (Bad image damage gate) within = keeps_same m (Bad image damage gate) within
+  acknowledges_keeps seq (Bad origin damage gate) within = keeps_same m (Bad origin damage gate) within
   acknowledges_keeps seq (Sound p history pending) within =
       keeps_either (seq == length history) m (Sound p history pending) (Sound p (with_pending history pending) None) (Sound p history pending) (keeps_joined m p history pending None within) (keeps_same m (Sound p history pending) within)
 
   pends_keeps : (f : File) (s : State) → m ≤ length (history_at s) → Keeps m s (pends f s)
-  pends_keeps f (Bad image damage gate) within = keeps_same m (Bad image damage gate) within
+  pends_keeps f (Bad origin damage gate) within = keeps_same m (Bad origin damage gate) within
   pends_keeps f (Sound p history pending) within = record { within = within; same = refl }
 
   reply_keeps : (given : Reply) (s : State) → m ≤ length (history_at s) → Keeps m s (replied given s)
@@ -70,9 +73,14 @@ module _ (m : ℕ) where
   answer_keeps (Replied given) s within = reply_keeps given s within
   answer_keeps (MediaFault at) s within = keeps_same m s within
 
-  note_keeps : (x : Past) (note : Note) → is_made_note note ≡ false → m ≤ length (history_at x.state) → Keeps m x.state (state_after x note)
+  cut_keeps : (early : Bool) (s : State) → not early ≡ false → m ≤ length (history_at s) → Keeps m s (if early then s else Bad Halted (past.NoSuperblock (super.NoSuper 0)) 0)
+  cut_keeps true s other within = keeps_same m s within
+  cut_keeps false s other within = absurd cc
+
+  note_keeps : (x : Past) (note : Note) → ends_history note ≡ false → m ≤ length (history_at x.state) → Keeps m x.state (state_after x note)
   note_keeps x (Host name uuid) other within = keeps_same m x.state within
   note_keeps x (Made h p) other within = absurd cc
+  note_keeps x (Cut h k) other within = cut_keeps (nat_lt k first_sent) x.state other within
   note_keeps x (Start h cmd) other within = keeps_same m x.state within
   note_keeps x (Mark h) other within = keeps_same m x.state within
   note_keeps x (Found h n) other within = finds_keeps n x.state within
@@ -83,7 +91,7 @@ module _ (m : ℕ) where
   note_keeps x (Umount h) other within = keeps_same m x.state within
   note_keeps x (Refused name cause) other within = keeps_same m x.state within
 
-  notes_keep : (notes : List Note) (x : Past) → NoneMade notes → m ≤ length (history_at x.state) → Keeps m x.state (past_behind x notes).state
+  notes_keep : (notes : List Note) (x : Past) → NoneEnds notes → m ≤ length (history_at x.state) → Keeps m x.state (past_behind x notes).state
   notes_keep [] x none within = keeps_same m x.state within
   notes_keep (note ∷ notes) x none within =
       let first = note_keeps x note none.0 within in
@@ -93,9 +101,14 @@ module _ (m : ℕ) where
 -- A bad state stays without entries.
 
 module _ where
-  note_bad : (x : Past) (i : Image) (d : Rattle.fam_journal.specs.Past.Damage) (g : ℕ) (note : Note) → is_made_note note ≡ false → x.state ≡ Bad i d g → state_after x note ≡ Bad i d g
+  note_bad : (x : Past) (i : Origin) (d : Rattle.fam_journal.specs.Past.Damage) (g : ℕ) (note : Note) → ends_history note ≡ false → x.state ≡ Bad i d g → state_after x note ≡ Bad i d g
   note_bad x i d g (Host name uuid) other is = is
   note_bad x i d g (Made h p) other is = absurd cc
+  note_bad x i d g (Cut h k) other is = cut_bad (nat_lt k first_sent) x.state other is
+    where
+      cut_bad : (early : Bool) (s : State) → not early ≡ false → s ≡ Bad i d g → (if early then s else Bad Halted (past.NoSuperblock (super.NoSuper 0)) 0) ≡ Bad i d g
+      cut_bad true s other is = is
+      cut_bad false s other is = absurd cc
   note_bad x i d g (Start h cmd) other is = is
   note_bad x i d g (Mark h) other is = is
   note_bad x i d g (Found h n) other is = ap (finds n) is
@@ -107,7 +120,7 @@ module _ where
   note_bad x i d g (Umount h) other is = is
   note_bad x i d g (Refused name cause) other is = is
 
-  notes_bad : (notes : List Note) (x : Past) (i : Image) (d : Rattle.fam_journal.specs.Past.Damage) (g : ℕ) → NoneMade notes → x.state ≡ Bad i d g → (past_behind x notes).state ≡ Bad i d g
+  notes_bad : (notes : List Note) (x : Past) (i : Origin) (d : Rattle.fam_journal.specs.Past.Damage) (g : ℕ) → NoneEnds notes → x.state ≡ Bad i d g → (past_behind x notes).state ≡ Bad i d g
   notes_bad [] x i d g none is = is
   notes_bad (note ∷ notes) x i d g none is = notes_bad notes (past_after x note) i d g none.1 (note_bad x i d g note none.0 is)
 
@@ -174,7 +187,7 @@ counted (BadSlot seq reason) m s is = absurd cc
 
 -- with the pending entry behind
 entries_prefix : (m : ℕ) (s : State) → m ≤ length (history_at s) → take m (entries_at s) ≡ take m (history_at s)
-entries_prefix m (Bad image damage gate) within = refl
+entries_prefix m (Bad origin damage gate) within = refl
 entries_prefix m (Sound p history pending) within = prefix_pending m history pending within
 
 abbrev no_files : List File
@@ -228,10 +241,10 @@ module _ (start : Image) (two : TwoAnswers start) where
   pub prefixes_back : two.n ≤ two.m → second_entries two ≡ take two.n (first_entries two)
   prefixes_back order = sym (ap (take two.n) same_prefix ∙ take-take two.n two.m (entries_at (past_of start (two.before ++ note ∷ two.between)).state) order)
 
--- What is settled stays in front until the next mkfs.
+-- What is settled stays in front until the next note that ends the history.
 
 module _ (start : Image) (before : List Note) where
-  pub grows : (behind : List Note) → NoneMade behind → IsPrefix (history_at (past_of start before).state) (history_at (past_of start (before ++ behind)).state)
+  pub grows : (behind : List Note) → NoneEnds behind → IsPrefix (history_at (past_of start before).state) (history_at (past_of start (before ++ behind)).state)
   grows behind none =
       let x : Past = past_of start before in
       let y : Past = past_behind x behind in
@@ -249,7 +262,7 @@ module _ (start : Image) (before : List Note) where
   writes_free rest h seq e legal = by_host (slice_get (past_of start before).hosts h) (past_of start before).state (legal_rest (first_past start) before (Writes h seq e ∷ rest) legal).0
     where
       by_state : (host : HostPast) (s : State) → WritesAllowed seq e host s → IsFree seq s
-      by_state host (Bad image damage gate) allowed = allowed
+      by_state host (Bad origin damage gate) allowed = allowed
       by_state host (Sound p history pending) allowed = (allowed.1.none, allowed.0)
 
       by_host : (o : Option HostPast) (s : State) → OfHost o (λ host. WritesAllowed seq e host s) → IsFree seq s

@@ -3,10 +3,11 @@ use Rattle.std.proofs.Common.{◌≡◌, ◌≢◌, ℕ, ◌+◌, ◌≤◌, ◌
 use Rattle.std.specs.Prelude.{◌==◌, if◌then◌else◌, max}
 use Rattle.std.proofs.lemmas.Bool.Decides.{nat_tests}
 use Rattle.fam_base.specs.declared.entry.Params.{Params}
+use Rattle.fam_format.specs.Reading.{Lines}
 use Rattle.fam_rules.specs.Asks.{File}
-use Rattle.fam_protocol.specs.Invariant.{Known}
+use Rattle.fam_protocol.specs.Invariant.{Known, Settled}
 use Rattle.fam_journal.specs.Kept.{settled_of}
-use Rattle.fam_journal.specs.Past.{Sound, acknowledges, finds, shows, with_pending}
+use Rattle.fam_journal.specs.Past.{State, Sound, acknowledges, finds, shows, with_pending}
 
 -- a pending entry is one more
 pub length-pending : (history : List File) (f : File) → length (with_pending history (Some f)) ≡ length history + 1
@@ -42,6 +43,10 @@ other_test a b x y other = go (a == b) refl
     go true is = absurd (other (grind (arith, nat_tests)))
     go false is = refl
 
+-- what is settled, over a memory of these lines
+abbrev over : Lines → State → Settled
+over now s = settled_of s now
+
 module _ (p : Params) (history : List File) where
   -- nothing more than what is settled
   pub shows_less : (m : ℕ) (pending : Option File) → m ≤ length history → shows m (Sound p history pending) ≡ Sound p history pending
@@ -65,33 +70,33 @@ module _ (p : Params) (history : List File) where
       same_test seq (length history) (Sound p (history ++ f ∷ []) None) (Sound p history (Some f)) (omega (arith, count, length-pending history f))
 
   -- what an answer on m entries settles
-  pub shows_settles : (m : ℕ) (pending : Option File) → m ≤ length (with_pending history pending)
-      → settled_of (shows m (Sound p history pending)) ≡ Known p (with_pending history pending) (max (length history) m)
-  shows_settles m None high =
-      ap settled_of (shows_less m None high) ∙ ap (Known p history) (omega (arith, high))
-  shows_settles m (Some f) high = go (m == length history + 1) refl
+  pub shows_settles : (now : Lines) (m : ℕ) (pending : Option File) → m ≤ length (with_pending history pending)
+      → settled_of (shows m (Sound p history pending)) now ≡ Known p (with_pending history pending) (max (length history) m)
+  shows_settles now m None high =
+      ap (over now) (shows_less m None high) ∙ ap (Known p history) (omega (arith, high))
+  shows_settles now m (Some f) high = go (m == length history + 1) refl
     where
       go : (t : Bool) → (m == length history + 1) ≡ t
-          → settled_of (shows m (Sound p history (Some f))) ≡ Known p (history ++ f ∷ []) (max (length history) m)
+          → settled_of (shows m (Sound p history (Some f))) now ≡ Known p (history ++ f ∷ []) (max (length history) m)
       go true is =
           let same : m ≡ length history + 1 = grind (arith, nat_tests) in
-          ap settled_of (shows_more m (Some f) same) ∙ ap (Known p (history ++ f ∷ [])) (omega (arith, length-pending history f, same))
+          ap (over now) (shows_more m (Some f) same) ∙ ap (Known p (history ++ f ∷ [])) (omega (arith, length-pending history f, same))
       go false is =
           let less : m ≤ length history = grind (arith, nat_tests, high, length-pending history f) in
-          ap settled_of (shows_less m (Some f) less) ∙ ap (Known p (history ++ f ∷ [])) (omega (arith, less))
+          ap (over now) (shows_less m (Some f) less) ∙ ap (Known p (history ++ f ∷ [])) (omega (arith, less))
 
-  pub acknowledges_settles : (seq : ℕ) (pending : Option File) → length (with_pending history pending) ≡ seq + 1
-      → settled_of (acknowledges seq (Sound p history pending)) ≡ Known p (with_pending history pending) (max (length history) (seq + 1))
-  acknowledges_settles seq None count =
-      ap settled_of (acknowledged seq None count) ∙ ap (Known p history) (omega (arith, count))
-  acknowledges_settles seq (Some f) count =
-      ap settled_of (acknowledged seq (Some f) count) ∙ ap (Known p (history ++ f ∷ [])) (omega (arith, count, length-pending history f))
+  pub acknowledges_settles : (now : Lines) (seq : ℕ) (pending : Option File) → length (with_pending history pending) ≡ seq + 1
+      → settled_of (acknowledges seq (Sound p history pending)) now ≡ Known p (with_pending history pending) (max (length history) (seq + 1))
+  acknowledges_settles now seq None count =
+      ap (over now) (acknowledged seq None count) ∙ ap (Known p history) (omega (arith, count))
+  acknowledges_settles now seq (Some f) count =
+      ap (over now) (acknowledged seq (Some f) count) ∙ ap (Known p (history ++ f ∷ [])) (omega (arith, count, length-pending history f))
 
-  pub finds_settles : (n : ℕ) (pending : Option File) → (n ≡ length history) ⊎ ((n ≡ length history + 1) × (n ≡ length (with_pending history pending)))
-      → settled_of (finds n (Sound p history pending)) ≡ Known p (take n (with_pending history pending)) n
-  finds_settles n pending (inl same) =
-      ap settled_of (finds_settled n pending same)
+  pub finds_settles : (now : Lines) (n : ℕ) (pending : Option File) → (n ≡ length history) ⊎ ((n ≡ length history + 1) × (n ≡ length (with_pending history pending)))
+      → settled_of (finds n (Sound p history pending)) now ≡ Known p (take n (with_pending history pending)) n
+  finds_settles now n pending (inl same) =
+      ap (over now) (finds_settled n pending same)
       ∙ ap₂ (Known p) (sym (ap (λ k. take k (with_pending history pending)) same ∙ prefix-pending history pending)) (sym same)
-  finds_settles n pending (inr more) =
-      ap settled_of (finds_more n pending more.0)
+  finds_settles now n pending (inr more) =
+      ap (over now) (finds_more n pending more.0)
       ∙ ap₂ (Known p) (sym (ap (λ k. take k (with_pending history pending)) more.1 ∙ take_whole (with_pending history pending))) (sym more.1)

@@ -12,6 +12,7 @@ use Rattle.fam_rules.specs.declared.answers.Refused.{Refused}
 use Rattle.fam_rules.specs.declared.answers.Refused.TheVariants as refused
 use Rattle.fam_rules.specs.declared.answers.LogState.{LogState}
 use Rattle.fam_rules.specs.declared.answers.Report.{Report}
+use Rattle.fam_format.specs.Reading.{Lines}
 use Rattle.fam_rules.specs.Asks.{File, entries_of}
 use Rattle.fam_protocol.proofs.Settled.Lists.{entries_count}
 use Rattle.fam_rules.specs.Content.{fill}
@@ -40,26 +41,26 @@ module _ (p : Params) (history : List File) (pending : Option File) (start : Ima
 
   -- What is settled.
 
-  reply_settles : (given : Reply) → MayReply given sys (run_of t told) all (length history)
-      → settled_of (replied given (Sound p history pending)) ≡ Known p all (max (length history) (shown_by given))
-  reply_settles (Appended seq) a = acknowledges_settles p history seq pending a.count
-  reply_settles (NotAppended why) a = ap (Known p all) (omega arith)
-  reply_settles (Played m tree) a = shows_settles p history m pending a.high
-  reply_settles (Mounted m) a = shows_settles p history m pending a.high
-  reply_settles (Same m) a = shows_settles p history m pending a.high
-  reply_settles (Differs m offset found wanted) a = shows_settles p history m pending a.high
-  reply_settles (Length m size wanted) a = shows_settles p history m pending a.high
-  reply_settles (Bytes m bytes) a = shows_settles p history m pending a.high
-  reply_settles (NotFound m) a = shows_settles p history m pending a.high
-  reply_settles (IsDirectory m) a = shows_settles p history m pending a.high
-  reply_settles (Checks m checked) a = shows_settles p history m pending a.high
-  reply_settles (Reports report) a =
+  reply_settles : (now : Lines) (given : Reply) → MayReply given sys (run_of t told) all (length history)
+      → settled_of (replied given (Sound p history pending)) now ≡ Known p all (max (length history) (shown_by given))
+  reply_settles now (Appended seq) a = acknowledges_settles p history now seq pending a.count
+  reply_settles now (NotAppended why) a = ap (Known p all) (omega arith)
+  reply_settles now (Played m tree) a = shows_settles p history now m pending a.high
+  reply_settles now (Mounted m) a = shows_settles p history now m pending a.high
+  reply_settles now (Same m) a = shows_settles p history now m pending a.high
+  reply_settles now (Differs m offset found wanted) a = shows_settles p history now m pending a.high
+  reply_settles now (Length m size wanted) a = shows_settles p history now m pending a.high
+  reply_settles now (Bytes m bytes) a = shows_settles p history now m pending a.high
+  reply_settles now (NotFound m) a = shows_settles p history now m pending a.high
+  reply_settles now (IsDirectory m) a = shows_settles p history now m pending a.high
+  reply_settles now (Checks m checked) a = shows_settles p history now m pending a.high
+  reply_settles now (Reports report) a =
       let high : length (entries_of (take a.m all)) ≤ length all = omega (arith, a.high, entries_count a.m all a.high) in
-      subst (λ (x : LogState). settled_of (shows_count (reported_count x) (Sound p history pending)) ≡ Known p all (max (length history) (read_by_log x))) (sym a.is.log)
-      (shows_settles p history (length (entries_of (take a.m all))) pending high)
-  reply_settles (NoSuperblock fault) a = absurd a
-  reply_settles (BadHeader fault) a = absurd a
-  reply_settles (BadSlot seq reason) a = absurd a
+      subst (λ (x : LogState). settled_of (shows_count (reported_count x) (Sound p history pending)) now ≡ Known p all (max (length history) (read_by_log x))) (sym a.is.log)
+      (shows_settles p history now (length (entries_of (take a.m all))) pending high)
+  reply_settles now (NoSuperblock fault) a = absurd a
+  reply_settles now (BadHeader fault) a = absurd a
+  reply_settles now (BadSlot seq reason) a = absurd a
 
   bytes_same : (next : Cmd) (size : ℕ) → next ≡ t.cmd → filled_bytes (cmd_of (slice_get hosts h)) size ≡ fill (content_of next) size
   bytes_same next size same =
@@ -84,13 +85,13 @@ module _ (p : Params) (history : List File) (pending : Option File) (start : Ima
   KeepsCommand (Writes seq e next) = next.cmd ≡ t.cmd
   KeepsCommand (Ends reply) = ⊤
 
-  pub sound_settles : (turn : Turn) → MaySay turn sys (run_of t told) all (length history) → KeepsCommand turn
-      → settled_of (past_behind past (notes_of h (note_of turn))).state ≡ turn_settles turn (Known p all (length history))
-  sound_settles (Goes next) may keeps = refl
-  sound_settles (Marks next) may keeps = refl
-  sound_settles (Finds n next) may keeps = finds_settles p history n pending may
-  sound_settles (Writes seq e next) may keeps = named_settles e next pending (none_pending pending (sym may.1 ∙ may.0)) keeps
-  sound_settles (Ends given) may keeps = reply_settles given may
+  pub sound_settles : (now : Lines) (turn : Turn) → MaySay turn sys (run_of t told) all (length history) → KeepsCommand turn
+      → settled_of (past_behind past (notes_of h (note_of turn))).state now ≡ turn_settles turn (Known p all (length history))
+  sound_settles now (Goes next) may keeps = refl
+  sound_settles now (Marks next) may keeps = refl
+  sound_settles now (Finds n next) may keeps = finds_settles p history now n pending may
+  sound_settles now (Writes seq e next) may keeps = named_settles e next pending (none_pending pending (sym may.1 ∙ may.0)) keeps
+  sound_settles now (Ends given) may keeps = reply_settles now given may
 
   -- What is legal.
 

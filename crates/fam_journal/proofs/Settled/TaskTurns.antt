@@ -4,6 +4,7 @@ use Rattle.std.specs.Prelude.{slice_get}
 use Rattle.fam_base.specs.declared.cmd.Cmd.{Cmd}
 use Rattle.fam_commands.specs.Kept.{IsKept, Kept}
 use Rattle.fam_commands.specs.Stands.{StandsFor, note_of, task_after, turn_given, with_given}
+use Rattle.fam_format.specs.Reading.{Lines}
 use Rattle.fam_machine.specs.Operations.{given_by}
 use Rattle.fam_commands.specs.Stands as stands
 use Rattle.fam_commands.specs.Task.{Task, op_of}
@@ -62,12 +63,12 @@ run_same (Writes seq e next) n t told = refl
 run_same (Ends given) n t told = refl
 
 -- how much is settled
-pub settled_same : (s : State) → settled_count (settled_of s) ≡ settled_length s
-settled_same (Sound p history pending) = refl
-settled_same (Bad image (FewLines lines) gate) = refl
-settled_same (Bad image (past.NoSuperblock fault) gate) = refl
-settled_same (Bad image (past.BadHeader fault) gate) = refl
-settled_same (Bad image (past.BadSlot i reason) gate) = refl
+pub settled_same : (s : State) (now : Lines) → settled_count (settled_of s now) ≡ settled_length s
+settled_same (Sound p history pending) now = refl
+settled_same (Bad origin (FewLines lines) gate) now = refl
+settled_same (Bad origin (past.NoSuperblock fault) gate) now = refl
+settled_same (Bad origin (past.BadHeader fault) gate) now = refl
+settled_same (Bad origin (past.BadSlot i reason) gate) now = refl
 
 module _ (kept : Option Kept) (cmd : Cmd) (me : List ℕ) (lines : ℕ) (t : Task) (words : List ℕ) (made word : ℕ) (joined : IsKept kept) (standing : StandsFor kept cmd me lines t words made) (turn : Turn) (is : turn_given t word ≡ turn) where
   -- the task that goes on stands for the command too

@@ -1,37 +1,33 @@
-use Rattle.std.proofs.Common.{arith, ap, sym, subst, ◌∙◌}
-use Rattle.fam_cache.specs.States.{CacheState}
-use Rattle.fam_machine.specs.Caches.{cell_at}
-use Rattle.fam_machine.specs.OneLine.{IsHeld}
+use Rattle.std.proofs.Common.{◌∷◌, [], take, arith}
+use Rattle.fam_machine.specs.declared.op.Op.TheVariants.{Invalidate}
 use Rattle.fam_machine.specs.Mkfs.{put_ops}
-use Rattle.fam_mkfs.proofs.WholeLines.{cut_on, put_done, send_cut, store_cut, store_more, held_spare_kept, line_differs, spare_kept}
-use Rattle.fam_cache.proofs.Performed.{held_after_store}
+use Rattle.fam_machine.specs.Operations.{line_no}
+use Rattle.fam_mkfs.specs.Parts.{stores}
+use Rattle.fam_cache.proofs.Runs.{cut_as, cut_first, cut_second, done_as, done_both}
+use Rattle.fam_mkfs.proofs.WholeLines.{all_put, cut_as_told, cut_on, done_on, few_stored}
 use Rattle.fam_mkfs.proofs.lines.write_line.Goals as goal
+
+pub returns-then-most-le8-clause-done : goal.returns-then-most-le8-clause-done
+returns-then-most-le8-clause-done g c =
+    done_on _ _ _ _ _ (few_stored c.args.line.0 c.args.words.now c.args.most c.if-most-le8.true) c.store_words.ensures.done
+
+pub returns-then-most-le8-clause-cut : goal.returns-then-most-le8-clause-cut
+returns-then-most-le8-clause-cut g c =
+    cut_as_told _ _ _ _ _ (few_stored c.args.line.0 c.args.words.now c.args.most c.if-most-le8.true) c.store_words.ensures.cut
+
+pub returns-in_err-store_words-clause-cut : goal.returns-in_err-store_words-clause-cut
+returns-in_err-store_words-clause-cut g c =
+    cut_on (take c.args.most (put_ops (c.args.line.0, c.args.words.now))) _ _ c.in_err-store_words.field-0.0 c.from_residual.result c.from_residual.ensures
+    (cut_as _ _ _ _ _ (all_put c.args.line.0 c.args.words.now c.args.most (omega arith))
+    (cut_first (stores c.args.line.0 c.args.words.now 8) (Invalidate (line_no c.args.line.0) ∷ []) _ _ _ c.in_err-store_words.ensures.cut))
 
 pub returns-in_err-operate-clause-cut : goal.returns-in_err-operate-clause-cut
 returns-in_err-operate-clause-cut g c =
-    cut_on (put_ops (c.args.line.0, c.args.words.now)) _ _ c.in_err-operate.field-0.0 c.from_residual.result c.from_residual.ensures
-    (store_cut c.args.line.0 c.args.words.now c.loop-word.word _ _ _ _ c.loop-word-test.true c.loop-word.invariant.done c.in_err-operate.ensures.cut)
-
-pub loop-word-preserved : goal.loop-word-preserved
-loop-word-preserved g c =
-    let v = c.loop-word.invariant in
-    let e = c.in_ok-operate.ensures in
-    record {
-      done = store_more c.args.line.0 c.args.words.now c.loop-word.word _ _ _ v.done e.done;
-      held = λ some. held_after_store _ c.args.line.0 _ _ _ _ e.cache;
-      others = λ other differs. e.others other (line_differs c.args.line other differs) ∙ v.others other differs;
-      first = λ none. absurd (omega arith);
-      spare = spare_kept c.loop-word.word c.args.cache.now.spare c.loop-word.cache.spare c.operate.new.cache.spare (IsHeld (cell_at c.loop-word.cache.lines c.args.line.0)) v.held e.held_spare e.spare (λ none. omega (arith, ap (λ (s : CacheState). s.spare) (v.first none))) v.spare;
-      held_spare = λ held. held_spare_kept c.loop-word.word c.args.cache.now.spare c.loop-word.cache.spare c.operate.new.cache.spare (IsHeld (cell_at c.loop-word.cache.lines c.args.line.0)) v.held
-          (λ none. subst (λ (s : CacheState). IsHeld (cell_at s.lines c.args.line.0)) (sym (v.first none)) held) e.held_spare (v.held_spare held);
-      steady = record { size = e.steady.size ∙ v.steady.size; later = omega (arith, e.steady.later, v.steady.later) };
-    }
-
-pub returns-in_err-operate-2-clause-cut : goal.returns-in_err-operate-2-clause-cut
-returns-in_err-operate-2-clause-cut g c =
-    cut_on (put_ops (c.args.line.0, c.args.words.now)) _ _ c.in_err-operate-2.field-0.0 c.from_residual-in_err-operate-2.result c.from_residual-in_err-operate-2.ensures
-    (send_cut c.args.line.0 c.args.words.now c.loop-word.word _ _ _ _ (omega arith) c.loop-word.invariant.done c.in_err-operate-2.ensures.cut)
+    cut_on (take c.args.most (put_ops (c.args.line.0, c.args.words.now))) _ _ c.in_err-operate.field-0.0 c.from_residual-in_err-operate.result c.from_residual-in_err-operate.ensures
+    (cut_as _ _ _ _ _ (all_put c.args.line.0 c.args.words.now c.args.most (omega arith))
+    (cut_second (stores c.args.line.0 c.args.words.now 8) (Invalidate (line_no c.args.line.0) ∷ []) _ _ _ _ c.in_ok-store_words.ensures.done c.in_err-operate.ensures.cut))
 
 pub returns-clause-done : goal.returns-clause-done
 returns-clause-done g c =
-    put_done c.args.line.0 c.args.words.now c.loop-word.word _ _ _ (omega arith) c.loop-word.invariant.done c.in_ok-operate-2.ensures.done
+    done_as _ _ _ _ (all_put c.args.line.0 c.args.words.now c.args.most (omega arith))
+    (done_both (stores c.args.line.0 c.args.words.now 8) (Invalidate (line_no c.args.line.0) ∷ []) _ _ _ c.in_ok-store_words.ensures.done c.in_ok-operate.ensures.done)

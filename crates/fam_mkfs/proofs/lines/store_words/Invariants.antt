@@ -3,8 +3,8 @@ use Rattle.fam_machine.specs.Caches.{cell_at}
 use Rattle.fam_machine.specs.OneLine.{IsHeld}
 use Rattle.fam_media.specs.Causes.{IsSteady}
 use Rattle.fam_cache.specs.Runs.{AreDone, over}
-use Rattle.fam_mkfs.proofs.WholeLines.{stores}
-use Rattle.fam_mkfs.proofs.lines.write_line.Given as goal
+use Rattle.fam_mkfs.specs.Parts.{stores}
+use Rattle.fam_mkfs.proofs.lines.store_words.Given as goal
 
 abbrev pub invariant-loop-word : goal.invariant-loop-word
 invariant-loop-word g l = record {
