@@ -41,6 +41,7 @@ answer_view (given.MediaFault line) = MediaFault line.0
 abbrev pub note_view : Note → journal.Note
 note_view (note.Host name uuid) = journal.Host name uuid
 note_view (note.Made host params) = journal.Made host.0 params
+note_view (note.Cut host k) = journal.Cut host.0 k
 note_view (note.Start host cmd) = journal.Start host.0 cmd
 note_view (note.Mark host) = journal.Mark host.0
 note_view (note.Found host n) = journal.Found host.0 n

@@ -18,6 +18,12 @@ pub enum Note {
         host: HostId,
         params: Params,
     },
+    /// A host halted in making a file system, after so many of its operations, and its cache was lost: after 80 where the
+    /// number is greater, and never before the 27 that read.
+    Cut {
+        host: HostId,
+        k: u64,
+    },
     /// A host begins a command.
     Start {
         host: HostId,
