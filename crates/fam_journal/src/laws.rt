@@ -46,8 +46,8 @@ pub fn what_a_task_says_is_legal()
 /// Whatever a call of the world does, as its row has it, a world that was held is held again once it stands for the
 /// state behind the row and has the row's notes: with stops, halts, umounts, media faults and steps of other hosts at any
 /// moment. Every call is one of these: a host is declared; a file system is made, or its maker halts, or a superblock
-/// stands there; a command begins, does an operation, or runs to its answer; it is stopped or halted; what a host keeps is forgotten; a
-/// cache moves, or the media fails in it; something is refused.
+/// stands there; a command begins, does an operation, or runs to its answer; it is stopped or halted; what a host keeps
+/// is forgotten; a cache moves, or the media fails in it; something is refused.
 pub fn a_row_keeps_what_is_held()
     ensures held { (start : Image) (state left : Machines) (old new : WorldView) (call : Call) (notes : List Note)
         → Held start state old state.memory → IsSoundCall call → Does call state notes left
@@ -88,8 +88,8 @@ pub fn a_run_is_settled()
         → IsSettled ending start files events journal last done }
 {}
 
-/// Of two answers with no file system made between them, nor a maker halted behind its first send, the one of fewer entries has those that stand first in the
-/// other one's, whichever came first.
+/// Of two answers with no file system made between them, and no maker halted behind its first send, the one of fewer
+/// entries has those that stand first in the other one's, whichever came first.
 pub fn the_history_only_grows()
     ensures more { (start : Image) (two : TwoAnswers start) → two.m ≤ two.n
         → first_entries two ≡ take two.m (second_entries two) }

@@ -11,7 +11,7 @@ use Rattle.fam_outcomes.specs.declared.status.Status.{Status}
 use Rattle.fam_outcomes.specs.declared.status.Status.TheVariants as status
 use Rattle.fam_journal.specs.Ends.{AllDone, Ending, HasCounted, MkfsFails, EndsOutOfMemory, EndsOutOfMemoryBroken, SinkFails, SourceFails, faults_of, note_faults}
 use Rattle.fam_journal.specs.Follows.{Faulted, Short, SourceEnd}
-use Rattle.fam_journal.specs.Notes.{Answer, Replied, MediaFault, Note, Host, Made, Start, Mark, Found, Writes, Answered, Stop, Halt, Umount, Refused}
+use Rattle.fam_journal.specs.Notes.{Answer, Replied, MediaFault, Note, Host, Made, Cut, Start, Mark, Found, Writes, Answered, Stop, Halt, Umount, Refused}
 use Rattle.fam_outcomes.specs.Programs.{BadLine, Command, CommandRuns, Early, EndsEarly, Grammar, IsEarly, LongScript, Makes, MakesParents, NoCommand, EarlyOutOfMemory, NoScript, OfScript, OneShot, Prints, Runs, Script, ScriptCaused, ScriptFails, Single, Storm, Storms, TopEnds, done_status, early_status, script_status, shot_status, storm_status}
 use Rattle.fam_outcomes.specs.Runs.{EndsBroken, HasRisen, IsCaused, Outside, SourceCaused}
 use Rattle.fam_outcomes.specs.Statuses.{answer_status, cause_status, good_status, is_good, last_status, last_stops, note_status, parents_status, reply_status, sound_status}
@@ -92,6 +92,7 @@ cause_told name (why.MediaFault at) = inr (refl, omega arith)
 note_told : (note : Note) → IsTold (note_status note) (note_faults note)
 note_told (Host name uuid) = inl tt
 note_told (Made host p) = inl tt
+note_told (Cut host k) = inl tt
 note_told (Start host cmd) = inl tt
 note_told (Mark host) = inl tt
 note_told (Found host n) = inl tt

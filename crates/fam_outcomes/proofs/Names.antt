@@ -21,8 +21,9 @@ use Rattle.fam_journal.specs.declared.event.Event.TheVariants as event
 use Rattle.fam_journal.specs.declared.refusal.Refusal.{Refusal}
 use Rattle.fam_journal.specs.declared.refusal.Refusal.TheVariants as why
 use Rattle.fam_commands.specs.Classes.{is_mount}
+use Rattle.fam_base.specs.declared.entry.Params.{Params}
 use Rattle.fam_journal.specs.Calls as call
-use Rattle.fam_journal.specs.Calls.{Acts, ActsAt, AtNumber, ByRefusal, Call, Does, OnHost, DoesOperations, begins_refusal, busy_at, busy_refusal, cause_of, dirty_from, dirty_refusal, has_name, host_limit, idle_refusal, is_engaged, is_same, keeps_at, line_refusal, makes_refusal, may_begin, name_of, number_of, on_host, refusal_of, same_refusal, umounts_refusal, when}
+use Rattle.fam_journal.specs.Calls.{Acts, ActsAt, AtNumber, ByRefusal, Call, Does, MakesOrHalts, OnHost, DoesOperations, begins_refusal, busy_at, busy_refusal, cause_of, dirty_from, dirty_refusal, has_name, host_limit, idle_refusal, is_engaged, is_same, keeps_at, line_refusal, makes_refusal, may_begin, name_of, number_of, on_host, refusal_of, same_refusal, umounts_refusal, when}
 use Rattle.fam_journal.specs.Events.{BytesSay, DoesEvent, IsBegun, RefusesEvent, ListingIs, MayNotStep, Session, SourceSays, Sourced, Unfit, WithinSays, copy_limit, mounts}
 use Rattle.fam_journal.specs.Follows.{Follows}
 use Rattle.fam_journal.specs.Machines.{Done, Fails, HostState, Machines, Operation, Outcome, Passes, TaskState, cut, host_done, notes_of, op_done, operation, served, task_done}
@@ -30,7 +31,7 @@ use Rattle.fam_journal.specs.Members.{changed_at, index_from, index_of}
 use Rattle.fam_machine.specs.Mkfs.{EarlyRefusal, early_refusal}
 use Rattle.fam_machine.specs.Mkfs as early
 use Rattle.fam_journal.specs.Names.{AreNamed, IsNamed, NameDeclared, NamesCause, declared_after}
-use Rattle.fam_journal.specs.Notes.{Note, Host, Made, Start, Mark, Found, Writes, Answered, Stop, Halt, Umount, Refused}
+use Rattle.fam_journal.specs.Notes.{Note, Host, Made, Cut, Start, Mark, Found, Writes, Answered, Stop, Halt, Umount, Refused}
 use Rattle.fam_journal.specs.Past.{HostPast, Past, hosts_after, past_after, past_behind}
 use Rattle.fam_outcomes.specs.Texts.{names_after, names_behind, note_line, render, render_behind}
 
@@ -57,6 +58,7 @@ changed_names (suc h) f same (x ∷ xs) = ap (λ (ns : List (List ℕ)). x.name 
 names_one : (x : Past) (note : Note) → names_after (map (λ (y : HostPast). y.name) x.hosts) note ≡ map (λ (y : HostPast). y.name) (hosts_after x note)
 names_one x (Host name uuid) = sym (map_push (λ (y : HostPast). y.name) x.hosts (Rattle.fam_journal.specs.Past.new_host name uuid))
 names_one x (Made h p) = refl
+names_one x (Cut h k) = refl
 names_one x (Start h cmd) = sym (changed_names h _ (λ y. refl) x.hosts)
 names_one x (Mark h) = sym (changed_names h _ (λ y. refl) x.hosts)
 names_one x (Found h n) = refl
@@ -221,6 +223,7 @@ cause_more n k le (why.MediaFault at) is = tt
 note_more : (n k : ℕ) → n ≤ k → (note : Note) → IsNamed n note → IsNamed k note
 note_more n k le (Host name uuid) is = tt
 note_more n k le (Made host p) is = omega (arith, le, is)
+note_more n k le (Cut host ops) is = omega (arith, le, is)
 note_more n k le (Start host cmd) is = omega (arith, le, is)
 note_more n k le (Mark host) is = omega (arith, le, is)
 note_more n k le (Found host count) is = omega (arith, le, is)
@@ -234,6 +237,7 @@ note_more n k le (Refused name cause) is = cause_more n k le cause is
 after_more : (n : ℕ) (note : Note) → n ≤ declared_after n note
 after_more n (Host name uuid) = omega arith
 after_more n (Made host p) = omega arith
+after_more n (Cut host k) = omega arith
 after_more n (Start host cmd) = omega arith
 after_more n (Mark host) = omega arith
 after_more n (Found host count) = omega arith
@@ -253,6 +257,7 @@ named_more n k le (note ∷ notes) are = (note_more n k le note are.0, named_mor
 after_names : (names : List (List ℕ)) (note : Note) → length (names_after names note) ≡ declared_after (length names) note
 after_names names (Host name uuid) = length-append names (name ∷ [])
 after_names names (Made host p) = refl
+after_names names (Cut host k) = refl
 after_names names (Start host cmd) = refl
 after_names names (Mark host) = refl
 after_names names (Found host count) = refl
@@ -335,9 +340,13 @@ operates_named h zero old notes new o = named_quiet old new notes o.0 o.1
 operates_named h (suc count) old notes new (inl o) = named_quiet old new notes o.1 o.2
 operates_named h (suc count) old notes new (inr o) = named_parts old o.1 new o.2 o.3 notes o.6 (operation_named h old o.2 o.1 o.4) (operates_named h count o.1 o.3 new o.5)
 
+making_named : (halt : Option ℕ) (h : ℕ) (p : Params) (force : Bool) (host : HostState) (old : Machines) (notes : List Note) (new : Machines) → h < length old.hosts → MakesOrHalts halt h p force host old notes new → Named old notes new
+making_named None h p force host old notes new below x = named_as old new _ notes _ x.notes_are x.left (named_same old _ _ (length-changed_at h _ old.hosts) (below, tt) refl)
+making_named (Some k) h p force host old notes new below x = named_as old new _ notes _ x.notes_are x.left (named_same old _ _ (length-changed_at h _ old.hosts) (below, tt) refl)
+
 act_named : (c : Call) (h : ℕ) (host : HostState) (old : Machines) (notes : List Note) (new : Machines) → h < length old.hosts → ActsAt c h host old notes new → Named old notes new
 act_named (call.Declares name uuid) h host old notes new below x = absurd x
-act_named (call.Makes name request) h host old notes new below (inl x) = named_as old new _ notes _ x.notes_are x.left (named_same old _ _ (length-changed_at h _ old.hosts) (below, tt) refl)
+act_named (call.Makes name request) h host old notes new below (inl x) = making_named request.halt h _ request.force host old notes new below x
 act_named (call.Makes name request) h host old notes new below (inr x) = named_as old new _ notes _ x.notes_are x.left (named_same old _ _ (length-changed_at h _ old.hosts) (tt, tt) refl)
 act_named (call.Begins name cmd) h host old notes new below x = named_as old new _ notes _ x.0 x.1 (named_same old _ _ (length-changed_at h _ old.hosts) (below, tt) refl)
 act_named (call.Steps name) h host old notes new below x = operation_named h old notes new x

@@ -36,7 +36,7 @@ use Rattle.fam_rules.specs.Reply.{Reply}
 use Rattle.fam_tree.specs.Lines.{entry_line, listing, mode_text}
 use Rattle.fam_journal.specs.declared.refusal.Refusal.{Refusal}
 use Rattle.fam_journal.specs.declared.refusal.Refusal.TheVariants as why
-use Rattle.fam_journal.specs.Notes.{Answer, Replied, MediaFault, Note, Host, Made, Start, Mark, Found, Writes, Answered, Stop, Halt, Umount, Refused}
+use Rattle.fam_journal.specs.Notes.{Answer, Replied, MediaFault, Note, Host, Made, Cut, Start, Mark, Found, Writes, Answered, Stop, Halt, Umount, Refused}
 use Rattle.fam_journal.specs.NoteClasses.{NoteClass, note_class, Declared, Formatted, Going, Answering, Refusing}
 
 -- a text as a line
@@ -289,6 +289,7 @@ made_text p = codes "made" ++ uuid_text p.fs ++ sizes_text p.unit p.log_length p
 abbrev pub note_text : List (List ℕ) → Note → List ℕ
 note_text names (Host name uuid) = line (codes "host" ++ uuid_text uuid)
 note_text names (Made host p) = line (made_text p)
+note_text names (Cut host k) = line (codes "mkfs halted" ++ number k)
 note_text names (Start host cmd) = line (codes "start " ++ cmd_text cmd)
 note_text names (Mark host) = line (codes "mark")
 note_text names (Found host n) = line (codes "found" ++ number n)

@@ -107,7 +107,7 @@ module _ (me fs : List ℕ) (is_uuid : IsUuid fs) (image : Image) (enough : need
     none : refusal_of call state ≡ None
     none = refusal_shown (length state.memory) state old call stands ∙ ap (refusal_in call old) (sym (ap (λ (x : Image). length x) same)) ∙ free me fs is_uuid image enough journal faults
 
-    cut : MakesCut 0 p true (codes "m") host state (fault ∷ []) left
+    cut : MakesCut 0 p true None (codes "m") host state (fault ∷ []) left
     cut = record {
       line = line_no 0;
       left = behind;

@@ -21,8 +21,8 @@ use Rattle.fam_journal.specs.declared.refusal.Refusal.TheVariants as why
 use Rattle.fam_journal.specs.Events.{Session}
 use Rattle.fam_journal.specs.Forms.{HostForm, forms_after}
 use Rattle.fam_journal.specs.Machines.{HostState, Machines, TaskState, task_begun}
-use Rattle.fam_journal.specs.Notes.{Note, Host, Made, Start, Mark, Found, Writes, Answered, Halt, Refused, Replied}
-use Rattle.fam_journal.specs.Past.{Damage, Past, State, Bad, new_host, past_of}
+use Rattle.fam_journal.specs.Notes.{Note, Host, Made, Cut, Start, Mark, Found, Writes, Answered, Halt, Refused, Replied}
+use Rattle.fam_journal.specs.Past.{Bad, Damage, Given, Past, State, new_host, past_of}
 
 -- a UUID of zeros and this last byte
 abbrev pub uuid : ℕ → List ℕ
@@ -97,7 +97,11 @@ state_behind journal = (behind journal).state
 -- an image without history, of two hosts
 abbrev pub damaged : Damage → ℕ → Past
 damaged damage gate =
-    record { start = []; state = Bad [] damage gate; hosts = new_host (codes "m") master ∷ new_host (codes "c") client ∷ [] }
+    record { start = []; state = Bad (Given []) damage gate; hosts = new_host (codes "m") master ∷ new_host (codes "c") client ∷ [] }
+
+-- an image on which the maker of a file system halted after so many operations
+abbrev pub cut_off : ℕ → Past
+cut_off k = behind (writing ++ Halt 0 ∷ Cut 0 k ∷ [])
 
 -- A report.
 

@@ -4,7 +4,7 @@ use Rattle.fam_rules.specs.Reply as reply
 use Rattle.fam_rules.specs.Reply.{Reply}
 use Rattle.fam_journal.specs.Legal.{Allowed, OfHost, ReplyAllowed}
 use Rattle.fam_journal.specs.Members.{changed_at}
-use Rattle.fam_journal.specs.Notes.{Answer, Replied, MediaFault, Note, Host, Made, Start, Mark, Found, Writes, Answered, Stop, Halt, Umount, Refused}
+use Rattle.fam_journal.specs.Notes.{Answer, Replied, MediaFault, Note, Host, Made, Cut, Start, Mark, Found, Writes, Answered, Stop, Halt, Umount, Refused}
 use Rattle.fam_journal.specs.Past.{HostPast, Past, State, Bad, Sound, acknowledges, past_after, settled_length, state_after}
 
 -- A floor that is taken with the gate's count, and not at the mark.
@@ -13,6 +13,7 @@ use Rattle.fam_journal.specs.Past.{HostPast, Past, State, Bad, Sound, acknowledg
 abbrev pub late_hosts : Past → Note → List HostPast
 late_hosts past (Host name uuid) = (past_after past (Host name uuid)).hosts
 late_hosts past (Made h p) = past.hosts
+late_hosts past (Cut h k) = past.hosts
 late_hosts past (Start h cmd) = (past_after past (Start h cmd)).hosts
 late_hosts past (Mark h) = past.hosts
 late_hosts past (Found h n) = changed_at h (λ x. record x { floor = Some (settled_length past.state) }) past.hosts
@@ -39,6 +40,7 @@ drops n (Sound p history pending) =
 abbrev pub dropping_state : Past → Note → State
 dropping_state past (Host name uuid) = past.state
 dropping_state past (Made h p) = state_after past (Made h p)
+dropping_state past (Cut h k) = state_after past (Cut h k)
 dropping_state past (Start h cmd) = past.state
 dropping_state past (Mark h) = past.state
 dropping_state past (Found h n) = drops n past.state
@@ -87,6 +89,7 @@ AnyAnswerAllowed (MediaFault line) host state = ⊤
 abbrev pub AnyOkAllowed : Past → Note → Type 0
 AnyOkAllowed past (Host name uuid) = ⊤
 AnyOkAllowed past (Made h p) = ⊤
+AnyOkAllowed past (Cut h k) = ⊤
 AnyOkAllowed past (Start h cmd) = ⊤
 AnyOkAllowed past (Mark h) = ⊤
 AnyOkAllowed past (Found h n) = Allowed past (Found h n)

@@ -1,12 +1,12 @@
 //! The form of notes, whatever memory holds: notes of a mkdir that go through, and some that don't.
 
-ghost use Rattle.std.specs.Prelude.{ℕ, ⊤, ◌≡◌, [], ◌∷◌, codes, false, true};
+ghost use Rattle.std.specs.Prelude.{ℕ, ⊤, ◌≡◌, [], ◌∷◌, None, Some, codes, false, true};
 ghost use Rattle.fam_base.specs.declared.cmd.Cmd.TheVariants.{Logplay, Mount};
 ghost use Rattle.fam_machine.specs.MkfsRequest.{mkfs_request};
 ghost use Rattle.fam_journal.specs.Calls.{Makes};
 ghost use Rattle.fam_journal.specs.EventForms.{StartForm};
 ghost use Rattle.fam_journal.specs.Forms.{ActsForm, CompletesForm, OperationsForm, forms_behind};
-ghost use Rattle.fam_journal.specs.Notes.{Answered, Found, Made, Mark, Replied, Start, Umount, Writes};
+ghost use Rattle.fam_journal.specs.Notes.{Answered, Cut, Found, Made, Mark, Replied, Start, Umount, Writes};
 ghost use Rattle.fam_journal.specs.declared.event.Ask.TheVariants.{Plain};
 ghost use Rattle.fam_samples.specs.Scene.{folder, form_m, idle_m, mkdir, no_tree, params, running_m, uuid, x, y};
 ghost use Rattle.fam_machine.specs.Mkfs.{asked};
@@ -35,4 +35,14 @@ pub fn forms_of_notes()
         (Made 0 (asked (mkfs_request (uuid 255) 4096 65536 false None) form_m.uuid lines) ∷ []) }
     ensures made_another { (lines : ℕ) → ActsForm (Makes (codes "m") (mkfs_request (uuid 255) 8192 65536 false None)) 0 form_m lines idle_m
         (Made 0 params ∷ []) → ⊥ }
+
+    // A maker that is to halt makes none.
+    ensures cut { (lines : ℕ) → ActsForm (Makes (codes "m") (mkfs_request (uuid 255) 4096 65536 false (Some 36))) 0 form_m lines idle_m
+        (Cut 0 36 ∷ []) }
+    ensures cut_elsewhere { (lines : ℕ) → ActsForm (Makes (codes "m") (mkfs_request (uuid 255) 4096 65536 false (Some 36))) 0 form_m lines idle_m
+        (Cut 0 37 ∷ []) → ⊥ }
+    ensures cut_unasked { (lines : ℕ) → ActsForm (Makes (codes "m") (mkfs_request (uuid 255) 4096 65536 false None)) 0 form_m lines idle_m
+        (Cut 0 36 ∷ []) → ⊥ }
+    ensures cut_and_made { (lines : ℕ) → ActsForm (Makes (codes "m") (mkfs_request (uuid 255) 4096 65536 false (Some 36))) 0 form_m lines idle_m
+        (Made 0 (asked (mkfs_request (uuid 255) 4096 65536 false (Some 36)) form_m.uuid lines) ∷ []) → ⊥ }
 {}

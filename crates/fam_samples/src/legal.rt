@@ -7,10 +7,10 @@ ghost use Rattle.fam_base.specs.declared.entry.Kind.TheVariants.{Directory, File
 ghost use Rattle.fam_format.specs.declared.faults.LogFault.{LogFault};
 ghost use Rattle.fam_format.specs.declared.faults.Reason.TheVariants.{BadPath, Map};
 ghost use Rattle.fam_format.specs.declared.faults.SuperFault.TheVariants.{NoSuper};
-ghost use Rattle.fam_journal.specs.Legal.{Allowed};
+ghost use Rattle.fam_journal.specs.Legal.{Allowed, cleared_report};
 ghost use Rattle.fam_journal.specs.Notes.{Answered, Found, Mark, MediaFault, Note, Replied, Start, Writes};
 ghost use Rattle.fam_journal.specs.Past.{BadHeader, BadSlot, FewLines, NoSuperblock, Past};
-ghost use Rattle.fam_samples.specs.Scene.{behind, client, damaged, done, folder, found, made, master, mkdir, no_tree, report_of_log, tree_of, writing, x, y};
+ghost use Rattle.fam_samples.specs.Scene.{behind, client, cut_off, damaged, done, folder, found, made, master, mkdir, no_tree, report_of_log, tree_of, writing, x, y};
 ghost use Rattle.fam_rules.specs.Reply as reply;
 ghost use Rattle.fam_rules.specs.Reply.{Appended, Mounted, NotAppended, NotFound, Played, Reports};
 ghost use Rattle.fam_rules.specs.declared.answers.LogState.TheVariants as log;
@@ -89,7 +89,7 @@ pub fn reports()
     ensures too_few { Allowed (behind (done ++ Start 1 Fsck ∷ Mark 1 ∷ [])) (Answered 1 (Replied (Reports (report_of_log (log.Sound 0 127))))) → ⊥ }
 {}
 
-/// What may be answered on a damaged image: its own fault. A media's fault may always be answered.
+/// What may be answered on a damaged image: its own fault; and where a maker has halted that there is no superblock. A media's fault may always be answered.
 pub fn answers_of_a_damaged_image()
     ensures own { Allowed (damaged (NoSuperblock (NoSuper 7)) 0) (Answered 1 (Replied (reply.NoSuperblock (NoSuper 7)))) }
     ensures other_word { Allowed (damaged (NoSuperblock (NoSuper 7)) 0) (Answered 1 (Replied (reply.NoSuperblock (NoSuper 8)))) → ⊥ }
@@ -98,6 +98,11 @@ pub fn answers_of_a_damaged_image()
     ensures slot { Allowed (damaged (BadSlot 1 BadPath) 2) (Answered 1 (Replied (reply.BadSlot 1 BadPath))) }
     ensures other_slot { Allowed (damaged (BadSlot 1 BadPath) 2) (Answered 1 (Replied (reply.BadSlot 0 BadPath))) → ⊥ }
     ensures other_reason { Allowed (damaged (BadSlot 1 BadPath) 2) (Answered 1 (Replied (reply.BadSlot 1 Map))) → ⊥ }
+    ensures cut { Allowed (cut_off 36) (Answered 1 (Replied (reply.NoSuperblock (NoSuper 0)))) }
+    ensures cut_word { Allowed (cut_off 36) (Answered 1 (Replied (reply.NoSuperblock (NoSuper 7)))) → ⊥ }
+    ensures cut_report { Allowed (cut_off 80) (Answered 1 (Replied (Reports cleared_report))) }
+    ensures cut_log { Allowed (cut_off 80) (Answered 1 (Replied (Reports (report_of_log log.Unread)))) → ⊥ }
+    ensures cut_early { Allowed (cut_off 35) (Answered 1 (Replied (reply.NoSuperblock (NoSuper 0)))) → ⊥ }
     ensures sound { Allowed (behind done) (Answered 1 (Replied (reply.BadSlot 0 BadPath))) → ⊥ }
     ensures media { Allowed (behind done) (Answered 1 (MediaFault 32769)) }
     ensures media_undeclared { Allowed (behind done) (Answered 2 (MediaFault 32769)) → ⊥ }

@@ -3,8 +3,9 @@
 ghost use Rattle.std.specs.Prelude.{◌≡◌, ◌++◌, ℕ, [], ◌∷◌, Some, None, codes, slice_get, option_map};
 ghost use Rattle.fam_base.specs.declared.cmd.Cmd.TheVariants.{Logplay};
 ghost use Rattle.fam_format.specs.declared.faults.Reason.TheVariants.{BadPath};
-ghost use Rattle.fam_journal.specs.Notes.{Answered, Found, Halt, Host, Made, Mark, MediaFault, Refused, Replied, Start, Stop, Writes};
-ghost use Rattle.fam_journal.specs.Past.{Bad, BadSlot, FewLines, HostPast, Sound, first_state, state_after};
+ghost use Rattle.fam_format.specs.declared.faults.SuperFault.TheVariants.{NoSuper};
+ghost use Rattle.fam_journal.specs.Notes.{Answered, Cut, Found, Halt, Host, Made, Mark, MediaFault, Refused, Replied, Start, Stop, Writes};
+ghost use Rattle.fam_journal.specs.Past.{Bad, BadSlot, FewLines, Given, Halted, NoSuperblock, HostPast, Sound, first_state, state_after};
 ghost use Rattle.fam_journal.specs.declared.refusal.Refusal.TheVariants.{NoHost};
 ghost use Rattle.fam_samples.specs.Scene.{behind, damaged, done, folder, found, held, made, mkdir, no_tree, params, report_of_log, state_behind, tree_of, writing, x, y};
 ghost use Rattle.fam_rules.specs.Reply.{Appended, Played, Reports};
@@ -12,7 +13,7 @@ ghost use Rattle.fam_rules.specs.declared.answers.LogState.TheVariants as log;
 
 /// What is settled behind each note, where one entry is pending, and where none is.
 pub fn what_notes_settle()
-    ensures few_lines { first_state [] ≡ Bad [] (FewLines 0) 0 }
+    ensures few_lines { first_state [] ≡ Bad (Given []) (FewLines 0) 0 }
     ensures made { state_behind made ≡ Sound params [] None }
     ensures writes { state_behind writing ≡ Sound params [] (Some (held x)) }
 
@@ -38,6 +39,10 @@ pub fn what_notes_settle()
     ensures quiet { state_behind (writing ++ Host (codes "d") [] ∷ Start 1 Logplay ∷ Mark 1 ∷ Answered 1 (MediaFault 32769) ∷ Stop 0 ∷ Halt 0 ∷ Refused (codes "q") NoHost ∷ [])
         ≡ Sound params [] (Some (held x)) }
     ensures forgotten { state_behind (writing ++ Made 1 params ∷ []) ≡ Sound params [] None }
+
+    // So does a maker that halts from its first send on, and none before it.
+    ensures halted_early { state_behind (writing ++ Cut 1 35 ∷ []) ≡ Sound params [] (Some (held x)) }
+    ensures halted { state_behind (writing ++ Cut 1 36 ∷ []) ≡ Bad Halted (NoSuperblock (NoSuper 0)) 0 }
 {}
 
 /// What is known of a host: its last command, how much was settled at that command's mark, and what it named.
@@ -54,11 +59,14 @@ pub fn what_hosts_leave()
         ≡ Some None }
 {}
 
-/// An image without history settles nothing, whatever is noted, up to a new file system.
+/// An image without history settles nothing, whatever is noted, up to a new file system. A maker that halts from its
+/// first send on makes it one without a superblock.
 pub fn what_a_damaged_image_settles()
-    ensures found { state_after (damaged (BadSlot 1 BadPath) 2) (Found 0 2) ≡ Bad [] (BadSlot 1 BadPath) 2 }
-    ensures writes { state_after (damaged (BadSlot 1 BadPath) 2) (Writes 0 0 (folder x)) ≡ Bad [] (BadSlot 1 BadPath) 2 }
-    ensures shown { state_after (damaged (BadSlot 1 BadPath) 2) (Answered 1 (Replied (Played 0 no_tree))) ≡ Bad [] (BadSlot 1 BadPath) 2 }
-    ensures acknowledged { state_after (damaged (BadSlot 1 BadPath) 2) (Answered 0 (Replied (Appended 0))) ≡ Bad [] (BadSlot 1 BadPath) 2 }
+    ensures found { state_after (damaged (BadSlot 1 BadPath) 2) (Found 0 2) ≡ Bad (Given []) (BadSlot 1 BadPath) 2 }
+    ensures writes { state_after (damaged (BadSlot 1 BadPath) 2) (Writes 0 0 (folder x)) ≡ Bad (Given []) (BadSlot 1 BadPath) 2 }
+    ensures shown { state_after (damaged (BadSlot 1 BadPath) 2) (Answered 1 (Replied (Played 0 no_tree))) ≡ Bad (Given []) (BadSlot 1 BadPath) 2 }
+    ensures acknowledged { state_after (damaged (BadSlot 1 BadPath) 2) (Answered 0 (Replied (Appended 0))) ≡ Bad (Given []) (BadSlot 1 BadPath) 2 }
+    ensures halted_early { state_after (damaged (BadSlot 1 BadPath) 2) (Cut 0 35) ≡ Bad (Given []) (BadSlot 1 BadPath) 2 }
+    ensures halted { state_after (damaged (BadSlot 1 BadPath) 2) (Cut 0 80) ≡ Bad Halted (NoSuperblock (NoSuper 0)) 0 }
     ensures made { state_after (damaged (BadSlot 1 BadPath) 2) (Made 0 params) ≡ Sound params [] None }
 {}

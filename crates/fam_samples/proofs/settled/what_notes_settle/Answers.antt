@@ -41,3 +41,7 @@ returns-clause-another c = refl
 pub returns-clause-quiet : goal.returns-clause-quiet
 unfolding fill
 returns-clause-quiet c = refl
+
+pub returns-clause-halted_early : goal.returns-clause-halted_early
+unfolding fill
+returns-clause-halted_early c = refl
