@@ -304,9 +304,6 @@ module _ (b : Base) (count : ℕ) (n m : Now) (far : Far b count n) (e : Event) 
         };
         whole = refl;
         left = k.comes.told_is;
-        reads = subst (λ (s : State). CutEventReads e f.last s k.comes.last.machines.memory)
-            (sym (broken_state start e (session f.last.machines n.copied) k.comes.last n.world.journal k.comes.notes m.world.journal k.comes.does k.comes.joined))
-            (subst (λ (s : Session). CutEventReads e s (past_of start n.world.journal).state k.comes.last.machines.memory) (same_last f.last f.copied) k.reads);
       }
 
   pub sink_ended : EventDone e a → HasRisen all.old.faults all.new.faults → HasEnded SinkFails end_out b.events m.world.journal

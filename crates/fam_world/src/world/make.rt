@@ -165,9 +165,8 @@ impl World {
     /// A host makes a file system with the UUID `fs`, units of so many bytes and a log of so many bytes, on the whole
     /// media. The first of these refuses it: `NoHost`; `BadGeometry` and `TooSmall`, by the numbers; `Busy`, the first
     /// host that has a task or keeps something of the log; `Dirty`, the first other host with a line that memory may
-    /// lack; `HasSuper`, where a
-    /// superblock reads in lines 0, 1 and 2 and `force` is false. `MediaFault` comes where the media failed, and the
-    /// operations before it were done. All room is taken first.
+    /// lack; `HasSuper`, where a superblock reads in lines 0, 1 and 2 and `force` is false. `MediaFault` comes where the
+    /// media failed, and the operations before it were done. All room is taken first.
     pub fn mkfs<M: Media>(
         &mut self,
         media: &mut M,
