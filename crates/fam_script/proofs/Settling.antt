@@ -1,19 +1,21 @@
 -- What is settled, by lengths alone, is what the states of a journal settle.
 use Rattle.std.proofs.Common.{◌≡◌, ℕ, ◌+◌, ◌≤◌, Bool, true, false, cond, List, [], ◌∷◌, Option, Some, None, length, refl, sym, ap, ◌∙◌, length-append}
-use Rattle.std.specs.Prelude.{⊤, ◌==◌, ◌||◌, is_some}
+use Rattle.std.specs.Prelude.{⊤, ◌==◌, ◌||◌, is_some, nat_lt}
 use Rattle.std.specs.List.{list_any}
 use Rattle.fam_base.specs.declared.entry.Params.{Params}
 use Rattle.fam_journal.specs.Ends.{is_made_note}
-use Rattle.fam_journal.specs.Notes.{Answer, Replied, MediaFault, Note, Host, Made, Start, Mark, Found, Writes, Answered, Stop, Halt, Umount, Refused}
+use Rattle.fam_journal.specs.Notes.{Answer, Replied, MediaFault, Note, Host, Made, Cut, Start, Mark, Found, Writes, Answered, Stop, Halt, Umount, Refused}
 use Rattle.fam_journal.specs.Past as past
 use Rattle.fam_journal.specs.Past.{Bad, Past, Sound, State, past_after, past_behind, past_of, state_after, with_pending}
+use Rattle.fam_format.specs.declared.faults.SuperFault.TheVariants as super
+use Rattle.fam_machine.specs.Mkfs.{first_sent}
 use Rattle.fam_rules.specs.Asks.{File}
 use Rattle.fam_rules.specs.declared.answers.LogState.{LogState}
 use Rattle.fam_rules.specs.declared.answers.LogState.TheVariants as log
 use Rattle.fam_rules.specs.Reply as reply
 use Rattle.fam_rules.specs.Reply.{Reply}
 use Rattle.fam_script.specs.declared.counts.Settled.{Settled}
-use Rattle.fam_script.specs.Settled.{acknowledges, answered, continued, empty, finds, joined, replied, reports, settled_after, settled_behind, shows}
+use Rattle.fam_script.specs.Settled.{acknowledges, answered, continued, cut, empty, finds, joined, replied, reports, settled_after, settled_behind, shows}
 
 -- what a sound state tells
 abbrev told : List File → Option File → Settled
@@ -21,7 +23,7 @@ told history pending = record { length = length history; pending = is_some pendi
 
 -- what a state tells
 abbrev pub summary : State → Option Settled
-summary (Bad image damage gate) = None
+summary (Bad origin damage gate) = None
 summary (Sound p history pending) = Some (told history pending)
 
 -- what becomes of it
@@ -40,23 +42,23 @@ joins p history None = refl
 joins p history (Some f) = ap (λ (n : ℕ). Some (record { length = n; pending = false })) (length-append history (f ∷ []))
 
 shows_told : (m : ℕ) (state : State) → summary (past.shows m state) ≡ later (shows m) (summary state)
-shows_told m (Bad image damage gate) = refl
+shows_told m (Bad origin damage gate) = refl
 shows_told m (Sound p history pending) =
     either (m == length history + 1) (Sound p (with_pending history pending) None) (Sound p history pending) (joined (told history pending)) (told history pending) (joins p history pending) refl
 
 finds_told : (n : ℕ) (state : State) → summary (past.finds n state) ≡ later (finds n) (summary state)
-finds_told n (Bad image damage gate) = refl
+finds_told n (Bad origin damage gate) = refl
 finds_told n (Sound p history pending) =
     either (n == length history) (Sound p history None) (past.shows n (Sound p history pending)) (record { length = length history; pending = false }) (shows n (told history pending)) refl (shows_told n (Sound p history pending))
 
 acknowledges_told : (seq : ℕ) (state : State) → summary (past.acknowledges seq state) ≡ later (acknowledges seq) (summary state)
-acknowledges_told seq (Bad image damage gate) = refl
+acknowledges_told seq (Bad origin damage gate) = refl
 acknowledges_told seq (Sound p history pending) =
     either (seq == length history) (Sound p (with_pending history pending) None) (Sound p history pending) (joined (told history pending)) (told history pending) (joins p history pending) refl
 
 -- nothing becomes of it
 same : (state : State) → summary state ≡ later (λ s. s) (summary state)
-same (Bad image damage gate) = refl
+same (Bad origin damage gate) = refl
 same (Sound p history pending) = refl
 
 reports_told : (l : LogState) (state : State) → summary (past.shows_count (past.reported_count l) state) ≡ later (reports l) (summary state)
@@ -86,14 +88,30 @@ ended_told (Replied given) state = replied_told given state
 ended_told (MediaFault line) state = same state
 
 pends_told : (f : File) (state : State) → summary (past.pends f state) ≡ later (λ s. record { length = s.length; pending = true }) (summary state)
-pends_told f (Bad image damage gate) = refl
+pends_told f (Bad origin damage gate) = refl
 pends_told f (Sound p history pending) = refl
 
+-- behind a note
+abbrev later_by : (Settled → Option Settled) → Option Settled → Option Settled
+later_by f None = None
+later_by f (Some s) = f s
+
+-- the maker of a file system halted
+cut_told : (k : ℕ) (state : State) → summary (past.halted k state) ≡ later_by (cut k) (summary state)
+cut_told k state = go (nat_lt k first_sent) state
+  where
+    go : (early : Bool) (state : State) → summary (cond early state (Bad past.Halted (past.NoSuperblock (super.NoSuper 0)) 0)) ≡ later_by (λ s. cond early (Some s) None) (summary state)
+    go true (Bad origin damage gate) = refl
+    go true (Sound p history pending) = refl
+    go false (Bad origin damage gate) = refl
+    go false (Sound p history pending) = refl
+
 -- behind a note that makes no file system
-unmade : (note : Note) → is_made_note note ≡ false → (o : Option Settled) → later (continued note) o ≡ settled_after note o
+unmade : (note : Note) → is_made_note note ≡ false → (o : Option Settled) → later_by (continued note) o ≡ settled_after note o
 unmade note none (Some s) = refl
 unmade (Host name uuid) none None = refl
 unmade (Made h p) none None = cc
+unmade (Cut h k) none None = refl
 unmade (Start h cmd) none None = refl
 unmade (Mark h) none None = refl
 unmade (Found h n) none None = refl
@@ -104,6 +122,11 @@ unmade (Halt h) none None = refl
 unmade (Umount h) none None = refl
 unmade (Refused name cause) none None = refl
 
+-- what goes on with what was told
+as_later : (f : Settled → Settled) (o : Option Settled) → later f o ≡ later_by (λ s. Some (f s)) o
+as_later f None = refl
+as_later f (Some s) = refl
+
 -- nor does one that makes one keep anything
 made : (o : Option Settled) (h : ℕ) (p : Params) → settled_after (Made h p) o ≡ Some empty
 made None h p = refl
@@ -111,17 +134,18 @@ made (Some s) h p = refl
 
 -- behind one note
 after_told : (old : Past) (note : Note) → summary (state_after old note) ≡ settled_after note (summary old.state)
-after_told old (Host name uuid) = same old.state ∙ unmade (Host name uuid) refl (summary old.state)
+after_told old (Host name uuid) = same old.state ∙ as_later (λ s. s) (summary old.state) ∙ unmade (Host name uuid) refl (summary old.state)
 after_told old (Made h p) = sym (made (summary old.state) h p)
-after_told old (Start h cmd) = same old.state ∙ unmade (Start h cmd) refl (summary old.state)
-after_told old (Mark h) = same old.state ∙ unmade (Mark h) refl (summary old.state)
-after_told old (Found h n) = finds_told n old.state ∙ unmade (Found h n) refl (summary old.state)
-after_told old (Writes h seq e) = pends_told _ old.state ∙ unmade (Writes h seq e) refl (summary old.state)
-after_told old (Answered h answer) = ended_told answer old.state ∙ unmade (Answered h answer) refl (summary old.state)
-after_told old (Stop h) = same old.state ∙ unmade (Stop h) refl (summary old.state)
-after_told old (Halt h) = same old.state ∙ unmade (Halt h) refl (summary old.state)
-after_told old (Umount h) = same old.state ∙ unmade (Umount h) refl (summary old.state)
-after_told old (Refused name cause) = same old.state ∙ unmade (Refused name cause) refl (summary old.state)
+after_told old (Cut h k) = cut_told k old.state ∙ unmade (Cut h k) refl (summary old.state)
+after_told old (Start h cmd) = same old.state ∙ as_later (λ s. s) (summary old.state) ∙ unmade (Start h cmd) refl (summary old.state)
+after_told old (Mark h) = same old.state ∙ as_later (λ s. s) (summary old.state) ∙ unmade (Mark h) refl (summary old.state)
+after_told old (Found h n) = finds_told n old.state ∙ as_later (finds n) (summary old.state) ∙ unmade (Found h n) refl (summary old.state)
+after_told old (Writes h seq e) = pends_told _ old.state ∙ as_later (λ s. record { length = s.length; pending = true }) (summary old.state) ∙ unmade (Writes h seq e) refl (summary old.state)
+after_told old (Answered h answer) = ended_told answer old.state ∙ as_later (answered answer) (summary old.state) ∙ unmade (Answered h answer) refl (summary old.state)
+after_told old (Stop h) = same old.state ∙ as_later (λ s. s) (summary old.state) ∙ unmade (Stop h) refl (summary old.state)
+after_told old (Halt h) = same old.state ∙ as_later (λ s. s) (summary old.state) ∙ unmade (Halt h) refl (summary old.state)
+after_told old (Umount h) = same old.state ∙ as_later (λ s. s) (summary old.state) ∙ unmade (Umount h) refl (summary old.state)
+after_told old (Refused name cause) = same old.state ∙ as_later (λ s. s) (summary old.state) ∙ unmade (Refused name cause) refl (summary old.state)
 
 -- behind some notes
 behind_told : (old : Past) (notes : List Note) → summary (past_behind old notes).state ≡ settled_behind (summary old.state) notes
@@ -153,7 +177,7 @@ length_of None = 0
 length_of (Some s) = s.length
 
 state_length : (state : State) → past.settled_length state ≡ length_of (summary state)
-state_length (Bad image damage gate) = refl
+state_length (Bad origin damage gate) = refl
 state_length (Sound p history pending) = refl
 
 chosen : (t : Bool) (n : ℕ) (o : Option Settled) → (t ≡ false → o ≡ None) → n ≡ length_of o → length_of o ≡ cond t n 0

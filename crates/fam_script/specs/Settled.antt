@@ -1,6 +1,7 @@
 -- How much of a history is settled: what is left of the states of fam_journal's `specs/Past.antt` where lengths alone count.
-use Rattle.std.specs.Prelude.{ℕ, ◌+◌, ◌==◌, true, false, if◌then◌else◌, List, [], ◌∷◌, Option, Some, None}
-use Rattle.fam_journal.specs.Notes.{Answer, Replied, MediaFault, Note, Host, Made, Start, Mark, Found, Writes, Answered, Stop, Halt, Umount, Refused}
+use Rattle.std.specs.Prelude.{ℕ, ◌+◌, ◌==◌, nat_lt, true, false, if◌then◌else◌, List, [], ◌∷◌, Option, Some, None}
+use Rattle.fam_journal.specs.Notes.{Answer, Replied, MediaFault, Note, Host, Made, Cut, Start, Mark, Found, Writes, Answered, Stop, Halt, Umount, Refused}
+use Rattle.fam_machine.specs.Mkfs.{first_sent}
 use Rattle.fam_rules.specs.declared.answers.LogState.{LogState}
 use Rattle.fam_rules.specs.declared.answers.LogState.TheVariants as log
 use Rattle.fam_rules.specs.Reply.{Reply}
@@ -51,19 +52,24 @@ abbrev pub answered : Answer → Settled → Settled
 answered (Replied given) s = replied given s
 answered (MediaFault line) s = s
 
+-- the maker of a file system halted after so many operations: behind its first send there is none
+abbrev pub cut : ℕ → Settled → Option Settled
+cut k s = if nat_lt k first_sent then Some s else None
+
 -- behind a note, where a file system was made before
-abbrev pub continued : Note → Settled → Settled
-continued (Host name uuid) s = s
-continued (Made h p) s = empty
-continued (Start h cmd) s = s
-continued (Mark h) s = s
-continued (Found h n) s = finds n s
-continued (Writes h seq e) s = record { length = s.length; pending = true }
-continued (Answered h answer) s = answered answer s
-continued (Stop h) s = s
-continued (Halt h) s = s
-continued (Umount h) s = s
-continued (Refused name cause) s = s
+abbrev pub continued : Note → Settled → Option Settled
+continued (Host name uuid) s = Some s
+continued (Made h p) s = Some empty
+continued (Cut h k) s = cut k s
+continued (Start h cmd) s = Some s
+continued (Mark h) s = Some s
+continued (Found h n) s = Some (finds n s)
+continued (Writes h seq e) s = Some (record { length = s.length; pending = true })
+continued (Answered h answer) s = Some (answered answer s)
+continued (Stop h) s = Some s
+continued (Halt h) s = Some s
+continued (Umount h) s = Some s
+continued (Refused name cause) s = Some s
 
 -- or not; by the class of the note
 abbrev pub begun_in : NoteClass → Option Settled
@@ -80,7 +86,7 @@ begun note = begun_in (note_class note)
 -- behind one note
 abbrev pub settled_after : Note → Option Settled → Option Settled
 settled_after note None = begun note
-settled_after note (Some s) = Some (continued note s)
+settled_after note (Some s) = continued note s
 
 -- behind some notes
 abbrev pub settled_behind : Option Settled → List Note → Option Settled

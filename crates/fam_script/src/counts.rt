@@ -10,6 +10,9 @@ use fam_notes::Note;
 use fam_rules::{LogState, Report};
 use fam_tasks::Answer;
 
+/// The operation of making a file system that sends the first line.
+const FIRST_SENT: u64 = 36;
+
 /// What is counted of notes.
 #[derive(Clone, Copy, Debug, PartialEq, Eq)]
 pub struct Counts {
@@ -37,6 +40,7 @@ fn is_answer(note: &Note) -> bool
         Note::Answered { .. } => true,
         Note::Host { .. } => false,
         Note::Made { .. } => false,
+        Note::Cut { .. } => false,
         Note::Start { .. } => false,
         Note::Mark { .. } => false,
         Note::Found { .. } => false,
@@ -55,6 +59,7 @@ fn is_refused(note: &Note) -> bool
         Note::Refused { .. } => true,
         Note::Host { .. } => false,
         Note::Made { .. } => false,
+        Note::Cut { .. } => false,
         Note::Start { .. } => false,
         Note::Mark { .. } => false,
         Note::Found { .. } => false,
@@ -167,29 +172,37 @@ fn answered(settled: Settled, answer: &Answer) -> Settled
     }
 }
 
-/// What is settled behind a note of a file system that was made before.
-fn continued(settled: Settled, note: &Note) -> Settled
+/// What is settled where the maker of a file system halted after so many operations: behind its first send nothing.
+fn cut(settled: Settled, k: u64) -> Option<Settled>
+    ensures { result ≡ rule.cut k settled }
+{
+    if k < FIRST_SENT { Some(settled) } else { None }
+}
+
+/// What is settled behind a note of a file system that was made before. None: it stands no more.
+fn continued(settled: Settled, note: &Note) -> Option<Settled>
     requires { settled.length + 1 < 2 ^ 64 }
     ensures { result ≡ rule.continued (note_view note.now) settled }
 {
     match note {
-        Note::Found { n, .. } => finds(settled, *n),
-        Note::Answered { answer, .. } => answered(settled, answer),
-        Note::Writes { .. } => Settled {
+        Note::Found { n, .. } => Some(finds(settled, *n)),
+        Note::Answered { answer, .. } => Some(answered(settled, answer)),
+        Note::Writes { .. } => Some(Settled {
             length: settled.length,
             pending: true,
-        },
-        Note::Made { .. } => Settled {
+        }),
+        Note::Made { .. } => Some(Settled {
             length: 0,
             pending: false,
-        },
-        Note::Host { .. } => settled,
-        Note::Start { .. } => settled,
-        Note::Mark { .. } => settled,
-        Note::Stop { .. } => settled,
-        Note::Halt { .. } => settled,
-        Note::Umount { .. } => settled,
-        Note::Refused { .. } => settled,
+        }),
+        Note::Cut { k, .. } => cut(settled, *k),
+        Note::Host { .. } => Some(settled),
+        Note::Start { .. } => Some(settled),
+        Note::Mark { .. } => Some(settled),
+        Note::Stop { .. } => Some(settled),
+        Note::Halt { .. } => Some(settled),
+        Note::Umount { .. } => Some(settled),
+        Note::Refused { .. } => Some(settled),
     }
 }
 
@@ -203,6 +216,7 @@ fn begun(note: &Note) -> Option<Settled>
             pending: false,
         }),
         Note::Host { .. } => None,
+        Note::Cut { .. } => None,
         Note::Start { .. } => None,
         Note::Mark { .. } => None,
         Note::Found { .. } => None,
@@ -221,7 +235,7 @@ fn settled_after(settled: Option<Settled>, note: &Note) -> Option<Settled>
     ensures { result ≡ rule.settled_after (note_view note.now) settled }
 {
     match settled {
-        Some(settled) => Some(continued(settled, note)),
+        Some(settled) => continued(settled, note),
         None => begun(note),
     }
 }

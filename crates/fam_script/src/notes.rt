@@ -45,6 +45,7 @@ pub fn note_text(alloc: Global, note: &Note, names: &[HostName]) -> Result<Vec<u
     match note {
         Note::Host { uuid, .. } => line_of(alloc, format!(in alloc; "host {uuid}")),
         Note::Made { params, .. } => line_of(alloc, made_text(alloc, params)),
+        Note::Cut { k, .. } => line_of(alloc, format!(in alloc; "mkfs halted {k}")),
         Note::Start { cmd, .. } => start_line(alloc, cmd),
         Note::Mark { .. } => line(alloc, "mark"),
         Note::Found { n, .. } => line_of(alloc, format!(in alloc; "found {n}")),
@@ -65,6 +66,7 @@ fn note_name<'a>(note: &'a Note, names: &'a [HostName]) -> &'a [u8]
     match note {
         Note::Host { name, .. } => name.bytes(),
         Note::Made { host, .. } => host_name(names, *host),
+        Note::Cut { host, .. } => host_name(names, *host),
         Note::Start { host, .. } => host_name(names, *host),
         Note::Mark { host } => host_name(names, *host),
         Note::Found { host, .. } => host_name(names, *host),

@@ -93,6 +93,7 @@ pub fn note_status(note: &Note) -> Status
     match note {
         Note::Host { .. } => Status::Done,
         Note::Made { .. } => Status::Done,
+        Note::Cut { .. } => Status::Done,
         Note::Start { .. } => Status::Done,
         Note::Mark { .. } => Status::Done,
         Note::Found { .. } => Status::Done,
@@ -147,6 +148,7 @@ pub fn note_stops(note: &Note) -> bool
         Note::Refused { .. } => true,
         Note::Host { .. } => false,
         Note::Made { .. } => false,
+        Note::Cut { .. } => false,
         Note::Start { .. } => false,
         Note::Mark { .. } => false,
         Note::Found { .. } => false,

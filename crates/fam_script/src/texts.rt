@@ -31,6 +31,7 @@ fn declare(note: &Note, names: &mut Vec<HostName>) -> Result<(), OutOfMemory>
     match note {
         Note::Host { name, .. } => put_name(*name, names),
         Note::Made { .. } => Ok(()),
+        Note::Cut { .. } => Ok(()),
         Note::Start { .. } => Ok(()),
         Note::Mark { .. } => Ok(()),
         Note::Found { .. } => Ok(()),

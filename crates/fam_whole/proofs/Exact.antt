@@ -31,7 +31,7 @@ use Rattle.fam_journal.specs.declared.event.Event.{Event}
 use Rattle.fam_journal.specs.declared.event.Event.TheVariants as event
 use Rattle.fam_journal.specs.declared.refusal.Refusal.{Refusal}
 use Rattle.fam_journal.specs.Calls as call
-use Rattle.fam_journal.specs.Calls.{Acts, ActsAt, ByRefusal, Completes, Does, begins_refusal, has_name, number_of, on_host, refusal_of}
+use Rattle.fam_journal.specs.Calls.{Acts, ActsAt, ByRefusal, Completes, Does, begins_refusal, has_name, number_of, on_host, refusal_of, MakesFileSystem, MakesOrHalts}
 use Rattle.fam_journal.specs.Ends.{IsFaultless as AreFaultless}
 use Rattle.fam_journal.specs.Events.{DoesEvent, Continues, Session, first_session}
 use Rattle.fam_journal.specs.Follows.{Follows}
@@ -143,9 +143,11 @@ module _ (start : Image) (files : Files) (old : Machines) (journal : List Note) 
         sure = sure;
       })
 
-  makes_exact : (name : List ℕ) (request : MkfsRequest) (new : Machines) (notes : List Note) (h : ℕ) (host : HostState) → slice_get old.hosts h ≡ Some host → ActsAt (call.Makes name request) h host old notes new → EventExact x old new notes
-  makes_exact name request new notes h host is (inl made) =
+  -- where its maker isn't to halt
+  makes_exact : (name : List ℕ) (request : MkfsRequest) → request.halt ≡ None → (new : Machines) (notes : List Note) (h : ℕ) (host : HostState) → slice_get old.hosts h ≡ Some host → ActsAt (call.Makes name request) h host old notes new → EventExact x old new notes
+  makes_exact name request whole new notes h host is (inl act) =
       let p = here.asked request host.uuid (length old.memory) in
+      let made : MakesFileSystem h p request.force host old notes new = subst (λ (o : Option ℕ). MakesOrHalts o h p request.force host old notes new) whole act in
       subst (λ (z : Machines). EventExact x old z notes) (sym made.left)
       (subst (EventExact x old _) (sym made.notes_are)
       record {
@@ -154,7 +156,7 @@ module _ (start : Image) (files : Files) (old : Machines) (journal : List Note) 
         whole = (tt, tt);
         sure = refl;
       })
-  makes_exact name request new notes h host is (inr met) =
+  makes_exact name request whole new notes h host is (inr met) =
       subst (λ (z : Machines). EventExact x old z notes) (sym met.left)
       (subst (EventExact x old _) (sym met.notes_are)
       record {
@@ -314,7 +316,7 @@ module _ (start : Image) (files : Files) (old : Machines) (journal : List Note) 
   event_exact (event.Mkfs name fs unit log force halt) sound whole s new same notes clean does =
       by_refusal (call.Makes name (mkfs_request fs unit log force halt)) old new.machines notes (subst (λ (z : Machines). Does (call.Makes name (mkfs_request fs unit log force halt)) z notes new.machines) same does.0)
       (λ cause e f. quiet name cause new.machines notes e f)
-      (λ free acts. by_host (call.Makes name (mkfs_request fs unit log force halt)) old new.machines notes acts (λ h host number is at. makes_exact name (mkfs_request fs unit log force halt) new.machines notes h host is at))
+      (λ free acts. by_host (call.Makes name (mkfs_request fs unit log force halt)) old new.machines notes acts (λ h host number is at. makes_exact name (mkfs_request fs unit log force halt) whole new.machines notes h host is at))
   event_exact (event.Begin name what) sound whole s new same notes clean does = absurd whole
   event_exact (event.Run name what) sound whole s new same notes clean (inl run) = run_exact name what s new same notes clean run
   event_exact (event.Run name what) sound whole s new same notes clean (inr (inl x)) =

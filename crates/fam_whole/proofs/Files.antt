@@ -17,7 +17,7 @@ use Rattle.fam_rules.proofs.ListPlaces.{bytes_apart, laid_apart}
 use Rattle.fam_protocol.specs.Core.{IsHistory}
 use Rattle.fam_protocol.specs.Invariant.{InvariantBy, IsKnown}
 use Rattle.fam_journal.specs.Kept.{Reached, hosts_of, settled_of, shared_of}
-use Rattle.fam_journal.specs.Past.{State, Bad, FewLines, Sound, first_state, past_of, state_read, with_pending}
+use Rattle.fam_journal.specs.Past.{State, Bad, FewLines, Sound, first_state, past_of, state_read, with_pending, Given}
 use Rattle.fam_journal.specs.Notes.{Note}
 use Rattle.fam_journal.specs.Machines.{Machines}
 
@@ -32,7 +32,7 @@ laid p all history i e at =
 
 module _ (start : Image) (state : Machines) (journal : List Note) (kept : Reached start state journal) (p : Params) (history : List File) (pending : Option File) (is : (past_of start journal).state ≡ Sound p history pending) where
   known : IsKnown p (with_pending history pending) (length history) (length start) (hosts_of kept.views (past_of start journal).hosts) (shared_of state.memory kept.views)
-  known = subst (λ (s : State). InvariantBy (settled_of s) (length start) (hosts_of kept.views (past_of start journal).hosts) (shared_of state.memory kept.views)) is kept.held.invariant.stage
+  known = subst (λ (s : State). InvariantBy (settled_of s (line_at state.memory)) (length start) (hosts_of kept.views (past_of start journal).hosts) (shared_of state.memory kept.views)) is kept.held.invariant.stage
 
   pub files_apart : (i j a b byte : ℕ) → StandsAt (entries_of (with_pending history pending)) i a byte → StandsAt (entries_of (with_pending history pending)) j b byte → (i ≡ j) × (a ≡ b)
   files_apart i j a b byte one other =
@@ -54,4 +54,4 @@ held_by image p history true few none is i f at = absurd (none is)
 held_by image p history false few none is i f at = held_of image p history (reading image) is i f at
 
 pub files_held : (image : Image) (p : Params) (history : List File) → Sound p history None ≡ first_state image → (i : ℕ) (f : File) → slice_get history i ≡ Some f → f ≡ held_file (line_at image) f.entry
-files_held image p history is i f at = held_by image p history (nat_lt (length image) least_lines) (Bad image (FewLines (length image)) 0) (λ e. absurd cc) is i f at
+files_held image p history is i f at = held_by image p history (nat_lt (length image) least_lines) (Bad (Given image) (FewLines (length image)) 0) (λ e. absurd cc) is i f at

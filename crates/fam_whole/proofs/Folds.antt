@@ -11,7 +11,7 @@ use Rattle.fam_commands.specs.Solo.{noted}
 use Rattle.fam_commands.specs.Table as row
 use Rattle.fam_journal.specs.Machines.{notes_of}
 use Rattle.fam_journal.specs.Notes.{Note}
-use Rattle.fam_journal.specs.Past.{FewLines, Past, State, Bad, Sound, acknowledges, finds, first_state, past_after, past_behind, replied, shows, state_read}
+use Rattle.fam_journal.specs.Past.{FewLines, Past, State, Bad, Sound, acknowledges, finds, first_state, past_after, past_behind, replied, shows, state_read, Given}
 use Rattle.fam_journal.proofs.Settled.ReplyCases.{replied_by}
 use Rattle.fam_whole.specs.Whole.{AreWholeNotes, HasNothingPending, image_after, image_behind}
 
@@ -75,6 +75,6 @@ read_sure image (read.Sound p entries) = refl
 pub first_sure : (image : Image) → HasNothingPending (first_state image)
 first_sure image = go (nat_lt (length image) least_lines)
   where
-    go : (few : Bool) → HasNothingPending (if few then Bad image (FewLines (length image)) 0 else state_read image (reading image))
+    go : (few : Bool) → HasNothingPending (if few then Bad (Given image) (FewLines (length image)) 0 else state_read image (reading image))
     go true = tt
     go false = read_sure image (reading image)

@@ -22,7 +22,7 @@ use Rattle.fam_journal.specs.declared.refusal.Refusal.TheVariants as why
 use Rattle.fam_outcomes.specs.declared.status.Status.{Status}
 use Rattle.fam_outcomes.specs.declared.status.Status.TheVariants as status
 use Rattle.fam_journal.specs.Calls as call
-use Rattle.fam_journal.specs.Calls.{Acts, ActsAt, ByRefusal, Does, MakesFileSystem, Meets, cause_of}
+use Rattle.fam_journal.specs.Calls.{Acts, ActsAt, ByRefusal, Does, MakesFileSystem, Meets, cause_of, MakesOrHalts}
 use Rattle.fam_journal.specs.Laws.{IsImage}
 use Rattle.fam_journal.specs.Machines.{HostState, Machines, machine_of}
 use Rattle.fam_journal.specs.Notes.{Host, Made, Note, Refused}
@@ -47,7 +47,7 @@ standing_none true found is = refl
 standing_none false (Ok other) is = absurd cc
 standing_none false (Err fault) is = refl
 
-module _ (start : Image) (me : List ℕ) (request : MkfsRequest) (files : Files) (out : Outside) (given : Status) (image : IsImage start) (me_sound : IsUuid me) (x : ShotRun files start me (Makes request) out given) where
+module _ (start : Image) (me : List ℕ) (request : MkfsRequest) (files : Files) (out : Outside) (given : Status) (image : IsImage start) (me_sound : IsUuid me) (whole : request.halt ≡ None) (x : ShotRun files start me (Makes request) out given) where
   abbrev name : List ℕ
   name = x.steps.name
 
@@ -109,7 +109,7 @@ module _ (start : Image) (me : List ℕ) (request : MkfsRequest) (files : Files)
 
     acts : Acts (call.Makes name request) old two.notes left → MkfsEnds start me request out given
     acts a = by_host (call.Makes name request) old left two.notes a
-        (λ h host number is at. elim (subst (λ (z : HostState). ActsAt (call.Makes name request) h z old two.notes left) (host_is start name me h host is) at) [ inl m ↦ made h m | inr m ↦ meets h m ])
+        (λ h host number is at. elim (subst (λ (z : HostState). ActsAt (call.Makes name request) h z old two.notes left) (host_is start name me h host is) at) [ inl m ↦ made h (subst (λ (o : Option ℕ). MakesOrHalts o h p request.force (only start name me) old two.notes left) whole m) | inr m ↦ meets h m ])
 
   by_early : (o : Option EarlyRefusal) → early_refusal request.unit request.log have ≡ o → ByRefusal name (option_map cause_of o) two.notes old left (Acts (call.Makes name request) old two.notes left) → MkfsEnds start me request out given
   by_early (Some e) is d =

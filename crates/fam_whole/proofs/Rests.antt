@@ -5,7 +5,7 @@ use Rattle.std.proofs.lemmas.Bool.Decides.{Decides-eqb}
 use Rattle.std.proofs.lemmas.Option.{same_Some}
 use Rattle.std.specs.Cmp.Lexicographic.{pointwise_decides}
 use Rattle.fam_base.specs.declared.entry.Params.{Params}
-use Rattle.fam_base.specs.Image.{Image}
+use Rattle.fam_base.specs.Image.{Image, line_at}
 use Rattle.fam_base.specs.PathOrder.{path_eq}
 use Rattle.fam_format.specs.Layout.{device_limit}
 use Rattle.fam_machine.specs.Caches.{IsClean, IsCleanCell}
@@ -22,7 +22,7 @@ use Rattle.fam_journal.specs.Machines.{HostState, Machines, TaskState}
 use Rattle.fam_journal.specs.Members.{index_of}
 use Rattle.fam_journal.specs.Notes.{Note}
 use Rattle.fam_journal.specs.Past as past
-use Rattle.fam_journal.specs.Past.{FewLines, State, Bad, Sound, first_state, past_of}
+use Rattle.fam_journal.specs.Past.{FewLines, State, Bad, Sound, first_state, past_of, Given, Halted}
 use Rattle.fam_journal.proofs.Settled.BadStates.{bad_own}
 use Rattle.fam_journal.proofs.Calls.Begin.{settled_first}
 use Rattle.fam_journal.proofs.Calls.Declares.{none_passes}
@@ -108,9 +108,9 @@ module _ (start : Image) (s : Machines) (journal : List Note) (kept : Reached st
       rests_settled s.memory hosts (λ h l. copy_at (slice_get kept.views h) l) p history
       (subst (λ (n : ℕ). line_bytes * n ≤ device_limit) (sym lines) kept.held.limit) at_rest
       (subst (λ (n : ℕ). Invariant (Known p history (length history)) n hosts (shared_of s.memory kept.views)) (sym lines)
-      (subst (λ (z : State). Invariant (settled_of z) (length start) hosts (shared_of s.memory kept.views)) is kept.held.invariant))
+      (subst (λ (z : State). Invariant (settled_of z (line_at s.memory)) (length start) hosts (shared_of s.memory kept.views)) is kept.held.invariant))
 
-  first_is : (p : Params) (history : List File) (z : State) → HasNothingPending z → settled_of z ≡ Known p history (length history) → Sound p history None ≡ z
+  first_is : (p : Params) (history : List File) (z : State) → HasNothingPending z → settled_of z (line_at s.memory) ≡ Known p history (length history) → Sound p history None ≡ z
   first_is p history (Bad own (FewLines n) gate) sure is = absurd cc
   first_is p history (Bad own (past.NoSuperblock fault) gate) sure is = absurd cc
   first_is p history (Bad own (past.BadHeader fault) gate) sure is = absurd cc
@@ -123,7 +123,8 @@ module _ (start : Image) (s : Machines) (journal : List Note) (kept : Reached st
   rest_state sure = by_state (past_of start journal).state refl sure
     where
       by_state : (z : State) → (past_of start journal).state ≡ z → HasNothingPending z → (past_of start journal).state ≡ first_state s.memory
-      by_state (Bad own damage gate) is sure =
+      by_state (Bad Halted damage gate) is sure = absurd sure
+      by_state (Bad (Given own) damage gate) is sure =
           let left : s.memory ≡ own = subst (λ (z : State). ReadsAs z s.memory) is (held_reads start s (record { hosts = kept.views; journal = journal }) s.memory kept.held) in
           is ∙ sym (bad_own start own damage gate journal is).reads ∙ ap first_state (sym left)
       by_state (Sound p history (Some f)) is sure = absurd cc
@@ -141,9 +142,9 @@ module _ (start : Image) (s : Machines) (journal : List Note) (kept : Reached st
   keeps_front sure h host is =
       let d = declared_at start s journal kept h host is in
       let same : d.view.kept ≡ host.kept = sym d.stands.kept ∙ ap (λ (z : HostState). z.kept) (same_Some d.host host (sym d.host_is ∙ is)) in
-      let settled : settled_of (past_of start journal).state ≡ settled_at_first s.memory = ap settled_of (rest_state sure) ∙ settled_first s.memory in
+      let settled : settled_of (past_of start journal).state (line_at s.memory) ≡ settled_at_first s.memory = ap (λ (z : State). settled_of z (line_at s.memory)) (rest_state sure) ∙ settled_first s.memory in
       subst (λ (z : Settled). KeepsFront z host.kept) settled
-      (subst (KeepsFront (settled_of (past_of start journal).state)) (ap kept_at d.view_is ∙ same) (front_by (settled_of (past_of start journal).state) kept.held.invariant.stage h))
+      (subst (KeepsFront (settled_of (past_of start journal).state (line_at s.memory))) (ap kept_at d.view_is ∙ same) (front_by (settled_of (past_of start journal).state (line_at s.memory)) kept.held.invariant.stage h))
 
   pub keeps_joined : (h : ℕ) (host : HostState) → slice_get s.hosts h ≡ Some host → IsKept host.kept
   keeps_joined h host is =

@@ -7,7 +7,7 @@ use Rattle.std.proofs.lemmas.Option.{same_Some}
 use Rattle.fam_base.specs.declared.cmd.Cmd.{Cmd}
 use Rattle.fam_base.specs.declared.entry.Entry.{Entry}
 use Rattle.fam_base.specs.declared.entry.Params.{Params}
-use Rattle.fam_base.specs.Image.{Image}
+use Rattle.fam_base.specs.Image.{Image, line_at}
 use Rattle.fam_machine.specs.declared.op.Op.{Op}
 use Rattle.fam_machine.specs.Operations.{Machine, given, operated, IsInImage}
 use Rattle.fam_commands.specs.Solo.{SoloRun, goes, notes_up_to, noted, starts, turn_on}
@@ -150,7 +150,7 @@ module _ (start : Image) (h : ℕ) (base : Machines) (host : HostState) (host_is
               cmd_is = told_task.cmd ∙ ap Some (standing_tied host.kept cmd me (length start) z words made joined other).cmd_is;
               uuid_is = d.host_told.uuid ∙ sym d.stands.uuid ∙ ap (λ (y : HostState). y.uuid) same;
               inside = subst (λ (op : Op). IsInImage op m) ops
-                  (asks_inside (settled_of (past_of start j).state) (length start) (hosts_of kept.views (past_of start j).hosts) (shared_of m.image kept.views) kept.held.limit kept.held.invariant.stage h (run_of z d.told)
+                  (asks_inside (settled_of (past_of start j).state (line_at m.image)) (length start) (hosts_of kept.views (past_of start j).hosts) (shared_of m.image kept.views) kept.held.limit kept.held.invariant.stage h (run_of z d.told)
                   (ap₂ run_at d.view_is d.told_is ∙ ap (λ (o : Option Task). run_with o (Some d.told)) runs) m
                   record { memory = λ l. refl; copies = λ l. ap (λ (o : Option HostView). copy_at o l) d.view_is ∙ ap (λ (c : Cache). cell_at c l) (sym d.stands.cache ∙ ap (λ (y : HostState). y.cache) same) } kept.held.lines);
             }

@@ -33,7 +33,7 @@ use Rattle.fam_journal.specs.declared.event.Event.TheVariants as event
 use Rattle.fam_journal.specs.declared.refusal.Refusal.{Refusal}
 use Rattle.fam_journal.specs.declared.refusal.Refusal.TheVariants as why
 use Rattle.fam_journal.specs.Calls as call
-use Rattle.fam_journal.specs.Calls.{Acts, ActsAt, ByRefusal, Call, Completes, Does, may_begin, name_of, number_of, refusal_of}
+use Rattle.fam_journal.specs.Calls.{Acts, ActsAt, ByRefusal, Call, Completes, Does, may_begin, name_of, number_of, refusal_of, MakesFileSystem, MakesOrHalts}
 use Rattle.fam_journal.specs.Ends.{IsFaultless as AreFaultless}
 use Rattle.fam_journal.specs.Events.{DoesEvent, Continues, HasNoSource, RefusesEvent, Ready, Session, SourceSays, Unfit, mounts}
 use Rattle.fam_machine.specs.HostMoves.{Evict, Fetch, Leak, Move}
@@ -46,7 +46,7 @@ use Rattle.fam_journal.proofs.Calls.Cases.{by_host, by_refusal}
 use Rattle.fam_journal.proofs.Settled.Journals.{past_both}
 use Rattle.fam_journal.proofs.Runs.Listings.{one_listing}
 use Rattle.fam_journal.proofs.Calls.Shown.{AreAlike, number_same, refusal_same}
-use Rattle.fam_journal.proofs.Runs.Unique.{met_or_made, not_clean, one_source}
+use Rattle.fam_journal.proofs.Runs.Unique.{met_or_made, not_clean, one_source, goes_free}
 use Rattle.fam_whole.specs.Whole.{AreRefusals, is_move}
 use Rattle.fam_whole.proofs.Exact.{Between, Through, front_of, joined_of, moved_image, through}
 use Rattle.fam_machine.proofs.MkfsOps.{clean_formats, read_image}
@@ -237,8 +237,8 @@ module _ (start : Image) (files : Files) where
           ∙ ap (λ (z : Params). super_in (line_at t.memory) z.device) params
           ∙ sym (ap (λ (image : Image). super_in (line_at image) q.device) (read_image t.memory other.cache bt.kept.held.normal (bt.rests i other is').clean))
 
-      made_same : ActsAt (call.Makes name request) h host s a m → ActsAt (call.Makes name request) i other t b n → Same a b m n
-      made_same (inl x) (inl y) = record {
+      one_made : MakesFileSystem h p request.force host s a m → MakesFileSystem i q request.force other t b n → Same a b m n
+      one_made x y = record {
         notes = x.notes_are ∙ ap₂ (λ (k : ℕ) (z : Params). Made k z ∷ []) phases params ∙ sym y.notes_are;
         machines = subst (λ (z : Machines). Twins z n) (sym x.left) (subst (λ (z : Machines). Twins (with_machine h (operated_all (here.mkfs_ops p) (machine_of s host)) host.task s) z) (sym y.left)
             record {
@@ -248,9 +248,14 @@ module _ (start : Image) (files : Files) where
               hosts = same_on _ s.hosts _ (same_changed h _ (λ z. record { name = refl; uuid = refl; kept = refl }) s.hosts) (same_on s.hosts t.hosts _ twins.hosts (same_back _ t.hosts (same_changed i _ (λ z. record { name = refl; uuid = refl; kept = refl }) t.hosts)));
             });
       }
-      made_same (inl x) (inr y) = absurd (met_or_made request.force (here.superblock_found p (machine_of s host)) y.other x.free y.unforced (found_same ∙ y.stands))
-      made_same (inr x) (inl y) = absurd (met_or_made request.force (here.superblock_found q (machine_of t other)) x.other y.free x.unforced (sym found_same ∙ x.stands))
-      made_same (inr x) (inr y) =
+
+      -- where its maker isn't to halt
+      made_same : request.halt ≡ None → ActsAt (call.Makes name request) h host s a m → ActsAt (call.Makes name request) i other t b n → Same a b m n
+      made_same whole (inl x) (inl y) =
+          one_made (subst (λ (o : Option ℕ). MakesOrHalts o h p request.force host s a m) whole x) (subst (λ (o : Option ℕ). MakesOrHalts o i q request.force other t b n) whole y)
+      made_same whole (inl x) (inr y) = absurd (met_or_made request.force (here.superblock_found p (machine_of s host)) y.other (goes_free s m a request.halt h p request.force host x) y.unforced (found_same ∙ y.stands))
+      made_same whole (inr x) (inl y) = absurd (met_or_made request.force (here.superblock_found q (machine_of t other)) x.other (goes_free t n b request.halt i q request.force other y) x.unforced (sym found_same ∙ x.stands))
+      made_same whole (inr x) (inr y) =
           let oks : ◌≡◌ {A = Result Params SuperFault} (Ok x.other) (Ok y.other) = sym x.stands ∙ found_same ∙ y.stands in
           let others : x.other ≡ y.other = cc in
           record {
@@ -262,11 +267,11 @@ module _ (start : Image) (files : Files) where
                 });
           }
 
-    pub makes_same : (name : List ℕ) (request : MkfsRequest) → Acts (call.Makes name request) s a m → Acts (call.Makes name request) t b n → Same a b m n
-    makes_same name request x y =
+    pub makes_same : (name : List ℕ) (request : MkfsRequest) → request.halt ≡ None → Acts (call.Makes name request) s a m → Acts (call.Makes name request) t b n → Same a b m n
+    makes_same name request whole x y =
         by_host (call.Makes name request) s m a x (λ h host number is at.
         by_host (call.Makes name request) t n b y (λ i other number' is' at'.
-        made_same name request h i host other number number' is is' at at'))
+        made_same name request h i host other number number' is is' whole at at'))
 
     -- both hosts forget what they keep
     pub umounts_same : (name : List ℕ) → Acts (call.Umounts name) s a m → Acts (call.Umounts name) t b n → Same a b m n

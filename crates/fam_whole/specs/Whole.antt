@@ -21,7 +21,7 @@ use Rattle.fam_journal.specs.Events.{DoesEvent, PartOf, Session, first_session}
 use Rattle.fam_journal.specs.Follows.{Follows}
 use Rattle.fam_journal.specs.Legal.{OfHost}
 use Rattle.fam_journal.specs.Notes.{Answer, Replied, MediaFault, Note}
-use Rattle.fam_journal.specs.Past.{HostPast, Past, State, Bad, Sound, count_of, first_past, first_state, past_after, past_of, settled_length}
+use Rattle.fam_journal.specs.Past.{HostPast, Past, State, Bad, Sound, count_of, first_past, first_state, past_after, past_of, settled_length, Origin, Given, Halted}
 use Rattle.fam_outcomes.specs.Programs.{Command, EndsEarly, Grammar, ScriptPuts, Storms, script_status}
 use Rattle.fam_outcomes.specs.Runs.{IsPut, Outside}
 use Rattle.fam_outcomes.specs.Statuses.{good_status, is_good}
@@ -29,10 +29,10 @@ use Rattle.fam_outcomes.specs.Texts.{render}
 use Rattle.fam_journal.specs.NoteClasses.{NoteClass, note_class, Declared, Formatted, Going, Answering, Refusing}
 use Rattle.fam_commands.specs.ReplyClasses.{ReplyClass, reply_class, Appending, Declining, Showing, Reporting, Faulty}
 
--- an event that no other host's step interrupts
+-- an event that no other host's step interrupts, and in which no maker of a file system halts
 abbrev pub IsWholeEvent : Event → Type 0
 IsWholeEvent (event.Host name uuid) = ⊤
-IsWholeEvent (event.Mkfs name fs unit log force halt) = ⊤
+IsWholeEvent (event.Mkfs name fs unit log force halt) = halt ≡ None
 IsWholeEvent (event.Begin name what) = ⊥
 IsWholeEvent (event.Run name what) = ⊤
 IsWholeEvent (event.Step name count) = ⊥
@@ -53,7 +53,7 @@ AreWhole (e ∷ events) = IsWholeEvent e × AreWhole events
 
 -- the image behind an append that is acknowledged: the pending entry is written
 abbrev pub acknowledged_image : Image → State → ℕ → Image
-acknowledged_image image (Bad own damage gate) seq = image
+acknowledged_image image (Bad origin damage gate) seq = image
 acknowledged_image image (Sound p history None) seq = image
 acknowledged_image image (Sound p history (Some f)) seq = written image p seq f.entry f.bytes
 
@@ -91,9 +91,14 @@ abbrev pub image_behind : Past → Image → List Note → Image
 image_behind past image [] = image
 image_behind past image (note ∷ notes) = image_behind (past_after past note) (image_after past image note) notes
 
+-- a damaged image is the one that was handed in: no maker of a file system halted behind its first send
+abbrev pub IsGiven : Origin → Type 0
+IsGiven (Given image) = ⊤
+IsGiven Halted = ⊥
+
 -- nothing is pending
 abbrev pub HasNothingPending : State → Type 0
-HasNothingPending (Bad image damage gate) = ⊤
+HasNothingPending (Bad origin damage gate) = IsGiven origin
 HasNothingPending (Sound p history pending) = pending ≡ None
 
 -- an answer of entries is of the whole history

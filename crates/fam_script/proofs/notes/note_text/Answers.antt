@@ -8,3 +8,6 @@ returns-in-Made c = rw c.in-Made.is (c.line_of-in-Made.ensures _ c.made_text.ens
 
 pub returns-in-Found : goal.returns-in-Found
 returns-in-Found c = rw c.in-Found.is (c.line_of-in-Found.ensures _ c.format-in-Found.ensures.ok)
+
+pub returns-in-Cut : goal.returns-in-Cut
+returns-in-Cut c = rw c.in-Cut.is (c.line_of-in-Cut.ensures _ c.format-in-Cut.ensures.ok)
