@@ -3,6 +3,7 @@ use Rattle.std.proofs.Common.{◌≡◌, ◌*◌, ℕ, inl, inr, List, length, m
 use Rattle.std.specs.Prelude.{⊤, IsErrOf, slice_get, option_map}
 use Rattle.std.proofs.lemmas.List.{length-map}
 use Rattle.std.proofs.lemmas.Option.{same_Some}
+use Rattle.fam_base.specs.declared.entry.Params.{Params}
 use Rattle.fam_base.specs.declared.line.LineNo.{LineNo}
 use Rattle.fam_format.specs.Stop.{or_else}
 use Rattle.fam_machine.specs.Mkfs as early
@@ -17,7 +18,7 @@ use Rattle.fam_journal.specs.Calls as call
 use Rattle.fam_journal.specs.Calls.{Call, busy_refusal, cause_of, is_engaged, number_of, on_host}
 use Rattle.fam_journal.specs.CallRecords.{Adds, Answers, CallForm, CallKeeps, CallBreaks, CallParts, FinishOutOfMemory, FitsMedia, MakeCall, MediaCall, heading, refusal_noted}
 use Rattle.fam_journal.specs.Ends.{CutCallReads, cause_faults}
-use Rattle.fam_journal.specs.Forms.{ActsForm, AtForm, BreaksForm, DoesForm, FormByRefusal, FreeForm, HostForm, IsFormed, OfHostForm, PartForm, forms_of, makes_told, refusal_told, shown_forms}
+use Rattle.fam_journal.specs.Forms.{ActsForm, AtForm, BreaksForm, DoesForm, FormByRefusal, FreeForm, HostForm, IsFormed, OfHostForm, PartForm, forms_of, made_note, makes_told, refusal_told, shown_forms}
 use Rattle.fam_journal.specs.Names.{AreNamed}
 use Rattle.fam_journal.specs.Notes.{Note}
 use Rattle.fam_journal.specs.View.{HostView}
@@ -154,9 +155,14 @@ module _ (name : List ℕ) (request : MkfsRequest) (a : WorldChange) (formed : I
       let busy = index_of is_engaged (shown_forms a.lines forms).hosts in
       clean_on (number_of name (shown_forms a.lines forms)) (λ h. makes_told request.unit request.log (shown_forms a.lines forms)) (λ h. clean_or (option_map cause_of early) (busy_refusal busy) (clean_early early) (clean_busy busy))
 
+  -- what is noted of one that goes on is no refusal
+  made_told : (halt : Option ℕ) (h : ℕ) (p : Params) → refusal_noted (made_note halt h p ∷ []) ≡ None
+  made_told None h p = refl
+  made_told (Some k) h p = refl
+
   -- a fault is no row of its own
   by_acts : (notes : List Note) (at : LineNo) (h : ℕ) (f : HostForm) → ActsForm c h f a.lines forms notes → refusal_noted notes ≡ Some (why.MediaFault at) → ⊥
-  by_acts notes at h f (inl made) said = absurd (let none : None ≡ Some (why.MediaFault at) = ap refusal_noted (sym made) ∙ said in cc)
+  by_acts notes at h f (inl made) said = absurd (let none : None ≡ Some (why.MediaFault at) = sym (made_told request.halt h (early.asked request f.uuid a.lines)) ∙ ap refusal_noted (sym made) ∙ said in cc)
   by_acts notes at h f (inr x) said = absurd (let other : Some (why.HasSuper x.fs) ≡ Some (why.MediaFault at) = ap refusal_noted (sym x.notes_are) ∙ said in cc)
 
   by_host : (notes : List Note) (at : LineNo) (h : ℕ) (o : Option HostForm) → OfHostForm o (λ f. ActsForm c h f a.lines forms notes) → refusal_noted notes ≡ Some (why.MediaFault at) → ⊥

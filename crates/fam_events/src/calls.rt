@@ -85,7 +85,7 @@ pub(crate) fn umount(world: &mut World, name: &HostName) -> Result<(), EventFaul
     noted(world.umount(name))
 }
 
-/// A host makes a file system.
+/// A host makes a file system, or halts in making it.
 pub(crate) fn make<M: Media>(
     world: &mut World,
     media: &mut M,
@@ -104,9 +104,13 @@ pub(crate) fn make<M: Media>(
         unit,
         log,
         force,
+        halt,
     } = request;
     is_uuid(fs);
-    made(world.mkfs(media, name, fs, unit, log, force))
+    match halt {
+        Some(k) => made(world.mkfs_cut(media, name, fs, unit, log, force, k)),
+        None => made(world.mkfs(media, name, fs, unit, log, force)),
+    }
 }
 
 /// A host's task runs to its answer. Where no memory is left for it, and it had stored nothing before, the image is as

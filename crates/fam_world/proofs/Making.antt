@@ -1,7 +1,8 @@
 -- A mkfs at a declared host meets what the call promises.
 use Rattle.std.proofs.Common.{◌≡◌, ℕ, ◌<◌, ◌≤◌, ◌*◌, inl, inr, List, [], ◌∷◌, ◌++◌, length, map, Option, Some, None, Result, refl, ap, ap₂, sym, ◌∙◌, subst, arith}
 use Rattle.std.specs.Prelude.{slice_get, option_map}
-use Rattle.std.proofs.lemmas.Bool.{cases_eq}
+use Rattle.std.specs.FinMap as map_of
+use Rattle.std.proofs.lemmas.Bool.{cases_eq, false≢true}
 use Rattle.std.proofs.lemmas.Option.{same_Some}
 use Rattle.fam_base.specs.declared.entry.Params.{Params}
 use Rattle.fam_base.specs.declared.line.LineNo.{LineNo}
@@ -15,29 +16,30 @@ use Rattle.fam_media.specs.Outside.{IfModelled}
 use Rattle.fam_media.specs.States.{media_change}
 use Rattle.fam_machine.specs.Caches.{Cache, cell_at}
 use Rattle.fam_machine.specs.Cuts.{HasCut, IsMachine}
-use Rattle.fam_machine.specs.Mkfs.{EarlyRefusal, asked, early_refusal, expected_ops, goes_on, mkfs_ops, read_ops, superblock_found}
+use Rattle.fam_machine.specs.Mkfs.{EarlyRefusal, asked, early_refusal, expected_ops, goes_on, halted_ops, mkfs_ops, read_ops, superblock_found}
 use Rattle.fam_machine.specs.OneLine.{IsHeld}
 use Rattle.fam_machine.specs.Operations.{Machine, machine, operated_all}
+use Rattle.fam_machine.proofs.CacheLemmas.{cell_at-empty}
 use Rattle.fam_machine.proofs.MkfsOps.{early_free}
 use Rattle.fam_rules.specs.Place.{line_bytes}
 use Rattle.fam_cache.specs.Runs.{over}
 use Rattle.fam_mkfs.specs.declared.make.MkfsEnd.{MkfsEnd}
 use Rattle.fam_mkfs.specs.declared.make.MkfsEnd.TheVariants as ended
-use Rattle.fam_mkfs.specs.Ends.{IsCut, IsFound, IsMadeAsAsked, MkfsEnds, Names}
+use Rattle.fam_mkfs.specs.Ends.{IsCut, IsFound, IsHaltedAsAsked, IsMadeAsAsked, MkfsEnds, Names}
 use Rattle.fam_mkfs.specs.Refusals.{end_of, refusal}
 use Rattle.fam_mkfs.specs.Parts.{IsElsewhere}
 use Rattle.fam_journal.specs.declared.refusal.Refusal.{Refusal}
 use Rattle.fam_journal.specs.declared.refusal.Refusal.TheVariants as why
 use Rattle.fam_journal.specs.Calls as call
-use Rattle.fam_journal.specs.Calls.{AtNumber, BreaksOff, CutsAt, MakesCut, MakesFileSystem, Meets, OnHost, number_of}
+use Rattle.fam_journal.specs.Calls.{AtNumber, BreaksOff, CutsAt, HaltsMaking, MakesCut, MakesFileSystem, MakesOrHalts, Meets, OnHost, number_of}
 use Rattle.fam_journal.specs.CallRecords.{Answers, CallBreaks, CallKeeps, FitsMedia, HostFits, IsLateMake, KeepsOrBreaks, MakeCall, heading}
 use Rattle.fam_journal.specs.Ends.{HasCounted, cause_faults}
-use Rattle.fam_journal.specs.Forms.{HostFormed, IsFormed, Pairs, forms_behind, forms_of}
+use Rattle.fam_journal.specs.Forms.{HostFormed, IsFormed, Pairs, forms_behind, forms_of, made_note}
 use Rattle.fam_journal.specs.Kept.{Held}
 use Rattle.fam_journal.specs.Machines.{HostState, Machines, machine_of, with_machine}
 use Rattle.fam_journal.specs.Members.{changed_at}
 use Rattle.fam_journal.specs.Names.{AreNamed}
-use Rattle.fam_journal.specs.Notes.{Made, Note, Refused}
+use Rattle.fam_journal.specs.Notes.{Cut, Made, Note, Refused}
 use Rattle.fam_journal.specs.View.{HostStandsAt, HostView, WorldStands, WorldView}
 use Rattle.fam_journal.specs.ByWorld.{number_in, refusal_in}
 use Rattle.fam_journal.proofs.Calls.Hosts.{stands_changed}
@@ -46,7 +48,7 @@ use Rattle.fam_journal.proofs.Calls.Shown.{number_shown}
 use Rattle.fam_journal.proofs.JournalLaws.{cut_legal, cut_reads_as}
 use Rattle.fam_world.specs.declared.fault.WorldFault.{WorldFault}
 use Rattle.fam_world.specs.Answers.{IfAnswered, IsRefused}
-use Rattle.fam_world.specs.Makes.{end_note, end_result}
+use Rattle.fam_world.specs.Makes.{MakerEnds, cache_behind, end_note, end_result}
 use Rattle.fam_world.proofs.Answering.{formed_same, free_answers, refused_answers}
 use Rattle.fam_world.proofs.MakeForms.{fault_form, maker_form, refused_make}
 use Rattle.fam_world.proofs.Members.{fits_kept, forms_kept, map_kept}
@@ -76,6 +78,15 @@ elsewhere l P other magic prefix rest log gate =
                 ]
           ]
     ]
+
+-- what the maker holds behind an end, its operations left
+pub held_behind : (end : MkfsEnd) (ran old : Cache) (l : ℕ) → cell_at ran l ≡ cell_at old l → IsHeld (cell_at (cache_behind end ran) l) → IsHeld (cell_at old l)
+held_behind (ended.Made made) ran old l same held = subst IsHeld same held
+held_behind (ended.BadGeometry unit log) ran old l same held = subst IsHeld same held
+held_behind (ended.TooSmall need have) ran old l same held = subst IsHeld same held
+held_behind (ended.HasSuper id) ran old l same held = subst IsHeld same held
+held_behind (ended.Failed line) ran old l same held = subst IsHeld same held
+held_behind (ended.Halted k) ran old l same held = absurd (false≢true (subst IsHeld (cell_at-empty l) held))
 
 -- a refusal at once is no cut
 leaves_refused : (cause : Refusal) (c : call.Call) (start : Image) (told now : Option Image) (old new : WorldView) → cause_faults cause ≡ 0 → CallKeeps c start told now old new → KeepsOrBreaks cause c start told now old new
@@ -121,14 +132,14 @@ module _ (name : List ℕ) (request : MkfsRequest) (is_uuid : IsUuid request.fs)
 
   module _ (at : ℕ) (view : HostView) (number : number_in name old ≡ Some at) (free : refusal_in c old lines ≡ None) (within : at < length old.hosts) (view_is : slice_get old.hosts at ≡ Some view)
       (told now : Option Image) (faults faults_now : ℕ) (new : WorldView) (modelled : IfModelled told (λ image. length image ≡ lines)) (wide : 32770 ≤ lines) (cache : Cache)
-      (others : (l : ℕ) → IsElsewhere l → cell_at cache l ≡ cell_at view.cache l) (hosts : new.hosts ≡ changed_at at (with_cache cache) old.hosts) (later : faults ≤ faults_now) where
+      (others : (l : ℕ) → IsElsewhere l → IsHeld (cell_at cache l) → IsHeld (cell_at view.cache l)) (hosts : new.hosts ≡ changed_at at (with_cache cache) old.hosts) (later : faults ≤ faults_now) where
     abbrev p : Params
     p = asked request view.uuid lines
 
     fits : HostFits lines view → HostFits lines (with_cache cache view)
     fits was = record {
       task = was.task;
-      cache = λ l is. elsewhere l (l < lines) (λ other. was.cache l (subst IsHeld (others l other) is)) (λ e. omega (arith, e, wide)) (λ e. omega (arith, e, wide)) (λ e. omega (arith, e, wide)) (λ e. omega (arith, e, wide)) (λ e. omega (arith, e, wide));
+      cache = λ l is. elsewhere l (l < lines) (λ other. was.cache l (others l other is)) (λ e. omega (arith, e, wide)) (λ e. omega (arith, e, wide)) (λ e. omega (arith, e, wide)) (λ e. omega (arith, e, wide)) (λ e. omega (arith, e, wide));
     }
 
     answers : (answered : Option Refusal) (notes : List Note) → new.journal ≡ old.journal ++ notes → HasCounted faults faults_now notes → AreNamed (length new.hosts) notes → forms_behind (forms_of old.journal) notes ≡ forms_of old.journal
@@ -167,27 +178,50 @@ module _ (name : List ℕ) (request : MkfsRequest) (is_uuid : IsUuid request.fs)
           record { name = host.2.name; uuid = host.2.uuid; cache = sym same; task = host.2.task; kept = host.2.kept; joined = host.2.joined } held.stands k)
 
     -- it is made
-    module _ (journal : new.journal ≡ old.journal ++ Made at p ∷ []) (made : IsMadeAsAsked p request.force (over told view.cache) (over now cache)) where
+    module _ (journal : new.journal ≡ old.journal ++ Made at p ∷ []) (made : IsMadeAsAsked p request.force request.halt (over told view.cache) (over now cache)) where
       made_keeps : (start : Image) → CallKeeps c start told now old new
       made_keeps start state told_is held =
           let h = host start state told_is held in
           let same = machine_is start state told_is held in
           let ps = params_are start state told_is held in
-          let m : IsMachine (operated_all (mkfs_ops p) (machine state.memory view.cache)) now cache = made.done.is state.memory told_is in
+          let m : IsMachine (operated_all (mkfs_ops p) (machine state.memory view.cache)) now cache = made.done.done.is state.memory told_is in
           let z : Machine = operated_all (mkfs_ops p) (machine_of state h.0) in
           let zm : z ≡ operated_all (mkfs_ops p) (machine state.memory view.cache) = ap (λ (x : Machine). operated_all (mkfs_ops p) x) same in
           let left : Machines = left_by start state told_is held z in
           let acts : MakesFileSystem at p request.force h.0 state (Made at p ∷ []) left =
-          record { free = ap (λ (x : Machine). goes_on request.force (superblock_found p x)) same ∙ made.free state.memory told_is; notes_are = refl; left = refl } in
+          record { free = ap (λ (x : Machine). goes_on request.force (superblock_found p x)) same ∙ made.done.free state.memory told_is; notes_are = refl; left = refl } in
           row_kept start state old held c lines (modelled state.memory told_is) at view number free view_is new now (Made at p ∷ []) left (λ x. x)
-          (inl (subst (λ (q : Params). MakesFileSystem at q request.force h.0 state (Made at p ∷ []) left) (sym ps) acts)) is_uuid
+          (inl (subst (λ (o : Option ℕ). MakesOrHalts o at (asked request h.0.uuid (length state.memory)) request.force h.0 state (Made at p ∷ []) left) (sym made.unhalted) (subst (λ (q : Params). MakesFileSystem at q request.force h.0 state (Made at p ∷ []) left) (sym ps) acts))) is_uuid
           (m.image ∙ ap (λ (x : Machine). Some x.image) (sym zm)) journal (stands start state told_is held z (m.cache ∙ ap (λ (x : Machine). x.cache) (sym zm)))
 
       pub made_call : MakeCall c lines None (media_change told faults now faults_now) old new
       made_call = record {
         answers = answers None (Made at p ∷ []) journal (omega (arith, later)) (subst (λ (n : ℕ). at < n) (sym count_is) within, tt) refl refl (λ cause e. absurd cc)
-            (λ is. maker_form name request lines old is at view number view_is free (Made at p ∷ []) (λ f e. inl (ap (λ (id : List ℕ). Made at (asked request id lines) ∷ []) (sym e))));
+            (λ is. maker_form name request lines old is at view number view_is free (Made at p ∷ []) (λ f e. inl (ap (λ (id : List ℕ). Made at (asked request id lines) ∷ []) (sym e) ∙ ap (λ (o : Option ℕ). made_note o at (asked request f.uuid lines) ∷ []) (sym made.unhalted))));
         leaves = made_keeps;
+      }
+
+    -- its maker halts, and its cache is lost
+    module _ (k : ℕ) (journal : new.journal ≡ old.journal ++ Cut at k ∷ []) (ran : Cache) (lost : cache ≡ map_of.empty) (halts : IsHaltedAsAsked p request.force request.halt k (over told view.cache) (over now ran)) where
+      halted_keeps : (start : Image) → CallKeeps c start told now old new
+      halted_keeps start state told_is held =
+          let h = host start state told_is held in
+          let same = machine_is start state told_is held in
+          let ps = params_are start state told_is held in
+          let m : IsMachine (operated_all (halted_ops k p) (machine state.memory view.cache)) now ran = halts.done.done.is state.memory told_is in
+          let z : Machine = machine (operated_all (halted_ops k p) (machine_of state h.0)).image map_of.empty in
+          let left : Machines = left_by start state told_is held z in
+          let acts : HaltsMaking at p request.force k h.0 state (Cut at k ∷ []) left =
+          record { free = ap (λ (x : Machine). goes_on request.force (superblock_found p x)) same ∙ halts.done.free state.memory told_is; notes_are = refl; left = refl } in
+          row_kept start state old held c lines (modelled state.memory told_is) at view number free view_is new now (Cut at k ∷ []) left (λ x. x)
+          (inl (subst (λ (o : Option ℕ). MakesOrHalts o at (asked request h.0.uuid (length state.memory)) request.force h.0 state (Cut at k ∷ []) left) (sym halts.asked) (subst (λ (q : Params). HaltsMaking at q request.force k h.0 state (Cut at k ∷ []) left) (sym ps) acts))) is_uuid
+          (m.image ∙ ap (λ (x : Machine). Some (operated_all (halted_ops k p) x).image) (sym same)) journal (stands start state told_is held z lost)
+
+      pub halted_call : MakeCall c lines None (media_change told faults now faults_now) old new
+      halted_call = record {
+        answers = answers None (Cut at k ∷ []) journal (omega (arith, later)) (subst (λ (n : ℕ). at < n) (sym count_is) within, tt) refl refl (λ cause e. absurd cc)
+            (λ is. maker_form name request lines old is at view number view_is free (Cut at k ∷ []) (λ f e. inl (ap (λ (o : Option ℕ). made_note o at (asked request f.uuid lines) ∷ []) (sym halts.asked))));
+        leaves = halted_keeps;
       }
 
     -- a superblock stands there
@@ -217,7 +251,7 @@ module _ (name : List ℕ) (request : MkfsRequest) (is_uuid : IsUuid request.fs)
       }
 
     -- the media failed
-    module _ (line : LineNo) (journal : new.journal ≡ old.journal ++ Refused name (why.MediaFault line) ∷ []) (cut_is : IsCut p request.force lines line (over told view.cache) (over now cache) faults faults_now) where
+    module _ (line : LineNo) (journal : new.journal ≡ old.journal ++ Refused name (why.MediaFault line) ∷ []) (cut_is : IsCut p request.force request.halt lines line (over told view.cache) (over now cache) faults faults_now) where
       abbrev notes : List Note
       notes = Refused name (why.MediaFault line) ∷ []
 
@@ -226,16 +260,16 @@ module _ (name : List ℕ) (request : MkfsRequest) (is_uuid : IsUuid request.fs)
           let h = host start state told_is held in
           let same = machine_is start state told_is held in
           let ps = params_are start state told_is held in
-          let cut : HasCut (expected_ops request.force p (machine state.memory view.cache)) (machine state.memory view.cache) line now cache = cut_is.cut state.memory told_is in
+          let cut : HasCut (expected_ops request.force request.halt p (machine state.memory view.cache)) (machine state.memory view.cache) line now cache = cut_is.cut state.memory told_is in
           let left : Machines = left_by start state told_is held cut.left in
-          let acts : MakesCut at p request.force name h.0 state notes left =
-          record { line = line; left = cut.left; cuts = subst (λ (x : Machine). Rattle.fam_machine.specs.Cuts.Cuts (expected_ops request.force p x) x line cut.left) (sym same) cut.cuts; notes_are = refl; left_is = refl } in
+          let acts : MakesCut at p request.force request.halt name h.0 state notes left =
+          record { line = line; left = cut.left; cuts = subst (λ (x : Machine). Rattle.fam_machine.specs.Cuts.Cuts (expected_ops request.force request.halt p x) x line cut.left) (sym same) cut.cuts; notes_are = refl; left_is = refl } in
           let number_is : number_of name state ≡ Some at = number_shown (length start) state old name held.stands ∙ number in
           let row : BreaksOff c state notes left = (
             first_refusal start state old held c lines (modelled state.memory told_is) ∙ free,
             subst (λ (o : Option ℕ). AtNumber o state (λ k host. CutsAt c k host state notes left)) (sym number_is)
                 (subst (λ (o : Option HostState). OnHost o (λ host. CutsAt c at host state notes left)) (sym h.1)
-                (subst (λ (q : Params). MakesCut at q request.force name h.0 state notes left) (sym ps) acts)),
+                (subst (λ (q : Params). MakesCut at q request.force request.halt name h.0 state notes left) (sym ps) acts)),
           ) in
           record {
             state = left;
@@ -259,14 +293,23 @@ module _ (name : List ℕ) (request : MkfsRequest) (is_uuid : IsUuid request.fs)
           counted (inr last) = omega (arith, last)
 
     -- however it ended
+    stayed : (end : MkfsEnd) (ran : Cache) → cache ≡ ran → MkfsEnds p request.force request.halt lines (over told view.cache) (over now ran) faults faults_now end → MkfsEnds p request.force request.halt lines (over told view.cache) (over now cache) faults faults_now end
+    stayed end ran is ends = subst (λ (x : Cache). MkfsEnds p request.force request.halt lines (over told view.cache) (over now x) faults faults_now end) (sym is) ends
+
+    abbrev Called : Option Refusal → Type 0
+    Called answered = MakeCall c lines answered (media_change told faults now faults_now) old new
+
+    by_end : (end : MkfsEnd) → new.journal ≡ old.journal ++ end_note at name end ∷ [] → MakerEnds p request.force request.halt lines (over told view.cache) now cache faults faults_now end → IfAnswered (end_result end) Called
+    by_end (ended.Made made) journal ends =
+        let e = stayed (ended.Made made) ends.ran ends.left ends.ends in
+        made_call (journal ∙ ap (λ (q : Params). old.journal ++ Made at q ∷ []) e.0) e.1
+    by_end (ended.Halted k) journal ends = halted_call k journal ends.ran ends.left ends.ends
+    by_end (ended.HasSuper id) journal ends = found_call id journal (stayed (ended.HasSuper id) ends.ran ends.left ends.ends)
+    by_end (ended.Failed line) journal ends = cut_call line journal (stayed (ended.Failed line) ends.ran ends.left ends.ends)
+    by_end (ended.BadGeometry u l) journal ends = absurd ends.ends
+    by_end (ended.TooSmall need have) journal ends = absurd ends.ends
+
     pub make_ended : (end : MkfsEnd) (given : Result (Unit {0}) WorldFault) → given ≡ end_result end → new.journal ≡ old.journal ++ end_note at name end ∷ []
-        → MkfsEnds p request.force lines (over told view.cache) (over now cache) faults faults_now end → IfAnswered given (λ answered. MakeCall c lines answered (media_change told faults now faults_now) old new)
-    make_ended (ended.Made made) given is journal ends =
-        subst (λ (r : Result (Unit {0}) WorldFault). IfAnswered r (λ answered. MakeCall c lines answered (media_change told faults now faults_now) old new)) (sym is)
-        (made_call (journal ∙ ap (λ (q : Params). old.journal ++ Made at q ∷ []) ends.0) ends.1)
-    make_ended (ended.HasSuper id) given is journal ends =
-        subst (λ (r : Result (Unit {0}) WorldFault). IfAnswered r (λ answered. MakeCall c lines answered (media_change told faults now faults_now) old new)) (sym is) (found_call id journal ends)
-    make_ended (ended.Failed line) given is journal ends =
-        subst (λ (r : Result (Unit {0}) WorldFault). IfAnswered r (λ answered. MakeCall c lines answered (media_change told faults now faults_now) old new)) (sym is) (cut_call line journal ends)
-    make_ended (ended.BadGeometry u l) given is journal ends = absurd ends
-    make_ended (ended.TooSmall need have) given is journal ends = absurd ends
+        → MakerEnds p request.force request.halt lines (over told view.cache) now cache faults faults_now end → IfAnswered given (λ answered. MakeCall c lines answered (media_change told faults now faults_now) old new)
+    make_ended end given is journal ends =
+        subst (λ (r : Result (Unit {0}) WorldFault). IfAnswered r Called) (sym is) (by_end end journal ends)

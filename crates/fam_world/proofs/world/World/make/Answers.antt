@@ -2,7 +2,6 @@ use Rattle.std.proofs.Common.{set, ◌≡◌, ◌*◌, ◌++◌, ◌∷◌, [], 
 use Rattle.fam_media.specs.States.{change}
 use Rattle.std.proofs.lemmas.Option.{slice_get_read}
 use Rattle.fam_rules.specs.Place.{line_bytes}
-use Rattle.fam_machine.specs.MkfsRequest.{mkfs_request}
 use Rattle.fam_mkfs.specs.Refusals.{refusal}
 use Rattle.fam_journal.specs.Calls as call
 use Rattle.fam_journal.specs.Notes.{Refused}
@@ -17,17 +16,17 @@ use Rattle.fam_world.proofs.Members.{map_at, map_set}
 use Rattle.fam_world.proofs.Moving.{with_cache}
 use Rattle.fam_world.proofs.WithoutMedia.{refused_told}
 use Rattle.fam_world.proofs.Untouched.{free_untouched}
-use Rattle.fam_world.proofs.world.World.mkfs.Goals as goal
+use Rattle.fam_world.proofs.world.World.make.Goals as goal
 
 pub returns-in-Err-clause-answered : goal.returns-in-Err-clause-answered
 returns-in-Err-clause-answered g c =
     let old : WorldView = world_view c.self.inside.hosts.items c.self.inside.journal.items in
     let new : WorldView = world_view c.self.inside.hosts.items c.refused.new.journal.items in
-    let asked : call.Call = call.Makes c.args.name.now (mkfs_request c.args.fs c.args.unit c.args.log c.args.force None) in
+    let asked : call.Call = call.Makes c.args.name.now c.args.request.now in
     let refused : IsRefused asked (g.M.Media.size c.args.media.now) old c.in-Err.cause = subst (λ n. IsRefused asked n old c.in-Err.cause) c.lines.ensures.count (c.in-Err.ensures.placed old.journal) in
     subst (λ (w : WorldView). IfAnswered {T = Unit {0}} (Err c.refused.result) (λ answered. MakeCall asked (g.M.Media.size c.args.media.now) answered (change g.M.Media.state c.args.media.now c.args.media.now) w new)) c.self.view_is
     (refused_told c.refused.result c.in-Err.cause _ c.refused.ensures.given
-    (make_refused c.args.name.now (mkfs_request c.args.fs c.args.unit c.args.log c.args.force None) c.is_uuid.ensures (g.M.Media.size c.args.media.now) old (g.M.Media.state c.args.media.now).image (g.M.Media.state c.args.media.now).faults new c.in-Err.cause (g.met.M.Media.modelled c.args.media.now) refused refl
+    (make_refused c.args.name.now c.args.request.now c.is_uuid.ensures (g.M.Media.size c.args.media.now) old (g.M.Media.state c.args.media.now).image (g.M.Media.state c.args.media.now).faults new c.in-Err.cause (g.met.M.Media.modelled c.args.media.now) refused refl
     (c.refused.ensures.noted ∙ ap (λ (xs : List Kept). notes_view xs ++ Refused c.args.name.now c.in-Err.cause ∷ []) c.make_room.ensures.same)))
 
 pub returns-in-Ok-make_host-clause-answered : goal.returns-in-Ok-make_host-clause-answered
@@ -37,13 +36,13 @@ returns-in-Ok-make_host-clause-answered g c =
     let at = c.in-Ok.at in
     let x = c.index_mut.result.now in
     let at_is = slice_get_read items (length items) at x refl (omega (arith, c.in-Ok.ensures.within)) c.index_mut.ensures.value in
-    let asked : call.Call = call.Makes c.args.name.now (mkfs_request c.args.fs c.args.unit c.args.log c.args.force None) in
+    let asked : call.Call = call.Makes c.args.name.now c.args.request.now in
     let size = g.M.Media.size c.args.media.now in
     let free : IsFree asked size old at = subst (λ n. IsFree asked n old at) c.lines.ensures.count (c.in-Ok.ensures.placed old.journal) in
-    let wide = wide_of c.args.unit c.args.log size (subst (λ n. refusal c.args.unit c.args.log (line_bytes * n) ≡ None) c.lines.ensures.count c.in-Ok.ensures.free) in
+    let wide = wide_of c.args.request.now.unit c.args.request.now.log size (subst (λ n. refusal c.args.request.now.unit c.args.request.now.log (line_bytes * n) ≡ None) c.lines.ensures.count c.in-Ok.ensures.free) in
     let new : WorldView = world_view (set items at c.make_host.new.host) c.note_end.new.journal.items in
     subst (λ (w : WorldView). IfAnswered c.note_end.result (λ answered. MakeCall asked size answered (change g.M.Media.state c.args.media.now c.make_host.new.media) w new)) c.self.view_is
-    (make_ended c.args.name.now (mkfs_request c.args.fs c.args.unit c.args.log c.args.force None) c.is_uuid.ensures size old at (host_view x) free.number free.free free.within (map_at host_view items at x at_is)
+    (make_ended c.args.name.now c.args.request.now c.is_uuid.ensures size old at (host_view x) free.number free.free free.within (map_at host_view items at x at_is)
     (g.M.Media.state c.args.media.now).image (g.M.Media.state c.make_host.new.media).image (g.M.Media.state c.args.media.now).faults (g.M.Media.state c.make_host.new.media).faults _ (g.met.M.Media.modelled c.args.media.now) wide
     c.make_host.new.host.cache.lines c.make_host.ensures.others
     (map_set host_view (with_cache c.make_host.new.host.cache.lines) items at _ x at_is (ap host_view c.make_host.ensures.host)) c.make_host.ensures.steady.later
@@ -54,7 +53,7 @@ returns-in-Ok-make_host-clause-answered g c =
 pub returns-in-Ok-make_host-clause-untouched : goal.returns-in-Ok-make_host-clause-untouched
 returns-in-Ok-make_host-clause-untouched g c =
     let old : WorldView = world_view c.self.inside.hosts.items c.self.inside.journal.items in
-    let asked : call.Call = call.Makes c.args.name.now (mkfs_request c.args.fs c.args.unit c.args.log c.args.force None) in
+    let asked : call.Call = call.Makes c.args.name.now c.args.request.now in
     let size = g.M.Media.size c.args.media.now in
     free_untouched asked size c.in-Ok.at old c.args.self.now c.args.media.now c.make_host.new.media
     (subst (λ n. IsFree asked n old c.in-Ok.at) c.lines.ensures.count (c.in-Ok.ensures.placed old.journal)) c.self.view_is
