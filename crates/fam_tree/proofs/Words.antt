@@ -50,12 +50,12 @@ extents_suc (x ∷ y ∷ rest) (suc (suc i)) =
 pub extents_more : (extents : List Extent) (i : ℕ) → extents_text (take (i + 1) extents) ≡ extents_text (take i extents) ++ next_text extents i
 extents_more extents i = ap (λ (n : ℕ). extents_text (take n extents)) (add-one i) ∙ extents_suc extents i
 
-module _ (old k m u g s t p i1 i2 i3 i4 i5 i6 i7 i8 i9 i10 i11 i12 : List ℕ) where
-  -- seven words, put one behind another with spaces between
-  pub seven_words : i1 ≡ old ++ k → i2 ≡ i1 ++ space ∷ [] → i3 ≡ i2 ++ m → i4 ≡ i3 ++ space ∷ [] → i5 ≡ i4 ++ u → i6 ≡ i5 ++ space ∷ []
-      → i7 ≡ i6 ++ g → i8 ≡ i7 ++ space ∷ [] → i9 ≡ i8 ++ s → i10 ≡ i9 ++ space ∷ [] → i11 ≡ i10 ++ t → i12 ≡ i11 ++ space ∷ []
-      → i12 ++ p ≡ old ++ join_with_byte space (k ∷ m ∷ u ∷ g ∷ s ∷ t ∷ p ∷ [])
-  seven_words h1 h2 h3 h4 h5 h6 h7 h8 h9 h10 h11 h12 =
+module _ (old k m u g s t p i1 i2 i3 i4 i5 i6 i7 i8 i9 : List ℕ) where
+  -- seven words, the first two put at once and the others one behind another, with spaces between
+  pub seven_words : i1 ≡ old ++ (k ++ space ∷ (m ++ space ∷ [])) → i2 ≡ i1 ++ u → i3 ≡ i2 ++ space ∷ []
+      → i4 ≡ i3 ++ g → i5 ≡ i4 ++ space ∷ [] → i6 ≡ i5 ++ s → i7 ≡ i6 ++ space ∷ [] → i8 ≡ i7 ++ t → i9 ≡ i8 ++ space ∷ []
+      → i9 ++ p ≡ old ++ join_with_byte space (k ∷ m ∷ u ∷ g ∷ s ∷ t ∷ p ∷ [])
+  seven_words h1 h2 h3 h4 h5 h6 h7 h8 h9 =
       let e2 = behind old _ _ _ _ h1 h2 in
       let e3 = behind old _ _ _ _ e2 h3 in
       let e4 = behind old _ _ _ _ e3 h4 in
@@ -64,17 +64,14 @@ module _ (old k m u g s t p i1 i2 i3 i4 i5 i6 i7 i8 i9 i10 i11 i12 : List ℕ) w
       let e7 = behind old _ _ _ _ e6 h7 in
       let e8 = behind old _ _ _ _ e7 h8 in
       let e9 = behind old _ _ _ _ e8 h9 in
-      let e10 = behind old _ _ _ _ e9 h10 in
-      let e11 = behind old _ _ _ _ e10 h11 in
-      let e12 = behind old _ _ _ _ e11 h12 in
-      behind old _ i12 p _ e12 refl ∙ ap (λ (l : List ℕ). old ++ l) (simp append_assoc)
+      behind old _ i9 p _ e9 refl ∙ ap (λ (l : List ℕ). old ++ l) (simp append_assoc)
 
 -- a line is its words
 pub line_of_words : (e : Entry) → join_with_byte space (entry_words e) ≡ entry_line e
 unfolding entry_line
 line_of_words e = refl
 
--- what is left of a listing at its front
-pub listing_whole : (tree : Tree) → [] ++ flat_map listing_line (finmap.values tree) ≡ listing tree
+-- a listing is its lines
+pub listing_whole : (tree : Tree) → flat_map listing_line (finmap.values tree) ≡ listing tree
 unfolding listing
 listing_whole tree = refl

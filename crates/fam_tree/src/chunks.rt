@@ -3,11 +3,13 @@
 ghost use Rattle.std.specs.Prelude.{◌≡◌, ◌<◌, ◌++◌, ◌∷◌, [], IfOk, length, slice_get};
 ghost use Rattle.std.specs.Bool.{OnTrue, OnFalse};
 ghost use Rattle.fam_tree.specs.Chunks.{AreFull, entries_of};
+ghost use Rattle.fam_tree.specs.Rows.{entry_shown};
 ghost use Rattle.fam_tree.specs.Runs.{entry_at};
 
 use crate::beside::Beside;
 use crate::chunk::Chunk;
 use crate::entry_list::EntryList;
+use crate::shown::Shown;
 use fam_base::{Entry, Kind, OutOfMemory};
 use std::alloc::Global;
 use std::marker::Model;
@@ -106,6 +108,16 @@ impl Chunks {
     {
         let (list, i) = self.find(place);
         list.at(i)
+    }
+
+    /// What is shown of the entry at a place.
+    #[inline(always)]
+    pub(crate) fn shown_at(&self, place: usize) -> Shown<'_>
+        requires { place < length self.now }
+        ensures { entry_shown result ≡ entry_at self.now place }
+    {
+        let (list, i) = self.find(place);
+        list.shown_at(i)
     }
 
     /// The kind of the entry at a place.

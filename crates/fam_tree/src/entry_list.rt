@@ -4,10 +4,12 @@
 
 ghost use Rattle.std.specs.Prelude.{◌≡◌, ◌+◌, ◌<◌, ◌≤◌, ◌++◌, ◌∷◌, [], IfOk, length, vec_capacity, vec_len};
 ghost use Rattle.std.specs.Bool.{OnTrue, OnFalse};
+ghost use Rattle.fam_tree.specs.Rows.{entry_shown};
 ghost use Rattle.fam_tree.specs.Runs.{entry_at};
 
 use crate::beside::Beside;
 use crate::row::Row;
+use crate::shown::Shown;
 use fam_base::{Entry, Extent, Kind, OutOfMemory};
 use std::alloc::Global;
 use std::marker::Model;
@@ -87,6 +89,15 @@ impl EntryList {
         ensures { result ≡ entry_at self.now place }
     {
         self.rows[place].entry(self.paths.as_slice(), self.extents.as_slice())
+    }
+
+    /// What is shown of the entry at a place.
+    #[inline(always)]
+    pub(crate) fn shown_at(&self, place: usize) -> Shown<'_>
+        requires { place < length self.now }
+        ensures { entry_shown result ≡ entry_at self.now place }
+    {
+        self.rows[place].shown(self.paths.as_slice(), self.extents.as_slice())
     }
 
     /// The kind of the entry at a place.

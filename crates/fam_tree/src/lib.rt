@@ -17,6 +17,7 @@ mod listings;
 mod row;
 mod run;
 mod runs;
+mod shown;
 mod tree;
 mod tree_iter;
 

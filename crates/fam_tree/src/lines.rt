@@ -1,12 +1,17 @@
 //! Entries and trees in print. `specs/Lines.antt` has the forms.
 
-ghost use Rattle.std.specs.Prelude.{◌≡◌, [], ◌∷◌, ◌++◌, OnOk, IfOk};
+ghost use Rattle.std.specs.Prelude.{◌≡◌, [], ◌∷◌, ◌++◌, OnOk, IfOk, length};
 ghost use Rattle.std.specs.Fmt.{decimal};
-ghost use Rattle.fam_tree.specs.Lines.{kind_letter, octal_digit, mode_text, extent_text, extents_text, map_text, entry_line, listing_line, listing};
+ghost use Rattle.std.specs.List.{flat_map};
+ghost use Rattle.fam_tree.specs.Lines.{kind_letter, octal_digit, mode_text, space, extent_text, extents_text, map_text, entry_line, listing_line, listing};
 ghost use Rattle.fam_tree.specs.NextExtent.{next_text};
+ghost use Rattle.fam_tree.specs.Rows.{entry_shown};
+ghost use Rattle.fam_tree.specs.Runs.{AreWithin, run_of};
 
+use crate::chunks::Chunks;
+use crate::shown::Shown;
 use crate::tree::Tree;
-use fam_base::{Entry, Extent, Extents, Kind, MapKind, OutOfMemory, escape};
+use fam_base::{Entry, Extent, Kind, MapKind, OutOfMemory, escape};
 use std::alloc::Global;
 
 fn put_byte(byte: u8, into: &mut Vec<u8>) -> Result<(), OutOfMemory>
@@ -40,12 +45,12 @@ pub(crate) fn put_decimal(n: u64, into: &mut Vec<u8>) -> Result<(), OutOfMemory>
     put_digits(n, into)
 }
 
-fn put_kind(kind: Kind, into: &mut Vec<u8>) -> Result<(), OutOfMemory>
-    ensures { OnOk result (into.new.items ≡ into.old.items ++ kind_letter kind) }
+fn kind_letter(kind: Kind) -> u8
+    ensures { result ∷ [] ≡ kind_letter kind }
 {
     match kind {
-        Kind::Directory => put_byte(b'd', into),
-        Kind::File => put_byte(b'f', into),
+        Kind::Directory => b'd',
+        Kind::File => b'f',
     }
 }
 
@@ -55,16 +60,21 @@ fn octal_digit(n: u32) -> u8
     b'0' + (n % 8) as u8
 }
 
-fn put_mode(mode: u32, into: &mut Vec<u8>) -> Result<(), OutOfMemory>
-    ensures { OnOk result (into.new.items ≡ into.old.items ++ mode_text mode) }
+/// Puts the two words of fixed length, which come first, each with a space behind it.
+fn put_kind_and_mode(kind: Kind, mode: u32, into: &mut Vec<u8>) -> Result<(), OutOfMemory>
+    ensures { OnOk result (into.new.items
+        ≡ into.old.items ++ (kind_letter kind ++ space ∷ (mode_text mode ++ space ∷ []))) }
 {
-    let digits = [
+    let words = [
+        kind_letter(kind),
+        b' ',
         octal_digit(mode / 512),
         octal_digit(mode / 64),
         octal_digit(mode / 8),
         octal_digit(mode),
+        b' ',
     ];
-    match into.extend_from_slice(&digits) {
+    match into.extend_from_slice(&words) {
         Ok(()) => Ok(()),
         Err(_) => Err(OutOfMemory),
     }
@@ -78,20 +88,20 @@ fn put_extent(extent: Extent, into: &mut Vec<u8>) -> Result<(), OutOfMemory>
     put_decimal(extent.length, into)
 }
 
-fn put_next(extents: &Extents, i: u64, into: &mut Vec<u8>) -> Result<(), OutOfMemory>
+fn put_next(extents: &[Extent], i: usize, into: &mut Vec<u8>) -> Result<(), OutOfMemory>
     ensures { OnOk result (into.new.items ≡ into.old.items ++ next_text extents.now i) }
 {
-    let Some(extent) = extents.at(i) else {
+    let Some(extent) = extents.get(i) else {
         return Ok(());
     };
     if i == 0 {
-        return put_extent(extent, into);
+        return put_extent(*extent, into);
     }
     put_byte(b',', into)?;
-    put_extent(extent, into)
+    put_extent(*extent, into)
 }
 
-fn put_extents(extents: &Extents, into: &mut Vec<u8>) -> Result<(), OutOfMemory>
+fn put_extents(extents: &[Extent], into: &mut Vec<u8>) -> Result<(), OutOfMemory>
     ensures { OnOk result (into.new.items ≡ into.old.items ++ extents_text extents.now) }
 {
     for i in 0..extents.len() {
@@ -100,7 +110,7 @@ fn put_extents(extents: &Extents, into: &mut Vec<u8>) -> Result<(), OutOfMemory>
     Ok(())
 }
 
-fn put_map(map: MapKind, extents: &Extents, into: &mut Vec<u8>) -> Result<(), OutOfMemory>
+fn put_map(map: MapKind, extents: &[Extent], into: &mut Vec<u8>) -> Result<(), OutOfMemory>
     ensures { OnOk result (into.new.items ≡ into.old.items ++ map_text map extents.now) }
 {
     match map {
@@ -114,29 +124,38 @@ fn put_map(map: MapKind, extents: &Extents, into: &mut Vec<u8>) -> Result<(), Ou
     }
 }
 
-pub(crate) fn put_entry(entry: &Entry, into: &mut Vec<u8>) -> Result<(), OutOfMemory>
-    ensures { OnOk result (into.new.items ≡ into.old.items ++ entry_line entry.now) }
+pub(crate) fn put_entry(shown: &Shown<'_>, into: &mut Vec<u8>) -> Result<(), OutOfMemory>
+    ensures { OnOk result (into.new.items ≡ into.old.items ++ entry_line (entry_shown shown.now)) }
 {
-    put_kind(entry.kind, into)?;
+    put_kind_and_mode(shown.kind, shown.mode, into)?;
+    put_decimal(shown.uid as u64, into)?;
     put_byte(b' ', into)?;
-    put_mode(entry.mode, into)?;
+    put_decimal(shown.gid as u64, into)?;
     put_byte(b' ', into)?;
-    put_decimal(entry.uid as u64, into)?;
+    put_decimal(shown.size, into)?;
     put_byte(b' ', into)?;
-    put_decimal(entry.gid as u64, into)?;
+    put_map(shown.map, shown.extents, into)?;
     put_byte(b' ', into)?;
-    put_decimal(entry.size, into)?;
-    put_byte(b' ', into)?;
-    put_map(entry.map, &entry.extents, into)?;
-    put_byte(b' ', into)?;
-    escape(entry.path.bytes(), into)
+    escape(shown.path, into)
 }
 
-fn put_line(entry: &Entry, into: &mut Vec<u8>) -> Result<(), OutOfMemory>
-    ensures { OnOk result (into.new.items ≡ into.old.items ++ listing_line entry.now) }
+fn put_line(shown: &Shown<'_>, into: &mut Vec<u8>) -> Result<(), OutOfMemory>
+    ensures { OnOk result (into.new.items ≡ into.old.items ++ listing_line (entry_shown shown.now)) }
 {
-    put_entry(entry, into)?;
+    put_entry(shown, into)?;
     put_byte(b'\n', into)
+}
+
+/// Puts the lines of the entries at some places. No entry is built for it.
+fn put_lines(entries: &Chunks, places: &[u32], into: &mut Vec<u8>) -> Result<(), OutOfMemory>
+    requires { AreWithin (length entries.now) places.now }
+    ensures { OnOk result (into.new.items
+        ≡ into.old.items ++ flat_map listing_line (run_of entries.now places.now)) }
+{
+    for place in places {
+        put_line(&entries.shown_at(*place as usize), into)?;
+    }
+    Ok(())
 }
 
 /// An entry as a line of a listing, without the line feed: `KIND MODE UID GID SIZE MAP PATH`, with one space
@@ -146,7 +165,7 @@ pub fn print_entry(alloc: Global, entry: &Entry) -> Result<Vec<u8>, OutOfMemory>
     ensures { IfOk result (λ text. text.items ≡ entry_line entry.now) }
 {
     let mut text = Vec::new(alloc);
-    put_entry(entry, &mut text)?;
+    put_entry(&Shown::new(entry), &mut text)?;
     Ok(text)
 }
 
@@ -155,8 +174,9 @@ pub fn print_listing(alloc: Global, tree: &Tree) -> Result<Vec<u8>, OutOfMemory>
     ensures { IfOk result (λ text. text.items ≡ listing tree.now) }
 {
     let mut text = Vec::new(alloc);
-    for entry in tree.iter() {
-        put_line(&entry, &mut text)?;
+    let (entries, runs) = tree.parts();
+    for run in runs {
+        put_lines(entries, run.places(), &mut text)?;
     }
     Ok(text)
 }

@@ -3,8 +3,9 @@
 ghost use Rattle.std.specs.Prelude.{◌≡◌, ◌+◌, ◌≤◌, IfSome, IsTrue, length};
 ghost use Rattle.fam_base.specs.ExtentLists.{extent_limit};
 ghost use Rattle.fam_base.specs.Paths.{is_path};
-ghost use Rattle.fam_tree.specs.Rows.{IsRow, entry_of, path_in, row_of};
+ghost use Rattle.fam_tree.specs.Rows.{IsRow, entry_of, entry_shown, extents_in, path_in, row_of};
 
+use crate::shown::Shown;
 use fam_base::{Entry, Extent, Extents, Kind, MapKind, PATH_LIMIT, Path};
 
 /// How many places a row can tell from one another.
@@ -89,13 +90,40 @@ impl Row {
         &paths[start..start + self.path_len as usize]
     }
 
+    /// Its extents.
+    #[inline(always)]
+    fn extents<'a>(&self, extents: &'a [Extent]) -> &'a [Extent]
+        requires { self.now.extents_start + self.now.extents_len ≤ length extents.now }
+        ensures { result.now ≡ extents_in extents.now self.now }
+    {
+        let start = self.extents_start as usize;
+        &extents[start..start + self.extents_len as usize]
+    }
+
+    /// What is shown of its entry.
+    #[inline(always)]
+    pub(crate) fn shown<'a>(&self, paths: &'a [u8], extents: &'a [Extent]) -> Shown<'a>
+        requires { IsRow paths.now extents.now self.now }
+        ensures { entry_shown result ≡ entry_of paths.now extents.now self.now }
+    {
+        Shown {
+            kind: self.kind,
+            map: self.map,
+            size: self.size,
+            mode: self.mode,
+            uid: self.uid,
+            gid: self.gid,
+            path: self.path(paths),
+            extents: self.extents(extents),
+        }
+    }
+
     /// Its entry.
     #[inline]
     pub(crate) fn entry(&self, paths: &[u8], extents: &[Extent]) -> Entry
         requires { IsRow paths.now extents.now self.now }
         ensures { result ≡ entry_of paths.now extents.now self.now }
     {
-        let start = self.extents_start as usize;
         Entry {
             kind: self.kind,
             path: path_of(self.path(paths)),
@@ -104,7 +132,7 @@ impl Row {
             uid: self.uid,
             gid: self.gid,
             map: self.map,
-            extents: extents_of(&extents[start..start + self.extents_len as usize]),
+            extents: extents_of(self.extents(extents)),
         }
     }
 }

@@ -13,6 +13,7 @@ ghost use Rattle.fam_tree.specs.Faults.{reason_of};
 ghost use Rattle.fam_tree.specs.Iter.{tree_iter_rest};
 ghost use Rattle.fam_tree.specs.Keyed.{IsKeyed, paths_of};
 ghost use Rattle.fam_tree.specs.Parents as parents;
+ghost use Rattle.fam_tree.specs.Runs.{RunsWithin, listed};
 
 use crate::beside::{Beside, Nothing};
 use crate::chunks::Chunks;
@@ -97,6 +98,14 @@ impl Tree {
             run: &[],
             runs: &self.runs,
         }
+    }
+
+    /// The list of the entries, and the runs that tell their order.
+    pub(crate) fn parts(&self) -> (&Chunks, &[Run])
+        ensures listed { listed result.0.now result.1.now ≡ map.values self.now }
+        ensures within { RunsWithin (length result.0.now) result.1.now }
+    {
+        (&self.entries, &self.runs)
     }
 
     /// The kind of what stands at a path.
