@@ -1,5 +1,6 @@
 -- Whole runs: their journals are legal, their answers are of the rules, and they come to an end.
 pub mod CutReads
+pub mod Staying
 pub mod Following
 pub mod Completing
 pub mod Ending

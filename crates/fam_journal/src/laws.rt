@@ -1,6 +1,6 @@
 //! Laws of journals, each with an empty body.
 
-ghost use Rattle.std.specs.Prelude.{◌≡◌, ◌≤◌, ◌++◌, true, ℕ, Some, None, List, [], ◌∷◌, length, slice_get, take};
+ghost use Rattle.std.specs.Prelude.{◌≡◌, ◌≤◌, ◌++◌, true, ℕ, Some, None, List, [], ◌∷◌, length, slice_get, slice_index, take};
 ghost use Rattle.fam_base.specs.declared.entry.Entry.{Entry};
 ghost use Rattle.fam_base.specs.Image.{Image};
 ghost use Rattle.fam_journal.specs.Calls.{busy_at, refusal_of, BreaksOff, Call, Completes, Does, Steps};
@@ -17,10 +17,12 @@ ghost use Rattle.fam_journal.specs.View.{HostView, WorldStands, WorldView, empty
 ghost use Rattle.fam_journal.specs.Kept.{Held, Reached, settled_of};
 ghost use Rattle.fam_journal.specs.ByWorld.{number_in, refusal_in, IsRow, TakesNoMedia, world_after};
 ghost use Rattle.fam_journal.specs.Laws.{AreSame, AreSound, IsFree, IsPrefix, NoneEnds, MaySayNext, IsImage, IsSettled, TaskAt, TwoAnswers, first_entries, history_at, second_entries, turn_at};
-ghost use Rattle.fam_journal.specs.Legal.{Legal, LegalBehind};
+ghost use Rattle.fam_journal.specs.Legal.{Legal, LegalBehind, cleared_report};
+ghost use Rattle.fam_rules.specs.Reports.{report_of};
+ghost use Rattle.fam_format.specs.Reading.{Lines};
 ghost use Rattle.fam_journal.specs.Machines.{Machines, notes_of, unused};
 ghost use Rattle.fam_journal.specs.Notes.{Note, Writes};
-ghost use Rattle.fam_journal.specs.Past.{Bad, Damage, Given, first_past, past_behind, past_of};
+ghost use Rattle.fam_journal.specs.Past.{Bad, Damage, Given, Origin, first_past, past_behind, past_of};
 ghost use Rattle.fam_journal.specs.declared.event.Ask.{Ask};
 ghost use Rattle.fam_journal.specs.declared.event.Event.{Event};
 ghost use Rattle.fam_journal.specs.Members.{changed_at};
@@ -71,12 +73,19 @@ pub fn a_row_keeps_what_is_held()
 {}
 
 /// While a world is held, the image reads as what its journal settles (`reads`). The image of a journal's damaged state
-/// is the one that was handed in, so a damaged image is left as it was (`bad`), until a mkfs's maker halts.
+/// is the one that was handed in, so a damaged image is left as it was (`bad`), until a mkfs's maker halts behind its
+/// first send. Behind that too memory stays, whatever a call does, until the next note that ends the history (`stays`);
+/// and the report of such an image is `cleared_report` (`reported`).
 pub fn a_held_image_reads_as_its_journal()
     ensures reads { (start : Image) (state : Machines) (world : WorldView) (image : Image)
         → Held start state world image → ReadsAs (past_of start world.journal).state image }
     ensures bad { (start image : Image) (damage : Damage) (gate : ℕ) (journal : List Note)
         → (past_of start journal).state ≡ Bad (Given image) damage gate → image ≡ start }
+    ensures stays { (start : Image) (state left : Machines) (world : WorldView) (call : Call) (notes : List Note)
+        (origin : Origin) (damage : Damage) (gate : ℕ) → Held start state world state.memory
+        → (past_of start world.journal).state ≡ Bad origin damage gate → Does call state notes left → NoneEnds notes
+        → left.memory ≡ state.memory }
+    ensures reported { (now : Lines) (have : ℕ) → slice_index (now 0) 0 ≡ 0 → report_of now have ≡ cleared_report }
 {}
 
 /// However the run of a script's events ends, its journal is legal. The image that is left reads as what the journal

@@ -31,6 +31,7 @@ use Rattle.fam_machine.specs.Operations.{Failure, Machine, line_no, load_ops, ma
 use Rattle.fam_machine.proofs.CacheLemmas.{cell_at-with_cell_same}
 use Rattle.fam_machine.proofs.Failing.{brought_fails, send_fails}
 use Rattle.fam_machine.proofs.LinePuts.{line_loaded, line_stored}
+use Rattle.fam_machine.proofs.NothingSent.{none_fails, sent_none}
 use Rattle.fam_machine.proofs.MkfsOps.{loaded_dirty, loaded_normal, put_one, read_in_turn, whole_put, whole_read}
 
 -- Where a row of operations is cut.
@@ -107,16 +108,6 @@ module _ (at : LineNo) (left : Machine) where
       ]
 
 -- The reading of lines that have nothing to send.
-
-sent_none : (w : List ℕ) (c : Cell) → (IsDirty c → ⊥) → sent w c ≡ w
-sent_none w Absent clean = refl
-sent_none w (Clean words) clean = refl
-sent_none w (Dirty a words) clean = absurd (clean refl)
-
-none_fails : (mask : ℕ) (w : List ℕ) (c : Cell) → (IsDirty c → ⊥) → failed_send mask w c ≡ None
-none_fails mask w Absent clean = refl
-none_fails mask w (Clean words) clean = refl
-none_fails mask w (Dirty a words) clean = absurd (clean refl)
 
 module _ (line : ℕ) (m : Machine) (normal : map eight m.image ≡ m.image) (clean : IsDirty (cell_at m.cache line) → ⊥) where
   -- the line is dropped without a send

@@ -8,6 +8,7 @@ pub mod Failing
 pub mod WideLines
 pub mod OneOperation
 pub mod MkfsOps
+pub mod NothingSent
 pub mod CutMkfs
 pub mod HaltedMkfs
 pub mod Slipping

@@ -120,7 +120,7 @@ module _ where
   note_bad x i d g (Umount h) other is = is
   note_bad x i d g (Refused name cause) other is = is
 
-  notes_bad : (notes : List Note) (x : Past) (i : Origin) (d : Rattle.fam_journal.specs.Past.Damage) (g : ℕ) → NoneEnds notes → x.state ≡ Bad i d g → (past_behind x notes).state ≡ Bad i d g
+  pub notes_bad : (notes : List Note) (x : Past) (i : Origin) (d : Rattle.fam_journal.specs.Past.Damage) (g : ℕ) → NoneEnds notes → x.state ≡ Bad i d g → (past_behind x notes).state ≡ Bad i d g
   notes_bad [] x i d g none is = is
   notes_bad (note ∷ notes) x i d g none is = notes_bad notes (past_after x note) i d g none.1 (note_bad x i d g note none.0 is)
 
