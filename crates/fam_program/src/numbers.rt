@@ -106,6 +106,7 @@ fn note_number(note: &Note) -> Option<NumberLine>
         Note::Refused { cause, .. } => cause_number(cause),
         Note::Host { .. } => None,
         Note::Made { .. } => None,
+        Note::Cut { .. } => None,
         Note::Start { .. } => None,
         Note::Mark { .. } => None,
         Note::Found { .. } => None,

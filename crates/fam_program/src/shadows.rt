@@ -68,6 +68,7 @@ fn tree_in(note: &Note) -> Option<(u64, &Tree)>
         Note::Answered { answer, .. } => answered_tree(answer),
         Note::Host { .. } => None,
         Note::Made { .. } => None,
+        Note::Cut { .. } => None,
         Note::Start { .. } => None,
         Note::Mark { .. } => None,
         Note::Found { .. } => None,

@@ -1,6 +1,6 @@
 //! Commands of their own: one host is declared and does what is asked of it, and the last note is put.
 
-ghost use Rattle.std.specs.Prelude.{◌≡◌, ◌≤◌, ◌∷◌, [], IfOk, Some};
+ghost use Rattle.std.specs.Prelude.{◌≡◌, ◌≤◌, ◌∷◌, [], IfOk, None, Some};
 ghost use Rattle.fam_base.specs.Commands.{mode_limit};
 ghost use Rattle.fam_grammar.specs.Scripts.{script_events};
 ghost use Rattle.fam_grammar.specs.Sound.{IsSoundAsk};
@@ -123,7 +123,8 @@ pub fn run_command<M: Media, S: Shelf, K: Sink>(
 }
 
 /// Makes a file system on a media, of which a host of this UUID is the master, and puts what was made, or why there is
-/// none. Where the media fails, that is put, and the image may have no file system.
+/// none. It is made as a whole: its maker doesn't halt. Where the media fails, that is put, and the image may have no file
+/// system.
 ///
 /// Where no memory is left, that is put alone; the file system may be made all the same.
 pub fn make_file_system<M: Media, S: Shelf, K: Sink>(
@@ -134,6 +135,7 @@ pub fn make_file_system<M: Media, S: Shelf, K: Sink>(
     shelf: &mut S,
     out: &mut K,
 ) -> Status
+    requires { request.halt ≡ None }
     ensures ends { TopEnds script_events storm (Some (Single me (Makes request))) (outside_of M.size M.state
         media.old media.new (change S.state shelf.old shelf.new)
         (change K.state out.old out.new)) result }

@@ -1,5 +1,5 @@
 -- So many operations of a host's task, one behind another, are steps of the world.
-use Rattle.std.proofs.Common.{◌≡◌, ℕ, suc, ◌+◌, ◌<◌, List, length, map, Bool, true, false, Option, Some, None, Result, Ok, Err, refl, ap, ap₂, sym, subst, ◌∙◌, arith, append-nil}
+use Rattle.std.proofs.Common.{◌≡◌, ℕ, ◌+◌, ◌<◌, List, length, map, Bool, true, false, Option, Some, None, Result, Ok, Err, refl, ap, ap₂, sym, subst, ◌∙◌, arith, append-nil}
 use Rattle.std.specs.Prelude.{IsErrOf, is_some, not, slice_get}
 use Rattle.fam_base.specs.Image.{Image, IsNormal}
 use Rattle.fam_base.specs.declared.line.OutOfMemory.{OutOfMemory}

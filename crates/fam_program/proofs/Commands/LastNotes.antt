@@ -17,8 +17,8 @@ use Rattle.fam_journal.specs.Events.{mounts}
 use Rattle.fam_journal.specs.Calls.{has_name, may_begin, number_of}
 use Rattle.fam_journal.specs.Ends.{is_answer_note}
 use Rattle.fam_journal.specs.EventForms.{FollowsForm, StartForm, UnfitNotes}
-use Rattle.fam_journal.specs.Forms.{ActsForm, AtForm, CompletesForm, DirtyForm, FormByRefusal, HostActsForm, HostForm, OfHostForm, OfRunning, OfTask, OperationsForm, TaskForm, TaskNote, forms_after, forms_behind, refusal_told, runs_form, shown_form, shown_forms}
-use Rattle.fam_journal.specs.Notes.{Note, Host, Made, Start, Mark, Found, Writes, Answered, Stop, Halt, Umount, Refused}
+use Rattle.fam_journal.specs.Forms.{ActsForm, AtForm, CompletesForm, DirtyForm, FormByRefusal, HostActsForm, HostForm, OfHostForm, OfRunning, OfTask, OperationsForm, TaskForm, TaskNote, forms_after, forms_behind, made_note, refusal_told, runs_form, shown_form, shown_forms}
+use Rattle.fam_journal.specs.Notes.{Note, Host, Made, Cut, Start, Mark, Found, Writes, Answered, Stop, Halt, Umount, Refused}
 use Rattle.fam_outcomes.specs.Programs.{ends_command, ends_mkfs, last_passes}
 use Rattle.fam_outcomes.specs.Statuses.{last_stops, note_stops}
 use Rattle.fam_machine.specs.Mkfs.{asked}
@@ -30,6 +30,7 @@ use Rattle.fam_events.proofs.Running.{step_runs}
 stops_end : (note : Note) → note_stops note ≡ true → ends_command note ≡ true
 stops_end (Host name uuid) h = cc
 stops_end (Made host p) h = cc
+stops_end (Cut host k) h = cc
 stops_end (Start host cmd) h = cc
 stops_end (Mark host) h = cc
 stops_end (Found host n) h = cc
@@ -65,6 +66,7 @@ of_runs (Some f) P x = by_task f.task x
 answer_ends : (note : Note) → not (is_answer_note note || false) ≡ false → ends_command note ≡ true
 answer_ends (Host name uuid) h = cc
 answer_ends (Made host p) h = cc
+answer_ends (Cut host k) h = cc
 answer_ends (Start host cmd) h = cc
 answer_ends (Mark host) h = cc
 answer_ends (Found host n) h = cc
@@ -135,11 +137,11 @@ host_end test name uuid lines journal refused stops f =
     subst (λ (ns : List Note). last_passes test ns ≡ true) (sym alone)
     (declared_end test name uuid f.0 (refusal_told (call.Declares name uuid) lines []) refused (subst (λ (ns : List Note). last_stops ns ≡ true) alone stops) f.2)
 
--- a file system is made, or there is a cause why not
-module _ (name : List ℕ) (request : MkfsRequest) (lines : ℕ) where
+-- a file system is made by a host that doesn't halt, or there is a cause why not
+module _ (name : List ℕ) (request : MkfsRequest) (lines : ℕ) (unhalted : request.halt ≡ None) where
   acts_end : (h : ℕ) (hosts : List HostForm) (notes : List Note) (o : Option HostForm) → OfHostForm o (λ host. ActsForm (call.Makes name request) h host lines hosts notes) → last_passes ends_mkfs notes ≡ true
   acts_end h hosts notes None x = absurd x
-  acts_end h hosts notes (Some host) (inl x) = only ends_mkfs (Made h (asked request host.uuid lines)) notes x refl
+  acts_end h hosts notes (Some host) (inl x) = only ends_mkfs (Made h (asked request host.uuid lines)) notes (x ∙ ap (λ (halt : Option ℕ). made_note halt h (asked request host.uuid lines) ∷ []) unhalted) refl
   acts_end h hosts notes (Some host) (inr x) = only ends_mkfs (Refused name (why.HasSuper x.fs)) notes x.notes_are refl
 
   at_end : (hosts : List HostForm) (notes : List Note) (o : Option ℕ) → AtForm o hosts (λ h host. ActsForm (call.Makes name request) h host lines hosts notes) → last_passes ends_mkfs notes ≡ true

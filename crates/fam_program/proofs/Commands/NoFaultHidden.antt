@@ -11,7 +11,7 @@ use Rattle.fam_journal.specs.declared.refusal.Refusal.TheVariants as why
 use Rattle.fam_journal.specs.Ends.{IsFaultless, cause_faults, faults_of, is_answer_note, note_faults}
 use Rattle.fam_journal.specs.EventForms.{EventPartForm}
 use Rattle.fam_journal.specs.Forms.{HostForm, OfRunning, OfTask, OperationsForm, TaskForm, TaskNote, forms_after, forms_behind, forms_of, runs_form}
-use Rattle.fam_journal.specs.Notes.{Note, Host, Made, Start, Mark, Found, Writes, Answered, Stop, Halt, Umount, Refused, Replied, MediaFault}
+use Rattle.fam_journal.specs.Notes.{Note, Host, Made, Cut, Start, Mark, Found, Writes, Answered, Stop, Halt, Umount, Refused, Replied, MediaFault}
 use Rattle.fam_outcomes.specs.Programs.{last_passes, without_last}
 use Rattle.fam_outcomes.specs.Statuses.{note_stops}
 use Rattle.fam_journal.proofs.Runs.Unique.{faults_both}
@@ -31,6 +31,7 @@ use Rattle.fam_program.proofs.Runs.Stops.{of_none, or_parts}
 go_faults : (note : Note) → note_stops note ≡ false → note_faults note ≡ 0
 go_faults (Host name uuid) is = refl
 go_faults (Made host p) is = refl
+go_faults (Cut host k) is = refl
 go_faults (Start host cmd) is = refl
 go_faults (Mark host) is = refl
 go_faults (Found host n) is = refl
@@ -65,6 +66,7 @@ long_cause why.NotMounted is = refl
 long_faults : (note : Note) → is_short note ≡ false → note_faults note ≡ 0
 long_faults (Host name uuid) is = refl
 long_faults (Made host p) is = refl
+long_faults (Cut host k) is = refl
 long_faults (Start host cmd) is = refl
 long_faults (Mark host) is = refl
 long_faults (Found host n) is = refl
@@ -80,6 +82,7 @@ long_faults (Refused name cause) is = long_cause cause is
 quiet_faults : (h : ℕ) (o : Option HostForm) (note : Note) → OfRunning o (λ me t. TaskNote h me t note) → is_answer_note note ≡ false → note_faults note ≡ 0
 quiet_faults h o (Host name uuid) x is = refl
 quiet_faults h o (Made host p) x is = refl
+quiet_faults h o (Cut host k) x is = refl
 quiet_faults h o (Start host cmd) x is = refl
 quiet_faults h o (Mark host) x is = refl
 quiet_faults h o (Found host n) x is = refl

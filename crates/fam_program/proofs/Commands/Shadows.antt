@@ -81,7 +81,7 @@ module _ (out : Outside) (shade : ShadeChange) (given : Status) (later : NoneFal
     pub logplayed_top : (ended : Result (Unit {0}) EventFault) → SparedRun logplay out (MayLack ended journal) → ShotEnded ended out (alone_events name me logplay) journal → ShotSays ended (last_status journal) journal out.sink given
         → OnOk ended (shown_tree journal ≡ None) → IsUntouched shade → ShadowTop (Some me) out shade given
     logplayed_top ended spared x says none untouched =
-        let run = shot_ran name me out journal given (shown_tree journal ≡ None) logplay ended spared x says none in
+        let run = shot_ran name me out journal given (shown_tree journal ≡ None) logplay tt ended spared x says none in
         record {
           text = run.text;
           own = run.own;

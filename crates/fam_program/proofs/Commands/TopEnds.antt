@@ -1,6 +1,6 @@
 -- Commands of their own, as the top call tells them.
 use Prim.Native.Nat.{zero, suc}
-use Rattle.std.proofs.Common.{◌≡◌, ◌⊎◌, ℕ, inl, inr, Bool, true, false, cond, List, [], ◌∷◌, length, take, Some, Result, Ok, Err, refl, ap, sym, ◌∙◌, subst, arith}
+use Rattle.std.proofs.Common.{◌≡◌, ◌⊎◌, ℕ, inl, inr, Bool, true, false, cond, List, [], ◌∷◌, length, take, Some, None, Result, Ok, Err, refl, ap, sym, ◌∙◌, subst, arith}
 use Rattle.std.specs.Prelude.{⊤, OnOk}
 use Rattle.std.proofs.lemmas.Bool.{false≢true}
 use Rattle.std.proofs.lemmas.List.{take_all}
@@ -21,7 +21,7 @@ use Rattle.fam_journal.specs.Ends.{AllDone, Ending, IsFaultless, EndsOutOfMemory
 use Rattle.fam_journal.specs.EventForms.{FollowsForm}
 use Rattle.fam_journal.specs.Follows.{SourceEnd}
 use Rattle.fam_journal.specs.Names.{NameDeclared}
-use Rattle.fam_journal.specs.Notes.{Answer, Replied, MediaFault, Note, Host, Made, Start, Mark, Found, Writes, Answered, Stop, Halt, Umount, Refused}
+use Rattle.fam_journal.specs.Notes.{Answer, Replied, MediaFault, Note, Host, Made, Cut, Start, Mark, Found, Writes, Answered, Stop, Halt, Umount, Refused}
 use Rattle.fam_outcomes.specs.Programs.{IsWholeRun, LeavesImage, Makes, MakesParents, OneShot, Runs, ShotPuts, Single, ShotRuns, SparesImage, TopEnds, done_status, ends_command, ends_mkfs, ends_shot, last_passes, memory_line, path_prefixes, shot_events, shot_status, source_line}
 use Rattle.fam_outcomes.specs.Runs.{EndsBroken, IsPut, NoneFalls, Outside}
 use Rattle.fam_outcomes.specs.Statuses.{answer_status, cause_status, is_checked_equal, last_status, last_stops, note_status, parents_status, reply_status, sound_status}
@@ -100,6 +100,7 @@ cause_told why.NotMounted = refl
 note_told : (note : Note) → is_lost (note_status note) ≡ false
 note_told (Host name uuid) = refl
 note_told (Made host p) = refl
+note_told (Cut host k) = refl
 note_told (Start host cmd) = refl
 note_told (Mark host) = refl
 note_told (Found host n) = refl
@@ -249,6 +250,12 @@ take_none : (k : ℕ) → take k no_events ≡ no_events
 take_none zero = refl
 take_none (suc k) = refl
 
+-- no maker halts
+abbrev pub IsUnhalted : OneShot → Type 0
+IsUnhalted (Makes request) = request.halt ≡ None
+IsUnhalted (Runs what) = ⊤
+IsUnhalted (MakesParents path attr) = ⊤
+
 module _ (name me : List ℕ) (out : Outside) (journal : List Note) where
   command_ends : (what : Ask) → HasStopped out (alone_events name me (Runs what)) journal → last_passes ends_command journal ≡ true
   command_ends what x = by_stop (last_stops journal) refl
@@ -259,7 +266,7 @@ module _ (name me : List ℕ) (out : Outside) (journal : List Note) where
           behind_first ends_command (event.Host name me) (event.Run name what ∷ []) out.lines [] journal (λ hosts notes f. runs_end name (λ (w : Ask). w) what [] out.lines hosts notes f)
           (subst (λ (es : List Event). FollowsForm out.lines es [] journal) (x.all is) x.ended.form)
 
-  module _ (request : MkfsRequest) where
+  module _ (request : MkfsRequest) (unhalted : request.halt ≡ None) where
     abbrev makes : OneShot
     makes = Makes request
 
@@ -280,13 +287,13 @@ module _ (name me : List ℕ) (out : Outside) (journal : List Note) where
         by_count zero is = absurd (none_done name me makes out journal x is)
         by_count (suc zero) is = by_stop (last_stops journal) refl is
         by_count (suc (suc k)) is =
-            behind_first ends_mkfs (event.Host name me) (event.Mkfs name request.fs request.unit request.log request.force request.halt ∷ []) out.lines [] journal (mkfs_end name request out.lines)
+            behind_first ends_mkfs (event.Host name me) (event.Mkfs name request.fs request.unit request.log request.force request.halt ∷ []) out.lines [] journal (mkfs_end name request out.lines unhalted)
             (subst (λ (es : List Event). FollowsForm out.lines (event.Host name me ∷ event.Mkfs name request.fs request.unit request.log request.force request.halt ∷ es) [] journal) (take_none k) (form_at (suc (suc k)) is))
 
-  shot_ends : (shot : OneShot) → HasStopped out (alone_events name me shot) journal → last_passes (ends_shot shot) journal ≡ true
-  shot_ends (Makes request) x = mkfs_ends request x
-  shot_ends (Runs what) x = command_ends what x
-  shot_ends (MakesParents path attr) x = parents_end name me path attr out journal x
+  shot_ends : (shot : OneShot) → IsUnhalted shot → HasStopped out (alone_events name me shot) journal → last_passes (ends_shot shot) journal ≡ true
+  shot_ends (Makes request) unhalted x = mkfs_ends request unhalted x
+  shot_ends (Runs what) unhalted x = command_ends what x
+  shot_ends (MakesParents path attr) unhalted x = parents_end name me path attr out journal x
 
   -- for the line of a fault no memory is wanted
   fault_short : {events : List Event} → EndsBroken events journal → last_passes is_short journal ≡ true
@@ -301,12 +308,12 @@ module _ (name me : List ℕ) (out : Outside) (journal : List Note) where
     broken (MakesParents path attr) x goes put = absurd (none_breaks name me (makes_one attr) (path_prefixes path) out journal x)
 
     -- by how the run has ended, and what was put then
-    pub shot_ran : (shot : OneShot) (ended_so : Result (Unit {0}) EventFault) → SparedRun shot out (MayLack ended_so journal) → ShotEnded ended_so out (alone_events name me shot) journal → ShotSays ended_so (done_status shot journal) journal out.sink given
+    pub shot_ran : (shot : OneShot) → IsUnhalted shot → (ended_so : Result (Unit {0}) EventFault) → SparedRun shot out (MayLack ended_so journal) → ShotEnded ended_so out (alone_events name me shot) journal → ShotSays ended_so (done_status shot journal) journal out.sink given
         → OnOk ended_so fact → Ran me shot out journal fact given
-    shot_ran shot (Ok x) spared stopped says known = done name me shot out journal given fact spared stopped (shot_ends shot stopped) says known
-    shot_ran shot (Err fault.MkfsFailed) spared x says known = broken shot x.0 x.1 says
-    shot_ran shot (Err (fault.SourceEnded end)) spared x says known = ended name me shot out journal given fact (lack_spares shot status.OutOfMemory out ⊤ spared tt) (end_of end) x.0 x.1 x.2 says
-    shot_ran shot (Err fault.OutOfMemory) spared x says known = wants name me shot out journal given fact (lack_spares shot status.OutOfMemory out ⊤ spared tt) x.0 x.1 x.2 says
+    shot_ran shot unhalted (Ok x) spared stopped says known = done name me shot out journal given fact spared stopped (shot_ends shot unhalted stopped) says known
+    shot_ran shot unhalted (Err fault.MkfsFailed) spared x says known = broken shot x.0 x.1 says
+    shot_ran shot unhalted (Err (fault.SourceEnded end)) spared x says known = ended name me shot out journal given fact (lack_spares shot status.OutOfMemory out ⊤ spared tt) (end_of end) x.0 x.1 x.2 says
+    shot_ran shot unhalted (Err fault.OutOfMemory) spared x says known = wants name me shot out journal given fact (lack_spares shot status.OutOfMemory out ⊤ spared tt) x.0 x.1 x.2 says
 
 nothing_known : (ended_so : Result (Unit {0}) EventFault) → OnOk ended_so ⊤
 nothing_known (Ok x) = tt
@@ -314,9 +321,9 @@ nothing_known (Err fault) = tt
 
 module _ (name me : List ℕ) (out : Outside) (journal : List Note) (given : Status) (later : NoneFalls out) where
   -- as the top call tells it
-  pub shot_top : (shot : OneShot) (ended_so : Result (Unit {0}) EventFault) → SparedRun shot out (MayLack ended_so journal) → ShotEnded ended_so out (alone_events name me shot) journal → ShotSays ended_so (done_status shot journal) journal out.sink given → TopEnds script_events storm (Some (Single me shot)) out given
-  shot_top shot ended_so spared x says =
-      let run = shot_ran name me out journal given ⊤ shot ended_so spared x says (nothing_known ended_so) in
+  pub shot_top : (shot : OneShot) → IsUnhalted shot → (ended_so : Result (Unit {0}) EventFault) → SparedRun shot out (MayLack ended_so journal) → ShotEnded ended_so out (alone_events name me shot) journal → ShotSays ended_so (done_status shot journal) journal out.sink given → TopEnds script_events storm (Some (Single me shot)) out given
+  shot_top shot unhalted ended_so spared x says =
+      let run = shot_ran name me out journal given ⊤ shot unhalted ended_so spared x says (nothing_known ended_so) in
       record { text = run.text; own = run.own; shows = inr run.runs; later = later; put = run.put }
 
 -- the notes of a run name hosts that were declared before them

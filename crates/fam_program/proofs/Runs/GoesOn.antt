@@ -11,7 +11,7 @@ use Rattle.fam_journal.specs.Forms.{HostForm, HostFormed, IsFormed, forms_after,
 use Rattle.fam_journal.specs.Laws.{IsImage}
 use Rattle.fam_journal.specs.Members.{changed_at}
 use Rattle.fam_journal.specs.Names.{AreNamed}
-use Rattle.fam_journal.specs.Notes.{Note, Host, Made, Start, Mark, Found, Writes, Answered, Stop, Halt, Umount, Refused}
+use Rattle.fam_journal.specs.Notes.{Note, Host, Made, Cut, Start, Mark, Found, Writes, Answered, Stop, Halt, Umount, Refused}
 use Rattle.fam_outcomes.specs.Texts.{names_after, names_behind}
 use Rattle.fam_journal.specs.View.{WorldView, empty_world}
 use Rattle.fam_journal.proofs.Forms.Pairs.{pairs_length}
@@ -54,6 +54,7 @@ after_count hosts names (Host name uuid) same =
     let b = Rattle.std.proofs.lemmas.List.length-append names (name ∷ []) in
     omega (arith, a, b, same)
 after_count hosts names (Made host p) same = same
+after_count hosts names (Cut host k) same = same
 after_count hosts names (Start host cmd) same = changed_length host _ hosts ∙ same
 after_count hosts names (Mark host) same = changed_length host _ hosts ∙ same
 after_count hosts names (Found host n) same = changed_length host _ hosts ∙ same

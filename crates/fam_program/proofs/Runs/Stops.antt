@@ -15,9 +15,9 @@ use Rattle.fam_journal.specs.Calls as call
 use Rattle.fam_journal.specs.Events.{mounts}
 use Rattle.fam_journal.specs.Calls.{may_begin, number_of}
 use Rattle.fam_journal.specs.EventForms.{EventBreaksForm, EventForm, EventPartForm, StartForm, UnfitNotes}
-use Rattle.fam_journal.specs.Forms.{ActsForm, AnswerForm, AtForm, CompletesForm, DirtyForm, FormByRefusal, HostActsForm, HostForm, OfHostForm, OfRunning, OfTask, OperationsForm, UnfinishedForm, TaskForm, TaskNote, forms_after, keeps_behind, refusal_told, shown_forms}
+use Rattle.fam_journal.specs.Forms.{ActsForm, AnswerForm, AtForm, CompletesForm, DirtyForm, FormByRefusal, HostActsForm, HostForm, OfHostForm, OfRunning, OfTask, OperationsForm, UnfinishedForm, TaskForm, TaskNote, forms_after, keeps_behind, made_note, refusal_told, shown_forms}
 use Rattle.fam_journal.specs.Members.{changed_at}
-use Rattle.fam_journal.specs.Notes.{Answer, Note, Host, Made, Start, Mark, Found, Writes, Answered, Stop, Halt, Umount, Refused}
+use Rattle.fam_journal.specs.Notes.{Answer, Note, Host, Made, Cut, Start, Mark, Found, Writes, Answered, Stop, Halt, Umount, Refused}
 use Rattle.fam_outcomes.specs.Programs.{without_last}
 use Rattle.fam_outcomes.specs.Statuses.{last_stops, note_stops}
 use Rattle.fam_journal.proofs.Calls.Members.{changed_here}
@@ -64,6 +64,7 @@ not_answered answer h host hosts P same x =
 goes_behind : (h : ℕ) (hosts : List HostForm) (note next : Note) → OfRunning (slice_get hosts h) (λ me t. TaskNote h me t note) → OfRunning (slice_get (forms_after hosts note) h) (λ me t. TaskNote h me t next) → note_stops note ≡ false
 goes_behind h hosts (Host name uuid) next x y = refl
 goes_behind h hosts (Made host p) next x y = refl
+goes_behind h hosts (Cut host k) next x y = refl
 goes_behind h hosts (Start host cmd) next x y = refl
 goes_behind h hosts (Mark host) next x y = refl
 goes_behind h hosts (Found host n) next x y = refl
@@ -106,7 +107,7 @@ declared name uuid notes (Some cause) x = alone (Refused name cause) notes x
 module _ (name : List ℕ) (request : MkfsRequest) (lines : ℕ) (hosts : List HostForm) (notes : List Note) where
   acts : (h : ℕ) (o : Option HostForm) → OfHostForm o (λ host. ActsForm (call.Makes name request) h host lines hosts notes) → GoesOn notes
   acts h None x = absurd x
-  acts h (Some host) (inl x) = alone (Made h (asked request host.uuid lines)) notes x
+  acts h (Some host) (inl x) = alone (made_note request.halt h (asked request host.uuid lines)) notes x
   acts h (Some host) (inr x) = alone (Refused name (why.HasSuper x.fs)) notes x.notes_are
 
   acts_at : (o : Option ℕ) → AtForm o hosts (λ h host. ActsForm (call.Makes name request) h host lines hosts notes) → GoesOn notes

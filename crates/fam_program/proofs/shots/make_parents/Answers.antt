@@ -45,6 +45,6 @@ returns-clause-ends g c =
     let journal : List Note = c.run_until_stop-ended.new.world.journal in
     let shot : OneShot = MakesParents c.args.path.now c.args.attr in
     let done : c.parents_status-done.result ≡ parents_status journal = c.parents_status-done.ensures ∙ ap parents_status c.journal.ensures in
-    shot_top c.own_name.result c.args.me out journal c.put_end.result later shot c.run_until_stop-ended.result tt
+    shot_top c.own_name.result c.args.me out journal c.put_end.result later shot tt c.run_until_stop-ended.result tt
     (subst (λ (es : List Event). ShotEnded c.run_until_stop-ended.result out es journal) c.in-Ok.ensures (c.run_until_stop-ended.ensures.ended sink))
     (subst (λ (s : Status). ShotSays c.run_until_stop-ended.result s journal sink c.put_end.result) done c.put_end.ensures.says)
