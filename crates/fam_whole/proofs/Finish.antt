@@ -6,6 +6,7 @@ use Rattle.fam_base.specs.declared.cmd.Cmd.{Cmd}
 use Rattle.fam_base.specs.declared.entry.Entry.{Entry}
 use Rattle.fam_base.specs.declared.entry.Params.{Params}
 use Rattle.fam_base.specs.Image.{Image, eight, line_at}
+use Rattle.fam_format.specs.declared.faults.SuperFault.TheVariants as super
 use Rattle.fam_format.specs.Layout.{device_limit, least_lines}
 use Rattle.fam_format.specs.Reading as read
 use Rattle.fam_format.specs.Reading.{Reading, reading}
@@ -23,14 +24,15 @@ use Rattle.fam_protocol.specs.Invariant.{KeepsFront, settled_at_first}
 use Rattle.fam_protocol.specs.Tasks.{IsCommand}
 use Rattle.fam_solo.proofs.SoloLaws.{solo}
 use Rattle.fam_protocol.proofs.Hosts.Begins.{held_back}
+use Rattle.fam_journal.specs.declared.event.Event.{Event}
 use Rattle.fam_journal.specs.Legal.{AnswerAllowed, AppendedAllowed, OfHost, ReplyAllowed}
 use Rattle.fam_journal.specs.Machines.{HostState, Machines}
 use Rattle.fam_journal.specs.Notes.{Answered, Note, Replied}
-use Rattle.fam_journal.specs.Past.{HostPast, Past, State, Bad, Sound, acknowledges, first_past, first_state, past_behind, past_of, replied, state_read}
+use Rattle.fam_journal.specs.Past.{HostPast, Past, State, Bad, Given, Halted, Sound, acknowledges, first_past, past_behind, past_of, replied, settled_length, state_read}
 use Rattle.fam_journal.proofs.Settled.BadStates.{first_read}
 use Rattle.fam_journal.proofs.Settled.Journals.{past_both}
 use Rattle.fam_journal.proofs.Settled.Settles.{acknowledged}
-use Rattle.fam_whole.specs.Whole.{AreWholeNotes, IsByRules, HasNothingPending, IsWholeReply, acknowledged_image, image_behind, replied_image}
+use Rattle.fam_whole.specs.Whole.{AreWholeNotes, IsByRules, IsStateOf, HasNothingPending, IsWholeReply, acknowledged_image, image_behind, replied_image}
 use Rattle.fam_whole.proofs.Folds.{image_both, replied_sure, whole_both}
 use Rattle.fam_whole.proofs.Replies.{Appends, appends, appends_or, whole_reply}
 use Rattle.fam_whole.proofs.Running.{Ended, On, OnLate}
@@ -71,15 +73,15 @@ sound_read image p history (read.Sound q entries) is = (entries, sym (ap (λ (z 
     same_history = cc
 
 -- what the command comes to
-pub record Finished (base : Machines) (x : Past) (notes : List Note) (new : Machines) (left : Machine) : Type 0 where
-  pub image : new.memory ≡ image_behind x base.memory notes
-  pub whole : AreWholeNotes x base.memory notes
+pub record Finished (ev : Event) (base : Machines) (x : Past) (notes : List Note) (new : Machines) (left : Machine) : Type 0 where
+  pub image : new.memory ≡ image_behind ev x base.memory notes
+  pub whole : AreWholeNotes ev x base.memory notes
   pub sure : HasNothingPending (past_behind x notes).state
   pub clean : IsClean left.cache
 
-module _ (start : Image) (h : ℕ) (base : Machines) (host : HostState) (host_is : slice_get base.hosts h ≡ Some host) (joined : IsKept host.kept) (cmd : Cmd) (journal : List Note) (sure : HasNothingPending (past_of start journal).state)
-    (settled : (past_of start journal).state ≡ first_state base.memory) (enough : least_lines ≤ length base.memory) (limit : line_bytes * length base.memory ≤ device_limit) (normal : map eight base.memory ≡ base.memory) (clean : IsClean host.cache) (command : IsCommand cmd) (front : KeepsFront (settled_at_first base.memory) host.kept)
-    (new : Machines) (notes : List Note) (end : Ended start h base host host_is joined cmd journal sure new notes) where
+module _ (ev : Event) (start : Image) (h : ℕ) (base : Machines) (host : HostState) (host_is : slice_get base.hosts h ≡ Some host) (joined : IsKept host.kept) (cmd : Cmd) (journal : List Note) (sure : HasNothingPending (past_of start journal).state)
+    (settled : IsStateOf (past_of start journal).state base.memory) (enough : least_lines ≤ length base.memory) (limit : line_bytes * length base.memory ≤ device_limit) (normal : map eight base.memory ≡ base.memory) (clean : IsClean host.cache) (command : IsCommand cmd) (front : KeepsFront (settled_at_first base.memory) host.kept)
+    (new : Machines) (notes : List Note) (end : Ended ev start h base host host_is joined cmd journal sure new notes) where
   abbrev image : Image
   image = base.memory
 
@@ -95,8 +97,27 @@ module _ (start : Image) (h : ℕ) (base : Machines) (host : HostState) (host_is
   abbrev left : Machine
   left = operated (op_of end.t) end.m
 
-  read_is : x.state ≡ state_read image (reading image)
-  read_is = settled ∙ first_read image enough
+  -- so many entries are settled as the image reads
+  settled_same : settled_length x.state ≡ settled_length (state_read image (reading image))
+  settled_same = by_state x.state settled
+    where
+      by_state : (z : State) → IsStateOf z image → settled_length z ≡ settled_length (state_read image (reading image))
+      by_state (Bad (Given own) damage gate) is = ap settled_length (is ∙ first_read image enough)
+      by_state (Bad Halted damage gate) is = sym (ap (λ (r : Reading). settled_length (state_read image r)) is.1)
+      by_state (Sound p history pending) is = ap settled_length (is ∙ first_read image enough)
+
+  -- a sound state is what the image reads as
+  sound_was : (p : Params) (history : List File) → x.state ≡ Sound p history None → Sound p history None ≡ state_read image (reading image)
+  sound_was p history was = subst (λ (z : State). IsStateOf z image) was settled ∙ first_read image enough
+
+  -- and so is the state of an image that reads as sound
+  sound_now : (p : Params) (entries : List Entry) → reading image ≡ read.Sound p entries → x.state ≡ state_read image (read.Sound p entries)
+  sound_now p entries sound = by_state x.state settled
+    where
+      by_state : (z : State) → IsStateOf z image → z ≡ state_read image (read.Sound p entries)
+      by_state (Bad (Given own) damage gate) is = is ∙ first_read image enough ∙ ap (state_read image) sound
+      by_state (Bad Halted damage gate) is = absurd (let other : read.NoSuperblock (super.NoSuper 0) ≡ read.Sound p entries = sym is.1 ∙ sound in cc)
+      by_state (Sound q history pending) is = is ∙ first_read image enough ∙ ap (state_read image) sound
 
   pub reply_is : end.reply ≡ solo_reply image me cmd
   reply_is = (solo host.kept joined image me cmd host.cache end.t end.words end.made end.m end.reply enough limit normal clean command front end.ran end.inside end.ends).0.answer
@@ -113,15 +134,15 @@ module _ (start : Image) (h : ℕ) (base : Machines) (host : HostState) (host_is
     reply_whole : IsWholeReply end.reply y.state image
     sure_then : HasNothingPending (replied end.reply y.state)
 
-  says_late : OnLate start h base host host_is joined cmd journal sure end.t y → Says
+  says_late : OnLate ev start h base host host_is joined cmd journal sure end.t y → Says
   says_late late =
-      let said = sound_read image late.p late.history (reading image) (sym late.was ∙ read_is) in
+      let said = sound_read image late.p late.history (reading image) (sound_was late.p late.history late.was) in
       let decides : decide late.p me said.0 cmd ≡ Some (Ok late.e) =
       ap (λ (es : List Entry). decide late.p me es cmd) (sym (ap entries_of said.2 ∙ held_back (line_at image) said.0)) ∙ late.decided in
       let a = appends image me cmd late.p said.0 late.e said.1 decides in
       by_appends said.0 said.2 (solo_reply image me cmd) refl a late said.1 decides
     where
-      by_appends : (entries : List Entry) → late.history ≡ map (held_file (line_at image)) entries → (given : Reply) → solo_reply image me cmd ≡ given → Appends image me cmd → OnLate start h base host host_is joined cmd journal sure end.t y → reading image ≡ read.Sound late.p entries → decide late.p me entries cmd ≡ Some (Ok late.e) → Says
+      by_appends : (entries : List Entry) → late.history ≡ map (held_file (line_at image)) entries → (given : Reply) → solo_reply image me cmd ≡ given → Appends image me cmd → OnLate ev start h base host host_is joined cmd journal sure end.t y → reading image ≡ read.Sound late.p entries → decide late.p me entries cmd ≡ Some (Ok late.e) → Says
       by_appends entries history_is given given_is a late' sound decides =
           let sounds : read.Sound a.p a.entries ≡ read.Sound late.p entries = sym a.sound ∙ sound in
           let params : a.p ≡ late.p = cc in
@@ -146,7 +167,7 @@ module _ (start : Image) (h : ℕ) (base : Machines) (host : HostState) (host_is
   says_early same = elim (appends_or image me cmd) [
     | inl stays ↦ record {
       image_same = left_is ∙ stays ∙ sym (ap (λ (z : State). replied_image image z end.reply) same ∙ replied_same image x.state end.reply sure);
-      reply_whole = subst (λ (z : State). IsWholeReply end.reply z image) (sym same) (subst (λ (r : Reply). IsWholeReply r x.state image) (sym reply_is) (whole_reply image x.state me cmd read_is));
+      reply_whole = subst (λ (z : State). IsWholeReply end.reply z image) (sym same) (subst (λ (r : Reply). IsWholeReply r x.state image) (sym reply_is) (whole_reply image x.state me cmd settled_same));
       sure_then = subst HasNothingPending (sym (ap (replied end.reply) same ∙ replied_sure end.reply x.state sure)) sure;
     }
     | inr a ↦ absurd (not_written a same)
@@ -155,7 +176,7 @@ module _ (start : Image) (h : ℕ) (base : Machines) (host : HostState) (host_is
       not_written : Appends image me cmd → y.state ≡ x.state → ⊥
       not_written a same =
           let reply : end.reply ≡ Appended (length a.entries) = reply_is ∙ a.answer in
-          let state : y.state ≡ Sound a.p (map (held_file (line_at image)) a.entries) None = same ∙ read_is ∙ ap (state_read image) a.sound in
+          let state : y.state ≡ Sound a.p (map (held_file (line_at image)) a.entries) None = same ∙ sound_now a.p a.entries a.sound in
           let told : ReplyAllowed end.reply end.told y.state = subst (λ (o : Option HostPast). OfHost o (λ host. AnswerAllowed (Replied end.reply) host y.state)) end.told_is end.legal in
           let allowed : AppendedAllowed (length a.entries) end.told (acknowledges (length a.entries) (Sound a.p (map (held_file (line_at image)) a.entries) None)) =
           subst (λ (z : State). ReplyAllowed (Appended (length a.entries)) end.told z) state (subst (λ (r : Reply). ReplyAllowed r end.told y.state) reply told) in
@@ -166,7 +187,7 @@ module _ (start : Image) (h : ℕ) (base : Machines) (host : HostState) (host_is
   says : Says
   says = by_on end.on
     where
-      by_on : On start h base host host_is joined cmd journal sure end.t y → Says
+      by_on : On ev start h base host host_is joined cmd journal sure end.t y → Says
       by_on (inl same) = says_early same
       by_on (inr late) = says_late late
 
@@ -181,15 +202,15 @@ module _ (start : Image) (h : ℕ) (base : Machines) (host : HostState) (host_is
   abbrev answer : List Note
   answer = Answered h (Replied end.reply) ∷ []
 
-  pub finished : Finished base x notes new left
-  finished = subst (λ (z : List Note). Finished base x z new left) (sym end.notes_are) record {
+  pub finished : Finished ev base x notes new left
+  finished = subst (λ (z : List Note). Finished ev base x z new left) (sym end.notes_are) record {
     image = says.image_same
-        ∙ sym (image_both x image end.before answer
-        ∙ ap (λ (i : Image). image_behind (past_behind x end.before) i answer) end.same
-        ∙ ap (λ (w : Past). image_behind w image answer) (sym past_before));
-    whole = whole_both x image end.before answer end.whole
-        (subst (λ (i : Image). AreWholeNotes (past_behind x end.before) i answer) (sym end.same)
-        (subst (λ (w : Past). AreWholeNotes w image answer) past_before ((says.reply_whole, by_rules), tt)));
+        ∙ sym (image_both ev x image end.before answer
+        ∙ ap (λ (i : Image). image_behind ev (past_behind x end.before) i answer) end.same
+        ∙ ap (λ (w : Past). image_behind ev w image answer) (sym past_before));
+    whole = whole_both ev x image end.before answer end.whole
+        (subst (λ (i : Image). AreWholeNotes ev (past_behind x end.before) i answer) (sym end.same)
+        (subst (λ (w : Past). AreWholeNotes ev w image answer) past_before ((says.reply_whole, by_rules), tt)));
     sure = subst (λ (w : Past). HasNothingPending w.state) (sym (past_both x end.before answer)) (subst (λ (w : Past). HasNothingPending (past_behind w answer).state) past_before says.sure_then);
     clean = left_clean;
   }

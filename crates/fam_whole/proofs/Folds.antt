@@ -3,25 +3,28 @@ use Rattle.std.proofs.Common.{◌≡◌, ℕ, ◌+◌, Bool, true, false, List, 
 use Rattle.std.specs.Prelude.{◌==◌, nat_lt, if◌then◌else◌}
 use Rattle.std.proofs.lemmas.List.{append_assoc}
 use Rattle.fam_base.specs.Image.{Image}
+use Rattle.fam_format.specs.declared.faults.SuperFault.TheVariants as super
 use Rattle.fam_format.specs.Layout.{least_lines}
 use Rattle.fam_format.specs.Reading as read
 use Rattle.fam_format.specs.Reading.{Reading, reading}
 use Rattle.fam_rules.specs.Reply.{Reply}
 use Rattle.fam_commands.specs.Solo.{noted}
 use Rattle.fam_commands.specs.Table as row
+use Rattle.fam_journal.specs.declared.event.Event.{Event}
 use Rattle.fam_journal.specs.Machines.{notes_of}
 use Rattle.fam_journal.specs.Notes.{Note}
-use Rattle.fam_journal.specs.Past.{FewLines, Past, State, Bad, Sound, acknowledges, finds, first_state, past_after, past_behind, replied, shows, state_read, Given}
+use Rattle.fam_machine.specs.Mkfs.{first_sent}
+use Rattle.fam_journal.specs.Past.{FewLines, Past, State, Bad, Sound, acknowledges, finds, first_state, halted, past_after, past_behind, replied, shows, state_read, Given, Halted, NoSuperblock}
 use Rattle.fam_journal.proofs.Settled.ReplyCases.{replied_by}
 use Rattle.fam_whole.specs.Whole.{AreWholeNotes, HasNothingPending, image_after, image_behind}
 
-pub image_both : (x : Past) (image : Image) (a b : List Note) → image_behind x image (a ++ b) ≡ image_behind (past_behind x a) (image_behind x image a) b
-image_both x image [] b = refl
-image_both x image (note ∷ a) b = image_both (past_after x note) (image_after x image note) a b
+pub image_both : (e : Event) (x : Past) (image : Image) (a b : List Note) → image_behind e x image (a ++ b) ≡ image_behind e (past_behind x a) (image_behind e x image a) b
+image_both e x image [] b = refl
+image_both e x image (note ∷ a) b = image_both e (past_after x note) (image_after e x image note) a b
 
-pub whole_both : (x : Past) (image : Image) (a b : List Note) → AreWholeNotes x image a → AreWholeNotes (past_behind x a) (image_behind x image a) b → AreWholeNotes x image (a ++ b)
-whole_both x image [] b first second = second
-whole_both x image (note ∷ a) b first second = (first.0, whole_both (past_after x note) (image_after x image note) a b first.1 second)
+pub whole_both : (e : Event) (x : Past) (image : Image) (a b : List Note) → AreWholeNotes e x image a → AreWholeNotes e (past_behind x a) (image_behind e x image a) b → AreWholeNotes e x image (a ++ b)
+whole_both e x image [] b first second = second
+whole_both e x image (note ∷ a) b first second = (first.0, whole_both e (past_after x note) (image_after e x image note) a b first.1 second)
 
 -- what is noted of a command's notes
 abbrev pub all_noted : ℕ → List row.RowNote → List Note
@@ -64,6 +67,14 @@ acknowledges_sure seq (Sound p history (Some f)) sure = absurd cc
 
 pub replied_sure : (given : Reply) (s : State) → HasNothingPending s → replied given s ≡ s
 replied_sure = replied_by (λ f. (s : State) → HasNothingPending s → f s ≡ s) (λ s sure. refl) shows_sure acknowledges_sure
+
+-- behind a maker that halted nothing is pending that wasn't before
+pub halted_sure : (k : ℕ) (s : State) → HasNothingPending s → HasNothingPending (halted k s)
+halted_sure k s sure = go (nat_lt k first_sent)
+  where
+    go : (early : Bool) → HasNothingPending (if early then s else Bad Halted (NoSuperblock (super.NoSuper 0)) 0)
+    go true = sure
+    go false = tt
 
 -- an image says of nothing that it is pending
 read_sure : (image : Image) (r : Reading) → HasNothingPending (state_read image r)

@@ -23,7 +23,7 @@ use Rattle.fam_journal.proofs.Runs.Unique.{clean_prefix, faults_both}
 use Rattle.fam_whole.specs.Whole.{AreWhole, EndsFront, EndsNone, FaultsNext, FrontRun, IsExact, UpToFault, WholeRun}
 use Rattle.fam_whole.proofs.Exact.{exact}
 use Rattle.fam_whole.specs.Alone.{ShotFront}
-use Rattle.fam_whole.proofs.Shots.{IsSoundShot, IsWholeShot, shot_events_sound, shot_events_whole, sound_take, whole_take}
+use Rattle.fam_whole.proofs.Shots.{IsSoundShot, shot_events_sound, shot_events_whole, sound_take, whole_take}
 
 take_all : (events : List Event) → take (length events) events ≡ events
 take_all [] = refl
@@ -134,9 +134,9 @@ program_front out media grammar storms name files bytes events told holds reads 
     by_shows (inr x) = inr (runs x)
 
 -- so it is of a command of its own
-pub shot_front : (out : Outside) → (HasRisen out.media.old.faults out.media.new.faults → ⊥) → (grammar : Grammar) (storms : Storms) (me : List ℕ) (shot : OneShot) (files : Files) → out.shelf.old.files ≡ Some files → (start : Image) → out.media.old.image ≡ Some start → IsImage start → IsUuid me → IsSoundShot shot → IsWholeShot shot
+pub shot_front : (out : Outside) → (HasRisen out.media.old.faults out.media.new.faults → ⊥) → (grammar : Grammar) (storms : Storms) (me : List ℕ) (shot : OneShot) (files : Files) → out.shelf.old.files ≡ Some files → (start : Image) → out.media.old.image ≡ Some start → IsImage start → IsUuid me → IsSoundShot shot
     → (given : Status) → TopEnds grammar storms (Some (Single me shot)) out given → EndsNone grammar storms (Some (Single me shot)) out given ⊎ ShotFront files start me shot out given
-shot_front out media grammar storms me shot files told start told_start image me_sound shot_is shot_whole given top = by_shows top.shows
+shot_front out media grammar storms me shot files told start told_start image me_sound shot_is given top = by_shows top.shows
   where
     runs : ShotRuns me shot out top.text top.own → ShotFront files start me shot out given
     runs x =
@@ -147,7 +147,7 @@ shot_front out media grammar storms me shot files told start told_start image me
           journal = x.run.journal;
           steps = steps;
           front =
-              left_by out media files start image x.events (shot_events_sound me shot me_sound shot_is x.events x.run.journal steps) (shot_events_whole me shot shot_whole x.events x.run.journal steps) x.run.journal
+              left_by out media files start image x.events (shot_events_sound me shot me_sound shot_is x.events x.run.journal steps) (shot_events_whole me shot x.events x.run.journal steps) x.run.journal
               (none_told out media x.run.journal x.run.counted) x.ending x.run.caused (x.run.told start told_start files told);
           text = top.text;
           shows = x.run.text_is.1;

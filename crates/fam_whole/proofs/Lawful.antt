@@ -1,14 +1,13 @@
 -- Whatever a call of the program runs keeps the laws of runs.
-use Rattle.std.proofs.Common.{◌≡◌, ◌⊎◌, inl, inr, ℕ, List, Option, Some, None, option_map, IfSome, refl, subst, Ok}
-use Rattle.std.specs.Prelude.{Bool, true, false}
+use Rattle.std.proofs.Common.{◌≡◌, ◌⊎◌, inl, inr, ℕ, List, Option, Some, None, option_map, IfSome, subst}
+use Rattle.std.specs.Prelude.{true, false}
 use Rattle.fam_base.specs.Image.{Image}
 use Rattle.fam_media.specs.Files.{Files}
 use Rattle.fam_grammar.specs.Scripts.{script_events}
 use Rattle.fam_grammar.proofs.UuidLaw.{script_uuids}
 use Rattle.fam_journal.specs.declared.event.Event.{Event}
 use Rattle.fam_journal.specs.Complete.{AreRuled}
-use Rattle.fam_journal.specs.Ends.{AllDone, Ending, EventsDone}
-use Rattle.fam_journal.specs.Events.{first_session}
+use Rattle.fam_journal.specs.Ends.{AllDone, Ending}
 use Rattle.fam_journal.specs.Laws.{AreSound, IsImage}
 use Rattle.fam_journal.specs.Notes.{Note}
 use Rattle.fam_journal.specs.Past.{first_past}
@@ -16,7 +15,7 @@ use Rattle.fam_journal.proofs.Runs.Completing.{all_ruled}
 use Rattle.fam_journal.proofs.Runs.Following.{run_settled}
 use Rattle.fam_outcomes.specs.declared.status.Status.{Status}
 use Rattle.fam_outcomes.specs.Programs.{Command, CommandRuns, EndsEarly, Makes, MakesParents, OneShot, Runs, Script, Single, Storm}
-use Rattle.fam_outcomes.specs.Runs.{HasRun, NoneRose, Outside, RunsOn}
+use Rattle.fam_outcomes.specs.Runs.{HasRun, Outside, RunsOn}
 use Rattle.fam_outcomes.proofs.Faultless.{run_complete}
 use Rattle.fam_storm.specs.Storm.{storm}
 use Rattle.fam_words.specs.declared.wanted.Invocation.{Invocation}

@@ -118,14 +118,14 @@ module _ (image : Image) (state : State) where
   whole_sound entries cmd (Some d) count = whole_appended (length entries) d
   whole_sound entries cmd None count = whole_asked entries cmd (ask (map (held_file memory) entries) cmd) refl count
 
-  whole_read : (me : List ℕ) (cmd : Cmd) (r : Reading) → state ≡ state_read image r → IsWholeReply (reading_reply memory have me cmd r) state image
+  whole_read : (me : List ℕ) (cmd : Cmd) (r : Reading) → settled_length state ≡ settled_length (state_read image r) → IsWholeReply (reading_reply memory have me cmd r) state image
   whole_read me cmd (read.NoSuperblock fault) is = λ m e. absurd cc
   whole_read me cmd (read.BadHeader fault) is = λ m e. absurd cc
   whole_read me cmd (read.BadSlot i reason) is = λ m e. absurd cc
-  whole_read me cmd (read.Sound p entries) is = whole_sound entries cmd (decide p me entries cmd) (ap settled_length is)
+  whole_read me cmd (read.Sound p entries) is = whole_sound entries cmd (decide p me entries cmd) is
 
   -- what the rules answer is of all that the image settles
-  pub whole_reply : (me : List ℕ) (cmd : Cmd) → state ≡ state_read image (reading image) → IsWholeReply (solo_reply image me cmd) state image
+  pub whole_reply : (me : List ℕ) (cmd : Cmd) → settled_length state ≡ settled_length (state_read image (reading image)) → IsWholeReply (solo_reply image me cmd) state image
   unfolding solo_reply
   whole_reply me cmd is = by_cmd cmd
     where

@@ -1,15 +1,19 @@
 -- Between whole commands what is settled is what the image reads as.
 use Rattle.std.proofs.Common.{◌≡◌, ℕ, ◌*◌, ◌≤◌, Bool, true, false, List, length, Option, Some, None, refl, ap, sym, ◌∙◌, subst, arith}
-use Rattle.std.specs.Prelude.{slice_get}
+use Rattle.std.specs.Prelude.{nat_lt, if◌then◌else◌, slice_get}
 use Rattle.std.proofs.lemmas.Bool.Decides.{Decides-eqb}
 use Rattle.std.proofs.lemmas.Option.{same_Some}
 use Rattle.std.specs.Cmp.Lexicographic.{pointwise_decides}
 use Rattle.fam_base.specs.declared.entry.Params.{Params}
 use Rattle.fam_base.specs.Image.{Image, line_at}
 use Rattle.fam_base.specs.PathOrder.{path_eq}
-use Rattle.fam_format.specs.Layout.{device_limit}
+use Rattle.fam_format.specs.declared.faults.SuperFault.{SuperFault}
+use Rattle.fam_format.specs.declared.faults.SuperFault.TheVariants as super
+use Rattle.fam_format.specs.Layout.{device_limit, least_lines}
+use Rattle.fam_format.specs.Reading as read
+use Rattle.fam_format.specs.Reading.{Reading, reading}
 use Rattle.fam_machine.specs.Caches.{IsClean, IsCleanCell}
-use Rattle.fam_commands.specs.Kept.{IsKept}
+use Rattle.fam_commands.specs.Kept.{IsKept, Kept}
 use Rattle.fam_commands.specs.Task.{Task}
 use Rattle.fam_rules.specs.Asks.{File}
 use Rattle.fam_rules.specs.Place.{line_bytes}
@@ -17,12 +21,12 @@ use Rattle.fam_protocol.specs.Invariant.{Damaged, Hosts, InvariantBy, KeepFronts
 use Rattle.fam_protocol.specs.Invariant as invariant
 use Rattle.fam_protocol.proofs.Hosts.Resting.{rests_settled}
 use Rattle.fam_journal.specs.View.{HostView, HostStandsAt, TaskStands}
-use Rattle.fam_journal.specs.Kept.{Reached, copy_at, hosts_of, kept_at, run_at, run_with, shared_of, settled_of, uuid_at}
+use Rattle.fam_journal.specs.Kept.{IfHalted, IsCleared, Reached, copy_at, hosts_of, kept_at, run_at, run_with, settled_bad, shared_of, settled_of, uuid_at}
 use Rattle.fam_journal.specs.Machines.{HostState, Machines, TaskState}
 use Rattle.fam_journal.specs.Members.{index_of}
 use Rattle.fam_journal.specs.Notes.{Note}
 use Rattle.fam_journal.specs.Past as past
-use Rattle.fam_journal.specs.Past.{FewLines, State, Bad, Sound, first_state, past_of, Given, Halted}
+use Rattle.fam_journal.specs.Past.{FewLines, State, Bad, Sound, first_state, past_of, state_read, Given, Halted}
 use Rattle.fam_journal.proofs.Settled.BadStates.{bad_own}
 use Rattle.fam_journal.proofs.Calls.Begin.{settled_first}
 use Rattle.fam_journal.proofs.Calls.Declares.{none_passes}
@@ -31,7 +35,7 @@ use Rattle.fam_journal.proofs.Runs.Left.{held_reads}
 use Rattle.fam_journal.proofs.Calls.Stepped.{find_host}
 use Rattle.fam_journal.proofs.Calls.WorldRows.{place_found}
 use Rattle.fam_journal.specs.Ends.{ReadsAs}
-use Rattle.fam_whole.specs.Whole.{HasNothingPending}
+use Rattle.fam_whole.specs.Whole.{HasNothingPending, IsStateOf}
 use Rattle.fam_whole.proofs.Folds.{first_sure}
 
 -- no host has a task, and no cache has anything to send
@@ -119,17 +123,18 @@ module _ (start : Image) (s : Machines) (journal : List Note) (kept : Reached st
   first_is p history (Sound q other (Some f)) sure is = absurd cc
 
   -- what is settled is what the image reads as
-  pub rest_state : HasNothingPending (past_of start journal).state → (past_of start journal).state ≡ first_state s.memory
-  rest_state sure = by_state (past_of start journal).state refl sure
-    where
-      by_state : (z : State) → (past_of start journal).state ≡ z → HasNothingPending z → (past_of start journal).state ≡ first_state s.memory
-      by_state (Bad Halted damage gate) is sure = absurd sure
-      by_state (Bad (Given own) damage gate) is sure =
-          let left : s.memory ≡ own = subst (λ (z : State). ReadsAs z s.memory) is (held_reads start s (record { hosts = kept.views; journal = journal }) s.memory kept.held) in
-          is ∙ sym (bad_own start own damage gate journal is).reads ∙ ap first_state (sym left)
-      by_state (Sound p history (Some f)) is sure = absurd cc
-      by_state (Sound p history None) is sure =
-          is ∙ first_is p history (first_state s.memory) (first_sure s.memory) (settled_first s.memory ∙ known_here p history is)
+  state_is : (z : State) → (past_of start journal).state ≡ z → HasNothingPending z → IsStateOf z s.memory
+  state_is (Bad Halted damage gate) is sure =
+      let cleared : IsCleared damage (line_at s.memory) = subst (λ (z : State). IfHalted z (line_at s.memory)) is kept.held.halted in
+      (cleared.damage_is, subst (λ (z : State). ReadsAs z s.memory) is (held_reads start s (record { hosts = kept.views; journal = journal }) s.memory kept.held))
+  state_is (Bad (Given own) damage gate) is sure =
+      let left : s.memory ≡ own = subst (λ (z : State). ReadsAs z s.memory) is (held_reads start s (record { hosts = kept.views; journal = journal }) s.memory kept.held) in
+      sym (bad_own start own damage gate journal is).reads ∙ ap first_state (sym left)
+  state_is (Sound p history (Some f)) is sure = absurd cc
+  state_is (Sound p history None) is sure = first_is p history (first_state s.memory) (first_sure s.memory) (settled_first s.memory ∙ known_here p history is)
+
+  pub rest_state : HasNothingPending (past_of start journal).state → IsStateOf (past_of start journal).state s.memory
+  rest_state sure = state_is (past_of start journal).state refl sure
 
   -- What a host keeps is a front of what the image reads as.
 
@@ -138,12 +143,25 @@ module _ (start : Image) (s : Machines) (journal : List Note) (kept : Reached st
   front_by (Damaged image) is = is.bare
   front_by (Known p all settled) is = is.kept
 
+  -- of an image without a superblock nothing is kept
+  bare_first : (fault : SuperFault) (one : Option Kept) → reading s.memory ≡ read.NoSuperblock fault → one ≡ None → KeepsFront (settled_at_first s.memory) one
+  bare_first fault one is none = subst (λ (z : Settled). KeepsFront z one) (settled_first s.memory) (go (nat_lt (length s.memory) least_lines))
+    where
+      go : (few : Bool) → KeepsFront (settled_of (if few then Bad (Given s.memory) (FewLines (length s.memory)) 0 else state_read s.memory (reading s.memory)) (line_at s.memory)) one
+      go true = none
+      go false = subst (λ (r : Reading). KeepsFront (settled_of (state_read s.memory r) (line_at s.memory)) one) (sym is) none
+
+  front_first : (z : State) (one : Option Kept) → IsStateOf z s.memory → KeepsFront (settled_of z (line_at s.memory)) one → KeepsFront (settled_at_first s.memory) one
+  front_first (Bad Halted damage gate) one is front =
+      bare_first (super.NoSuper 0) one is.1 (subst (λ (d : past.Damage). KeepsFront (settled_bad (line_at s.memory) d) one) is.0 front)
+  front_first (Bad (Given own) damage gate) one is front = subst (λ (z : Settled). KeepsFront z one) (ap (λ (z : State). settled_of z (line_at s.memory)) is ∙ settled_first s.memory) front
+  front_first (Sound p history pending) one is front = subst (λ (z : Settled). KeepsFront z one) (ap (λ (z : State). settled_of z (line_at s.memory)) is ∙ settled_first s.memory) front
+
   pub keeps_front : HasNothingPending (past_of start journal).state → (h : ℕ) (host : HostState) → slice_get s.hosts h ≡ Some host → KeepsFront (settled_at_first s.memory) host.kept
   keeps_front sure h host is =
       let d = declared_at start s journal kept h host is in
       let same : d.view.kept ≡ host.kept = sym d.stands.kept ∙ ap (λ (z : HostState). z.kept) (same_Some d.host host (sym d.host_is ∙ is)) in
-      let settled : settled_of (past_of start journal).state (line_at s.memory) ≡ settled_at_first s.memory = ap (λ (z : State). settled_of z (line_at s.memory)) (rest_state sure) ∙ settled_first s.memory in
-      subst (λ (z : Settled). KeepsFront z host.kept) settled
+      front_first (past_of start journal).state host.kept (rest_state sure)
       (subst (KeepsFront (settled_of (past_of start journal).state (line_at s.memory))) (ap kept_at d.view_is ∙ same) (front_by (settled_of (past_of start journal).state (line_at s.memory)) kept.held.invariant.stage h))
 
   pub keeps_joined : (h : ℕ) (host : HostState) → slice_get s.hosts h ≡ Some host → IsKept host.kept

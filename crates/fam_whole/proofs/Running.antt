@@ -29,6 +29,7 @@ use Rattle.fam_journal.specs.Ends.{IsFaultless}
 use Rattle.fam_journal.specs.View.{TaskStands, HostView}
 use Rattle.fam_journal.specs.Kept.{IfRuns, Reached, TaskTold, hosts_of, run_at, run_of, run_with, shared_of, settled_of, copy_at}
 use Rattle.fam_journal.specs.Legal.{AnswerAllowed, LegalBehind, OfHost, WritesAllowed}
+use Rattle.fam_journal.specs.declared.event.Event.{Event}
 use Rattle.fam_journal.specs.Machines as machine
 use Rattle.fam_journal.specs.Machines.{Done, HostState, Machines, Operation, Passes, TaskState, notes_of, operation, task_on, with_parts, with_machine}
 use Rattle.fam_journal.specs.Notes.{Note, Answered, Mark, Found, Writes as NoteWrites, Replied}
@@ -47,8 +48,8 @@ use Rattle.fam_whole.proofs.Folds.{all_noted, finds_sure, image_both, noted_both
 use Rattle.fam_protocol.specs.After.{HasNamed}
 use Rattle.fam_whole.proofs.Phases.{IsLateTurn, WritesLate, late_turn, writes_turn}
 
--- from the moment at which host h of these machines has begun the command, behind this journal
-module _ (start : Image) (h : ℕ) (base : Machines) (host : HostState) (host_is : slice_get base.hosts h ≡ Some host) (joined : IsKept host.kept) (cmd : Cmd) (journal : List Note) (sure : HasNothingPending (past_of start journal).state) where
+-- from the moment at which host h of these machines has begun the command of this event, behind this journal
+module _ (ev : Event) (start : Image) (h : ℕ) (base : Machines) (host : HostState) (host_is : slice_get base.hosts h ≡ Some host) (joined : IsKept host.kept) (cmd : Cmd) (journal : List Note) (sure : HasNothingPending (past_of start journal).state) where
   abbrev image : Image
   image = base.memory
 
@@ -182,8 +183,8 @@ module _ (start : Image) (h : ℕ) (base : Machines) (host : HostState) (host_is
     state_is : state ≡ at m (Some (state_of words made))
     notes_are : notes ≡ all_noted h (notes_up_to host.kept cmd me image host.cache t words made m ran)
     on : On t (past_of start (journal ++ notes))
-    same : image_behind x image notes ≡ image
-    whole : AreWholeNotes x image notes
+    same : image_behind ev x image notes ≡ image
+    whole : AreWholeNotes ev x image notes
 
   -- up to the answer
   pub record Ended (state : Machines) (notes : List Note) : Type 0 where
@@ -200,8 +201,8 @@ module _ (start : Image) (h : ℕ) (base : Machines) (host : HostState) (host_is
     pub before_is : before ≡ all_noted h (notes_up_to host.kept cmd me image host.cache t words made m ran)
     pub notes_are : notes ≡ before ++ Answered h (Replied reply) ∷ []
     pub on : On t (past_of start (journal ++ before))
-    pub same : image_behind x image before ≡ image
-    pub whole : AreWholeNotes x image before
+    pub same : image_behind ev x image before ≡ image
+    pub whole : AreWholeNotes ev x image before
     pub told : HostPast
     pub told_is : slice_get (past_of start (journal ++ before)).hosts h ≡ Some told
     pub cmd_is : told.cmd ≡ Some cmd
@@ -214,7 +215,7 @@ module _ (start : Image) (h : ℕ) (base : Machines) (host : HostState) (host_is
   past_here : (notes : List Note) → past_of start (journal ++ notes) ≡ past_behind x notes
   past_here notes = past_both (first_past start) journal notes
 
-  module _ (t : Task) (words : List ℕ) (made : ℕ) (m : Machine) (ran : SoloRun host.kept cmd me image host.cache t words made m) (notes : List Note) (notes_are : notes ≡ all_noted h (notes_up_to host.kept cmd me image host.cache t words made m ran)) (on : On t (past_of start (journal ++ notes))) (same : image_behind x image notes ≡ image) (whole : AreWholeNotes x image notes) (info : Now t words made m ran (journal ++ notes)) where
+  module _ (t : Task) (words : List ℕ) (made : ℕ) (m : Machine) (ran : SoloRun host.kept cmd me image host.cache t words made m) (notes : List Note) (notes_are : notes ≡ all_noted h (notes_up_to host.kept cmd me image host.cache t words made m ran)) (on : On t (past_of start (journal ++ notes))) (same : image_behind ev x image notes ≡ image) (whole : AreWholeNotes ev x image notes) (info : Now t words made m ran (journal ++ notes)) where
     abbrev y : Past
     y = past_of start (journal ++ notes)
 
@@ -226,7 +227,7 @@ module _ (start : Image) (h : ℕ) (base : Machines) (host : HostState) (host_is
     first z = notes_of h (note_of z)
 
     -- the task goes on, with one note more or none
-    goes_on : (z : Turn) (n : Task) → turn_on t m ≡ z → task_after z ≡ Some n → machine.task_behind (note_of z) (task_on (state_of words made) (given (op_of t) m)) ≡ Some (task_on (state_of words made) (given (op_of t) m)) → kept_after z t host.kept ≡ host.kept → On n (past_behind y (first z)) → image_behind y image (first z) ≡ image → AreWholeNotes y image (first z) → Along (left z) (notes ++ first z)
+    goes_on : (z : Turn) (n : Task) → turn_on t m ≡ z → task_after z ≡ Some n → machine.task_behind (note_of z) (task_on (state_of words made) (given (op_of t) m)) ≡ Some (task_on (state_of words made) (given (op_of t) m)) → kept_after z t host.kept ≡ host.kept → On n (past_behind y (first z)) → image_behind ev y image (first z) ≡ image → AreWholeNotes ev y image (first z) → Along (left z) (notes ++ first z)
     goes_on z n is next task keeps on' same' whole' =
         let came' : SoloRun host.kept cmd me image host.cache n (with_given words (given (op_of t) m)) (made + 1) (operated (op_of t) m) = goes ran info.inside (ap task_after is ∙ next) in
         record {
@@ -240,8 +241,8 @@ module _ (start : Image) (h : ℕ) (base : Machines) (host : HostState) (host_is
               ap₂ (λ (u v : List Note). u ++ v) notes_are (sym (noted_one h (note_of z)) ∙ ap (λ (w : Turn). all_noted h (noted (note_of w))) (sym is))
               ∙ sym (noted_both h (notes_up_to host.kept cmd me image host.cache t words made m ran) (noted (note_of (turn_on t m))));
           on = subst (On n) (sym (past_on notes (first z))) on';
-          same = image_both x image notes (first z) ∙ ap (λ (i : Image). image_behind (past_behind x notes) i (first z)) same ∙ ap (λ (w : Past). image_behind w image (first z)) (sym (past_here notes)) ∙ same';
-          whole = whole_both x image notes (first z) whole (subst (λ (i : Image). AreWholeNotes (past_behind x notes) i (first z)) (sym same) (subst (λ (w : Past). AreWholeNotes w image (first z)) (past_here notes) whole'));
+          same = image_both ev x image notes (first z) ∙ ap (λ (i : Image). image_behind ev (past_behind x notes) i (first z)) same ∙ ap (λ (w : Past). image_behind ev w image (first z)) (sym (past_here notes)) ∙ same';
+          whole = whole_both ev x image notes (first z) whole (subst (λ (i : Image). AreWholeNotes ev (past_behind x notes) i (first z)) (sym same) (subst (λ (w : Past). AreWholeNotes ev w image (first z)) (past_here notes) whole'));
         }
 
     -- the turn of a task that writes

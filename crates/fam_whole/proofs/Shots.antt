@@ -1,6 +1,6 @@
 -- What the top call says of a command of its own: its events are run, and whole.
 use Prim.Native.Nat.{zero, suc}
-use Rattle.std.proofs.Common.{◌≡◌, ◌⊎◌, inl, inr, ℕ, true, List, [], ◌∷◌, map, take, Some, refl, ap, sym, ◌∙◌, subst, None}
+use Rattle.std.proofs.Common.{◌≡◌, ◌⊎◌, inl, inr, ℕ, true, List, [], ◌∷◌, map, take, Some, refl, ap, sym, ◌∙◌, subst}
 use Rattle.std.specs.Prelude.{⊤, option_map}
 use Rattle.fam_base.specs.declared.cmd.Attr.{Attr}
 use Rattle.fam_base.specs.declared.cmd.Cmd.TheVariants as cmd
@@ -34,12 +34,6 @@ IsSoundShot (Makes request) = IsUuid request.fs
 IsSoundShot (Runs what) = ⊤
 IsSoundShot (MakesParents path attr) = ⊤
 
--- and its maker isn't to halt
-abbrev pub IsWholeShot : OneShot → Type 0
-IsWholeShot (Makes request) = request.halt ≡ None
-IsWholeShot (Runs what) = ⊤
-IsWholeShot (MakesParents path attr) = ⊤
-
 module _ (name : List ℕ) where
   sound_shot : (shot : OneShot) → IsSoundShot shot → AreSound (shot_events name shot)
   sound_shot (Makes request) sound = (sound, tt)
@@ -50,10 +44,10 @@ module _ (name : List ℕ) where
       go [] = tt
       go (prefix ∷ prefixes) = (tt, go prefixes)
 
-  whole_shot : (shot : OneShot) → IsWholeShot shot → AreWhole (shot_events name shot)
-  whole_shot (Makes request) whole = (whole, tt)
-  whole_shot (Runs what) whole = (tt, tt)
-  whole_shot (MakesParents path attr) whole = go (path_prefixes path)
+  whole_shot : (shot : OneShot) → AreWhole (shot_events name shot)
+  whole_shot (Makes request) = (tt, tt)
+  whole_shot (Runs what) = (tt, tt)
+  whole_shot (MakesParents path attr) = go (path_prefixes path)
     where
       go : (prefixes : List (List ℕ)) → AreWhole (map (λ prefix. event.Run name (ask.Plain (cmd.Mkdir prefix attr))) prefixes)
       go [] = tt
@@ -74,9 +68,9 @@ pub shot_events_sound : (me : List ℕ) (shot : OneShot) → IsUuid me → IsSou
 shot_events_sound me shot me_sound shot_is events journal steps =
     subst AreSound (sym steps.events_are) (me_sound, sound_take steps.count (shot_events steps.name shot) (sound_shot steps.name shot shot_is))
 
-pub shot_events_whole : (me : List ℕ) (shot : OneShot) → IsWholeShot shot → (events : List Event) (journal : List Note) → IsWholeRun me shot events journal → AreWhole events
-shot_events_whole me shot whole events journal steps =
-    subst AreWhole (sym steps.events_are) (tt, whole_take steps.count (shot_events steps.name shot) (whole_shot steps.name shot whole))
+pub shot_events_whole : (me : List ℕ) (shot : OneShot) → (events : List Event) (journal : List Note) → IsWholeRun me shot events journal → AreWhole events
+shot_events_whole me shot events journal steps =
+    subst AreWhole (sym steps.events_are) (tt, whole_take steps.count (shot_events steps.name shot) (whole_shot steps.name shot))
 
 -- Its run.
 
@@ -88,7 +82,7 @@ pub record ShotRun (files : Files) (start : Image) (me : List ℕ) (shot : OneSh
   pub ended : last_passes (ends_shot shot) run.journal ≡ true
   pub ends : EndsAs out given (shown run.journal) run.last.machines.memory (done_status shot run.journal)
 
-module _ (out : Outside) (none : NoneRose out) (me : List ℕ) (shot : OneShot) (start : Image) (files : Files) (told_start : out.media.old.image ≡ Some start) (told : out.shelf.old.files ≡ Some files) (image : IsImage start) (me_sound : IsUuid me) (shot_sound : IsSoundShot shot) (shot_whole : IsWholeShot shot) where
+module _ (out : Outside) (none : NoneRose out) (me : List ℕ) (shot : OneShot) (start : Image) (files : Files) (told_start : out.media.old.image ≡ Some start) (told : out.shelf.old.files ≡ Some files) (image : IsImage start) (me_sound : IsUuid me) (shot_sound : IsSoundShot shot) where
   module _ (grammar : Grammar) (storms : Storms) (given : Status) where
     early_memory : (early : Early) → IsEarly grammar storms (Some (Single me shot)) out early → early_status early ≡ status.OutOfMemory
     early_memory NoCommand x = absurd cc
@@ -113,7 +107,7 @@ module _ (out : Outside) (none : NoneRose out) (me : List ℕ) (shot : OneShot) 
           sound = shot_events_sound me shot me_sound shot_sound x.events x.run.journal steps
 
           whole : AreWhole x.events
-          whole = shot_events_whole me shot shot_whole x.events x.run.journal steps
+          whole = shot_events_whole me shot x.events x.run.journal steps
 
           on : RunsOn x.ending files x.events start out.media.new.image x.run.journal
           on = x.run.told start told_start files told

@@ -12,7 +12,7 @@ use Rattle.fam_format.specs.declared.faults.SuperFault.{SuperFault}
 use Rattle.fam_format.specs.Layout.{device_limit}
 use Rattle.fam_format.specs.Reading.{super_in}
 use Rattle.fam_machine.specs.Caches.{Cache, IsClean, cell_at, dirty_count}
-use Rattle.fam_machine.specs.Operations.{operated, operated_all}
+use Rattle.fam_machine.specs.Operations.{machine, operated, operated_all}
 use Rattle.fam_commands.specs.Keeping.{kept_by, read_by}
 use Rattle.fam_commands.specs.Kept.{Kept}
 use Rattle.fam_commands.specs.Solo.{Stand, notes_up_to, stand_after}
@@ -33,22 +33,22 @@ use Rattle.fam_journal.specs.declared.event.Event.TheVariants as event
 use Rattle.fam_journal.specs.declared.refusal.Refusal.{Refusal}
 use Rattle.fam_journal.specs.declared.refusal.Refusal.TheVariants as why
 use Rattle.fam_journal.specs.Calls as call
-use Rattle.fam_journal.specs.Calls.{Acts, ActsAt, ByRefusal, Call, Completes, Does, may_begin, name_of, number_of, refusal_of, MakesFileSystem, MakesOrHalts}
+use Rattle.fam_journal.specs.Calls.{Acts, ActsAt, ByRefusal, Call, Completes, Does, may_begin, name_of, number_of, refusal_of, HaltsMaking, MakesFileSystem, MakesOrHalts}
 use Rattle.fam_journal.specs.Ends.{IsFaultless as AreFaultless}
 use Rattle.fam_journal.specs.Events.{DoesEvent, Continues, HasNoSource, RefusesEvent, Ready, Session, SourceSays, Unfit, mounts}
 use Rattle.fam_machine.specs.HostMoves.{Evict, Fetch, Leak, Move}
 use Rattle.fam_journal.specs.Machines.{HostState, Machines, machine_of, with_kept, with_machine}
 use Rattle.fam_journal.specs.Members.{changed_at}
 use Rattle.fam_machine.specs.Mkfs as here
-use Rattle.fam_journal.specs.Notes.{Answered, Made, Note, Refused, Replied, Start, Umount}
+use Rattle.fam_journal.specs.Notes.{Answered, Cut, Made, Note, Refused, Replied, Start, Umount}
 use Rattle.fam_journal.specs.Past.{Past}
 use Rattle.fam_journal.proofs.Calls.Cases.{by_host, by_refusal}
 use Rattle.fam_journal.proofs.Settled.Journals.{past_both}
 use Rattle.fam_journal.proofs.Runs.Listings.{one_listing}
 use Rattle.fam_journal.proofs.Calls.Shown.{AreAlike, number_same, refusal_same}
 use Rattle.fam_journal.proofs.Runs.Unique.{met_or_made, not_clean, one_source, goes_free}
-use Rattle.fam_whole.specs.Whole.{AreRefusals, is_move}
-use Rattle.fam_whole.proofs.Exact.{Between, Through, front_of, joined_of, moved_image, through}
+use Rattle.fam_whole.specs.Whole.{AreRefusals, IsStateOf, is_move}
+use Rattle.fam_whole.proofs.Exact.{Between, Through, front_of, halted_clean, joined_of, moved_image, through}
 use Rattle.fam_machine.proofs.MkfsOps.{clean_formats, read_image}
 use Rattle.fam_whole.proofs.Finish.{left_is}
 use Rattle.fam_whole.proofs.Folds.{all_noted}
@@ -214,7 +214,7 @@ module _ (start : Image) (files : Files) where
           record { memory = twins.memory; hosts = same_more s.hosts t.hosts _ _ twins.hosts (record { name = refl; uuid = refl; kept = refl }) });
     }
 
-    -- both make a file system, or meet the same one
+    -- both make a file system, halt in making it, or meet the same one
     module _ (name : List ℕ) (request : MkfsRequest) (h i : ℕ) (host other : HostState) (number : number_of name s ≡ Some h) (number' : number_of name t ≡ Some i) (is : slice_get s.hosts h ≡ Some host) (is' : slice_get t.hosts i ≡ Some other) where
       phases : h ≡ i
       phases = same_Some h i (sym number ∙ numbers name ∙ number')
@@ -249,13 +249,28 @@ module _ (start : Image) (files : Files) where
             });
       }
 
-      -- where its maker isn't to halt
-      made_same : request.halt ≡ None → ActsAt (call.Makes name request) h host s a m → ActsAt (call.Makes name request) i other t b n → Same a b m n
-      made_same whole (inl x) (inl y) =
-          one_made (subst (λ (o : Option ℕ). MakesOrHalts o h p request.force host s a m) whole x) (subst (λ (o : Option ℕ). MakesOrHalts o i q request.force other t b n) whole y)
-      made_same whole (inl x) (inr y) = absurd (met_or_made request.force (here.superblock_found p (machine_of s host)) y.other (goes_free s m a request.halt h p request.force host x) y.unforced (found_same ∙ y.stands))
-      made_same whole (inr x) (inl y) = absurd (met_or_made request.force (here.superblock_found q (machine_of t other)) x.other (goes_free t n b request.halt i q request.force other y) x.unforced (sym found_same ∙ x.stands))
-      made_same whole (inr x) (inr y) =
+      -- so it is where the maker halts
+      one_cut : (k : ℕ) → HaltsMaking h p request.force k host s a m → HaltsMaking i q request.force k other t b n → Same a b m n
+      one_cut k x y = record {
+        notes = x.notes_are ∙ ap (λ (j : ℕ). Cut j k ∷ []) phases ∙ sym y.notes_are;
+        machines = subst (λ (z : Machines). Twins z n) (sym x.left) (subst (λ (z : Machines). Twins (with_machine h (machine (operated_all (here.halted_ops k p) (machine_of s host)).image finmap.empty) host.task s) z) (sym y.left)
+            record {
+              memory =
+                  halted_clean s.memory host.cache bs.kept.held.normal (bs.rests h host is).clean k p ∙ ap₂ (λ (z : Params) (image : Image). here.halted_image k z image) params twins.memory
+                  ∙ sym (halted_clean t.memory other.cache bt.kept.held.normal (bt.rests i other is').clean k q);
+              hosts = same_on _ s.hosts _ (same_changed h _ (λ z. record { name = refl; uuid = refl; kept = refl }) s.hosts) (same_on s.hosts t.hosts _ twins.hosts (same_back _ t.hosts (same_changed i _ (λ z. record { name = refl; uuid = refl; kept = refl }) t.hosts)));
+            });
+      }
+
+      goes_same : (halt : Option ℕ) → MakesOrHalts halt h p request.force host s a m → MakesOrHalts halt i q request.force other t b n → Same a b m n
+      goes_same None x y = one_made x y
+      goes_same (Some k) x y = one_cut k x y
+
+      made_same : ActsAt (call.Makes name request) h host s a m → ActsAt (call.Makes name request) i other t b n → Same a b m n
+      made_same (inl x) (inl y) = goes_same request.halt x y
+      made_same (inl x) (inr y) = absurd (met_or_made request.force (here.superblock_found p (machine_of s host)) y.other (goes_free s m a request.halt h p request.force host x) y.unforced (found_same ∙ y.stands))
+      made_same (inr x) (inl y) = absurd (met_or_made request.force (here.superblock_found q (machine_of t other)) x.other (goes_free t n b request.halt i q request.force other y) x.unforced (sym found_same ∙ x.stands))
+      made_same (inr x) (inr y) =
           let oks : ◌≡◌ {A = Result Params SuperFault} (Ok x.other) (Ok y.other) = sym x.stands ∙ found_same ∙ y.stands in
           let others : x.other ≡ y.other = cc in
           record {
@@ -267,11 +282,11 @@ module _ (start : Image) (files : Files) where
                 });
           }
 
-    pub makes_same : (name : List ℕ) (request : MkfsRequest) → request.halt ≡ None → Acts (call.Makes name request) s a m → Acts (call.Makes name request) t b n → Same a b m n
-    makes_same name request whole x y =
+    pub makes_same : (name : List ℕ) (request : MkfsRequest) → Acts (call.Makes name request) s a m → Acts (call.Makes name request) t b n → Same a b m n
+    makes_same name request x y =
         by_host (call.Makes name request) s m a x (λ h host number is at.
         by_host (call.Makes name request) t n b y (λ i other number' is' at'.
-        made_same name request h i host other number number' is is' whole at at'))
+        made_same name request h i host other number number' is is' at at'))
 
     -- both hosts forget what they keep
     pub umounts_same : (name : List ℕ) → Acts (call.Umounts name) s a m → Acts (call.Umounts name) t b n → Same a b m n
@@ -346,8 +361,8 @@ module _ (start : Image) (files : Files) (name : List ℕ) (what : Ask) where
 
     memory_then : new.machines.memory ≡ solo_image s.machines.memory go.host.uuid run.begun.cmd
     memory_then =
-        left_is start go.h s.machines go.host go.is (joined_of start files s.machines j between.kept between.rests between.sure go.h go.host go.is) run.begun.cmd journal go.sure_then
-        (ap (λ (w : Past). w.state) (past_both (Rattle.fam_journal.specs.Past.first_past start) j (Start go.h run.begun.cmd ∷ [])) ∙ rest_state start s.machines j between.kept between.rests between.sure)
+        left_is (event.Run name what) start go.h s.machines go.host go.is (joined_of start files s.machines j between.kept between.rests between.sure go.h go.host go.is) run.begun.cmd journal go.sure_then
+        (subst (λ (w : Past). IsStateOf w.state s.machines.memory) (sym (past_both (Rattle.fam_journal.specs.Past.first_past start) j (Start go.h run.begun.cmd ∷ []))) (rest_state start s.machines j between.kept between.rests between.sure))
         go.enough (subst (λ (n : ℕ). line_bytes * n ≤ device_limit) (sym between.kept.held.lines) between.kept.held.limit) between.kept.held.normal (between.rests go.h go.host go.is).clean command (front_of start files s.machines j between.kept between.rests between.sure go.h go.host go.is) new.machines go.rest go.ended
 
     hosts_then : new.machines.hosts ≡ changed_at go.h (λ z. record z { cache = (operated (op_of go.ended.t) go.ended.m).cache; task = None; kept = kept_then }) s.machines.hosts

@@ -24,12 +24,11 @@ use Rattle.fam_journal.specs.Calls.{cause_of, when}
 use Rattle.fam_journal.specs.Ends.{Ending}
 use Rattle.fam_journal.specs.Notes.{Note}
 use Rattle.fam_journal.specs.Events.{Ready, SourceSays, Sourced, Unfit}
-use Rattle.fam_journal.specs.Past.{first_past}
 use Rattle.fam_outcomes.specs.Programs.{IsWholeRun, MakesParents, OneShot, ShotText, shot_status}
 use Rattle.fam_outcomes.specs.Runs.{IsPut, Outside}
 use Rattle.fam_outcomes.specs.Statuses.{cause_status, parents_status, reply_status}
 use Rattle.fam_outcomes.specs.Texts.{line, made_text, refusal_text, reply_text, shown}
-use Rattle.fam_whole.specs.Whole.{EndsAs, FrontRun, IsExact, WholeRun, image_behind}
+use Rattle.fam_whole.specs.Whole.{EndsAs, FrontRun, IsExact, WholeRun, image_of}
 
 -- a refusal is put, and the image is as it was
 abbrev pub RefusalEnds : Refusal → Image → Outside → Status → Type 0
@@ -111,4 +110,4 @@ pub record ParentsEnd (files : Files) (start : Image) (me path : List ℕ) (attr
   pub run : WholeRun files events start
   pub steps : IsWholeRun me (MakesParents path attr) events run.journal
   pub exact : IsExact run
-  pub ends : EndsAs out given (shown run.journal) (image_behind (first_past start) start run.journal) (parents_status run.journal)
+  pub ends : EndsAs out given (shown run.journal) (image_of run) (parents_status run.journal)

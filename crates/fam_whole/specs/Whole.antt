@@ -1,9 +1,15 @@
 -- Scripts of whole commands: hosts are declared, make file systems and run commands, one event after another, and caches
--- move by themselves between them. While the media doesn't fail nothing interrupts a command. What then holds of the machine
--- of all hosts and of its journal.
+-- move by themselves between them. While the media doesn't fail nothing interrupts a command; but the maker of a file system
+-- may halt. What then holds of the machine of all hosts and of its journal.
 use Rattle.std.specs.Prelude.{ℕ, ⊤, ◌≡◌, ◌⊎◌, ◌*◌, ◌≤◌, if◌then◌else◌, Bool, true, false, List, [], ◌∷◌, ◌++◌, length, slice_get, take, Option, Some, None, option_map}
 use Rattle.fam_base.specs.declared.cmd.Cmd.{Cmd}
 use Rattle.fam_base.specs.Image.{Image, line_at}
+use Rattle.fam_format.specs.declared.faults.SuperFault.TheVariants as super
+use Rattle.fam_format.specs.Reading as read
+use Rattle.fam_format.specs.Reading.{reading}
+use Rattle.fam_machine.specs.declared.request.MkfsRequest.{MkfsRequest}
+use Rattle.fam_machine.specs.Mkfs.{asked, halted_image}
+use Rattle.fam_machine.specs.MkfsRequest.{mkfs_request}
 use Rattle.fam_media.specs.Files.{Files}
 use Rattle.fam_media.specs.Outside.{with_piece}
 use Rattle.fam_rules.specs.Solo.{solo_reply}
@@ -20,8 +26,8 @@ use Rattle.fam_journal.specs.Ends.{AllDone, Ending, EndsOutOfMemory, IsFaultless
 use Rattle.fam_journal.specs.Events.{DoesEvent, PartOf, Session, first_session}
 use Rattle.fam_journal.specs.Follows.{Follows}
 use Rattle.fam_journal.specs.Legal.{OfHost}
-use Rattle.fam_journal.specs.Notes.{Answer, Replied, MediaFault, Note}
-use Rattle.fam_journal.specs.Past.{HostPast, Past, State, Bad, Sound, count_of, first_past, first_state, past_after, past_of, settled_length, Origin, Given, Halted}
+use Rattle.fam_journal.specs.Notes.{Answer, Replied, MediaFault, Note, Host, Made, Cut, Start, Mark, Found, Writes, Answered, Stop, Halt, Umount, Refused}
+use Rattle.fam_journal.specs.Past.{HostPast, Past, Damage, NoSuperblock, State, Bad, Sound, count_of, first_past, first_state, past_after, past_behind, past_of, settled_length, Origin, Given, Halted}
 use Rattle.fam_outcomes.specs.Programs.{Command, EndsEarly, Grammar, ScriptPuts, Storms, script_status}
 use Rattle.fam_outcomes.specs.Runs.{IsPut, Outside}
 use Rattle.fam_outcomes.specs.Statuses.{good_status, is_good}
@@ -29,10 +35,10 @@ use Rattle.fam_outcomes.specs.Texts.{render}
 use Rattle.fam_journal.specs.NoteClasses.{NoteClass, note_class, Declared, Formatted, Going, Answering, Refusing}
 use Rattle.fam_commands.specs.ReplyClasses.{ReplyClass, reply_class, Appending, Declining, Showing, Reporting, Faulty}
 
--- an event that no other host's step interrupts, and in which no maker of a file system halts
+-- an event that no other host's step interrupts. In a mkfs its maker may halt: that is all that is left undone, and is noted
 abbrev pub IsWholeEvent : Event → Type 0
 IsWholeEvent (event.Host name uuid) = ⊤
-IsWholeEvent (event.Mkfs name fs unit log force halt) = halt ≡ None
+IsWholeEvent (event.Mkfs name fs unit log force halt) = ⊤
 IsWholeEvent (event.Begin name what) = ⊥
 IsWholeEvent (event.Run name what) = ⊤
 IsWholeEvent (event.Step name count) = ⊥
@@ -49,7 +55,8 @@ abbrev pub AreWhole : List Event → Type 0
 AreWhole [] = ⊤
 AreWhole (e ∷ events) = IsWholeEvent e × AreWhole events
 
--- The image, as the notes have it: a mkfs formats it, and an acknowledged entry is written.
+-- The image, as the notes of events have it: a mkfs formats it, or puts its first lines where its maker halts, and an
+-- acknowledged entry is written.
 
 -- the image behind an append that is acknowledged: the pending entry is written
 abbrev pub acknowledged_image : Image → State → ℕ → Image
@@ -74,32 +81,72 @@ abbrev pub answered_image : Image → State → Answer → Image
 answered_image image state (Replied given) = replied_image image state given
 answered_image image state (MediaFault line) = image
 
--- the image behind a note; by the class of the note
-abbrev pub image_after_in : Past → Image → NoteClass → Image
-image_after_in past image (Declared name uuid) = image
-image_after_in past image (Formatted host p) = formatted image p
-image_after_in past image (Going host) = image
-image_after_in past image (Answering host answer) = answered_image image past.state answer
-image_after_in past image (Refusing name cause) = image
+-- the image behind a mkfs that asks for this, whose maker halted after so many operations: the lines that it had put by then
+abbrev pub cut_by : Option HostPast → MkfsRequest → ℕ → Image → Image
+cut_by None request k image = image
+cut_by (Some host) request k image = halted_image k (asked request host.uuid (length image)) image
 
--- so of a note, by its class
-abbrev pub image_after : Past → Image → Note → Image
-image_after past image note = image_after_in past image (note_class note)
+-- so it is by the event that notes it: only a mkfs does, and its host is the maker
+abbrev pub cut_image : Event → Past → Image → (host k : ℕ) → Image
+cut_image (event.Host name uuid) past image host k = image
+cut_image (event.Mkfs name fs unit log force halt) past image host k =
+    cut_by (slice_get past.hosts host) (mkfs_request fs unit log force halt) k image
+cut_image (event.Begin name what) past image host k = image
+cut_image (event.Run name what) past image host k = image
+cut_image (event.Step name count) past image host k = image
+cut_image (event.Finish name) past image host k = image
+cut_image (event.Stop name) past image host k = image
+cut_image (event.Halt name) past image host k = image
+cut_image (event.Umount name) past image host k = image
+cut_image (event.Evict name line) past image host k = image
+cut_image (event.Leak name line mask) past image host k = image
+cut_image (event.Fetch name line mask) past image host k = image
 
--- the image behind some notes
-abbrev pub image_behind : Past → Image → List Note → Image
-image_behind past image [] = image
-image_behind past image (note ∷ notes) = image_behind (past_after past note) (image_after past image note) notes
+-- the image behind a note of an event
+abbrev pub image_after : Event → Past → Image → Note → Image
+image_after e past image (Host name uuid) = image
+image_after e past image (Made host p) = formatted image p
+image_after e past image (Cut host k) = cut_image e past image host k
+image_after e past image (Start host cmd) = image
+image_after e past image (Mark host) = image
+image_after e past image (Found host n) = image
+image_after e past image (Writes host seq entry) = image
+image_after e past image (Answered host answer) = answered_image image past.state answer
+image_after e past image (Stop host) = image
+image_after e past image (Halt host) = image
+image_after e past image (Umount host) = image
+image_after e past image (Refused name cause) = image
 
--- a damaged image is the one that was handed in: no maker of a file system halted behind its first send
-abbrev pub IsGiven : Origin → Type 0
-IsGiven (Given image) = ⊤
-IsGiven Halted = ⊥
+-- the image behind some notes of an event
+abbrev pub image_behind : Event → Past → Image → List Note → Image
+image_behind e past image [] = image
+image_behind e past image (note ∷ notes) = image_behind e (past_after past note) (image_after e past image note) notes
+
+-- the image behind the notes of all events, one behind another
+abbrev pub events_image : (files : Files) (events : List Event) (old : Session) (journal : List Note) (new : Session) → Follows files events old journal new → Past → Image → Image
+events_image files [] old journal new follows past image = image
+events_image files (e ∷ events) old journal new follows past image =
+    events_image files events follows.0 follows.2 new follows.4 (past_behind past follows.1) (image_behind e past image follows.1)
+
+-- What the notes settle.
 
 -- nothing is pending
 abbrev pub HasNothingPending : State → Type 0
-HasNothingPending (Bad origin damage gate) = IsGiven origin
+HasNothingPending (Bad origin damage gate) = ⊤
 HasNothingPending (Sound p history pending) = pending ≡ None
+
+-- a damaged state is what the image reads as, where it is that of the image that was handed in. Where it is that of a mkfs
+-- whose maker halted, it and the image say that there is no superblock
+abbrev pub IsDamageOf : Origin → Damage → ℕ → Image → Type 0
+IsDamageOf (Given own) damage gate image = Bad (Given own) damage gate ≡ first_state image
+IsDamageOf Halted damage gate image = (damage ≡ NoSuperblock (super.NoSuper 0)) × (reading image ≡ read.NoSuperblock (super.NoSuper 0))
+
+-- a state is what the image reads as
+abbrev pub IsStateOf : State → Image → Type 0
+IsStateOf (Bad origin damage gate) image = IsDamageOf origin damage gate image
+IsStateOf (Sound p history pending) image = Sound p history pending ≡ first_state image
+
+-- Answers.
 
 -- an answer of entries is of the whole history
 abbrev pub IsOfAll : Reply → State → Type 0
@@ -146,11 +193,17 @@ IsWholeNoteIn (Refusing name cause) past image = ⊤
 abbrev pub IsWholeNote : Note → Past → Image → Type 0
 IsWholeNote note past image = IsWholeNoteIn (note_class note) past image
 
--- so it is of each note, of the image behind those before it
-abbrev pub AreWholeNotes : Past → Image → List Note → Type 0
-AreWholeNotes past image [] = ⊤
-AreWholeNotes past image (note ∷ notes) =
-    IsWholeNote note past image × AreWholeNotes (past_after past note) (image_after past image note) notes
+-- so it is of each note of an event, of the image behind those before it
+abbrev pub AreWholeNotes : Event → Past → Image → List Note → Type 0
+AreWholeNotes e past image [] = ⊤
+AreWholeNotes e past image (note ∷ notes) =
+    IsWholeNote note past image × AreWholeNotes e (past_after past note) (image_after e past image note) notes
+
+-- so it is of the notes of all events, of the image behind the events before them
+abbrev pub AreWholeEvents : (files : Files) (events : List Event) (old : Session) (journal : List Note) (new : Session) → Follows files events old journal new → Past → Image → Type 0
+AreWholeEvents files [] old journal new follows past image = ⊤
+AreWholeEvents files (e ∷ events) old journal new follows past image =
+    AreWholeNotes e past image follows.1 × AreWholeEvents files events follows.0 follows.2 new follows.4 (past_behind past follows.1) (image_behind e past image follows.1)
 
 -- a run of whole events in which the media didn't fail
 pub record WholeRun (files : Files) (events : List Event) (start : Image) : Type 0 where
@@ -160,13 +213,17 @@ pub record WholeRun (files : Files) (events : List Event) (start : Image) : Type
   pub follows : Follows files events (first_session start) journal last
   pub clean : IsFaultless journal
 
+-- the image behind a run: the fold of its events' notes, from the image that was handed in
+abbrev pub image_of : {files : Files} {events : List Event} {start : Image} → WholeRun files events start → Image
+image_of {files} {events} {start} run = events_image files events (first_session start) run.journal run.last run.follows (first_past start) start
+
 -- what holds of it; of each prefix of its events, since that is such a run too: the image is the fold of the notes, nothing
 -- is pending, what the notes settle is what the image reads as, and each answer is of all of it
 pub record IsExact {files : Files} {events : List Event} {start : Image} (run : WholeRun files events start) : Type 0 where
-  pub image : run.last.machines.memory ≡ image_behind (first_past start) start run.journal
+  pub image : run.last.machines.memory ≡ image_of run
   pub sure : HasNothingPending (past_of start run.journal).state
-  pub settled : (past_of start run.journal).state ≡ first_state run.last.machines.memory
-  pub answers : AreWholeNotes (first_past start) start run.journal
+  pub settled : IsStateOf (past_of start run.journal).state run.last.machines.memory
+  pub answers : AreWholeEvents files events (first_session start) run.journal run.last run.follows (first_past start) start
 
 -- Caches' own moves.
 
@@ -241,7 +298,7 @@ pub record EndsExact (files : Files) (events : List Event) (start : Image) (out 
   pub run : WholeRun files events start
   pub exact : IsExact run
   pub answered : RunsEnd files events (first_session start) run.journal run.last run.follows
-  pub ends : EndsAs out given (render run.journal) (image_behind (first_past start) start run.journal) (good_status (is_good run.journal))
+  pub ends : EndsAs out given (render run.journal) (image_of run) (good_status (is_good run.journal))
 
 -- The same while sink and shelf may fail and memory run out: events behind that weren't run.
 
@@ -263,7 +320,7 @@ pub record IsCut (files : Files) (event : Event) (start : Image) (notes part : L
 -- the image is the fold of the notes, and there is no part; or memory ran out in the command of this place
 abbrev pub IsLeft : Ending → (files : Files) (events : List Event) (start : Image) (count : ℕ) → WholeRun files (take count events) start → List Note → Image → Type 0
 IsLeft ending files events start count run part left =
-    ((part ≡ []) × (left ≡ image_behind (first_past start) start run.journal)) ⊎ ((ending ≡ EndsOutOfMemory) × (event : Event) × (slice_get events count ≡ Some event) × IsCut files event start run.journal part run.last left)
+    ((part ≡ []) × (left ≡ image_of run)) ⊎ ((ending ≡ EndsOutOfMemory) × (event : Event) × (slice_get events count ≡ Some event) × IsCut files event start run.journal part run.last left)
 
 -- the first events were run, all of them where nothing ended it early, and the run is exact; the journal is that run's, and a
 -- part of the next event's

@@ -36,9 +36,10 @@ ghost use Rattle.fam_whole.specs.Alone.{AskEnds, CommandEnds, MkfsEnds, ParentsE
 ghost use Rattle.fam_whole.specs.Whole.{AreAlike, AreRefusals, AreWhole, EndsExact, EndsFront, EndsNone, IsExact, UpToFault, WholeRun, commands_in, is_move};
 
 /// Where each command ends before the next one begins, and the media doesn't fail, the image after the events is the
-/// fold of new file systems and acknowledged entries. Nothing is pending, and what the notes settle is what the image
-/// reads as. Each answer is the rules' answer on the image that its command began with, so it is of the whole history,
-/// and a report is that image's own. What the caches hold, and how stale it is, is of no account.
+/// fold of new file systems, of the lines that makers put before they halted, and of acknowledged entries. Nothing is
+/// pending, and what the notes settle is what the image reads as; behind a maker that halted after its first send both
+/// say that there is no superblock. Each answer is the rules' answer on the image that its command began with, so it is
+/// of the whole history, and a report is that image's own. What the caches hold, and how stale it is, is of no account.
 pub fn a_script_of_whole_commands_is_exact()
     ensures { (files : Files) (events : List Event) (start : Image) → IsImage start → AreSound events
         → (run : WholeRun files events start) → IsExact run }
@@ -93,9 +94,9 @@ pub fn what_a_call_runs_keeps_the_laws()
 
 /// What the program's top call leaves of a script of whole commands, where no count rose, of media, shelf and sink, and
 /// the shelf holds the script. Each event was run; the notes of the run were put, and it is exact: the image that is left
-/// is the fold of new file systems and acknowledged entries, and each answer is the rules' answer on the image that its
-/// command began with. Or there was no memory (`whole`). Where the media didn't fail, whatever shelf and sink did, so it is of some first events,
-/// and no others were run (`front`); but that memory may have run out in one more command.
+/// is the fold of the events and their notes, and each answer is the rules' answer on the image that its command began
+/// with. Or there was no memory (`whole`). Where the media didn't fail, whatever shelf and sink did, so it is of some
+/// first events, and no others were run (`front`); but that memory may have run out in one more command.
 pub fn a_program_of_whole_commands_is_exact()
     ensures whole { (me random : List ℕ) (out : Outside) (given : Status) (name : List ℕ) (files : Files)
         (bytes : List ℕ) (events : List Event) (start : Image) → NoneRose out
