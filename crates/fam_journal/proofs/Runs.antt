@@ -2,6 +2,7 @@
 pub mod CutReads
 pub mod Staying
 pub mod Following
+pub mod LeftAlone
 pub mod Completing
 pub mod Ending
 pub mod Halting

@@ -19,7 +19,7 @@ use Rattle.fam_format.specs.Reading.{Lines}
 use Rattle.fam_rules.specs.Place.{line_bytes}
 use Rattle.fam_journal.specs.declared.event.Event.{Event}
 use Rattle.fam_journal.specs.declared.event.Event.TheVariants as event
-use Rattle.fam_journal.specs.Ends.{Ending, EventsDone, ReadsAfter, ends_history}
+use Rattle.fam_journal.specs.Ends.{Ending, AllDone, MkfsFails, SourceFails, EndsOutOfMemory, EndsOutOfMemoryBroken, SinkFails, EventsDone, ReadsAfter, ends_history}
 use Rattle.fam_rules.specs.Asks.{File}
 use Rattle.fam_rules.specs.Reply.{Reply}
 use Rattle.fam_journal.specs.Legal.{Legal}
@@ -35,6 +35,15 @@ entries_at (Sound p history pending) = with_pending history pending
 abbrev pub NoneEnds : List Note → Type 0
 NoneEnds [] = ⊤
 NoneEnds (note ∷ notes) = (ends_history note ≡ false) × NoneEnds notes
+
+-- no media fault cut a mkfs of the run that ended so
+abbrev pub IsUncut : Ending → Type 0
+IsUncut AllDone = ⊤
+IsUncut MkfsFails = ⊥
+IsUncut (SourceFails end) = ⊤
+IsUncut EndsOutOfMemory = ⊤
+IsUncut EndsOutOfMemoryBroken = ⊥
+IsUncut SinkFails = ⊤
 
 -- the entries that are settled
 abbrev pub history_at : State → List File

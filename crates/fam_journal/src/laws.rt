@@ -16,7 +16,7 @@ ghost use Rattle.fam_journal.specs.Forms.{AreFormed, BreaksForm, DoesForm, HostF
 ghost use Rattle.fam_journal.specs.View.{HostView, WorldStands, WorldView, empty_world};
 ghost use Rattle.fam_journal.specs.Kept.{Held, Reached, settled_of};
 ghost use Rattle.fam_journal.specs.ByWorld.{number_in, refusal_in, IsRow, TakesNoMedia, world_after};
-ghost use Rattle.fam_journal.specs.Laws.{AreSame, AreSound, IsFree, IsPrefix, NoneEnds, MaySayNext, IsImage, IsSettled, TaskAt, TwoAnswers, first_entries, history_at, second_entries, turn_at};
+ghost use Rattle.fam_journal.specs.Laws.{AreSame, AreSound, IsFree, IsPrefix, IsUncut, NoneEnds, MaySayNext, IsImage, IsSettled, TaskAt, TwoAnswers, first_entries, history_at, second_entries, turn_at};
 ghost use Rattle.fam_journal.specs.Legal.{Legal, LegalBehind, cleared_report};
 ghost use Rattle.fam_rules.specs.Reports.{report_of};
 ghost use Rattle.fam_format.specs.Reading.{Lines};
@@ -95,6 +95,20 @@ pub fn a_run_is_settled()
         → IsImage start → AreSound events
         → (done : EventsDone ending files events (first_session start) journal last)
         → IsSettled ending start files events journal last done }
+{}
+
+/// While a journal's state is bad, memory stays over every run of events whose notes end no history, but one that ends
+/// behind a mkfs that a media fault cut. The run begins in a session that a run has come to; its events are interleaved in
+/// any way, and it ends behind any of them, or within one for want of memory (`stays`). A session to which events lead from
+/// the start is one that a run has come to (`reached`).
+pub fn a_damaged_image_stays()
+    ensures stays { (start : Image) (files : Files) (events : List Event) (ending : Ending) (old new : Session)
+        (before notes : List Note) (origin : Origin) (damage : Damage) (gate : ℕ) → Reached start old.machines before
+        → (past_of start before).state ≡ Bad origin damage gate → AreSound events → IsUncut ending
+        → EventsDone ending files events old notes new → NoneEnds notes → new.machines.memory ≡ old.machines.memory }
+    ensures reached { (start : Image) (files : Files) (events : List Event) (journal : List Note) (last : Session)
+        → IsImage start → AreSound events → Follows files events (first_session start) journal last
+        → Reached start last.machines journal }
 {}
 
 /// Of two answers with no file system made between them, and no maker halted behind its first send, the one of fewer

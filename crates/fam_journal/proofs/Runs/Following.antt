@@ -208,7 +208,7 @@ module _ (start : Image) (files : Files) where
       (follows_kept events sound.1 x.0 new (journal ++ x.1) x.2 (event_kept e sound.0 old x.0 journal x.1 kept x.3) x.4)
 
   -- prefixes of sound events
-  prefix_sound : (count : ℕ) (events : List Event) → AreSound events → AreSound (take count events)
+  pub prefix_sound : (count : ℕ) (events : List Event) → AreSound events → AreSound (take count events)
   prefix_sound zero events sound = tt
   prefix_sound (suc count) [] sound = tt
   prefix_sound (suc count) (e ∷ events) sound = (sound.0, prefix_sound count events sound.1)

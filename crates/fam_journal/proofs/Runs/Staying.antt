@@ -121,11 +121,11 @@ module _ (start : Image) where
       host_stays h state kept.held.normal op.outcome (slice_get state.hosts h) (λ host at. nothing_sent start state journal kept origin damage gate is h host at) _ op.is
 
   -- behind notes that end no history the state is as bad
-  bad_behind : (journal notes : List Note) (origin : Origin) (damage : Damage) (gate : ℕ) → NoneEnds notes → (past_of start journal).state ≡ Bad origin damage gate → (past_of start (journal ++ notes)).state ≡ Bad origin damage gate
+  pub bad_behind : (journal notes : List Note) (origin : Origin) (damage : Damage) (gate : ℕ) → NoneEnds notes → (past_of start journal).state ≡ Bad origin damage gate → (past_of start (journal ++ notes)).state ≡ Bad origin damage gate
   bad_behind journal notes origin damage gate none is =
       ap (λ (x : Past). x.state) (past_both (first_past start) journal notes) ∙ notes_bad notes (past_of start journal) origin damage gate none is
 
-  operates_stay : (h count : ℕ) (state : Machines) (journal : List Note) → Reached start state journal → (origin : Origin) (damage : Damage) (gate : ℕ) → (past_of start journal).state ≡ Bad origin damage gate
+  pub operates_stay : (h count : ℕ) (state : Machines) (journal : List Note) → Reached start state journal → (origin : Origin) (damage : Damage) (gate : ℕ) → (past_of start journal).state ≡ Bad origin damage gate
       → (notes : List Note) (new : Machines) → DoesOperations h count state notes new → new.memory ≡ state.memory
   operates_stay h zero state journal kept origin damage gate is notes new o = ap (λ (m : Machines). m.memory) o.1
   operates_stay h (suc count) state journal kept origin damage gate is notes new (inl o) = ap (λ (m : Machines). m.memory) o.2
