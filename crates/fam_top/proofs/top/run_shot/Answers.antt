@@ -1,4 +1,4 @@
-use Rattle.std.proofs.Common.{List, ℕ, Some, subst, sym}
+use Rattle.std.proofs.Common.{List, None, ℕ, Some, subst, sym}
 use Rattle.fam_machine.specs.MkfsRequest.{mkfs_request}
 use Rattle.fam_media.specs.States.{change}
 use Rattle.fam_grammar.specs.Scripts.{script_events}
