@@ -1,7 +1,7 @@
 #!/usr/bin/env bash
 # Prints a table of what large commands cost: instructions (by valgrind's callgrind), system calls (by strace, where it is
-# there) and peak memory, and a second one of what commands of mounted hosts cost. Instructions don't depend on what else
-# the machine does. It takes some minutes.
+# there), processor time of user and system together (the least of five runs) and peak memory, and a second one of what
+# commands of mounted hosts cost. Instructions don't depend on what else the machine does; times do. It takes some minutes.
 set -eu
 top=$(cd "$(dirname "${BASH_SOURCE[0]}")/.." && pwd)
 "$top/famfs" logplay "$top/crates/famfs/data/img" >/dev/null
@@ -16,6 +16,7 @@ python3 - <<'PY'
 lines = ["host m 00000000-0000-0000-0000-000000000001", "mkfs m 11111111-1111-4111-8111-111111111111 unit=4K log=1M"]
 lines += ["run m mkdir directory-%05d" % i for i in range(2000)]
 open("mkdirs", "w").write("\n".join(lines) + "\n")
+open("listings", "w").write("\n".join(lines[:2] + [each + "\nrun m logplay" for each in lines[2:]]) + "\n")
 PY
 python3 - "$top/crates/famfs/out/famfs" <<'PY'
 import os, re, resource, shutil, subprocess, sys
@@ -35,17 +36,21 @@ def calls(words):
     run = subprocess.run(["strace", "-f", "-c", "-o", "calls", famfs] + words, stdout=subprocess.DEVNULL)
     return int(re.search(r"\s(\d+)\s+(?:\d+\s+)?total", open("calls").read())[1])
 
-def peak(words):
+def used(words):
     child = subprocess.Popen([famfs] + words, stdout=subprocess.DEVNULL)
-    return os.wait4(child.pid, 0)[2].ru_maxrss
+    return os.wait4(child.pid, 0)[2]
 
 def row(what, make, words):
     make()
     count = instructions(words)
     make()
     told = calls(words)
-    make()
-    print("| %s | %s M | %s | %.1f MiB |" % (what, format(count / 1e6, ",.1f"), "-" if told is None else format(told, ","), peak(words) / 1024))
+    runs = []
+    for _ in range(5):
+        make()
+        runs.append(used(words))
+    least = min(it.ru_utime + it.ru_stime for it in runs)
+    print("| %s | %s M | %s | %.0f ms | %.1f MiB |" % (what, format(count / 1e6, ",.1f"), "-" if told is None else format(told, ","), 1000 * least, runs[0].ru_maxrss / 1024))
 
 def log():
     shutil.copyfile("log", "image")
@@ -85,8 +90,8 @@ def mounted(what, make):
     many = cost(make, start + ["run m mkdir more-%02d" % i for i in range(100)]) - before
     print("| %s | %s | %s | %s | %s |" % (what, format(mkdir, ","), format(verify, ","), format(logplay, ","), format(many, ",")))
 
-print("| Command | Instructions | System calls | Peak memory |")
-print("|---|---|---|---|")
+print("| Command | Instructions | System calls | Processor time | Peak memory |")
+print("|---|---|---|---|---|")
 row("logplay of 16,382 directories", log, ["logplay", "image"])
 row("mkdir behind them", log, ["mkdir", "image", "last"])
 row("fsck of them", log, ["fsck", "image"])
@@ -94,7 +99,9 @@ row("creat of 64 MiB of a seed's bytes", file, ["creat", "image", "f", "-s", "64
 row("verify of it", filled, ["verify", "image", "f", "-S", "1"])
 row("dup of 64 MiB", dup, ["dup", "filled", "image"])
 row("script of 2,000 mkdirs, log of 1 MiB", lambda: blank(16 << 20), ["script", "mkdirs", "image"])
+row("the same, each followed by a logplay", lambda: blank(16 << 20), ["script", "listings", "image"])
 row("`storm 7 20000`", lambda: blank(4 << 20), ["storm", "7", "20000", "image"])
+row("`storm 7 100000`", lambda: blank(4 << 20), ["storm", "7", "100000", "image"])
 row("logplay of 131,070 directories", large, ["logplay", "image"])
 print()
 print("| Of mounted hosts, with one new slot, instructions | mkdir | verify | logplay, beside one with no new slot | 100 mkdirs |")
