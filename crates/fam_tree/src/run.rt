@@ -35,6 +35,7 @@ impl Model for Run {
 impl Clone for Run {
     ghost is_clone = { λ run copy. copy ≡ run };
 
+    #[inline(always)]
     fn clone(&self) -> Result<Run, AllocError> {
         let places = self.places.clone()?;
         Ok(Run { places })
