@@ -12,7 +12,7 @@ returns-in-Some-clause-room c =
     let last = c.in-Some.chunk.now in
     let is : slice_get chunks (length chunks - 1) ≡ Some last = sym c.in-Some.ensures.value in
     let within = slice_get_within chunks (length chunks - 1) last is in
-    where_told _ (λ test. last_has_room chunks (length chunks - 1) last (omega (arith, within)) is (omega (arith, ltb-true c.len.result 256 test, c.len.ensures)))
+    where_told _ (λ (test : nat_lt c.len.result 256 ≡ true). last_has_room chunks (length chunks - 1) last (omega (arith, within)) is (omega (arith, ltb-true c.len.result 256 test, c.len.ensures)))
 
 pub returns-in-Some-clause-full : goal.returns-in-Some-clause-full
 returns-in-Some-clause-full c =
@@ -20,4 +20,4 @@ returns-in-Some-clause-full c =
     let last = c.in-Some.chunk.now in
     let is : slice_get chunks (length chunks - 1) ≡ Some last = sym c.in-Some.ensures.value in
     let within = slice_get_within chunks (length chunks - 1) last is in
-    unless_told _ (λ test. last_is_full chunks (length chunks - 1) last (omega (arith, within)) c.requires is (omega (arith, ltb-false c.len.result 256 test, c.len.ensures)))
+    unless_told _ (λ (test : nat_lt c.len.result 256 ≡ false). last_is_full chunks (length chunks - 1) last (omega (arith, within)) c.requires is (omega (arith, ltb-false c.len.result 256 test, c.len.ensures)))
