@@ -2,27 +2,29 @@
 
 ghost use Rattle.std.specs.Prelude.{◌≡◌, ◌<◌, ◌++◌, ◌∷◌, [], IfOk, length, slice_get};
 ghost use Rattle.std.specs.Bool.{OnTrue, OnFalse};
-ghost use Rattle.fam_tree.specs.Chunks.{AreFull, ArePacked, HaveRoom};
+ghost use Rattle.fam_tree.specs.Chunks.{AreGroups, ArePacked, entries_of};
 ghost use Rattle.fam_tree.specs.Rows.{entry_shown};
-ghost use Rattle.fam_tree.specs.Runs.{entries_in, entry_at};
+ghost use Rattle.fam_tree.specs.Runs.{entry_at};
 
 use crate::beside::Beside;
 use crate::chunk::Chunk;
 use crate::entry_list::EntryList;
+use crate::group::{GROUP, GROUP_CHUNKS, Group};
+use crate::packed::{find_in, has_room, put};
 use crate::shown::Shown;
 use fam_base::{Entry, Kind, OutOfMemory};
 use std::alloc::Global;
 use std::marker::Model;
+use std::mem::replace;
 
-/// How many entries a chunk has.
-pub(crate) const CHUNK: usize = 256;
-
-/// Entries in the order in which they were added. Each chunk but the last one is full, so that one more changes none but
-/// that, and copies it where another list has it too.
+/// Entries in the order in which they were added. Chunks that are full are put into groups, so that a copy takes few
+/// counts, and the others stand behind them. Of these each but the last one is full, so that one more entry changes none but that,
+/// and copies it where another list has it too.
 #[derive(Drop)]
 pub(crate) struct Chunks {
     alloc: Global,
-    chunks: Vec<Chunk>,
+    groups: Vec<Group>,
+    later: Vec<Chunk>,
     len: usize,
 }
 
@@ -31,67 +33,42 @@ impl Model for Chunks {
     ghost use Rattle.std.specs.Coded.{coded_list};
     ghost use Rattle.fam_base.specs.declared.entry.Entry.{Entry};
     ghost use Rattle.fam_base.specs.contracts.entry.Entry as entry_type;
-    ghost use Rattle.fam_tree.specs.Chunks.{AreChunks};
-    ghost use Rattle.fam_tree.specs.Runs.{entries_in};
+    ghost use Rattle.fam_tree.specs.Chunks.{AreChunks, entries_of};
 
     ghost Value = { List Entry };
 
     ghost coded = { coded_list entry_type.the_row.coded };
 
-    ghost view = { λ c. entries_in c.chunks.items };
+    ghost view = { λ c. entries_of c.groups.items c.later.items };
 
-    ghost invariant = { λ c. AreChunks c.chunks.items c.len };
+    ghost invariant = { λ c. AreChunks c.groups.items c.later.items c.len };
 }
 
-/// Whether the last chunk has room for one more.
-fn has_room(chunks: &[Chunk]) -> bool
-    requires { ArePacked chunks.now }
-    ensures room { OnTrue result (HaveRoom chunks.now) }
-    ensures full { OnFalse result (AreFull chunks.now) }
+/// Makes a group of the later chunks where these are as many as a group has, and full. Says whether there was memory for it;
+/// else nothing changes.
+fn close(groups: &mut Vec<Group>, later: &mut Vec<Chunk>, alloc: Global) -> bool
+    requires groups { AreGroups groups.old.items }
+    requires later { ArePacked later.old.items }
+    ensures groups { AreGroups groups.new.items }
+    ensures later { ArePacked later.new.items }
+    ensures entries { entries_of groups.new.items later.new.items ≡ entries_of groups.old.items later.old.items }
 {
-    match chunks.last() {
-        Some(chunk) => chunk.len() < CHUNK,
-        None => false,
+    if later.len() != GROUP_CHUNKS || has_room(later) {
+        return true;
     }
-}
-
-/// Puts an entry into a new chunk behind the others, where something else grows by it. A first chunk takes memory as it
-/// grows, and any other one at once.
-fn begin<B: Beside>(chunks: &mut Vec<Chunk>, alloc: Global, entry: &Entry, beside: &mut B) -> bool
-    requires full { AreFull chunks.old.items }
-    requires beside { B.may_grow beside.old entry.now }
-    ensures packed { ArePacked chunks.new.items }
-    ensures added { OnTrue result (entries_in chunks.new.items ≡ entries_in chunks.old.items ++ entry.now ∷ []) }
-    ensures grown { OnTrue result (B.grown beside.old entry.now beside.new) }
-    ensures kept { OnFalse result (chunks.new.items ≡ chunks.old.items) }
-    ensures same { OnFalse result (beside.new ≡ beside.old) }
-{
-    let rows = if chunks.is_empty() { 0 } else { CHUNK };
-    let Ok(mut chunk) = Chunk::with_rows(alloc, rows) else {
-        return false;
-    };
-    if chunks.reserve(1).is_err() || !chunk.push(entry, beside) {
+    if groups.reserve(1).is_err() {
         return false;
     }
-    let _ = chunks.push(chunk);
-    true
-}
-
-/// Puts an entry behind the others, where something else grows by it. Else, and if there is no memory, nothing changes.
-fn put<B: Beside>(chunks: &mut Vec<Chunk>, alloc: Global, entry: &Entry, beside: &mut B) -> bool
-    requires packed { ArePacked chunks.old.items }
-    requires beside { B.may_grow beside.old entry.now }
-    ensures packed { ArePacked chunks.new.items }
-    ensures added { OnTrue result (entries_in chunks.new.items ≡ entries_in chunks.old.items ++ entry.now ∷ []) }
-    ensures grown { OnTrue result (B.grown beside.old entry.now beside.new) }
-    ensures kept { OnFalse result (entries_in chunks.new.items ≡ entries_in chunks.old.items) }
-    ensures same { OnFalse result (beside.new ≡ beside.old) }
-{
-    if !has_room(chunks) {
-        return begin(chunks, alloc, entry, beside);
+    match Group::new(alloc, replace(later, Vec::new(alloc))) {
+        Ok(group) => {
+            let _ = groups.push(group);
+            true
+        }
+        Err(back) => {
+            *later = back;
+            false
+        }
     }
-    let last = chunks.len() - 1;
-    chunks[last].push(entry, beside)
 }
 
 impl Chunks {
@@ -101,7 +78,8 @@ impl Chunks {
     {
         Chunks {
             alloc,
-            chunks: Vec::new(alloc),
+            groups: Vec::new(alloc),
+            later: Vec::new(alloc),
             len: 0,
         }
     }
@@ -119,7 +97,10 @@ impl Chunks {
         requires { place < length self.now }
         ensures { slice_get result.0.now result.1 ≡ slice_get self.now place }
     {
-        (self.chunks[place / CHUNK].entries(), place % CHUNK)
+        match self.groups.get(place / GROUP) {
+            Some(group) => group.find(place % GROUP),
+            None => find_in(&self.later, place - GROUP * self.groups.len()),
+        }
     }
 
     /// The entry at a place.
@@ -173,7 +154,10 @@ impl Chunks {
         let Some(len) = self.len.checked_add(1) else {
             return false;
         };
-        if !put(&mut self.chunks, self.alloc, entry, beside) {
+        if !close(&mut self.groups, &mut self.later, self.alloc) {
+            return false;
+        }
+        if !put(&mut self.later, self.alloc, entry, beside) {
             return false;
         }
         self.len = len;
@@ -184,10 +168,14 @@ impl Chunks {
     pub(crate) fn copy(&self, alloc: Global) -> Result<Chunks, OutOfMemory>
         ensures { IfOk result (λ chunks. chunks ≡ self.now) }
     {
-        match self.chunks.clone() {
-            Ok(chunks) => Ok(Chunks {
+        let Ok(groups) = self.groups.clone() else {
+            return Err(OutOfMemory);
+        };
+        match self.later.clone() {
+            Ok(later) => Ok(Chunks {
                 alloc,
-                chunks,
+                groups,
+                later,
                 len: self.len,
             }),
             Err(_) => Err(OutOfMemory),

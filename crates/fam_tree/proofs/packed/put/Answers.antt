@@ -1,8 +1,8 @@
 use Rattle.std.proofs.Common.{◌≡◌, ◌<◌, ◌-◌, length, suc, ◌∙◌, arith}
 use Rattle.fam_tree.specs.Chunks.{HaveRoom}
-use Rattle.fam_tree.proofs.ChunkPlaces.{last_added, last_are_packed, last_has_few, room_is_somewhere, room_of_last}
+use Rattle.fam_tree.proofs.PackedChunks.{last_added, last_are_packed, last_has_few, room_is_somewhere, room_of_last}
 use Rattle.fam_tree.proofs.Edits.{where_one}
-use Rattle.fam_tree.proofs.chunks.put.Goals as goal
+use Rattle.fam_tree.proofs.packed.put.Goals as goal
 
 pub returns-clause-packed : goal.returns-clause-packed
 returns-clause-packed g c =

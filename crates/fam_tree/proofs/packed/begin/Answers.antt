@@ -1,9 +1,9 @@
 use Rattle.std.proofs.Common.{◌≡◌, List, ◌++◌, ◌∷◌, [], length, sym, ap, subst, ◌∙◌, arith}
 use Rattle.fam_base.specs.declared.entry.Entry.{Entry}
 use Rattle.fam_tree.specs.Chunks.{ArePacked}
-use Rattle.fam_tree.proofs.ChunkPlaces.{Chunks, begun_are_packed, full_are_packed}
+use Rattle.fam_tree.proofs.PackedChunks.{Chunks, begun_are_packed, full_are_packed}
 use Rattle.fam_tree.proofs.Edits.{chosen, where_ok}
-use Rattle.fam_tree.proofs.chunks.begin.Goals as goal
+use Rattle.fam_tree.proofs.packed.begin.Goals as goal
 
 pub returns-in_default-clause-packed : goal.returns-in_default-clause-packed
 returns-in_default-clause-packed g c = full_are_packed c.args.chunks.now.items c.requires.full

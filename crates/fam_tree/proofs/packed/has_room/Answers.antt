@@ -1,10 +1,10 @@
-use Rattle.std.proofs.Common.{◌≡◌, Some, length, sym, arith}
-use Rattle.std.specs.Prelude.{◌-◌, slice_get}
+use Rattle.std.proofs.Common.{◌≡◌, Some, length, true, false, sym, arith}
+use Rattle.std.specs.Prelude.{◌-◌, nat_lt, slice_get}
 use Rattle.std.proofs.lemmas.Bool.{ltb-false, ltb-true}
 use Rattle.std.proofs.lemmas.Option.{slice_get_within}
-use Rattle.fam_tree.proofs.ChunkPlaces.{last_has_room, last_is_full}
+use Rattle.fam_tree.proofs.PackedChunks.{last_has_room, last_is_full}
 use Rattle.fam_tree.proofs.Edits.{unless_told, where_told}
-use Rattle.fam_tree.proofs.chunks.has_room.Goals as goal
+use Rattle.fam_tree.proofs.packed.has_room.Goals as goal
 
 pub returns-in-Some-clause-room : goal.returns-in-Some-clause-room
 returns-in-Some-clause-room c =
