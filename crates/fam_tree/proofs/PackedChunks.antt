@@ -1,12 +1,11 @@
--- Chunks of which each but the last one is full, and groups of full ones.
+-- Chunks of which each but the last one is full.
 use Rattle.std.proofs.Common.{◌≡◌, ℕ, zero, suc, ◌+◌, ◌*◌, ◌<◌, ◌≤◌, Bool, true, false, List, [], ◌∷◌, ◌++◌, Some, length, get_or, set, refl, sym, ap, ◌∙◌, arith, length-append, append-nil}
 use Rattle.std.specs.Prelude.{slice_get}
 use Rattle.std.specs.Bool.{OnTrue, OnFalse}
 use Rattle.std.proofs.lemmas.List.{append_assoc}
 use Rattle.fam_base.specs.declared.entry.Entry.{Entry}
-use Rattle.fam_tree.specs.Chunks.{AreFull, AreGroups, ArePacked, HaveRoom}
+use Rattle.fam_tree.specs.Chunks.{AreFull, ArePacked, HaveRoom}
 use Rattle.fam_tree.specs.Runs.{entries_in}
-use Rattle.fam_tree.specs.declared.group.TheConstants.{GROUP}
 use Rattle.fam_tree.specs.declared.packed.TheConstants.{CHUNK}
 use Rattle.fam_tree.proofs.ChunkPlaces.{behind, front}
 
@@ -36,29 +35,6 @@ in_packed (x ∷ y ∷ more) (suc n) r chunk packed within below is =
     ap (slice_get (x ++ entries_in (y ∷ more))) (omega arith)
     ∙ behind x (entries_in (y ∷ more)) CHUNK (CHUNK * n + r) packed.0
     ∙ in_packed (y ∷ more) n r chunk packed.1 (omega arith) below is
-
--- full ones have as many each
-pub full_count : (chunks : Chunks) → AreFull chunks → length (entries_in chunks) ≡ CHUNK * length chunks
-full_count [] full = omega arith
-full_count (x ∷ chunks) full =
-    let n = length-append x (entries_in chunks) in
-    let rest = full_count chunks full.1 in
-    omega (arith, n, rest, full.0)
-
--- ---- groups
-
--- so many groups have as many entries
-pub groups_count : (groups : Chunks) → AreGroups groups → length (entries_in groups) ≡ GROUP * length groups
-groups_count [] each = omega arith
-groups_count (x ∷ groups) each =
-    let n = length-append x (entries_in groups) in
-    let rest = groups_count groups each.1 in
-    omega (arith, n, rest, each.0)
-
--- one more of them
-pub grouped : (groups : Chunks) (group : List Entry) → AreGroups groups → length group ≡ GROUP → AreGroups (groups ++ group ∷ [])
-grouped [] group each is = (is, tt)
-grouped (x ∷ groups) group each is = (each.0, grouped groups group each.1 is)
 
 -- ---- one more
 

@@ -2,29 +2,24 @@
 
 ghost use Rattle.std.specs.Prelude.{◌≡◌, ◌<◌, ◌++◌, ◌∷◌, [], IfOk, length, slice_get};
 ghost use Rattle.std.specs.Bool.{OnTrue, OnFalse};
-ghost use Rattle.fam_tree.specs.Chunks.{AreGroups, ArePacked, entries_of};
 ghost use Rattle.fam_tree.specs.Rows.{entry_shown};
 ghost use Rattle.fam_tree.specs.Runs.{entry_at};
 
 use crate::beside::Beside;
 use crate::chunk::Chunk;
 use crate::entry_list::EntryList;
-use crate::group::{GROUP, GROUP_CHUNKS, Group};
-use crate::packed::{find_in, has_room, put};
+use crate::packed::{find_in, put};
 use crate::shown::Shown;
 use fam_base::{Entry, Kind, OutOfMemory};
 use std::alloc::Global;
 use std::marker::Model;
-use std::mem::replace;
 
-/// Entries in the order in which they were added. Chunks that are full are put into groups, so that a copy takes few
-/// counts, and the others stand behind them. Of these each but the last one is full, so that one more entry changes none but that,
-/// and copies it where another list has it too.
+/// Entries in the order in which they were added. Each chunk but the last one is full, so that one more entry changes none
+/// but that, and copies it where another list has it too.
 #[derive(Drop)]
 pub(crate) struct Chunks {
     alloc: Global,
-    groups: Vec<Group>,
-    later: Vec<Chunk>,
+    chunks: Vec<Chunk>,
     len: usize,
 }
 
@@ -33,42 +28,16 @@ impl Model for Chunks {
     ghost use Rattle.std.specs.Coded.{coded_list};
     ghost use Rattle.fam_base.specs.declared.entry.Entry.{Entry};
     ghost use Rattle.fam_base.specs.contracts.entry.Entry as entry_type;
-    ghost use Rattle.fam_tree.specs.Chunks.{AreChunks, entries_of};
+    ghost use Rattle.fam_tree.specs.Chunks.{AreChunks};
+    ghost use Rattle.fam_tree.specs.Runs.{entries_in};
 
     ghost Value = { List Entry };
 
     ghost coded = { coded_list entry_type.the_row.coded };
 
-    ghost view = { λ c. entries_of c.groups.items c.later.items };
+    ghost view = { λ c. entries_in c.chunks.items };
 
-    ghost invariant = { λ c. AreChunks c.groups.items c.later.items c.len };
-}
-
-/// Makes a group of the later chunks where these are as many as a group has, and full. Says whether there was memory for it;
-/// else nothing changes.
-fn close(groups: &mut Vec<Group>, later: &mut Vec<Chunk>, alloc: Global) -> bool
-    requires groups { AreGroups groups.old.items }
-    requires later { ArePacked later.old.items }
-    ensures groups { AreGroups groups.new.items }
-    ensures later { ArePacked later.new.items }
-    ensures entries { entries_of groups.new.items later.new.items ≡ entries_of groups.old.items later.old.items }
-{
-    if later.len() != GROUP_CHUNKS || has_room(later) {
-        return true;
-    }
-    if groups.reserve(1).is_err() {
-        return false;
-    }
-    match Group::new(alloc, replace(later, Vec::new(alloc))) {
-        Ok(group) => {
-            let _ = groups.push(group);
-            true
-        }
-        Err(back) => {
-            *later = back;
-            false
-        }
-    }
+    ghost invariant = { λ c. AreChunks c.chunks.items c.len };
 }
 
 impl Chunks {
@@ -78,8 +47,7 @@ impl Chunks {
     {
         Chunks {
             alloc,
-            groups: Vec::new(alloc),
-            later: Vec::new(alloc),
+            chunks: Vec::new(alloc),
             len: 0,
         }
     }
@@ -97,10 +65,7 @@ impl Chunks {
         requires { place < length self.now }
         ensures { slice_get result.0.now result.1 ≡ slice_get self.now place }
     {
-        match self.groups.get(place / GROUP) {
-            Some(group) => group.find(place % GROUP),
-            None => find_in(&self.later, place - GROUP * self.groups.len()),
-        }
+        find_in(&self.chunks, place)
     }
 
     /// The entry at a place.
@@ -154,10 +119,7 @@ impl Chunks {
         let Some(len) = self.len.checked_add(1) else {
             return false;
         };
-        if !close(&mut self.groups, &mut self.later, self.alloc) {
-            return false;
-        }
-        if !put(&mut self.later, self.alloc, entry, beside) {
+        if !put(&mut self.chunks, self.alloc, entry, beside) {
             return false;
         }
         self.len = len;
@@ -168,14 +130,10 @@ impl Chunks {
     pub(crate) fn copy(&self, alloc: Global) -> Result<Chunks, OutOfMemory>
         ensures { IfOk result (λ chunks. chunks ≡ self.now) }
     {
-        let Ok(groups) = self.groups.clone() else {
-            return Err(OutOfMemory);
-        };
-        match self.later.clone() {
-            Ok(later) => Ok(Chunks {
+        match self.chunks.clone() {
+            Ok(chunks) => Ok(Chunks {
                 alloc,
-                groups,
-                later,
+                chunks,
                 len: self.len,
             }),
             Err(_) => Err(OutOfMemory),

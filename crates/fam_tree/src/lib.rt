@@ -11,7 +11,6 @@ mod chunk;
 mod chunks;
 mod entry_list;
 mod fault;
-mod group;
 mod line_words;
 mod lines;
 mod listings;
