@@ -78,7 +78,7 @@ impl Order {
     pub(crate) fn copy(&self, alloc: Global) -> Result<Order, OutOfMemory>
         ensures { IfOk result (λ order. order ≡ self.now) }
     {
-        let last = self.last.copy()?;
+        let last = self.last.copy(alloc)?;
         match self.full.clone() {
             Ok(full) => Ok(Order {
                 alloc,

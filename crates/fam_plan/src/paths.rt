@@ -73,13 +73,13 @@ impl Paths {
     }
 
     /// The same paths, in memory of their own.
-    pub(crate) fn copy(&self) -> Result<Paths, OutOfMemory>
+    pub(crate) fn copy(&self, alloc: Global) -> Result<Paths, OutOfMemory>
         ensures { IfOk result (λ paths. paths ≡ self.now) }
     {
-        let Ok(bytes) = self.bytes.clone() else {
+        let Ok(bytes) = Vec::from_slice(alloc, self.bytes.as_slice()) else {
             return Err(OutOfMemory);
         };
-        match self.ends.clone() {
+        match Vec::from_slice(alloc, self.ends.as_slice()) {
             Ok(ends) => Ok(Paths { bytes, ends }),
             Err(_) => Err(OutOfMemory),
         }

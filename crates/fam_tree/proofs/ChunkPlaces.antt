@@ -22,12 +22,12 @@ module _ {X : Type 0} (xs ys : List X) (i j : ℕ) where
 -- ---- chunks
 
 module _ {X : Type 0} where
-  front : (a b : List X) (i : ℕ) → i < length a → slice_get (a ++ b) i ≡ slice_get a i
+  pub front : (a b : List X) (i : ℕ) → i < length a → slice_get (a ++ b) i ≡ slice_get a i
   front [] b i within = absurd (omega arith)
   front (x ∷ a) b zero within = refl
   front (x ∷ a) b (suc i) within = front a b i (omega arith)
 
-  behind : (a b : List X) (n i : ℕ) → length a ≡ n → slice_get (a ++ b) (n + i) ≡ slice_get b i
+  pub behind : (a b : List X) (n i : ℕ) → length a ≡ n → slice_get (a ++ b) (n + i) ≡ slice_get b i
   behind [] b n i is = ap (slice_get b) (omega (arith, is))
   behind (x ∷ a) b zero i is = absurd (omega (arith, is))
   behind (x ∷ a) b (suc n) i is =

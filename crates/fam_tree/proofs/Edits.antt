@@ -1,6 +1,7 @@
 -- What becomes of a run's places.
-use Rattle.std.proofs.Common.{◌≡◌, ℕ, zero, suc, ◌+◌, ◌<◌, ◌⊎◌, ⊎_elim, Bool, true, false, Vec, Global, List, [], ◌∷◌, ◌++◌, length, get_or, set, map as list_map, take, drop, refl, sym, ap, subst, ◌∙◌, arith, length-append}
+use Rattle.std.proofs.Common.{◌≡◌, ℕ, zero, suc, ◌+◌, ◌<◌, ◌⊎◌, ⊎_elim, Bool, true, false, Vec, Global, List, [], ◌∷◌, ◌++◌, length, get_or, set, map as list_map, take, drop, Result, Ok, Err, IsOk, OnOk, if◌then◌else◌, refl, sym, ap, subst, ◌∙◌, arith, length-append}
 use Rattle.std.specs.Bool.{OnTrue, OnFalse}
+use Rattle.std.specs.Result.{is_err, is_ok}
 use Rattle.std.specs.List.{AllByRecursion, AllZip, insert}
 use Rattle.std.proofs.Math.Seq.{get_or-append_seam}
 use Rattle.std.proofs.lemmas.List.{drop-map, map-append, take-append-drop, take-map}
@@ -85,3 +86,26 @@ where_true false p q f = tt
 pub where_false : {P Q : Type 0} (t : Bool) → OnFalse t P → (P → Q) → OnFalse t Q
 where_false true p f = tt
 where_false false p f = f p
+
+pub where_one : {P Q : Type 0} (t : Bool) → OnTrue t P → (P → Q) → OnTrue t Q
+where_one true p f = f p
+where_one false p f = tt
+
+-- by what a test says
+pub where_told : {P : Type 0} (t : Bool) → (t ≡ true → P) → OnTrue t P
+where_told true f = f refl
+where_told false f = tt
+
+pub unless_told : {P : Type 0} (t : Bool) → (t ≡ false → P) → OnFalse t P
+unless_told true f = tt
+unless_told false f = f refl
+
+-- ---- what didn't fail
+
+pub where_ok : {T E : Type 0} (r : Result T E) (P : Type 0) → is_err r ≡ false → OnOk r P → P
+where_ok (Ok x) P not p = p
+where_ok (Err e) P not p = absurd (cc (not))
+
+pub chosen : {T E X : Type 0} (r : Result T E) (x y z : X) → IsOk r → z ≡ (if is_ok r then x else y) → z ≡ x
+chosen (Ok t) x y z ok is = is
+chosen (Err e) x y z ok is = absurd (cc (ok))

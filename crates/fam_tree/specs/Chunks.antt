@@ -1,19 +1,27 @@
--- The list of the entries of a tree: chunks of as many entries each, and the last ones behind them.
-use Rattle.std.specs.Prelude.{ℕ, ◌≡◌, List, ◌++◌, length}
+-- The list of the entries of a tree: chunks, one behind another.
+use Rattle.std.specs.Prelude.{ℕ, ⊤, ◌≡◌, ◌<◌, ◌≤◌, List, [], ◌∷◌, length}
 use Rattle.std.specs.List.{AllByRecursion}
 use Rattle.fam_base.specs.declared.entry.Entry.{Entry}
 use Rattle.fam_tree.specs.Runs.{entries_in}
-use Rattle.fam_tree.specs.declared.chunks.TheConstants.{CHUNK}
-
--- the entries of chunks and those behind them
-abbrev pub entries_of : List (List Entry) → List Entry → List Entry
-entries_of full last = entries_in full ++ last
+use Rattle.fam_tree.specs.declared.packed.TheConstants.{CHUNK}
 
 -- each chunk is full
 abbrev pub AreFull : List (List Entry) → Type 0
-AreFull full = AllByRecursion (λ chunk. length chunk ≡ CHUNK) full
+AreFull chunks = AllByRecursion (λ chunk. length chunk ≡ CHUNK) chunks
+
+-- each but the last one is full, and that one has no more
+abbrev pub ArePacked : List (List Entry) → Type 0
+ArePacked [] = ⊤
+ArePacked (chunk ∷ []) = length chunk ≤ CHUNK
+ArePacked (chunk ∷ next ∷ more) = (length chunk ≡ CHUNK) × ArePacked (next ∷ more)
+
+-- there is a last one, and it isn't full
+abbrev pub HaveRoom : List (List Entry) → Type 0
+HaveRoom [] = ⊥
+HaveRoom (chunk ∷ []) = length chunk < CHUNK
+HaveRoom (chunk ∷ next ∷ more) = HaveRoom (next ∷ more)
 
 -- a list of so many entries
-pub record AreChunks (full : List (List Entry)) (last : List Entry) (count : ℕ) : Type 0 where
-  pub each : AreFull full
-  pub counted : count ≡ length (entries_of full last)
+pub record AreChunks (chunks : List (List Entry)) (count : ℕ) : Type 0 where
+  pub packed : ArePacked chunks
+  pub counted : count ≡ length (entries_in chunks)

@@ -1,8 +1,8 @@
 -- The entries of a tree in byte order of their paths, cut into runs. They stand in one list, in the order in which they
 -- were added, and a run has their places.
-use Rattle.std.specs.Prelude.{ℕ, ◌≡◌, ◌<◌, ◌≤◌, ◌-◌, suc, ⊤, Bool, ◌≢◌, List, [], ◌∷◌, ◌++◌, map, length, take, drop, slice_get, slice_index_or, Option, Some, None, option_map, true}
+use Rattle.std.specs.Prelude.{ℕ, ◌≡◌, ◌<◌, ◌≤◌, ◌-◌, suc, ⊤, Bool, List, [], ◌∷◌, map, length, take, drop, slice_get, slice_index_or, Option, Some, None, option_map, true}
 use Rattle.std.specs.FinMap as finmap
-use Rattle.std.specs.List.{AllByRecursion, flat_map, insert, remove}
+use Rattle.std.specs.List.{AllByRecursion, flat_map, insert}
 use Rattle.std.specs.Ordering.{is_lt}
 use Rattle.std.specs.declared.cmp.Ordering.{Ordering}
 use Rattle.std.specs.declared.cmp.Ordering.TheVariants.{Less}

@@ -1,13 +1,16 @@
 //! Entries that follow one another in the list of a tree, shared by its copies.
 
-ghost use Rattle.std.specs.Prelude.{◌≡◌, IfOk, IfErr};
+ghost use Rattle.std.specs.Prelude.{◌≡◌, ◌++◌, ◌∷◌, [], IfOk, length};
+ghost use Rattle.std.specs.Bool.{OnTrue, OnFalse};
 
+use crate::beside::Beside;
 use crate::entry_list::EntryList;
+use fam_base::{Entry, OutOfMemory};
 use std::alloc::{AllocError, Global};
 use std::marker::Model;
 use std::rc::Rc;
 
-/// Entries that several trees may have at once.
+/// Entries that several trees may have at once, until one of them gets another.
 #[derive(Drop)]
 pub(crate) struct Chunk {
     entries: Rc<EntryList>,
@@ -29,6 +32,7 @@ impl Model for Chunk {
 impl Clone for Chunk {
     ghost is_clone = { λ chunk copy. copy ≡ chunk };
 
+    #[inline(always)]
     fn clone(&self) -> Result<Chunk, AllocError> {
         let entries = self.entries.clone()?;
         Ok(Chunk { entries })
@@ -36,15 +40,23 @@ impl Clone for Chunk {
 }
 
 impl Chunk {
-    /// The same entries, to be shared from here on. If there is no memory, they come back.
-    pub(crate) fn new(alloc: Global, entries: EntryList) -> Result<Chunk, EntryList>
-        ensures chunk { IfOk result (λ chunk. chunk ≡ entries) }
-        ensures back { IfErr result (λ back. back ≡ entries) }
+    /// No entries, and memory for the rows of so many.
+    pub(crate) fn with_rows(alloc: Global, count: usize) -> Result<Chunk, OutOfMemory>
+        ensures { IfOk result (λ chunk. chunk ≡ []) }
     {
+        let entries = EntryList::with_rows(alloc, count)?;
         match Rc::new(alloc, entries) {
             Ok(entries) => Ok(Chunk { entries }),
-            Err(full) => Err(full.value),
+            Err(_) => Err(OutOfMemory),
         }
+    }
+
+    /// How many entries there are.
+    #[inline(always)]
+    pub(crate) fn len(&self) -> usize
+        ensures { result ≡ length self.now }
+    {
+        self.entries.len()
     }
 
     /// The entries.
@@ -53,5 +65,21 @@ impl Chunk {
         ensures { result.now ≡ self.now }
     {
         &self.entries
+    }
+
+    /// Puts an entry behind the others, where something else grows by it. Where another tree has them too, they are copied
+    /// first. Else, and if there is no memory, nothing changes.
+    #[inline(always)]
+    pub(crate) fn push<B: Beside>(&mut self, entry: &Entry, beside: &mut B) -> bool
+        requires { B.may_grow beside.old entry.now }
+        ensures added { OnTrue result (self.new ≡ self.old ++ entry.now ∷ []) }
+        ensures grown { OnTrue result (B.grown beside.old entry.now beside.new) }
+        ensures kept { OnFalse result (self.new ≡ self.old) }
+        ensures same { OnFalse result (beside.new ≡ beside.old) }
+    {
+        match Rc::make_mut(&mut self.entries) {
+            Ok(entries) => entries.push(entry, beside),
+            Err(_) => false,
+        }
     }
 }

@@ -2,29 +2,24 @@
 
 ghost use Rattle.std.specs.Prelude.{◌≡◌, ◌<◌, ◌++◌, ◌∷◌, [], IfOk, length, slice_get};
 ghost use Rattle.std.specs.Bool.{OnTrue, OnFalse};
-ghost use Rattle.fam_tree.specs.Chunks.{AreFull, entries_of};
 ghost use Rattle.fam_tree.specs.Rows.{entry_shown};
 ghost use Rattle.fam_tree.specs.Runs.{entry_at};
 
 use crate::beside::Beside;
 use crate::chunk::Chunk;
 use crate::entry_list::EntryList;
+use crate::packed::{find_in, put};
 use crate::shown::Shown;
 use fam_base::{Entry, Kind, OutOfMemory};
 use std::alloc::Global;
 use std::marker::Model;
-use std::mem::replace;
 
-/// How many entries a chunk has.
-pub(crate) const CHUNK: usize = 256;
-
-/// Entries in the order in which they were added. The last of them stand in a chunk of their own, which is shared once it
-/// is full, so that one more changes no chunk that another list has.
+/// Entries in the order in which they were added. Each chunk but the last one is full, so that one more entry changes none
+/// but that, and copies it where another list has it too.
 #[derive(Drop)]
 pub(crate) struct Chunks {
     alloc: Global,
-    full: Vec<Chunk>,
-    last: EntryList,
+    chunks: Vec<Chunk>,
     len: usize,
 }
 
@@ -33,40 +28,16 @@ impl Model for Chunks {
     ghost use Rattle.std.specs.Coded.{coded_list};
     ghost use Rattle.fam_base.specs.declared.entry.Entry.{Entry};
     ghost use Rattle.fam_base.specs.contracts.entry.Entry as entry_type;
-    ghost use Rattle.fam_tree.specs.Chunks.{AreChunks, entries_of};
+    ghost use Rattle.fam_tree.specs.Chunks.{AreChunks};
+    ghost use Rattle.fam_tree.specs.Runs.{entries_in};
 
     ghost Value = { List Entry };
 
     ghost coded = { coded_list entry_type.the_row.coded };
 
-    ghost view = { λ c. entries_of c.full.items c.last };
+    ghost view = { λ c. entries_in c.chunks.items };
 
-    ghost invariant = { λ c. AreChunks c.full.items c.last c.len };
-}
-
-/// Makes a chunk of the last entries, so that the next ones have room of their own.
-fn close(full: &mut Vec<Chunk>, last: &mut EntryList, alloc: Global) -> Result<(), OutOfMemory>
-    requires full { AreFull full.old.items }
-    requires last { length last.old ≡ CHUNK }
-    ensures full { AreFull full.new.items }
-    ensures entries { entries_of full.new.items last.new ≡ entries_of full.old.items last.old }
-{
-    let Ok(next) = EntryList::with_rows(alloc, CHUNK) else {
-        return Err(OutOfMemory);
-    };
-    if full.reserve(1).is_err() {
-        return Err(OutOfMemory);
-    }
-    match Chunk::new(alloc, replace(last, next)) {
-        Ok(chunk) => {
-            let _ = full.push(chunk);
-            Ok(())
-        }
-        Err(back) => {
-            *last = back;
-            Err(OutOfMemory)
-        }
-    }
+    ghost invariant = { λ c. AreChunks c.chunks.items c.len };
 }
 
 impl Chunks {
@@ -76,8 +47,7 @@ impl Chunks {
     {
         Chunks {
             alloc,
-            full: Vec::new(alloc),
-            last: EntryList::new(alloc),
+            chunks: Vec::new(alloc),
             len: 0,
         }
     }
@@ -89,15 +59,13 @@ impl Chunks {
         self.len
     }
 
-    /// The list in which the entry at a place stands, and where. Past all entries it is a place past those of the list.
+    /// The list in which the entry at a place stands, and where.
     #[inline(always)]
     fn find(&self, place: usize) -> (&EntryList, usize)
+        requires { place < length self.now }
         ensures { slice_get result.0.now result.1 ≡ slice_get self.now place }
     {
-        match self.full.get(place / CHUNK) {
-            Some(chunk) => (chunk.entries(), place % CHUNK),
-            None => (&self.last, place - CHUNK * self.full.len()),
-        }
+        find_in(&self.chunks, place)
     }
 
     /// The entry at a place.
@@ -151,29 +119,24 @@ impl Chunks {
         let Some(len) = self.len.checked_add(1) else {
             return false;
         };
-        if self.last.len() == CHUNK && close(&mut self.full, &mut self.last, self.alloc).is_err() {
-            return false;
-        }
-        if !self.last.push(entry, beside) {
+        if !put(&mut self.chunks, self.alloc, entry, beside) {
             return false;
         }
         self.len = len;
         true
     }
 
-    /// An equal list, which shares the full chunks.
+    /// An equal list, which shares the chunks.
     pub(crate) fn copy(&self, alloc: Global) -> Result<Chunks, OutOfMemory>
         ensures { IfOk result (λ chunks. chunks ≡ self.now) }
     {
-        let Ok(full) = self.full.clone() else {
-            return Err(OutOfMemory);
-        };
-        let last = self.last.copy(alloc)?;
-        Ok(Chunks {
-            alloc,
-            full,
-            last,
-            len: self.len,
-        })
+        match self.chunks.clone() {
+            Ok(chunks) => Ok(Chunks {
+                alloc,
+                chunks,
+                len: self.len,
+            }),
+            Err(_) => Err(OutOfMemory),
+        }
     }
 }

@@ -11,8 +11,14 @@ use crate::beside::Beside;
 use crate::row::Row;
 use crate::shown::Shown;
 use fam_base::{Entry, Extent, Kind, OutOfMemory};
-use std::alloc::Global;
+use std::alloc::{AllocError, Global};
 use std::marker::Model;
+
+/// For how many more entries a copy has room.
+const MORE: usize = 4;
+
+/// How many bytes that is of paths, for each of them.
+const PATH_ROOM: usize = 32;
 
 /// Entries in the order in which they were added. An entry takes a row and the bytes of its own path and extents.
 #[derive(Drop)]
@@ -49,18 +55,30 @@ fn put<T: Copy>(items: &mut Vec<T>, more: &[T])
     }
 }
 
-impl EntryList {
-    /// No entries.
-    pub(crate) fn new(alloc: Global) -> EntryList
-        ensures { result ≡ [] }
-    {
-        EntryList {
-            rows: Vec::new(alloc),
-            paths: Vec::new(alloc),
-            extents: Vec::new(alloc),
-        }
-    }
+/// Items in memory of their own, with room for some more.
+fn copied<T: Copy>(items: &Vec<T>, more: usize) -> Result<Vec<T>, AllocError>
+    ensures { IfOk result (λ copy. copy.items ≡ items.now.items) }
+{
+    let mut copy = Vec::new(items.allocator().clone()?);
+    copy.reserve_exact(items.len().saturating_add(more))?;
+    copy.extend_from_slice(items)?;
+    Ok(copy)
+}
 
+impl Clone for EntryList {
+    ghost is_clone = { λ list copy. copy ≡ list };
+
+    /// The same entries in memory of their own. One is copied for the sake of what joins it.
+    fn clone(&self) -> Result<EntryList, AllocError> {
+        Ok(EntryList {
+            rows: copied(&self.rows, MORE)?,
+            paths: copied(&self.paths, MORE * PATH_ROOM)?,
+            extents: copied(&self.extents, 0)?,
+        })
+    }
+}
+
+impl EntryList {
     /// No entries, and memory for the rows of so many.
     pub(crate) fn with_rows(alloc: Global, count: usize) -> Result<EntryList, OutOfMemory>
         ensures { IfOk result (λ list. list ≡ []) }
@@ -147,25 +165,5 @@ impl EntryList {
         put(&mut self.paths, path);
         put(&mut self.extents, extents);
         true
-    }
-
-    /// The same entries, in memory of their own.
-    pub(crate) fn copy(&self, alloc: Global) -> Result<EntryList, OutOfMemory>
-        ensures { IfOk result (λ list. list ≡ self.now) }
-    {
-        let Ok(rows) = Vec::from_slice(alloc, self.rows.as_slice()) else {
-            return Err(OutOfMemory);
-        };
-        let Ok(paths) = Vec::from_slice(alloc, self.paths.as_slice()) else {
-            return Err(OutOfMemory);
-        };
-        match Vec::from_slice(alloc, self.extents.as_slice()) {
-            Ok(extents) => Ok(EntryList {
-                rows,
-                paths,
-                extents,
-            }),
-            Err(_) => Err(OutOfMemory),
-        }
     }
 }

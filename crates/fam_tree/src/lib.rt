@@ -14,6 +14,7 @@ mod fault;
 mod line_words;
 mod lines;
 mod listings;
+mod packed;
 mod row;
 mod run;
 mod runs;

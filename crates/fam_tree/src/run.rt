@@ -35,6 +35,7 @@ impl Model for Run {
 impl Clone for Run {
     ghost is_clone = { λ run copy. copy ≡ run };
 
+    #[inline(always)]
     fn clone(&self) -> Result<Run, AllocError> {
         let places = self.places.clone()?;
         Ok(Run { places })
@@ -78,17 +79,36 @@ fn insert<B: Beside>(
     true
 }
 
-/// Some places, shared anew.
+/// Some places, shared anew, with room for one more.
 fn shared(alloc: Global, places: &[u32]) -> Result<Rc<Vec<u32>>, OutOfMemory>
     ensures { IfOk result (λ shared. shared.value.items ≡ places.now) }
 {
-    let mut own = Vec::new(alloc);
+    let Ok(mut own) = Vec::with_capacity(alloc, places.len().saturating_add(1)) else {
+        return Err(OutOfMemory);
+    };
     if own.extend_from_slice(places).is_err() {
         return Err(OutOfMemory);
     }
     match Rc::new(alloc, own) {
         Ok(shared) => Ok(shared),
         Err(_) => Err(OutOfMemory),
+    }
+}
+
+/// Copies places that another tree has too, all at once, and says whether there was memory for that.
+#[inline(always)]
+fn unshare(places: &mut Rc<Vec<u32>>) -> bool
+    ensures { places.new.value.items ≡ places.old.value.items }
+{
+    if Rc::strong_count(places) == 1 {
+        return true;
+    }
+    match shared(*places.allocator(), places) {
+        Ok(own) => {
+            *places = own;
+            true
+        }
+        Err(_) => false,
     }
 }
 
@@ -190,6 +210,9 @@ impl Run {
         let Err(i) = self.seek(entries, &entry.path) else {
             return false;
         };
+        if !unshare(&mut self.places) {
+            return false;
+        }
         let Ok(places) = Rc::make_mut(&mut self.places) else {
             return false;
         };

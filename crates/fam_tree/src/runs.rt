@@ -13,7 +13,7 @@ use fam_base::{Entry, Path};
 use std::alloc::Global;
 
 /// The most entries of a run, where there is memory to cut it.
-const MOST: usize = 128;
+const MOST: usize = 256;
 
 /// The run that has a path or would have it, and `None` where there is no run.
 fn run_for(entries: &Chunks, runs: &[Run], path: &Path) -> Option<usize>

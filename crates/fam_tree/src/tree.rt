@@ -192,7 +192,7 @@ impl Tree {
         Err(self.fault_at(&entry.path, ApplyFault::OutOfMemory))
     }
 
-    /// An equal tree. The two share all but the last entries until one of them changes.
+    /// An equal tree. The two share all entries, until one joins either of them.
     pub fn copy(&self, alloc: Global) -> Result<Tree, OutOfMemory>
         ensures { IfOk result (λ tree. tree ≡ self.now) }
     {

@@ -1,16 +1,8 @@
-use Rattle.std.proofs.Common.{◌≡◌, ◌<◌, false, length, Result, Ok, Err, IsOk, OnOk, if◌then◌else◌, sym, ap, ◌∙◌, arith}
-use Rattle.std.specs.Result.{is_err, is_ok}
+use Rattle.std.proofs.Common.{◌<◌, length, IsOk, sym, ap, ◌∙◌, arith}
 use Rattle.fam_tree.specs.Runs.{listed}
-use Rattle.fam_tree.proofs.RunPlaces.{Places, are_cut, listed_cut}
+use Rattle.fam_tree.proofs.Edits.{chosen, where_ok}
+use Rattle.fam_tree.proofs.RunPlaces.{are_cut, listed_cut}
 use Rattle.fam_tree.proofs.runs.split.Goals as goal
-
-where_ok : {T E : Type 0} (r : Result T E) (P : Type 0) → is_err r ≡ false → OnOk r P → P
-where_ok (Ok x) P not p = p
-where_ok (Err e) P not p = absurd (cc (not))
-
-chosen : {T E : Type 0} (r : Result T E) (x y z : Places) → IsOk r → z ≡ (if is_ok r then x else y) → z ≡ x
-chosen (Ok t) x y z ok is = is
-chosen (Err e) x y z ok is = absurd (cc (ok))
 
 pub returns-in-Ok-clause-runs : goal.returns-in-Ok-clause-runs
 returns-in-Ok-clause-runs c =

@@ -1,32 +1,21 @@
-use Rattle.std.proofs.Common.{◌≡◌, ℕ, cond, Result, Ok, Err, false, List, [], ◌∷◌, ◌++◌, length, sym, ap, ap₂, ◌∙◌, arith}
-use Rattle.std.specs.Prelude.{IsOk, OnOk}
-use Rattle.std.specs.Result.{is_err, is_ok}
+use Rattle.std.proofs.Common.{◌≡◌, ℕ, List, [], ◌∷◌, ◌++◌, length, sym, ap, ap₂, ◌∙◌, arith}
 use Rattle.fam_base.specs.declared.entry.Entry.{Entry}
 use Rattle.fam_base.specs.declared.extents.Extent.{Extent}
 use Rattle.fam_tree.specs.Rows.{row_of}
 use Rattle.fam_tree.specs.declared.row.Row.{Row}
+use Rattle.fam_tree.proofs.Edits.{chosen, where_ok}
 use Rattle.fam_tree.proofs.RowLemmas.{put_entries, put_rows}
 use Rattle.fam_tree.proofs.entry_list.EntryList.push.Goals as goal
 use Rattle.fam_tree.proofs.entry_list.EntryList.push.Goals.{After-put-2}
 use Rattle.fam_tree.proofs.entry_list.EntryList.push.Given.{Over}
-
--- there was room
-with_room : {T E : Type 0} (r : Result T E) (P : Type 0) → is_err r ≡ false → OnOk r P → P
-with_room (Ok t) P not p = p
-with_room (Err e) P not p = absurd (cc (not))
-
--- so that nothing failed
-done : {T E X : Type 0} (r : Result T E) (x y z : X) → IsOk r → z ≡ cond (is_ok r) x y → z ≡ x
-done (Ok t) x y z ok is = is
-done (Err e) x y z ok is = absurd (cc (ok))
 
 row_is : (g : Over) (c : After-put-2 g) → c.in-Some.row ≡ row_of c.args.entry.now (length c.self.inside.paths.items) (length c.self.inside.extents.items)
 row_is g c = c.in-Some.ensures ∙ ap₂ (row_of c.args.entry.now) (c.len.ensures ∙ c.self.inside.paths.ok.0) (c.len-2.ensures ∙ c.self.inside.extents.ok.0)
 
 rows_longer : (g : Over) (c : After-put-2 g) → c.push.new.self.items ≡ c.self.inside.rows.items ++ c.in-Some.row ∷ []
 rows_longer g c =
-    let room = with_room c.reserve.result _ (sym c.is_err.ensures.value ∙ c.if-is_err.false) c.reserve.ensures.ok in
-    done {X = List Row} c.push.result _ _ _ (c.push.ensures.succeeds (omega (arith, room))) c.push.ensures.items
+    let room = where_ok c.reserve.result _ (sym c.is_err.ensures.value ∙ c.if-is_err.false) c.reserve.ensures.ok in
+    chosen {X = List Row} c.push.result _ _ _ (c.push.ensures.succeeds (omega (arith, room))) c.push.ensures.items
     ∙ ap (λ (l : List Row). l ++ c.in-Some.row ∷ []) c.reserve.ensures.items
 
 paths_longer : (g : Over) (c : After-put-2 g) → c.put.new.items.items ≡ c.self.inside.paths.items ++ c.args.entry.now.path
